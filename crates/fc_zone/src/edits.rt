@@ -1,0 +1,114 @@
+// Edits of a zone in its sector. Each changes the list of runs as it says and leaves every other run.
+
+ghost use Rattle.std.specs.Prelude.{◌≡◌, ◌+◌, ◌-◌, ◌*◌, ◌^◌, ◌<◌, ◌≤◌, ◌∷◌, [], length, slice_range};
+ghost use Rattle.fc_bytes.specs.Bits.{AreZero, SameOutside, bits, num};
+ghost use Rattle.fc_zone.specs.Edits.{CanBeBlank, HasHoleAt, HasRunAt, HasRunToSplit, HasRunsToMerge, IsWritten, KeepsOutside, Merges, Relabels, Splits, WritesLinks, whole_hole};
+ghost use Rattle.fc_zone.specs.Reading.{runs_of};
+ghost use Rattle.fc_zone.specs.Zone.{IsShapeOf, Zone};
+
+use crate::links::{holder_before, hole_from, next_hole, set_link};
+use crate::reading::{end_of, kind_at};
+use crate::{RunKind, ZoneShape};
+use fc_bytes::put_bits;
+
+/// Turns the hole that begins at `start` into a run of an identifier.
+///
+/// As with the edits below, the sector is one that `check_zone` passes. The links that an edit changes it writes in
+/// full (FreeLink with its top bit, and a hole's link as its whole field); every bit outside FreeLink and the zone's
+/// bits stays, ZoneCheck too, which `seal` writes.
+pub fn label(b: &mut [u8], shape: &ZoneShape, start: u32, id: u32)
+    requires shape { IsShapeOf b.old shape.now }
+    requires hole { HasHoleAt shape.now b.old start }
+    requires some_id { 0 < id }
+    requires id_fits { id < 2 ^ shape.now.idlen }
+    ensures runs { Relabels shape.now b.old b.new start (RunKind.Id id) }
+    ensures outside { KeepsOutside shape.now b.old b.new }
+{
+    let holder = holder_before(b, shape, start);
+    let next = next_hole(b, shape, start);
+    set_link(b, shape, holder, next);
+    put_bits(b, start, u32::from(shape.idlen), id);
+}
+
+/// Turns the run that begins at `start` into a hole, and joins it with none.
+pub fn release(b: &mut [u8], shape: &ZoneShape, start: u32)
+    requires shape { IsShapeOf b.old shape.now }
+    requires run { HasRunAt shape.now b.old start }
+    ensures runs { Relabels shape.now b.old b.new start RunKind.Hole }
+    ensures outside { KeepsOutside shape.now b.old b.new }
+{
+    let holder = holder_before(b, shape, start);
+    let next = hole_from(b, shape, holder);
+    if next == Some(start) {
+        return;
+    }
+    set_link(b, shape, Some(start), next);
+    set_link(b, shape, holder, Some(start));
+}
+
+/// Cuts the run that begins at `start` into two of its kind, the first of `len` bits. Both parts have at least `min`
+/// bits and are multiples of `q`.
+pub fn split(b: &mut [u8], shape: &ZoneShape, start: u32, len: u32)
+    requires shape { IsShapeOf b.old shape.now }
+    requires run { HasRunToSplit shape.now b.old start len }
+    ensures runs { Splits shape.now b.old b.new start len }
+    ensures outside { KeepsOutside shape.now b.old b.new }
+{
+    let middle = start + len;
+    let kind = kind_at(b, shape, start);
+    put_bits(b, middle - 1, 1, 1);
+    match kind {
+        RunKind::Hole => {
+            let next = next_hole(b, shape, start);
+            set_link(b, shape, Some(middle), next);
+            set_link(b, shape, Some(start), Some(middle));
+        }
+        RunKind::Id(id) => put_bits(b, middle, u32::from(shape.idlen), id),
+    }
+}
+
+/// Joins the run that begins at `start` with the next, which is of its kind: both are holes, or of one identifier.
+pub fn merge(b: &mut [u8], shape: &ZoneShape, start: u32)
+    requires shape { IsShapeOf b.old shape.now }
+    requires runs { HasRunsToMerge shape.now b.old start }
+    ensures runs { Merges shape.now b.old b.new start }
+    ensures outside { KeepsOutside shape.now b.old b.new }
+{
+    let middle = end_of(b, shape, start);
+    if let RunKind::Hole = kind_at(b, shape, start) {
+        let next = next_hole(b, shape, middle);
+        set_link(b, shape, Some(start), next);
+    }
+    // The first run's last bit, and the field behind it.
+    put_bits(b, middle - 1, u32::from(shape.idlen) + 1, 0);
+}
+
+// Clears the bits from `from` up to `end`.
+fn clear(b: &mut [u8], from: u32, end: u32)
+    requires order { from ≤ end }
+    requires within { end ≤ 8 * length b.old }
+    ensures zeros { AreZero (bits b.new) from end }
+    ensures same { SameOutside (bits b.old) (bits b.new) from end }
+{
+    let mut at = from;
+    while at < end {
+        let count = (end - at).min(24);
+        put_bits(b, at, count, 0);
+        at += count;
+    }
+}
+
+/// Makes all the zone's bits one hole, whatever the sector held before.
+pub fn blank(b: &mut [u8], shape: &ZoneShape)
+    requires { CanBeBlank b.old shape.now }
+    ensures zone { Zone shape.now b.new (whole_hole shape.now ∷ []) }
+    ensures written { IsWritten shape.now (bits b.new) (whole_hole shape.now ∷ []) }
+    ensures zeros { AreZero (bits b.new) shape.now.first (shape.now.end - 1) }
+    ensures free_link { num (slice_range (bits b.new) 8 24) ≡ 0x8000 + (shape.now.first - 8) }
+    ensures outside { KeepsOutside shape.now b.old b.new }
+{
+    let last = shape.end - 1;
+    clear(b, shape.first, last);
+    put_bits(b, last, 1, 1);
+    put_bits(b, 8, 16, 0x8000 + (shape.first - 8));
+}
