@@ -1,5 +1,5 @@
 use Rattle.std.proofs.Common.{refl}
-use Rattle.fc_bytes.specs.Bits.{bits, num, digits}
+use Rattle.fc_bytes.specs.Bits.{bits, num, low_bits}
 use Rattle.fc_device.specs.Sectors.{sector_at}
 use Rattle.fc_checks.specs.Checks.{carry_sum, accumulated}
 use Rattle.fc_record.specs.Record.{record_fault}
@@ -19,7 +19,7 @@ use Rattle.fc_effects.specs.Short.{short}
 use Rattle.fc_effects.proofs.rows.Goals as goal
 
 pub returns : goal.returns
-unfolding bits num digits sector_at carry_sum accumulated record_fault kind_of with_holes old_map wrong_hole runs_from runs_of is_sound chosen small_fault small_dir big_fault big_dir sectors_at bytes_in children_of listings_from walk open_as open_image after_take first_fit_place after_give slack_among short
+unfolding bits num low_bits sector_at carry_sum accumulated record_fault kind_of with_holes old_map wrong_hole runs_from runs_of is_sound chosen small_fault small_dir big_fault big_dir sectors_at bytes_in children_of listings_from walk open_as open_image after_take first_fit_place after_give slack_among short
 returns c = record {
   units_f = refl;
   full = refl;
