@@ -28,22 +28,24 @@ use Rattle.fc_image.specs.Layout.{Layout, sector_bytes, dir_form, bytes_in, is_a
 use Rattle.fc_image.specs.Walk.{◌>>=◌, Object, Listing, reader_of, is_directory_object, object_bytes, walk}
 use Rattle.fc_image.specs.Objects.{objects_of, tree_entry, tree_of}
 use Rattle.fc_image.specs.Opening.{Opened, MapAndRoot, new_layout, map_and_root, copy_or, agreement, difference, zones_or, reserved_in, misplaced_sector, unless_misplaced, open_parts, open_as}
-use Rattle.fc_image.specs.Stays.{HasSectorsOf, IsNewKind, SameKindPlace}
+use Rattle.fc_names.specs.Names.{Path}
+use Rattle.fc_dirs.specs.declared.Entry.{Entry}
+use Rattle.fc_image.specs.Stays.{HasSectorsOf, IsNewKind, SameKindPlace, stored_object, stored_objects}
 use Rattle.fc_image.proofs.WalkLemmas.{bind_ok, walk-Tells, open_as-spelled}
 
 -- ---- lists of sectors
 
-among_here : (s : ℕ) (b : Bool) → ((s == s) || b) ≡ true
+pub among_here : (s : ℕ) (b : Bool) → ((s == s) || b) ≡ true
 among_here s b = ap (λ c. c || b) (eq-eqb s s refl)
 
-among_later : (t s : ℕ) (b : Bool) → b ≡ true → ((t == s) || b) ≡ true
+pub among_later : (t s : ℕ) (b : Bool) → b ≡ true → ((t == s) || b) ≡ true
 among_later t s b e = by (t == s)
   where
     by : (c : Bool) → (c || b) ≡ true
     by true = refl
     by false = e
 
-among_range : (from n s : ℕ) → from ≤ s → s < from + n → is_among (range_with_len from n) s ≡ true
+pub among_range : (from n s : ℕ) → from ≤ s → s < from + n → is_among (range_with_len from n) s ≡ true
 among_range from zero s low high = absurd (omega arith)
 among_range from (suc n) s low high = by (from == s) refl (λ ne. among_range (from + 1) n s (omega arith) (omega arith))
   where
@@ -55,7 +57,7 @@ either : (a b : Bool) → (a || b) ≡ true → Result (a ≡ true) (b ≡ true)
 either true b e = Ok refl
 either false b e = Err e
 
-range_bounds : (from n s : ℕ) → is_among (range_with_len from n) s ≡ true → (from ≤ s) × (s < from + n)
+pub range_bounds : (from n s : ℕ) → is_among (range_with_len from n) s ≡ true → (from ≤ s) × (s < from + n)
 range_bounds from zero s e = absurd (cc)
 range_bounds from (suc n) s e =
     elim (either (from == s) (is_among (range_with_len (from + 1) n) s) e) [
@@ -63,17 +65,17 @@ range_bounds from (suc n) s e =
       | Err later ↦ (let rest = range_bounds (from + 1) n s later in (omega (arith, rest.0), omega (arith, rest.1)))
     ]
 
-map_same : (f g : ℕ → List ℕ) (xs : List ℕ) → ((s : ℕ) → is_among xs s ≡ true → f s ≡ g s) → map f xs ≡ map g xs
+pub map_same : (f g : ℕ → List ℕ) (xs : List ℕ) → ((s : ℕ) → is_among xs s ≡ true → f s ≡ g s) → map f xs ≡ map g xs
 map_same f g [] same = refl
 map_same f g (x ∷ xs) same = ap₂ (λ (y : List ℕ) (ys : List (List ℕ)). y ∷ ys) (same x (among_here x (is_among xs x))) (map_same f g xs (λ s e. same s (among_later x s (is_among xs s) e)))
 
-flat_same : (f g : ℕ → List ℕ) (xs : List ℕ) → ((s : ℕ) → is_among xs s ≡ true → f s ≡ g s) → flat_map f xs ≡ flat_map g xs
+pub flat_same : (f g : ℕ → List ℕ) (xs : List ℕ) → ((s : ℕ) → is_among xs s ≡ true → f s ≡ g s) → flat_map f xs ≡ flat_map g xs
 flat_same f g [] same = refl
 flat_same f g (x ∷ xs) same = ap₂ (λ (y ys : List ℕ). y ++ ys) (same x (among_here x (is_among xs x))) (flat_same f g xs (λ s e. same s (among_later x s (is_among xs s) e)))
 
 -- ---- the copies, and the layout
 
-copy_same : (g : Geometry) (w : Which) (image other : List ℕ) → HasSectorsOf g.sector (map_sectors g) image other → copy_of g w other ≡ copy_of g w image
+pub copy_same : (g : Geometry) (w : Which) (image other : List ℕ) → HasSectorsOf g.sector (map_sectors g) image other → copy_of g w other ≡ copy_of g w image
 copy_same g One image other same =
     map_same _ _ (range_with_len (copy_start g One) g.zones) (λ s e.
     let b = range_bounds (copy_start g One) g.zones s e in
@@ -83,19 +85,19 @@ copy_same g Two image other same =
     let b = range_bounds (copy_start g Two) g.zones s e in
     same s (among_range g.map_sector (2 * g.zones) s (omega (arith, b.0)) (omega (arith, b.1))))
 
-chosen_same : (g : Geometry) (image other : List ℕ) → HasSectorsOf g.sector (map_sectors g) image other → chosen g other ≡ chosen g image
+pub chosen_same : (g : Geometry) (image other : List ℕ) → HasSectorsOf g.sector (map_sectors g) image other → chosen g other ≡ chosen g image
 unfolding chosen
 chosen_same g image other same = rw (copy_same g One image other same, copy_same g Two image other same) refl
 
 -- the layout by the choice and the copies
-layout_by : DiscRecord → Result Which (ℕ × ℕ) → (Which → List (List ℕ)) → Result MapAndRoot ImageFault
+unfoldable pub layout_by : DiscRecord → Result Which (ℕ × ℕ) → (Which → List (List ℕ)) → Result MapAndRoot ImageFault
 layout_by r choice copies =
     copy_or choice >>= λ which.
     agreement r (map_record (slice_index_or (copies which) 0 [])) (difference r (map_record (slice_index_or (copies which) 0 []))) >>= λ own.
     zones_or (geometry r) (copies which) (first_fault (geometry r) (zip (zone_numbers (geometry r)) (copies which))) >>= λ m.
     Ok (Layout.New m, own.root, own.root_size)
 
-layout_is : (image : List ℕ) (r : DiscRecord) → new_layout image r ≡ layout_by r (chosen (geometry r) image) (λ w. copy_of (geometry r) w image)
+pub layout_is : (image : List ℕ) (r : DiscRecord) → new_layout image r ≡ layout_by r (chosen (geometry r) image) (λ w. copy_of (geometry r) w image)
 unfolding layout_by
 layout_is image r = refl
 
@@ -134,7 +136,7 @@ opened_by v w None e = (refl, opened_ok v w e)
     opened_ok x y h = cc
 opened_by v w (Some sector) e = absurd (cc)
 
-abbrev HasParts : List ℕ → Kind → Opened → MapAndRoot → Type 0
+abbrev pub HasParts : List ℕ → Kind → Opened → MapAndRoot → Type 0
 HasParts image kind v found =
     (disc_size kind ≤ length image) × (map_and_root image kind ≡ Ok found)
     × (walk (reader_of image found.0) found.0 (reserved_in kind found.0) found.1 found.2 ≡ Ok v.listings)
@@ -159,7 +161,7 @@ parts_from image kind v fits long e =
       ),
     )
 
-parts_of : (image : List ℕ) (kind : Kind) (v : Opened) → open_as image kind ≡ Ok v → (found : MapAndRoot) × HasParts image kind v found
+pub parts_of : (image : List ℕ) (kind : Kind) (v : Opened) → open_as image kind ≡ Ok v → (found : MapAndRoot) × HasParts image kind v found
 unfolding open_as
 parts_of image kind v e = by (fits_kind image kind) (nat_lt (length image) (disc_size kind)) refl refl e
   where
@@ -176,28 +178,18 @@ bytes_same : (size : ℕ) (image other sectors : List ℕ) (n : ℕ) → HasSect
 unfolding bytes_in
 bytes_same size image other sectors n same = ap (take n) (flat_same (sector_at size other) (sector_at size image) sectors same)
 
-object_same : (size : ℕ) (image other : List ℕ) (layout : Layout) (o : Object) → sector_bytes layout ≡ size → HasSectorsOf size o.sectors image other
+pub object_same : (size : ℕ) (image other : List ℕ) (layout : Layout) (o : Object) → sector_bytes layout ≡ size → HasSectorsOf size o.sectors image other
     → object_bytes other layout o ≡ object_bytes image layout o
 object_same size image other layout o is same =
     bytes_same (sector_bytes layout) image other o.sectors _ (subst (λ (n : ℕ). HasSectorsOf n o.sectors image other) (sym is) same)
 
-nodes_same : (size : ℕ) (image other : List ℕ) (layout : Layout) (objects : List Object) → sector_bytes layout ≡ size
-    → ((o : Object) → Contains objects o → HasSectorsOf size o.sectors image other) → map (tree_entry other layout) objects ≡ map (tree_entry image layout) objects
-nodes_same size image other layout [] is same = refl
-nodes_same size image other layout (o ∷ objects) is same =
-    let bytes = object_same size image other layout o is (same o (0, omega arith, refl)) in
+stored_same : (size : ℕ) (image other : List ℕ) (layout : Layout) (objects : List Object) → sector_bytes layout ≡ size
+    → ((o : Object) → Contains objects o → HasSectorsOf size o.sectors image other) → map (stored_object other layout) objects ≡ map (stored_object image layout) objects
+stored_same size image other layout [] is same = refl
+stored_same size image other layout (o ∷ objects) is same =
     ap₂ (λ e es. e ∷ es)
-    (ap (λ (bs : List ℕ). (folded_path o.path, node_with o bs)) bytes)
-    (nodes_same size image other layout objects is (λ p c. same p (suc c.0, omega (arith, c.1), c.2)))
-  where
-    node_with : Object → List ℕ → Node
-    node_with p bs = record {
-      name = p.entry.name;
-      attrs = p.entry.attrs;
-      load = p.entry.load;
-      exec = p.entry.exec;
-      body = cond (is_directory_object p) Body.Directory (Body.File bs);
-    }
+    (ap (λ (bs : List ℕ). let s : Path × Entry × List ℕ = (o.path, o.entry, bs) in s) (object_same size image other layout o is (same o (0, omega arith, refl))))
+    (stored_same size image other layout objects is (λ p c. same p (suc c.0, omega (arith, c.1), c.2)))
 
 -- ---- the law
 
@@ -208,7 +200,7 @@ found_same image other (OneZone s) r is same = layout_same image other s (subst 
 found_same image other DiscD r is same = absurd is
 found_same image other (DiscL units) r is same = absurd is
 
-found_sector : (image : List ℕ) (kind : Kind) (r : DiscRecord) (found : MapAndRoot) → IsNewKind kind r → map_and_root image kind ≡ Ok found → sector_bytes found.0 ≡ (geometry r).sector
+pub found_sector : (image : List ℕ) (kind : Kind) (r : DiscRecord) (found : MapAndRoot) → IsNewKind kind r → map_and_root image kind ≡ Ok found → sector_bytes found.0 ≡ (geometry r).sector
 found_sector image (Boot s) r found is e = layout_sector s _ _ found (sym (layout_is image s) ∙ e) ∙ ap (λ (t : DiscRecord). (geometry t).sector) is
 found_sector image (OneZone s) r found is e = layout_sector s _ _ found (sym (layout_is image s) ∙ e) ∙ ap (λ (t : DiscRecord). (geometry t).sector) is
 found_sector image DiscD r found is e = absurd is
@@ -223,7 +215,7 @@ boot_fits_is : (image : List ℕ) (r : DiscRecord) → fits_kind image (Boot r) 
 unfolding boot_fits
 boot_fits_is image r = refl
 
-fits_same : (image other : List ℕ) (kind : Kind) → length other ≡ length image → SameKindPlace kind image other → fits_kind other kind ≡ fits_kind image kind
+pub fits_same : (image other : List ℕ) (kind : Kind) → length other ≡ length image → SameKindPlace kind image other → fits_kind other kind ≡ fits_kind image kind
 fits_same image other (Boot r) len same =
     boot_fits_is other r ∙ ap₂ (λ (n : ℕ) (block : List ℕ). boot_fits n block r) len same ∙ sym (boot_fits_is image r)
 fits_same image other (OneZone r) len same =
@@ -245,11 +237,10 @@ free_opens image other kind r v is e len place same dirs =
     (λ l c. ap (directory_of (dir_form found.0)) (object_same (geometry r).sector image other found.0 l.object size (dirs l c)) ∙ told l c)
     ∙ ap (λ (w : Opened). Ok w) p.1.4
 
-pub free_tree : (image other : List ℕ) (kind : Kind) (r : DiscRecord) (v : Opened) → IsNewKind kind r → open_as image kind ≡ Ok v
+pub free_stored : (image other : List ℕ) (kind : Kind) (r : DiscRecord) (v : Opened) → IsNewKind kind r → open_as image kind ≡ Ok v
     → ((o : Object) → Contains (objects_of v.listings) o → HasSectorsOf (geometry r).sector o.sectors image other)
-    → tree_of other v.layout v.listings ≡ tree_of image v.layout v.listings
-unfolding tree_of
-free_tree image other kind r v is e objects =
+    → stored_objects other v ≡ stored_objects image v
+free_stored image other kind r v is e objects =
     let p = parts_of image kind v e in
     let size : sector_bytes v.layout ≡ (geometry r).sector = ap (λ (w : Opened). sector_bytes w.layout) (sym p.1.4) ∙ found_sector image kind r p.0 is p.1.1 in
-    ap from_entries (nodes_same (geometry r).sector image other v.layout (objects_of v.listings) size objects)
+    stored_same (geometry r).sector image other v.layout (objects_of v.listings) size objects

@@ -101,14 +101,14 @@ SameKindPlace DiscD image other = ⊥
 SameKindPlace (DiscL units) image other = ⊥
 
 -- What lies outside the map, the place of the kind's test and all objects counts for nothing: the other image opens as
--- the same, with the same tree.
+-- the same, and each object has its bytes, so that the tree is the same.
 abbrev pub FreeLaw : Type 0
 FreeLaw = (image other : List ℕ) (kind : Kind) (r : DiscRecord) (v : Opened) → IsNewKind kind r → OpensAs image kind v → length other ≡ length image
     → SameKindPlace kind image other
     → HasSectorsOf (geometry r).sector (map_sectors (geometry r)) image other
     → ((l : Listing) → Contains v.listings l → HasSectorsOf (geometry r).sector l.object.sectors image other)
     → ((o : Object) → Contains (objects_of v.listings) o → HasSectorsOf (geometry r).sector o.sectors image other)
-    → OpensAs other kind v × (tree_of other v.layout v.listings ≡ tree_of image v.layout v.listings)
+    → OpensAs other kind v × (stored_objects other v ≡ stored_objects image v)
 
 -- Holes lie apart from the map and all objects. With the law above this is the law of holes: what is written into a hole
 -- leaves the image as it opens.
@@ -116,3 +116,13 @@ abbrev pub HolesLaw : Type 0
 HolesLaw = (image : List ℕ) (kind : Kind) (r : DiscRecord) (v : Opened) → IsNewKind kind r → is_valid r ≡ true → OpensAs image kind v
     → (is_apart (map_place v.layout) (hole_sectors v.layout) ≡ true)
     × ((o : Object) → Contains (objects_of v.listings) o → is_apart o.sectors (hole_sectors v.layout) ≡ true)
+
+-- The images have the same sectors outside the holes of the layout.
+abbrev pub SameOutsideHoles : ℕ → Layout → List ℕ → List ℕ → Type 0
+SameOutsideHoles size layout image other = (s : ℕ) → is_among (hole_sectors layout) s ≡ false → sector_at size other s ≡ sector_at size image s
+
+-- An image that differs only in sectors that lie in holes opens as the same, with the same objects.
+abbrev pub HoleWriteLaw : Type 0
+HoleWriteLaw = (image other : List ℕ) (kind : Kind) (r : DiscRecord) (v : Opened) → IsNewKind kind r → is_valid r ≡ true → OpensAs image kind v
+    → length other ≡ length image → SameKindPlace kind image other → SameOutsideHoles (geometry r).sector v.layout image other
+    → OpensAs other kind v × (stored_objects other v ≡ stored_objects image v)

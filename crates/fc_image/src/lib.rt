@@ -6,7 +6,9 @@
 
 ghost use Rattle.fc_image.specs.Laws.{OpensLaw, WalkLaw};
 ghost use Rattle.fc_image.specs.Rows.{ImageRows};
-ghost use Rattle.fc_image.specs.Stays.{FreeLaw, StoredLaw};
+ghost use Rattle.fc_image.specs.Edits.{ApartLaw, EditLaw, RoomLaw, StayLaw, WalkEditLaw, WalkFormLaw};
+ghost use Rattle.fc_image.specs.Moves.{CarriedLaw, CarryLaw, CommitLaw, HoleStepLaw, KeepsObjectsLaw, MergeLaw, MoveLaw, ThenLaw, WholeLaw, WithMapLaw};
+ghost use Rattle.fc_image.specs.Stays.{FreeLaw, HoleWriteLaw, HolesLaw, StoredLaw};
 
 use fc_dirs::DirFault;
 use fc_names::Path;
@@ -61,4 +63,94 @@ pub fn free()
 /// Where all objects are stored alike, the trees are the same.
 pub fn stored()
     ensures { StoredLaw }
+{}
+
+/// Holes lie apart from the map and all objects.
+pub fn holes()
+    ensures { HolesLaw }
+{}
+
+/// What is written into holes leaves the image as it opens.
+pub fn hole_writes()
+    ensures { HoleWriteLaw }
+{}
+
+/// Movable identifiers may move, any number at once.
+pub fn carries()
+    ensures { CarryLaw }
+{}
+
+/// A movable identifier may move into holes.
+pub fn moves()
+    ensures { MoveLaw }
+{}
+
+/// Runs and holes that touch may become one, and may be cut.
+pub fn merges()
+    ensures { MergeLaw }
+{}
+
+/// What is opened, read by another map.
+pub fn maps()
+    ensures { WithMapLaw }
+{}
+
+/// Each image that a stop inside a commit may leave has all objects as they were.
+pub fn commits()
+    ensures { CommitLaw }
+{}
+
+/// What is written into holes keeps all objects.
+pub fn hole_steps()
+    ensures { HoleStepLaw }
+{}
+
+/// One step after others keeps all objects.
+pub fn steps()
+    ensures { ThenLaw }
+{}
+
+/// A step that keeps all objects keeps the image whole.
+pub fn wholes()
+    ensures { WholeLaw }
+{}
+
+/// What each stop of compaction keeps, is kept from one to the next.
+pub fn keeps_objects()
+    ensures { KeepsObjectsLaw }
+{}
+
+/// Sectors that are carried, piece by piece.
+pub fn pieces()
+    ensures { CarriedLaw }
+{}
+
+/// A walk finds the listings that follow from the root, where all objects are apart, and no others.
+pub fn walk_form()
+    ensures { WalkFormLaw }
+{}
+
+/// An opened disc with a new map has no more directories than sectors.
+pub fn room()
+    ensures { RoomLaw }
+{}
+
+/// Listings that follow, where one of them is edited.
+pub fn edits()
+    ensures { EditLaw }
+{}
+
+/// Objects that come and go, apart from the others.
+pub fn apart()
+    ensures { ApartLaw }
+{}
+
+/// A walk with one directory edited is the walk with that listing edited.
+pub fn walk_edits()
+    ensures { WalkEditLaw }
+{}
+
+/// What an image says, another says that has the directories' sectors and the objects' places.
+pub fn listed()
+    ensures { StayLaw }
 {}
