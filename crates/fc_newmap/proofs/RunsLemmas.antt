@@ -20,7 +20,7 @@ quotient k w t some =
     ap (λ n. n / w) e ∙ div-mul-add (k + t / w) w (t % w) (omega arith)
 
 -- x is a number of whole qs, so its bytes are whole sectors, and what follows them is counted from there
-sectors_add : (q unit sector x y : ℕ) → 0 < sector → (q * unit) % sector ≡ 0 → x % q ≡ 0 → (x + y) * unit / sector ≡ x * unit / sector + y * unit / sector
+pub sectors_add : (q unit sector x y : ℕ) → 0 < sector → (q * unit) % sector ≡ 0 → x % q ≡ 0 → (x + y) * unit / sector ≡ x * unit / sector + y * unit / sector
 sectors_add q unit sector x y some whole on =
     let k = x / q * (q * unit / sector) in
     let wholes : x / q * q ≡ x = omega (arith, div-add-mod' x q) in
@@ -34,11 +34,11 @@ sectors_add q unit sector x y some whole on =
 -- ---- rows of runs
 
 -- the runs lie one behind another, from a sector on and up to one
-abbrev Rises : Geometry → ℕ → List ZoneRun → ℕ → Type 0
+abbrev pub Rises : Geometry → ℕ → List ZoneRun → ℕ → Type 0
 Rises g from [] to = from ≤ to
 Rises g from (p ∷ places) to = (from ≤ first_sector g p) × Rises g (first_sector g p + sector_count g p) places to
 
-Rises-append : (g : Geometry) (from mid to : ℕ) (xs ys : List ZoneRun) → Rises g from xs mid → Rises g mid ys to → Rises g from (xs ++ ys) to
+pub Rises-append : (g : Geometry) (from mid to : ℕ) (xs ys : List ZoneRun) → Rises g from xs mid → Rises g mid ys to → Rises g from (xs ++ ys) to
 Rises-append g from mid to [] ys rx ry = lower ys ry
   where
     lower : (zs : List ZoneRun) → Rises g mid zs to → Rises g from zs to
@@ -46,15 +46,15 @@ Rises-append g from mid to [] ys rx ry = lower ys ry
     lower (z ∷ zs) r = (omega (arith, r.0), r.1)
 Rises-append g from mid to (x ∷ xs) ys rx ry = (rx.0, Rises-append g (first_sector g x + sector_count g x) mid to xs ys rx.1 ry)
 
-cases : (x : ZoneRun) (xs : List ZoneRun) (y : ZoneRun) → Contains (x ∷ xs) y → Result (x ≡ y) (Contains xs y)
+pub cases : (x : ZoneRun) (xs : List ZoneRun) (y : ZoneRun) → Contains (x ∷ xs) y → Result (x ≡ y) (Contains xs y)
 cases x xs y (zero, h, e) = Ok e
 cases x xs y (suc k, h, e) = Err (k, omega arith, e)
 
-not_in : (y : ZoneRun) → Contains [] y → ⊥
+pub not_in : (y : ZoneRun) → Contains [] y → ⊥
 not_in y (k, h, e) = omega arith
 
 -- each run begins behind where the row does
-behind : (g : Geometry) (from to : ℕ) (places : List ZoneRun) (p : ZoneRun) → Rises g from places to → Contains places p → from ≤ first_sector g p
+pub behind : (g : Geometry) (from to : ℕ) (places : List ZoneRun) (p : ZoneRun) → Rises g from places to → Contains places p → from ≤ first_sector g p
 behind g from to [] p r c = absurd (not_in p c)
 behind g from to (x ∷ places) p r c =
     elim (cases x places p c) [
@@ -87,12 +87,11 @@ one_run g from to (x ∷ places) r p q cp cq s hp hq =
 -- ---- zones
 
 -- the sector at which a place of a zone lies
-place_sector : Geometry → ℕ → ℕ → ℕ
+abbrev pub place_sector : Geometry → ℕ → ℕ → ℕ
 place_sector g z at = (base g z + (at - first_bit z)) * g.bit_bytes / g.sector
 
-runs_rise : (g : Geometry) → IsGeometry g → (z : ℕ) (bs : List ℕ) (runs : List Run) (at end : ℕ) → first_bit z ≤ at → Spells (shape g z) bs at runs end
+pub runs_rise : (g : Geometry) → IsGeometry g → (z : ℕ) (bs : List ℕ) (runs : List Run) (at end : ℕ) → first_bit z ≤ at → Spells (shape g z) bs at runs end
     → Rises g (place_sector g z at) (map (λ (run : Run). let p : ZoneRun = (z, run) in p) runs) (place_sector g z end)
-unfolding place_sector
 runs_rise g is z bs [] at end low h = subst (λ (e : ℕ). place_sector g z at ≤ place_sector g z e) h (omega arith)
 runs_rise g is z bs (run ∷ runs) at end low h =
     let start = h.0 in
@@ -104,9 +103,8 @@ runs_rise g is z bs (run ∷ runs) at end low h =
     let rest = runs_rise g is z bs runs (at + run.len) end (omega arith) h.3 in
     (omega (arith, first), subst (λ (e : ℕ). Rises g e (map (λ (r : Run). let p : ZoneRun = (z, r) in p) runs) (place_sector g z end)) (after ∙ ap (λ (e : ℕ). e + sector_count g (z, run)) (sym first)) rest)
 
-zones_rise : (m : Map) → IsGeometry m.geometry → HasZones m → (n z : ℕ) → z + n ≡ m.geometry.zones
+pub zones_rise : (m : Map) → IsGeometry m.geometry → HasZones m → (n z : ℕ) → z + n ≡ m.geometry.zones
     → (to : ℕ) × Rises m.geometry (place_sector m.geometry z (first_bit z)) (runs_in m (range_with_len z n)) to
-unfolding place_sector
 zones_rise m is has zero z e = (place_sector m.geometry z (first_bit z), omega arith)
 zones_rise m is has (suc zero) z e =
     let g = m.geometry in

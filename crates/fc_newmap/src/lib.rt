@@ -5,7 +5,7 @@
 #![tactic(auto)]
 
 ghost use Rattle.fc_newmap.specs.Rows.{MapRows};
-ghost use Rattle.fc_newmap.specs.RunsLaw.{GeometryLaw, RunsLaw};
+ghost use Rattle.fc_newmap.specs.RunsLaw.{GeometryLaw, IdsLaw, RunsLaw, ShapeLaw, ZoneSectorsLaw};
 
 /// The map of a fresh E disc, worked out.
 pub fn rows()
@@ -20,4 +20,19 @@ pub fn apart()
 /// In the geometry of a valid record zones follow each other, and runs are whole sectors.
 pub fn valid_geometry()
     ensures { GeometryLaw }
+{}
+
+/// Each zone of a valid record's geometry has a shape that the calls of fc_zone take.
+pub fn zone_shapes()
+    ensures { ShapeLaw }
+{}
+
+/// An identifier has the runs that it had, where it has them in each zone.
+pub fn ids()
+    ensures { IdsLaw }
+{}
+
+/// Where the runs of one zone change, an identifier's sectors change in one place.
+pub fn one_zone()
+    ensures { ZoneSectorsLaw }
 {}

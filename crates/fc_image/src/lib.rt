@@ -1,0 +1,156 @@
+//! What an image opens as: its kind, its map, the walk over its directories, and the first fault of an image that is not
+//! accepted; and what may change in an image without changing what it opens as.
+//!
+//! Source: the RISC OS PRM, chapter FileCore.
+#![tactic(auto)]
+
+ghost use Rattle.fc_image.specs.Laws.{OpensLaw, WalkLaw};
+ghost use Rattle.fc_image.specs.Rows.{ImageRows};
+ghost use Rattle.fc_image.specs.Edits.{ApartLaw, EditLaw, RoomLaw, StayLaw, WalkEditLaw, WalkFormLaw};
+ghost use Rattle.fc_image.specs.Moves.{CarriedLaw, CarryLaw, CommitLaw, HoleStepLaw, KeepsObjectsLaw, MergeLaw, MoveLaw, ThenLaw, WholeLaw, WithMapLaw};
+ghost use Rattle.fc_image.specs.Stays.{FreeLaw, HoleWriteLaw, HolesLaw, StoredLaw};
+
+use fc_dirs::DirFault;
+use fc_names::Path;
+
+/// Why an image isn't accepted, in the order in which faults are told.
+#[derive(Drop)]
+pub enum ImageFault {
+    /// It is no disc of a known kind.
+    NoKind,
+    /// It is shorter than its disc: bytes that are needed, and that are there.
+    Short { need: u64, have: u64 },
+    /// No copy of the map is sound: the first zone of each with a wrong check, or the number of zones.
+    Copies { c1: u16, c2: u16 },
+    /// The map's record differs from the one that gave the kind, first at this offset.
+    Differs { offset: u8 },
+    /// The map's record has a wrong root or root size.
+    Bad { offset: u8 },
+    /// A zone's bits spell no runs from this bit on.
+    Zone { zone: u16, bit: u32 },
+    /// The old map's hole of this number is wrong.
+    Hole { index: u32 },
+    /// A directory's bytes are none.
+    Directory { path: Path, fault: DirFault },
+    /// An object's address leads nowhere.
+    Place { path: Path },
+    /// An object takes a sector that is taken already.
+    Overlap { path: Path },
+    /// A sector of the map or of the boot block lies in a hole or in an identifier that may move.
+    MapPlace { sector: u64 },
+}
+
+/// Whole images, good ones and one for each fault, worked out.
+pub fn rows()
+    ensures { ImageRows }
+{}
+
+/// A walk depends only on what its directories say.
+pub fn walking()
+    ensures { WalkLaw }
+{}
+
+/// An image opens where its parts are right and its bytes spell them.
+pub fn opens()
+    ensures { OpensLaw }
+{}
+
+/// What lies outside the map and all objects counts for nothing.
+pub fn free()
+    ensures { FreeLaw }
+{}
+
+/// Where all objects are stored alike, the trees are the same.
+pub fn stored()
+    ensures { StoredLaw }
+{}
+
+/// Holes lie apart from the map and all objects.
+pub fn holes()
+    ensures { HolesLaw }
+{}
+
+/// What is written into holes leaves the image as it opens.
+pub fn hole_writes()
+    ensures { HoleWriteLaw }
+{}
+
+/// Movable identifiers may move, any number at once.
+pub fn carries()
+    ensures { CarryLaw }
+{}
+
+/// A movable identifier may move into holes.
+pub fn moves()
+    ensures { MoveLaw }
+{}
+
+/// Runs and holes that touch may become one, and may be cut.
+pub fn merges()
+    ensures { MergeLaw }
+{}
+
+/// What is opened, read by another map.
+pub fn maps()
+    ensures { WithMapLaw }
+{}
+
+/// Each image that a stop inside a commit may leave has all objects as they were.
+pub fn commits()
+    ensures { CommitLaw }
+{}
+
+/// What is written into holes keeps all objects.
+pub fn hole_steps()
+    ensures { HoleStepLaw }
+{}
+
+/// One step after others keeps all objects.
+pub fn steps()
+    ensures { ThenLaw }
+{}
+
+/// A step that keeps all objects keeps the image whole.
+pub fn wholes()
+    ensures { WholeLaw }
+{}
+
+/// What each stop of compaction keeps, is kept from one to the next.
+pub fn keeps_objects()
+    ensures { KeepsObjectsLaw }
+{}
+
+/// Sectors that are carried, piece by piece.
+pub fn pieces()
+    ensures { CarriedLaw }
+{}
+
+/// A walk finds the listings that follow from the root, where all objects are apart, and no others.
+pub fn walk_form()
+    ensures { WalkFormLaw }
+{}
+
+/// An opened disc with a new map has no more directories than sectors.
+pub fn room()
+    ensures { RoomLaw }
+{}
+
+/// Listings that follow, where one of them is edited.
+pub fn edits()
+    ensures { EditLaw }
+{}
+
+/// Objects that come and go, apart from the others.
+pub fn apart()
+    ensures { ApartLaw }
+{}
+
+/// A walk with one directory edited is the walk with that listing edited.
+pub fn walk_edits()
+    ensures { WalkEditLaw }
+{}
+
+/// What an image says, another says that has the directories' sectors and the objects' places.
+pub fn listed()
+    ensures { StayLaw }
+{}

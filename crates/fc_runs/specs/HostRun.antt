@@ -1,0 +1,101 @@
+-- Runs of scripts whose lines may move files between a volume and the host.
+use Rattle.std.specs.Prelude.{◌≡◌, ◌⊎◌, ℕ, Bool, true, false, ◌||◌, ◌&&◌, nat_lt, List, [], ◌∷◌, length, take, Option, Some, None, is_some, IsOk, Result, Ok, Err}
+use Rattle.std.specs.Ordering.{nat_cmp}
+use Rattle.std.specs.Cmp.Lexicographic.{slice_cmp}
+use Rattle.std.specs.FinMap.{FinMap, get, insert}
+use Rattle.fc_names.specs.declared.Refusal.{Refusal}
+use Rattle.fc_names.specs.declared.Refusal.TheVariants as refusals
+use Rattle.fc_names.specs.Names.{Path}
+use Rattle.fc_model.specs.Tree.{Tree, node_at}
+use Rattle.fc_model.specs.Command.{Command}
+use Rattle.fc_model.specs.Answer.{answer}
+use Rattle.fc_image.specs.Layout.{dir_form}
+use Rattle.fc_effects.specs.Effect.{State, tree_in}
+use Rattle.fc_script.specs.HostLines.{HostLine, host_line_of}
+use Rattle.fc_script.specs.Texts.{refusal_line, ok_line}
+use Rattle.fc_runs.specs.Replies.{bytes_of}
+use Rattle.fc_runs.specs.Run.{Mode, Refuses, Takes, commands_in, script_for, text_for, is_error, keeps_tree}
+
+-- the files of the host by their names
+abbrev pub Files : Type 0
+Files = FinMap (slice_cmp nat_cmp) (List ℕ)
+
+-- a refusal: its line is the reply, and image and files stay
+abbrev pub HostRefuses : State → Files → Refusal → List ℕ → State → Files → Type 0
+HostRefuses s files refusal reply s' files' = Refuses s (refusal_line refusal) reply s' × (files' ≡ files)
+
+abbrev pub PutsFile : Mode → State → Files → (List ℕ → Command) → Option (List ℕ) → List ℕ → State → Files → Type 0
+PutsFile mode s files save None reply s' files' = HostRefuses s files refusals.NoHostFile reply s' files'
+PutsFile mode s files save (Some bytes) reply s' files' = fits (nat_lt 1073741824 (length bytes))
+  where
+    fits : Bool → Type 0
+    fits true = HostRefuses s files refusals.HostTooLong reply s' files'
+    fits false = Takes mode s (Ok (save bytes)) reply s' × (files' ≡ files)
+
+-- `put` is refused as `save` is by the model, then for want of the file, and is else that `save`
+abbrev pub Puts : Mode → State → Files → (List ℕ → Command) → Option (List ℕ) → Result Tree Refusal → List ℕ → State → Files → Type 0
+Puts mode s files save file (Err refusal) reply s' files' = HostRefuses s files refusal reply s' files'
+Puts mode s files save file (Ok t) reply s' files' = PutsFile mode s files save file reply s' files'
+
+-- `get` is refused as `load` is, then for a file that is there, and else makes it
+abbrev pub Gets : State → Files → List ℕ → List ℕ → Bool → Result Tree Refusal → List ℕ → State → Files → Type 0
+Gets s files host bytes there (Err refusal) reply s' files' = HostRefuses s files refusal reply s' files'
+Gets s files host bytes true (Ok t) reply s' files' = HostRefuses s files refusals.HostExists reply s' files'
+Gets s files host bytes false (Ok t) reply s' files' = (reply ≡ ok_line) × (s' ≡ s) × (files' ≡ insert files host bytes)
+
+-- the model's answer, and the bytes of the file there
+abbrev pub answer_in : Mode → State → Command → Result Tree Refusal
+answer_in mode s c = answer (tree_in s) (dir_form s.view.layout) mode.read_only c
+
+abbrev pub file_in : State → Path → List ℕ
+file_in s path = bytes_of (node_at (tree_in s) path)
+
+abbrev pub HostTakes : Mode → State → Files → Result HostLine Refusal → List ℕ → State → Files → Type 0
+HostTakes mode s files (Err refusal) reply s' files' = HostRefuses s files refusal reply s' files'
+HostTakes mode s files (Ok (HostLine.Put host path load exec)) reply s' files' =
+    Puts mode s files (Command.Save path load exec) (get files host) (answer_in mode s (Command.Save path load exec [])) reply s' files'
+HostTakes mode s files (Ok (HostLine.Get path host)) reply s' files' =
+    Gets s files host (file_in s path) (is_some (get files host)) (answer_in mode s (Command.Load path)) reply s' files'
+HostTakes mode s files (Ok (HostLine.Other command)) reply s' files' = Takes mode s (Ok command) reply s' × (files' ≡ files)
+
+abbrev pub HostStep : Mode → State → Files → List ℕ → List ℕ → State → Files → Type 0
+HostStep mode s files line reply s' files' = HostTakes mode s files (host_line_of line) reply s' files'
+
+-- lines in turn, with their replies
+abbrev pub HostSteps : (List ℕ → Type 0) → Mode → State → Files → List (List ℕ) → List (List ℕ) → State → Files → Type 0
+HostSteps May mode s files [] [] s' files' = (s' ≡ s) × (files' ≡ files)
+HostSteps May mode s files (line ∷ lines) (reply ∷ replies) s' files' =
+    (mid : State) × (between : Files) × May mid.image × HostStep mode s files line reply mid between
+    × HostSteps May mode mid between lines replies s' files'
+HostSteps May mode s files [] (reply ∷ replies) s' files' = ⊥
+HostSteps May mode s files (line ∷ lines) [] s' files' = ⊥
+
+-- a whole script
+pub record HostRun (May : List ℕ → Type 0) (mode : Mode) (demo : Option ℕ) (s : State) (files : Files) (script text : List ℕ) (s' : State) (files' : Files) : Type 0 where
+  pub start : May s.image
+  pub replies : List (List ℕ)
+  pub steps : HostSteps May mode s files (commands_in (script_for demo script)) replies s' files'
+  pub told : text ≡ text_for demo replies
+
+-- the file of a `get`, with the first of its bytes
+abbrev pub HasPartOf : Mode → State → Files → Result HostLine Refusal → Files → Type 0
+HasPartOf mode s files (Ok (HostLine.Get path host)) left =
+    IsOk (answer_in mode s (Command.Load path)) × (is_some (get files host) ≡ false)
+    × ((n : ℕ) × (left ≡ insert files host (take n (file_in s path))))
+HasPartOf mode s files _ left = ⊥
+
+-- What a run that breaks off in this line leaves of the host's files.
+abbrev pub FilesLeft : Mode → State → Files → List ℕ → Files → Type 0
+FilesLeft mode s files line left = (left ≡ files) ⊎ HasPartOf mode s files (host_line_of line) left
+
+-- ---- stops
+
+abbrev pub host_keeps_tree : Bool → Result HostLine Refusal → Bool
+host_keeps_tree refused (Ok (HostLine.Get path host)) = true
+host_keeps_tree refused (Ok (HostLine.Put host path load exec)) = refused
+host_keeps_tree refused (Ok (HostLine.Other command)) = refused || keeps_tree command
+host_keeps_tree refused (Err refusal) = true
+
+abbrev pub all_host_keep_tree : List (List ℕ) → List (List ℕ) → Bool
+all_host_keep_tree (line ∷ lines) (reply ∷ replies) = host_keeps_tree (is_error reply) (host_line_of line) && all_host_keep_tree lines replies
+all_host_keep_tree _ _ = true

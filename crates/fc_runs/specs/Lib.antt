@@ -1,0 +1,5 @@
+pub mod Run
+pub mod Replies
+pub mod Demo
+pub mod Rows
+pub mod HostRun

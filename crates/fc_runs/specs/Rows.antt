@@ -1,0 +1,22 @@
+-- Demos, replies and runs, worked out.
+use Rattle.std.specs.Prelude.{◌≡◌, ℕ, List, [], ◌∷◌, ◌++◌, codes, drop, true, Some, None, is_some, false}
+use Rattle.fc_dirs.specs.declared.DirFault.TheVariants as dirs
+use Rattle.fc_image.specs.declared.ImageFault.TheVariants as faults
+use Rattle.fc_runs.specs.Replies.{bad_image_line}
+use Rattle.fc_runs.specs.Demo.{next_seed, draw, demo_script}
+use Rattle.fc_names.specs.declared.Refusal.TheVariants.{NotNewMap}
+use Rattle.fc_script.specs.Texts.{refusal_line}
+use Rattle.fc_runs.specs.Run.{is_error, whole_replies}
+
+pub record RunRows : Type 0 where
+  pub first : draw (next_seed 1) ≡ 16838
+  pub second : draw (next_seed (next_seed 1)) ≡ 5758
+  pub third : draw (next_seed (next_seed (next_seed 1))) ≡ 10113
+  pub script : drop 80 (demo_script 1) ≡
+      codes "save $.D6.F14 fffff000 00000000 000102030405060708090a0b0c0d0e0f101112131415161718191a1b1c1d1e1f202122232425262728292a2b2c2d2e2f" ++ 10 ∷ codes "check" ++ 10 ∷ codes "free" ++ 10 ∷ []
+  pub bad_dir : bad_image_line (faults.Directory (codes "D" ∷ []) (dirs.Twin 4)) ≡ codes "bad-image Directory $.D Twin 4" ++ 10 ∷ []
+  pub bad_short : bad_image_line (faults.Short 1638400 1000000) ≡ codes "bad-image Short 1638400 1000000" ++ 10 ∷ []
+  -- the listing of a directory that holds a file named `error` is no refusal
+  pub listed : is_error (codes "error 00000003 00000000 00000000 0" ++ 10 ∷ codes "ok" ++ 10 ∷ []) ≡ false
+  pub refused : is_error (refusal_line NotNewMap) ≡ true
+  pub taken : whole_replies 7 ((codes "ok" ++ 10 ∷ []) ∷ (codes "ok" ++ 10 ∷ []) ∷ (codes "ok" ++ 10 ∷ []) ∷ []) ≡ 2

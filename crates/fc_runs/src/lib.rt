@@ -1,0 +1,10 @@
+//! What a run of a script is: each line a step from one image to the next, with its reply; the lines that also move files
+//! of the host; the script of a demo; and what a stop or an early end leaves.
+#![tactic(auto)]
+
+ghost use Rattle.fc_runs.specs.Rows.{RunRows};
+
+/// The demo's first draws and script, and texts of replies, worked out.
+pub fn rows()
+    ensures { RunRows }
+{}

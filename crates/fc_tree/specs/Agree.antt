@@ -1,0 +1,61 @@
+-- Parts of a volume that agree with each other, with no disk at hand.
+use Rattle.std.specs.Prelude.{◌≡◌, ℕ, List, Option, Some, None, Result, Ok, Err, Contains}
+use Rattle.std.specs.Option.{option_and_then}
+use Rattle.std.specs.Ordering.{nat_cmp}
+use Rattle.std.specs.FinMap.{FinMap, get}
+use Rattle.fc_record.specs.declared.Kind.{Kind}
+use Rattle.fc_record.specs.declared.Kind.TheVariants as kinds
+use Rattle.fc_dirs.specs.declared.DirFault.{DirFault}
+use Rattle.fc_dirs.specs.declared.DirFault.TheVariants as dirs
+use Rattle.fc_names.specs.declared.NameForm.{NameForm}
+use Rattle.fc_names.specs.declared.NameForm.TheVariants as forms
+use Rattle.fc_dirs.specs.declared.SmallForm.TheVariants.{Bytes1280, Bytes2048}
+use Rattle.fc_dirs.specs.Directory.{Directory}
+use Rattle.fc_image.specs.Layout.{dir_form}
+use Rattle.fc_image.specs.Walk.{Listing, Reader, walk}
+use Rattle.fc_image.specs.Objects.{objects_of, listing_at}
+use Rattle.fc_image.specs.Opening.{reserved_in, misplaced_sector}
+use Rattle.fc_tree.specs.Nodes.{Node, NodeBody, number_of, HasNode, HoldObjects}
+use Rattle.fc_tree.specs.Stands.{Parts, AreOwners}
+
+-- what a node's body says
+abbrev pub content_in : NodeBody → Result Directory DirFault
+content_in NodeBody.File = Err dirs.Magic
+content_in (NodeBody.Dir dir) = Ok dir
+
+-- what a node says; none, and a file, is no directory
+abbrev pub said_by : Option Node → Result Directory DirFault
+said_by None = Err dirs.Magic
+said_by (Some node) = content_in node.body
+
+-- the nodes tell what a directory says
+abbrev pub reader_of_nodes : FinMap nat_cmp Node → Reader
+reader_of_nodes nodes o = said_by (option_and_then (get nodes) (number_of nodes o.path))
+
+-- A kind without a boot block: parts by themselves know of none.
+abbrev pub no_boot : Kind
+no_boot = kinds.DiscD
+
+-- a directory has the form of the disc's directories, and a big one the length of its entry
+abbrev pub HasForm : NameForm → ℕ → Directory → Type 0
+HasForm forms.Seven len (Directory.Small dir) = dir.form ≡ Bytes1280
+HasForm forms.Ten len (Directory.Small dir) = dir.form ≡ Bytes2048
+HasForm forms.Long len (Directory.Big dir) = dir.size ≡ len
+HasForm _ len _ = ⊥
+
+-- The walk over the nodes' directories meets no fault, and finds these nodes; no sector of the map lies in a hole or a
+-- movable identifier; the owners are theirs.
+pub record Agree (parts : Parts) : Type 0 where
+  pub root : Node
+  pub root_is : get parts.nodes 0 ≡ Some root
+  pub listings : List Listing
+  pub walked : walk (reader_of_nodes parts.nodes) parts.layout (reserved_in no_boot parts.layout) root.entry.address root.entry.len ≡ Ok listings
+  pub forms : (l : Listing) → Contains listings l → HasForm (dir_form parts.layout) l.object.entry.len l.content
+  pub held : HoldObjects parts.nodes listings
+  pub map_placed : misplaced_sector no_boot parts.layout (objects_of listings) ≡ None
+  pub owned : AreOwners parts.owners parts.nodes parts.layout (objects_of listings)
+
+-- The nodes of a tree tell what the listings say from which they were made.
+abbrev pub NodesLaw : Type 0
+NodesLaw = (nodes : FinMap nat_cmp Node) (listings : List Listing) (l : Listing) → HasNode nodes listings l.object
+    → listing_at listings l.object.path ≡ Some l → reader_of_nodes nodes l.object ≡ Ok l.content
