@@ -123,7 +123,7 @@ pub fn fold_less(a: &Name, b: &Name) -> bool
 }
 
 // A byte that stands for itself in a path: printed, and none of `$ & % @ \ ^ : . # * " |`.
-fn is_plain(c: u8) -> bool
+pub fn is_plain(c: u8) -> bool
     ensures { result ≡ is_plain c }
 {
     c.is_ascii_graphic() && !b"$&%@\\^:.#*\"|".contains(&c)
