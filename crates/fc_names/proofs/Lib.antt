@@ -1,3 +1,5 @@
 pub mod Folding
+pub mod FoldOrder
 pub mod SpellingLemmas
+pub mod SpelledRead
 pub mod PathLemmas
