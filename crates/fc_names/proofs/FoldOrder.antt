@@ -25,11 +25,10 @@ equal Equal h = refl
 equal Greater h = cc h
 
 folds : (a b : List ℕ) → IsTrue (is_same_name a b) ↔ (folded a ≡ folded b)
-folds a b =
-    (
-      λ h. slice_cmp-IsAntisymmetric nat_cmp-IsAntisymmetric (folded a) (folded b) (equal (name_cmp a b) h),
-      λ e. ap (λ f. is_eq (slice_cmp nat_cmp f (folded b))) e ∙ (eq_by_cmp_equiv nat_list_cmp_total).refl (folded b),
-    )
+folds a b = (
+  λ h. slice_cmp-IsAntisymmetric nat_cmp-IsAntisymmetric (folded a) (folded b) (equal (name_cmp a b) h),
+  λ e. ap (λ f. is_eq (slice_cmp nat_cmp f (folded b))) e ∙ (eq_by_cmp_equiv nat_list_cmp_total).refl (folded b),
+)
 
 -- an order and its reverse are less, equal or greater
 three : (o : Ordering) → count_by (λ holds. holds) (is_lt o ∷ is_eq o ∷ is_lt (ordering_reverse o) ∷ []) ≡ 1

@@ -1,3 +1,4 @@
+pub mod BitLemmas
 pub mod Folding
 pub mod FoldOrder
 pub mod SpellingLemmas

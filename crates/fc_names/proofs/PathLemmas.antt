@@ -110,9 +110,9 @@ pub AreRead-next : (text names part name : List ℕ) (after : Option (List ℕ))
 AreRead-next text names part name after full now_full path new read parts e pushed = record {
   done = read.done ++ name ∷ [];
   spells =
-    read.spells ∙ ap (λ ps. after_names read.done (names_of ps)) parts
-    ∙ ap (λ n. after_names read.done (with_name n (names_of (parts_after after)))) e
-    ∙ after_names-push read.done name (names_of (parts_after after));
+      read.spells ∙ ap (λ ps. after_names read.done (names_of ps)) parts
+      ∙ ap (λ n. after_names read.done (with_name n (names_of (parts_after after)))) e
+      ∙ after_names-push read.done name (names_of (parts_after after));
   kept = λ h. (pushed h).1 ∙ ap (λ p. p ++ name ∷ []) (read.kept (pushed h).0);
 }
 

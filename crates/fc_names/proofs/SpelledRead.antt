@@ -62,16 +62,18 @@ IsUnstopped-spelled_byte c below = by (is_plain c) refl
   where
     one : (b : ℕ) (rest : List ℕ) → is_stop b ≡ false → IsUnstopped rest → IsUnstopped (b ∷ rest)
     one b rest h r = All-cons (λ c. is_stop c ≡ false) b rest h r
+
     none : IsUnstopped []
     none = All-nil (λ c. is_stop c ≡ false)
+
     by : (plain : Bool) → is_plain c ≡ plain → IsUnstopped (spelled_byte c)
     by true h = rw h (one c [] (plain_differs c 46 refl h) none)
     by false h =
         rw (spelled_byte-escaped c h)
         (
-          one 37 (slice_index upper_digits (c / 16) ∷ slice_index upper_digits (c % 16) ∷ []) refl
-          (one (slice_index upper_digits (c / 16)) (slice_index upper_digits (c % 16) ∷ []) (digit-is_stop (c / 16) (omega arith))
-          (one (slice_index upper_digits (c % 16)) [] (digit-is_stop (c % 16) (omega arith)) none))
+        one 37 (slice_index upper_digits (c / 16) ∷ slice_index upper_digits (c % 16) ∷ []) refl
+        (one (slice_index upper_digits (c / 16)) (slice_index upper_digits (c % 16) ∷ []) (digit-is_stop (c / 16) (omega arith))
+        (one (slice_index upper_digits (c % 16)) [] (digit-is_stop (c % 16) (omega arith)) none))
         )
 
 IsUnstopped-spelled_name : (name : List ℕ) → All (IsInRange 32 255) name → IsUnstopped (spelled_name name)
@@ -90,7 +92,7 @@ slice_split-spelled first (name ∷ path) unstopped all =
     let is = All-head IsName name path all in
     slice_split_at is_stop first 46 (spelled_name name ++ flat_map (λ n. 46 ∷ spelled_name n) path) unstopped refl
     ∙ ap (λ parts. first ∷ parts) (
-      slice_split-spelled (spelled_name name) path (IsUnstopped-spelled_name name is.bytes) (All-tail IsName name path all)
+    slice_split-spelled (spelled_name name) path (IsUnstopped-spelled_name name is.bytes) (All-tail IsName name path all)
     )
 
 names_of-spelled : (path : Path) → All IsName path → names_of (map spelled_name path) ≡ Some path

@@ -1,6 +1,7 @@
 // Paths from the root of a disc.
 ghost use Rattle.std.specs.Prelude.{◌≡◌, ◌↔◌, ◌<◌, false, [], ◌∷◌, ◌++◌, length, None, Some, option_map, IsSome, IfSome, IfOk, OnOk, OnErr};
-ghost use Rattle.std.specs.List.{slice_split};
+ghost use Rattle.std.specs.List.{All, slice_split};
+ghost use Rattle.fc_names.specs.Names.{IsName};
 ghost use Rattle.fc_names.specs.Paths.{is_stop, parts_after, path_of};
 
 use crate::{Name, read_name};
@@ -9,7 +10,7 @@ use std::alloc::Global;
 use std::marker::Model;
 
 /// A path: the names from the root on. The root's path has none.
-#[derive(Drop)]
+#[derive(Clone, Debug, Drop)]
 pub struct Path {
     names: Vec<Name>,
 }
@@ -19,7 +20,12 @@ impl Model for Path {
 
     ghost Value = { List (List ℕ) };
 
+    ghost use Rattle.std.specs.List.{All};
+    ghost use Rattle.fc_names.specs.Names.{IsName};
+
     ghost view = { λ p. p.names.items };
+
+    ghost invariant = { λ p. All IsName p.names.items };
 }
 
 impl Path {
@@ -34,7 +40,8 @@ impl Path {
 
     /// The names, that of the object itself last.
     pub fn names(&self) -> &[Name]
-        ensures { result.now ≡ self.now }
+        ensures same { result.now ≡ self.now }
+        ensures names { All IsName self.now }
     {
         &self.names
     }
@@ -44,6 +51,7 @@ impl Path {
         ensures ok { OnOk result (self.new ≡ self.old ++ n ∷ []) }
         ensures err { OnErr result (self.new ≡ self.old) }
     {
+        let _bytes = n.bytes();
         self.names.push(n).map_err(|_| NoMemory)
     }
 }
