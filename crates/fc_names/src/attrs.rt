@@ -1,5 +1,6 @@
 // The attributes of objects.
 ghost use Rattle.std.specs.Prelude.{⊤, ◌≡◌, [], ◌∷◌, codes};
+ghost use Rattle.fc_names.specs.Names.{is_locked, is_directory};
 
 use bitflags::{Flag, Flags, bitflag_items};
 
@@ -35,5 +36,21 @@ impl Flags for Attrs {
 
     fn from_bits_retain(bits: u32) -> Attrs {
         Attrs(bits)
+    }
+}
+
+impl Attrs {
+    /// Whether the object is locked.
+    pub fn is_locked(self) -> bool
+        ensures { result ≡ is_locked self.0 }
+    {
+        self.contains(Attrs::LOCKED)
+    }
+
+    /// Whether the object is a directory.
+    pub fn is_directory(self) -> bool
+        ensures { result ≡ is_directory self.0 }
+    {
+        self.contains(Attrs::DIRECTORY)
     }
 }

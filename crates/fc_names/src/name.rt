@@ -32,6 +32,27 @@ impl Model for Name {
     ghost inverse_ok = { stored-shown };
 }
 
+impl PartialEq for Name {
+    ghost use Rattle.std.specs.Str.{bytes_eq};
+    ghost use Rattle.std.specs.Cmp.{partial_equiv_from_equiv};
+    ghost use Rattle.std.specs.Cmp.Lexicographic.{nat_list_eq_equiv};
+
+    ghost eq = { bytes_eq };
+
+    ghost laws = { partial_equiv_from_equiv nat_list_eq_equiv };
+
+    /// Whether the names have the same bytes, in the same case.
+    fn eq(&self, other: &Self) -> bool {
+        self.bytes() == other.bytes()
+    }
+}
+
+impl Eq for Name {
+    ghost use Rattle.std.specs.Cmp.Lexicographic.{nat_list_eq_equiv};
+
+    ghost laws = { nat_list_eq_equiv };
+}
+
 /// Which names may be written: in ten bytes of seven bits (1280-byte directories) or of eight (2048-byte
 /// directories), or long ones (big directories).
 #[derive(Clone, Copy, Debug, PartialEq, Eq)]
@@ -123,10 +144,14 @@ pub fn fold_less(a: &Name, b: &Name) -> bool
 }
 
 // A byte that stands for itself in a path: printed, and none of `$ & % @ \ ^ : . # * " |`.
-fn is_plain(c: u8) -> bool
+pub fn is_plain(c: u8) -> bool
     ensures { result ≡ is_plain c }
 {
-    c.is_ascii_graphic() && !b"$&%@\\^:.#*\"|".contains(&c)
+    c.is_ascii_graphic()
+        && !matches!(
+            c,
+            b'$' | b'&' | b'%' | b'@' | b'\\' | b'^' | b':' | b'.' | b'#' | b'*' | b'"' | b'|'
+        )
 }
 
 fn is_writable_byte(form: NameForm, c: u8) -> bool
