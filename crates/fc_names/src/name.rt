@@ -6,7 +6,8 @@ ghost use Rattle.fc_names.specs.Names.{IsName, name_cmp, is_same_name, is_name_b
 use std::cmp::Ordering;
 use std::marker::Model;
 
-const MOST: usize = 255;
+/// The most bytes of a name.
+pub const MOST: usize = 255;
 
 /// The name of an object: 1 to 255 bytes, each at least 32. It holds them itself, so that a copy takes no memory.
 #[derive(Clone, Copy, Debug)]
