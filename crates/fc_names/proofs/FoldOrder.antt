@@ -1,14 +1,14 @@
 -- Folded names are in a total order.
-use Rattle.std.proofs.Common.{◌≡◌, ℕ, Bool, true, false, List, [], ◌∷◌, count_by, refl, ◌∙◌, ap}
+use Rattle.std.proofs.Common.{◌≡◌, ℕ, true, List, [], ◌∷◌, count_by, refl, ◌∙◌, ap}
 use Rattle.std.specs.Prelude.{◌↔◌, IsTrue}
 use Rattle.std.specs.declared.cmp.Ordering.{Ordering}
 use Rattle.std.specs.declared.cmp.Ordering.TheVariants.{Less, Equal, Greater}
 use Rattle.std.specs.Ordering.{nat_cmp, is_lt, is_eq, ordering_reverse}
-use Rattle.std.specs.Cmp.{IsTotalOrder, IsEquivalence, on_total}
+use Rattle.std.specs.Cmp.{IsTotalOrder, on_total}
 use Rattle.std.specs.Cmp.Lexicographic.{slice_cmp}
 use Rattle.std.specs.FinMap.{nat_cmp-IsAntisymmetric, slice_cmp-IsAntisymmetric}
 use Rattle.std.proofs.lemmas.Cmp.{nat_list_cmp_total, eq_by_cmp_equiv}
-use Rattle.fc_names.specs.Names.{folded, name_cmp, is_same_name, is_name_before}
+use Rattle.fc_names.specs.Names.{folded, name_cmp, is_same_name}
 use Rattle.fc_names.specs.FoldLaw.{FoldLaw}
 
 ordered : IsTotalOrder name_cmp

@@ -1,5 +1,5 @@
 -- The order of names where one of them ends.
-use Rattle.std.proofs.Common.{rules, ◌≡◌, ◌≤◌, ◌<◌, ℕ, suc, zero, List, [], ◌∷◌, length, drop, min, nat_cmp, arith, refl, ◌∙◌}
+use Rattle.std.proofs.Common.{◌≡◌, ◌≤◌, ℕ, suc, zero, List, [], ◌∷◌, length, drop, min, nat_cmp, arith, refl, ◌∙◌}
 use Rattle.fc_names.specs.Names.{name_cmp}
 
 -- the order of a name and what goes on after it is that of their lengths

@@ -1,6 +1,5 @@
 -- How a path is read name by name.
-use Rattle.std.proofs.Common.{◌≡◌, ◌≢◌, ℕ, Bool, true, false, List, [], ◌∷◌, ◌++◌, Option, Some, None, refl, ◌∙◌, sym, ap, append_assoc, append-nil, if◌then◌else◌, ne_eqb, not, nat_lt, length, take, drop, ◌-◌, ◌+◌, ◌<◌, arith, ltb-true, ltb-false, unwrap_or}
-use Rattle.std.specs.Prelude.{IsSome}
+use Rattle.std.proofs.Common.{◌≡◌, ◌≢◌, ℕ, Bool, true, false, List, [], ◌∷◌, ◌++◌, Option, Some, None, refl, ◌∙◌, sym, ap, append_assoc, if◌then◌else◌, ne_eqb, not, nat_lt, length, take, drop, ◌-◌, ◌+◌, arith, ltb-true, ltb-false, unwrap_or}
 use Rattle.std.specs.Option.{option_map, option_and_then}
 use Rattle.std.specs.List.{position_or_len, slice_split}
 use Rattle.std.specs.Str.{bytes_eq}
@@ -115,19 +114,3 @@ AreRead-next text names part name after full now_full path new read parts e push
       ∙ after_names-push read.done name (names_of (parts_after after));
   kept = λ h. (pushed h).1 ∙ ap (λ p. p ++ name ∷ []) (read.kept (pushed h).0);
 }
-
--- a part that spells no name
-pub path_of-no_name : (text names part : List ℕ) (after : Option (List ℕ)) (full : Bool) (path : Path)
-    → AreRead text (Some names) full path → slice_split is_stop names ≡ part ∷ parts_after after → name_of part ≡ None
-    → path_of text ≡ None
-path_of-no_name text names part after full path read parts e =
-    read.spells ∙ ap (λ ps. after_names read.done (names_of ps)) parts
-    ∙ ap (λ n. after_names read.done (with_name n (names_of (parts_after after)))) e
-
--- at the end all names are read
-pub path_of-read : (text : List ℕ) (path : Path) → AreRead text None false path → path_of text ≡ Some path
-path_of-read text path read =
-    read.spells ∙ ap Some (append-nil read.done) ∙ ap Some (sym (read.kept refl))
-
-pub IsSome-path_of : (text : List ℕ) (full : Bool) (path : Path) → AreRead text None full path → IsSome (path_of text)
-IsSome-path_of text full path read = rw read.spells refl

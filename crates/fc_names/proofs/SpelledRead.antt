@@ -1,15 +1,13 @@
 -- What is spelled is read back.
-use Rattle.std.proofs.Common.{◌≡◌, ◌≢◌, ◌≤◌, ◌<◌, ◌+◌, ◌*◌, ◌/◌, ◌%◌, ◌==◌, ℕ, suc, Bool, true, false, List, [], ◌∷◌, ◌++◌, length, map, slice_index, Option, Some, None, refl, ◌∙◌, sym, ap, arith, if◌then◌else◌, eqb-true, ne_eqb, le-leb, append-nil, append_assoc, ◌⊎◌, inl, inr}
-use Rattle.std.specs.Int.{is_in_range, IsInRange}
+use Rattle.std.proofs.Common.{◌≡◌, ◌≤◌, ◌<◌, ◌+◌, ◌*◌, ◌/◌, ◌%◌, ◌==◌, ℕ, Bool, true, false, List, [], ◌∷◌, ◌++◌, length, map, slice_index, Some, refl, ◌∙◌, sym, ap, arith, ne_eqb, le-leb, append-nil}
+use Rattle.std.specs.Int.{IsInRange}
 use Rattle.std.specs.List.{All, flat_map, slice_split}
-use Rattle.std.specs.Option.{option_map, option_and_then}
-use Rattle.std.proofs.lemmas.Bool.{cases_eq}
 use Rattle.std.proofs.lemmas.List.Elements.{All-append, All-nil, All-cons, All-head, All-tail}
 use Rattle.std.proofs.lemmas.List.Splits.{slice_split_at, slice_split_none}
 use Rattle.hex.specs.Hex.{hex_digit_value, upper_digits}
 use Rattle.hex.proofs.HexLemmas.{IsDigits-upper_digits}
 use Rattle.fc_names.specs.Names.{Path, IsName, is_plain}
-use Rattle.fc_names.specs.Paths.{byte_of, cons_some, is_stop, name_of, names_of, path_in, path_of, plain_byte, spelled_byte, spelled_bytes, spelled_name, spelled_path}
+use Rattle.fc_names.specs.Paths.{byte_of, cons_some, is_stop, name_of, names_of, path_in, path_of, spelled_byte, spelled_bytes, spelled_name, spelled_path}
 use Rattle.fc_names.proofs.SpellingLemmas.{spelled_byte-escaped}
 
 -- a plain byte is none of the special ones

@@ -1,5 +1,5 @@
 -- What a spelled byte is, and how a text is read byte by byte.
-use Rattle.std.proofs.Common.{◌≡◌, ◌≤◌, ◌<◌, ◌+◌, ◌*◌, ◌/◌, ◌%◌, ℕ, suc, Bool, true, false, List, [], ◌∷◌, ◌++◌, length, slice_index, Option, Some, None, refl, ◌∙◌, sym, ap, arith, append_assoc, length-append, if◌then◌else◌}
+use Rattle.std.proofs.Common.{◌≡◌, ◌≤◌, ◌<◌, ◌/◌, ◌%◌, ℕ, false, List, [], ◌∷◌, ◌++◌, length, slice_index, Option, Some, None, refl, ◌∙◌, sym, ap, arith, append_assoc, length-append, if◌then◌else◌}
 use Rattle.std.specs.Int.{is_in_range}
 use Rattle.std.proofs.lemmas.Bool.{and_right, lt-leb}
 use Rattle.std.specs.List.{All}
@@ -7,7 +7,7 @@ use Rattle.std.specs.Option.{option_map, option_and_then}
 use Rattle.std.proofs.lemmas.List.Elements.{All-append, All-nil, All-cons}
 use Rattle.hex.specs.Hex.{encode_with, upper_digits}
 use Rattle.fc_names.specs.Names.{is_plain}
-use Rattle.fc_names.specs.Paths.{cons_some, name_of, spelled_byte, spelled_bytes, spelled_name}
+use Rattle.fc_names.specs.Paths.{cons_some, name_of, spelled_byte, spelled_bytes}
 
 -- a byte that isn't plain is spelled by its two digits
 pub spelled_byte-escaped : (c : ℕ) → is_plain c ≡ false

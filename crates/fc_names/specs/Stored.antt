@@ -1,6 +1,6 @@
 -- How a name is kept: its bytes, and after them 0 up to 255 bytes.
 use Rattle.std.specs.Prelude.{◌≡◌, ℕ, ◌-◌, ◌≤◌, List, ◌++◌, length, take, drop, replicate}
-use Rattle.std.proofs.Common.{ap, ◌∙◌, arith, take-append-drop, length-take-le}
+use Rattle.std.proofs.Common.{arith, take-append-drop, length-take-le}
 use Rattle.fc_names.specs.Names.{IsName}
 use Rattle.fc_names.specs.declared.name.Name.TheInside.{Inside}
 

@@ -6,7 +6,8 @@ ghost use Rattle.fc_names.specs.Names.{IsName, name_cmp, is_same_name, is_name_b
 use std::cmp::Ordering;
 use std::marker::Model;
 
-const MOST: usize = 255;
+/// The most bytes of a name.
+pub const MOST: usize = 255;
 
 /// The name of an object: 1 to 255 bytes, each at least 32. It holds them itself, so that a copy takes no memory.
 #[derive(Clone, Copy, Debug)]
@@ -53,12 +54,14 @@ impl Eq for Name {
     ghost laws = { nat_list_eq_equiv };
 }
 
-/// Which names may be written: in ten bytes of seven bits (1280-byte directories) or of eight (2048-byte
-/// directories), or long ones (big directories).
+/// Which names may be written, by the directories of a disc.
 #[derive(Clone, Copy, Debug, PartialEq, Eq)]
 pub enum NameForm {
+    /// At most 10 bytes below 128, in directories of 1280 bytes.
     Seven,
+    /// At most 10 bytes, in directories of 2048 bytes.
     Ten,
+    /// At most 255 bytes, in big directories.
     Long,
 }
 
@@ -170,8 +173,8 @@ fn name_limit(form: NameForm) -> usize
     }
 }
 
-/// Whether a name may be written in directories of this form: at most 10 bytes, or 255 in big directories, of 33 to
-/// 126 and 128 to 255 without `$ & % @ \ ^ : . # * " |`, and in 1280-byte directories none from 128 on.
+/// Whether a name may be written in directories of this form. Its bytes must be 33 to 126, or 128 to 255 where the form
+/// has them, without `$ & % @ \ ^ : . # * " |`. A name that is read may have other bytes.
 pub fn writable(n: &Name, form: NameForm) -> bool
     ensures { result ≡ is_writable form n.now }
 {

@@ -51,7 +51,8 @@ impl Path {
         ensures ok { OnOk result (self.new ≡ self.old ++ n ∷ []) }
         ensures err { OnErr result (self.new ≡ self.old) }
     {
-        let _bytes = n.bytes();
+        // A name has its bytes, which the path's other names have by its invariant.
+        let _ = n.bytes();
         self.names.push(n).map_err(|_| NoMemory)
     }
 }

@@ -2,28 +2,49 @@
 ghost use Rattle.std.specs.Prelude.{◌≡◌};
 ghost use Rattle.fc_names.specs.Refusals.{refusal_number, refusal_word};
 
-/// Why a command is refused.
+/// Why a command is refused. Where several reasons hold, the first in this order is answered; the last four come right
+/// after `ReadOnly`.
 #[derive(Clone, Copy, Debug, PartialEq, Eq)]
 pub enum Refusal {
+    /// The line is none of the commands.
     BadCommand,
+    /// A path isn't in the grammar of paths, or a name that is to be written can't be.
     BadName,
+    /// A path that must be there isn't.
     NotFound,
+    /// A path leads through a file, or names a file where a directory is needed.
     NotDirectory,
+    /// A path names a directory where a file is needed.
     IsDirectory,
+    /// A path names an object where none may be.
     Exists,
+    /// The root can't be deleted, renamed or changed.
     RootRefused,
+    /// A directory can't be moved into itself.
     IntoItself,
+    /// The object is locked.
     Locked,
+    /// The directory that is to be deleted has entries.
     NotEmpty,
+    /// The volume is mounted for reading only.
     ReadOnly,
+    /// The directory has no place for another entry, or no room to grow.
     DirFull,
+    /// The map has no identifier left for a new object.
     IdsFull,
+    /// The free space is too small.
     DiscFull,
+    /// The free space is large enough, but in pieces that are too small.
     CompactionRequired,
+    /// The old map has no place for another hole.
     MapFull,
+    /// The host has no file of that name.
     NoHostFile,
+    /// The host's file is too long for an object.
     HostTooLong,
+    /// The host has a file of that name already.
     HostExists,
+    /// The volume has no new map.
     NotNewMap,
 }
 

@@ -6,12 +6,12 @@ ghost use Rattle.arrayvec.specs.ArrayVec.{array_vec_len};
 ghost use Rattle.fc_names.specs.Paths.{byte_of, cons_some, name_of, spelled_byte, spelled_bytes, spelled_name};
 
 use crate::Name;
-use crate::name::is_plain;
+use crate::name::{MOST, is_plain};
 use arrayvec::ArrayVec;
 use fc_device::NoMemory;
 
-/// The most bytes of a spelled name.
-const SPELLED: usize = 765;
+// The most bytes of a spelled name.
+const SPELLED: usize = 3 * MOST;
 
 const DIGITS: &[u8; 16] = b"0123456789ABCDEF";
 
@@ -91,7 +91,7 @@ fn read_byte(text: &[u8]) -> Option<(u8, &[u8])>
 pub fn read_name(text: &[u8]) -> Option<Name>
     ensures { result ≡ name_of text.now }
 {
-    let mut bytes: ArrayVec<u8, 255> = ArrayVec::new();
+    let mut bytes: ArrayVec<u8, MOST> = ArrayVec::new();
     let mut rest = text;
     while !rest.is_empty() {
         let (c, after) = read_byte(rest)?;

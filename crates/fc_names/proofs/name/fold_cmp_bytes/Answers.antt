@@ -1,4 +1,4 @@
-use Rattle.std.proofs.Common.{rules, ◌≡◌, ◌∙◌, sym, length, min, refl}
+use Rattle.std.proofs.Common.{◌≡◌, ◌∙◌, sym, length, min}
 use Rattle.std.proofs.lemmas.Slice.Zip.{zip_end}
 use Rattle.fc_names.proofs.Folding.{name_cmp-ended}
 use Rattle.fc_names.proofs.name.fold_cmp_bytes.Goals as goal

@@ -1,4 +1,4 @@
-use Rattle.std.proofs.Common.{rules, ◌≡◌, ◌≤◌, arith, true, length, List, ℕ, Bool, le-leb, refl, nat_le}
+use Rattle.std.proofs.Common.{rules, ◌≡◌, ◌≤◌, arith, length, le-leb}
 use Rattle.std.specs.List.{list_all}
 use Rattle.std.proofs.lemmas.Iterator.{YieldsList-from_slice}
 use Rattle.std.proofs.lemmas.Iterator.Search.{all_from_yields_List}

@@ -1,4 +1,4 @@
-use Rattle.std.proofs.Common.{◌≡◌, ◌∙◌, sym, refl}
+use Rattle.std.proofs.Common.{sym}
 use Rattle.fc_names.proofs.SpellingLemmas.{spelled_byte-escaped, three-appended}
 use Rattle.fc_names.proofs.spelling.push_spelled.Goals as goal
 

@@ -1,4 +1,4 @@
-use Rattle.std.proofs.Common.{◌≡◌, ◌∙◌, sym, eqb-true}
+use Rattle.std.proofs.Common.{◌∙◌, sym, eqb-true}
 use Rattle.fc_names.proofs.SpellingLemmas.{IsRead-next, name_of-too_long}
 use Rattle.fc_names.proofs.spelling.read_name.Goals as goal
 
