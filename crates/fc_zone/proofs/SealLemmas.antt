@@ -1,13 +1,13 @@
 -- What a change of byte 0 alone leaves of a zone.
-use Rattle.std.proofs.Common.{◌≡◌, ◌<◌, ◌≤◌, ◌≢◌, ℕ, zero, suc, ◌+◌, ◌*◌, None, List, [], ◌∷◌, ◌++◌, length, slice_index, refl, sym, ap, ◌∙◌, inl, inr, arith}
+use Rattle.std.proofs.Common.{◌≡◌, ◌≤◌, ℕ, None, List, [], ◌∷◌, length, slice_index, refl, sym, ◌∙◌, inl, inr, arith}
 use Rattle.std.specs.List.{slice_set}
-use Rattle.std.proofs.lemmas.List.{get_or_append_left, get_or-append_right}
+use Rattle.std.proofs.lemmas.List.{get_or-append_right}
 use Rattle.fc_bytes.specs.Bits.{bits, low_bits}
 use Rattle.fc_bytes.specs.BitLaws.{length-bits, length-low_bits}
 use Rattle.fc_zone.specs.declared.ZoneShape.{ZoneShape}
 use Rattle.fc_zone.specs.declared.Run.{Run}
-use Rattle.fc_zone.specs.Zone.{Spells, Chain, first_hole, hole_starts, Zone}
-use Rattle.fc_zone.proofs.HolderLemmas.{AllFrom, holes_from}
+use Rattle.fc_zone.specs.Zone.{first_hole, hole_starts, Zone}
+use Rattle.fc_zone.proofs.HolderLemmas.{holes_from}
 use Rattle.fc_zone.proofs.EditLemmas.{Same, Spells-same, Chain-same, first_hole-same, kept_from}
 
 -- the bits from 8 on are those of the other bytes
