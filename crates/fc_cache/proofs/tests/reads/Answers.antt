@@ -1,4 +1,4 @@
-use Rattle.fc_device.proofs.DiskLaws.{form_same, form_then}
+use Rattle.fc_device.proofs.DiskLaws.{form_then}
 use Rattle.fc_cache.proofs.tests.reads.Goals as goal
 
 pub returns-in_err-read : goal.returns-in_err-read

@@ -1,4 +1,4 @@
-use Rattle.std.proofs.Common.{refl, sym, ◌∙◌}
+use Rattle.std.proofs.Common.{refl}
 use Rattle.fc_device.proofs.DiskLaws.{laws, sector_fits}
 use Rattle.fc_cache.proofs.CachedLemmas.{still_whole, still_right, whole_with, right_with, right_without, written_at}
 use Rattle.fc_cache.proofs.cached.CachedDiskDisk.write.Goals as goal

@@ -1,4 +1,4 @@
-use Rattle.std.proofs.Common.{ℕ, List, ◌≡◌, Some, option_copied, nat_eq, sym, ◌∙◌, ap, subst, length, Contains, Vec}
+use Rattle.std.proofs.Common.{ℕ, List, option_copied, nat_eq, sym, ◌∙◌, ap, subst, length, Contains, Vec}
 use Rattle.std.specs.Global.{Global}
 use Rattle.lru.proofs.CallerLemmas.{Contains-promoted}
 use Rattle.lru.specs.LruCache.{LruCache}

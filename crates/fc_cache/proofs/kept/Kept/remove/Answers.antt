@@ -1,4 +1,4 @@
-use Rattle.std.proofs.Common.{ℕ, List, ◌≡◌, None, nat_eq, is_some, sym, ◌∙◌, ap, subst, Contains, Vec}
+use Rattle.std.proofs.Common.{ℕ, List, nat_eq, is_some, sym, ◌∙◌, ap, subst, Contains, Vec}
 use Rattle.std.specs.Global.{Global}
 use Rattle.std.specs.Map.{lookup, remove_entry}
 use Rattle.lru.proofs.CallerLemmas.{Contains-remove_entry}
