@@ -1,12 +1,12 @@
 -- How large the numbers are that follow from a record.
-use Rattle.std.proofs.Common.{◌≡◌, ℕ, zero, suc, ◌+◌, ◌-◌, ◌*◌, ◌/◌, ◌%◌, ◌^◌, ◌<◌, ◌≤◌, Bool, true, false, cond, None, refl, sym, ap, ◌∙◌, subst, arith}
+use Rattle.std.proofs.Common.{◌≡◌, ℕ, zero, suc, ◌+◌, ◌-◌, ◌*◌, ◌/◌, ◌%◌, ◌^◌, ◌<◌, ◌≤◌, Bool, true, false, cond, slice_index, refl, sym, ap, ◌∙◌, subst, arith}
 use Rattle.std.specs.Prelude.{◌&&◌, nat_le}
 use Rattle.std.proofs.Math.Nat.{pow-le-pow_right, mod-eq_of_lt, div-le_self}
 use Rattle.std.proofs.lemmas.Nat.{mul-le}
 use Rattle.std.proofs.lemmas.Bool.{leb-true, ne_eqb}
 use Rattle.fc_record.specs.declared.DiscRecord.{DiscRecord}
 use Rattle.fc_record.specs.declared.Geometry.{Geometry}
-use Rattle.fc_record.specs.Record.{geometry, zone_start, record_fault, is_sector_right, is_bit_right}
+use Rattle.fc_record.specs.Record.{geometry, zone_start, IsRecord}
 use Rattle.fc_record.proofs.FaultLemmas.{valid_meets}
 
 start_small : (size z : ℕ) → size ≤ 2 ^ 13 → z ≤ 2 ^ 15 → zone_start size z ≤ 2 ^ 28
@@ -53,8 +53,11 @@ second_part : (a b : Bool) → (a && b) ≡ true → b ≡ true
 second_part true b e = e
 second_part false b e = absurd (cc)
 
-pub sector_valid : (r : DiscRecord) → record_fault r ≡ None → r.log2_sector ≤ 10
-sector_valid r e = leb-true r.log2_sector 10 (second_part (nat_le 8 r.log2_sector) (nat_le r.log2_sector 10) (valid_meets r e).sector)
+pub sector_valid : (r : DiscRecord) → IsRecord r → r.log2_sector ≤ 10
+sector_valid r is = leb-true r.log2_sector 10 (second_part (nat_le 8 r.log2_sector) (nat_le r.log2_sector 10) (valid_meets r is.valid).sector)
 
-pub bit_valid : (r : DiscRecord) → record_fault r ≡ None → r.log2_bit ≤ 20
-bit_valid r e = leb-true r.log2_bit 20 (second_part (nat_le 5 r.log2_bit) (nat_le r.log2_bit 20) (valid_meets r e).bit)
+pub bit_valid : (r : DiscRecord) → IsRecord r → r.log2_bit ≤ 20
+bit_valid r is = leb-true r.log2_bit 20 (second_part (nat_le 5 r.log2_bit) (nat_le r.log2_bit 20) (valid_meets r is.valid).bit)
+
+pub share_valid : (r : DiscRecord) → IsRecord r → r.log2_share < 16
+share_valid r is = let read : r.log2_share ≡ slice_index r.raw 40 % 16 = ap (λ (s : DiscRecord). s.log2_share) is.from_raw in omega arith

@@ -1,13 +1,12 @@
 // The numbers that follow from a record.
-ghost use Rattle.std.specs.Prelude.{◌≡◌, ◌≤◌, ◌<◌, None};
-ghost use Rattle.fc_record.specs.Record.{geometry, zone_start, record_fault};
+ghost use Rattle.std.specs.Prelude.{◌≡◌, ◌≤◌, ◌<◌};
+ghost use Rattle.fc_record.specs.Record.{geometry, zone_start, IsRecord};
 
 use crate::{DiscRecord, Geometry};
 
-/// What follows from a valid record.
+/// What follows from a valid record (docs/FORMAT.md, "Disc record" and "New map").
 pub fn geometry(r: &DiscRecord) -> Geometry
-    requires valid { record_fault r.now ≡ None }
-    requires share { r.now.log2_share < 16 }
+    requires { IsRecord r.now }
     ensures { result ≡ geometry r.now }
 {
     measured(r)

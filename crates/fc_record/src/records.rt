@@ -1,6 +1,6 @@
 // Reading a disc record, and the conditions that a valid one meets.
 ghost use Rattle.std.specs.Prelude.{◌≡◌, ◌≤◌, ◌<◌, length, Some, None, IfOk, IfErr};
-ghost use Rattle.fc_record.specs.Record.{record_of, geometry, is_sector_right, is_idlen_right, is_bit_right, are_zones_right, is_spare_right, is_size_right, is_root_right, is_root_size_right, record_fault};
+ghost use Rattle.fc_record.specs.Record.{record_of, geometry, is_sector_right, is_idlen_right, is_bit_right, are_zones_right, is_spare_right, is_size_right, is_root_right, is_root_size_right, record_fault, IsRecord};
 
 use crate::measures::{measured, zone_start};
 use crate::{DiscRecord, Geometry, RecordFault};
@@ -152,7 +152,7 @@ fn fault(field: u8, value: u64) -> Option<RecordFault>
 pub fn read_record(b: &[u8]) -> Result<DiscRecord, RecordFault>
     requires { length b.now ≡ 60 }
     ensures read { IfOk result (λ r. r ≡ record_of b.now) }
-    ensures valid { IfOk result (λ r. record_fault r ≡ None) }
+    ensures valid { IfOk result IsRecord }
     ensures fault { IfErr result (λ f. record_fault (record_of b.now) ≡ Some f) }
 {
     let record = parse_record(b);
