@@ -1,11 +1,12 @@
 -- The kind of an image, from the parts of it that are read.
-use Rattle.std.proofs.Common.{◌≡◌, ℕ, ◌+◌, ◌*◌, ◌≤◌, ◌<◌, Bool, true, false, cond, List, length, take, drop, get_or, slice_index, refl, sym, ap, ap₂, ◌∙◌, Some, None, Option, arith}
+use Rattle.std.proofs.Common.{◌≡◌, ℕ, ◌+◌, ◌*◌, ◌≤◌, ◌<◌, Bool, true, false, cond, List, length, take, drop, length-take, length-drop, get_or, slice_index, refl, sym, ap, ap₂, ◌∙◌, Some, None, Option, arith}
 use Rattle.std.specs.Prelude.{◌&&◌, ◌||◌, ◌==◌, nat_le}
 use Rattle.std.specs.Int.{is_in_range}
 use Rattle.std.proofs.lemmas.List.{length-take-le, take-take, drop-take, get_or-take}
+use Rattle.std.proofs.lemmas.Bool.{ne_eqb, leb-false}
 use Rattle.byteorder.specs.Endian.{little_number}
 use Rattle.fc_bytes.specs.Words.{bytes_at, u24_at}
-use Rattle.fc_checks.specs.Checks.{boot_check, is_half_right}
+use Rattle.fc_checks.specs.Checks.{boot_check, zone_check, is_half_right}
 use Rattle.fc_record.specs.declared.DiscRecord.{DiscRecord}
 use Rattle.fc_record.specs.declared.Kind.{Kind}
 use Rattle.fc_record.specs.declared.Kind.TheVariants.{Boot, OneZone, DiscD, DiscL}
@@ -70,3 +71,33 @@ unfolding kind_of
 boot_first image r found =
     let is = taken r (boot_record image) (is_boot image) found in
     rw (is.0, is.1) refl
+
+pub first_zone : (image : List ℕ) (r : DiscRecord) → None ≡ cond (is_boot image) (Some (boot_record image)) None → Some r ≡ record_in_map (bytes_at image 0 1024) → Some (OneZone r) ≡ kind_of image
+unfolding kind_of
+first_zone image r boot found =
+    let is = taken r (map_record (bytes_at image 0 1024)) (is_whole_map (bytes_at image 0 1024)) found in
+    rw (passed (boot_record image) (is_boot image) boot, is.0, is.1) refl
+
+pub second_zone : (image : List ℕ) (r : DiscRecord) → None ≡ cond (is_boot image) (Some (boot_record image)) None → None ≡ record_in_map (bytes_at image 0 1024)
+    → Some r ≡ record_in_map (bytes_at image 1024 1024) → Some (OneZone r) ≡ kind_of image
+unfolding kind_of
+second_zone image r boot first found =
+    let is = taken r (map_record (bytes_at image 1024 1024)) (is_whole_map (bytes_at image 1024 1024)) found in
+    rw (passed (boot_record image) (is_boot image) boot, passed (map_record (bytes_at image 0 1024)) (is_whole_map (bytes_at image 0 1024)) first, is.0, is.1) refl
+
+pub old_last : (image : List ℕ) (found : Option Kind) → None ≡ cond (is_boot image) (Some (boot_record image)) None → None ≡ record_in_map (bytes_at image 0 1024)
+    → None ≡ record_in_map (bytes_at image 1024 1024) → found ≡ kind_in_old_map image → found ≡ kind_of image
+unfolding kind_of
+old_last image found boot first second is =
+    rw (passed (boot_record image) (is_boot image) boot, passed (map_record (bytes_at image 0 1024)) (is_whole_map (bytes_at image 0 1024)) first,
+    passed (map_record (bytes_at image 1024 1024)) (is_whole_map (bytes_at image 1024 1024)) second) is
+
+-- ---- maps
+
+pub too_short : (image : List ℕ) (at : ℕ) → length image < at + 1024 → None ≡ record_in_map (bytes_at image at 1024)
+too_short image at short =
+    let part = bytes_at image at 1024 in
+    let len : length part < 1024 = omega (arith, length-take 1024 (drop at image), length-drop at image) in
+    let r = map_record part in
+    ap (λ (b : Bool). cond (b && (slice_index part 0 == zone_check part) && (slice_index part 3 == 255) && is_valid r && (r.log2_sector == 10) && (r.zones == 1)) (Some r) None)
+    (sym (ne_eqb (length part) 1024 (omega arith)))
