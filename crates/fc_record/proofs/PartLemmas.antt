@@ -89,8 +89,11 @@ pub old_last : (image : List ℕ) (found : Option Kind) → None ≡ cond (is_bo
     → None ≡ record_in_map (bytes_at image 1024 1024) → found ≡ kind_in_old_map image → found ≡ kind_of image
 unfolding kind_of
 old_last image found boot first second is =
-    rw (passed (boot_record image) (is_boot image) boot, passed (map_record (bytes_at image 0 1024)) (is_whole_map (bytes_at image 0 1024)) first,
-    passed (map_record (bytes_at image 1024 1024)) (is_whole_map (bytes_at image 1024 1024)) second) is
+    rw (
+      passed (boot_record image) (is_boot image) boot,
+      passed (map_record (bytes_at image 0 1024)) (is_whole_map (bytes_at image 0 1024)) first,
+      passed (map_record (bytes_at image 1024 1024)) (is_whole_map (bytes_at image 1024 1024)) second,
+    ) is
 
 -- ---- maps
 

@@ -11,7 +11,7 @@ loop-i-preserved g c =
     let done = c.loop-i.invariant in
     let read = c.read.ensures in
     let one : OnlyReads g.D.Disk c.loop-i.disk c.read.new.self =
-        record { form = read.form; bytes = read.bytes; pending = read.pending; stops = read.stops; still = read.still; faults = read.cause.later } in
+    record { form = read.form; bytes = read.bytes; pending = read.pending; stops = read.stops; still = read.still; faults = read.cause.later } in
     let size = done.reads.form.size_stays ∙ c.requires.size in
     record {
       reads = reads_then law done.reads one;
