@@ -1,17 +1,17 @@
 -- The kind of an image, from the parts of it that are read.
-use Rattle.std.proofs.Common.{◌≡◌, ℕ, ◌+◌, ◌*◌, ◌≤◌, ◌<◌, Bool, true, false, cond, List, length, take, drop, length-take, length-drop, get_or, slice_index, refl, sym, ap, ap₂, ◌∙◌, Some, None, Option, arith}
-use Rattle.std.specs.Prelude.{◌&&◌, ◌||◌, ◌==◌, nat_le}
+use Rattle.std.proofs.Common.{◌≡◌, ℕ, ◌+◌, ◌<◌, Bool, true, false, cond, List, length, take, drop, length-take, length-drop, slice_index, refl, sym, ap, ◌∙◌, Some, None, Option, arith}
+use Rattle.std.specs.Prelude.{◌&&◌, ◌==◌, nat_le}
 use Rattle.std.specs.Int.{is_in_range}
-use Rattle.std.proofs.lemmas.List.{length-take-le, take-take, drop-take, get_or-take}
-use Rattle.std.proofs.lemmas.Bool.{ne_eqb, leb-false}
+use Rattle.std.proofs.lemmas.List.{take-take, drop-take, get_or-take}
+use Rattle.std.proofs.lemmas.Bool.{ne_eqb}
 use Rattle.byteorder.specs.Endian.{little_number}
 use Rattle.fc_bytes.specs.Words.{bytes_at, u24_at}
 use Rattle.fc_checks.specs.Checks.{boot_check, zone_check, is_half_right}
 use Rattle.fc_record.specs.declared.DiscRecord.{DiscRecord}
 use Rattle.fc_record.specs.declared.Kind.{Kind}
 use Rattle.fc_record.specs.declared.Kind.TheVariants.{Boot, OneZone, DiscD, DiscL}
-use Rattle.fc_record.specs.Record.{record_of, is_valid}
-use Rattle.fc_record.specs.Kinds.{boot_block, boot_record, is_boot, map_record, is_whole_map, is_old_map, old_units, kind_of}
+use Rattle.fc_record.specs.Record.{is_valid}
+use Rattle.fc_record.specs.Kinds.{boot_block, boot_record, is_boot, map_record, is_whole_map, kind_of}
 use Rattle.fc_record.specs.Parts.{record_in_boot, record_in_map, kind_in_old_map}
 
 -- ---- boot blocks

@@ -1,4 +1,4 @@
-use Rattle.std.proofs.Common.{◌≤◌, ◌*◌, ◌/◌, ◌%◌, ◌^◌, refl, arith}
+use Rattle.std.proofs.Common.{◌*◌, ◌/◌, ◌%◌, ◌^◌, refl, arith}
 use Rattle.fc_record.proofs.MeasureLemmas.{place_fits, sector_small}
 use Rattle.fc_record.proofs.measures.measured.Goals as goal
 

@@ -1,4 +1,3 @@
-use Rattle.std.proofs.Common.{◌∙◌}
 use Rattle.fc_record.proofs.FaultLemmas.{sector_fails, idlen_fails, bit_fails, zones_fails, spare_fails, size_fails, root_fails, root_size_fails, none_fails}
 use Rattle.fc_record.proofs.records.first_fault.Goals as goal
 
