@@ -1,0 +1,179 @@
+//! The kind of an image.
+ghost use Rattle.std.specs.Prelude.{◌≡◌, ◌≤◌, ◌*◌, ◌^◌, length, Some, None, Err, if◌then◌else◌, IsTrue, IfOk, IfSome};
+ghost use Rattle.std.specs.Option.{ForSome};
+ghost use Rattle.fc_bytes.specs.Words.{bytes_at};
+ghost use Rattle.fc_device.specs.Calls.{FailsByFault, SameForm, StopsAsBefore};
+ghost use Rattle.fc_device.specs.Faults.{Rose};
+ghost use Rattle.fc_device.specs.Stops.{StillLeaves};
+ghost use Rattle.fc_checks.specs.Checks.{is_half_right};
+ghost use Rattle.fc_record.specs.Kinds.{is_boot, boot_record, is_old_map, kind_of, IsKind, Answers, FitsLength};
+ghost use Rattle.fc_record.specs.Parts.{record_in_boot, record_in_map, kind_in_old_map};
+ghost use Rattle.fc_record.specs.Record.{IsRecord};
+ghost use Rattle.fc_record.specs.Reads.{OnlyReads};
+
+use crate::reads::fetch;
+use crate::{DiscRecord, Kind, KindError, read_record};
+use fc_bytes::le24;
+use fc_checks::{boot_check, old_check, zone_check};
+use fc_device::{Disk, DiskFault};
+
+/// The units of a D disc.
+const D_UNITS: u32 = 3200;
+
+/// The sector of 256 bytes at which a boot block begins.
+const BOOT_SECTOR: u64 = 12;
+
+/// The sector of 256 bytes at which the second copy of a map of 1024 bytes begins.
+const COPY_SECTOR: u64 = 4;
+
+// The record in a boot block whose check is right, where it is valid.
+fn record_in_boot(block: &[u8]) -> Option<DiscRecord>
+    requires { length block.now ≡ 512 }
+    ensures value { result ≡ record_in_boot block.now }
+    ensures valid { IfSome result IsRecord }
+{
+    if block[511] != boot_check(block) {
+        return None;
+    }
+    read_record(&block[0x1C0..0x1C0 + 60]).ok()
+}
+
+// The record in a sector of 1024 bytes that is the whole of a sound map.
+fn record_in_map(sector: &[u8]) -> Option<DiscRecord>
+    requires { length sector.now ≡ 1024 }
+    ensures value { result ≡ record_in_map sector.now }
+    ensures valid { IfSome result (λ r. IsKind (Kind.OneZone r)) }
+{
+    if sector[0] != zone_check(sector) || sector[3] != 255 {
+        return None;
+    }
+    match read_record(&sector[4..64]) {
+        Ok(record) if record.log2_sector == 10 && record.zones == 1 => Some(record),
+        _ => None,
+    }
+}
+
+// Whether half of an old map has its check. The sum starts at 255 when it is written; 0 is accepted too.
+fn is_half_right(half: &[u8]) -> bool
+    requires { length half.now ≡ 256 }
+    ensures { result ≡ is_half_right half.now }
+{
+    half[255] == old_check(half, 255) || half[255] == old_check(half, 0)
+}
+
+// The kind of a disc with this old map.
+fn kind_in_old_map(map: &[u8]) -> Option<Kind>
+    requires { length map.now ≡ 512 }
+    ensures value { result ≡ kind_in_old_map map.now }
+    ensures sound { IfSome result IsKind }
+{
+    if !is_half_right(&map[..256]) || !is_half_right(&map[256..]) {
+        return None;
+    }
+    match le24(map, 252) {
+        D_UNITS => Some(Kind::DiscD),
+        units @ 7..=2560 => Some(Kind::DiscL { units }),
+        _ => None,
+    }
+}
+
+// The record in the boot block, where the image has a right one.
+fn boot_record<D: Disk>(disk: &mut D) -> Result<Option<DiscRecord>, DiskFault>
+    requires attached { IsTrue (D.attached disk.old) }
+    requires size { D.sector_size disk.old ≡ 256 }
+    ensures found { IfOk result (λ found. ForSome (D.bytes disk.old) (λ image. found ≡ (if is_boot image then Some (boot_record image) else None))) }
+    ensures valid { IfOk result (λ found. IfSome found IsRecord) }
+    ensures reads { OnlyReads D.Disk disk.old disk.new }
+    ensures cause { FailsByFault D.Disk disk.old disk.new result }
+{
+    let mut block = [0u8; 512];
+    if !fetch(disk, BOOT_SECTOR, &mut block)? {
+        return Ok(None);
+    }
+    Ok(record_in_boot(&block))
+}
+
+// The record in the 1024 bytes from sector `first` on, where they are the whole of a sound map.
+fn map_record<D: Disk>(disk: &mut D, first: u64) -> Result<Option<DiscRecord>, DiskFault>
+    requires attached { IsTrue (D.attached disk.old) }
+    requires size { D.sector_size disk.old ≡ 256 }
+    requires fits { first ≤ 2 ^ 32 }
+    ensures found { IfOk result (λ found. ForSome (D.bytes disk.old) (λ image. found ≡ record_in_map (bytes_at image (256 * first) 1024))) }
+    ensures valid { IfOk result (λ found. IfSome found (λ r. IsKind (Kind.OneZone r))) }
+    ensures reads { OnlyReads D.Disk disk.old disk.new }
+    ensures cause { FailsByFault D.Disk disk.old disk.new result }
+{
+    let mut sector = [0u8; 1024];
+    if !fetch(disk, first, &mut sector)? {
+        return Ok(None);
+    }
+    Ok(record_in_map(&sector))
+}
+
+// The kind of a disc with an old map, where the image has a right one.
+fn old_kind<D: Disk>(disk: &mut D) -> Result<Option<Kind>, DiskFault>
+    requires attached { IsTrue (D.attached disk.old) }
+    requires size { D.sector_size disk.old ≡ 256 }
+    ensures found { IfOk result (λ found. ForSome (D.bytes disk.old) (λ image. found ≡ kind_in_old_map image)) }
+    ensures valid { IfOk result (λ found. IfSome found IsKind) }
+    ensures reads { OnlyReads D.Disk disk.old disk.new }
+    ensures cause { FailsByFault D.Disk disk.old disk.new result }
+{
+    let mut map = [0u8; 512];
+    if !fetch(disk, 0, &mut map)? {
+        return Ok(None);
+    }
+    Ok(kind_in_old_map(&map))
+}
+
+// The first kind that fits.
+fn first_kind<D: Disk>(disk: &mut D) -> Result<Option<Kind>, DiskFault>
+    requires attached { IsTrue (D.attached disk.old) }
+    requires size { D.sector_size disk.old ≡ 256 }
+    ensures found { IfOk result (λ found. ForSome (D.bytes disk.old) (λ image. found ≡ kind_of image)) }
+    ensures valid { IfOk result (λ found. IfSome found IsKind) }
+    ensures reads { OnlyReads D.Disk disk.old disk.new }
+    ensures cause { FailsByFault D.Disk disk.old disk.new result }
+{
+    if let Some(record) = boot_record(disk)? {
+        return Ok(Some(Kind::Boot(record)));
+    }
+    if let Some(record) = map_record(disk, 0)? {
+        return Ok(Some(Kind::OneZone(record)));
+    }
+    if let Some(record) = map_record(disk, COPY_SECTOR)? {
+        return Ok(Some(Kind::OneZone(record)));
+    }
+    old_kind(disk)
+}
+
+/// The kind of an image: the first of four that fits (docs/FORMAT.md, "Kinds"). The disk is attached and has sectors
+/// of 256 bytes. Only the first 3584 bytes are read, and nothing is written.
+///
+/// The answer is `NoKind` exactly where none fits, `Short` exactly where the image is shorter than the disc of the
+/// kind that fits, and `DiskFault` only where the disk's count of faults rose.
+pub fn kind<D: Disk>(disk: &mut D) -> Result<Kind, KindError>
+    requires attached { IsTrue (D.attached disk.old) }
+    requires size { D.sector_size disk.old ≡ 256 }
+    ensures answer { ForSome (D.bytes disk.old) (λ image. Answers image result) }
+    ensures fits { FitsLength (D.image_length disk.old) result }
+    ensures form { SameForm D.Disk disk.old disk.new }
+    ensures bytes { D.bytes disk.new ≡ D.bytes disk.old }
+    ensures pending { D.pending disk.new ≡ D.pending disk.old }
+    ensures stops { StopsAsBefore D.Disk disk.old disk.new }
+    ensures still { StillLeaves D.moment D.left_since disk.old disk.new }
+    ensures later { D.faults disk.old ≤ D.faults disk.new }
+    ensures cause { result ≡ Err KindError.DiskFault → Rose (D.faults disk.old) (D.faults disk.new) }
+{
+    let have = disk.length();
+    let found = match first_kind(disk) {
+        Ok(Some(kind)) => kind,
+        Ok(None) => return Err(KindError::NoKind),
+        Err(DiskFault) => return Err(KindError::DiskFault),
+    };
+    let need = found.disc_size();
+    if have < need {
+        return Err(KindError::Short { need, have });
+    }
+    Ok(found)
+}
