@@ -4,15 +4,16 @@ use Rattle.std.specs.List.{range_with_len}
 use Rattle.fc_device.specs.Sectors.{sector_at}
 use Rattle.fc_record.specs.declared.DiscRecord.{DiscRecord}
 use Rattle.fc_record.specs.declared.Kind.{Kind}
+use Rattle.fc_record.specs.declared.Kind.TheVariants.{Boot}
 use Rattle.fc_record.specs.Record.{is_valid}
 use Rattle.fc_record.specs.Kinds.{map_record, fits_kind}
 use Rattle.fc_newmap.specs.Map.{Map, IsMap, sector_of, id_runs, all_runs, sectors_of, map_sectors}
 use Rattle.fc_copies.specs.Copies.{Chooses, CommitLeaves}
-use Rattle.fc_image.specs.Layout.{Layout, dir_form, sectors_at, id_sectors, hole_sectors, is_among}
+use Rattle.fc_image.specs.Layout.{Layout, dir_form, sectors_at, id_sectors, hole_sectors, is_among, is_apart}
 use Rattle.fc_image.specs.Walk.{Object, Listing, object_size}
 use Rattle.fc_image.specs.Objects.{objects_of, tree_of, is_movable, is_owned}
-use Rattle.fc_image.specs.Opening.{Opened, is_hole_or_movable}
-use Rattle.fc_image.specs.Stays.{IsNewKind, OpensAs, StaysWhole, stored_objects, SameKindPlace, FixedStay, FixedBytesStay, SameOutsideHoles}
+use Rattle.fc_image.specs.Opening.{Opened, is_hole_or_movable, boot_place}
+use Rattle.fc_image.specs.Stays.{IsNewKind, OpensAs, StaysWhole, stored_objects, FixedStay, FixedBytesStay, SameOutsideHoles}
 
 -- ---- what is opened, where the map is another
 
@@ -85,6 +86,15 @@ pub record StaysBy (kind : Kind) (image : List ℕ) (v : Opened) (m' : Map) (oth
   pub fixed_bytes : FixedBytesStay v.layout (objects_of v.listings) image other
   pub owned : (k : ℕ) → is_owned (objects_of (with_map m' v).listings) k ≡ is_owned (objects_of v.listings) k
 
+-- The laws below take it that the second image passes the kind's own test. On a disc with a boot block it does, where no
+-- sector of the boot block holds the map and the images differ only in the map and in holes.
+abbrev pub BootStaysLaw : Type 0
+BootStaysLaw = (image other : List ℕ) (r : DiscRecord) (v : Opened) (m : Map) → is_valid r ≡ true → OpensAs image (Boot r) v → v.layout ≡ Layout.New m
+    → is_apart (boot_place (Boot r) m.geometry.sector) (map_sectors m.geometry) ≡ true → length other ≡ length image
+    → ((s : ℕ) → is_among (map_sectors m.geometry) s ≡ false → is_among (hole_sectors (Layout.New m)) s ≡ false
+    → sector_at m.geometry.sector other s ≡ sector_at m.geometry.sector image s)
+    → fits_kind other (Boot r) ≡ true
+
 -- Movable identifiers may move.
 abbrev pub CarryLaw : Type 0
 CarryLaw = (image other : List ℕ) (kind : Kind) (r : DiscRecord) (v : Opened) (m m' : Map) (f : ℕ → ℕ) → IsNewKind kind r → is_valid r ≡ true
@@ -136,7 +146,7 @@ CommitLaw = (image other : List ℕ) (kind : Kind) (r : DiscRecord) (v : Opened)
 -- what is written into holes
 abbrev pub HoleStepLaw : Type 0
 HoleStepLaw = (image other : List ℕ) (kind : Kind) (r : DiscRecord) (v : Opened) (m : Map) → IsNewKind kind r → is_valid r ≡ true
-    → OpensAs image kind v → v.layout ≡ Layout.New m → length other ≡ length image → SameKindPlace kind image other → SameOutsideHoles m.geometry.sector (Layout.New m) image other
+    → OpensAs image kind v → v.layout ≡ Layout.New m → length other ≡ length image → SameOutsideHoles m.geometry.sector (Layout.New m) image other
     → StaysBy kind image v m other
 
 -- one step after others

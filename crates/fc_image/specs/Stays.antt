@@ -124,5 +124,5 @@ SameOutsideHoles size layout image other = (s : ℕ) → is_among (hole_sectors 
 -- An image that differs only in sectors that lie in holes opens as the same, with the same objects.
 abbrev pub HoleWriteLaw : Type 0
 HoleWriteLaw = (image other : List ℕ) (kind : Kind) (r : DiscRecord) (v : Opened) → IsNewKind kind r → is_valid r ≡ true → OpensAs image kind v
-    → length other ≡ length image → SameKindPlace kind image other → SameOutsideHoles (geometry r).sector v.layout image other
+    → length other ≡ length image → SameOutsideHoles (geometry r).sector v.layout image other
     → OpensAs other kind v × (stored_objects other v ≡ stored_objects image v)
