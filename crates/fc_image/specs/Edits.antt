@@ -46,14 +46,14 @@ pub record IsRoot (layout : Layout) (address size : ℕ) (root : Object) : Type 
   pub entry : root.entry ≡ root_entry address (directory_size (dir_form layout) size)
   pub placed : IsAt layout root
 
--- The walk finds just the listings that follow from the root, where all objects are apart. (It stops at a number of
--- directories above that of all sectors, which no opened image has.)
+-- The walk finds the listings that follow from the root, where all objects are apart and there are no more directories
+-- than sectors and one; and it finds no others.
 pub record WalkFormLaw : Type 0 where
   pub makes : (read : Reader) (layout : Layout) (reserved : List ℕ) (address size : ℕ) (root : Object) (listings : List Listing)
       → IsRoot layout address size root → Follows read layout (root ∷ []) listings → Apart reserved (objects_of listings)
       → length listings ≤ disc_sectors layout + 1 → walk read layout reserved address size ≡ Ok listings
   pub gives : (read : Reader) (layout : Layout) (reserved : List ℕ) (address size : ℕ) (listings : List Listing)
-      → walk read layout reserved address size ≡ Ok listings → length listings ≤ disc_sectors layout
+      → walk read layout reserved address size ≡ Ok listings
       → (root : Object) × IsRoot layout address size root × Follows read layout (root ∷ []) listings × Apart reserved (objects_of listings)
 
 -- An opened disc has no more directories than sectors.
@@ -140,7 +140,7 @@ pub record WalkEditLaw : Type 0 where
 pub record StayLaw : Type 0 where
   -- each listing of a walk is one that its reader and layout have
   pub listed : (read : Reader) (layout : Layout) (reserved : List ℕ) (address size : ℕ) (listings : List Listing)
-      → walk read layout reserved address size ≡ Ok listings → length listings ≤ disc_sectors layout → StayListed read layout listings
+      → walk read layout reserved address size ≡ Ok listings → StayListed read layout listings
   -- Another image says the same by another layout, where the objects have their places and the directories their bytes.
   pub other : (image other : List ℕ) (layout layout' : Layout) (listings : List Listing) → dir_form layout' ≡ dir_form layout → sector_bytes layout' ≡ sector_bytes layout
       → StayListed (reader_of image layout) layout listings
