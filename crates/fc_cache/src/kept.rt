@@ -1,0 +1,87 @@
+// The sectors that are kept, by their numbers.
+ghost use Rattle.std.specs.Prelude.{◌≡◌, ◌⊎◌, false, ℕ, Some, [], length, Vec, IsTrue};
+ghost use Rattle.std.specs.Global.{Global};
+ghost use Rattle.std.specs.Option.{ForSome};
+
+use lru::LruCache;
+use std::alloc::Global;
+use std::num::NonZeroUsize;
+
+/// How many sectors are kept at most.
+const MOST: usize = 64;
+
+/// The sectors that were used last, each under its number. Where no memory was found for it there is no cache.
+#[derive(Drop)]
+pub struct Kept {
+    cache: Option<LruCache<u64, Vec<u8>>>,
+    alloc: Global,
+    ghost most: { ForSome cache (λ c. c.cap ≡ 64) },
+}
+
+impl Kept {
+    ghost use Rattle.fc_cache.specs.Sectors.{entries_of, is_kept, AreWhole, Holds, KeepsNoMore};
+
+    /// Keeps nothing yet.
+    pub fn new(alloc: Global) -> Kept
+        ensures { entries_of result ≡ [] }
+    {
+        let cache = match NonZeroUsize::new(MOST) {
+            None => None,
+            Some(most) => LruCache::new(alloc, most).ok(),
+        };
+        Kept { cache, alloc }
+    }
+
+    /// Fills `into` with sector n, if it is kept, and answers whether it is.
+    pub fn get(&mut self, n: u64, into: &mut [u8]) -> bool
+        requires whole { AreWhole (length into.old) self.old }
+        ensures kept { result ≡ is_kept self.old n }
+        ensures filled { IsTrue result → (bytes : Vec ℕ Global) × Holds self.old n bytes × (into.new ≡ bytes.items) }
+        ensures no_more { KeepsNoMore self.old self.new }
+    {
+        match &mut self.cache {
+            None => false,
+            Some(cache) => match cache.get(&n) {
+                None => false,
+                Some(bytes) => {
+                    into.copy_from_slice(bytes);
+                    true
+                }
+            },
+        }
+    }
+
+    /// Keeps these bytes as sector n, if memory is found. The sector that was used longest ago goes where there are too
+    /// many.
+    pub fn put(&mut self, n: u64, from: &[u8])
+        ensures { (m : ℕ) (bytes : Vec ℕ Global) → Holds self.new m bytes → Holds self.old m bytes ⊎ ((m ≡ n) × (bytes.items ≡ from.now)) }
+    {
+        if let Some(cache) = &mut self.cache {
+            if let Ok(bytes) = from.to_vec(self.alloc) {
+                let _ = cache.put(n, bytes);
+            }
+        }
+    }
+
+    /// Drops sector n.
+    pub fn remove(&mut self, n: u64)
+        ensures gone { is_kept self.new n ≡ false }
+        ensures none { (bytes : Vec ℕ Global) → Holds self.new n bytes → ⊥ }
+        ensures no_more { KeepsNoMore self.old self.new }
+    {
+        if let Some(cache) = &mut self.cache {
+            if cache.len() > 0 {
+                cache.pop(&n);
+            }
+        }
+    }
+
+    /// Drops every sector.
+    pub fn clear(&mut self)
+        ensures { entries_of self.new ≡ [] }
+    {
+        if let Some(cache) = &mut self.cache {
+            cache.clear();
+        }
+    }
+}

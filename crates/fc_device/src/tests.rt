@@ -1,0 +1,77 @@
+// That the calls which take memory succeed, and what stops leave on a worked case.
+
+use super::*;
+use std::alloc::Global;
+use std::test::Fail;
+
+fn never(alloc: Global) -> Failing {
+    Failing {
+        reads: Vec::new(alloc),
+        writes: Vec::new(alloc),
+        syncs: Vec::new(alloc),
+    }
+}
+
+// Whether each sector of 256 bytes has this value throughout.
+fn has_sectors(bytes: &[u8], values: &[u8]) -> bool {
+    bytes.len() / 256 == values.len()
+        && bytes
+            .iter()
+            .enumerate()
+            .all(|(i, b)| values.get(i / 256) == Some(b))
+}
+
+// Three sectors of 0, of which sectors 0 and 1 were written before a sync, and sector 0 twice after it.
+fn written(alloc: Global) -> Result<MemoryDisk, Fail> {
+    let name = String::from_str(alloc, "disc")?;
+    let bytes = vec![in alloc; 0; 768]?;
+    let mut disk = MemoryDisk::new(alloc, name, bytes, never(alloc), 6, 0)?;
+    if disk.attach("disc", None)? && disk.sectors() == 3 {
+        disk.write(0, &[1; 256])?;
+        disk.write(1, &[2; 256])?;
+        disk.sync()?;
+        disk.write(0, &[3; 256])?;
+        disk.write(0, &[4; 256])?;
+    }
+    Ok(disk)
+}
+
+#[test]
+fn stops_leave_what_is_kept(rt: HostRuntime) -> Result<(), Fail> {
+    let alloc = rt.alloc();
+    let disk = written(alloc)?;
+    let left = [
+        (0, [].as_slice(), [0, 0, 0].as_slice()),
+        (3, [true, false].as_slice(), [1, 0, 0].as_slice()),
+        (3, [false, true].as_slice(), [0, 2, 0].as_slice()),
+        (3, [].as_slice(), [0, 0, 0].as_slice()),
+        (4, [].as_slice(), [1, 2, 0].as_slice()),
+        (6, [true].as_slice(), [3, 2, 0].as_slice()),
+        (6, [false, true].as_slice(), [4, 2, 0].as_slice()),
+        (6, [true, true].as_slice(), [4, 2, 0].as_slice()),
+        (99, [true, false].as_slice(), [3, 2, 0].as_slice()),
+    ];
+    for (calls, kept, values) in left {
+        let image = disk.stopped(alloc, calls, kept)?;
+        assert!(rt; has_sectors(&image, values), "after {calls}");
+    }
+    Ok(())
+}
+
+#[test]
+fn memory_is_found(rt: HostRuntime) -> Result<(), Fail> {
+    let alloc = rt.alloc();
+    let name = String::from_str(alloc, "disc")?;
+    let inner = PlainDisk::new(name, vec![in alloc; 7; 256]?, 768)?;
+    let mut disk = Untold { inner };
+    assert!(rt; !disk.attach("disc", Some(769))?);
+    assert!(rt; disk.attach("disc", Some(768))?);
+    assert!(rt; disk.length() == 768 && has_sectors(disk.inner.bytes(), &[0, 0, 0]));
+    let mut source = ListSource::new(vec![in alloc; 7; 256]?, Vec::new(alloc), 200);
+    let mut into = [0; 256];
+    assert!(rt; source.read(&mut into)? == 200);
+    let mut sink = ListSink::new(alloc, Vec::new(alloc), 100)?;
+    assert!(rt; sink.write(&into)? == 100);
+    assert!(rt; sink.bytes().iter().all(|b| *b == 7));
+    Ok(())
+}

@@ -1,0 +1,6 @@
+pub mod BitLemmas
+pub mod Folding
+pub mod FoldOrder
+pub mod SpellingLemmas
+pub mod SpelledRead
+pub mod PathLemmas

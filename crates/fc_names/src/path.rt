@@ -1,0 +1,113 @@
+// Paths from the root of a disc.
+ghost use Rattle.std.specs.Prelude.{◌≡◌, ◌↔◌, ◌<◌, false, [], ◌∷◌, ◌++◌, length, None, Some, option_map, IsSome, IfSome, IfOk, OnOk, OnErr};
+ghost use Rattle.std.specs.List.{All, slice_split};
+ghost use Rattle.fc_names.specs.Names.{IsName};
+ghost use Rattle.fc_names.specs.Paths.{is_stop, parts_after, path_of};
+
+use crate::{Name, read_name};
+use fc_device::NoMemory;
+use std::alloc::Global;
+use std::marker::Model;
+
+/// A path: the names from the root on. The root's path has none.
+#[derive(Clone, Debug, Drop)]
+pub struct Path {
+    names: Vec<Name>,
+}
+
+impl Model for Path {
+    ghost use Rattle.std.specs.Prelude.{List, ℕ};
+
+    ghost Value = { List (List ℕ) };
+
+    ghost use Rattle.std.specs.List.{All};
+    ghost use Rattle.fc_names.specs.Names.{IsName};
+
+    ghost view = { λ p. p.names.items };
+
+    ghost invariant = { λ p. All IsName p.names.items };
+}
+
+impl Path {
+    /// The path of the root, which takes no memory until a name is pushed.
+    pub fn root(alloc: Global) -> Path
+        ensures { result ≡ [] }
+    {
+        Path {
+            names: Vec::new(alloc),
+        }
+    }
+
+    /// The names, that of the object itself last.
+    pub fn names(&self) -> &[Name]
+        ensures same { result.now ≡ self.now }
+        ensures names { All IsName self.now }
+    {
+        &self.names
+    }
+
+    /// Appends a name. After `NoMemory` the path is as before.
+    pub fn push(&mut self, n: Name) -> Result<(), NoMemory>
+        ensures ok { OnOk result (self.new ≡ self.old ++ n ∷ []) }
+        ensures err { OnErr result (self.new ≡ self.old) }
+    {
+        let _bytes = n.bytes();
+        self.names.push(n).map_err(|_| NoMemory)
+    }
+}
+
+/// Why a text gives no path.
+#[derive(Clone, Copy, Debug, PartialEq, Eq)]
+pub enum PathError {
+    /// It isn't in the grammar of paths.
+    BadName,
+    /// No memory was found.
+    NoMemory,
+}
+
+// What stands before the first full stop of a text, and what after it, where there is one.
+fn cut(text: &[u8]) -> (&[u8], Option<&[u8]>)
+    ensures parts { slice_split is_stop text.now ≡ result.0.now ∷ parts_after (option_map (λ after. after.now) result.1) }
+    ensures shorter { IfSome result.1 (λ after. length after.now < length text.now) }
+{
+    match text.iter().position(|c| *c == b'.') {
+        Some(at) => (&text[..at], Some(&text[at + 1..])),
+        None => (text, None),
+    }
+}
+
+// Appends a name, unless there was no memory before. Answers whether there is none now.
+fn push_unless(full: bool, path: &mut Path, name: Name) -> bool
+    ensures { result ≡ false → (full ≡ false) × (path.new ≡ path.old ++ name ∷ []) }
+{
+    full || path.push(name).is_err()
+}
+
+/// Reads a path: `$`, followed by any number of times `.` and a name of 1 to 255 spelled bytes. A byte from 33 to 126
+/// outside `$ & % @ \ ^ : . # * " |` is spelled by itself or by `%` and two hexadecimal digits of either case, and
+/// every other byte from 32 on by these digits. Any other text is `BadName`, also where there is no memory.
+pub fn read_path(alloc: Global, text: &[u8]) -> Result<Path, PathError>
+    ensures path { IfOk result (λ path. path_of text.now ≡ Some path) }
+    ensures bad_name { (result ≡ Err PathError.BadName) ↔ (path_of text.now ≡ None) }
+    ensures no_memory { result ≡ Err PathError.NoMemory → IsSome (path_of text.now) }
+{
+    let (first, mut rest) = cut(text);
+    if first != b"$".as_slice() {
+        return Err(PathError::BadName);
+    }
+    let mut path = Path::root(alloc);
+    let mut full = false;
+    while let Some(names) = rest {
+        let (part, after) = cut(names);
+        let Some(name) = read_name(part) else {
+            return Err(PathError::BadName);
+        };
+        full = push_unless(full, &mut path, name);
+        rest = after;
+    }
+    if full {
+        Err(PathError::NoMemory)
+    } else {
+        Ok(path)
+    }
+}
