@@ -17,6 +17,7 @@ use Rattle.fc_image.specs.Stays.{IsNewKind, OpensAs, StaysWhole, stored_objects,
 
 -- ---- what is opened, where the map is another
 
+-- the sectors, if there are any
 abbrev pub sectors_or_none : Option (List ℕ) → List ℕ
 sectors_or_none None = []
 sectors_or_none (Some sectors) = sectors
@@ -25,6 +26,7 @@ sectors_or_none (Some sectors) = sectors
 abbrev pub object_in : Layout → Object → Object
 object_in layout o = record o { sectors = sectors_or_none (sectors_at layout o.entry.address (object_size (dir_form layout) o.entry)) }
 
+-- a directory and its objects by another layout
 abbrev pub listing_in : Layout → Listing → Listing
 listing_in layout l = record { object = object_in layout l.object; content = l.content; children = map (object_in layout) l.children }
 
@@ -126,6 +128,7 @@ pub record CanMove (m m' : Map) (objects : List Object) (id : ℕ) (image : List
   pub others : (k : ℕ) → (k ≡ id → ⊥) → id_runs m' k ≡ id_runs m k
   pub carried : Carried m.geometry.sector image image (hole_sectors (Layout.New m)) (id_sectors m id) (id_sectors m' id)
 
+-- a map that may be committed, since no sector moves
 pub record CanMerge (m m' : Map) (objects : List Object) : Type 0 where
   pub geometry_stays : m'.geometry ≡ m.geometry
   pub record_stays : map_record (sector_of m' 0) ≡ map_record (sector_of m 0)
@@ -163,12 +166,14 @@ abbrev pub KeepsObjects : List ℕ → List ℕ → Type 0
 KeepsObjects image other = (kind : Kind) (r : DiscRecord) (v : Opened) (m : Map) → IsNewKind kind r → is_valid r ≡ true → OpensAs image kind v → v.layout ≡ Layout.New m
     → (m' : Map) × StaysBy kind image v m' other
 
+-- It holds of an image and itself, and of the first and the last of three images.
 pub record KeepsObjectsLaw : Type 0 where
   pub same : (image : List ℕ) → KeepsObjects image image
   pub after : (first second third : List ℕ) → KeepsObjects first second → KeepsObjects second third → KeepsObjects first third
 
 -- ---- sectors that are carried, piece by piece
 
+-- how sectors that are carried are put together
 pub record CarriedLaw : Type 0 where
   -- what isn't moved has its bytes,
   pub stay : (size : ℕ) (image other holes xs : List ℕ) → ((s : ℕ) → is_among xs s ≡ true → sector_at size other s ≡ sector_at size image s)

@@ -6,7 +6,7 @@
 
 ghost use Rattle.fc_image.specs.Laws.{OpensLaw, WalkLaw};
 ghost use Rattle.fc_image.specs.Rows.{ImageRows};
-ghost use Rattle.fc_image.specs.Edits.{ApartLaw, EditLaw, RoomLaw, StayLaw, WalkEditLaw, WalkFormLaw};
+ghost use Rattle.fc_image.specs.Edits.{ApartLaw, EditLaw, PathsLaw, RoomLaw, StayLaw, WalkEditLaw, WalkFormLaw};
 ghost use Rattle.fc_image.specs.Moves.{BootStaysLaw, CarriedLaw, CarryLaw, CommitLaw, HoleStepLaw, KeepsObjectsLaw, MergeLaw, MoveLaw, ThenLaw, WholeLaw, WithMapLaw};
 ghost use Rattle.fc_image.specs.Stays.{FreeLaw, HoleWriteLaw, HolesLaw, StoredLaw};
 
@@ -158,4 +158,9 @@ pub fn walk_edits()
 /// What an image says, another says that has the directories' sectors and the objects' places.
 pub fn listed()
     ensures { StayLaw }
+{}
+
+/// No two objects of an opened image have paths that fold to one.
+pub fn paths()
+    ensures { PathsLaw }
 {}
