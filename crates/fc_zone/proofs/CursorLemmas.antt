@@ -10,6 +10,7 @@ use Rattle.fc_zone.specs.declared.RunKind.{RunKind}
 use Rattle.fc_zone.specs.declared.RunKind.TheVariants.{Hole, Id}
 use Rattle.fc_zone.specs.declared.cursor.Cursor.{Cursor}
 use Rattle.fc_zone.specs.Zone.{IsRun, Spells, Chain, Zone, field_at, first_hole, hole_from, holder_after, hole_starts, start_if_hole, next_hole}
+use Rattle.fc_zone.specs.Edits.{Relabels}
 use Rattle.fc_zone.specs.Reading.{run_of}
 use Rattle.fc_zone.specs.Cursor.{HasLeft, StandsBetween, place_after}
 use Rattle.fc_zone.proofs.ZoneLemmas.{IsRun-unique, Spells-le, hole_starts-append}
@@ -111,3 +112,14 @@ stepped shape s done rest run old new stands place after_hole other =
 pub stands_still : (shape : ZoneShape) (s t : List ℕ) (done new left : List Run) (cursor : Cursor) → StandsBetween shape s done left cursor → Zone shape t (new ++ left) → place_after shape new ≡ place_after shape done
     → StandsBetween shape t new left cursor
 stands_still shape s t done new left cursor stands zone same = record { zone = zone; place = stands.place ∙ sym same; hole = stands.hole }
+
+-- the run before the cursor has another kind
+pub stands_relabelled : (shape : ZoneShape) (s t : List ℕ) (done rest : List Run) (run : Run) (kind : RunKind) (cursor : Cursor) → StandsBetween shape s (done ++ run ∷ []) rest cursor
+    → Relabels shape s t run.start kind → StandsBetween shape t (done ++ record run { kind = kind } ∷ []) rest cursor
+stands_relabelled shape s t done rest run kind cursor stands relabels =
+    let changed : Run = record run { kind = kind } in
+    let before = rw (append_assoc done (run ∷ []) rest) at stands.zone in
+    let zone = relabels done rest run before refl in
+    let length_of = sum_by-append (λ (r : Run). r.len) done in
+    let same : place_after shape (done ++ changed ∷ []) ≡ place_after shape (done ++ run ∷ []) = omega (arith, length_of (changed ∷ []), length_of (run ∷ [])) in
+    stands_still shape s t (done ++ run ∷ []) (done ++ changed ∷ []) rest cursor stands (rw (append_assoc done (changed ∷ []) rest) zone) same

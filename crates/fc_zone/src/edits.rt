@@ -1,8 +1,10 @@
 // Edits of a zone in its sector. Each changes the list of runs as it says and leaves every other run.
 
-ghost use Rattle.std.specs.Prelude.{◌≡◌, ◌+◌, ◌-◌, ◌*◌, ◌^◌, ◌<◌, ◌≤◌, ◌∷◌, [], length, slice_range};
+ghost use Rattle.std.specs.Prelude.{◌≡◌, ◌+◌, ◌-◌, ◌*◌, ◌^◌, ◌<◌, ◌≤◌, ◌⊎◌, ◌∷◌, [], List, length, slice_range};
 ghost use Rattle.fc_bytes.specs.Bits.{AreZero, SameOutside, bits, num};
-ghost use Rattle.fc_zone.specs.Edits.{CanBeBlank, HasHoleAt, HasRunAt, HasRunToSplit, HasRunsToMerge, IsWritten, KeepsOutside, Merges, Relabels, Splits, WritesLinks, whole_hole};
+ghost use Rattle.fc_zone.specs.declared.Run.{Run};
+ghost use Rattle.fc_zone.specs.declared.ZoneShape.{ZoneShape};
+ghost use Rattle.fc_zone.specs.Edits.{CanBeBlank, HasHoleAt, HasRunAt, HasRunToSplit, HasRunsToMerge, IsWritten, KeepsOutside, Merges, Relabels, Splits, WritesLinks, sealed, whole_hole};
 ghost use Rattle.fc_zone.specs.Reading.{runs_of};
 ghost use Rattle.fc_zone.specs.Zone.{IsShapeOf, Zone};
 
@@ -10,6 +12,7 @@ use crate::links::{holder_before, hole_from, next_hole, set_link};
 use crate::reading::{end_of, kind_at};
 use crate::{RunKind, ZoneShape};
 use fc_bytes::put_bits;
+use fc_checks::zone_check;
 
 /// Turns the hole that begins at `start` into a run of an identifier.
 ///
@@ -22,6 +25,7 @@ pub fn label(b: &mut [u8], shape: &ZoneShape, start: u32, id: u32)
     requires some_id { 0 < id }
     requires id_fits { id < 2 ^ shape.now.idlen }
     ensures runs { Relabels shape.now b.old b.new start (RunKind.Id id) }
+    ensures links { WritesLinks shape.now (bits b.old) (bits b.new) (runs_of shape.now b.old) (runs_of shape.now b.new) }
     ensures outside { KeepsOutside shape.now b.old b.new }
 {
     let holder = holder_before(b, shape, start);
@@ -35,6 +39,7 @@ pub fn release(b: &mut [u8], shape: &ZoneShape, start: u32)
     requires shape { IsShapeOf b.old shape.now }
     requires run { HasRunAt shape.now b.old start }
     ensures runs { Relabels shape.now b.old b.new start RunKind.Hole }
+    ensures links { WritesLinks shape.now (bits b.old) (bits b.new) (runs_of shape.now b.old) (runs_of shape.now b.new) }
     ensures outside { KeepsOutside shape.now b.old b.new }
 {
     let holder = holder_before(b, shape, start);
@@ -52,6 +57,7 @@ pub fn split(b: &mut [u8], shape: &ZoneShape, start: u32, len: u32)
     requires shape { IsShapeOf b.old shape.now }
     requires run { HasRunToSplit shape.now b.old start len }
     ensures runs { Splits shape.now b.old b.new start len }
+    ensures links { WritesLinks shape.now (bits b.old) (bits b.new) (runs_of shape.now b.old) (runs_of shape.now b.new) }
     ensures outside { KeepsOutside shape.now b.old b.new }
 {
     let middle = start + len;
@@ -72,6 +78,7 @@ pub fn merge(b: &mut [u8], shape: &ZoneShape, start: u32)
     requires shape { IsShapeOf b.old shape.now }
     requires runs { HasRunsToMerge shape.now b.old start }
     ensures runs { Merges shape.now b.old b.new start }
+    ensures links { WritesLinks shape.now (bits b.old) (bits b.new) (runs_of shape.now b.old) (runs_of shape.now b.new) }
     ensures outside { KeepsOutside shape.now b.old b.new }
 {
     let middle = end_of(b, shape, start);
@@ -111,4 +118,13 @@ pub fn blank(b: &mut [u8], shape: &ZoneShape)
     clear(b, shape.first, last);
     put_bits(b, last, 1, 1);
     put_bits(b, 8, 16, 0x8000 + (shape.first - 8));
+}
+
+/// Writes the right ZoneCheck into byte 0, and changes no other byte. The sector has 256, 512 or 1024 bytes.
+pub fn seal(b: &mut [u8])
+    requires { (length b.old ≡ 256) ⊎ ((length b.old ≡ 512) ⊎ (length b.old ≡ 1024)) }
+    ensures sector { b.new ≡ sealed b.old }
+    ensures zone { (shape : ZoneShape) (runs : List Run) → 8 ≤ shape.first → Zone shape b.old runs → Zone shape b.new runs }
+{
+    b[0] = zone_check(b);
 }

@@ -1,12 +1,21 @@
 // What holds of zones whatever is called.
 
-ghost use Rattle.std.specs.Prelude.{◌≡◌, ◌<◌, ◌≤◌, ℕ, List, slice_index};
+ghost use Rattle.std.specs.Prelude.{◌≡◌, ◌<◌, ◌≤◌, ◌↔◌, ◌++◌, ◌∷◌, ℕ, List, slice_index, ◌+◌, ◌-◌};
 ghost use Rattle.fc_bytes.specs.Bits.{bits};
 ghost use Rattle.fc_zone.specs.declared.Run.{Run};
+ghost use Rattle.fc_zone.specs.declared.RunKind.{RunKind};
+ghost use Rattle.fc_zone.specs.declared.ZoneFault.{ZoneFault};
 ghost use Rattle.fc_zone.specs.declared.ZoneShape.{ZoneShape};
-ghost use Rattle.fc_zone.specs.Edits.{IsWritten};
-ghost use Rattle.fc_zone.specs.Reading.{runs_of};
-ghost use Rattle.fc_zone.specs.Zone.{Zone};
+ghost use Rattle.fc_zone.specs.Edits.{HasHoleAt, HasRunToSplit, IsWritten, Merges, Relabels, Splits, WritesLinks, labelled, merged_at, split_at};
+ghost use Rattle.fc_zone.specs.Laws.{IsAgain, LeavesRest};
+ghost use Rattle.fc_zone.specs.Reading.{runs_of, zone_of};
+ghost use Rattle.fc_zone.specs.Zone.{IsFault, IsShapeOf, Zone};
+
+/// The function that reads a zone, and what its bits spell and its chain names, say the same.
+pub fn reading_agrees()
+    ensures runs { (shape : ZoneShape) (sector : List ℕ) (runs : List Run) → IsShapeOf sector shape → (zone_of shape sector ≡ Ok runs) ↔ Zone shape sector runs }
+    ensures fault { (shape : ZoneShape) (sector : List ℕ) (at : ℕ) → IsShapeOf sector shape → IsFault shape (bits sector) at → zone_of shape sector ≡ Err (record { zone = shape.zone; bit = at }) }
+{}
 
 /// A sector has one list of runs at most, the one that is read.
 pub fn one_list_of_runs()
@@ -17,4 +26,32 @@ pub fn one_list_of_runs()
 pub fn one_spelling()
     ensures { (shape : ZoneShape) (s t : List ℕ) (runs : List Run) → Zone shape s runs → Zone shape t runs → IsWritten shape (bits s) runs → IsWritten shape (bits t) runs
         → (k : ℕ) → shape.first ≤ k → k < shape.end → slice_index (bits s) k ≡ slice_index (bits t) k }
+{}
+
+/// An edit keeps links that were written in full so.
+pub fn stays_written()
+    ensures { (shape : ZoneShape) (old new : List ℕ) (before after : List Run) → WritesLinks shape (bits old) (bits new) before after
+        → IsWritten shape (bits old) before → IsWritten shape (bits new) after }
+{}
+
+/// The edits as functions of the list of runs.
+pub fn edits_of_lists()
+    ensures label { (shape : ZoneShape) (sector : List ℕ) (front rest : List Run) (run : Run) (kind : RunKind) → Zone shape sector (front ++ run ∷ rest)
+        → labelled run.start kind (front ++ run ∷ rest) ≡ front ++ record run { kind = kind } ∷ rest }
+    ensures split { (shape : ZoneShape) (sector : List ℕ) (front rest : List Run) (run : Run) (len : ℕ) → Zone shape sector (front ++ run ∷ rest)
+        → split_at run.start len (front ++ run ∷ rest) ≡ front ++ record run { len = len } ∷ record run { start = run.start + len; len = run.len - len } ∷ rest }
+    ensures merge { (shape : ZoneShape) (sector : List ℕ) (front rest : List Run) (one two : Run) → Zone shape sector (front ++ one ∷ two ∷ rest)
+        → merged_at one.start (front ++ one ∷ two ∷ rest) ≡ front ++ record one { len = one.len + two.len } ∷ rest }
+{}
+
+/// `split` and then `merge` give the runs back, and the very sector where its links were written in full.
+pub fn split_then_merge()
+    ensures { (shape : ZoneShape) (s t u : List ℕ) (start len : ℕ) → 32 ≤ shape.first → HasRunToSplit shape s start len
+        → Splits shape s t start len → LeavesRest shape s t → Merges shape t u start → LeavesRest shape t u → IsAgain shape s u }
+{}
+
+/// `label` and then `release` give the runs back, and the very sector where its links were written in full.
+pub fn label_then_release()
+    ensures { (shape : ZoneShape) (s t u : List ℕ) (start id : ℕ) → 32 ≤ shape.first → HasHoleAt shape s start
+        → Relabels shape s t start (RunKind.Id id) → LeavesRest shape s t → Relabels shape t u start RunKind.Hole → LeavesRest shape t u → IsAgain shape s u }
 {}

@@ -13,10 +13,10 @@ returns-clause-zone c =
     let u = c.put_bits.new.b in
     let last : shape.end - 1 + 1 ≤ length (bits t) = omega (arith, length-bits t, c.clear.auto.b) in
     let end : shape.end - 1 + 1 ≡ shape.end = omega arith in
-    let same = rw end at (SameOutside-field (bits t) (bits u) (shape.end - 1) 1 1 c.put_bits.ensures last) in
+    let same = rw end at (SameOutside-field (bits t) (bits u) (shape.end - 1) 1 1 c.put_bits.ensures.bits last) in
     let room : 24 ≤ length (bits u) = omega (arith, length-bits u, c.clear.auto.b, c.put_bits.auto.b) in
     blank_zone shape (omega arith) (omega arith) (omega arith) c.requires.begins c.requires.ends t u c.put_bits-2.new.b c.clear.ensures.zeros same
-    (slice_index-bit_written (bits t) (bits u) (shape.end - 1) 1 c.put_bits.ensures last) room c.put_bits-2.ensures
+    (slice_index-bit_written (bits t) (bits u) (shape.end - 1) 1 c.put_bits.ensures.bits last) room c.put_bits-2.ensures.bits
 
 pub returns-clause-zeros : goal.returns-clause-zeros
 returns-clause-zeros c =
@@ -25,10 +25,10 @@ returns-clause-zeros c =
     let u = c.put_bits.new.b in
     let last : shape.end - 1 + 1 ≤ length (bits t) = omega (arith, length-bits t, c.clear.auto.b) in
     let end : shape.end - 1 + 1 ≡ shape.end = omega arith in
-    let same = rw end at (SameOutside-field (bits t) (bits u) (shape.end - 1) 1 1 c.put_bits.ensures last) in
+    let same = rw end at (SameOutside-field (bits t) (bits u) (shape.end - 1) 1 1 c.put_bits.ensures.bits last) in
     let room : 24 ≤ length (bits u) = omega (arith, length-bits u, c.clear.auto.b, c.put_bits.auto.b) in
     blank_zeros shape (omega arith) (omega arith) (omega arith) c.requires.begins c.requires.ends t u c.put_bits-2.new.b c.clear.ensures.zeros same
-    (slice_index-bit_written (bits t) (bits u) (shape.end - 1) 1 c.put_bits.ensures last) room c.put_bits-2.ensures
+    (slice_index-bit_written (bits t) (bits u) (shape.end - 1) 1 c.put_bits.ensures.bits last) room c.put_bits-2.ensures.bits
 
 pub returns-clause-free_link : goal.returns-clause-free_link
 returns-clause-free_link c =
@@ -37,7 +37,7 @@ returns-clause-free_link c =
     let value = 32768 + (shape.first - 8) in
     let room : 24 ≤ length (bits u) = omega (arith, length-bits u, c.clear.auto.b, c.put_bits.auto.b) in
     let fits : value < 2 ^ 16 = omega arith in
-    num-field_written (bits u) (bits c.put_bits-2.new.b) 8 16 16 value c.put_bits-2.ensures room (omega arith) ∙ mod-eq_of_lt fits
+    num-field_written (bits u) (bits c.put_bits-2.new.b) 8 16 16 value c.put_bits-2.ensures.bits room (omega arith) ∙ mod-eq_of_lt fits
 
 pub returns-clause-outside : goal.returns-clause-outside
 returns-clause-outside c = λ k free outside.
@@ -47,8 +47,8 @@ returns-clause-outside c = λ k free outside.
     let last : shape.end - 1 + 1 ≤ length (bits t) = omega (arith, length-bits t, c.clear.auto.b) in
     let room : 24 ≤ length (bits u) = omega (arith, length-bits u, c.clear.auto.b, c.put_bits.auto.b) in
     let ends : shape.first + (shape.end - 1 - shape.first) ≡ shape.end - 1 = omega arith in
-    SameOutside-field (bits u) (bits c.put_bits-2.new.b) 8 16 _ c.put_bits-2.ensures room k free
-    ∙ SameOutside-field (bits t) (bits u) (shape.end - 1) 1 1 c.put_bits.ensures last k (outside_field shape (shape.end - 1) 1 k (omega arith) (omega arith) outside)
+    SameOutside-field (bits u) (bits c.put_bits-2.new.b) 8 16 _ c.put_bits-2.ensures.bits room k free
+    ∙ SameOutside-field (bits t) (bits u) (shape.end - 1) 1 1 c.put_bits.ensures.bits last k (outside_field shape (shape.end - 1) 1 k (omega arith) (omega arith) outside)
     ∙ c.clear.ensures.same k (rw ends at (outside_field shape shape.first (shape.end - 1 - shape.first) k (omega arith) (omega arith) outside))
 
 pub returns-clause-written : goal.returns-clause-written
@@ -58,7 +58,7 @@ returns-clause-written c =
     let u = c.put_bits.new.b in
     let last : shape.end - 1 + 1 ≤ length (bits t) = omega (arith, length-bits t, c.clear.auto.b) in
     let end : shape.end - 1 + 1 ≡ shape.end = omega arith in
-    let same = rw end at (SameOutside-field (bits t) (bits u) (shape.end - 1) 1 1 c.put_bits.ensures last) in
+    let same = rw end at (SameOutside-field (bits t) (bits u) (shape.end - 1) 1 1 c.put_bits.ensures.bits last) in
     let room : 24 ≤ length (bits u) = omega (arith, length-bits u, c.clear.auto.b, c.put_bits.auto.b) in
     blank_written shape (omega arith) (omega arith) (omega arith) c.requires.begins c.requires.ends t u c.put_bits-2.new.b c.clear.ensures.zeros same
-    (slice_index-bit_written (bits t) (bits u) (shape.end - 1) 1 c.put_bits.ensures last) room c.put_bits-2.ensures
+    (slice_index-bit_written (bits t) (bits u) (shape.end - 1) 1 c.put_bits.ensures.bits last) room c.put_bits-2.ensures.bits

@@ -1,4 +1,4 @@
-use Rattle.std.proofs.Common.{◌≡◌, ◌≤◌, ◌+◌, ◌-◌, length, sym, ◌∙◌, inl, arith}
+use Rattle.std.proofs.Common.{◌∷◌, ◌++◌, ◌≡◌, ◌≤◌, ◌+◌, ◌-◌, length, sym, ◌∙◌, inl, arith}
 use Rattle.std.proofs.Math.Nat.{mod-eq_of_lt}
 use Rattle.fc_bytes.specs.Bits.{bits}
 use Rattle.fc_bytes.specs.BitLaws.{length-bits, SameOutside-field, num-field_written, slice_index-bit_written}
@@ -6,6 +6,8 @@ use Rattle.fc_zone.specs.declared.RunKind.TheVariants.{Hole, Id}
 use Rattle.fc_zone.specs.Zone.{next_hole}
 use Rattle.fc_zone.proofs.EditLemmas.{hole_after_hole, IfSome-map, outside_field}
 use Rattle.fc_zone.proofs.CutLemmas.{split_fits, split_id, split_hole, named_kept, can_split_it, id_below}
+use Rattle.fc_zone.proofs.ReadingLemmas.{runs_of_zone}
+use Rattle.fc_zone.proofs.WrittenLemmas.{split_id_links, split_hole_links}
 use Rattle.fc_zone.proofs.edits.split.Goals as goal
 
 pub overflow_add-middle : goal.overflow_add-middle
@@ -48,7 +50,7 @@ set_link-requires-clause-onward c =
     let hole : h.0.kind ≡ Hole = sym (c.kind_at-kind.ensures h.1.2.0 h.1.2.1.0 h.0 h.1.2.1.1 h.1.0) ∙ c.in-Hole.is in
     let size : length (bits s) ≡ length (bits t) = omega (arith, length-bits s, length-bits t, c.put_bits.auto.b) in
     let last : c.args.start + c.args.len - 1 + 1 ≤ length (bits s) = omega (arith, length-bits s, fits.second_part, fits.first_part) in
-    let same = SameOutside-field (bits s) (bits t) (c.args.start + c.args.len - 1) 1 1 c.put_bits.ensures last in
+    let same = SameOutside-field (bits s) (bits t) (c.args.start + c.args.len - 1) 1 1 c.put_bits.ensures.bits last in
     let kept = named_kept shape (bits s) (bits t) size c.args.start (c.args.start + c.args.len - 1) (c.args.start + c.args.len - 1 + 1) same (inl (omega (arith, fits.first_part))) in
     let next = rw h.1.0 at (hole_after_hole shape s h.1.2.0 h.1.2.1.0 h.0 h.1.2.1.1 hole) in
     rw (c.next_hole-next.ensures, kept)
@@ -91,8 +93,8 @@ returns-in-Hole-clause-runs c = λ front rest run zone start.
     let three : length (bits u) ≡ length (bits v) = omega (arith, length-bits u, length-bits v, c.set_link-in-Hole.auto.b) in
     let last : c.args.start + len - 1 + 1 ≤ length (bits s) = omega (arith, length-bits s, fits.second_part, fits.first_part) in
     let end : c.args.start + len - 1 + 1 ≡ c.args.start + len = omega (arith, fits.first_part) in
-    let same = rw end at (SameOutside-field (bits s) (bits t) (c.args.start + len - 1) 1 1 c.put_bits.ensures last) in
-    let bit = slice_index-bit_written (bits s) (bits t) (c.args.start + len - 1) 1 c.put_bits.ensures last in
+    let same = rw end at (SameOutside-field (bits s) (bits t) (c.args.start + len - 1) 1 1 c.put_bits.ensures.bits last) in
+    let bit = slice_index-bit_written (bits s) (bits t) (c.args.start + len - 1) 1 c.put_bits.ensures.bits last in
     let names_u = c.set_link.ensures.names ∙ c.next_hole-next.ensures in
     rw (← start)
     (split_hole shape (omega arith) (omega arith) s front rest run zone len can t u v one two three kind
@@ -109,7 +111,7 @@ returns-in-Hole-clause-outside c = λ k free outside.
     let last : start + len - 1 + 1 ≤ length (bits s) = omega (arith, length-bits s, fits.second_part, fits.first_part) in
     c.set_link-in-Hole.ensures.same k (outside_field shape start shape.idlen k fits.low (omega (arith, fits.second_part, fits.first_part)) outside)
     ∙ c.set_link.ensures.same k (outside_field shape (start + len) shape.idlen k (omega (arith, fits.low)) (omega (arith, fits.second_part)) outside)
-    ∙ SameOutside-field (bits s) (bits t) (start + len - 1) 1 1 c.put_bits.ensures last k (outside_field shape (start + len - 1) 1 k (omega (arith, fits.low, fits.first_part)) (omega (arith, fits.second_part, fits.first_part)) outside)
+    ∙ SameOutside-field (bits s) (bits t) (start + len - 1) 1 1 c.put_bits.ensures.bits last k (outside_field shape (start + len - 1) 1 k (omega (arith, fits.low, fits.first_part)) (omega (arith, fits.second_part, fits.first_part)) outside)
 
 pub returns-in-Id-clause-runs : goal.returns-in-Id-clause-runs
 returns-in-Id-clause-runs c = λ front rest run zone start.
@@ -125,9 +127,9 @@ returns-in-Id-clause-runs c = λ front rest run zone start.
     let two : length (bits t) ≡ length (bits u) = omega (arith, length-bits t, length-bits u, c.put_bits-in-Id.auto.b) in
     let last : c.args.start + len - 1 + 1 ≤ length (bits s) = omega (arith, length-bits s, fits.second_part, fits.first_part) in
     let end : c.args.start + len - 1 + 1 ≡ c.args.start + len = omega (arith, fits.first_part) in
-    let same = rw end at (SameOutside-field (bits s) (bits t) (c.args.start + len - 1) 1 1 c.put_bits.ensures last) in
-    let bit = slice_index-bit_written (bits s) (bits t) (c.args.start + len - 1) 1 c.put_bits.ensures last in
-    let written = rw c.from.ensures at c.put_bits-in-Id.ensures in
+    let same = rw end at (SameOutside-field (bits s) (bits t) (c.args.start + len - 1) 1 1 c.put_bits.ensures.bits last) in
+    let bit = slice_index-bit_written (bits s) (bits t) (c.args.start + len - 1) 1 c.put_bits.ensures.bits last in
+    let written = rw c.from.ensures at c.put_bits-in-Id.ensures.bits in
     let room : c.args.start + len + shape.idlen ≤ length (bits t) = omega (arith, length-bits s, fits.second_part) in
     let below = id_below shape s front rest run c.in-Id.id zone kind in
     let field = sym (mod-eq_of_lt below) ∙ sym (num-field_written (bits t) (bits u) (c.args.start + len) shape.idlen shape.idlen c.in-Id.id written room (omega arith)) in
@@ -145,7 +147,63 @@ returns-in-Id-clause-outside c = λ k free outside.
     let len = c.args.len in
     let fits = split_fits shape s start len (omega arith) c.requires.run in
     let last : start + len - 1 + 1 ≤ length (bits s) = omega (arith, length-bits s, fits.second_part, fits.first_part) in
-    let written = rw c.from.ensures at c.put_bits-in-Id.ensures in
+    let written = rw c.from.ensures at c.put_bits-in-Id.ensures.bits in
     let room : start + len + shape.idlen ≤ length (bits t) = omega (arith, length-bits t, c.put_bits.auto.b, fits.second_part) in
     SameOutside-field (bits t) (bits c.put_bits-in-Id.new.b) (start + len) shape.idlen c.in-Id.id written room k (outside_field shape (start + len) shape.idlen k (omega (arith, fits.low)) (omega (arith, fits.second_part)) outside)
-    ∙ SameOutside-field (bits s) (bits t) (start + len - 1) 1 1 c.put_bits.ensures last k (outside_field shape (start + len - 1) 1 k (omega (arith, fits.low, fits.first_part)) (omega (arith, fits.second_part, fits.first_part)) outside)
+    ∙ SameOutside-field (bits s) (bits t) (start + len - 1) 1 1 c.put_bits.ensures.bits last k (outside_field shape (start + len - 1) 1 k (omega (arith, fits.low, fits.first_part)) (omega (arith, fits.second_part, fits.first_part)) outside)
+
+pub returns-in-Hole-clause-links : goal.returns-in-Hole-clause-links
+returns-in-Hole-clause-links c =
+    let h = c.requires.run in
+    let run = h.0 in
+    let start = h.1.0 in
+    let can = h.1.1 in
+    let front = h.1.2.0 in
+    let rest = h.1.2.1.0 in
+    let zone = h.1.2.1.1 in
+    let shape = c.args.shape.now in
+    let s = c.args.b.now in
+    let t = c.put_bits.new.b in
+    let u = c.set_link.new.b in
+    let v = c.set_link-in-Hole.new.b in
+    let len = c.args.len in
+    let fits = split_fits shape s c.args.start len (omega arith) c.requires.run in
+    let kind : run.kind ≡ Hole = sym (c.kind_at-kind.ensures front rest run zone start) ∙ c.in-Hole.is in
+    let one : length (bits s) ≡ length (bits t) = omega (arith, length-bits s, length-bits t, c.put_bits.auto.b) in
+    let two : length (bits t) ≡ length (bits u) = omega (arith, length-bits t, length-bits u, c.set_link.auto.b) in
+    let three : length (bits u) ≡ length (bits v) = omega (arith, length-bits u, length-bits v, c.set_link-in-Hole.auto.b) in
+    let last : c.args.start + len - 1 + 1 ≤ length (bits s) = omega (arith, length-bits s, fits.second_part, fits.first_part) in
+    let end : c.args.start + len - 1 + 1 ≡ c.args.start + len = omega (arith, fits.first_part) in
+    let same = rw end at (SameOutside-field (bits s) (bits t) (c.args.start + len - 1) 1 1 c.put_bits.ensures.bits last) in
+    rw (runs_of_zone shape s (front ++ run ∷ rest) zone, runs_of_zone shape v _ (returns-in-Hole-clause-runs c front rest run zone start))
+    (rw (← start)
+    (split_hole_links shape (omega arith) s front rest run zone len (omega arith) can t u v one two three kind
+    (rw start same) (rw start c.set_link.ensures.same) (rw start c.set_link.ensures.written) (rw start c.set_link-in-Hole.ensures.same) (rw start c.set_link-in-Hole.ensures.written)))
+
+pub returns-in-Id-clause-links : goal.returns-in-Id-clause-links
+returns-in-Id-clause-links c =
+    let h = c.requires.run in
+    let run = h.0 in
+    let start = h.1.0 in
+    let can = h.1.1 in
+    let front = h.1.2.0 in
+    let rest = h.1.2.1.0 in
+    let zone = h.1.2.1.1 in
+    let shape = c.args.shape.now in
+    let s = c.args.b.now in
+    let t = c.put_bits.new.b in
+    let u = c.put_bits-in-Id.new.b in
+    let len = c.args.len in
+    let fits = split_fits shape s c.args.start len (omega arith) c.requires.run in
+    let kind : run.kind ≡ Id c.in-Id.id = sym (c.kind_at-kind.ensures front rest run zone start) ∙ c.in-Id.is in
+    let one : length (bits s) ≡ length (bits t) = omega (arith, length-bits s, length-bits t, c.put_bits.auto.b) in
+    let two : length (bits t) ≡ length (bits u) = omega (arith, length-bits t, length-bits u, c.put_bits-in-Id.auto.b) in
+    let last : c.args.start + len - 1 + 1 ≤ length (bits s) = omega (arith, length-bits s, fits.second_part, fits.first_part) in
+    let end : c.args.start + len - 1 + 1 ≡ c.args.start + len = omega (arith, fits.first_part) in
+    let same = rw end at (SameOutside-field (bits s) (bits t) (c.args.start + len - 1) 1 1 c.put_bits.ensures.bits last) in
+    let written = rw c.from.ensures at c.put_bits-in-Id.ensures.bits in
+    let room : c.args.start + len + shape.idlen ≤ length (bits t) = omega (arith, length-bits s, fits.second_part) in
+    let again = SameOutside-field (bits t) (bits u) (c.args.start + len) shape.idlen c.in-Id.id written room in
+    rw (runs_of_zone shape s (front ++ run ∷ rest) zone, runs_of_zone shape u _ (returns-in-Id-clause-runs c front rest run zone start))
+    (rw (← start)
+    (split_id_links shape (omega arith) s front rest run zone len (omega arith) can t u c.in-Id.id one two kind (rw start same) (rw start again)))

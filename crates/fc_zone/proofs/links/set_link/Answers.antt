@@ -12,20 +12,20 @@ returns-in-None-clause-names c =
     let onward = rw c.in-None.is at c.requires.onward in
     let below = link_below 8 shape.end c.args.next onward in
     rw c.in-None.is
-    (first_hole-written (bits old) (bits c.put_bits.new.b) c.link_to.result c.put_bits.ensures (omega (arith, length-bits old)) (omega arith)
+    (first_hole-written (bits old) (bits c.put_bits.new.b) c.link_to.result c.put_bits.ensures.bits (omega (arith, length-bits old)) (omega arith)
     ∙ ap (link_target 8) c.link_to.ensures ∙ link_target-link_to 8 c.args.next (later 8 shape.end c.args.next onward))
 
 pub returns-in-None-clause-same : goal.returns-in-None-clause-same
 returns-in-None-clause-same c =
     rw c.in-None.is
-    (SameOutside-field (bits c.args.b.now) (bits c.put_bits.new.b) 8 16 _ c.put_bits.ensures (omega (arith, length-bits c.args.b.now)))
+    (SameOutside-field (bits c.args.b.now) (bits c.put_bits.new.b) 8 16 _ c.put_bits.ensures.bits (omega (arith, length-bits c.args.b.now)))
 
 pub returns-in-Some-clause-names : goal.returns-in-Some-clause-names
 returns-in-Some-clause-names c =
     let old = c.args.b.now in
     let shape = c.args.shape.now in
     let hole = c.in-Some.hole in
-    let written = rw c.from.ensures at c.put_bits-in-Some.ensures in
+    let written = rw c.from.ensures at c.put_bits-in-Some.ensures.bits in
     let within = rw c.in-Some.is at c.requires.hole in
     let onward = rw c.in-Some.is at c.requires.onward in
     let below = link_below hole shape.end c.args.next onward in
@@ -35,7 +35,7 @@ returns-in-Some-clause-names c =
 
 pub returns-in-Some-clause-same : goal.returns-in-Some-clause-same
 returns-in-Some-clause-same c =
-    let written = rw c.from.ensures at c.put_bits-in-Some.ensures in
+    let written = rw c.from.ensures at c.put_bits-in-Some.ensures.bits in
     let within = rw c.in-Some.is at c.requires.hole in
     rw c.in-Some.is
     (SameOutside-field (bits c.args.b.now) (bits c.put_bits-in-Some.new.b) c.in-Some.hole c.args.shape.now.idlen _ written (omega (arith, length-bits c.args.b.now)))
@@ -47,14 +47,14 @@ returns-in-None-clause-written c =
     let onward = rw c.in-None.is at c.requires.onward in
     let below = link_below 8 shape.end c.args.next onward in
     rw c.in-None.is
-    (top_written (bits old) (bits c.put_bits.new.b) c.link_to.result c.put_bits.ensures (omega (arith, length-bits old)) (omega arith))
+    (top_written (bits old) (bits c.put_bits.new.b) c.link_to.result c.put_bits.ensures.bits (omega (arith, length-bits old)) (omega arith))
 
 pub returns-in-Some-clause-written : goal.returns-in-Some-clause-written
 returns-in-Some-clause-written c =
     let old = c.args.b.now in
     let shape = c.args.shape.now in
     let hole = c.in-Some.hole in
-    let written = rw c.from.ensures at c.put_bits-in-Some.ensures in
+    let written = rw c.from.ensures at c.put_bits-in-Some.ensures.bits in
     let within = rw c.in-Some.is at c.requires.hole in
     let onward = rw c.in-Some.is at c.requires.onward in
     let below = link_below hole shape.end c.args.next onward in
