@@ -8,6 +8,7 @@ use Rattle.fc_copies.specs.Copies.{is_sound}
 abbrev pub gate_delta : ℕ → ℕ → ℕ
 gate_delta k i = if i + 1 == k then 2 ^ (k - 1) - 1 else 2 ^ i
 
+-- the deltas of k zones, in rising order
 abbrev pub gate_deltas : ℕ → List ℕ
 gate_deltas k = map (gate_delta k) (range_with_len 0 k)
 
@@ -47,6 +48,7 @@ chosen_deltas k flags = items_where_true flags (gate_deltas k)
 abbrev pub is_gate : ℕ → Bool
 is_gate k = passes_choices k (λ flags. not (is_mixed flags && (xor_all (chosen_deltas k flags) == 0))) && (xor_all (gate_deltas k) == 0)
 
+-- for 2 to 9 zones
 pub record GateHolds : Type 0 where
   pub two : is_gate 2 ≡ true
   pub three : is_gate 3 ≡ true

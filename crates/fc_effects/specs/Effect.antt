@@ -18,6 +18,7 @@ pub record State : Type 0 where
   pub image : List ℕ
   pub view : Opened
 
+-- the tree of an image
 abbrev pub tree_in : State → Tree
 tree_in s = tree_of s.image s.view.layout s.view.listings
 

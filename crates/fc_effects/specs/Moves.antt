@@ -57,6 +57,7 @@ SameBodies old new _ _ = ⊥
 abbrev pub is_in_body : ℕ → List Owned → ℕ → Bool
 is_in_body units owned s = list_any (λ o. is_among (hole_sectors_in units (record { start = o.start; len = o.len })) s) owned
 
+-- The sector lies in a hole.
 abbrev pub is_in_hole : ℕ → List Hole → ℕ → Bool
 is_in_hole units holes s = list_any (λ h. is_among (hole_sectors_in units h) s) holes
 

@@ -18,9 +18,11 @@ use Rattle.fc_effects.specs.Short.{Growth, new_length, slack_for, old_need, grow
 
 -- ---- taking from holes
 
+-- The second run begins where the first does.
 abbrev pub stands_at : ZoneRun → ZoneRun → Bool
 stands_at p q = (p.0 == q.0) && (p.1.start == q.1.start)
 
+-- what a part leaves of a hole: all, nothing, or what is behind it
 abbrev pub left_behind : ZoneRun → Option ZoneRun → List ZoneRun
 left_behind hole None = hole ∷ []
 left_behind hole (Some part) =
@@ -65,6 +67,7 @@ abbrev pub has_spare_share : Geometry → ℕ → ℕ → Bool
 has_spare_share g space len =
     let end = next_multiple_of len g.share in nat_le (end + g.share) space && nat_le (end / g.share) 254
 
+-- the low byte of a file in new space
 abbrev pub file_low : Geometry → ℕ → ℕ → ℕ
 file_low g space len = if has_spare_share g space len then 1 else 0
 
@@ -99,6 +102,7 @@ pub record StandsInNewSpace (m m' : Map) (n : ℕ) (o : Object) : Type 0 where
   pub space : IsTaken m.geometry (hole_runs m) (units m.geometry n) (id_runs m' (id_of o.entry.address))
   pub low : low_of o.entry.address ≡ first_low m' o (id_runs m' (id_of o.entry.address))
 
+-- The object is there and has this address.
 abbrev pub HasAddress : Option Object → ℕ → Type 0
 HasAddress o address = IsSomeAnd o (λ o. o.entry.address ≡ address)
 
@@ -111,6 +115,7 @@ NewObjectPlaced m m' n None o = 0 < n → IsSomeAnd o (StandsInNewSpace m m' n)
 abbrev pub OldObjectPlaced : FreeSpace → ℕ → Option Object → Type 0
 OldObjectPlaced space n o = 0 < n → IsSomeAnd o (λ o. first_fit_place (old_need space n) space.holes ≡ Some o.entry.address)
 
+-- where a new object lies
 abbrev pub ObjectPlaced : Layout → Layout → ℕ → Option (ℕ × ℕ) → Option Object → Type 0
 ObjectPlaced (Layout.New m) (Layout.New m') n share o = NewObjectPlaced m m' n share o
 ObjectPlaced (Layout.Old space) (Layout.Old space') n share o = OldObjectPlaced space n o
@@ -128,6 +133,7 @@ abbrev pub KeepsOrGetsId : Bool → Map → Map → Object → Object → Type 0
 KeepsOrGetsId true m m' old new = new.entry.address ≡ old.entry.address
 KeepsOrGetsId false m m' old new = IsNewId m m' (id_of new.entry.address) × (low_of new.entry.address ≡ 0)
 
+-- a grown directory that needs new space has it, taken after that of the new object
 pub record GrownPlaced (m m' : Map) (v : Opened) (c : Command) (growth : Growth) (made : Option Object) (new : Object) : Type 0 where
   pub id : KeepsOrGetsId (is_alone (objects_of v.listings) growth.0) m m' growth.0 new
   pub space : IsTaken m.geometry (holes_left (hole_runs m) (object_parts m m' v c made)) (units m.geometry growth.1) (id_runs m' (id_of new.entry.address))
@@ -144,6 +150,7 @@ GrowthPlaced _ _ v c made new (Some growth) (Some moved) = ⊥
 abbrev pub made_object : Opened → Command → Option Object
 made_object w c = option_map_or (object_at w.listings) (new_object_path c) None
 
+-- the grown directory, if there is one, is there and lies right
 abbrev pub GrowthPlacedIn : Opened → Opened → Command → Option Growth → Type 0
 GrowthPlacedIn v w c None = Unit {0}
 GrowthPlacedIn v w c (Some growth) =

@@ -1,8 +1,8 @@
 -- Space on whole images, worked out.
 use Rattle.std.specs.Prelude.{◌≡◌, ℕ, Bool, true, false, List, [], ◌∷◌, Option, Some, None, Result, Ok, Err, codes}
 use Rattle.fc_checks.specs.Rows.{e_root}
-use Rattle.fc_names.specs.declared.Refusal.{Refusal}
-use Rattle.fc_names.specs.declared.Refusal.TheVariants as refusals
+use Rattle.fc_names.specs.declared.refusal.Refusal.{Refusal}
+use Rattle.fc_names.specs.declared.refusal.Refusal.TheVariants as refusals
 use Rattle.fc_record.specs.Rows.{f}
 use Rattle.fc_model.specs.Command.{Command}
 use Rattle.fc_image.specs.declared.ImageFault.{ImageFault}
@@ -15,23 +15,28 @@ use Rattle.fc_effects.specs.Sharing.{units}
 use Rattle.fc_effects.specs.Short.{short, slack_for}
 use Rattle.fc_effects.specs.Settled.{is_settled}
 
+-- what space says of a command on an image
 pub data Outcome : Type 0 where
   Refused : (refusal : Refusal) → Outcome
   Served : Outcome
   Unopened : Outcome
 
+-- a refusal as an outcome
 abbrev pub outcome_of : Option Refusal → Outcome
 outcome_of None = Served
 outcome_of (Some refusal) = Refused refusal
 
+-- the outcome of a command on an image
 abbrev pub short_on : Result Opened ImageFault → Command → Outcome
 short_on (Ok v) c = outcome_of (short v c)
 short_on (Err fault) c = Unopened
 
+-- the slack of a command on an image
 abbrev pub slack_on : Result Opened ImageFault → Command → Option (ℕ × ℕ)
 slack_on (Ok v) c = slack_for v c
 slack_on (Err fault) c = None
 
+-- whether an image that opens is settled
 abbrev pub settled_on : Result Opened ImageFault → Option Bool
 settled_on (Ok v) = Some (is_settled v)
 settled_on (Err fault) = None
@@ -40,6 +45,7 @@ settled_on (Err fault) = None
 abbrev pub fresh : List ℕ
 fresh = e_image fresh_sector fresh_sector e_root
 
+-- the one with the file
 abbrev pub one_file : List ℕ
 one_file = e_image used_sector used_sector (e_root_with (entry_bytes 65 1 3 3))
 
@@ -49,6 +55,7 @@ hole_first =
     let sector = small_sector 0x18 0x82 (0 ∷ 0x80 ∷ 3 ∷ 0x80 ∷ []) in
     e_image sector sector (e_root_with (entry_bytes 65 0 3 3))
 
+-- the command that makes a file of that name
 abbrev pub create : List ℕ → ℕ → Command
 create name len = Command.Create (name ∷ []) 0 0 len
 
@@ -56,6 +63,7 @@ create name len = Command.Create (name ∷ []) 0 0 len
 abbrev pub bits_at : ℕ → ℕ → Run
 bits_at start len = record { start = start; len = len; kind = Hole }
 
+-- space on these images
 pub record SpaceRows : Type 0 where
   pub units_f : units f 5121 ≡ 96
   pub full : short_on (open_image fresh) (create (codes "A") 4097) ≡ Refused refusals.DiscFull

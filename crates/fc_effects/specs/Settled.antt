@@ -51,6 +51,7 @@ abbrev pub can_join : Map → ℕ → Bool
 can_join m id =
     nat_lt 1 (length (id_runs m id)) && nat_le (length (zones_with m id)) 8 && nat_le (bits_in (id_runs m id)) (longest (hole_runs m))
 
+-- Nothing is left to do on a new map.
 abbrev pub is_settled_map : Map → List Object → Bool
 is_settled_map m objects =
     list_all (λ z. passes_adjacent (is_done m.geometry objects) (runs_of m z)) (zone_numbers m.geometry)
@@ -62,16 +63,19 @@ is_settled_map m objects =
 abbrev pub is_object_start : List Object → ℕ → Bool
 is_object_start objects at = list_any (λ o. has_sectors o && not (length o.path == 0) && (o.entry.address == at)) objects
 
+-- No two holes touch.
 abbrev pub are_apart : List Hole → Bool
 are_apart [] = true
 are_apart (h ∷ []) = true
 are_apart (h ∷ next ∷ holes) = not (hole_end h == next.start) && are_apart (next ∷ holes)
 
+-- No hole is followed by an object other than the root, or by a hole.
 abbrev pub is_settled_space : FreeSpace → List Object → Bool
 is_settled_space space objects = are_apart space.holes && list_all (λ h. not (is_object_start objects (hole_end h))) space.holes
 
 -- ---- both
 
+-- Nothing is left for compaction to do.
 abbrev pub is_settled : Opened → Bool
 is_settled v = settled v.layout
   where
@@ -92,6 +96,7 @@ pub record CompactedMap (m m' : Map) (objects : List Object) : Type 0 where
   pub bits : (id : ℕ) → is_movable objects id ≡ true → KeepsBits m m' id
   pub runs : (id : ℕ) → is_movable objects id ≡ true → length (id_runs m' id) ≤ length (id_runs m id)
 
+-- what compaction does to a map
 abbrev pub CompactedLayout : Layout → Layout → List Object → Type 0
 CompactedLayout (Layout.New m) (Layout.New m') objects = CompactedMap m m' objects
 CompactedLayout (Layout.Old space) (Layout.Old space') objects = hole_sum space'.holes ≡ hole_sum space.holes
@@ -114,6 +119,7 @@ IdleStay _ _ objects = Unit {0}
 abbrev pub SameButAddress : Entry → Entry → Type 0
 SameButAddress old new = new ≡ record old { address = new.address }
 
+-- the same entries in the same order, but for their addresses
 abbrev pub SameEntries : List Entry → List Entry → Type 0
 SameEntries [] [] = Unit {0}
 SameEntries (e ∷ old) (f ∷ new) = SameButAddress e f × SameEntries old new
@@ -127,6 +133,7 @@ CompactedDir was is (Directory.Small old) (Directory.Small new) =
     × ((new ≡ old) ⊎ (new.sequence ≡ next_sequence old.sequence))
 CompactedDir was is _ _ = ⊥
 
+-- On an old map each directory is as it was but for addresses and parent, and a file of no bytes keeps its address.
 pub record OldListingsStay (v w : Opened) : Type 0 where
   pub each : (l : Listing) → Contains v.listings l
       → IsSomeAnd (listing_at w.listings l.object.path) (λ new. CompactedDir (holder_address v.listings l.object.path) (holder_address w.listings l.object.path) l.content new.content)

@@ -28,6 +28,7 @@ pub record Holding (D : Type 0) : Type 0 where
   pub low : ℕ
   pub sectors : List ℕ
 
+-- what the owners of an identifier have of it
 abbrev pub holdings_in : {D : Type 0} → List (Holding D) → ℕ → List (Holding D)
 holdings_in holdings id = filter (λ h. h.id == id) holdings
 
@@ -54,6 +55,7 @@ slack_among same m holdings dir bytes =
     if bytes == 0 then None
     else find (λ s. is_shareable same dir (holdings_in holdings s.0) && is_spare m (holdings_in holdings s.0) s.0 s.1 bytes) (shares m)
 
+-- what an object has of its identifier
 abbrev pub holding_of : Object → Holding Path
 holding_of o = record {
   id = id_of o.entry.address;
@@ -63,5 +65,6 @@ holding_of o = record {
   sectors = o.sectors;
 }
 
+-- the slack for a file of a directory
 abbrev pub slack : Map → List Object → Path → ℕ → Option (ℕ × ℕ)
 slack m objects dir bytes = slack_among is_same_path m (map holding_of (filter has_sectors objects)) dir bytes

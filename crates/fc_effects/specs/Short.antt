@@ -4,10 +4,10 @@ use Rattle.std.specs.List.{flat_map}
 use Rattle.std.specs.Str.{bytes_eq}
 use Rattle.std.specs.Option.{option_map_or, option_map, option_and_then}
 use Rattle.std.specs.Int.{div_ceil}
-use Rattle.fc_names.specs.declared.NameForm.{NameForm}
-use Rattle.fc_names.specs.declared.NameForm.TheVariants.{Seven, Ten, Long}
-use Rattle.fc_names.specs.declared.Refusal.{Refusal}
-use Rattle.fc_names.specs.declared.Refusal.TheVariants as refusals
+use Rattle.fc_names.specs.declared.name.NameForm.{NameForm}
+use Rattle.fc_names.specs.declared.name.NameForm.TheVariants.{Seven, Ten, Long}
+use Rattle.fc_names.specs.declared.refusal.Refusal.{Refusal}
+use Rattle.fc_names.specs.declared.refusal.Refusal.TheVariants as refusals
 use Rattle.fc_names.specs.Names.{Path, is_same_path, is_same_name}
 use Rattle.fc_oldmap.specs.declared.Hole.{Hole}
 use Rattle.fc_oldmap.specs.Holes.{hole, hole_sum, hole_limit, after_take, after_give, first_fit_place}
@@ -27,6 +27,7 @@ use Rattle.fc_effects.specs.Sharing.{units, new_ids, slack}
 
 -- ---- the new object
 
+-- the bytes of a new directory
 abbrev pub new_dir_size : NameForm → ℕ
 new_dir_size Seven = 1280
 new_dir_size Ten = 2048
@@ -50,6 +51,7 @@ new_length v (Command.Cdir path) = new_dir_size (dir_form v.layout)
 new_length v (Command.Rename from to) = option_map_or (λ o. if is_copied v from to o then o.entry.len else 0) (object_at v.listings from) 0
 new_length v _ = 0
 
+-- the slack on a new map; an old one has none
 abbrev pub slack_in : Layout → List Object → Path → ℕ → Option (ℕ × ℕ)
 slack_in (Layout.Old space) objects dir bytes = None
 slack_in (Layout.New m) objects dir bytes = slack m objects dir bytes
@@ -68,12 +70,15 @@ pub record Gain : Type 0 where
   pub name : List ℕ
   pub names : List (List ℕ)
 
+-- the names in a directory
 abbrev pub names_in : Listing → List (List ℕ)
 names_in l = map (λ e. e.name) (entries_of l.content)
 
+-- a directory that gets a name more
 abbrev pub gain_of : Path → Listing → Gain
 gain_of path l = record { listing = l; name = last_name path; names = names_in l ++ last_name path ∷ [] }
 
+-- the directory that holds a path gets its last name
 abbrev pub gain_at : Opened → Path → Option Gain
 gain_at v path = option_map (gain_of path) (listing_at v.listings (holder path))
 
@@ -92,6 +97,7 @@ gain_by_rename v from to o =
     else if bytes_eq o.entry.name (last_name to) then None
     else option_map (gain_by_new_name o.entry.name (last_name to)) (listing_at v.listings (holder to))
 
+-- the directory to which the command gives a name that it has not, byte for byte
 abbrev pub gain_in : Opened → Command → Option Gain
 gain_in v (Command.Save path load exec bytes) = gain_if_absent v path
 gain_in v (Command.Create path load exec len) = gain_if_absent v path
@@ -110,14 +116,17 @@ is_full_with (Directory.Big dir) gain = nat_lt 4194304 (needed_size dir gain.nam
 abbrev pub Growth : Type 0
 Growth = Object × ℕ
 
+-- the growth of a directory that says this
 abbrev pub growth_with : Object → Directory → Gain → Option Growth
 growth_with o (Directory.Small dir) gain = None
 growth_with o (Directory.Big dir) gain =
     if nat_lt dir.size (needed_size dir gain.names gain.name) then Some (o, needed_size dir gain.names gain.name) else None
 
+-- the growth that a new name makes
 abbrev pub growth_of : Gain → Option Growth
 growth_of gain = growth_with gain.listing.object gain.listing.content gain
 
+-- the growth that a command makes
 abbrev pub growth_in : Opened → Command → Option Growth
 growth_in v c = option_and_then growth_of (gain_in v c)
 
@@ -147,15 +156,18 @@ moved_growth v c =
 abbrev pub object_units : Map → Opened → Command → ℕ
 object_units m v c = if is_some (slack_for v c) then 0 else units m.geometry (new_length v c)
 
+-- the new bits of the grown directory
 abbrev pub growth_units : Map → Opened → Command → ℕ
 growth_units m v c = option_map_or (λ growth. units m.geometry growth.1) (moved_growth v c) 0
 
+-- the bits that the holes must have together
 abbrev pub needed_bits : Map → Opened → Command → ℕ
 needed_bits m v c =
     let a = object_units m v c in
     let b = growth_units m v c in
     if nat_lt 0 a && nat_lt 0 b then a + b + 2 * m.geometry.min else a + b
 
+-- 1 where the test holds, else 0
 abbrev pub one_if : Bool → ℕ
 one_if test = if test then 1 else 0
 
@@ -180,6 +192,7 @@ replaced_object v (Command.Create path load exec len) = object_at v.listings pat
 replaced_object v (Command.Delete path) = object_at v.listings path
 replaced_object v _ = None
 
+-- the holes with the space of an object, if it has any
 abbrev pub with_space_of : FreeSpace → Option Object → List Hole → List Hole
 with_space_of space None holes = holes
 with_space_of space (Some o) holes = if has_sectors o then after_give (space_of space o) holes else holes
@@ -194,6 +207,7 @@ old_holes_after space v c = with_space_of space (replaced_object v c) (holes_wit
 
 -- ---- refusals
 
+-- the refusals for want of space on the disc, in their order
 abbrev pub space_reasons : Layout → Opened → Command → List (Option Refusal)
 space_reasons (Layout.New m) v c =
     when (nat_lt (length (new_ids m)) (needed_ids m v c)) refusals.IdsFull

@@ -22,8 +22,8 @@ use Rattle.fc_model.specs.Tree.{holder, last_name, is_prefix}
 use Rattle.fc_model.specs.Command.{Command}
 use Rattle.fc_dirs.specs.declared.Entry.{Entry}
 use Rattle.fc_dirs.specs.Entries.{with_entry, has_name, padded_name}
-use Rattle.fc_names.specs.declared.NameForm.{NameForm}
-use Rattle.fc_names.specs.declared.NameForm.TheVariants as forms
+use Rattle.fc_names.specs.declared.name.NameForm.{NameForm}
+use Rattle.fc_names.specs.declared.name.NameForm.TheVariants as forms
 use Rattle.fc_dirs.specs.declared.SmallForm.TheVariants.{Bytes1280, Bytes2048}
 use Rattle.fc_dirs.specs.Small.{empty_small, next_sequence}
 use Rattle.fc_dirs.specs.Big.{BigDir, size_for, head_space, name_space, packed_heap, form_of, empty_big}
@@ -55,6 +55,7 @@ holds_named _ dir = false
 
 -- ---- entries
 
+-- the new entry in the place of that of its name
 abbrev pub replaced_entry : Entry → Entry → Entry
 replaced_entry new e = if is_same_name e.name new.name then new else e
 
@@ -63,6 +64,7 @@ abbrev pub with_made : Option Entry → List Entry → List Entry
 with_made None entries = entries
 with_made (Some new) entries = if has_name entries new.name then map (replaced_entry new) entries else with_entry new entries
 
+-- the entries without that of this name
 abbrev pub without_name : List ℕ → List Entry → List Entry
 without_name name entries = filter (λ e. not (is_same_name e.name name)) entries
 
@@ -84,6 +86,7 @@ abbrev pub regrown_entry : Path → Option Object → Entry → Entry
 regrown_entry dir None e = e
 regrown_entry dir (Some new) e = if is_same_path (dir ++ e.name ∷ []) new.path then record e { address = new.entry.address; len = new.entry.len } else e
 
+-- the grown directory after the command
 abbrev pub grown_object : Opened → Opened → Command → Option Object
 grown_object v w c = option_and_then (λ growth. object_at w.listings growth.0.path) (growth_in v c)
 
@@ -93,6 +96,7 @@ named_object w (Command.Set path load exec access) = object_at w.listings path
 named_object w (Command.Mark path attrs) = object_at w.listings path
 named_object w c = made_object w c
 
+-- its entry
 abbrev pub named_entry : Opened → Command → Option Entry
 named_entry w c = entry_of (named_object w c)
   where
@@ -100,6 +104,7 @@ named_entry w c = entry_of (named_object w c)
     entry_of None = None
     entry_of (Some o) = Some o.entry
 
+-- the entries of a directory after the command
 abbrev pub entries_after : Opened → Opened → Command → Listing → List Entry
 entries_after v w c l = edited c l.object.path (named_entry w c) (map (regrown_entry l.object.path (grown_object v w c)) (entries_of l.content))
 
@@ -169,10 +174,12 @@ has_new_holder v c dir =
 abbrev pub has_grown : Opened → Command → Path → Bool
 has_grown v c dir = option_map_or (λ growth. is_same_path (holder growth.0.path) dir) (growth_in v c) false
 
+-- The object is the one that the command renames.
 abbrev pub is_renamed_by : Command → Path → Bool
 is_renamed_by (Command.Rename from to) p = is_same_path p from
 is_renamed_by _ p = false
 
+-- the directories whose bytes may change
 abbrev pub may_be_rewritten : Opened → Command → Path → Bool
 may_be_rewritten v c dir = holds_named c dir || is_renamed_by c dir || has_grown v c dir || has_new_holder v c dir
 
@@ -196,16 +203,19 @@ pub record DirectorySteady (before after : List ℕ) (v w : Opened) (c : Command
   pub entries : entries_of new.content ≡ entries_after v w c l
   pub head : IsKept before after v w c l new ⊎ ((may_be_rewritten v c l.object.path ≡ true) × IsRewritten c l.object.path (holder_address w.listings new.object.path) l.content new.content)
 
+-- The command deletes the object.
 abbrev pub is_gone : Command → Path → Bool
 is_gone (Command.Delete path) p = is_same_path path p
 is_gone _ p = false
 
+-- Each directory that is not deleted is there, and as it has to be.
 abbrev pub DirectoriesSteady : List ℕ → List ℕ → Opened → Opened → Command → Type 0
 DirectoriesSteady before after v w c = (l : Listing) → Contains v.listings l → is_gone c l.object.path ≡ false
     → IsSomeAnd (listing_at w.listings (path_after c l.object.path)) (DirectorySteady before after v w c l)
 
 -- ---- addresses of named objects
 
+-- The object is there, and has the address that it had.
 abbrev pub HasSameAddress : Option Object → Option Object → Type 0
 HasSameAddress None new = Unit {0}
 HasSameAddress (Some old) new = IsSomeAnd new (λ o. o.entry.address ≡ old.entry.address)
@@ -241,6 +251,7 @@ pub record EntrySteady (form : NameForm) (moved : Bool) (old : Option Object) (n
   pub last : (new.entry.last ≡ option_map_or (λ o. o.entry.last) old 0) ⊎ ((moved ≡ true) × (new.entry.last ≡ 0))
   pub len : is_directory_object new ≡ true → IfSome old (λ o. IsDirLength form o.entry.len new.entry.len)
 
+-- the entry of the object that the command names, in fields that the tree does not show
 abbrev pub NamedEntrySteady : Opened → Opened → Command → Type 0
 NamedEntrySteady v w c = IfSome (named_object w c) (EntrySteady (dir_form v.layout) (is_moved_by c) (source_object v c))
 
@@ -250,6 +261,7 @@ new_directory forms.Seven parent name = Directory.Small (empty_small Bytes1280 p
 new_directory forms.Ten parent name = Directory.Small (empty_small Bytes2048 parent name)
 new_directory forms.Long parent name = Directory.Big (empty_big parent name)
 
+-- what `cdir` makes
 abbrev pub NewDirectory : Opened → Command → Type 0
 NewDirectory w (Command.Cdir path) = IsSomeAnd (listing_at w.listings path) (λ l.
     (l.content ≡ new_directory (dir_form w.layout) (holder_address w.listings path) (last_name path)) × (l.object.entry.len ≡ new_dir_size (dir_form w.layout)))
@@ -266,6 +278,7 @@ abbrev pub is_left_by_growth : Opened → Command → ℕ → Bool
 is_left_by_growth v c id =
     option_map_or (λ growth. is_alone (objects_of v.listings) growth.0 && (id_of growth.0.entry.address == id)) (moved_growth v c) false
 
+-- The runs of the identifier are given back.
 abbrev pub goes_back : Opened → Opened → Command → ℕ → Bool
 goes_back v w c id = is_given_back (objects_of v.listings) (objects_of w.listings) id || is_left_by_growth v c id
 
@@ -274,6 +287,7 @@ abbrev pub has_id_that : (ℕ → Bool) → RunKind → Bool
 has_id_that test kinds.Hole = false
 has_id_that test (kinds.Id id) = test id
 
+-- the runs of the identifiers that pass a test
 abbrev pub runs_that : (ℕ → Bool) → Map → List ZoneRun
 runs_that test m = filter (λ p. has_id_that test p.1.kind) (all_runs m)
 
@@ -306,6 +320,7 @@ back_runs v w c m = runs_that (goes_back v w c) m
 abbrev pub holes_after : Opened → Opened → Command → Map → Map → ℕ → List Hole
 holes_after v w c m m' z = holes_with (zone_holes (holes_untaken v w c m m') z) (zone_holes (back_runs v w c m) z)
 
+-- The identifier has the runs that it had.
 abbrev pub keeps_runs : Map → Map → ℕ → Type 0
 keeps_runs m m' id = id_runs m' id ≡ id_runs m id
 
@@ -321,6 +336,7 @@ NewMapSteady v w c m m' =
 
 -- ---- what is outside
 
+-- These sectors have the bytes that they had.
 abbrev pub SameSectors : ℕ → List ℕ → List ℕ → List ℕ → Type 0
 SameSectors size sectors old new = All (λ s. sector_at size new s ≡ sector_at size old s) sectors
 
@@ -335,6 +351,7 @@ pub record ZoneSteady (g : Geometry) (z : ℕ) (old new : List ℕ) : Type 0 whe
   pub header : slice_range (bits new) 32 (first_bit z) ≡ slice_range (bits old) 32 (first_bit z)
   pub behind : drop (end_bit g z) (bits new) ≡ drop (end_bit g z) (bits old)
 
+-- a zone's sector, with the root's new place in zone 0 where the root grows
 abbrev pub expected_zone : Opened → Opened → Command → Map → ℕ → List ℕ
 expected_zone v w c m z = if z == 0 then zone0_after w (growth_in v c) (sector_of m 0) else sector_of m z
 
@@ -376,11 +393,13 @@ OutsideSteady old new v w c (Layout.Old space) (Layout.Old space') =
     × SameSectors (256 * space.sector_units) (lost_sectors space (objects_of v.listings)) old new
 OutsideSteady old new v w c _ _ = ⊥
 
+-- what a command does to the map
 abbrev pub SpaceSteady : Opened → Opened → Command → Layout → Layout → Type 0
 SpaceSteady v w c (Layout.New m) (Layout.New m') = NewMapSteady v w c m m'
 SpaceSteady v w c (Layout.Old space) (Layout.Old space') = space'.holes ≡ old_holes_after space v c
 SpaceSteady v w c _ _ = ⊥
 
+-- all that stays, beside the tree and the places of what is new
 pub record Steady (old new : List ℕ) (v w : Opened) (c : Command) (copied : Bool) : Type 0 where
   pub directories : DirectoriesSteady old new v w c
   pub named : NamedStays v w c copied

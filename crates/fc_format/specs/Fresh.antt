@@ -14,6 +14,7 @@ use Rattle.fc_dirs.specs.Small.{nick_word, hugo_word}
 use Rattle.fc_format.specs.declared.Format.{Format}
 use Rattle.fc_format.specs.declared.Format.TheVariants.{E, F, D, L, EPlus, FPlus}
 
+-- n bytes 0
 abbrev pub zeros : ℕ → List ℕ
 zeros n = replicate n 0
 
@@ -21,6 +22,7 @@ zeros n = replicate n 0
 abbrev pub with_bytes : List (ℕ × ℕ) → List ℕ → List ℕ
 with_bytes places bytes = fold (λ bs p. slice_set bs p.0 p.1) bytes places
 
+-- the disc's bytes
 abbrev pub format_size : Format → ℕ
 format_size E = 819200
 format_size F = 1638400
@@ -34,16 +36,19 @@ abbrev pub format_words : List (List ℕ × Format)
 format_words =
     (codes "E", E) ∷ (codes "F", F) ∷ (codes "D", D) ∷ (codes "L", L) ∷ (codes "E+", EPlus) ∷ (codes "F+", FPlus) ∷ []
 
+-- the format that a word names
 abbrev pub format_of : List ℕ → Option Format
 format_of word = option_map (λ f. f.1) (find (λ f. bytes_eq f.0 word) format_words)
 
 -- ---- records: the bytes that aren't 0
 
+-- the record of an E
 abbrev pub e_record : List ℕ
 e_record = with_bytes (
     (0, 10) ∷ (1, 5) ∷ (2, 2) ∷ (3, 2) ∷ (4, 15) ∷ (5, 7) ∷ (6, 1) ∷ (9, 1) ∷ (10, 0x20) ∷ (11, 5) ∷ (12, 3) ∷ (13, 2) ∷ (17, 0x80) ∷ (18, 0x0C) ∷ [])
     (zeros 60)
 
+-- the record of an F
 abbrev pub f_record : List ℕ
 f_record = with_bytes (
     (0, 10) ∷ (1, 10) ∷ (2, 2) ∷ (3, 4) ∷ (4, 15) ∷ (5, 6) ∷ (6, 1) ∷ (9, 4) ∷ (10, 0x40) ∷ (11, 6) ∷ (12, 9) ∷ (13, 2) ∷ (18, 0x19) ∷ [])
@@ -55,9 +60,11 @@ plus_record record' = with_bytes ((12, 1) ∷ (13, 3) ∷ (44, 1) ∷ (49, 8) �
 
 -- ---- maps: a zone's bytes that aren't 0, its record, and its check
 
+-- zone 0 with its record
 abbrev pub zone0 : List ℕ → List (ℕ × ℕ) → List ℕ
 zone0 record' places = sealed (with_bytes places (overwritten (zeros 1024) 4 record'))
 
+-- another zone
 abbrev pub zone_at : List (ℕ × ℕ) → List ℕ
 zone_at places = sealed (with_bytes places (zeros 1024))
 
@@ -81,6 +88,7 @@ f_zone1 = zone_at ((1, 0x18) ∷ (2, 0x80) ∷ (827, 0x80) ∷ [])
 abbrev pub f_zone2 : List ℕ
 f_zone2 = zone_at ((1, 0xB8) ∷ (2, 0x80) ∷ (4, 2) ∷ (23, 0x80) ∷ (827, 0x80) ∷ [])
 
+-- identifiers 2 and 3 of an F+, and a hole
 abbrev pub f_plus_zone2 : List ℕ
 f_plus_zone2 = zone_at ((1, 0xB8) ∷ (2, 0x80) ∷ (4, 2) ∷ (19, 0x80) ∷ (20, 3) ∷ (23, 0x80) ∷ (827, 0x80) ∷ [])
 
@@ -88,14 +96,17 @@ f_plus_zone2 = zone_at ((1, 0xB8) ∷ (2, 0x80) ∷ (4, 2) ∷ (19, 0x80) ∷ (2
 abbrev pub f_zone3 : List ℕ
 f_zone3 = zone_at ((1, 0x18) ∷ (2, 0x80) ∷ (791, 0x80) ∷ [])
 
+-- the map of an F
 abbrev pub f_map : List ℕ
 f_map = f_zone0 f_record ++ f_zone1 ++ f_zone2 ++ f_zone3
 
+-- the map of an F+
 abbrev pub f_plus_map : List ℕ
 f_plus_map = f_zone0 (plus_record f_record) ++ f_zone1 ++ f_plus_zone2 ++ f_zone3
 
 -- ---- boot block and roots
 
+-- the boot block of a record
 abbrev pub boot_block : List ℕ → List ℕ
 boot_block record' = unchecked ++ boot_check unchecked ∷ []
   where

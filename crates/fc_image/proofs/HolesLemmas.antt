@@ -37,6 +37,7 @@ use Rattle.fc_image.specs.Objects.{objects_of, first_object}
 use Rattle.fc_image.specs.Opening.{Opened, MapAndRoot, map_and_root, copy_or, agreement, difference, zones_or, reserved_in, boot_place, misplaced_sector, is_hole_or_movable, least_of, open_as}
 use Rattle.fc_image.specs.Stays.{IsNewKind, HolesLaw, HoleWriteLaw, HasSectorsOf, SameOutsideHoles}
 use Rattle.fc_image.proofs.WalkLemmas.{bind_ok}
+use Rattle.fc_image.proofs.KindLemmas.{kind_place}
 use Rattle.fc_image.proofs.FreeLemmas.{layout_by, layout_is, parts_of, among_here, free_opens, free_stored}
 
 -- ---- the map that is found
@@ -466,8 +467,16 @@ Listed-contains P [] l a (k, h, e) = absurd (omega arith)
 Listed-contains P (x ∷ xs) l a (zero, h, e) = subst (λ (y : Listing). P y.object) e a.0
 Listed-contains P (x ∷ xs) l a (suc k, h, e) = Listed-contains P xs l a.2 (k, omega arith, e)
 
+-- what is reserved lies in no hole
+pub no_hole_in : (m : Map) (objects : List Object) (reserved : List ℕ) → least_of (filter (is_among (loose_sectors m objects)) reserved) ≡ None
+    → (s : ℕ) → is_among reserved s ≡ true → is_among (hole_sectors (Layout.New m)) s ≡ false
+no_hole_in m objects reserved tight s h = unless (is_among (hole_sectors (Layout.New m)) s) (λ i.
+    let no = none_loose (loose_sectors m objects) reserved tight s h in
+    let is = holes_loose m objects s i in
+    cc)
+
 pub hole_write_law : HoleWriteLaw
-hole_write_law image other kind r v new valid e len test same =
+hole_write_law image other kind r v new valid e len same =
     let found = open_map image kind r v new valid e in
     let m = found.0 in
     let o = found.1 in
@@ -480,9 +489,15 @@ hole_write_law image other kind r v new valid e len test same =
     let keeps : (object : Object) → IsPlaced (Layout.New m) object → HasSectorsOf (geometry r).sector object.sectors image other =
     λ object at s h.
     same' s (unless (is_among (hole_sectors (Layout.New m)) s) (id_no_hole m o.shape o.zones o.some (id_of object.entry.address) s (in_id m object.entry.address _ object.sectors s at h))) in
+    let fits = (parts_of image kind v e).1.5 in
+    let map_same : HasSectorsOf (geometry r).sector (map_sectors (geometry r)) image other =
+    λ s h. same' s (apart_at (map_sectors (geometry r)) (hole_sectors (Layout.New m)) s place h) in
+    let boot_same : HasSectorsOf (geometry r).sector (boot_place kind (geometry r).sector) image other =
+    subst (λ (g : Geometry). HasSectorsOf (geometry r).sector (boot_place kind g.sector) image other) o.geometry_is
+    (λ s h. same' s (no_hole_in m (objects_of v.listings) (reserved_in kind (Layout.New m)) o.tight s (in_back (map_place (Layout.New m)) (boot_place kind m.geometry.sector) s h))) in
     let objects : (object : Object) → Contains (objects_of v.listings) object → HasSectorsOf (geometry r).sector object.sectors image other =
     λ object c. keeps object (Each-contains (Lies (Layout.New m) (reserved_in kind (Layout.New m))) (objects_of v.listings) object (Each-objects (Lies (Layout.New m) (reserved_in kind (Layout.New m))) v.listings placed) c).placed in (
-      free_opens image other kind r v new e len test (λ s h. same' s (apart_at (map_sectors (geometry r)) (hole_sectors (Layout.New m)) s place h))
+      free_opens image other kind r v new e len (kind_place image other kind r new o.facts fits map_same boot_same) map_same
           (λ l c. keeps l.object (Listed-contains (Lies (Layout.New m) (reserved_in kind (Layout.New m))) v.listings l placed c).placed),
       free_stored image other kind r v new e objects,
     )

@@ -8,8 +8,8 @@ use Rattle.std.proofs.lemmas.List.{length-append}
 use Rattle.std.proofs.lemmas.List.Concat.{flat_map-append}
 use Rattle.fc_record.specs.declared.Geometry.{Geometry}
 use Rattle.fc_record.specs.Record.{base}
-use Rattle.fc_names.specs.declared.NameForm.{NameForm}
-use Rattle.fc_names.specs.declared.NameForm.TheVariants.{Seven, Ten, Long}
+use Rattle.fc_names.specs.declared.name.NameForm.{NameForm}
+use Rattle.fc_names.specs.declared.name.NameForm.TheVariants.{Seven, Ten, Long}
 use Rattle.fc_newmap.specs.Map.{id_runs}
 use Rattle.fc_newmap.proofs.PlaceLemmas.{in_front, in_back, in_either, holder_of, id_run_in}
 use Rattle.fc_newmap.proofs.CoverLemmas.{Distinct, Distinct-append, run_on_disc}

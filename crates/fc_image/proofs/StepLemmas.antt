@@ -7,7 +7,7 @@ use Rattle.fc_device.specs.Sectors.{sector_at}
 use Rattle.fc_record.specs.declared.DiscRecord.{DiscRecord}
 use Rattle.fc_record.specs.declared.Geometry.{Geometry}
 use Rattle.fc_record.specs.declared.Kind.{Kind}
-use Rattle.fc_record.specs.declared.Kind.TheVariants.{Boot, OneZone, DiscD, DiscL}
+use Rattle.fc_record.specs.declared.Kind.TheVariants.{Boot}
 use Rattle.fc_record.specs.Record.{geometry}
 use Rattle.fc_zone.specs.declared.RunKind.{RunKind}
 use Rattle.fc_zone.specs.declared.RunKind.TheVariants as kinds
@@ -18,11 +18,12 @@ use Rattle.fc_image.specs.Layout.{Layout, map_place, hole_sectors, id_sectors, i
 use Rattle.fc_image.specs.Walk.{Object, Listing, reader_of}
 use Rattle.fc_image.specs.Objects.{objects_of, is_owned, tree_of}
 use Rattle.fc_image.specs.Opening.{Opened, reserved_in, boot_place}
-use Rattle.fc_image.specs.Stays.{IsNewKind, OpensAs, SameKindPlace, stored_objects, is_fixed, is_fixed_run, fixed_sectors, FixedStay, FixedBytesStay, SameOutsideHoles}
-use Rattle.fc_image.specs.Moves.{sectors_or_none, object_in, listing_in, with_map, Carried, WithMapLaw, CommitLaw, HoleStepLaw, ThenLaw, WholeLaw, KeepsObjectsLaw}
-use Rattle.fc_image.proofs.FreeLemmas.{among_here}
+use Rattle.fc_image.specs.Stays.{OpensAs, HasSectorsOf, stored_objects, is_fixed, is_fixed_run, fixed_sectors, FixedStay, FixedBytesStay, SameOutsideHoles}
+use Rattle.fc_image.specs.Moves.{sectors_or_none, object_in, listing_in, with_map, Carried, WithMapLaw, CommitLaw, HoleStepLaw, ThenLaw, WholeLaw, KeepsObjectsLaw, BootStaysLaw}
+use Rattle.fc_image.proofs.FreeLemmas.{among_here, parts_of, fits_same}
+use Rattle.fc_image.proofs.KindLemmas.{boot_bytes}
 use Rattle.fc_image.proofs.StoredLemmas.{stored_tree}
-use Rattle.fc_image.proofs.HolesLemmas.{OpenMap, Each, EachListed, Lies, walk_lies, none_loose, loose_sectors, holes_loose, hole_write_law}
+use Rattle.fc_image.proofs.HolesLemmas.{OpenMap, Each, EachListed, Lies, walk_lies, none_loose, loose_sectors, holes_loose, no_hole_in, apart_at, hole_write_law}
 use Rattle.fc_image.proofs.MoveLemmas.{open_by, all_filter, unless, id_loose, fixed_stay, move_law, merge_law}
 
 -- ---- what is opened, by a map
@@ -134,11 +135,11 @@ commit_law image other kind r v m m' new valid e fits layout can left =
 -- ---- writes into holes
 
 pub hole_step_law : HoleStepLaw
-hole_step_law image other kind r v m new valid e layout len test same =
+hole_step_law image other kind r v m new valid e layout len same =
     let o = open_by image kind r v m new valid e layout in
     let own = own_map image kind r v m o in
     let objects = objects_of v.listings in
-    let written = hole_write_law image other kind r v new valid e len test
+    let written = hole_write_law image other kind r v new valid e len
     (subst (λ (l : Layout). SameOutsideHoles (geometry r).sector l image other) (sym layout)
     (subst (λ (g : Geometry). SameOutsideHoles g.sector (Layout.New m) image other) o.geometry_is same)) in
     record {
@@ -254,15 +255,20 @@ then_law first second third kind r v m₀ m m' new valid e layout one two =
       owned = λ k. ap (λ (w : Opened). is_owned (objects_of w.listings) k) (sym again) ∙ two.owned k ∙ one.owned k;
     }
 
-same_place : (kind : Kind) (r : DiscRecord) (image : List ℕ) → IsNewKind kind r → SameKindPlace kind image image
-same_place (Boot s) r image is = refl
-same_place (OneZone s) r image is = (refl, refl)
-same_place DiscD r image is = absurd is
-same_place (DiscL units) r image is = absurd is
+pub boot_stays_law : BootStaysLaw
+boot_stays_law image other r v m valid e layout apart len outside =
+    let o = open_by image (Boot r) r v m refl valid e layout in
+    let fits = (parts_of image (Boot r) v e).1.5 in
+    let same : HasSectorsOf m.geometry.sector (boot_place (Boot r) m.geometry.sector) image other =
+    λ s h. outside s (apart_at (boot_place (Boot r) m.geometry.sector) (map_sectors m.geometry) s apart h)
+    (no_hole_in m (objects_of v.listings) (reserved_in (Boot r) (Layout.New m)) o.tight s (in_back (map_place (Layout.New m)) (boot_place (Boot r) m.geometry.sector) s h)) in
+    let same' : HasSectorsOf (geometry r).sector (boot_place (Boot r) (geometry r).sector) image other =
+    subst (λ (g : Geometry). HasSectorsOf g.sector (boot_place (Boot r) g.sector) image other) o.geometry_is same in
+    fits_same image other (Boot r) len (boot_bytes r r.log2_sector image other o.facts.sector_low o.facts.sector_high same') ∙ fits
 
 pub keeps_objects_law : KeepsObjectsLaw
 keeps_objects_law = record {
-  same = λ image kind r v m new valid e layout. (m, hole_step_law image image kind r v m new valid e layout refl (same_place kind r image new) (λ s h. refl));
+  same = λ image kind r v m new valid e layout. (m, hole_step_law image image kind r v m new valid e layout refl (λ s h. refl));
   after = λ first second third one two kind r v m new valid e layout.
       (let a = one kind r v m new valid e layout in
       let b = two kind r (with_map a.0 v) a.0 new valid a.1.opens refl in

@@ -1,6 +1,6 @@
 -- What a walk is, apart from how it is made; and what an edited directory does to it.
-use Rattle.std.specs.Prelude.{◌≡◌, ◌≤◌, ℕ, ◌+◌, true, List, [], ◌∷◌, ◌++◌, length, map, filter, take, drop, Some, Ok, Contains}
-use Rattle.fc_names.specs.Names.{Path}
+use Rattle.std.specs.Prelude.{◌≡◌, ◌≤◌, ℕ, ◌+◌, true, false, List, [], ◌∷◌, ◌++◌, length, map, filter, take, drop, Some, Ok, Contains}
+use Rattle.fc_names.specs.Names.{Path, is_same_path}
 use Rattle.fc_dirs.specs.declared.Entry.{Entry}
 use Rattle.fc_dirs.specs.Directory.{entries_of, directory_size}
 use Rattle.fc_image.specs.Layout.{Layout, sector_bytes, dir_form, disc_sectors, sectors_at, is_apart}
@@ -46,14 +46,14 @@ pub record IsRoot (layout : Layout) (address size : ℕ) (root : Object) : Type 
   pub entry : root.entry ≡ root_entry address (directory_size (dir_form layout) size)
   pub placed : IsAt layout root
 
--- The walk finds just the listings that follow from the root, where all objects are apart. (It stops at a number of
--- directories above that of all sectors, which no opened image has.)
+-- The walk finds the listings that follow from the root, where all objects are apart and there are no more directories
+-- than sectors and one; and it finds no others.
 pub record WalkFormLaw : Type 0 where
   pub makes : (read : Reader) (layout : Layout) (reserved : List ℕ) (address size : ℕ) (root : Object) (listings : List Listing)
       → IsRoot layout address size root → Follows read layout (root ∷ []) listings → Apart reserved (objects_of listings)
       → length listings ≤ disc_sectors layout + 1 → walk read layout reserved address size ≡ Ok listings
   pub gives : (read : Reader) (layout : Layout) (reserved : List ℕ) (address size : ℕ) (listings : List Listing)
-      → walk read layout reserved address size ≡ Ok listings → length listings ≤ disc_sectors layout
+      → walk read layout reserved address size ≡ Ok listings
       → (root : Object) × IsRoot layout address size root × Follows read layout (root ∷ []) listings × Apart reserved (objects_of listings)
 
 -- An opened disc has no more directories than sectors.
@@ -71,6 +71,7 @@ AreEdited read layout g (l ∷ listings) (k ∷ edited) =
     (k.object ≡ g l.object) × IsListing read layout k × (filter is_directory_object k.children ≡ map g (filter is_directory_object l.children))
     × AreEdited read layout g listings edited
 
+-- what follows from a list of waiting directories, after an edit
 pub record EditLaw : Type 0 where
   -- Files come and go, entries and addresses change, and the directories stay.
   pub files : (read read' : Reader) (layout layout' : Layout) (g : Object → Object) (waiting : List Object) (listings edited : List Listing)
@@ -90,6 +91,7 @@ abbrev pub IsApartFrom : List ℕ → List Object → Object → Type 0
 IsApartFrom taken [] o = is_apart o.sectors taken ≡ true
 IsApartFrom taken (p ∷ objects) o = (is_apart o.sectors p.sectors ≡ true) × IsApartFrom taken objects o
 
+-- an object comes, or goes, anywhere among the others
 pub record ApartLaw : Type 0 where
   pub added : (taken : List ℕ) (front rest : List Object) (o : Object) → Apart taken (front ++ rest) → IsApartFrom taken (front ++ rest) o → Apart taken (front ++ o ∷ rest)
   pub removed : (taken : List ℕ) (front rest : List Object) (o : Object) → Apart taken (front ++ o ∷ rest) → Apart taken (front ++ rest) × IsApartFrom taken (front ++ rest) o
@@ -116,6 +118,7 @@ pub record IsEdit (read read' : Reader) (layout layout' : Layout) (reserved : Li
   -- the objects, also those that are new, are apart
   pub apart : Apart reserved (objects_of (before ++ l' ∷ after))
 
+-- the walk after an edit of one directory
 pub record WalkEditLaw : Type 0 where
   -- files come, go and change in one directory
   pub files : (read read' : Reader) (layout layout' : Layout) (reserved : List ℕ) (address size : ℕ) (before after : List Listing) (l l' : Listing)
@@ -137,13 +140,19 @@ pub record WalkEditLaw : Type 0 where
 
 -- ---- what an image says, and another one
 
+-- what an image says, and what another one says
 pub record StayLaw : Type 0 where
   -- each listing of a walk is one that its reader and layout have
   pub listed : (read : Reader) (layout : Layout) (reserved : List ℕ) (address size : ℕ) (listings : List Listing)
-      → walk read layout reserved address size ≡ Ok listings → length listings ≤ disc_sectors layout → StayListed read layout listings
+      → walk read layout reserved address size ≡ Ok listings → StayListed read layout listings
   -- Another image says the same by another layout, where the objects have their places and the directories their bytes.
   pub other : (image other : List ℕ) (layout layout' : Layout) (listings : List Listing) → dir_form layout' ≡ dir_form layout → sector_bytes layout' ≡ sector_bytes layout
       → StayListed (reader_of image layout) layout listings
       → ((l : Listing) → Contains listings l → HasSectorsOf (sector_bytes layout) l.object.sectors image other)
       → ((l : Listing) → Contains listings l → (o : Object) → Contains l.children o → IsAt layout' o)
       → StayListed (reader_of other layout') layout' listings
+
+-- No two objects of an opened image have paths that fold to one.
+abbrev pub PathsLaw : Type 0
+PathsLaw = (image : List ℕ) (kind : Kind) (v : Opened) (front middle rest : List Object) (o p : Object) → OpensAs image kind v
+    → objects_of v.listings ≡ front ++ o ∷ (middle ++ p ∷ rest) → is_same_path o.path p.path ≡ false

@@ -3,17 +3,19 @@ use Rattle.std.specs.Prelude.{ℕ, ◌+◌, ◌-◌, ◌*◌, ◌/◌, ◌%◌, 
 use Rattle.std.specs.List.{range_with_len, flat_map, list_any}
 use Rattle.std.specs.Int.{div_ceil}
 use Rattle.fc_device.specs.Sectors.{sector_at}
-use Rattle.fc_names.specs.declared.NameForm.{NameForm}
-use Rattle.fc_names.specs.declared.NameForm.TheVariants.{Seven, Ten, Long}
+use Rattle.fc_names.specs.declared.name.NameForm.{NameForm}
+use Rattle.fc_names.specs.declared.name.NameForm.TheVariants.{Seven, Ten, Long}
 use Rattle.fc_record.specs.Record.{id_limit}
 use Rattle.fc_oldmap.specs.declared.Hole.{Hole}
 use Rattle.fc_oldmap.specs.OldMap.{FreeSpace, map_units}
 use Rattle.fc_newmap.specs.Map.{Map, id_runs, hole_runs, sectors_of, map_sectors}
 
+-- a disc by its map, an old one or a new one
 pub data Layout : Type 0 where
   Old : (space : FreeSpace) → Layout
   New : (map : Map) → Layout
 
+-- the bytes of a sector
 abbrev pub sector_bytes : Layout → ℕ
 sector_bytes (Old space) = 256 * space.sector_units
 sector_bytes (New m) = m.geometry.sector
@@ -31,9 +33,11 @@ disc_sectors (New m) = m.geometry.disc_bits * m.geometry.bit_bytes / m.geometry.
 
 -- ---- holes
 
+-- the sectors of a hole of an old map
 abbrev pub hole_sectors_in : ℕ → Hole → List ℕ
 hole_sectors_in units h = range_with_len (h.start / units) (h.len / units)
 
+-- the sectors that lie in holes
 abbrev pub hole_sectors : Layout → List ℕ
 hole_sectors (Old space) = flat_map (hole_sectors_in space.sector_units) space.holes
 hole_sectors (New m) = sectors_of m.geometry (hole_runs m)
@@ -49,6 +53,7 @@ map_place (New m) = map_sectors m.geometry
 abbrev pub id_of : ℕ → ℕ
 id_of address = address / 256
 
+-- the low byte of an address
 abbrev pub low_of : ℕ → ℕ
 low_of address = address % 256
 
@@ -56,6 +61,7 @@ low_of address = address % 256
 abbrev pub first_part : ℕ → List ℕ → Option (List ℕ)
 first_part n xs = if nat_le n (length xs) then Some (take n xs) else None
 
+-- an identifier's sectors, one run after another
 abbrev pub id_sectors : Map → ℕ → List ℕ
 id_sectors m id = sectors_of m.geometry (id_runs m id)
 
@@ -63,9 +69,11 @@ id_sectors m id = sectors_of m.geometry (id_runs m id)
 abbrev pub low_start : Map → ℕ → ℕ
 low_start m low = (low - 1) * (m.geometry.share / m.geometry.sector)
 
+-- Objects may have the identifier.
 abbrev pub is_object_id : Map → ℕ → Bool
 is_object_id m id = nat_le 2 id && nat_lt id (id_limit m.geometry)
 
+-- the sectors of bytes at an address of a new map, if the identifier has so many
 abbrev pub new_sectors : Map → ℕ → ℕ → Option (List ℕ)
 new_sectors m address bytes =
     if is_object_id m (id_of address)
@@ -81,6 +89,7 @@ old_sectors space address bytes =
     then Some (range_with_len first count)
     else None
 
+-- the sectors of one byte or more
 abbrev pub some_sectors : Layout → ℕ → ℕ → Option (List ℕ)
 some_sectors (Old space) address bytes = old_sectors space address bytes
 some_sectors (New m) address bytes = new_sectors m address bytes
@@ -93,6 +102,7 @@ sectors_at layout address bytes = if bytes == 0 then Some [] else some_sectors l
 unfoldable pub bytes_in : ℕ → List ℕ → List ℕ → ℕ → List ℕ
 bytes_in size image sectors n = take n (flat_map (sector_at size image) sectors)
 
+-- The sector is one of these.
 abbrev pub is_among : List ℕ → ℕ → Bool
 is_among sectors s = list_any (λ t. t == s) sectors
 

@@ -4,18 +4,20 @@ use Rattle.std.specs.List.{range_with_len}
 use Rattle.fc_device.specs.Sectors.{sector_at}
 use Rattle.fc_record.specs.declared.DiscRecord.{DiscRecord}
 use Rattle.fc_record.specs.declared.Kind.{Kind}
+use Rattle.fc_record.specs.declared.Kind.TheVariants.{Boot}
 use Rattle.fc_record.specs.Record.{is_valid}
 use Rattle.fc_record.specs.Kinds.{map_record, fits_kind}
 use Rattle.fc_newmap.specs.Map.{Map, IsMap, sector_of, id_runs, all_runs, sectors_of, map_sectors}
 use Rattle.fc_copies.specs.Copies.{Chooses, CommitLeaves}
-use Rattle.fc_image.specs.Layout.{Layout, dir_form, sectors_at, id_sectors, hole_sectors, is_among}
+use Rattle.fc_image.specs.Layout.{Layout, dir_form, sectors_at, id_sectors, hole_sectors, is_among, is_apart}
 use Rattle.fc_image.specs.Walk.{Object, Listing, object_size}
 use Rattle.fc_image.specs.Objects.{objects_of, tree_of, is_movable, is_owned}
-use Rattle.fc_image.specs.Opening.{Opened, is_hole_or_movable}
-use Rattle.fc_image.specs.Stays.{IsNewKind, OpensAs, StaysWhole, stored_objects, SameKindPlace, FixedStay, FixedBytesStay, SameOutsideHoles}
+use Rattle.fc_image.specs.Opening.{Opened, is_hole_or_movable, boot_place}
+use Rattle.fc_image.specs.Stays.{IsNewKind, OpensAs, StaysWhole, stored_objects, FixedStay, FixedBytesStay, SameOutsideHoles}
 
 -- ---- what is opened, where the map is another
 
+-- the sectors, if there are any
 abbrev pub sectors_or_none : Option (List ℕ) → List ℕ
 sectors_or_none None = []
 sectors_or_none (Some sectors) = sectors
@@ -24,6 +26,7 @@ sectors_or_none (Some sectors) = sectors
 abbrev pub object_in : Layout → Object → Object
 object_in layout o = record o { sectors = sectors_or_none (sectors_at layout o.entry.address (object_size (dir_form layout) o.entry)) }
 
+-- a directory and its objects by another layout
 abbrev pub listing_in : Layout → Listing → Listing
 listing_in layout l = record { object = object_in layout l.object; content = l.content; children = map (object_in layout) l.children }
 
@@ -85,6 +88,15 @@ pub record StaysBy (kind : Kind) (image : List ℕ) (v : Opened) (m' : Map) (oth
   pub fixed_bytes : FixedBytesStay v.layout (objects_of v.listings) image other
   pub owned : (k : ℕ) → is_owned (objects_of (with_map m' v).listings) k ≡ is_owned (objects_of v.listings) k
 
+-- The laws below take it that the second image passes the kind's own test. On a disc with a boot block it does, where no
+-- sector of the boot block holds the map and the images differ only in the map and in holes.
+abbrev pub BootStaysLaw : Type 0
+BootStaysLaw = (image other : List ℕ) (r : DiscRecord) (v : Opened) (m : Map) → is_valid r ≡ true → OpensAs image (Boot r) v → v.layout ≡ Layout.New m
+    → is_apart (boot_place (Boot r) m.geometry.sector) (map_sectors m.geometry) ≡ true → length other ≡ length image
+    → ((s : ℕ) → is_among (map_sectors m.geometry) s ≡ false → is_among (hole_sectors (Layout.New m)) s ≡ false
+    → sector_at m.geometry.sector other s ≡ sector_at m.geometry.sector image s)
+    → fits_kind other (Boot r) ≡ true
+
 -- Movable identifiers may move.
 abbrev pub CarryLaw : Type 0
 CarryLaw = (image other : List ℕ) (kind : Kind) (r : DiscRecord) (v : Opened) (m m' : Map) (f : ℕ → ℕ) → IsNewKind kind r → is_valid r ≡ true
@@ -116,6 +128,7 @@ pub record CanMove (m m' : Map) (objects : List Object) (id : ℕ) (image : List
   pub others : (k : ℕ) → (k ≡ id → ⊥) → id_runs m' k ≡ id_runs m k
   pub carried : Carried m.geometry.sector image image (hole_sectors (Layout.New m)) (id_sectors m id) (id_sectors m' id)
 
+-- a map that may be committed, since no sector moves
 pub record CanMerge (m m' : Map) (objects : List Object) : Type 0 where
   pub geometry_stays : m'.geometry ≡ m.geometry
   pub record_stays : map_record (sector_of m' 0) ≡ map_record (sector_of m 0)
@@ -136,7 +149,7 @@ CommitLaw = (image other : List ℕ) (kind : Kind) (r : DiscRecord) (v : Opened)
 -- what is written into holes
 abbrev pub HoleStepLaw : Type 0
 HoleStepLaw = (image other : List ℕ) (kind : Kind) (r : DiscRecord) (v : Opened) (m : Map) → IsNewKind kind r → is_valid r ≡ true
-    → OpensAs image kind v → v.layout ≡ Layout.New m → length other ≡ length image → SameKindPlace kind image other → SameOutsideHoles m.geometry.sector (Layout.New m) image other
+    → OpensAs image kind v → v.layout ≡ Layout.New m → length other ≡ length image → SameOutsideHoles m.geometry.sector (Layout.New m) image other
     → StaysBy kind image v m other
 
 -- one step after others
@@ -153,12 +166,14 @@ abbrev pub KeepsObjects : List ℕ → List ℕ → Type 0
 KeepsObjects image other = (kind : Kind) (r : DiscRecord) (v : Opened) (m : Map) → IsNewKind kind r → is_valid r ≡ true → OpensAs image kind v → v.layout ≡ Layout.New m
     → (m' : Map) × StaysBy kind image v m' other
 
+-- It holds of an image and itself, and of the first and the last of three images.
 pub record KeepsObjectsLaw : Type 0 where
   pub same : (image : List ℕ) → KeepsObjects image image
   pub after : (first second third : List ℕ) → KeepsObjects first second → KeepsObjects second third → KeepsObjects first third
 
 -- ---- sectors that are carried, piece by piece
 
+-- how sectors that are carried are put together
 pub record CarriedLaw : Type 0 where
   -- what isn't moved has its bytes,
   pub stay : (size : ℕ) (image other holes xs : List ℕ) → ((s : ℕ) → is_among xs s ≡ true → sector_at size other s ≡ sector_at size image s)

@@ -42,6 +42,7 @@ byte_compared r at = if at == 40 then slice_index r.raw at % 16 else slice_index
 abbrev pub difference : DiscRecord → DiscRecord → Option ℕ
 difference r s = find (λ at. not (byte_compared r at == byte_compared s at)) compared_offsets
 
+-- the map's own record, where it agrees with the kind's and has a right root
 abbrev pub agreement : DiscRecord → DiscRecord → Option ℕ → Result DiscRecord ImageFault
 agreement r s (Some at) = Err (faults.Differs at)
 agreement r s None =
@@ -49,10 +50,12 @@ agreement r s None =
     else if not (is_root_size_right s) then Err (faults.Bad 48)
     else Ok s
 
+-- the map of these zones, unless one is faulty
 abbrev pub zones_or : Geometry → List (List ℕ) → Option ZoneFault → Result Map ImageFault
 zones_or g zones (Some fault) = Err (faults.Zone fault.zone fault.bit)
 zones_or g zones None = Ok (record { geometry = g; zones = zones })
 
+-- the copy that counts, or the fault of both
 abbrev pub copy_or : Result Which (ℕ × ℕ) → Result Which ImageFault
 copy_or (Ok which) = Ok which
 copy_or (Err wrong) = Err (faults.Copies wrong.0 wrong.1)
@@ -70,14 +73,17 @@ new_layout image r = do
   m ← zones_or (geometry r) zones (first_fault (geometry r) (zip (zone_numbers (geometry r)) zones))
   Ok (Layout.New m, own.root, own.root_size)
 
+-- what was found, unless a hole is wrong
 abbrev pub holes_or : MapAndRoot → Option ℕ → Result MapAndRoot ImageFault
 holes_or found None = Ok found
 holes_or found (Some index) = Err (faults.Hole index)
 
+-- the layout of an old map, with the root at its fixed place
 abbrev pub old_layout : List ℕ → ℕ → ℕ → Result MapAndRoot ImageFault
 old_layout image sector_units root =
     holes_or (Layout.Old (free_space image sector_units), root, 0) (hole_fault image sector_units)
 
+-- the map and the root of an image, as a disc of the kind
 abbrev pub map_and_root : List ℕ → Kind → Result MapAndRoot ImageFault
 map_and_root image (Boot r) = new_layout image r
 map_and_root image (OneZone r) = new_layout image r
@@ -93,6 +99,7 @@ boot_place (OneZone r) sector = []
 boot_place DiscD sector = []
 boot_place (DiscL units) sector = []
 
+-- what no object may take: the map, and a boot block or an old map's holes
 abbrev pub reserved_in : Kind → Layout → List ℕ
 reserved_in kind (Layout.Old space) = map_place (Layout.Old space) ++ hole_sectors (Layout.Old space)
 reserved_in kind (Layout.New m) = map_place (Layout.New m) ++ boot_place kind m.geometry.sector
@@ -102,10 +109,12 @@ abbrev pub is_hole_or_movable : List Object → RunKind → Bool
 is_hole_or_movable objects kinds.Hole = true
 is_hole_or_movable objects (kinds.Id id) = is_movable objects id
 
+-- the lesser number
 abbrev pub least_or : ℕ → Option ℕ → ℕ
 least_or n None = n
 least_or n (Some m) = min n m
 
+-- the least number of a list
 abbrev pub least_of : List ℕ → Option ℕ
 least_of [] = None
 least_of (n ∷ ns) = Some (least_or n (least_of ns))
@@ -117,12 +126,14 @@ misplaced_sector kind (Layout.New m) objects =
     let misplaced = sectors_of m.geometry (filter (λ p. is_hole_or_movable objects p.1.kind) (all_runs m)) in
     least_of (filter (is_among misplaced) (reserved_in kind (Layout.New m)))
 
+-- what was opened, unless a sector of the map is misplaced
 abbrev pub unless_misplaced : Opened → Option ℕ → Result Opened ImageFault
 unless_misplaced v None = Ok v
 unless_misplaced v (Some sector) = Err (faults.MapPlace sector)
 
 -- ---- opening
 
+-- what an image opens as, where it passes the test of the kind and is long enough
 abbrev pub open_parts : List ℕ → Kind → Result Opened ImageFault
 open_parts image kind = do
   found ← map_and_root image kind
@@ -135,6 +146,7 @@ open_as image kind =
     if not (fits_kind image kind) then Err faults.NoKind
     else if nat_lt (length image) (disc_size kind) then Err (faults.Short (disc_size kind) (length image)) else open_parts image kind
 
+-- the image as a disc of the kind, if it has one
 abbrev pub open_as_some : List ℕ → Option Kind → Result Opened ImageFault
 open_as_some image None = Err faults.NoKind
 open_as_some image (Some kind) = open_as image kind
@@ -143,5 +155,6 @@ open_as_some image (Some kind) = open_as image kind
 unfoldable pub open_image : List ℕ → Result Opened ImageFault
 open_image image = open_as_some image (kind_of image)
 
+-- The image opens as a disc of its kind.
 abbrev pub IsAccepted : List ℕ → Type 0
 IsAccepted image = (v : Opened) × (open_image image ≡ Ok v)

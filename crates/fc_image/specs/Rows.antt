@@ -11,10 +11,12 @@ use Rattle.fc_image.specs.Report.{Counts, counts}
 use Rattle.fc_record.specs.declared.Kind.TheVariants.{DiscD, DiscL}
 use Rattle.fc_image.specs.Opening.{Opened, open_image, open_as}
 
+-- the fault of an image that does not open
 abbrev pub fault_of : Result Opened ImageFault → Option ImageFault
 fault_of (Ok v) = None
 fault_of (Err fault) = Some fault
 
+-- the counts of an image that opens
 abbrev pub counts_of : Result Opened ImageFault → Option Counts
 counts_of (Ok v) = Some (counts v)
 counts_of (Err fault) = None
@@ -25,6 +27,7 @@ small_sector low high runs = sealed (
     (0 ∷ low ∷ high ∷ 0xFF ∷ 0x0A ∷ 0x05 ∷ 0x02 ∷ 0x02 ∷ 0x0F ∷ 0x07 ∷ 0x01 ∷ 0x00 ∷ 0x00 ∷ 0x01 ∷ 0x20 ∷ 0x05 ∷ 0x03 ∷ 0x02 ∷ 0x00 ∷ 0x00 ∷ 0x00 ∷ 0x20 ∷ 0x00 ∷ [])
     ++ replicate 41 0 ++ (0x02 ∷ 0x00 ∷ 0x00 ∷ 0x80 ∷ []) ++ runs ++ replicate 952 0)
 
+-- an E of eight sectors: two copies, the root, and four sectors more
 abbrev pub e_image : List ℕ → List ℕ → List ℕ → List ℕ
 e_image first second root = first ++ second ++ root ++ replicate 4096 0
 
@@ -44,6 +47,7 @@ used_sector = small_sector 0x28 0x82 (3 ∷ 0x80 ∷ 0 ∷ 0x80 ∷ [])
 abbrev pub unsealed_root : List ℕ → List ℕ
 unsealed_root entry = take 5 e_root ++ entry ++ drop 31 e_root
 
+-- the same with its check
 abbrev pub e_root_with : List ℕ → List ℕ
 e_root_with entry = take 2047 (unsealed_root entry) ++ small_dir_check (unsealed_root entry) 31 ∷ []
 
@@ -58,6 +62,7 @@ least_l =
     ++ (0 ∷ 72 ∷ 117 ∷ 103 ∷ 111 ∷ []) ++ replicate 1223 0 ++ (36 ∷ 13 ∷ []) ++ replicate 8 0 ++ (2 ∷ 0 ∷ 0 ∷ []) ++ (36 ∷ 13 ∷ []) ++ replicate 17 0
     ++ replicate 14 0 ++ (0 ∷ 72 ∷ 117 ∷ 103 ∷ 111 ∷ 0 ∷ [])
 
+-- images, and what they open as
 pub record ImageRows : Type 0 where
   pub nothing : fault_of (open_image []) ≡ Some faults.NoKind
   pub small : counts_of (open_image least_l) ≡ Some (record { files = 0; dirs = 1; lost = 0; holes = 0; free = 0; unsorted = 0; parents = 0 })

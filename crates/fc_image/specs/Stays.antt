@@ -26,6 +26,7 @@ OpensAs image kind v = open_as image kind ≡ Ok v
 abbrev pub is_fixed : List Object → ℕ → Bool
 is_fixed objects id = (id == 1) || (id == 2) || is_lost objects id
 
+-- a run of such an identifier
 abbrev pub is_fixed_run : List Object → RunKind → Bool
 is_fixed_run objects kinds.Hole = false
 is_fixed_run objects (kinds.Id id) = is_fixed objects id
@@ -35,10 +36,12 @@ abbrev pub fixed_sectors : Map → List Object → List ℕ
 fixed_sectors m objects =
     filter (λ s. not (is_among (map_place (Layout.New m)) s)) (sectors_of m.geometry (filter (λ p. is_fixed_run objects p.1.kind) (all_runs m)))
 
+-- On a new map they keep their runs.
 abbrev pub FixedStay : Layout → Layout → List Object → Type 0
 FixedStay (Layout.New m) (Layout.New m') objects = (id : ℕ) → is_fixed objects id ≡ true → id_runs m' id ≡ id_runs m id
 FixedStay _ _ objects = ⊥
 
+-- On a new map they keep their bytes outside the map.
 abbrev pub FixedBytesStay : Layout → List Object → List ℕ → List ℕ → Type 0
 FixedBytesStay (Layout.New m) objects old new = All (λ s. sector_at m.geometry.sector new s ≡ sector_at m.geometry.sector old s) (fixed_sectors m objects)
 FixedBytesStay _ objects old new = ⊥
@@ -76,6 +79,7 @@ abbrev pub HasEqualCopies : List ℕ → Layout → Type 0
 HasEqualCopies image (Layout.New m) = HoldsCopies m.geometry m.zones image
 HasEqualCopies image (Layout.Old space) = Unit {0}
 
+-- The layout is a new map.
 abbrev pub IsNewLayout : Layout → Type 0
 IsNewLayout (Layout.New m) = Unit {0}
 IsNewLayout (Layout.Old space) = ⊥
@@ -124,5 +128,5 @@ SameOutsideHoles size layout image other = (s : ℕ) → is_among (hole_sectors 
 -- An image that differs only in sectors that lie in holes opens as the same, with the same objects.
 abbrev pub HoleWriteLaw : Type 0
 HoleWriteLaw = (image other : List ℕ) (kind : Kind) (r : DiscRecord) (v : Opened) → IsNewKind kind r → is_valid r ≡ true → OpensAs image kind v
-    → length other ≡ length image → SameKindPlace kind image other → SameOutsideHoles (geometry r).sector v.layout image other
+    → length other ≡ length image → SameOutsideHoles (geometry r).sector v.layout image other
     → OpensAs other kind v × (stored_objects other v ≡ stored_objects image v)

@@ -1,6 +1,6 @@
 -- The walk over the directories of an image, the root first, the others in the order in which they are found.
 use Rattle.std.specs.Prelude.{ℕ, zero, suc, ◌+◌, Bool, List, [], ◌∷◌, ◌++◌, filter, if◌then◌else◌, Option, Some, None, Result, Ok, Err}
-use Rattle.fc_names.specs.declared.NameForm.{NameForm}
+use Rattle.fc_names.specs.declared.name.NameForm.{NameForm}
 use Rattle.fc_names.specs.Names.{Path, is_directory}
 use Rattle.fc_dirs.specs.declared.Entry.{Entry}
 use Rattle.fc_dirs.specs.declared.DirFault.{DirFault}
@@ -10,6 +10,7 @@ use Rattle.fc_image.specs.declared.ImageFault.TheVariants as faults
 use Rattle.fc_image.specs.Layout.{Layout, sector_bytes, disc_sectors, dir_form, sectors_at, bytes_in, is_apart}
 
 infixl 10 ◌>>=◌
+-- what comes after a value, or the first fault
 abbrev pub ◌>>=◌ : {A B : Type 0} → Result A ImageFault → (A → Result B ImageFault) → Result B ImageFault
 (Ok x) >>= f = f x
 (Err fault) >>= f = Err fault
@@ -30,6 +31,7 @@ pub record Listing : Type 0 where
 abbrev pub object_size : NameForm → Entry → ℕ
 object_size form e = if is_directory e.attrs then directory_size form e.len else e.len
 
+-- an object's bytes
 abbrev pub object_bytes : List ℕ → Layout → Object → List ℕ
 object_bytes image layout o = bytes_in (sector_bytes layout) image o.sectors (object_size (dir_form layout) o.entry)
 
@@ -39,6 +41,7 @@ placed_on taken path e None = Err (faults.Place path)
 placed_on taken path e (Some sectors) =
     if is_apart sectors taken then Ok (record { path = path; entry = e; sectors = sectors }) else Err (faults.Overlap path)
 
+-- the object of an entry, if its address leads to sectors that aren't taken
 abbrev pub object_of : Layout → List ℕ → Path → Entry → Result Object ImageFault
 object_of layout taken path e = placed_on taken path e (sectors_at layout e.address (object_size (dir_form layout) e))
 
@@ -58,10 +61,12 @@ Reader = Object → Result Directory DirFault
 abbrev pub reader_of : List ℕ → Layout → Reader
 reader_of image layout o = directory_of (dir_form layout) (object_bytes image layout o)
 
+-- the fault of a directory at its path
 abbrev pub at_path : Path → Result Directory DirFault → Result Directory ImageFault
 at_path path (Ok dir) = Ok dir
 at_path path (Err fault) = Err (faults.Directory path fault)
 
+-- The object is a directory.
 abbrev pub is_directory_object : Object → Bool
 is_directory_object o = is_directory o.entry.attrs
 
@@ -77,6 +82,7 @@ listings_from read layout (suc fuel) taken (o ∷ waiting) = do
   others ← listings_from read layout fuel children.1 (waiting ++ filter is_directory_object children.0)
   Ok (record { object = o; content = content; children = children.0 } ∷ others)
 
+-- the entry that the root would have
 abbrev pub root_entry : ℕ → ℕ → Entry
 root_entry address size = record { name = 36 ∷ []; load = 0; exec = 0; len = size; address = address; attrs = 8; last = 0 }
 

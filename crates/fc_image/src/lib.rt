@@ -6,8 +6,8 @@
 
 ghost use Rattle.fc_image.specs.Laws.{OpensLaw, WalkLaw};
 ghost use Rattle.fc_image.specs.Rows.{ImageRows};
-ghost use Rattle.fc_image.specs.Edits.{ApartLaw, EditLaw, RoomLaw, StayLaw, WalkEditLaw, WalkFormLaw};
-ghost use Rattle.fc_image.specs.Moves.{CarriedLaw, CarryLaw, CommitLaw, HoleStepLaw, KeepsObjectsLaw, MergeLaw, MoveLaw, ThenLaw, WholeLaw, WithMapLaw};
+ghost use Rattle.fc_image.specs.Edits.{ApartLaw, EditLaw, PathsLaw, RoomLaw, StayLaw, WalkEditLaw, WalkFormLaw};
+ghost use Rattle.fc_image.specs.Moves.{BootStaysLaw, CarriedLaw, CarryLaw, CommitLaw, HoleStepLaw, KeepsObjectsLaw, MergeLaw, MoveLaw, ThenLaw, WholeLaw, WithMapLaw};
 ghost use Rattle.fc_image.specs.Stays.{FreeLaw, HoleWriteLaw, HolesLaw, StoredLaw};
 
 use fc_dirs::DirFault;
@@ -73,6 +73,11 @@ pub fn holes()
 /// What is written into holes leaves the image as it opens.
 pub fn hole_writes()
     ensures { HoleWriteLaw }
+{}
+
+/// A disc with a boot block keeps its kind, where only the map and holes change.
+pub fn boot_stays()
+    ensures { BootStaysLaw }
 {}
 
 /// Movable identifiers may move, any number at once.
@@ -153,4 +158,9 @@ pub fn walk_edits()
 /// What an image says, another says that has the directories' sectors and the objects' places.
 pub fn listed()
     ensures { StayLaw }
+{}
+
+/// No two objects of an opened image have paths that fold to one.
+pub fn paths()
+    ensures { PathsLaw }
 {}

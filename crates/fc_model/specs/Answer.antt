@@ -2,15 +2,16 @@
 use Rattle.std.specs.Prelude.{ℕ, ◌+◌, ◌*◌, ◌/◌, ◌%◌, Bool, false, not, ◌&&◌, ◌||◌, ◌==◌, nat_lt, List, [], ◌∷◌, ◌++◌, length, map, drop, replicate, Option, Some, None, is_some, Result, Ok, Err, if◌then◌else◌}
 use Rattle.std.specs.Option.{option_map_or}
 use Rattle.std.specs.FinMap.{entries, insert, remove, from_entries}
-use Rattle.fc_names.specs.declared.NameForm.{NameForm}
-use Rattle.fc_names.specs.declared.Refusal.{Refusal}
-use Rattle.fc_names.specs.declared.Refusal.TheVariants as refusals
+use Rattle.fc_names.specs.declared.name.NameForm.{NameForm}
+use Rattle.fc_names.specs.declared.refusal.Refusal.{Refusal}
+use Rattle.fc_names.specs.declared.refusal.Refusal.TheVariants as refusals
 use Rattle.fc_names.specs.Names.{Path, folded_path, is_same_path, is_writable, is_locked}
 use Rattle.fc_model.specs.Tree.{Body, Node, Tree, node_at, is_directory_body, holder, last_name, is_prefix, children}
 use Rattle.fc_model.specs.Command.{Command}
 
 -- ---- where a path leads
 
+-- the node there, or that nothing is
 abbrev pub node_or_absent : Option Node → Result Node Refusal
 node_or_absent None = Err refusals.NotFound
 node_or_absent (Some node) = Ok node
@@ -24,9 +25,11 @@ found_below t seen (name ∷ names) = below (node_at t seen) (found_below t (see
     below None further = Err refusals.NotFound
     below (Some node) further = if is_directory_body node.body then further else Err refusals.NotDirectory
 
+-- the node at a path, or why there is none
 abbrev pub found : Tree → Path → Result Node Refusal
 found t path = found_below t [] path
 
+-- why nothing was found
 abbrev pub refusal_of : Result Node Refusal → Option Refusal
 refusal_of (Ok node) = None
 refusal_of (Err refusal) = Some refusal
@@ -35,6 +38,7 @@ refusal_of (Err refusal) = Some refusal
 abbrev pub path_refusal : Tree → Path → Option Refusal
 path_refusal t path = refusal_of (found t path)
 
+-- why a path can hold nothing: it leads nowhere, or to a file
 abbrev pub refusal_of_holder : Result Node Refusal → Option Refusal
 refusal_of_holder (Ok node) = if is_directory_body node.body then None else Some refusals.NotDirectory
 refusal_of_holder (Err refusal) = Some refusal
@@ -46,24 +50,31 @@ holder_refusal t (name ∷ names) = refusal_of_holder (found t (holder (name ∷
 
 -- ---- tests
 
+-- There is a node that passes the test.
 abbrev pub node_passes : (Node → Bool) → Tree → Path → Bool
 node_passes test t path = option_map_or test (node_at t path) false
 
+-- An object is there.
 abbrev pub is_present : Tree → Path → Bool
 is_present t path = is_some (node_at t path)
 
+-- A directory is there.
 abbrev pub is_directory_at : Tree → Path → Bool
 is_directory_at t path = node_passes (λ n. is_directory_body n.body) t path
 
+-- A file is there.
 abbrev pub is_file_at : Tree → Path → Bool
 is_file_at t path = node_passes (λ n. not (is_directory_body n.body)) t path
 
+-- An object is there that has the Locked bit.
 abbrev pub is_locked_at : Tree → Path → Bool
 is_locked_at t path = node_passes (λ n. is_locked n.attrs) t path
 
+-- The path is the root.
 abbrev pub is_root : Path → Bool
 is_root path = length path == 0
 
+-- The directory there holds something.
 abbrev pub has_entries : Tree → Path → Bool
 has_entries t path = nat_lt 0 (length (children t path))
 
@@ -77,9 +88,11 @@ is_name_bad form path = not (is_root path || is_writable form (last_name path))
 
 -- ---- refusals
 
+-- the refusal, where the test holds
 abbrev pub when : Bool → Refusal → Option Refusal
 when test refusal = if test then Some refusal else None
 
+-- the first refusal of all
 abbrev pub first_of : List (Option Refusal) → Option Refusal
 first_of [] = None
 first_of (None ∷ rest) = first_of rest
@@ -131,6 +144,7 @@ with_file t path load exec bytes =
       body = Body.File bytes;
     })
 
+-- a new directory has attributes 8 and words 0
 abbrev pub with_directory : Tree → Path → Tree
 with_directory t path = insert t (folded_path path) (record { name = last_name path; attrs = 8; load = 0; exec = 0; body = Body.Directory })
 
@@ -143,6 +157,7 @@ moved_entry from to e =
     renamed : Node
     renamed = if length e.0 == length from then record e.1 { name = last_name to } else e.1
 
+-- the map in which what is at or below a path is at or below another
 abbrev pub with_moved : Tree → Path → Path → Tree
 with_moved t from to = from_entries (map (moved_entry from to) (entries t))
 
@@ -154,6 +169,7 @@ with_words load exec access node = record node { attrs = node.attrs / 8 * 8 + ac
 abbrev pub with_attrs : ℕ → Node → Node
 with_attrs attrs node = record node { attrs = attrs / 16 * 16 + 8 * (node.attrs / 8 % 2) + attrs % 8 }
 
+-- the map after a command that is accepted
 abbrev pub changed : Tree → Command → Tree
 changed t (Command.Cat path) = t
 changed t (Command.Load path) = t
@@ -170,6 +186,7 @@ changed t Command.Check = t
 changed t Command.Compact = t
 changed t Command.Reclaim = t
 
+-- the refusal, or else the map
 abbrev pub answer_or : Tree → Option Refusal → Result Tree Refusal
 answer_or t None = Ok t
 answer_or t (Some refusal) = Err refusal

@@ -5,10 +5,12 @@ use Rattle.std.specs.Str.{bytes_eq}
 use Rattle.std.specs.FinMap.{FinMap, entries, get}
 use Rattle.fc_names.specs.Names.{Path, folded, folded_path, key_cmp}
 
+-- a list of bytes, or that it is a directory
 pub data Body : Type 0 where
   File : (bytes : List ℕ) → Body
   Directory : Body
 
+-- an object of a tree, with its name as it is spelled
 pub record Node : Type 0 where
   pub name : List ℕ
   pub attrs : ℕ
@@ -16,16 +18,20 @@ pub record Node : Type 0 where
   pub exec : ℕ
   pub body : Body
 
+-- a map from folded paths to nodes
 abbrev pub Tree : Type 0
 Tree = FinMap key_cmp Node
 
+-- the node at a path
 abbrev pub node_at : Tree → Path → Option Node
 node_at t path = get t (folded_path path)
 
+-- The node is a directory.
 abbrev pub is_directory_body : Body → Bool
 is_directory_body (File bytes) = false
 is_directory_body Directory = true
 
+-- the root's node
 abbrev pub root_node : Node
 root_node = record { name = 36 ∷ []; attrs = 8; load = 0; exec = 0; body = Directory }
 
@@ -33,6 +39,7 @@ root_node = record { name = 36 ∷ []; attrs = 8; load = 0; exec = 0; body = Dir
 abbrev pub holder : Path → Path
 holder path = take (length path - 1) path
 
+-- the last name of a path, and none of the root
 abbrev pub last_name : Path → List ℕ
 last_name [] = []
 last_name (name ∷ []) = name

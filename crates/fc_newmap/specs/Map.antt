@@ -23,9 +23,11 @@ pub record Map : Type 0 where
 abbrev pub shape : Geometry → ℕ → ZoneShape
 shape g z = record { zone = z; first = first_bit z; end = end_bit g z; base = base g z; idlen = g.idlen; q = g.q; min = g.min }
 
+-- the numbers of the zones
 abbrev pub zone_numbers : Geometry → List ℕ
 zone_numbers g = range_with_len 0 g.zones
 
+-- the sector of zone z
 abbrev pub sector_of : Map → ℕ → List ℕ
 sector_of m z = slice_index_or m.zones z []
 
@@ -54,6 +56,7 @@ ZoneRun = ℕ × Run
 abbrev pub runs_of : Map → ℕ → List Run
 runs_of m z = runs_in_sector (shape m.geometry z) (sector_of m z)
 
+-- the runs of some zones
 abbrev pub runs_in : Map → List ℕ → List ZoneRun
 runs_in m zones = flat_map (λ z. map (λ run. (z, run)) (runs_of m z)) zones
 
@@ -61,10 +64,12 @@ runs_in m zones = flat_map (λ z. map (λ run. (z, run)) (runs_of m z)) zones
 abbrev pub all_runs : Map → List ZoneRun
 all_runs m = runs_in m (zone_numbers m.geometry)
 
+-- The run is a hole.
 abbrev pub is_hole : RunKind → Bool
 is_hole Hole = true
 is_hole (Id id) = false
 
+-- The run is one of this identifier.
 abbrev pub has_id : ℕ → RunKind → Bool
 has_id id Hole = false
 has_id id (Id other) = other == id
@@ -94,6 +99,7 @@ is_used m id = list_any (λ p. has_id id p.1.kind) (all_runs m)
 abbrev pub bits_in : List ZoneRun → ℕ
 bits_in runs = sum_by (λ p. p.1.len) runs
 
+-- the bits of the longest run
 abbrev pub longest : List ZoneRun → ℕ
 longest runs = fold (λ n p. max n p.1.len) 0 runs
 
@@ -103,12 +109,15 @@ longest runs = fold (λ n p. max n p.1.len) 0 runs
 abbrev pub disc_bit : Geometry → ZoneRun → ℕ
 disc_bit g p = base g p.0 + (p.1.start - first_bit p.0)
 
+-- the sector at which a run begins
 abbrev pub first_sector : Geometry → ZoneRun → ℕ
 first_sector g p = disc_bit g p * g.bit_bytes / g.sector
 
+-- how many sectors it takes
 abbrev pub sector_count : Geometry → ZoneRun → ℕ
 sector_count g p = p.1.len * g.bit_bytes / g.sector
 
+-- a run's sectors
 abbrev pub run_sectors : Geometry → ZoneRun → List ℕ
 run_sectors g p = range_with_len (first_sector g p) (sector_count g p)
 

@@ -7,12 +7,15 @@ use Rattle.fc_zone.specs.declared.Run.{Run}
 use Rattle.fc_zone.specs.declared.RunKind.{RunKind}
 use Rattle.fc_newmap.specs.Map.{Map, hole_runs, id_runs, bit_extents, search_order, bits_in, sectors_of, run_at}
 
+-- a run
 abbrev pub run : ℕ → ℕ → RunKind → Run
 run start len kind = record { start = start; len = len; kind = kind }
 
+-- the map of a fresh E
 abbrev pub e_map : Map
 e_map = record { geometry = e; zones = e_sector ∷ [] }
 
+-- what this map has
 pub record MapRows : Type 0 where
   pub holes : hole_runs e_map ≡ (0, run 544 6368 Hole) ∷ []
   -- the free space of a fresh E

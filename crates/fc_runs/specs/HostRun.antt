@@ -3,8 +3,8 @@ use Rattle.std.specs.Prelude.{◌≡◌, ◌⊎◌, ℕ, Bool, true, false, ◌|
 use Rattle.std.specs.Ordering.{nat_cmp}
 use Rattle.std.specs.Cmp.Lexicographic.{slice_cmp}
 use Rattle.std.specs.FinMap.{FinMap, get, insert}
-use Rattle.fc_names.specs.declared.Refusal.{Refusal}
-use Rattle.fc_names.specs.declared.Refusal.TheVariants as refusals
+use Rattle.fc_names.specs.declared.refusal.Refusal.{Refusal}
+use Rattle.fc_names.specs.declared.refusal.Refusal.TheVariants as refusals
 use Rattle.fc_names.specs.Names.{Path}
 use Rattle.fc_model.specs.Tree.{Tree, node_at}
 use Rattle.fc_model.specs.Command.{Command}
@@ -24,6 +24,7 @@ Files = FinMap (slice_cmp nat_cmp) (List ℕ)
 abbrev pub HostRefuses : State → Files → Refusal → List ℕ → State → Files → Type 0
 HostRefuses s files refusal reply s' files' = Refuses s (refusal_line refusal) reply s' × (files' ≡ files)
 
+-- what `put` does where the model accepts it
 abbrev pub PutsFile : Mode → State → Files → (List ℕ → Command) → Option (List ℕ) → List ℕ → State → Files → Type 0
 PutsFile mode s files save None reply s' files' = HostRefuses s files refusals.NoHostFile reply s' files'
 PutsFile mode s files save (Some bytes) reply s' files' = fits (nat_lt 1073741824 (length bytes))
@@ -47,9 +48,11 @@ Gets s files host bytes false (Ok t) reply s' files' = (reply ≡ ok_line) × (s
 abbrev pub answer_in : Mode → State → Command → Result Tree Refusal
 answer_in mode s c = answer (tree_in s) (dir_form s.view.layout) mode.read_only c
 
+-- the bytes of the file at a path
 abbrev pub file_in : State → Path → List ℕ
 file_in s path = bytes_of (node_at (tree_in s) path)
 
+-- a line: no command, a file to be moved, or a command
 abbrev pub HostTakes : Mode → State → Files → Result HostLine Refusal → List ℕ → State → Files → Type 0
 HostTakes mode s files (Err refusal) reply s' files' = HostRefuses s files refusal reply s' files'
 HostTakes mode s files (Ok (HostLine.Put host path load exec)) reply s' files' =
@@ -58,6 +61,7 @@ HostTakes mode s files (Ok (HostLine.Get path host)) reply s' files' =
     Gets s files host (file_in s path) (is_some (get files host)) (answer_in mode s (Command.Load path)) reply s' files'
 HostTakes mode s files (Ok (HostLine.Other command)) reply s' files' = Takes mode s (Ok command) reply s' × (files' ≡ files)
 
+-- a line as a step, with the files of the host
 abbrev pub HostStep : Mode → State → Files → List ℕ → List ℕ → State → Files → Type 0
 HostStep mode s files line reply s' files' = HostTakes mode s files (host_line_of line) reply s' files'
 
@@ -90,12 +94,14 @@ FilesLeft mode s files line left = (left ≡ files) ⊎ HasPartOf mode s files (
 
 -- ---- stops
 
+-- a line that leaves the tree as it is
 abbrev pub host_keeps_tree : Bool → Result HostLine Refusal → Bool
 host_keeps_tree refused (Ok (HostLine.Get path host)) = true
 host_keeps_tree refused (Ok (HostLine.Put host path load exec)) = refused
 host_keeps_tree refused (Ok (HostLine.Other command)) = refused || keeps_tree command
 host_keeps_tree refused (Err refusal) = true
 
+-- Every line that is not refused leaves the tree.
 abbrev pub all_host_keep_tree : List (List ℕ) → List (List ℕ) → Bool
 all_host_keep_tree (line ∷ lines) (reply ∷ replies) = host_keeps_tree (is_error reply) (host_line_of line) && all_host_keep_tree lines replies
 all_host_keep_tree _ _ = true

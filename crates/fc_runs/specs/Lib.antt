@@ -3,3 +3,4 @@ pub mod Replies
 pub mod Demo
 pub mod Rows
 pub mod HostRun
+pub mod ReadLaw

@@ -4,10 +4,11 @@ use Rattle.fc_dirs.specs.declared.DirFault.TheVariants as dirs
 use Rattle.fc_image.specs.declared.ImageFault.TheVariants as faults
 use Rattle.fc_runs.specs.Replies.{bad_image_line}
 use Rattle.fc_runs.specs.Demo.{next_seed, draw, demo_script}
-use Rattle.fc_names.specs.declared.Refusal.TheVariants.{NotNewMap}
+use Rattle.fc_names.specs.declared.refusal.Refusal.TheVariants.{NotNewMap}
 use Rattle.fc_script.specs.Texts.{refusal_line}
 use Rattle.fc_runs.specs.Run.{is_error, whole_replies}
 
+-- demos, replies and runs
 pub record RunRows : Type 0 where
   pub first : draw (next_seed 1) ≡ 16838
   pub second : draw (next_seed (next_seed 1)) ≡ 5758

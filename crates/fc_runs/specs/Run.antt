@@ -6,8 +6,8 @@ use Rattle.std.specs.Fmt.{decimal}
 use Rattle.hex.specs.Hex.{encode_lower}
 use Rattle.sha2.specs.Sha256.{sha256}
 use Rattle.fc_record.specs.declared.Kind.{Kind}
-use Rattle.fc_names.specs.declared.Refusal.{Refusal}
-use Rattle.fc_names.specs.declared.Refusal.TheVariants as refusals
+use Rattle.fc_names.specs.declared.refusal.Refusal.{Refusal}
+use Rattle.fc_names.specs.declared.refusal.Refusal.TheVariants as refusals
 use Rattle.fc_model.specs.Tree.{Tree}
 use Rattle.fc_model.specs.Command.{Command}
 use Rattle.fc_model.specs.Answer.{answer, first_of}
@@ -32,6 +32,7 @@ pub record Mode : Type 0 where
 
 -- ---- effects
 
+-- what a changing command does, in either mode
 abbrev pub ChangesBy : Bool → Kind → State → State → Command → Tree → Type 0
 ChangesBy true kind s s' c t = SafeChanges kind s s' c t
 ChangesBy false kind s s' c t = Changes kind s s' c t
@@ -54,10 +55,12 @@ reply_of s c s' = reply_to (tree_in s) s.view c
 
 -- ---- refusals by the layout
 
+-- a refusal by the map
 abbrev pub layout_reason : Layout → Command → Option Refusal
 layout_reason (Layout.Old space) Command.Reclaim = Some refusals.NotNewMap
 layout_reason layout c = None
 
+-- the line of a refusal of the safe mode
 abbrev pub safe_line : SafeRefusal → List ℕ
 safe_line (SafeRefusal.Refused refusal) = refusal_line refusal
 safe_line (SafeRefusal.Spread zones) = error_line 17 (codes "Spread")
@@ -88,6 +91,7 @@ abbrev pub Takes : Mode → State → Result Command Refusal → List ℕ → St
 Takes mode s (Err refusal) reply s' = Refuses s (refusal_line refusal) reply s'
 Takes mode s (Ok c) reply s' = Answers mode s c (answer (tree_in s) (dir_form s.view.layout) mode.read_only c) reply s'
 
+-- a line as a step from one image to the next
 abbrev pub Step : Mode → State → List ℕ → List ℕ → State → Type 0
 Step mode s line reply s' = Takes mode s (command_of line) reply s'
 
@@ -101,9 +105,11 @@ Steps May mode s (line ∷ lines) [] s' = ⊥
 
 -- ---- texts
 
+-- the lines that have a reply
 abbrev pub commands_in : List ℕ → List (List ℕ)
 commands_in script = filter is_command_line (lines_of script)
 
+-- the replies in order
 abbrev pub text_of : List (List ℕ) → List ℕ
 text_of replies = flat_map (λ reply. reply) replies
 
@@ -122,6 +128,7 @@ abbrev pub script_for : Option ℕ → List ℕ → List ℕ
 script_for None script = script
 script_for (Some n) script = demo_script n
 
+-- the text that is written
 abbrev pub text_for : Option ℕ → List (List ℕ) → List ℕ
 text_for None replies = text_of replies
 text_for (Some n) replies = demo_line n replies
@@ -146,6 +153,7 @@ keeps_tree Command.Compact = true
 keeps_tree Command.Reclaim = true
 keeps_tree _ = false
 
+-- a line that leaves the tree as it is
 abbrev pub keeps_tree_or : Bool → Result Command Refusal → Bool
 keeps_tree_or refused (Err refusal) = true
 keeps_tree_or refused (Ok c) = refused || keeps_tree c

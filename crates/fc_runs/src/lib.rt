@@ -2,9 +2,15 @@
 //! of the host; the script of a demo; and what a stop or an early end leaves.
 #![tactic(auto)]
 
+ghost use Rattle.fc_runs.specs.ReadLaw.{ReadLaw};
 ghost use Rattle.fc_runs.specs.Rows.{RunRows};
 
 /// The demo's first draws and script, and texts of replies, worked out.
 pub fn rows()
     ensures { RunRows }
+{}
+
+/// A command that reads has exactly one reply, and leaves everything.
+pub fn reading()
+    ensures { ReadLaw }
 {}

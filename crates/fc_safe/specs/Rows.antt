@@ -11,6 +11,7 @@ use Rattle.fc_safe.specs.FirstFit.{first_fit}
 use Rattle.fc_safe.specs.SafeSteady.{HaveRuns, holes_unneeded}
 use Rattle.fc_safe.specs.SafeShort.{fitted}
 
+-- holes of 16, 16 and 64 bits
 abbrev pub three : List ZoneRun
 three = (4, run 32 16 Hole) ∷ (5, run 32 16 Hole) ∷ (6, run 32 64 Hole) ∷ []
 

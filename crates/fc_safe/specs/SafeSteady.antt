@@ -22,6 +22,7 @@ abbrev pub own_id : Map → Opened → Command → Option Object → List ℕ
 own_id m v c None = []
 own_id m v c (Some o) = if object_units m v c == 0 then [] else id_of o.entry.address ∷ []
 
+-- an object's identifier
 abbrev pub id_list : Option Object → List ℕ
 id_list None = []
 id_list (Some o) = id_of o.entry.address ∷ []
@@ -34,6 +35,7 @@ grown_id v w c = option_map_or (λ growth. id_list (object_at w.listings growth.
 abbrev pub need_ids : Map → Opened → Opened → Command → List ℕ
 need_ids m v w c = own_id m v c (made_object w c) ++ changed_ids m v c ++ grown_id v w c
 
+-- those of them that are new
 abbrev pub new_id_list : Map → Opened → Opened → Command → List ℕ
 new_id_list m v w c = own_id m v c (made_object w c) ++ grown_id v w c
 
@@ -55,6 +57,7 @@ HaveRuns m' _ _ = ⊥
 abbrev pub AreLeast : Map → List ℕ → Type 0
 AreLeast m ids = ids ≡ take (length ids) (new_ids m)
 
+-- where the new object lies
 abbrev pub SafeObjectPlaced : Map → Map → ℕ → Option (ℕ × ℕ) → Option Object → Type 0
 SafeObjectPlaced m m' bits (Some share) o = HasAddress o (256 * share.0 + share.1)
 SafeObjectPlaced m m' bits None o = 0 < bits → IsSomeAnd o (λ o. low_of o.entry.address ≡ first_low m' o (id_runs m' (id_of o.entry.address)))
@@ -89,6 +92,7 @@ pub record SafeMapSteady (m m' : Map) (v w : Opened) (c : Command) (parts : List
   pub two : keeps_runs m m' 2
   pub holes : (z : ℕ) → z < m.geometry.zones → zone_holes (hole_runs m') z ≡ safe_holes_after m v c parts z
 
+-- what is done to the map
 abbrev pub SafeSpaceSteady : Opened → Opened → Command → Layout → Layout → Type 0
 SafeSpaceSteady v w c (Layout.New m) (Layout.New m') = IsSomeAnd (fitted_needs m v c) (SafeMapSteady m m' v w c)
 SafeSpaceSteady v w c _ _ = ⊥
@@ -98,6 +102,7 @@ abbrev pub ChangedRewritten : Opened → Opened → Command → Type 0
 ChangedRewritten v w c = (l : Listing) → Contains v.listings l → is_changed_directory v c l.object ≡ true
     → IsSomeAnd (listing_at w.listings (path_after c l.object.path)) (λ new. IsRewritten c l.object.path (holder_address w.listings new.object.path) l.content new.content)
 
+-- all that stays in the safe mode
 pub record SafeSteady (old new : List ℕ) (v w : Opened) (c : Command) (copied : Bool) : Type 0 where
   pub directories : DirectoriesSteady old new v w c
   pub rewritten : ChangedRewritten v w c

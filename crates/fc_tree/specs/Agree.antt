@@ -7,8 +7,8 @@ use Rattle.fc_record.specs.declared.Kind.{Kind}
 use Rattle.fc_record.specs.declared.Kind.TheVariants as kinds
 use Rattle.fc_dirs.specs.declared.DirFault.{DirFault}
 use Rattle.fc_dirs.specs.declared.DirFault.TheVariants as dirs
-use Rattle.fc_names.specs.declared.NameForm.{NameForm}
-use Rattle.fc_names.specs.declared.NameForm.TheVariants as forms
+use Rattle.fc_names.specs.declared.name.NameForm.{NameForm}
+use Rattle.fc_names.specs.declared.name.NameForm.TheVariants as forms
 use Rattle.fc_dirs.specs.declared.SmallForm.TheVariants.{Bytes1280, Bytes2048}
 use Rattle.fc_dirs.specs.Directory.{Directory}
 use Rattle.fc_image.specs.Layout.{dir_form}
