@@ -4,6 +4,7 @@
 
 mod bits;
 mod checks;
+mod record;
 mod timing;
 
 use std::env;
@@ -12,12 +13,13 @@ fn main(rt: HostRuntime) -> std::io::Result<()> {
     let alloc = rt.alloc();
     let words: Vec<String> = env::args(&rt)?.skip(1).collect(alloc)?;
     if words.is_empty() {
-        println!(rt; "benches: bits checks")?;
+        println!(rt; "benches: bits checks record")?;
     }
     for word in &words {
         match word.as_str() {
             "bits" => bits::run(&rt, alloc)?,
             "checks" => checks::run(&rt, alloc)?,
+            "record" => record::run(&rt, alloc)?,
             _ => println!(rt; "no such bench: {word}")?,
         }
     }
