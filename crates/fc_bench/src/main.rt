@@ -1,0 +1,27 @@
+//! Rates of the layers over generated data, printed for a person: `make bench`. The gate proves that
+//! this is safe and ends, and that without words it prints the benches' names.
+#![tactic(auto)]
+
+mod bits;
+mod checks;
+mod record;
+mod timing;
+
+use std::env;
+
+fn main(rt: HostRuntime) -> std::io::Result<()> {
+    let alloc = rt.alloc();
+    let words: Vec<String> = env::args(&rt)?.skip(1).collect(alloc)?;
+    if words.is_empty() {
+        println!(rt; "benches: bits checks record")?;
+    }
+    for word in &words {
+        match word.as_str() {
+            "bits" => bits::run(&rt, alloc)?,
+            "checks" => checks::run(&rt, alloc)?,
+            "record" => record::run(&rt, alloc)?,
+            _ => println!(rt; "no such bench: {word}")?,
+        }
+    }
+    Ok(())
+}
