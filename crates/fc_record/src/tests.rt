@@ -4,7 +4,7 @@ ghost use Rattle.fc_record.specs.Record.{IsRecord};
 
 use crate::kinds::kind;
 use crate::measures::geometry;
-use crate::{Kind, KindError, RecordFault, read_record, rows, same_kind};
+use crate::{Kind, KindError, RecordFault, found_fits, read_record, rows, same_kind};
 use fc_device::{Disk, Failing, MemoryDisk, PlainDisk};
 use std::alloc::Global;
 use std::test::Fail;
@@ -112,6 +112,7 @@ fn records(rt: HostRuntime) -> Result<(), Fail> {
     }
     rows();
     same_kind();
+    found_fits();
     Ok(())
 }
 
