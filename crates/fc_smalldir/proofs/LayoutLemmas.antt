@@ -18,7 +18,7 @@ use Rattle.fc_smalldir.proofs.EntryLemmas.{length-name_bytes, entries-read_back,
 abbrev pub front_bytes : SmallDir → List ℕ
 front_bytes dir = head_bytes dir ++ flat_map (entry_bytes dir.form) dir.entries ++ free_bytes dir
 
-length-magic_word : (is_hugo : Bool) → length (magic_word is_hugo) ≡ 4
+pub length-magic_word : (is_hugo : Bool) → length (magic_word is_hugo) ≡ 4
 length-magic_word true = refl
 length-magic_word false = refl
 
@@ -105,7 +105,7 @@ name_first form e rest =
 
 -- ---- the head and the entries
 
-checked_regrouped : (h e f t c : List ℕ) → h ++ e ++ f ++ t ++ c ≡ h ++ (e ++ (f ++ (t ++ c)))
+pub checked_regrouped : (h e f t c : List ℕ) → h ++ e ++ f ++ t ++ c ≡ h ++ (e ++ (f ++ (t ++ c)))
 checked_regrouped h e f t c = simp append_assoc
 
 -- what stands from the first entry on
