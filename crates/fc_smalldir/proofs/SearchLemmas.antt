@@ -1,7 +1,7 @@
 -- The first element that passes a test, and names that fold to one.
-use Rattle.std.proofs.Common.{◌≡◌, ◌≤◌, ◌<◌, ℕ, zero, suc, ◌+◌, ◌-◌, ◌==◌, Bool, true, false, cond, List, [], ◌∷◌, ◌++◌, length, get_or, take, drop, position, find, is_some, Option, Some, None, refl, sym, ap, ◌∙◌, subst, arith}
-use Rattle.std.specs.List.{range_with_len, position_or_len}
-use Rattle.std.proofs.lemmas.List.Sums.{position_or_len_is}
+use Rattle.std.proofs.Common.{◌≡◌, ◌≤◌, ◌<◌, ℕ, zero, suc, ◌+◌, ◌-◌, ◌==◌, Bool, true, false, cond, List, [], ◌∷◌, ◌++◌, length, get_or, take, drop, position, find, is_some, nat_lt, nat_le, not, unwrap_or, Option, Some, None, refl, sym, ap, ◌∙◌, subst, arith}
+use Rattle.std.specs.List.{range_with_len, position_or_len, prefix_len, list_any}
+use Rattle.std.proofs.lemmas.List.Sums.{position_or_len_is, prefix_len-le-length}
 use Rattle.std.proofs.lemmas.Bool.Decides.{nat_tests}
 use Rattle.fc_dirs.specs.declared.Entry.{Entry}
 
@@ -53,3 +53,24 @@ fails-find p a (suc n) none k within = go (p a) refl (fails-find p (a + 1) n) no
   go false is later none (suc k) within =
       let sum : a + suc k ≡ a + 1 + k = omega arith in
       rw sum (later (rw is at none) k (omega arith))
+
+-- the answer of `position` with the length in place of None
+pub place_or_end : {X : Type 0} (p : X → Bool) (xs : List X) (r : Option ℕ) → r ≡ position p xs → unwrap_or r (length xs) ≡ position_or_len p xs
+place_or_end p xs r is =
+    let below : position_or_len p xs ≤ length xs = prefix_len-le-length (λ x. not (p x)) xs in
+    rw is (grind (arith, nat_tests, below))
+
+-- the bytes from 32 on, by the other test
+pub printed_len : (xs : List ℕ) → position_or_len (λ c. nat_lt c 32) xs ≡ prefix_len (λ c. nat_le 32 c) xs
+printed_len [] = refl
+printed_len (c ∷ xs) =
+    let test : not (nat_lt c 32) ≡ nat_le 32 c = grind (arith, nat_tests) in
+    rw (test, printed_len xs) refl
+
+-- whether a search finds something
+pub is_some-find : {X : Type 0} (p : X → Bool) (xs : List X) → is_some (find p xs) ≡ list_any p xs
+is_some-find p [] = refl
+is_some-find p (x ∷ xs) = go (p x) refl (is_some-find p xs) where
+  go : (b : Bool) → p x ≡ b → is_some (find p xs) ≡ list_any p xs → is_some (find p (x ∷ xs)) ≡ list_any p (x ∷ xs)
+  go true is more = rw is refl
+  go false is more = rw is more
