@@ -11,7 +11,7 @@ use Rattle.fc_dirs.specs.declared.SmallForm.{SmallForm}
 use Rattle.fc_dirs.specs.declared.SmallForm.TheVariants.{Bytes1280, Bytes2048}
 use Rattle.fc_dirs.specs.Entries.{padded_name, first_twin}
 use Rattle.fc_dirs.specs.Small.{SmallDir, FitsSmall, IsSmall, IsSmallDir, IsWrittenSmall, IsCheckWritten, Tail, tail_of, small_entry, small_entries, small_dir, small_fault, entries_end, hugo_word, nick_word, name_field, last_mark, is_magic_right, is_sequence_right, is_small_check_right, first_nameless}
-use Rattle.fc_smalldir.specs.Written.{small_bytes, bytes_before_check, head_bytes, free_bytes, tail_bytes, first_field, last_field, magic_word, entry_bytes, name_bytes, last_byte, written_check}
+use Rattle.fc_smalldir.specs.Written.{small_bytes, bytes_before_check, head_bytes, free_bytes, tail_bytes, first_field, last_field, magic_word, entry_bytes, name_bytes, last_byte, check_of}
 use Rattle.fc_smalldir.proofs.EntryLemmas.{length-name_bytes, entries-read_back, length-entries, length-entry_bytes}
 
 -- what stands before the tail

@@ -20,7 +20,7 @@ use Rattle.fc_dirs.specs.Entries.{padded_name, first_twin, first_of, fault_unles
 use Rattle.fc_dirs.specs.Small.{SmallDir, FitsSmall, IsSmall, IsSmallDir, IsWrittenSmall, IsCheckWritten, tail_of, small_entries, small_dir, small_fault, entries_end, hugo_word, nick_word, name_field, last_mark, is_magic_right, is_sequence_right, is_small_check_right, first_nameless}
 use Rattle.std.proofs.lemmas.Option.{slice_get_within, get_or_from_slice_get}
 use Rattle.fc_smalldir.specs.Laws.{ReadsBack}
-use Rattle.fc_smalldir.specs.Written.{small_bytes, bytes_before_check, head_bytes, free_bytes, tail_bytes, first_field, last_field, magic_word, entry_bytes, name_bytes, written_check}
+use Rattle.fc_smalldir.specs.Written.{small_bytes, bytes_before_check, head_bytes, free_bytes, tail_bytes, first_field, last_field, magic_word, entry_bytes, name_bytes, check_of}
 use Rattle.fc_smalldir.proofs.NameLemmas.{low-with_tops, padded_name_low}
 use Rattle.fc_smalldir.proofs.LayoutLemmas.{front_bytes, checked_bytes, checked_regrouped, length-magic_word, length-front, SaysTail, says_tail, behind_head, entries_kept, names_kept, mark_kept, check_kept}
 
@@ -136,7 +136,7 @@ WrittenAs dir check = IsWrittenSmall (checked_bytes dir check) dir
 
 -- the check that is written is the one that is read
 check_right : (form : SmallForm) (dir : SmallDir) → IsSmall (formed form dir)
-    → is_small_check_right form (checked_bytes (formed form dir) (written_check form (bytes_before_check (formed form dir)) (entries_end dir.entries))) ≡ true
+    → is_small_check_right form (checked_bytes (formed form dir) (check_of form (bytes_before_check (formed form dir) ++ 0 ∷ []) (entries_end dir.entries))) ≡ true
 check_right Bytes1280 dir small = refl
 check_right Bytes2048 dir small =
     let d = formed Bytes2048 dir in
@@ -156,14 +156,14 @@ written_name Bytes2048 bytes i e fits is = is
 written_name Bytes1280 bytes i e fits is = ap (map (λ c. c % 128)) is ∙ low-with_tops e.attrs (padded_name 10 e.name) (padded_name_low e.name fits.printed)
 
 written_zero : (form : SmallForm) (dir : SmallDir) → IsSmall (formed form dir)
-    → IsCheckWritten form (checked_bytes (formed form dir) (written_check form (bytes_before_check (formed form dir)) (entries_end dir.entries)))
+    → IsCheckWritten form (checked_bytes (formed form dir) (check_of form (bytes_before_check (formed form dir) ++ 0 ∷ []) (entries_end dir.entries)))
 written_zero Bytes2048 dir small = tt
 written_zero Bytes1280 dir small = (says_parts Bytes1280 dir 0 small).check_is
 
 pub read_back : ReadsBack
 unfolding small_bytes small_dir
 read_back dir small =
-    let check = written_check dir.form (bytes_before_check dir) (entries_end dir.entries) in
+    let check = check_of dir.form (bytes_before_check dir ++ 0 ∷ []) (entries_end dir.entries) in
     let bytes = checked_bytes dir check in
     let parts = says_parts dir.form dir check small in
     let entries = entries_kept dir check small in

@@ -60,13 +60,13 @@ tail_bytes dir =
 abbrev pub bytes_before_check : SmallDir → List ℕ
 bytes_before_check dir = head_bytes dir ++ flat_map (entry_bytes dir.form) dir.entries ++ free_bytes dir ++ tail_bytes dir
 
--- the check that is written: in 1280 bytes it is 0
-abbrev pub written_check : SmallForm → List ℕ → ℕ → ℕ
-written_check Bytes2048 bytes end = small_dir_check (bytes ++ 0 ∷ []) end
-written_check Bytes1280 bytes end = 0
+-- the check of bytes that have any: in 1280 bytes it is 0
+abbrev pub check_of : SmallForm → List ℕ → ℕ → ℕ
+check_of Bytes2048 bytes end = small_dir_check bytes end
+check_of Bytes1280 bytes end = 0
 
 -- the bytes of a directory
 unfoldable pub small_bytes : SmallDir → List ℕ
 small_bytes dir =
     let bytes = bytes_before_check dir in
-    bytes ++ written_check dir.form bytes (entries_end dir.entries) ∷ []
+    bytes ++ check_of dir.form (bytes ++ 0 ∷ []) (entries_end dir.entries) ∷ []
