@@ -134,6 +134,17 @@ fn last_byte(e: &Entry, form: SmallForm) -> u8
     }
 }
 
+// The words of an entry are numbers of 32 bits, as their places ask.
+pub fn words_fit(e: &Entry)
+    ensures load { e.now.load < 2 ^ 32 }
+    ensures exec { e.now.exec < 2 ^ 32 }
+    ensures len { e.now.len < 2 ^ 32 }
+{
+    let _load = e.load;
+    let _exec = e.exec;
+    let _len = e.len;
+}
+
 // Writes an entry from byte `at` on, and answers the place behind it.
 pub fn put_entry(b: &mut [u8], at: usize, e: &Entry, form: SmallForm) -> usize
     requires fits { FitsSmall form e.now }

@@ -10,6 +10,7 @@ ghost use Rattle.fc_smalldir.specs.Written.{small_bytes};
 
 use crate::bytes::{padded, put, put_zeros};
 use crate::entries::{count_entries, first_twin, place_of, put_entries, read_entries};
+use crate::entry::words_fit;
 use crate::head::{Head, check_of, has_old_word, is_check_right, is_magic_right, is_sequence_right, places, put_head, put_tail, read_head};
 use crate::{DirError, InsertError};
 use fc_dirs::{DirFault, Entry, SmallForm};
@@ -120,6 +121,7 @@ impl SmallDir {
         if self.entries.len() == places(self.head.form) {
             return Err(InsertError::DirFull);
         }
+        words_fit(&e);
         let at = place_of(&self.entries, &e.name);
         if self.entries.insert(at, e).is_err() {
             return Err(InsertError::NoMemory);
@@ -144,6 +146,7 @@ impl SmallDir {
         requires last { e.last < last_limit self.old.form }
         ensures { self.new ≡ record self.old { entries = slice_set self.old.entries at e } }
     {
+        words_fit(&e);
         self.entries[at] = e;
     }
 
@@ -158,6 +161,7 @@ impl SmallDir {
         requires last { e.last < last_limit self.old.form }
         ensures { self.new ≡ with_small_renamed at e self.old }
     {
+        words_fit(&e);
         self.entries.remove(at);
         let place = place_of(&self.entries, &e.name);
         // There is room, since an entry went.

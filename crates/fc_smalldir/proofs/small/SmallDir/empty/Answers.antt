@@ -5,7 +5,7 @@ use Rattle.fc_dirs.specs.Entries.{padded_name}
 use Rattle.fc_dirs.specs.Small.{tail_of}
 use Rattle.fc_smalldir.proofs.small.SmallDir.empty.Goals as goal
 
-zeros : (form : SmallForm) → take (tail_of form).reserved_len (replicate 14 0) ≡ replicate (tail_of form).reserved_len 0
+zeros : (form : SmallForm) → take {A = ℕ} (tail_of form).reserved_len (replicate 14 0) ≡ replicate (tail_of form).reserved_len 0
 zeros Bytes2048 = refl
 zeros Bytes1280 = refl
 

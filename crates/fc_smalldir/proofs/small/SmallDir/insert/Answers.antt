@@ -17,5 +17,5 @@ invariant_of-self-2 c =
     let items : c.insert.new.self.items ≡ with_entry e es = rw done at c.insert.ensures.items ∙ ap (λ n. insert es n e) place in
     let room : length es < (tail_of head.form).places = omega (arith, c.self.invariant.places, c.len.ensures, c.places.ensures, c.self.inside.entries.ok) in
     let fits : FitsSmall head.form e =
-    fits_put head.form e (rw (← c.self.view_is) at c.requires.writable) ? ? ? c.requires.address (rw (← c.self.view_is) at c.requires.attrs) (rw (← c.self.view_is) at c.requires.last) in
+    fits_put head.form e (rw (← c.self.view_is) at c.requires.writable) c.words_fit.ensures.load c.words_fit.ensures.exec c.words_fit.ensures.len c.requires.address (rw (← c.self.view_is) at c.requires.attrs) (rw (← c.self.view_is) at c.requires.last) in
     subst (λ l. IsSmall (dir_of head l)) (sym items) (small_inserted d e c.self.invariant room fits (rw (← c.self.view_is) at c.requires.absent))
