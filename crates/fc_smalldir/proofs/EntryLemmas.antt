@@ -1,5 +1,5 @@
 -- What is written of an entry reads as the entry.
-use Rattle.std.proofs.Common.{◌≡◌, ◌≤◌, ◌<◌, ℕ, zero, suc, ◌+◌, ◌-◌, ◌*◌, ◌^◌, ◌/◌, ◌%◌, ◌==◌, Bool, true, false, if◌then◌else◌, List, [], ◌∷◌, ◌++◌, length, map, take, drop, replicate, slice_index, refl, sym, ap, ap₂, ◌∙◌, arith, append_assoc, length-append}
+use Rattle.std.proofs.Common.{◌≡◌, ◌≤◌, ◌<◌, ℕ, zero, suc, ◌*◌, ◌^◌, ◌/◌, ◌%◌, ◌==◌, false, List, [], ◌∷◌, ◌++◌, length, map, take, drop, replicate, slice_index, refl, sym, ap, ap₂, ◌∙◌, arith, append_assoc, length-append}
 use Rattle.std.specs.List.{AllByRecursion, flat_map}
 use Rattle.std.proofs.lemmas.List.{take_at, drop_at, drop-drop, get_or-drop}
 use Rattle.std.proofs.lemmas.Bool.Decides.{nat_tests}
@@ -11,7 +11,7 @@ use Rattle.fc_dirs.specs.declared.SmallForm.{SmallForm}
 use Rattle.fc_dirs.specs.declared.SmallForm.TheVariants.{Bytes1280, Bytes2048}
 use Rattle.fc_dirs.specs.Entries.{padded_name}
 use Rattle.fc_dirs.specs.Small.{FitsSmall, small_entry, name_in, entries_in, byte_limit}
-use Rattle.fc_smalldir.specs.Written.{entry_bytes, name_bytes, last_byte, with_tops}
+use Rattle.fc_smalldir.specs.Written.{entry_bytes, name_bytes}
 use Rattle.fc_smalldir.proofs.NameLemmas.{ArePrinted, name_in-padded, length-padded, length-with_tops, low-with_tops, num-with_tops, padded_name_low}
 
 pub length-name_bytes : (form : SmallForm) (e : Entry) → length (name_bytes form e) ≡ 10

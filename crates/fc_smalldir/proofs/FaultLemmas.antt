@@ -1,16 +1,15 @@
 -- The first fault of a directory.
-use Rattle.std.proofs.Common.{◌≡◌, ◌<◌, ◌≤◌, ◌^◌, ℕ, ◌+◌, ◌-◌, ◌*◌, true, false, List, length, take, drop, slice_index, Option, Some, None, refl, sym, ap, ◌∙◌, subst, arith, length-take-le, length-drop}
+use Rattle.std.proofs.Common.{◌≡◌, ◌<◌, ◌≤◌, ℕ, ◌+◌, true, false, List, length, drop, slice_index, Some, None, refl, sym, ap, ◌∙◌, subst, arith, length-take-le, length-drop}
 use Rattle.std.specs.List.{AllByRecursion}
 use Rattle.std.specs.Option.{option_map}
 use Rattle.byteorder.specs.Numbers.{little_from-lt}
 use Rattle.fc_bytes.specs.Words.{bytes_at}
 use Rattle.fc_dirs.specs.declared.Entry.{Entry}
-use Rattle.fc_dirs.specs.declared.DirFault.{DirFault}
 use Rattle.fc_dirs.specs.declared.DirFault.TheVariants.{Magic, Sequence, Check, BadEntry, Twin}
 use Rattle.fc_dirs.specs.declared.SmallForm.{SmallForm}
 use Rattle.fc_dirs.specs.declared.SmallForm.TheVariants.{Bytes1280, Bytes2048}
-use Rattle.fc_dirs.specs.Entries.{first_twin, first_of, fault_unless}
-use Rattle.fc_dirs.specs.Small.{SmallDir, FitsSmall, IsSmall, IsSmallDir, small_fault, small_dir, small_entries, tail_of, first_nameless, is_magic_right, is_sequence_right, is_small_check_right}
+use Rattle.fc_dirs.specs.Entries.{first_twin}
+use Rattle.fc_dirs.specs.Small.{FitsSmall, IsSmall, IsSmallDir, small_fault, small_dir, small_entries, tail_of, first_nameless, is_magic_right, is_sequence_right, is_small_check_right}
 use Rattle.fc_smalldir.specs.declared.DirError.{DirError}
 use Rattle.fc_smalldir.specs.declared.DirError.TheVariants.{Fault, NoMemory}
 use Rattle.fc_smalldir.specs.Faults.{IsFaultOf}

@@ -1,6 +1,6 @@
 -- What is written of a whole directory reads as the directory.
-use Rattle.std.proofs.Common.{◌≡◌, ◌≤◌, ◌<◌, ℕ, zero, suc, ◌+◌, ◌-◌, ◌*◌, ◌^◌, ◌/◌, ◌%◌, ◌==◌, ◌&&◌, ◌||◌, Bool, true, false, if◌then◌else◌, List, [], ◌∷◌, ◌++◌, length, map, take, drop, replicate, slice_index, slice_get, Some, None, refl, sym, ap, ap₂, ◌∙◌, arith, append_assoc, length-append}
-use Rattle.std.specs.List.{AllByRecursion, flat_map}
+use Rattle.std.proofs.Common.{◌≡◌, ◌≤◌, ◌<◌, ℕ, zero, suc, ◌+◌, ◌-◌, ◌*◌, ◌^◌, ◌/◌, ◌%◌, Bool, true, false, List, [], ◌∷◌, ◌++◌, length, take, drop, replicate, slice_index, slice_get, Some, refl, sym, ap, ap₂, ◌∙◌, arith, append_assoc, length-append}
+use Rattle.std.specs.List.{flat_map}
 use Rattle.std.proofs.lemmas.List.{take_at, drop_at, drop-drop, get_or-drop, length-replicate, get_or-replicate, get_or_append_left, get_or-append_right, take-append-le, drop-append-le, length-drop}
 use Rattle.byteorder.specs.Endian.{little_bytes, little_number}
 use Rattle.byteorder.specs.Numbers.{little_number-reads_back, length-bytes_low_first}
@@ -8,10 +8,8 @@ use Rattle.fc_bytes.specs.Words.{bytes_at, words}
 use Rattle.fc_checks.specs.Checks.{small_dir_check, byte_xor, accumulated}
 use Rattle.fc_dirs.specs.declared.Entry.{Entry}
 use Rattle.fc_dirs.specs.declared.SmallForm.{SmallForm}
-use Rattle.fc_dirs.specs.declared.SmallForm.TheVariants.{Bytes1280, Bytes2048}
-use Rattle.fc_dirs.specs.Entries.{padded_name, first_twin}
-use Rattle.fc_dirs.specs.Small.{SmallDir, FitsSmall, IsSmall, IsSmallDir, IsWrittenSmall, IsCheckWritten, Tail, tail_of, small_entry, small_entries, small_dir, small_fault, entries_end, hugo_word, nick_word, name_field, last_mark, is_magic_right, is_sequence_right, is_small_check_right, first_nameless}
-use Rattle.fc_smalldir.specs.Written.{small_bytes, bytes_before_check, head_bytes, free_bytes, tail_bytes, first_field, last_field, magic_word, entry_bytes, name_bytes, last_byte, check_of}
+use Rattle.fc_dirs.specs.Small.{SmallDir, IsSmall, tail_of, small_entries, last_mark}
+use Rattle.fc_smalldir.specs.Written.{bytes_before_check, head_bytes, free_bytes, tail_bytes, magic_word, entry_bytes, name_bytes, last_byte}
 use Rattle.fc_smalldir.proofs.EntryLemmas.{length-name_bytes, entries-read_back, length-entries, length-entry_bytes}
 
 -- what stands before the tail

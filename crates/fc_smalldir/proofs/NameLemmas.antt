@@ -1,5 +1,5 @@
 -- Names in their fields, and the top bits of name bytes.
-use Rattle.std.proofs.Common.{◌≡◌, ◌≤◌, ◌<◌, ℕ, zero, suc, ◌+◌, ◌*◌, ◌/◌, ◌%◌, ◌^◌, Bool, true, false, cond, nat_le, List, [], ◌∷◌, ◌++◌, length, map, take, drop, replicate, take_while, refl, sym, ap, ap₂, ◌∙◌, arith, le-leb, length-append, length-take-le}
+use Rattle.std.proofs.Common.{◌≡◌, ◌≤◌, ◌<◌, ℕ, zero, suc, ◌+◌, ◌*◌, ◌/◌, ◌%◌, ◌^◌, true, nat_le, List, [], ◌∷◌, ◌++◌, length, map, take, replicate, refl, ap, ap₂, ◌∙◌, arith, le-leb, length-append, length-take-le}
 use Rattle.std.proofs.lemmas.List.{length-replicate}
 use Rattle.std.specs.List.{AllByRecursion}
 use Rattle.std.proofs.lemmas.List.Sums.{take_while-cons}

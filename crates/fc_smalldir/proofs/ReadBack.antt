@@ -1,8 +1,7 @@
 -- What is written of a directory reads as the directory.
-use Rattle.std.proofs.Common.{◌≡◌, ◌≤◌, ◌<◌, ℕ, ◌+◌, ◌-◌, ◌*◌, ◌%◌, ◌==◌, ◌&&◌, ◌||◌, Bool, true, false, if◌then◌else◌, List, [], ◌∷◌, ◌++◌, length, get_or, map, take, drop, replicate, slice_index, slice_get, Option, Some, None, refl, sym, ap, ap₂, ◌∙◌, arith, append_assoc, length-append, eq-eqb, subst}
+use Rattle.std.proofs.Common.{◌≡◌, ◌≤◌, ℕ, ◌+◌, ◌-◌, ◌*◌, ◌%◌, ◌==◌, ◌&&◌, ◌||◌, Bool, true, false, List, [], ◌∷◌, ◌++◌, length, get_or, map, take, drop, slice_index, None, refl, sym, ap, ◌∙◌, arith, length-append, eq-eqb, subst}
 use Rattle.std.specs.List.{AllByRecursion, flat_map}
 use Rattle.std.specs.Str.{bytes_eq}
-use Rattle.std.specs.Option.{option_map}
 use Rattle.std.proofs.lemmas.List.{take_at, drop-drop}
 use Rattle.std.proofs.lemmas.List.Elements.{All-from_recursion}
 use Rattle.std.proofs.lemmas.Bool.Decides.{nat_tests}
@@ -12,17 +11,15 @@ use Rattle.byteorder.specs.Numbers.{length-bytes_low_first}
 use Rattle.fc_bytes.specs.Words.{bytes_at, u24_at}
 use Rattle.fc_checks.specs.Checks.{small_dir_check}
 use Rattle.fc_dirs.specs.declared.Entry.{Entry}
-use Rattle.fc_dirs.specs.declared.DirFault.{DirFault}
-use Rattle.fc_dirs.specs.declared.DirFault.TheVariants.{Magic, Sequence, Check, BadEntry, Twin}
 use Rattle.fc_dirs.specs.declared.SmallForm.{SmallForm}
 use Rattle.fc_dirs.specs.declared.SmallForm.TheVariants.{Bytes1280, Bytes2048}
-use Rattle.fc_dirs.specs.Entries.{padded_name, first_twin, first_of, fault_unless}
-use Rattle.fc_dirs.specs.Small.{SmallDir, FitsSmall, IsSmall, IsSmallDir, IsWrittenSmall, IsCheckWritten, tail_of, small_entries, small_dir, small_fault, entries_end, hugo_word, nick_word, name_field, last_mark, is_magic_right, is_sequence_right, is_small_check_right, first_nameless}
+use Rattle.fc_dirs.specs.Entries.{padded_name, first_twin}
+use Rattle.fc_dirs.specs.Small.{SmallDir, FitsSmall, IsSmall, IsWrittenSmall, IsCheckWritten, tail_of, small_entries, small_dir, small_fault, entries_end, hugo_word, nick_word, name_field, is_magic_right, is_sequence_right, is_small_check_right, first_nameless}
 use Rattle.std.proofs.lemmas.Option.{slice_get_within, get_or_from_slice_get}
 use Rattle.fc_smalldir.specs.Laws.{ReadsBack}
-use Rattle.fc_smalldir.specs.Written.{small_bytes, bytes_before_check, head_bytes, free_bytes, tail_bytes, first_field, last_field, magic_word, entry_bytes, name_bytes, check_of}
+use Rattle.fc_smalldir.specs.Written.{small_bytes, bytes_before_check, head_bytes, free_bytes, tail_bytes, magic_word, entry_bytes, name_bytes, check_of}
 use Rattle.fc_smalldir.proofs.NameLemmas.{low-with_tops, padded_name_low}
-use Rattle.fc_smalldir.proofs.LayoutLemmas.{front_bytes, checked_bytes, checked_regrouped, length-magic_word, length-front, SaysTail, says_tail, behind_head, entries_kept, names_kept, mark_kept, check_kept}
+use Rattle.fc_smalldir.proofs.LayoutLemmas.{front_bytes, checked_bytes, checked_regrouped, length-magic_word, length-front, says_tail, behind_head, entries_kept, names_kept, mark_kept, check_kept}
 
 -- Each entry has a name.
 pub none_nameless : (form : SmallForm) (es : List Entry) → AllByRecursion (FitsSmall form) es → first_nameless es ≡ None

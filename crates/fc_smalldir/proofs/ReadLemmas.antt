@@ -1,7 +1,7 @@
 -- What reading an entry gives can be written again.
-use Rattle.std.proofs.Common.{◌≡◌, ◌≤◌, ◌<◌, ℕ, zero, suc, ◌+◌, ◌*◌, ◌/◌, ◌%◌, ◌^◌, Bool, true, false, cond, nat_le, List, [], ◌∷◌, ◌++◌, length, get_or, map, take, drop, take_while, slice_index, refl, sym, ap, ◌∙◌, arith, le-leb, length-take-le}
+use Rattle.std.proofs.Common.{◌≡◌, ◌≤◌, ◌<◌, ℕ, zero, suc, ◌+◌, ◌*◌, ◌/◌, ◌%◌, Bool, true, false, nat_le, List, [], ◌∷◌, length, get_or, map, take, drop, slice_index, refl, ap, arith, length-take-le}
 use Rattle.std.specs.List.{AllByRecursion, All}
-use Rattle.std.proofs.lemmas.List.{get_or-drop, get_or-take, get_or_past, drop_more, length-map, length-take}
+use Rattle.std.proofs.lemmas.List.{get_or-drop, drop_more, length-map, length-take}
 use Rattle.std.proofs.lemmas.List.Elements.{All-from_recursion, All-weaker}
 use Rattle.std.proofs.lemmas.List.Sums.{take_while-cons}
 use Rattle.std.proofs.lemmas.Bool.Decides.{nat_tests}
@@ -11,7 +11,7 @@ use Rattle.fc_bytes.specs.BitLaws.{num_below}
 use Rattle.fc_dirs.specs.declared.Entry.{Entry}
 use Rattle.fc_dirs.specs.declared.SmallForm.{SmallForm}
 use Rattle.fc_dirs.specs.declared.SmallForm.TheVariants.{Bytes1280, Bytes2048}
-use Rattle.fc_dirs.specs.Small.{FitsSmall, small_entry, name_in, byte_limit}
+use Rattle.fc_dirs.specs.Small.{FitsSmall, small_entry, name_in}
 use Rattle.fc_bytes.specs.Words.{u24_at, u32_at}
 use Rattle.fc_smalldir.specs.Fields.{plain_field, attrs_in, last_in}
 use Rattle.fc_smalldir.proofs.NameLemmas.{ArePrinted}

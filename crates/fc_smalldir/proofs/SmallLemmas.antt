@@ -1,18 +1,18 @@
 -- What each change keeps of a directory.
-use Rattle.std.proofs.Common.{◌≡◌, ◌<◌, ◌≤◌, ◌^◌, ◌⊎◌, inl, inr, ℕ, zero, suc, ◌+◌, ◌-◌, ◌&&◌, ◌||◌, Bool, true, false, nat_le, List, [], ◌∷◌, length, get_or, take, drop, set, insert, remove, option_map, slice_get, Option, Some, None, refl, sym, ap, ◌∙◌, subst, arith}
-use Rattle.std.specs.List.{AllByRecursion, All, list_all, position_or_len}
+use Rattle.std.proofs.Common.{◌≡◌, ◌<◌, ◌≤◌, ◌^◌, ℕ, suc, ◌&&◌, ◌||◌, Bool, true, false, nat_le, List, [], ◌∷◌, length, get_or, take, drop, set, insert, remove, option_map, slice_get, Some, refl, sym, ap, ◌∙◌, subst, arith}
+use Rattle.std.specs.List.{All, list_all}
 use Rattle.std.specs.Int.{is_in_range}
 use Rattle.std.proofs.lemmas.List.{length-set}
 use Rattle.std.proofs.lemmas.List.Edits.{length-insert, length-remove}
 use Rattle.std.proofs.lemmas.List.Elements.{All-from_recursion, All-append, All-cons, All-take, All-drop, All-set}
 use Rattle.std.proofs.lemmas.List.Sums.{prefix_len-le-length}
-use Rattle.std.proofs.lemmas.Option.{slice_get_within, get_or_from_slice_get, slice_get-get_or}
+use Rattle.std.proofs.lemmas.Option.{slice_get-get_or}
 use Rattle.std.proofs.lemmas.Bool.Decides.{nat_tests}
-use Rattle.fc_names.specs.Names.{is_writable, is_writable_byte, name_limit, is_plain, is_special, is_name_before}
+use Rattle.fc_names.specs.Names.{is_writable, is_writable_byte, name_limit, is_plain}
 use Rattle.fc_dirs.specs.declared.Entry.{Entry}
 use Rattle.fc_dirs.specs.declared.SmallForm.{SmallForm}
 use Rattle.fc_dirs.specs.declared.SmallForm.TheVariants.{Bytes1280, Bytes2048}
-use Rattle.fc_dirs.specs.Entries.{first_twin, has_name, entry_place, with_entry, without_entry}
+use Rattle.fc_dirs.specs.Entries.{has_name, entry_place, with_entry, without_entry}
 use Rattle.fc_dirs.specs.Small.{SmallDir, FitsSmall, IsSmall, tail_of, byte_limit, attrs_limit, last_limit}
 use Rattle.fc_smalldir.specs.Fields.{names_of_form}
 use Rattle.fc_smalldir.proofs.NameLemmas.{ArePrinted}

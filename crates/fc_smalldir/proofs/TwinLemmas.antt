@@ -1,6 +1,6 @@
 -- Names that fold to one.
-use Rattle.std.proofs.Common.{◌≡◌, ◌≢◌, ◌<◌, ◌≤◌, ℕ, zero, suc, ◌+◌, ◌-◌, ◌⊎◌, inl, inr, Bool, ◌||◌, List, [], ◌∷◌, length, insert, remove, set, find, is_some, length-take-le, refl, subst, get_or, take, false, true, slice_get, Some, None, sym, ap, ◌∙◌, arith, below_more}
-use Rattle.std.specs.List.{range_with_len, list_any, All}
+use Rattle.std.proofs.Common.{◌≡◌, ◌<◌, ◌≤◌, ℕ, zero, suc, ◌+◌, ◌-◌, inl, inr, Bool, ◌||◌, List, [], ◌∷◌, length, insert, remove, set, length-take-le, refl, get_or, take, false, true, Some, None, sym, ap, ◌∙◌, arith}
+use Rattle.std.specs.List.{list_any}
 use Rattle.std.specs.Ordering.{nat_cmp, is_eq, ordering_reverse}
 use Rattle.std.specs.declared.cmp.Ordering.{Ordering}
 use Rattle.std.specs.declared.cmp.Ordering.TheVariants.{Less, Equal, Greater}

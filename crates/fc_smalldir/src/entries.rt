@@ -41,7 +41,10 @@ pub fn place_of(entries: &[Entry], name: &Name) -> usize
     ensures place { result ≡ entry_place name.now entries.now }
     ensures within { result ≤ length entries.now }
 {
-    entries.iter().position(|e| fold_less(name, &e.name)).unwrap_or(entries.len())
+    entries
+        .iter()
+        .position(|e| fold_less(name, &e.name))
+        .unwrap_or(entries.len())
 }
 
 // The number of the entries that bytes say: the first whose first byte is 0 ends them.
@@ -62,7 +65,12 @@ pub fn count_entries(b: &[u8], form: SmallForm) -> usize
 
 // The entries that bytes say, of which the number is known, or the first that has no name.
 #[tactic(auto, using(crate::proofs::HeadLemmas::places_within))]
-pub fn read_entries(alloc: Global, b: &[u8], form: SmallForm, count: usize) -> Result<Vec<Entry>, DirError>
+pub fn read_entries(
+    alloc: Global,
+    b: &[u8],
+    form: SmallForm,
+    count: usize,
+) -> Result<Vec<Entry>, DirError>
     requires size { length b.now ≡ (tail_of form).size }
     requires count { count ≡ length (small_entries form b.now) }
     requires few { count ≤ (tail_of form).places }

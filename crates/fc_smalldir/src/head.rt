@@ -58,7 +58,8 @@ pub fn is_magic_right(b: &[u8], form: SmallForm) -> bool
     ensures { result ≡ is_magic_right form b.now }
 {
     let word = &b[1..5];
-    (word == b"Hugo".as_slice() || word == b"Nick".as_slice()) && word == &b[b.len() - 5..b.len() - 1]
+    (word == b"Hugo".as_slice() || word == b"Nick".as_slice())
+        && word == &b[b.len() - 5..b.len() - 1]
 }
 
 // Whether head and tail have the same sequence byte.

@@ -35,3 +35,6 @@ pub enum InsertError {
 pub fn reads_back()
     ensures { ReadsBack }
 {}
+
+#[cfg(test)]
+mod tests;

@@ -11,7 +11,10 @@ ghost use Rattle.fc_smalldir.specs.Written.{small_bytes};
 use crate::bytes::{padded, put, put_zeros};
 use crate::entries::{count_entries, first_twin, place_of, put_entries, read_entries};
 use crate::entry::words_fit;
-use crate::head::{Head, check_of, has_old_word, is_check_right, is_magic_right, is_sequence_right, places, put_head, put_tail, read_head};
+use crate::head::{
+    Head, check_of, has_old_word, is_check_right, is_magic_right, is_sequence_right, places,
+    put_head, put_tail, read_head,
+};
 use crate::{DirError, InsertError};
 use fc_dirs::{DirFault, Entry, SmallForm};
 use fc_names::Name;

@@ -1,5 +1,5 @@
-use Rattle.std.proofs.Common.{◌≡◌, ◌+◌, ◌-◌, ◌*◌, ◌≢◌, length, drop, slice_index, sym, ap, ◌∙◌, arith}
-use Rattle.fc_dirs.specs.Small.{tail_of, entries_in, small_entries}
+use Rattle.std.proofs.Common.{◌≡◌, ◌+◌, ◌-◌, ◌*◌, ◌∙◌, arith}
+use Rattle.fc_dirs.specs.Small.{tail_of}
 use Rattle.fc_smalldir.proofs.PlaceLemmas.{entries_end_here, entries_go_on}
 use Rattle.fc_smalldir.proofs.entries.count_entries.Goals as goal
 

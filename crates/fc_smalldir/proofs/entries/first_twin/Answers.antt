@@ -1,5 +1,5 @@
-use Rattle.std.proofs.Common.{◌≡◌, ◌≤◌, ◌<◌, ℕ, ◌+◌, take, length, true, false, sym, ap, ◌∙◌, arith, below_more}
-use Rattle.fc_dirs.specs.Entries.{is_twin, has_name}
+use Rattle.std.proofs.Common.{◌≡◌, true, false, sym, ◌∙◌, arith, below_more}
+use Rattle.fc_dirs.specs.Entries.{is_twin}
 use Rattle.fc_smalldir.proofs.TwinLemmas.{is_twin-at, twin_found, none_twin}
 use Rattle.fc_smalldir.proofs.entries.first_twin.Goals as goal
 

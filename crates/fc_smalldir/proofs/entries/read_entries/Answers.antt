@@ -1,11 +1,10 @@
-use Rattle.std.proofs.Common.{◌≡◌, ◌<◌, ◌+◌, ◌-◌, ◌*◌, ◌++◌, ◌∷◌, [], List, get_or, length, take, drop, is_ok, true, not, subst, sym, ap, ◌∙◌, arith}
-use Rattle.std.specs.List.{All}
+use Rattle.std.proofs.Common.{◌≡◌, ◌<◌, ◌+◌, ◌++◌, ◌∷◌, [], get_or, length, take, is_ok, true, not, sym, ap, ◌∙◌, arith}
 use Rattle.std.specs.Option.{option_map}
 use Rattle.std.proofs.lemmas.List.{take_more, take_all}
 use Rattle.std.proofs.lemmas.List.Elements.{All-push, All-same}
 use Rattle.fc_dirs.specs.declared.DirFault.TheVariants.{BadEntry}
 use Rattle.fc_dirs.specs.declared.Entry.{Entry}
-use Rattle.fc_dirs.specs.Small.{FitsSmall, small_entry, small_entries}
+use Rattle.fc_dirs.specs.Small.{FitsSmall, small_entries}
 use Rattle.fc_smalldir.proofs.HeadLemmas.{places_few}
 use Rattle.fc_smalldir.proofs.SearchLemmas.{blank}
 use Rattle.fc_smalldir.proofs.PlaceLemmas.{by_recursion, small_entry_at, nameless_found}

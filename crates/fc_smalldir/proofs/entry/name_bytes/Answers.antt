@@ -1,9 +1,8 @@
-use Rattle.std.proofs.Common.{◌≡◌, List, ℕ, subst, sym, ap, ◌∙◌}
-use Rattle.fc_dirs.specs.declared.SmallForm.{SmallForm}
+use Rattle.std.proofs.Common.{subst, ap, ◌∙◌}
 use Rattle.fc_dirs.specs.Entries.{padded_name}
 use Rattle.fc_dirs.specs.Small.{byte_limit}
-use Rattle.fc_smalldir.specs.Written.{name_bytes, with_tops}
-use Rattle.fc_smalldir.proofs.NameLemmas.{ArePrinted, AreLow, padded_name_low}
+use Rattle.fc_smalldir.specs.Written.{with_tops}
+use Rattle.fc_smalldir.proofs.NameLemmas.{ArePrinted, padded_name_low}
 use Rattle.fc_smalldir.proofs.entry.name_bytes.Goals as goal
 
 pub with_tops-requires : goal.with_tops-requires

@@ -1,5 +1,5 @@
-use Rattle.std.proofs.Common.{◌≡◌, ◌≤◌, ◌<◌, ◌+◌, ◌-◌, ◌*◌, ◌/◌, ℕ, length, map, drop, slice_index, sym, ap, ◌∙◌, arith, length-drop}
-use Rattle.std.proofs.lemmas.List.{get_or-drop, drop_all}
+use Rattle.std.proofs.Common.{◌≡◌, ◌+◌, ◌-◌, ◌/◌, map, drop, sym, ap, arith, length-drop}
+use Rattle.std.proofs.lemmas.List.{drop_all}
 use Rattle.fc_bytes.specs.Bits.{num}
 use Rattle.fc_smalldir.proofs.ReadLemmas.{tops_below, tops_more, drop_bytes}
 use Rattle.fc_smalldir.proofs.entry.top_bits.Goals as goal

@@ -1,4 +1,4 @@
-use Rattle.std.proofs.Common.{◌≡◌, ◌<◌, ◌%◌, get_or, arith, refl}
+use Rattle.std.proofs.Common.{◌%◌, get_or, arith}
 use Rattle.std.proofs.lemmas.List.{get_or_default}
 use Rattle.std.proofs.lemmas.List.Edits.{map_over_more}
 use Rattle.fc_smalldir.proofs.entry.without_tops.Goals as goal

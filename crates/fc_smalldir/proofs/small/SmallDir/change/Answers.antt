@@ -1,5 +1,3 @@
-use Rattle.std.proofs.Common.{◌≡◌, arith}
-use Rattle.fc_dirs.specs.Small.{SmallDir, IsSmall}
 use Rattle.fc_smalldir.specs.Fields.{dir_of}
 use Rattle.fc_smalldir.proofs.SmallLemmas.{small_changed}
 use Rattle.fc_smalldir.proofs.small.SmallDir.change.Goals as goal

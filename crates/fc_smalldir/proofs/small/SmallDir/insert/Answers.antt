@@ -1,7 +1,6 @@
-use Rattle.std.proofs.Common.{◌≡◌, ◌<◌, List, insert, length, is_ok, true, not, subst, sym, ap, ◌∙◌, arith}
-use Rattle.fc_dirs.specs.declared.Entry.{Entry}
+use Rattle.std.proofs.Common.{◌≡◌, ◌<◌, insert, length, is_ok, true, not, subst, sym, ap, ◌∙◌, arith}
 use Rattle.fc_dirs.specs.Entries.{entry_place, with_entry}
-use Rattle.fc_dirs.specs.Small.{SmallDir, FitsSmall, IsSmall, tail_of}
+use Rattle.fc_dirs.specs.Small.{FitsSmall, IsSmall, tail_of}
 use Rattle.fc_smalldir.specs.Fields.{dir_of}
 use Rattle.fc_smalldir.proofs.SmallLemmas.{small_inserted, fits_put}
 use Rattle.fc_smalldir.proofs.small.SmallDir.insert.Goals as goal

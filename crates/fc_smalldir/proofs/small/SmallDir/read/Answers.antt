@@ -1,4 +1,4 @@
-use Rattle.std.proofs.Common.{◌≡◌, ◌<◌, length, None, subst, sym, ap, ◌∙◌, arith}
+use Rattle.std.proofs.Common.{◌≡◌, length, None, subst, sym, ap, ◌∙◌, arith}
 use Rattle.std.proofs.lemmas.Result.{err_from_is_err_and}
 use Rattle.fc_dirs.specs.Entries.{first_twin}
 use Rattle.fc_dirs.specs.Small.{SmallDir, IsSmall, IsSmallDir, small_dir, small_entries}

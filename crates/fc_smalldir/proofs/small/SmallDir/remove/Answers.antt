@@ -1,4 +1,4 @@
-use Rattle.std.proofs.Common.{◌≡◌, subst, sym}
+use Rattle.std.proofs.Common.{subst, sym}
 use Rattle.fc_dirs.specs.Small.{IsSmall}
 use Rattle.fc_smalldir.specs.Fields.{dir_of}
 use Rattle.fc_smalldir.proofs.SmallLemmas.{small_removed}
