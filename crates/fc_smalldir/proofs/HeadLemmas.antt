@@ -38,7 +38,7 @@ pub head_says_2048 : (b : List ℕ) (form : SmallForm) (is_hugo : Bool) (sequenc
     → is_hugo ≡ bytes_eq (bytes_at b 1 4) hugo_word → sequence ≡ slice_index b 0 → parent ≡ u24_at b 2010 → name ≡ bytes_at b 2032 10
     → title ≡ bytes_at b 2013 19 → take 2 reserved ≡ bytes_at b 2008 2
     → (let head : Head = record { form = form; is_hugo = is_hugo; sequence = sequence; parent = parent; name = name; title = title; reserved = reserved } in
-      dir_of head (small_entries form b) ≡ small_dir form b)
+    dir_of head (small_entries form b) ≡ small_dir form b)
 unfolding small_dir
 head_says_2048 b Bytes1280 is_hugo sequence parent name title reserved is h s p n t r = absurd (cc)
 head_says_2048 b Bytes2048 is_hugo sequence parent name title reserved is h s p n t r =
@@ -48,7 +48,7 @@ pub head_says_1280 : (b : List ℕ) (form : SmallForm) (is_hugo : Bool) (sequenc
     → is_hugo ≡ bytes_eq (bytes_at b 1 4) hugo_word → sequence ≡ slice_index b 0 → parent ≡ u24_at b 1238 → name ≡ bytes_at b 1228 10
     → title ≡ bytes_at b 1241 19 → take 14 reserved ≡ bytes_at b 1260 14
     → (let head : Head = record { form = form; is_hugo = is_hugo; sequence = sequence; parent = parent; name = name; title = title; reserved = reserved } in
-      dir_of head (small_entries form b) ≡ small_dir form b)
+    dir_of head (small_entries form b) ≡ small_dir form b)
 unfolding small_dir
 head_says_1280 b Bytes2048 is_hugo sequence parent name title reserved is h s p n t r = absurd (cc)
 head_says_1280 b Bytes1280 is_hugo sequence parent name title reserved is h s p n t r =

@@ -22,10 +22,11 @@ is_twin-at es i d within = ap (λ o. option_map_or (λ e. has_name (take i es) e
 pub twin_found : (es : List Entry) (i : ℕ) → i < length es → ((k : ℕ) → k < i → is_twin es k ≡ false) → is_twin es i ≡ true → Some i ≡ first_twin es
 twin_found es i within fails passes =
     sym (find-found (is_twin es) 0 (length es) i within (λ k h. at_zero es k false (fails k h)) (at_zero es i true passes) ∙ ap Some (zero_add i)) where
-  zero_add : (n : ℕ) → 0 + n ≡ n
-  zero_add n = omega arith
-  at_zero : (es : List Entry) (k : ℕ) (b : _) → is_twin es k ≡ b → is_twin es (0 + k) ≡ b
-  at_zero es k b is = let place : 0 + k ≡ k = omega arith in rw place is
+      zero_add : (n : ℕ) → 0 + n ≡ n
+      zero_add n = omega arith
+
+      at_zero : (es : List Entry) (k : ℕ) (b : _) → is_twin es k ≡ b → is_twin es (0 + k) ≡ b
+      at_zero es k b is = let place : 0 + k ≡ k = omega arith in rw place is
 
 pub none_twin : (es : List Entry) → ((k : ℕ) → k < length es → is_twin es k ≡ false) → None ≡ first_twin es
 none_twin es fails = sym (find-none (is_twin es) 0 (length es) (λ k h. let place : 0 + k ≡ k = omega arith in rw place (fails k h)))
@@ -87,30 +88,35 @@ none_from es apart =
 pub apart_insert : (es : List Entry) (p : ℕ) (e : Entry) → Apart es → p ≤ length es → has_name es e.name ≡ false → Apart (insert es p e)
 apart_insert es p e apart inside absent i j order within =
     elim (cases_order j p) [
-      inl at ↦ rw (at, get_or-insert_at es p e blank inside) (rw (get_or-insert_below es p e blank i (omega arith) inside) (absent_names es e.name absent i (omega arith)))
-    | inr other ↦ elim other [
-        inl before ↦
-          rw (get_or-insert_below es p e blank j before inside) (rw (get_or-insert_below es p e blank i (omega arith) inside) (apart i j order (omega arith)))
-      | inr behind ↦ later i j order within behind ] ] where
-  later : (i j : ℕ) → i < j → j < length (insert es p e) → p < j → is_same_name (get_or (insert es p e) j blank).name (get_or (insert es p e) i blank).name ≡ false
-  later i j order within behind =
-      let last : j - 1 + 1 ≡ j = omega arith in
-      let size = length-insert es p e inside in
-      let shown : get_or (insert es p e) j blank ≡ get_or es (j - 1) blank = rw last at (get_or-insert_above es p e blank (j - 1) (omega arith) inside) in
-      rw shown (elim (cases_order i p) [
-        inl at ↦ rw (at, get_or-insert_at es p e blank inside) (same_name_sym (get_or es (j - 1) blank).name e.name ∙ absent_names es e.name absent (j - 1) (omega arith))
+      | inl at ↦ rw (at, get_or-insert_at es p e blank inside) (rw (get_or-insert_below es p e blank i (omega arith) inside) (absent_names es e.name absent i (omega arith)))
       | inr other ↦ elim other [
-          inl before ↦ rw (get_or-insert_below es p e blank i before inside) (apart i (j - 1) (omega arith) (omega arith))
-        | inr past ↦
-            let first : i - 1 + 1 ≡ i = omega arith in
-            let seen : get_or (insert es p e) i blank ≡ get_or es (i - 1) blank = rw first at (get_or-insert_above es p e blank (i - 1) (omega arith) inside) in
-            rw seen (apart (i - 1) (j - 1) (omega arith) (omega arith)) ] ])
+        | inl before ↦
+            rw (get_or-insert_below es p e blank j before inside) (rw (get_or-insert_below es p e blank i (omega arith) inside) (apart i j order (omega arith)))
+        | inr behind ↦ later i j order within behind
+      ]
+    ] where
+      later : (i j : ℕ) → i < j → j < length (insert es p e) → p < j → is_same_name (get_or (insert es p e) j blank).name (get_or (insert es p e) i blank).name ≡ false
+      later i j order within behind =
+          let last : j - 1 + 1 ≡ j = omega arith in
+          let size = length-insert es p e inside in
+          let shown : get_or (insert es p e) j blank ≡ get_or es (j - 1) blank = rw last at (get_or-insert_above es p e blank (j - 1) (omega arith) inside) in
+          rw shown (elim (cases_order i p) [
+            | inl at ↦ rw (at, get_or-insert_at es p e blank inside) (same_name_sym (get_or es (j - 1) blank).name e.name ∙ absent_names es e.name absent (j - 1) (omega arith))
+            | inr other ↦ elim other [
+              | inl before ↦ rw (get_or-insert_below es p e blank i before inside) (apart i (j - 1) (omega arith) (omega arith))
+              | inr past ↦
+                  let first : i - 1 + 1 ≡ i = omega arith in
+                  let seen : get_or (insert es p e) i blank ≡ get_or es (i - 1) blank = rw first at (get_or-insert_above es p e blank (i - 1) (omega arith) inside) in
+                  rw seen (apart (i - 1) (j - 1) (omega arith) (omega arith))
+            ]
+          ])
 
 -- one name less: each entry is one of before, in the same order
 kept_place : (es : List Entry) (p : ℕ) → p < length es → (k : ℕ) → (n : ℕ) × (get_or (remove es p) k blank ≡ get_or es n blank) × (k ≤ n) × (n ≤ k + 1) × (k < p → n ≡ k) × (p ≤ k → n ≡ k + 1)
 kept_place es p inside k = elim (cases_lt k p) [
-    inl before ↦ (k, get_or-remove_below es p blank k before inside, omega arith, omega arith, λ _. refl, λ h. absurd (omega (arith, h)))
-  | inr behind ↦ (k + 1, get_or-remove_above es p blank k behind inside, omega arith, omega arith, λ h. absurd (omega (arith, h)), λ _. refl) ]
+  | inl before ↦ (k, get_or-remove_below es p blank k before inside, omega arith, omega arith, λ _. refl, λ h. absurd (omega (arith, h)))
+  | inr behind ↦ (k + 1, get_or-remove_above es p blank k behind inside, omega arith, omega arith, λ h. absurd (omega (arith, h)), λ _. refl)
+]
 
 pub apart_remove : (es : List Entry) (p : ℕ) → Apart es → p < length es → Apart (remove es p)
 apart_remove es p apart inside i j order within =
@@ -118,19 +124,22 @@ apart_remove es p apart inside i j order within =
     let a = kept_place es p inside i in
     let b = kept_place es p inside j in
     rw (a.1, b.1) (apart a.0 b.0 (rising a.0 b.0 (a.4) (a.5) (b.4) (b.5)) (omega (arith, b.3))) where
-  rising : (m n : ℕ) → (i < p → m ≡ i) → (p ≤ i → m ≡ i + 1) → (j < p → n ≡ j) → (p ≤ j → n ≡ j + 1) → m < n
-  rising m n a4 a5 b4 b5 = elim (cases_lt i p) [
-      inl l ↦ elim (cases_lt j p) [ inl k ↦ omega (arith, a4 l, b4 k) | inr k ↦ omega (arith, a4 l, b5 k) ]
-    | inr l ↦ omega (arith, a5 l, b5 (omega arith)) ]
+      rising : (m n : ℕ) → (i < p → m ≡ i) → (p ≤ i → m ≡ i + 1) → (j < p → n ≡ j) → (p ≤ j → n ≡ j + 1) → m < n
+      rising m n a4 a5 b4 b5 = elim (cases_lt i p) [
+        | inl l ↦ elim (cases_lt j p) [ inl k ↦ omega (arith, a4 l, b4 k) | inr k ↦ omega (arith, a4 l, b5 k) ]
+        | inr l ↦ omega (arith, a5 l, b5 (omega arith))
+      ]
 
 -- another entry of the same name
 pub apart_set : (es : List Entry) (p : ℕ) (e : Entry) → Apart es → e.name ≡ (get_or es p blank).name → p < length es → Apart (set es p e)
 apart_set es p e apart same inside i j order within =
     let size = length-set es p e in
     rw (kept i, kept j) (apart i j order (omega arith)) where
-  kept : (k : ℕ) → (get_or (set es p e) k blank).name ≡ (get_or es k blank).name
-  kept k = elim (cases_order k p) [
-      inl at ↦ rw (at, get_or-set_same es p e blank inside) same
-    | inr other ↦ elim other [
-        inl before ↦ ap (λ (x : Entry). x.name) (get_or-set_other es p k e blank (λ (h : k ≡ p). absurd (omega (arith, h))))
-      | inr behind ↦ ap (λ (x : Entry). x.name) (get_or-set_other es p k e blank (λ (h : k ≡ p). absurd (omega (arith, h)))) ] ]
+      kept : (k : ℕ) → (get_or (set es p e) k blank).name ≡ (get_or es k blank).name
+      kept k = elim (cases_order k p) [
+        | inl at ↦ rw (at, get_or-set_same es p e blank inside) same
+        | inr other ↦ elim other [
+          | inl before ↦ ap (λ (x : Entry). x.name) (get_or-set_other es p k e blank (λ (h : k ≡ p). absurd (omega (arith, h))))
+          | inr behind ↦ ap (λ (x : Entry). x.name) (get_or-set_other es p k e blank (λ (h : k ≡ p). absurd (omega (arith, h))))
+        ]
+      ]
