@@ -1,0 +1,12 @@
+pub mod NameLemmas
+pub mod EntryLemmas
+pub mod SearchLemmas
+pub mod ReadLemmas
+pub mod TwinLemmas
+pub mod HeadLemmas
+pub mod PlaceLemmas
+pub mod LayoutLemmas
+pub mod ReadBack
+pub mod SmallLemmas
+pub mod FaultLemmas
+pub mod WriteLemmas

@@ -1,0 +1,4 @@
+pub mod Written
+pub mod Fields
+pub mod Faults
+pub mod Laws
