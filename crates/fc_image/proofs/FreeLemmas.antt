@@ -5,7 +5,6 @@ use Rattle.std.specs.Str.{bytes_eq}
 use Rattle.fc_bytes.specs.Words.{bytes_at}
 use Rattle.fc_checks.specs.Checks.{boot_check}
 use Rattle.std.specs.List.{flat_map, range_with_len, zip}
-use Rattle.std.specs.FinMap.{from_entries}
 use Rattle.std.proofs.lemmas.Bool.{eq-eqb, eqb-true, eqb-false, ltb-false}
 use Rattle.fc_device.specs.Sectors.{sector_at}
 use Rattle.fc_record.specs.declared.DiscRecord.{DiscRecord}
@@ -19,14 +18,12 @@ use Rattle.fc_newmap.specs.Map.{Map, first_fault, zone_numbers, map_sectors}
 use Rattle.fc_copies.specs.declared.Which.{Which}
 use Rattle.fc_copies.specs.declared.Which.TheVariants.{One, Two}
 use Rattle.fc_copies.specs.Copies.{copy_start, copy_of, chosen}
-use Rattle.fc_names.specs.Names.{folded_path}
-use Rattle.fc_model.specs.Tree.{Node, Body}
 use Rattle.fc_dirs.specs.Directory.{directory_of}
 use Rattle.fc_image.specs.declared.ImageFault.{ImageFault}
 use Rattle.fc_image.specs.declared.ImageFault.TheVariants as faults
 use Rattle.fc_image.specs.Layout.{Layout, sector_bytes, dir_form, bytes_in, is_among}
-use Rattle.fc_image.specs.Walk.{◌>>=◌, Object, Listing, reader_of, is_directory_object, object_bytes, walk}
-use Rattle.fc_image.specs.Objects.{objects_of, tree_entry, tree_of}
+use Rattle.fc_image.specs.Walk.{◌>>=◌, Object, Listing, reader_of, object_bytes, walk}
+use Rattle.fc_image.specs.Objects.{objects_of}
 use Rattle.fc_image.specs.Opening.{Opened, MapAndRoot, new_layout, map_and_root, copy_or, agreement, difference, zones_or, reserved_in, misplaced_sector, unless_misplaced, open_parts, open_as}
 use Rattle.fc_names.specs.Names.{Path}
 use Rattle.fc_dirs.specs.declared.Entry.{Entry}

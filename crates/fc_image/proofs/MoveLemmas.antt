@@ -3,7 +3,6 @@ use Rattle.std.proofs.Common.{◌≡◌, ◌≤◌, ℕ, ◌-◌, ◌*◌, ◌/�
 use Rattle.std.specs.Prelude.{Result, Ok, Err, Contains, filter, nat_lt, nat_le, ◌==◌, ◌||◌, ◌&&◌, not, slice_index_or, All}
 use Rattle.std.specs.List.{flat_map, list_any, zip}
 use Rattle.std.specs.Int.{div_ceil}
-use Rattle.std.specs.FinMap.{from_entries}
 use Rattle.std.proofs.lemmas.List.Elements.{All-nil, All-cons}
 use Rattle.std.proofs.lemmas.Bool.{leb-true, eqb-true, eqb-false, eq-eqb}
 use Rattle.std.proofs.lemmas.List.{length-map, append-nil}
@@ -29,8 +28,8 @@ use Rattle.fc_dirs.specs.declared.Entry.{Entry}
 use Rattle.fc_dirs.specs.Directory.{directory_of}
 use Rattle.fc_image.specs.declared.ImageFault.{ImageFault}
 use Rattle.fc_image.specs.Layout.{Layout, dir_form, map_place, hole_sectors, id_of, low_of, low_start, first_part, id_sectors, is_object_id, sectors_at, bytes_in, is_among}
-use Rattle.fc_image.specs.Walk.{Object, Listing, reader_of, is_directory_object, object_size, object_bytes, walk}
-use Rattle.fc_image.specs.Objects.{objects_of, first_object, is_movable, is_owned, is_owner_of, tree_entry, tree_of}
+use Rattle.fc_image.specs.Walk.{Object, Listing, reader_of, object_size, object_bytes, walk}
+use Rattle.fc_image.specs.Objects.{objects_of, first_object, is_movable, is_owned, is_owner_of}
 use Rattle.fc_image.specs.Opening.{Opened, MapAndRoot, map_and_root, agreement, difference, reserved_in, boot_place, misplaced_sector, is_hole_or_movable, least_of, open_as}
 use Rattle.fc_image.specs.Stays.{IsNewKind, OpensAs, stored_object, stored_objects, is_fixed, is_fixed_run, FixedStay, FixedBytesStay}
 use Rattle.fc_image.specs.Moves.{sectors_or_none, object_in, listing_in, with_map, Turns, MovesOne, Carries, StaysBy, CarryLaw, MoveLaw, MergeLaw}

@@ -1,17 +1,16 @@
 -- The paths of an opened image are distinct under folding: of no path are there two objects.
-use Rattle.std.proofs.Common.{◌≡◌, ◌<◌, ◌≤◌, ℕ, zero, suc, ◌+◌, Bool, true, false, cond, List, [], ◌∷◌, ◌++◌, length, map, refl, sym, ap, ap₂, subst, ◌∙◌, arith, Some, None, Option, take}
-use Rattle.std.specs.Prelude.{Result, Ok, Err, filter, find, is_some, slice_get, ◌&&◌, ◌||◌}
+use Rattle.std.proofs.Common.{◌≡◌, ◌<◌, ◌≤◌, ℕ, zero, suc, ◌+◌, Bool, true, false, cond, List, [], ◌∷◌, ◌++◌, length, refl, sym, ap, ap₂, subst, ◌∙◌, arith, Some, None, Option, take}
+use Rattle.std.specs.Prelude.{Result, Ok, filter, find, is_some, slice_get, ◌&&◌, ◌||◌}
 use Rattle.std.specs.List.{flat_map, range_with_len}
 use Rattle.std.specs.Option.{option_map, option_map_or}
 use Rattle.std.specs.declared.cmp.Ordering.{Ordering}
 use Rattle.std.specs.declared.cmp.Ordering.TheVariants.{Less, Equal, Greater}
-use Rattle.std.specs.Ordering.{nat_cmp, is_eq, ordering_then, ordering_reverse}
+use Rattle.std.specs.Ordering.{is_eq, ordering_then, ordering_reverse}
 use Rattle.std.specs.Cmp.{nat_cmp_total}
-use Rattle.std.specs.Cmp.Lexicographic.{slice_cmp, lists_total}
+use Rattle.std.specs.Cmp.Lexicographic.{lists_total}
 use Rattle.fc_names.specs.declared.name.NameForm.{NameForm}
 use Rattle.fc_names.specs.declared.name.NameForm.TheVariants.{Seven, Ten, Long}
-use Rattle.fc_names.specs.Names.{Path, folded, folded_path, name_cmp, key_cmp, is_same_name, is_same_path}
-use Rattle.fc_record.specs.declared.Kind.{Kind}
+use Rattle.fc_names.specs.Names.{Path, folded, name_cmp, is_same_name, is_same_path}
 use Rattle.fc_checks.specs.Checks.{is_big_size}
 use Rattle.fc_dirs.specs.declared.Entry.{Entry}
 use Rattle.fc_dirs.specs.declared.DirFault.{DirFault}
@@ -22,10 +21,10 @@ use Rattle.fc_dirs.specs.Small.{small_fault, small_dir, small_entries, first_nam
 use Rattle.fc_dirs.specs.Big.{big_fault, big_dir, big_entries, has_second_form, first_bad_entry, is_size_right, is_magic_right as big_magic, is_sequence_right as big_sequence, is_check_right as big_check}
 use Rattle.fc_dirs.specs.Directory.{Directory, directory_of, entries_of, read_or}
 use Rattle.fc_image.specs.Layout.{Layout, dir_form}
-use Rattle.fc_image.specs.Walk.{Object, Listing, Reader, reader_of, object_bytes, is_directory_object}
+use Rattle.fc_image.specs.Walk.{Object, Listing, reader_of, object_bytes, is_directory_object}
 use Rattle.fc_image.specs.Objects.{objects_of}
-use Rattle.fc_image.specs.Opening.{Opened, open_as, reserved_in}
-use Rattle.fc_image.specs.Edits.{AreChildren, IsListing, Follows, IsRoot, PathsLaw}
+use Rattle.fc_image.specs.Opening.{reserved_in}
+use Rattle.fc_image.specs.Edits.{AreChildren, Follows, PathsLaw}
 use Rattle.fc_image.proofs.FreeLemmas.{parts_of}
 use Rattle.fc_image.proofs.EditLemmas.{walk_gives, root_first}
 

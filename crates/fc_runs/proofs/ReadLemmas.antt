@@ -1,5 +1,5 @@
 -- Steps of reading commands.
-use Rattle.std.proofs.Common.{◌≡◌, ℕ, Bool, true, false, List, refl, sym, subst, ◌∙◌, Option, Some, None}
+use Rattle.std.proofs.Common.{◌≡◌, ℕ, true, List, refl, sym, subst, ◌∙◌, Option, Some, None}
 use Rattle.std.specs.Prelude.{Result, Ok, Err}
 use Rattle.fc_names.specs.declared.refusal.Refusal.{Refusal}
 use Rattle.fc_model.specs.Tree.{Tree}

@@ -1,5 +1,5 @@
 -- Demos, replies and runs, worked out.
-use Rattle.std.specs.Prelude.{◌≡◌, ℕ, List, [], ◌∷◌, ◌++◌, codes, drop, true, Some, None, is_some, false}
+use Rattle.std.specs.Prelude.{◌≡◌, [], ◌∷◌, ◌++◌, codes, drop, true, false}
 use Rattle.fc_dirs.specs.declared.DirFault.TheVariants as dirs
 use Rattle.fc_image.specs.declared.ImageFault.TheVariants as faults
 use Rattle.fc_runs.specs.Replies.{bad_image_line}
