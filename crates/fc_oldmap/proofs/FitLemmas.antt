@@ -1,10 +1,10 @@
 -- What the first hole that fits, or that reaches a unit, says of taking and giving.
-use Rattle.std.proofs.Common.{◌≡◌, ℕ, zero, suc, ◌+◌, ◌-◌, ◌<◌, ◌≤◌, Bool, true, false, cond, List, [], ◌∷◌, ◌++◌, length, take, drop, slice_set, slice_index_or, slice_get, refl, sym, ap, ◌∙◌, subst, arith, add-one, Some, None, Option, ◌⊎◌, inl, inr, eq-eqb, ne_eqb}
+use Rattle.std.proofs.Common.{◌≡◌, ℕ, zero, suc, ◌+◌, ◌-◌, ◌<◌, ◌≤◌, true, false, List, [], ◌∷◌, length, slice_set, slice_index_or, slice_get, refl, sym, ap, ◌∙◌, subst, arith, Some, None, inl, inr, eq-eqb, ne_eqb}
 use Rattle.std.specs.Prelude.{◌==◌, nat_le, nat_lt, remove, insert, All}
 use Rattle.std.proofs.lemmas.Bool.{le-leb, lt-leb}
 use Rattle.std.proofs.lemmas.Option.{none-some}
 use Rattle.fc_oldmap.specs.declared.Hole.{Hole}
-use Rattle.fc_oldmap.specs.Holes.{hole, hole_end, rest_after_take, after_take, first_fit_place, after_give, joined_with, joined_at, shifted, tidied, AreHoles, AreApart, IsFirstFit, IsFirstReaching}
+use Rattle.fc_oldmap.specs.Holes.{hole, hole_end, after_take, first_fit_place, after_give, joined_with, joined_at, shifted, tidied, AreHoles, AreApart, IsFirstFit, IsFirstReaching}
 
 -- the facts of the rest of a list
 rest_fits : (x : Hole) (holes : List Hole) (n i : ℕ) (h : Hole) → IsFirstFit (x ∷ holes) n (suc i) h → IsFirstFit holes n i h
@@ -89,7 +89,7 @@ pub raised : (space x : Hole) (holes : List Hole) (d s : ℕ) → hole_end x ≡
 raised space x [] d s touch h apart = tt
 raised space x (y ∷ holes) d s touch (h, rest) apart =
     elim (apart 0 y (omega arith)) [
-      inl l ↦ absurd (omega (arith, h.onward, h.positive, l, touch))
+      | inl l ↦ absurd (omega (arith, h.onward, h.positive, l, touch))
       | inr l ↦ (record { positive = h.positive; onward = omega (arith, l, touch); inside = h.inside; begins = h.begins; ends = h.ends }, rest)
     ]
 

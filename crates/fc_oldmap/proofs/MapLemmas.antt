@@ -1,15 +1,15 @@
 -- What a map in memory keeps.
-use Rattle.std.proofs.Common.{◌≡◌, ℕ, zero, suc, ◌+◌, ◌-◌, ◌%◌, ◌<◌, ◌≤◌, ◌^◌, Bool, true, false, cond, List, [], ◌∷◌, ◌++◌, length, slice_get, refl, sym, ap, ◌∙◌, subst, arith, Some, None, Result, Ok, Err, ◌⊎◌, inl, inr}
+use Rattle.std.proofs.Common.{◌≡◌, ℕ, zero, suc, ◌+◌, ◌-◌, ◌%◌, ◌<◌, ◌≤◌, Bool, true, false, cond, List, [], ◌∷◌, ◌++◌, length, slice_get, refl, sym, ap, subst, arith, Some, None, Result, Ok, Err, inl, inr}
 use Rattle.std.specs.Prelude.{◌==◌, nat_le, nat_lt, All, IsErr, OnOk, OnErr, ◌↔◌, if◌then◌else◌}
 use Rattle.std.proofs.lemmas.Bool.{leb-true, leb-false, eqb-true, eqb-false, false≢true}
 use Rattle.std.proofs.lemmas.Option.{none-some}
 use Rattle.fc_oldmap.specs.declared.TakeError.{TakeError}
 use Rattle.fc_oldmap.specs.declared.TakeError.TheVariants.{DiscFull, CompactionRequired}
 use Rattle.fc_oldmap.specs.declared.Hole.{Hole}
-use Rattle.fc_oldmap.specs.Holes.{hole, hole_end, hole_sum, hole_limit, rest_after_take, after_take, first_fit_place, take_answer, after_give, joined_with, shifted, tidied, IsHole, AreHoles, AreApart, AreOfSomeDisc}
+use Rattle.fc_oldmap.specs.Holes.{hole, hole_end, hole_sum, hole_limit, rest_after_take, after_take, first_fit_place, take_answer, after_give, shifted, tidied, IsHole, AreHoles, AreApart, AreOfSomeDisc}
 use Rattle.fc_oldmap.specs.OldMap.{FreeSpace, IsOldMap}
 use Rattle.fc_oldmap.proofs.FitLemmas.{after_give-front, raised}
-use Rattle.fc_oldmap.proofs.SpaceLemmas.{mod-sum, AreHoles-lower, AreHoles-joined_with, AreHoles-tidied, AreHoles-after_take, sum-inside, length-joined_with}
+use Rattle.fc_oldmap.proofs.SpaceLemmas.{mod-sum, AreHoles-joined_with, length-joined_with}
 
 -- given space
 pub AreHoles-after_give : (d s floor : ℕ) (space : Hole) (holes : List Hole) → IsHole d s floor space → AreHoles d s floor holes
@@ -18,7 +18,7 @@ unfolding after_give
 AreHoles-after_give d s floor space [] new h apart = (new, tt)
 AreHoles-after_give d s floor space (x ∷ holes) new (h, rest) apart =
     by (nat_lt (hole_end x) space.start) refl (hole_end x == space.start) refl (hole_end space == x.start) refl (λ above. AreHoles-after_give d s (hole_end x) space holes
-      (record { positive = new.positive; onward = omega (arith, above); inside = new.inside; begins = new.begins; ends = new.ends }) rest (λ k e l. apart (suc k) e (omega arith)))
+    (record { positive = new.positive; onward = omega (arith, above); inside = new.inside; begins = new.begins; ends = new.ends }) rest (λ k e l. apart (suc k) e (omega arith)))
   where
     by : (a : Bool) → nat_lt (hole_end x) space.start ≡ a → (b : Bool) → (hole_end x == space.start) ≡ b → (t : Bool) → (hole_end space == x.start) ≡ t
         → (hole_end x < space.start → AreHoles d s (hole_end x) (after_give space holes))
@@ -58,8 +58,10 @@ AreHoles-shifted d s floor zero n (x ∷ holes) whole (h, rest) room =
   where
     moved : Hole
     moved = hole (x.start + n) x.len
+
     same : hole_end x + n ≡ hole_end (hole (x.start + n) x.len)
     same = omega arith
+
     behind : (holes : List Hole) → AreHoles d s (hole_end x) holes → ((g : Hole) → slice_get holes 0 ≡ Some g → hole_end x + n ≤ g.start)
         → AreHoles d s (hole_end (hole (x.start + n) x.len)) holes
     behind [] r up = tt

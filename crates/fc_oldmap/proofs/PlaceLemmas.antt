@@ -1,9 +1,9 @@
 -- Edits of lists of holes by the index of a hole.
-use Rattle.std.proofs.Common.{◌≡◌, ℕ, zero, suc, ◌+◌, ◌-◌, ◌<◌, ◌≤◌, Bool, true, false, cond, List, [], ◌∷◌, ◌++◌, length, take, drop, slice_set, slice_index_or, refl, sym, ap, subst, ◌∙◌, arith, add-one, rules}
-use Rattle.std.specs.Prelude.{◌==◌, nat_le, nat_lt, remove, insert}
-use Rattle.std.proofs.Common.{eq-eqb, ne_eqb, le-ltb, lt-ltb}
+use Rattle.std.proofs.Common.{◌≡◌, ℕ, zero, suc, ◌+◌, List, [], ◌∷◌, slice_set, slice_index_or, refl, sym, ap, subst, ◌∙◌, arith, add-one}
+use Rattle.std.specs.Prelude.{remove}
+use Rattle.std.proofs.Common.{eq-eqb, ne_eqb}
 use Rattle.fc_oldmap.specs.declared.Hole.{Hole}
-use Rattle.fc_oldmap.specs.Holes.{hole, hole_end, joined_with, joined_at, TouchesNext}
+use Rattle.fc_oldmap.specs.Holes.{hole, hole_end, joined_at, TouchesNext}
 
 -- the first of two holes that touch takes the second in
 pub joined_at-touching : (holes : List Hole) (i : ℕ) (d e : Hole) → TouchesNext holes i

@@ -1,5 +1,5 @@
 -- Holes read one after another.
-use Rattle.std.proofs.Common.{◌≡◌, ℕ, zero, suc, ◌+◌, ◌-◌, ◌*◌, ◌/◌, ◌%◌, ◌<◌, ◌≤◌, Bool, true, false, cond, List, [], ◌∷◌, ◌++◌, length, map, take, drop, slice_index, refl, sym, ap, ◌∙◌, subst, arith, Some, None, Option, Ok, Err, Result, ◌^◌}
+use Rattle.std.proofs.Common.{◌≡◌, ℕ, suc, ◌+◌, ◌-◌, ◌/◌, ◌%◌, ◌<◌, ◌≤◌, Bool, true, false, cond, List, [], ◌∷◌, ◌++◌, length, map, take, drop, slice_index, refl, sym, arith, Some, None, Ok, Err, Result, ◌^◌}
 use Rattle.std.specs.Prelude.{◌==◌, nat_le, nat_lt, ◌&&◌}
 use Rattle.std.specs.List.{range_with_len}
 use Rattle.std.proofs.lemmas.Bool.{leb-true, eqb-true}
@@ -7,7 +7,7 @@ use Rattle.std.proofs.lemmas.List.{get_or-drop}
 use Rattle.std.proofs.lemmas.Option.{none-some}
 use Rattle.std.proofs.lemmas.List.FromFn.{map-range_with_len_more, length-map-range_with_len}
 use Rattle.fc_oldmap.specs.declared.Hole.{Hole}
-use Rattle.fc_oldmap.specs.Holes.{hole, hole_end, IsHole, AreHoles}
+use Rattle.fc_oldmap.specs.Holes.{hole_end, IsHole, AreHoles}
 use Rattle.fc_oldmap.specs.OldMap.{FreeSpace, stored_hole, holes_of, is_free_end, is_hole_right, map_units, old_map, wrong_hole}
 use Rattle.fc_oldmap.specs.declared.OldMapFault.{OldMapFault}
 use Rattle.fc_oldmap.specs.declared.OldMapFault.TheVariants.{Check, Bad}

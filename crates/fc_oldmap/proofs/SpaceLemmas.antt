@@ -1,11 +1,11 @@
 -- Rising holes, and what stays of that when space is taken, given, moved and joined.
-use Rattle.std.proofs.Common.{◌≡◌, ℕ, zero, suc, ◌+◌, ◌-◌, ◌*◌, ◌/◌, ◌%◌, ◌<◌, ◌≤◌, ◌^◌, Bool, true, false, cond, List, [], ◌∷◌, ◌++◌, length, slice_set, slice_index_or, slice_get, take, drop, refl, sym, ap, ◌∙◌, subst, arith, add-one, Some, None, Option, ◌⊎◌, inl, inr}
-use Rattle.std.specs.Prelude.{◌==◌, nat_le, nat_lt, All}
-use Rattle.std.proofs.lemmas.Bool.{leb-true, eqb-true, eqb-false, le-leb, lt-leb}
+use Rattle.std.proofs.Common.{◌≡◌, ℕ, zero, suc, ◌+◌, ◌-◌, ◌*◌, ◌/◌, ◌%◌, ◌<◌, ◌≤◌, ◌^◌, Bool, true, false, cond, List, [], ◌∷◌, ◌++◌, length, slice_set, slice_index_or, slice_get, refl, sym, ap, ◌∙◌, subst, arith, Some, Option}
+use Rattle.std.specs.Prelude.{◌==◌, nat_le, All}
+use Rattle.std.proofs.lemmas.Bool.{leb-true, eqb-true, eqb-false}
 use Rattle.std.proofs.Math.Nat.{mod-add-div', add-mul, add-mul-mod_self_right, zero-mod}
 use Rattle.std.proofs.lemmas.Option.{slice_get_within, get_or_from_slice_get}
 use Rattle.fc_oldmap.specs.declared.Hole.{Hole}
-use Rattle.fc_oldmap.specs.Holes.{hole, hole_end, hole_sum, rest_after_take, after_take, after_give, first_fit_place, joined_with, joined_at, shifted, tidied, IsHole, AreHoles, AreApart, IsFirstFit, AreOfSomeDisc}
+use Rattle.fc_oldmap.specs.Holes.{hole, hole_end, hole_sum, rest_after_take, after_take, joined_with, joined_at, tidied, IsHole, AreHoles, AreOfSomeDisc}
 use Rattle.fc_oldmap.proofs.HoleLemmas.{sum-cons}
 
 -- a sum of two multiples

@@ -1,7 +1,7 @@
 -- Numbers of three bytes written one after another.
-use Rattle.std.proofs.Common.{◌≡◌, ℕ, zero, suc, ◌+◌, ◌-◌, ◌*◌, ◌%◌, ◌<◌, ◌≤◌, List, [], ◌∷◌, ◌++◌, length, take, drop, map, replicate, slice_set, refl, sym, ap, ◌∙◌, subst, arith, append_assoc, length-append}
+use Rattle.std.proofs.Common.{◌≡◌, ℕ, zero, suc, ◌+◌, ◌-◌, ◌*◌, ◌%◌, ◌<◌, ◌≤◌, List, [], ◌∷◌, ◌++◌, length, take, drop, replicate, slice_set, refl, sym, ap, ◌∙◌, arith, append_assoc, length-append}
 use Rattle.std.specs.List.{flat_map}
-use Rattle.std.proofs.lemmas.List.{append-nil, drop-replicate, take-replicate, drop_all, length-replicate, take-append-le, drop-append-le, take-take, take_more_set, take_all, drop-take, drop-drop, length-take, length-drop}
+use Rattle.std.proofs.lemmas.List.{append-nil, drop-replicate, take-replicate, length-replicate, take-append-le, drop-append-le, take-take, take_more_set, take_all, drop-take, drop-drop, length-take, length-drop}
 use Rattle.std.proofs.lemmas.Grind.{flat_map-append}
 use Rattle.std.proofs.Math.Seq.{take-append_seam, drop-append-add, take-append-add}
 use Rattle.byteorder.specs.Endian.{little_bytes}

@@ -148,19 +148,19 @@ pub fn give_to(holes: &mut Holes, space: Hole) -> Result<(), MapFull>
 }
 
 /// Moves a hole `n` units up, and joins it with the next where the two then touch.
-pub fn shift_at(holes: &mut Holes, i: usize, n: u32)
+pub fn shift_at(holes: &mut Holes, index: usize, n: u32)
     requires holes { AreOfSomeDisc holes.old.items }
-    requires there { i < array_vec_len holes.old }
-    requires fits { ForSome (slice_get holes.old.items i) (λ h. hole_end h + n < 2 ^ 32) }
-    ensures { holes.new.items ≡ shifted i n holes.old.items }
+    requires there { index < array_vec_len holes.old }
+    requires fits { ForSome (slice_get holes.old.items index) (λ h. hole_end h + n < 2 ^ 32) }
+    ensures { holes.new.items ≡ shifted index n holes.old.items }
 {
-    let hole = holes[i];
+    let hole = holes[index];
     let moved = Hole {
         start: hole.start + n,
         len: hole.len,
     };
-    set(holes, i, moved);
-    join_next(holes, i);
+    set(holes, index, moved);
+    join_next(holes, index);
 }
 
 /// Joins every two holes that touch.

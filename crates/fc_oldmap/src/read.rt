@@ -6,8 +6,8 @@ ghost use Rattle.fc_checks.specs.Checks.{is_half_right};
 ghost use Rattle.fc_oldmap.specs.Holes.{hole, hole_end};
 ghost use Rattle.fc_oldmap.specs.OldMap.{holes_of, is_free_end, is_hole_right, map_units, wrong_hole};
 
-use crate::holes::Holes;
 use crate::Hole;
+use crate::holes::Holes;
 use arrayvec::ArrayVec;
 use fc_bytes::le24;
 use fc_checks::old_check;
@@ -67,9 +67,7 @@ pub fn read_holes(b: &[u8], count: usize, disc_units: u32, sector_units: u32) ->
     requires size { length b.now ≡ 512 }
     requires few { count ≤ 82 }
     requires units { 0 < sector_units }
-    ensures ok {
-        IfOk result (λ holes. (holes.items ≡ holes_of b.now count) × (wrong_hole disc_units sector_units 0 (map_units sector_units) (holes_of b.now count) ≡ None))
-    }
+    ensures ok { IfOk result (λ holes. (holes.items ≡ holes_of b.now count) × (wrong_hole disc_units sector_units 0 (map_units sector_units) (holes_of b.now count) ≡ None)) }
     ensures err { IfErr result (λ index. wrong_hole disc_units sector_units 0 (map_units sector_units) (holes_of b.now count) ≡ Some index) }
 {
     let mut holes: Holes = ArrayVec::new();

@@ -4,7 +4,7 @@ ghost use Rattle.std.specs.Prelude.{◌≡◌, ◌+◌, ◌%◌, ◌<◌, ◌≤
 ghost use Rattle.std.specs.Option.{ForSome};
 ghost use Rattle.fc_oldmap.specs.Holes.{AreApart, after_give, after_take, hole, hole_end, hole_limit, shifted, take_answer, tidied};
 
-use crate::holes::{give_to, shift_at, shortage, take_from, tidy_all, Holes};
+use crate::holes::{Holes, give_to, shift_at, shortage, take_from, tidy_all};
 use crate::read::{is_free_end, is_half_right, read_holes};
 use crate::write::write_map;
 use crate::{Hole, MapFull, OldMapFault, TakeError};
@@ -101,9 +101,7 @@ impl OldMap {
         requires there { index < length self.old.holes }
         requires whole { n % self.old.sector_units ≡ 0 }
         requires disc { ForSome (slice_get self.old.holes index) (λ h. hole_end h + n ≤ self.old.disc_units) }
-        requires next {
-            ForSome (slice_get self.old.holes index) (λ h. ForSome (slice_get self.old.holes (index + 1)) (λ g. hole_end h + n ≤ g.start))
-        }
+        requires next { ForSome (slice_get self.old.holes index) (λ h. ForSome (slice_get self.old.holes (index + 1)) (λ g. hole_end h + n ≤ g.start)) }
         ensures { self.new ≡ record self.old { holes = shifted index n self.old.holes } }
     {
         shift_at(&mut self.holes, index as usize, n);

@@ -1,4 +1,4 @@
-use Rattle.std.proofs.Common.{◌≡◌, ◌+◌, ◌<◌, ◌≤◌, ◌^◌, true, false, List, slice_set, slice_get, length, sym, ap, subst, ◌∙◌, arith, refl, Some}
+use Rattle.std.proofs.Common.{◌≡◌, ◌+◌, ◌<◌, ◌≤◌, ◌^◌, List, slice_get, length, sym, ap, subst, ◌∙◌, arith, refl, Some}
 use Rattle.std.specs.Prelude.{All, insert}
 use Rattle.std.proofs.lemmas.Bool.{eqb-true, eqb-false}
 use Rattle.std.proofs.lemmas.List.{length-set}
@@ -88,9 +88,9 @@ apart : (c : After-is_full) → slice_get c.args.holes.now.items c.first_reachin
 apart c same r =
     after_give-apart c.args.space c.args.holes.now.items c.first_reaching-at.result r
     (elim c.in_default.branch [
-      in_default-via-in-Some-2+else-hole-end w ↦ (λ h at.
-        let e : h ≡ w.in-Some.hole = cc (sym at ∙ same ∙ w.in-Some.is) in
-        (λ t. w.if-end-space.false (w.end.ensures ∙ ap hole_end (sym e) ∙ t), λ t. w.if-hole-end.false (ap (λ (y : Hole). y.start) (sym e) ∙ t ∙ sym c.end-end.ensures)))
+      | in_default-via-in-Some-2+else-hole-end w ↦ (λ h at.
+          let e : h ≡ w.in-Some.hole = cc (sym at ∙ same ∙ w.in-Some.is) in
+          (λ t. w.if-end-space.false (w.end.ensures ∙ ap hole_end (sym e) ∙ t), λ t. w.if-hole-end.false (ap (λ (y : Hole). y.start) (sym e) ∙ t ∙ sym c.end-end.ensures)))
       | in_default-via-in_default w ↦ (λ h at. absurd (w.in_default.not-Some h (sym same ∙ at)))
     ])
 

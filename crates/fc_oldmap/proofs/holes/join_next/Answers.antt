@@ -1,6 +1,6 @@
-use Rattle.std.proofs.Common.{◌≡◌, ◌+◌, suc, List, slice_set, slice_index_or, sym, ap, subst, ◌∙◌, arith}
+use Rattle.std.proofs.Common.{◌+◌, List, slice_set, slice_index_or, sym, ap, subst, ◌∙◌}
 use Rattle.fc_oldmap.specs.declared.Hole.{Hole}
-use Rattle.fc_oldmap.specs.Holes.{hole, joined_at, TouchesNext}
+use Rattle.fc_oldmap.specs.Holes.{hole, TouchesNext}
 use Rattle.fc_oldmap.proofs.PlaceLemmas.{joined_at-written, joined_at-apart}
 use Rattle.fc_oldmap.proofs.holes.join_next.Goals as goal
 

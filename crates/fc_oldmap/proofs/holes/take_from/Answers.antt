@@ -1,8 +1,8 @@
-use Rattle.std.proofs.Common.{◌≡◌, ◌+◌, ◌<◌, ◌≤◌, List, length, sym, ap, subst, ◌∙◌, arith, refl}
+use Rattle.std.proofs.Common.{◌<◌, List, sym, subst, ◌∙◌, arith}
 use Rattle.std.specs.Prelude.{All}
 use Rattle.std.proofs.lemmas.Option.{slice_get_within}
 use Rattle.fc_oldmap.specs.declared.Hole.{Hole}
-use Rattle.fc_oldmap.specs.Holes.{after_take, IsFirstFit}
+use Rattle.fc_oldmap.specs.Holes.{IsFirstFit}
 use Rattle.fc_oldmap.proofs.FitLemmas.{first_fit-at, after_take-whole, after_take-front, no_fit, after_take-none}
 use Rattle.fc_oldmap.proofs.SpaceLemmas.{seen_end}
 use Rattle.fc_oldmap.proofs.holes.take_from.Goals as goal

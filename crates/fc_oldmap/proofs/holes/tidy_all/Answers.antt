@@ -1,5 +1,4 @@
-use Rattle.std.proofs.Common.{◌≡◌, ℕ, suc, ◌+◌, ◌-◌, List, length, sym, ap, subst, ◌∙◌, arith, refl}
-use Rattle.fc_oldmap.specs.declared.Hole.{Hole}
+use Rattle.std.proofs.Common.{◌≡◌, suc, ◌-◌, sym, ap, subst, ◌∙◌, arith, refl}
 use Rattle.fc_oldmap.specs.Holes.{joined_at, tidied, AreOfSomeDisc}
 use Rattle.fc_oldmap.proofs.FitLemmas.{joined_below, tidied-below}
 use Rattle.fc_oldmap.proofs.SpaceLemmas.{ends_fit, AreOfSomeDisc-joined_at}

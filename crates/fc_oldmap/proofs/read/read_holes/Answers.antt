@@ -1,7 +1,7 @@
-use Rattle.std.proofs.Common.{◌≡◌, ◌+◌, ◌-◌, ◌<◌, ◌++◌, ◌∷◌, [], true, false, List, length, sym, ap, subst, ◌∙◌, arith, refl, Some, None}
+use Rattle.std.proofs.Common.{◌≡◌, ◌+◌, ◌-◌, ◌++◌, ◌∷◌, [], length, sym, ap, ◌∙◌, arith, refl}
 use Rattle.fc_oldmap.specs.declared.Hole.{Hole}
 use Rattle.fc_oldmap.specs.Holes.{hole_end}
-use Rattle.fc_oldmap.specs.OldMap.{holes_of, is_hole_right, map_units, stored_hole, wrong_hole}
+use Rattle.fc_oldmap.specs.OldMap.{holes_of, is_hole_right, map_units, wrong_hole}
 use Rattle.fc_oldmap.proofs.ReadLemmas.{holes_from, holes_from-all, holes_of-none, holes_of-more, length-holes_of, wrong_hole-right, wrong_hole-here, wrong_hole-end}
 use Rattle.fc_oldmap.proofs.read.read_holes.Goals as goal
 
@@ -39,6 +39,7 @@ loop-index-preserved c =
 
 pub returns-clause-ok : goal.returns-clause-ok
 returns-clause-ok c =
-    let e : c.loop-index.index ≡ c.args.count = omega arith in
-    (c.loop-index.invariant.read ∙ ap (holes_of c.args.b.now) e,
-    sym c.loop-index.invariant.left ∙ wrong_hole-end c.args.disc_units c.args.sector_units c.args.b.now c.loop-index.index c.args.count c.loop-index.floor (sym e))
+    let e : c.loop-index.index ≡ c.args.count = omega arith in (
+      c.loop-index.invariant.read ∙ ap (holes_of c.args.b.now) e,
+      sym c.loop-index.invariant.left ∙ wrong_hole-end c.args.disc_units c.args.sector_units c.args.b.now c.loop-index.index c.args.count c.loop-index.floor (sym e),
+    )

@@ -1,4 +1,4 @@
-use Rattle.std.proofs.Common.{◌≡◌, ℕ, ◌+◌, ◌*◌, ◌<◌, ◌≤◌, ◌^◌, ◌++◌, ◌∷◌, [], List, length, map, take, drop, slice_set, sym, ap, subst, ◌∙◌, arith, refl}
+use Rattle.std.proofs.Common.{◌*◌, ◌++◌, length, map, take, drop, slice_set, ap, ◌∙◌}
 use Rattle.fc_oldmap.specs.declared.Hole.{Hole}
 use Rattle.fc_oldmap.specs.OldMap.{with_holes, triples, checked_half}
 use Rattle.fc_oldmap.proofs.WriteLemmas.{first_half, second_half}

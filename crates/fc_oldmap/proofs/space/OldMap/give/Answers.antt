@@ -1,6 +1,5 @@
-use Rattle.std.proofs.Common.{◌≡◌, ◌+◌, ◌%◌, ◌<◌, ◌≤◌, ◌^◌, suc, List, length, slice_get, sym, ap, subst, ◌∙◌, arith, refl, Some, None, Ok, Err}
-use Rattle.fc_oldmap.specs.declared.Hole.{Hole}
-use Rattle.fc_oldmap.specs.OldMap.{FreeSpace, IsOldMap}
+use Rattle.std.proofs.Common.{sym, subst, arith}
+use Rattle.fc_oldmap.specs.OldMap.{FreeSpace}
 use Rattle.std.specs.Prelude.{All}
 use Rattle.fc_oldmap.specs.Holes.{after_give, hole, IsHole, AreApart}
 use Rattle.fc_oldmap.proofs.MapLemmas.{given_keeps, AreHoles-after_give}

@@ -1,9 +1,9 @@
-use Rattle.std.proofs.Common.{◌≡◌, ◌+◌, ◌<◌, ◌≤◌, ◌^◌, true, false, List, length, take, drop, sym, ap, subst, ◌∙◌, arith, refl, Some, None, Ok, Err, ℕ, ◌/◌, slice_index}
-use Rattle.std.proofs.lemmas.List.{length-take, length-drop}
+use Rattle.std.proofs.Common.{◌≡◌, List, length, sym, ap, subst, ◌∙◌, arith, None, ℕ, ◌/◌, slice_index}
+use Rattle.std.proofs.lemmas.List.{length-take}
 use Rattle.fc_bytes.specs.Words.{u24_at}
 use Rattle.fc_oldmap.specs.declared.Hole.{Hole}
 use Rattle.fc_oldmap.specs.Holes.{AreHoles}
-use Rattle.fc_oldmap.specs.OldMap.{FreeSpace, holes_of, map_units, old_map, wrong_hole}
+use Rattle.fc_oldmap.specs.OldMap.{FreeSpace, holes_of, map_units, wrong_hole}
 use Rattle.fc_oldmap.proofs.SpaceLemmas.{AreHoles-lower}
 use Rattle.fc_oldmap.proofs.ReadLemmas.{old_map-first, old_map-second, old_map-end, old_map-wrong, old_map-right, AreHoles-right, length-holes_of, bad, read_as, few_holes, u24_fits}
 use Rattle.fc_oldmap.proofs.space.OldMap.read.Goals as goal
@@ -33,10 +33,11 @@ right : (c : In-Ok) → (c.in-Ok.holes.items ≡ holes_of c.args.b.now (slice_in
 right c =
     let b = c.args.b.now in
     let units = c.args.sector_units in
-    let ok = c.in-Ok.ensures.ok in
-    (ok.0 ∙ ap (holes_of b) c.from-2.ensures,
-    ap (λ d. wrong_hole d units 0 (map_units units) (holes_of b (slice_index b 510 / 3))) (sym c.le24-disc_units.ensures.bytes)
-    ∙ ap (λ n. wrong_hole c.le24-disc_units.result units 0 (map_units units) (holes_of b n)) (sym c.from-2.ensures) ∙ ok.1)
+    let ok = c.in-Ok.ensures.ok in (
+      ok.0 ∙ ap (holes_of b) c.from-2.ensures,
+      ap (λ d. wrong_hole d units 0 (map_units units) (holes_of b (slice_index b 510 / 3))) (sym c.le24-disc_units.ensures.bytes)
+          ∙ ap (λ n. wrong_hole c.le24-disc_units.result units 0 (map_units units) (holes_of b n)) (sym c.from-2.ensures) ∙ ok.1,
+    )
 
 pub invariant_of-result : goal.invariant_of-result
 invariant_of-result c =

@@ -1,9 +1,9 @@
-use Rattle.std.proofs.Common.{◌≡◌, ◌+◌, ◌%◌, ◌<◌, ◌≤◌, ◌^◌, suc, List, length, slice_get, sym, ap, subst, ◌∙◌, arith, refl, Some, None, Ok, Err}
+use Rattle.std.proofs.Common.{◌≡◌, ◌%◌, List, sym, ap, subst, ◌∙◌, arith}
 use Rattle.fc_oldmap.specs.declared.Hole.{Hole}
 use Rattle.std.specs.Prelude.{nat_lt, if◌then◌else◌}
 use Rattle.fc_oldmap.specs.declared.TakeError.TheVariants.{DiscFull, CompactionRequired}
 use Rattle.fc_oldmap.specs.OldMap.{FreeSpace, IsOldMap}
-use Rattle.fc_oldmap.specs.Holes.{after_take, hole_sum, first_fit_place, take_answer, AreHoles}
+use Rattle.fc_oldmap.specs.Holes.{after_take, hole_sum, take_answer, AreHoles}
 use Rattle.fc_oldmap.proofs.SpaceLemmas.{AreHoles-after_take, sum-inside}
 use Rattle.fc_oldmap.proofs.MapLemmas.{with_list, length-after_take, after_take-same, take_answer-some, take_answer-none, refused-if}
 use Rattle.fc_oldmap.proofs.space.OldMap.take.Goals as goal
@@ -33,10 +33,10 @@ returns-clause-answer c =
     let holes = c.self.inside.holes.items in
     let view = ap (λ (v : FreeSpace). take_answer c.args.n v.holes) c.self.view_is in
     elim c.match-take_from.branch [
-      in-Some w ↦ w.result-is ∙ sym (take_answer-some c.args.n w.in-Some.start holes (sym c.take_from.ensures.start ∙ w.in-Some.is)) ∙ view
+      | in-Some w ↦ w.result-is ∙ sym (take_answer-some c.args.n w.in-Some.start holes (sym c.take_from.ensures.start ∙ w.in-Some.is)) ∙ view
       | in-None w ↦
-        let none = sym c.take_from.ensures.start ∙ w.in-None.is in
-        let same = w.deref.ensures.0 ∙ c.take_from.ensures.holes ∙ after_take-same c.args.n holes none in
-        let why = w.shortage.ensures ∙ ap (λ l. if nat_lt (hole_sum l) c.args.n then DiscFull else CompactionRequired) same in
-        w.result-is ∙ refused-if (nat_lt (hole_sum holes) c.args.n) w.shortage.result why ∙ sym (take_answer-none c.args.n holes none) ∙ view
+          let none = sym c.take_from.ensures.start ∙ w.in-None.is in
+          let same = w.deref.ensures.0 ∙ c.take_from.ensures.holes ∙ after_take-same c.args.n holes none in
+          let why = w.shortage.ensures ∙ ap (λ l. if nat_lt (hole_sum l) c.args.n then DiscFull else CompactionRequired) same in
+          w.result-is ∙ refused-if (nat_lt (hole_sum holes) c.args.n) w.shortage.result why ∙ sym (take_answer-none c.args.n holes none) ∙ view
     ]
