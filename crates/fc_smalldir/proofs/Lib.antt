@@ -10,3 +10,4 @@ pub mod ReadBack
 pub mod SmallLemmas
 pub mod FaultLemmas
 pub mod WriteLemmas
+pub mod UncheckedLemmas

@@ -9,11 +9,13 @@ mod entries;
 mod entry;
 mod head;
 mod small;
+mod unchecked;
 
 ghost use Rattle.fc_smalldir.specs.Laws.{ReadsBack};
 
 pub use fc_dirs::{DirFault, Entry, SmallForm};
 pub use small::SmallDir;
+pub use unchecked::read_unchecked;
 
 /// Why a directory is not read.
 #[derive(Clone, Copy)]
