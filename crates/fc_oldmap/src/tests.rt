@@ -4,6 +4,7 @@ ghost use Rattle.std.specs.Prelude.{All, IsTrue, ◌↔◌};
 ghost use Rattle.fc_oldmap.specs.Holes.{AreApart};
 
 use super::*;
+use fc_checks::old_check;
 use std::test::Fail;
 
 // Bytes put at the front of others.
@@ -13,15 +14,25 @@ fn put(b: &mut [u8], bytes: &[u8]) {
     }
 }
 
+// Half a map: its numbers, the three bytes before its check, and the check of a sum from `start`.
+fn half_map(numbers: &[u8], last: [u8; 3], start: u8) -> [u8; 256] {
+    let mut half = [0; 256];
+    put(&mut half, numbers);
+    half[252] = last[0];
+    half[253] = last[1];
+    half[254] = last[2];
+    half[255] = old_check(&half, start);
+    half
+}
+
 // A map with right checks, the first of which starts at 0.
 fn map_bytes(units: [u8; 2], starts: &[u8], lengths: &[u8], free_end: u8) -> [u8; 512] {
+    let first = half_map(starts, [units[0], units[1], 0], 0);
+    let second = half_map(lengths, [0, 0, free_end], 255);
     let mut b = [0; 512];
-    put(&mut b, starts);
-    put(&mut b[256..], lengths);
-    put(&mut b[252..], &units);
-    b[510] = free_end;
-    b[255] = fc_checks::old_check(&b[..256], 0);
-    b[511] = fc_checks::old_check(&b[256..512], 255);
+    for (place, byte) in b.iter_mut().zip(first.iter().chain(&second)) {
+        *place = *byte;
+    }
     b
 }
 
