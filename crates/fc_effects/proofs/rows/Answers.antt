@@ -4,7 +4,7 @@ use Rattle.fc_device.specs.Sectors.{sector_at}
 use Rattle.fc_checks.specs.Checks.{carry_sum, accumulated}
 use Rattle.fc_record.specs.Record.{record_fault}
 use Rattle.fc_record.specs.Kinds.{kind_of}
-use Rattle.fc_oldmap.specs.OldMap.{with_holes, old_map, wrong_hole}
+use Rattle.fc_oldmap.specs.OldMap.{with_holes, old_map, wrong_hole, holes_of, is_hole_right}
 use Rattle.fc_zone.specs.Reading.{runs_from}
 use Rattle.fc_zone.specs.Reading.{runs_of}
 use Rattle.fc_copies.specs.Copies.{is_sound, chosen}
@@ -19,7 +19,7 @@ use Rattle.fc_effects.specs.Short.{short}
 use Rattle.fc_effects.proofs.rows.Goals as goal
 
 pub returns : goal.returns
-unfolding bits num low_bits sector_at carry_sum accumulated record_fault kind_of with_holes old_map wrong_hole runs_from runs_of is_sound chosen small_fault small_dir big_fault big_dir sectors_at bytes_in children_of listings_from walk open_as open_image after_take first_fit_place after_give slack_among short
+unfolding bits num low_bits sector_at carry_sum accumulated record_fault kind_of with_holes old_map holes_of is_hole_right wrong_hole runs_from runs_of is_sound chosen small_fault small_dir big_fault big_dir sectors_at bytes_in children_of listings_from walk open_as open_image after_take first_fit_place after_give slack_among short
 returns c = record {
   units_f = refl;
   full = refl;
