@@ -1,0 +1,147 @@
+// The lines of refusals and of bad images.
+ghost use Rattle.std.specs.Prelude.{◌≡◌, ◌++◌, ◌∷◌, [], IfOk, OnOk, string_bytes, codes};
+ghost use Rattle.std.specs.Fmt.{decimal};
+ghost use Rattle.fc_names.specs.Paths.{spelled_path};
+ghost use Rattle.fc_script.specs.Texts.{refusal_line};
+ghost use Rattle.fc_runs.specs.Replies.{bad_image_line, dir_fault_words, fault_words};
+ghost use Rattle.fc_shell.specs.Lines.{spaced};
+
+use fc_device::NoMemory;
+use fc_dirs::DirFault;
+use fc_image::ImageFault;
+use fc_names::{Path, Refusal, write_name};
+use std::alloc::Global;
+
+/// The line of a refusal.
+pub fn refusal_line(alloc: Global, refusal: Refusal) -> Result<String, NoMemory>
+    ensures { IfOk result (λ line. string_bytes line ≡ refusal_line refusal) }
+{
+    let number = refusal.number();
+    let word = refusal.word();
+    Ok(format!(in alloc; "error {number} {word}\n")?)
+}
+
+// Appends a space and a word.
+fn push_word(line: &mut Vec<u8>, word: &[u8]) -> Result<(), NoMemory>
+    ensures { OnOk result (line.new.items ≡ line.old.items ++ spaced (word.now ∷ [])) }
+{
+    line.extend_from_slice(b" ")?;
+    line.extend_from_slice(word)?;
+    Ok(())
+}
+
+// Appends a space and a number.
+fn push_number(alloc: Global, line: &mut Vec<u8>, number: u64) -> Result<(), NoMemory>
+    ensures { OnOk result (line.new.items ≡ line.old.items ++ spaced (decimal number ∷ [])) }
+{
+    let text = format!(in alloc; "{number}")?;
+    push_word(line, text.as_bytes())
+}
+
+// Appends a space and a path.
+fn push_path(line: &mut Vec<u8>, path: &Path) -> Result<(), NoMemory>
+    ensures { OnOk result (line.new.items ≡ line.old.items ++ spaced (spelled_path path.now ∷ [])) }
+{
+    line.extend_from_slice(b" $")?;
+    for name in path.names() {
+        line.extend_from_slice(b".")?;
+        write_name(name, line)?;
+    }
+    Ok(())
+}
+
+// Appends the words of what is wrong with a directory.
+fn push_dir_fault(alloc: Global, line: &mut Vec<u8>, fault: DirFault) -> Result<(), NoMemory>
+    ensures { OnOk result (line.new.items ≡ line.old.items ++ spaced (dir_fault_words fault)) }
+{
+    match fault {
+        DirFault::Magic => push_word(line, b"Magic"),
+        DirFault::Sequence => push_word(line, b"Sequence"),
+        DirFault::Size => push_word(line, b"Size"),
+        DirFault::Check => push_word(line, b"Check"),
+        DirFault::BadEntry { at } => {
+            push_word(line, b"BadEntry")?;
+            push_number(alloc, line, u64::from(at))
+        }
+        DirFault::Twin { at } => {
+            push_word(line, b"Twin")?;
+            push_number(alloc, line, u64::from(at))
+        }
+    }
+}
+
+// Appends a word and two numbers.
+fn push_pair(
+    alloc: Global,
+    line: &mut Vec<u8>,
+    word: &[u8],
+    one: u64,
+    two: u64,
+) -> Result<(), NoMemory>
+    ensures { OnOk result (line.new.items ≡ line.old.items ++ spaced (word.now ∷ decimal one ∷ decimal two ∷ [])) }
+{
+    push_word(line, word)?;
+    push_number(alloc, line, one)?;
+    push_number(alloc, line, two)
+}
+
+// Appends a word and a number.
+fn push_count(alloc: Global, line: &mut Vec<u8>, word: &[u8], number: u64) -> Result<(), NoMemory>
+    ensures { OnOk result (line.new.items ≡ line.old.items ++ spaced (word.now ∷ decimal number ∷ [])) }
+{
+    push_word(line, word)?;
+    push_number(alloc, line, number)
+}
+
+// Appends a word and a path.
+fn push_place(line: &mut Vec<u8>, word: &[u8], path: &Path) -> Result<(), NoMemory>
+    ensures { OnOk result (line.new.items ≡ line.old.items ++ spaced (word.now ∷ spelled_path path.now ∷ [])) }
+{
+    push_word(line, word)?;
+    push_path(line, path)
+}
+
+// Appends the words of a fault.
+fn push_fault(alloc: Global, line: &mut Vec<u8>, fault: &ImageFault) -> Result<(), NoMemory>
+    ensures { OnOk result (line.new.items ≡ line.old.items ++ spaced (fault_words fault.now)) }
+{
+    match fault {
+        ImageFault::NoKind => push_word(line, b"NoKind"),
+        ImageFault::Short { need, have } => push_pair(alloc, line, b"Short", *need, *have),
+        ImageFault::Copies { c1, c2 } => push_pair(
+            alloc,
+            line,
+            b"Copies",
+            u64::from(*c1),
+            u64::from(*c2),
+        ),
+        ImageFault::Differs { offset } => push_count(alloc, line, b"Differs", u64::from(*offset)),
+        ImageFault::Bad { offset } => push_count(alloc, line, b"Bad", u64::from(*offset)),
+        ImageFault::Zone { zone, bit } => push_pair(
+            alloc,
+            line,
+            b"Zone",
+            u64::from(*zone),
+            u64::from(*bit),
+        ),
+        ImageFault::Hole { index } => push_count(alloc, line, b"Hole", u64::from(*index)),
+        ImageFault::Directory { path, fault } => {
+            push_place(line, b"Directory", path)?;
+            push_dir_fault(alloc, line, *fault)
+        }
+        ImageFault::Place { path } => push_place(line, b"Place", path),
+        ImageFault::Overlap { path } => push_place(line, b"Overlap", path),
+        ImageFault::MapPlace { sector } => push_count(alloc, line, b"MapPlace", *sector),
+    }
+}
+
+/// The line of an image that isn't accepted.
+pub fn bad_image_line(alloc: Global, fault: &ImageFault) -> Result<Vec<u8>, NoMemory>
+    ensures { IfOk result (λ line. line.items ≡ bad_image_line fault.now) }
+{
+    let mut line = Vec::new(alloc);
+    line.extend_from_slice(b"bad-image")?;
+    push_fault(alloc, &mut line, fault)?;
+    line.extend_from_slice(b"\n")?;
+    Ok(line)
+}
