@@ -1,8 +1,8 @@
 -- The named entry, and the root's bytes.
-use Rattle.std.proofs.Common.{◌≡◌, ◌<◌, ◌≤◌, ℕ, suc, ◌+◌, Bool, nat_le, nat_lt, true, false, cond, List, [], ◌∷◌, ◌++◌, All, length, take, get_or, position, find, Option, Some, None, Ok, subst, refl, sym, ap, ◌∙◌, inl, inr, append_assoc, arith}
+use Rattle.std.proofs.Common.{◌≡◌, ◌<◌, ◌≤◌, ℕ, suc, Bool, nat_le, nat_lt, true, false, cond, List, [], ◌∷◌, ◌++◌, All, length, take, get_or, position, find, Option, Some, None, Ok, subst, refl, sym, ap, ◌∙◌, inl, inr, append_assoc, arith}
 use Rattle.std.specs.List.{position_or_len, slice_get}
 use Rattle.std.proofs.lemmas.Bool.{cases_lt, leb-true, lt-ltb, ltb-true}
-use Rattle.std.proofs.lemmas.List.{append-nil, length-append, length-take-le, take_at}
+use Rattle.std.proofs.lemmas.List.{length-append, length-take-le, take_at}
 use Rattle.std.proofs.lemmas.List.Folds.{find_at}
 use Rattle.std.proofs.lemmas.Option.{slice_get_past, slice_get_read}
 use Rattle.fc_device.specs.Sectors.{sector_at}

@@ -1,7 +1,7 @@
 -- Calls that only read, one after another.
-use Rattle.std.proofs.Common.{◌≡◌, ◌≤◌, ℕ, List, refl, ◌∙◌, arith}
+use Rattle.std.proofs.Common.{refl, ◌∙◌, arith}
 use Rattle.fc_device.specs.declared.disk.Disk.{Ghosts}
-use Rattle.fc_device.specs.Calls.{SameForm, StopsAsBefore}
+use Rattle.fc_device.specs.Calls.{SameForm}
 use Rattle.fc_device.proofs.DiskLaws.{Laws, form_same, form_then}
 use Rattle.fc_device.proofs.StopLemmas.{goes_on_same, started}
 use Rattle.fc_shell.specs.Reading.{IsPlainDisk, OnlyReads}

@@ -108,3 +108,6 @@ pub fn run<D: Disk, S: Source, K: Sink>(
         Ok(request) => run_request(alloc, &request, disk, script, out),
     }
 }
+
+#[cfg(test)]
+mod tests;

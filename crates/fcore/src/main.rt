@@ -32,3 +32,6 @@ fn main(rt: HostRuntime) -> ExitCode {
     let end = run(alloc, &words, &mut disk, &mut script, &mut out);
     ExitCode::from(end.status())
 }
+
+#[cfg(test)]
+mod tests;

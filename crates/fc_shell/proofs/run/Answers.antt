@@ -1,5 +1,4 @@
-use Rattle.std.proofs.Common.{map, sym, subst}
-use Rattle.std.specs.String.{string_bytes}
+use Rattle.std.proofs.Common.{sym, subst}
 use Rattle.fc_shell.specs.Replies.{EndsAs, request_reply}
 use Rattle.fc_shell.proofs.run.Goals as goal
 

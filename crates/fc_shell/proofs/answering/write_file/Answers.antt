@@ -1,4 +1,4 @@
-use Rattle.std.proofs.Common.{◌≡◌, ℕ, List, length, ◌∙◌}
+use Rattle.std.proofs.Common.{◌≡◌, length, ◌∙◌}
 use Rattle.fc_device.proofs.DiskLaws.{laws}
 use Rattle.fc_shell.proofs.AnsweringLemmas.{end_cut, file_cut, file_written}
 use Rattle.fc_shell.proofs.WritingLemmas.{ok_holds, wrote_part}

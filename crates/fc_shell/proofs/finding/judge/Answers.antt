@@ -1,4 +1,4 @@
-use Rattle.std.proofs.Common.{◌≡◌, Some, ap, sym, ◌∙◌}
+use Rattle.std.proofs.Common.{◌≡◌, Some, ap, sym}
 use Rattle.fc_dirs.specs.Entries.{entry_named}
 use Rattle.fc_names.specs.Names.{is_same_name}
 use Rattle.fc_zone.specs.Reading.{runs_of}

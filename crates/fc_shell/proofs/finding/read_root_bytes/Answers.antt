@@ -1,10 +1,6 @@
-use Rattle.std.proofs.Common.{◌≡◌, ◌<◌, ◌∙◌, Some, ℕ, true, length, get_or, subst, refl, sym, ap, arith}
-use Rattle.fc_device.specs.Sectors.{sector_at}
+use Rattle.std.proofs.Common.{◌≡◌, ◌∙◌, true, length, subst, refl, sym}
 use Rattle.fc_device.proofs.DiskLaws.{laws}
-use Rattle.fc_device.proofs.SectorLemmas.{length-sector_at}
-use Rattle.fc_zone.specs.Reading.{runs_of}
 use Rattle.fc_shell.specs.Found.{RootIs}
-use Rattle.fc_shell.specs.Objects.{id_sectors, plain_shape, sectors_at}
 use Rattle.fc_shell.proofs.FindingLemmas.{part_long, root_read}
 use Rattle.fc_shell.proofs.finding.read_root_bytes.Goals as goal
 

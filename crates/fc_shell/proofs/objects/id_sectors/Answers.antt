@@ -1,5 +1,4 @@
-use Rattle.std.proofs.Common.{◌≡◌, [], ap, sym, ◌∙◌}
-use Rattle.fc_zone.specs.declared.Run.{Run}
+use Rattle.std.proofs.Common.{ap, sym, ◌∙◌}
 use Rattle.fc_shell.specs.Objects.{id_sectors}
 use Rattle.fc_shell.proofs.ObjectLemmas.{all_passed, run_within}
 use Rattle.fc_shell.proofs.objects.id_sectors.Goals as goal

@@ -1,4 +1,4 @@
-use Rattle.std.proofs.Common.{◌∙◌, ◌≡◌, ◌≤◌, ◌+◌, ◌-◌, refl, arith}
+use Rattle.std.proofs.Common.{◌∙◌, ◌≤◌, ◌+◌, ◌-◌, refl, arith}
 use Rattle.fc_shell.proofs.ObjectLemmas.{pushed_below, row_pushed, run_fits}
 use Rattle.fc_shell.proofs.objects.push_run.Goals as goal
 

@@ -1,4 +1,4 @@
-use Rattle.std.proofs.Common.{◌≡◌, sym, ◌∙◌}
+use Rattle.std.proofs.Common.{sym, ◌∙◌}
 use Rattle.fc_device.proofs.DiskLaws.{laws}
 use Rattle.fc_shell.proofs.RunningLemmas.{by_length}
 use Rattle.fc_shell.proofs.running.answer_attached.Goals as goal

@@ -1,5 +1,4 @@
-use Rattle.std.proofs.Common.{◌≤◌, length, ◌-◌, ◌+◌, ◌≡◌, arith}
-use Rattle.std.proofs.lemmas.Grind.{common_steps}
+use Rattle.std.proofs.Common.{length, ◌-◌, arith}
 use Rattle.fc_shell.proofs.WritingLemmas.{gives_more}
 use Rattle.fc_shell.proofs.script.fill.Goals as goal
 

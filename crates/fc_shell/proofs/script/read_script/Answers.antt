@@ -1,4 +1,4 @@
-use Rattle.std.proofs.Common.{Some, ◌<◌, ◌∙◌, ap, sym, subst, arith}
+use Rattle.std.proofs.Common.{Some, ◌<◌, ◌∙◌, ap, sym, arith}
 use Rattle.fc_device.specs.Streams.{Gives}
 use Rattle.fc_shell.specs.Script.{asked_name}
 use Rattle.fc_shell.proofs.WritingLemmas.{all_given}

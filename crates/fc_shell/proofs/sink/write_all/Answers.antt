@@ -1,5 +1,5 @@
 use Rattle.std.proofs.Common.{◌≤◌, length, ◌-◌, arith}
-use Rattle.fc_shell.proofs.WritingLemmas.{wrote_more, wrote_part}
+use Rattle.fc_shell.proofs.WritingLemmas.{wrote_more}
 use Rattle.fc_shell.proofs.sink.write_all.Goals as goal
 
 pub loop-at-preserved : goal.loop-at-preserved
