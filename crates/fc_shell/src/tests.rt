@@ -4,16 +4,18 @@ use fc_device::{ListSink, ListSource, PlainDisk};
 use std::alloc::Global;
 use std::test::Fail;
 
-// The first sector of the map and the root's entry of a disc of format E with a file `Hello` of five bytes.
-fn image(alloc: Global) -> Result<Vec<u8>, Fail> {
+// The first sector of the map and the root's entry of a disc of format E with a file `Hello` of five bytes. The last bits
+// of the runs behind the map's are `ends`.
+fn image(alloc: Global, ends: u8) -> Result<Vec<u8>, Fail> {
     let mut bytes = Vec::new(alloc);
     bytes.extend_from_slice(
         b"\xa1\x28\x82\xff\x0a\x05\x02\x02\x0f\x07\x01\x00\x00\x01\x20\x05\x03\x02\x00\x00\x00\x80\x0c\x00",
     )?;
     bytes.resize(64, 0)?;
-    bytes.extend_from_slice(b"\x02\x00\x00\x80\x03\x80")?;
+    bytes.extend_from_slice(b"\x02\x00\x00\x80\x03")?;
+    bytes.push(ends)?;
     bytes.resize(863, 0)?;
-    bytes.push(0x80)?;
+    bytes.push(ends)?;
     bytes.resize(2048, 0)?;
     bytes.extend_from_slice(b"\0NickHello\r\0\0\0\0\0\0\0\0\0\0\0\0\x05\0\0\0\0\x03\0\x03")?;
     bytes.resize(4090, 0)?;
@@ -23,8 +25,8 @@ fn image(alloc: Global) -> Result<Vec<u8>, Fail> {
 }
 
 // What a run over the image answers and writes.
-fn answer_of(alloc: Global, name: &str, script: &[u8]) -> Result<(u8, Vec<u8>), Fail> {
-    let mut disk = PlainDisk::new(String::from_str(alloc, "disc")?, image(alloc)?, 0)?;
+fn answer_of(alloc: Global, ends: u8, name: &str, script: &[u8]) -> Result<(u8, Vec<u8>), Fail> {
+    let mut disk = PlainDisk::new(String::from_str(alloc, "disc")?, image(alloc, ends)?, 0)?;
     let mut text = Vec::new(alloc);
     text.extend_from_slice(script)?;
     let mut source = ListSource::new(text, Vec::new(alloc), 5);
@@ -49,9 +51,12 @@ fn runs_over_a_disk_in_memory(rt: HostRuntime) -> Result<(), Fail> {
         ("--safe", b"load $.hello\n", 2, b""),
     ];
     for (name, script, status, text) in cases {
-        let (end, written) = answer_of(alloc, name, script)?;
+        let (end, written) = answer_of(alloc, 0x80, name, script)?;
         assert!(rt; end == status);
         assert!(rt; written.as_slice() == text);
     }
+    let (end, written) = answer_of(alloc, 0, "disc", b"load $.hello\n")?;
+    assert!(rt; end == 3);
+    assert!(rt; written.as_slice() == b"bad-image Zone 0 544\n".as_slice());
     Ok(())
 }
