@@ -6,8 +6,8 @@ use Rattle.fc_dirs.specs.declared.SmallForm.{SmallForm}
 use Rattle.fc_dirs.specs.Entries.{fault_unless, first_of, first_twin}
 use Rattle.fc_dirs.specs.Small.{first_nameless, is_magic_right, is_sequence_right, small_entries}
 use Rattle.fc_dirs.specs.declared.DirFault.{DirFault}
-use Rattle.fc_smalldir.specs.declared.DirError.{DirError}
-use Rattle.fc_smalldir.specs.declared.DirError.TheVariants.{Fault, NoMemory}
+use Rattle.fc_dirs.specs.declared.DirError.{DirError}
+use Rattle.fc_dirs.specs.declared.DirError.TheVariants.{Fault, NoMemory}
 
 -- The error is want of memory, or it tells this fault.
 abbrev pub IsFaultOf : Option DirFault → DirError → Type 0

@@ -13,25 +13,9 @@ mod unchecked;
 
 ghost use Rattle.fc_smalldir.specs.Laws.{ReadsBack};
 
-pub use fc_dirs::{DirFault, Entry, SmallForm};
+pub use fc_dirs::{DirError, DirFault, Entry, InsertError, SmallForm};
 pub use small::SmallDir;
 pub use unchecked::read_unchecked;
-
-/// Why a directory is not read.
-#[derive(Clone, Copy)]
-pub enum DirError {
-    /// The bytes are no directory.
-    Fault(DirFault),
-    NoMemory,
-}
-
-/// Why an entry is not put into a directory.
-#[derive(Clone, Copy)]
-pub enum InsertError {
-    /// The directory can hold no more.
-    DirFull,
-    NoMemory,
-}
 
 /// A law: what is written reads as the same head and entries.
 pub fn reads_back()
