@@ -1,6 +1,4 @@
 // Directories of 2048 bytes, with each place taken, read and written.
-ghost use Rattle.std.specs.Prelude.{◌≡◌, length};
-
 use crate::timing::print_rate;
 use fc_checks::small_dir_check;
 use fc_smalldir::{SmallDir, SmallForm};
@@ -10,9 +8,9 @@ use std::io::Print;
 use std::rt::Clock;
 use std::time::Instant;
 
-const PASSES: u32 = 2_000;
+const PASSES: u32 = 20_000;
 
-// A directory of files A0, A1, .. up to z6, in stored order.
+// A directory of files A0, A1, .. up to H6, in stored order.
 fn full() -> [u8; 2048] {
     let mut bytes = [0; 2048];
     bytes[1..5].copy_from_slice(b"Nick");
