@@ -1,0 +1,1 @@
+// Each sector of an object, read and written.
