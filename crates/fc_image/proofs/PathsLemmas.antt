@@ -18,7 +18,7 @@ use Rattle.fc_dirs.specs.declared.DirFault.TheVariants.{Magic, Sequence, Size, C
 use Rattle.fc_dirs.specs.declared.SmallForm.TheVariants.{Bytes1280, Bytes2048}
 use Rattle.fc_dirs.specs.Entries.{has_name, is_twin, first_twin, first_of, fault_unless}
 use Rattle.fc_dirs.specs.Small.{small_fault, small_dir, small_entries, first_nameless, is_small_check_right, is_magic_right as small_magic, is_sequence_right as small_sequence}
-use Rattle.fc_dirs.specs.Big.{big_fault, big_dir, big_entries, has_second_form, first_bad_entry, is_size_right, is_magic_right as big_magic, is_sequence_right as big_sequence, is_check_right as big_check}
+use Rattle.fc_dirs.specs.Big.{big_fault, big_dir, big_entries, frame_fault, has_second_form, first_bad_entry}
 use Rattle.fc_dirs.specs.Directory.{Directory, directory_of, entries_of, read_or}
 use Rattle.fc_image.specs.Layout.{Layout, dir_form}
 use Rattle.fc_image.specs.Walk.{Object, Listing, reader_of, object_bytes, is_directory_object}
@@ -209,6 +209,10 @@ last_of_five None None (Some x) d e h = absurd (cc)
 last_of_five None (Some x) c d e h = absurd (cc)
 last_of_five (Some x) b c d e h = absurd (cc)
 
+last_of_one : (a : Option DirFault) → first_of (a ∷ []) ≡ None → a ≡ None
+last_of_one None h = refl
+last_of_one (Some x) h = absurd (cc)
+
 later : (a : Option DirFault) (rest : List (Option DirFault)) → first_of (a ∷ rest) ≡ None → first_of rest ≡ None
 later None rest h = h
 later (Some x) rest h = absurd (cc)
@@ -243,14 +247,8 @@ content_once Long bytes content h =
     let second = has_second_form bytes in
     let twin : Option DirFault = option_map Twin (first_twin (big_entries second bytes)) in
     let bad : Option DirFault = option_map BadEntry (first_bad_entry second bytes) in
-    let check = fault_unless (big_check false bytes || big_check true bytes) Check in
-    let size = fault_unless (is_size_right bytes) Size in
-    let sequence = fault_unless (big_sequence bytes) Sequence in
-    let magic = fault_unless (big_magic bytes) Magic in
     subst (λ (d : Directory). first_twin (entries_of d) ≡ None) s.1 (no_twin (first_twin (big_entries second bytes))
-    (last_of_five sequence size check bad twin
-    (later magic (sequence ∷ size ∷ check ∷ bad ∷ twin ∷ [])
-    (later (fault_unless (is_big_size (length bytes)) Size) (magic ∷ sequence ∷ size ∷ check ∷ bad ∷ twin ∷ []) s.0))))
+    (last_of_one twin (later bad (twin ∷ []) (later (frame_fault bytes) (bad ∷ twin ∷ []) s.0))))
 
 -- ---- the objects of a walk
 
