@@ -5,13 +5,17 @@
 #![tactic(auto)]
 
 mod map;
+mod runs;
 mod shapes;
+mod walk;
 
 ghost use Rattle.fc_newmap.specs.Rows.{MapRows};
 ghost use Rattle.fc_newmap.specs.RunsLaw.{GeometryLaw, IdsLaw, RunsLaw, ShapeLaw, ZoneSectorsLaw};
 
 use fc_zone::ZoneFault;
 pub use map::NewMap;
+pub use runs::RunCursor;
+pub use walk::Walk;
 
 /// Why a copy of a map is not loaded.
 #[derive(Clone, Copy, Debug, PartialEq, Eq)]

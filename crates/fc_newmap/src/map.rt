@@ -92,6 +92,7 @@ impl NewMap {
         requires { z < self.now.geometry.zones }
         ensures value { result.now ≡ sector_of self.now z }
         ensures long { length result.now ≡ self.now.geometry.sector }
+        ensures map { IsNewMap self.now }
     {
         sector_in(&self.zones, &self.geometry, z)
     }
