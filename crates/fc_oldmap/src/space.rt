@@ -90,7 +90,8 @@ impl OldMap {
 
     /// The units of a sector: 1 or 4.
     pub fn sector_units(&self) -> u32
-        ensures { result ≡ self.now.sector_units }
+        ensures value { result ≡ self.now.sector_units }
+        ensures units { (result ≡ 1) ⊎ (result ≡ 4) }
     {
         self.sector_units
     }
