@@ -1,6 +1,6 @@
 -- The paths of an opened image are distinct under folding: of no path are there two objects.
 use Rattle.std.proofs.Common.{◌≡◌, ◌<◌, ◌≤◌, ℕ, zero, suc, ◌+◌, Bool, true, false, cond, List, [], ◌∷◌, ◌++◌, length, refl, sym, ap, ap₂, subst, ◌∙◌, arith, Some, None, Option, take}
-use Rattle.std.specs.Prelude.{Result, Ok, filter, find, is_some, slice_get, ◌&&◌, ◌||◌}
+use Rattle.std.specs.Prelude.{Result, Ok, filter, find, is_some, slice_get, ◌&&◌}
 use Rattle.std.specs.List.{flat_map, range_with_len}
 use Rattle.std.specs.Option.{option_map, option_map_or}
 use Rattle.std.specs.declared.cmp.Ordering.{Ordering}
@@ -11,10 +11,9 @@ use Rattle.std.specs.Cmp.Lexicographic.{lists_total}
 use Rattle.fc_names.specs.declared.name.NameForm.{NameForm}
 use Rattle.fc_names.specs.declared.name.NameForm.TheVariants.{Seven, Ten, Long}
 use Rattle.fc_names.specs.Names.{Path, folded, name_cmp, is_same_name, is_same_path}
-use Rattle.fc_checks.specs.Checks.{is_big_size}
 use Rattle.fc_dirs.specs.declared.Entry.{Entry}
 use Rattle.fc_dirs.specs.declared.DirFault.{DirFault}
-use Rattle.fc_dirs.specs.declared.DirFault.TheVariants.{Magic, Sequence, Size, Check, BadEntry, Twin}
+use Rattle.fc_dirs.specs.declared.DirFault.TheVariants.{Magic, Sequence, Check, BadEntry, Twin}
 use Rattle.fc_dirs.specs.declared.SmallForm.TheVariants.{Bytes1280, Bytes2048}
 use Rattle.fc_dirs.specs.Entries.{has_name, is_twin, first_twin, first_of, fault_unless}
 use Rattle.fc_dirs.specs.Small.{small_fault, small_dir, small_entries, first_nameless, is_small_check_right, is_magic_right as small_magic, is_sequence_right as small_sequence}

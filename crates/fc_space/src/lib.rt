@@ -3,6 +3,7 @@
 //! Source: the RISC OS PRM, chapter FileCore: "Old maps" and "New maps"; docs/FORMAT.md.
 #![tactic(auto)]
 
+mod new;
 mod old;
 mod space;
 

@@ -6,6 +6,7 @@ ghost use Rattle.fc_objects.specs.Extents.{sectors_in};
 ghost use Rattle.fc_space.specs.Space.{layout_of};
 
 use crate::PlaceError;
+use crate::new::new_place;
 use crate::old::old_place;
 use fc_device::Extent;
 use fc_newmap::NewMap;
@@ -33,7 +34,7 @@ impl Space {
         }
         match self {
             Space::OldMapped(map) => old_place(alloc, map, address, bytes),
-            Space::NewMapped(map) => Err(PlaceError::NoMemory),
+            Space::NewMapped(map) => new_place(alloc, map, address, bytes),
         }
     }
 }
