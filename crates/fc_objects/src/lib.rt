@@ -1,2 +1,10 @@
-//! stub
+//! Pieces of objects. An object is given by its extents, and its sectors are those of the extents, one after another; a
+//! piece is one of them, by its number from 0.
 #![tactic(auto)]
+
+mod pieces;
+#[cfg(test)]
+mod tests;
+
+pub use fc_device::{Disk, DiskFault, Extent};
+pub use pieces::{read_piece, write_piece};

@@ -17,7 +17,7 @@ use fc_names::{Name, fold_eq, fold_less};
 use std::alloc::Global;
 
 // Whether an entry has a name that folds to this one.
-fn has_name(entries: &[Entry], name: &Name) -> bool
+pub fn has_name(entries: &[Entry], name: &Name) -> bool
     ensures { result ≡ has_name entries.now name.now }
 {
     entries.iter().any(|e| fold_eq(name, &e.name))
