@@ -126,10 +126,10 @@ IsStepOf m old new result =
     (left : List ZoneRun) → StandsBefore m left old
     → MatchOption result ((left ≡ []) × StandsBefore m [] new) (λ p. (rest : List ZoneRun) × ((left ≡ p ∷ rest) × StandsBefore m rest new))
 
-filter_first : (id : ℕ) (p : ZoneRun) (rest : List ZoneRun) → has_id id p.1.kind ≡ true → filter (of_id id) (p ∷ rest) ≡ p ∷ filter (of_id id) rest
+pub filter_first : (id : ℕ) (p : ZoneRun) (rest : List ZoneRun) → has_id id p.1.kind ≡ true → filter (of_id id) (p ∷ rest) ≡ p ∷ filter (of_id id) rest
 filter_first id p rest e = ap (λ (b : Bool). cond b (p ∷ filter (of_id id) rest) (filter (of_id id) rest)) e
 
-filter_later : (id : ℕ) (p : ZoneRun) (rest : List ZoneRun) → has_id id p.1.kind ≡ false → filter (of_id id) (p ∷ rest) ≡ filter (of_id id) rest
+pub filter_later : (id : ℕ) (p : ZoneRun) (rest : List ZoneRun) → has_id id p.1.kind ≡ false → filter (of_id id) (p ∷ rest) ≡ filter (of_id id) rest
 filter_later id p rest e = ap (λ (b : Bool). cond b (p ∷ filter (of_id id) rest) (filter (of_id id) rest)) e
 
 -- past a run of the identifier

@@ -1,5 +1,5 @@
 -- Where a walk over the runs of a map stands.
-use Rattle.std.specs.Prelude.{◌≡◌, ◌<◌, ℕ, zero, suc, ◌+◌, ◌-◌, ◌*◌, ◌==◌, if◌then◌else◌, List, [], ◌∷◌, ◌++◌, filter}
+use Rattle.std.specs.Prelude.{◌≡◌, ◌<◌, ◌≤◌, ℕ, zero, suc, ◌+◌, ◌-◌, ◌*◌, ◌==◌, if◌then◌else◌, List, [], ◌∷◌, ◌++◌, filter}
 use Rattle.fc_record.specs.declared.Geometry.{Geometry}
 use Rattle.fc_zone.specs.declared.Run.{Run}
 use Rattle.fc_zone.specs.Cursor.{StandsBetween}
@@ -35,3 +35,7 @@ pub record StandsAt (m : Map) (left : List ZoneRun) (cursor : RunCursor) : Type 
   pub all : List ZoneRun
   pub walk : StandsBefore m all cursor.walk
   pub of_id : left ≡ filter (λ p. has_id cursor.id p.1.kind) all
+
+-- so many zones come after zone z in a search that begins at zone `home`
+abbrev pub IsBehind : Geometry → ℕ → ℕ → ℕ → Type 0
+IsBehind g home z more = (home ≤ z → more + (z - home) + 1 ≡ g.zones) × (z < home → more + z + 1 ≡ home)

@@ -2,7 +2,9 @@
 
 ghost use Rattle.std.specs.Prelude.{◌≡◌, ◌+◌, ◌-◌, ◌<◌, ◌≤◌, ◌++◌, ◌∷◌, [], List, IfSome, MatchOption};
 ghost use Rattle.fc_zone.specs.Cursor.{StandsBetween};
+ghost use Rattle.fc_zone.specs.declared.Run.{Run};
 ghost use Rattle.fc_newmap.specs.Map.{ZoneRun, runs_in, runs_of, sector_of, shape};
+ghost use Rattle.fc_newmap.specs.NewMap.{IsNewMap};
 ghost use Rattle.fc_newmap.specs.RunsLaw.{placed};
 
 use crate::NewMap;
@@ -41,12 +43,31 @@ impl Walk {
         requires { z < map.now.geometry.zones }
         ensures stands { StandsBefore map.now (placed z (runs_of map.now z) ++ runs_in map.now (zones_from map.now.geometry (zone_after map.now.geometry z) more)) result }
         ensures zone { result.shape.zone ≡ z }
+        ensures map { IsNewMap map.now }
         ensures more { result.more ≡ more }
         ensures short { result.shape.end - result.place.at ≤ 8192 }
     {
         let shape = shape_of(map.geometry(), z);
         let place = Cursor::start(map.bytes(z), &shape);
         Walk { shape, place, more }
+    }
+
+    // Behind the run of a zone that begins at `start`, where `more` zones come after the zone.
+    pub fn behind(map: &NewMap, z: u16, start: u32, more: u16) -> Self
+        requires zone { z < map.now.geometry.zones }
+        requires run { (run : Run) × ((front rest : List Run) × ((run.start ≡ start) × (runs_of map.now z ≡ front ++ run ∷ rest))) }
+        ensures { (front rest : List Run) (run : Run) → run.start ≡ start → runs_of map.now z ≡ front ++ run ∷ rest
+            → StandsBefore map.now (placed z rest ++ runs_in map.now (zones_from map.now.geometry (zone_after map.now.geometry z) more)) result }
+    {
+        let mut walk = Walk::from_zone(map, z, more);
+        loop {
+            let Some((_, run)) = walk.next(map) else {
+                return walk;
+            };
+            if run.start == start {
+                return walk;
+            }
+        }
     }
 
     // Goes past the next run and gives it, with its zone.
