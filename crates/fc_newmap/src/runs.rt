@@ -1,6 +1,6 @@
 // The runs of an identifier, in the order in which they are found.
 
-ghost use Rattle.std.specs.Prelude.{◌≡◌, ◌<◌, ◌++◌, ◌∷◌, [], List, Contains, MatchOption, OnSome, slice_get};
+ghost use Rattle.std.specs.Prelude.{◌≡◌, ◌<◌, ◌++◌, ◌∷◌, [], List, Contains, IfSome, MatchOption, OnSome, slice_get};
 ghost use Rattle.fc_newmap.specs.Map.{ZoneRun, has_id, home_zone, id_runs};
 ghost use Rattle.fc_newmap.specs.NewMap.{IsOfRecord};
 ghost use Rattle.fc_newmap.specs.Walk.{IsBehind};
@@ -64,7 +64,7 @@ fn has_id(id: u32, kind: RunKind) -> bool
 }
 
 impl RunCursor {
-    ghost use Rattle.fc_newmap.specs.Walk.{StandsAt, bits_left};
+    ghost use Rattle.fc_newmap.specs.Walk.{IsInZone, StandsAt, bits_left};
 
     /// Before the first run of an identifier.
     pub fn start(map: &NewMap, id: u32) -> Self
@@ -81,6 +81,7 @@ impl RunCursor {
         ensures value { (left : List ZoneRun) → StandsAt map.now left self.old
             → MatchOption result ((left ≡ []) × StandsAt map.now [] self.new) (λ p. (rest : List ZoneRun) × ((left ≡ p ∷ rest) × StandsAt map.now rest self.new)) }
         ensures onward { OnSome result (bits_left self.new.walk < bits_left self.old.walk) }
+        ensures within { IfSome result (IsInZone map.now.geometry) }
     {
         while let Some((z, run)) = self.walk.next(map) {
             if has_id(self.id, run.kind) {
