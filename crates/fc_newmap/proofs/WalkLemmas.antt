@@ -6,16 +6,19 @@ use Rattle.std.specs.Option.{MatchOption, IfSome}
 use Rattle.std.proofs.lemmas.Bool.{eq-eqb, ne_eqb}
 use Rattle.fc_bytes.specs.Bits.{bits}
 use Rattle.fc_record.specs.declared.Geometry.{Geometry}
+use Rattle.fc_record.specs.Record.{first_bit, end_bit}
 use Rattle.fc_zone.specs.declared.Run.{Run}
+use Rattle.fc_zone.specs.declared.RunKind.{RunKind}
+use Rattle.fc_zone.specs.declared.RunKind.TheVariants.{Hole, Id}
 use Rattle.fc_zone.specs.declared.ZoneShape.{ZoneShape}
 use Rattle.fc_zone.specs.declared.cursor.Cursor.{Cursor}
 use Rattle.fc_zone.specs.Cursor.{StandsBetween}
 use Rattle.fc_zone.proofs.CursorLemmas.{left_of, left_fits}
 use Rattle.fc_newmap.specs.declared.walk.Walk.{Walk}
 use Rattle.fc_newmap.specs.declared.runs.RunCursor.{RunCursor}
-use Rattle.fc_newmap.specs.Map.{Map, ZoneRun, has_id, home_zone, id_runs, runs_in, runs_of, search_order, sector_of, shape}
+use Rattle.fc_newmap.specs.Map.{Map, ZoneRun, all_runs, has_id, home_zone, is_hole, id_runs, runs_in, runs_of, search_order, sector_of, shape}
 use Rattle.fc_newmap.specs.RunsLaw.{placed}
-use Rattle.fc_newmap.specs.Walk.{StandsAt, StandsBefore, bits_left, zone_after, zones_from}
+use Rattle.fc_newmap.specs.Walk.{IsInZone, StandsAt, StandsBefore, bits_left, holes_in, zone_after, zones_from}
 use Rattle.fc_newmap.proofs.PlaceLemmas.{home_low}
 
 -- ---- the order of zones
@@ -97,6 +100,18 @@ here_onward m left old place (Some run) stands step moved =
     let fits = left_fits old.shape (bits (sector_of m old.shape.zone)) stands.here old.place.at old.place.hole run before (ap (λ (rs : List Run). slice_get rs 0) (sym r.1.0)) in
     (omega (arith, fits.1), omega (arith, fits.0, fits.1, fits.2, moved.0, moved.1))
 
+pub here_within : (m : Map) (left : List ZoneRun) (old : Walk) (place : Cursor) (result : Option Run) → StandsBefore m left old → IsStep old.shape (sector_of m old.shape.zone) old.place place result
+    → IfSome result (λ run. IsInZone m.geometry (old.shape.zone, run))
+here_within m left old place None stands step = tt
+here_within m left old place (Some run) stands step =
+    let r = step stands.done stands.here stands.place in
+    let before = left_of old.shape (sector_of m old.shape.zone) stands.done stands.here old.place stands.place in
+    let fits = left_fits old.shape (bits (sector_of m old.shape.zone)) stands.here old.place.at old.place.hole run before (ap (λ (rs : List Run). slice_get rs 0) (sym r.1.0)) in
+    let at = stands.place.place in
+    let first : old.shape.first ≡ first_bit old.shape.zone = ap (λ (s : ZoneShape). s.first) stands.shape in
+    let end : old.shape.end ≡ end_bit m.geometry old.shape.zone = ap (λ (s : ZoneShape). s.end) stands.shape in
+    record { zone = stands.low; from = omega (arith, fits.0); to = omega (arith, fits.0, fits.2) }
+
 -- on to the next zone
 pub moved : (m : Map) (left : List ZoneRun) (z more z' more' : ℕ) (walk : Walk) → left ≡ runs_in m (zones_from m.geometry (zone_after m.geometry z) more) → z' ≡ zone_after m.geometry z → more ≡ more' + 1
     → StandsBefore m (placed z' (runs_of m z') ++ runs_in m (zones_from m.geometry (zone_after m.geometry z') more')) walk → StandsBefore m left walk
@@ -126,10 +141,10 @@ IsStepOf m old new result =
     (left : List ZoneRun) → StandsBefore m left old
     → MatchOption result ((left ≡ []) × StandsBefore m [] new) (λ p. (rest : List ZoneRun) × ((left ≡ p ∷ rest) × StandsBefore m rest new))
 
-filter_first : (id : ℕ) (p : ZoneRun) (rest : List ZoneRun) → has_id id p.1.kind ≡ true → filter (of_id id) (p ∷ rest) ≡ p ∷ filter (of_id id) rest
+pub filter_first : (id : ℕ) (p : ZoneRun) (rest : List ZoneRun) → has_id id p.1.kind ≡ true → filter (of_id id) (p ∷ rest) ≡ p ∷ filter (of_id id) rest
 filter_first id p rest e = ap (λ (b : Bool). cond b (p ∷ filter (of_id id) rest) (filter (of_id id) rest)) e
 
-filter_later : (id : ℕ) (p : ZoneRun) (rest : List ZoneRun) → has_id id p.1.kind ≡ false → filter (of_id id) (p ∷ rest) ≡ filter (of_id id) rest
+pub filter_later : (id : ℕ) (p : ZoneRun) (rest : List ZoneRun) → has_id id p.1.kind ≡ false → filter (of_id id) (p ∷ rest) ≡ filter (of_id id) rest
 filter_later id p rest e = ap (λ (b : Bool). cond b (p ∷ filter (of_id id) rest) (filter (of_id id) rest)) e
 
 -- past a run of the identifier
@@ -174,3 +189,33 @@ pub first_is : (m : Map) (left : List ZoneRun) (new : RunCursor) (result : Optio
     → MatchOption result ((left ≡ []) × StandsAt m [] new) (λ p. (rest : List ZoneRun) × ((left ≡ p ∷ rest) × StandsAt m rest new)) → result ≡ slice_get left 0
 first_is m left new None h = ap (λ (l : List ZoneRun). slice_get l 0) (sym h.0)
 first_is m left new (Some p) h = ap (λ (l : List ZoneRun). slice_get l 0) (sym h.1.0)
+
+-- ---- all runs, and the holes among them
+
+pub all_is : (m : Map) (more : ℕ) → m.geometry.zones ≡ suc more → placed 0 (runs_of m 0) ++ runs_in m (zones_from m.geometry (zone_after m.geometry 0) more) ≡ all_runs m
+all_is m more some =
+    ap (runs_in m) (zones_up m.geometry 0 (suc more) (omega arith)) ∙ ap (λ (n : ℕ). runs_in m (range_with_len 0 n)) (sym some)
+
+hole_first : (p : ZoneRun) (rest : List ZoneRun) → p.1.kind ≡ Hole → holes_in (p ∷ rest) ≡ p ∷ holes_in rest
+hole_first p rest e = ap (λ (k : RunKind). cond (is_hole k) (p ∷ holes_in rest) (holes_in rest)) e
+
+hole_later : (kind : RunKind) (p : ZoneRun) (rest : List ZoneRun) → p.1.kind ≡ kind → (kind ≡ Hole → ⊥) → holes_in (p ∷ rest) ≡ holes_in rest
+hole_later Hole p rest e other = absurd (other refl)
+hole_later (Id id) p rest e other = ap (λ (k : RunKind). cond (is_hole k) (p ∷ holes_in rest) (holes_in rest)) e
+
+-- past a hole
+pub hole_taken : (m : Map) (left now : List ZoneRun) (old new : Walk) (p : ZoneRun) → holes_in left ≡ holes_in now → StandsBefore m now old → IsStepOf m old new (Some p) → p.1.kind ≡ Hole
+    → (rest : List ZoneRun) × ((holes_in left ≡ p ∷ holes_in rest) × StandsBefore m rest new)
+hole_taken m left now old new p same stands step is =
+    let r = step now stands in
+    (r.0, (same ∙ ap holes_in r.1.0 ∙ hole_first p r.0 is, r.1.1))
+
+-- past another run
+pub hole_passed : (m : Map) (left now : List ZoneRun) (old new : Walk) (p : ZoneRun) → holes_in left ≡ holes_in now → StandsBefore m now old → IsStepOf m old new (Some p) → (p.1.kind ≡ Hole → ⊥)
+    → (rest : List ZoneRun) × ((holes_in left ≡ holes_in rest) × StandsBefore m rest new)
+hole_passed m left now old new p same stands step other =
+    let r = step now stands in
+    (r.0, (same ∙ ap holes_in r.1.0 ∙ hole_later p.1.kind p r.0 refl other, r.1.1))
+
+pub no_hole : (m : Map) (left now : List ZoneRun) (old new : Walk) → holes_in left ≡ holes_in now → StandsBefore m now old → IsStepOf m old new None → (holes_in left ≡ []) × StandsBefore m [] new
+no_hole m left now old new same stands step = let r = step now stands in (same ∙ ap holes_in r.0, r.1)

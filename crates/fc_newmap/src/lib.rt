@@ -4,14 +4,17 @@
 //! Source: the RISC OS PRM, chapter FileCore, "New maps".
 #![tactic(auto)]
 
+mod extents;
 mod map;
 mod runs;
 mod shapes;
+mod sums;
 mod walk;
 
 ghost use Rattle.fc_newmap.specs.Rows.{MapRows};
 ghost use Rattle.fc_newmap.specs.RunsLaw.{GeometryLaw, IdsLaw, RunsLaw, ShapeLaw, ZoneSectorsLaw};
 
+pub use extents::extent_of;
 use fc_zone::ZoneFault;
 pub use map::NewMap;
 pub use runs::RunCursor;

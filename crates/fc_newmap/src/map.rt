@@ -2,7 +2,9 @@
 
 ghost use Rattle.std.specs.Prelude.{◌≡◌, ◌+◌, ◌*◌, ◌<◌, ◌≤◌, ◌^◌, length, slice_set, IfOk, IfNone, Ok, Err, MatchResult, OnOk};
 ghost use Rattle.std.specs.List.{zip};
-ghost use Rattle.fc_zone.specs.Edits.{sealed};
+ghost use Rattle.fc_zone.specs.declared.RunKind.{RunKind};
+ghost use Rattle.fc_zone.specs.Edits.{HasHoleAt, HasRunAt, HasRunToSplit, HasRunsToMerge, Merges, Relabels, Splits, labelled, merged_at, sealed, split_at};
+ghost use Rattle.fc_zone.specs.Laws.{LeavesRest};
 ghost use Rattle.fc_zone.specs.Reading.{zone_of};
 ghost use Rattle.fc_zone.specs.Zone.{Zone};
 ghost use Rattle.fc_newmap.specs.Map.{first_fault, runs_of, sector_of, shape, with_cross, with_zone, zone_numbers, zones_in};
@@ -95,6 +97,73 @@ impl NewMap {
         ensures map { IsNewMap self.now }
     {
         sector_in(&self.zones, &self.geometry, z)
+    }
+
+    /// Turns the hole of a zone that begins at `start` into a run of an identifier.
+    ///
+    /// This and the edits below are those of `fc_zone` in one zone: every other zone keeps its bytes, and in the zone every
+    /// bit outside FreeLink and the runs stays, ZoneCheck too, which `seal` writes. None takes memory.
+    pub fn label(&mut self, z: u16, start: u32, id: u32)
+        requires zone { z < self.old.geometry.zones }
+        requires hole { HasHoleAt (shape self.old.geometry z) (sector_of self.old z) start }
+        requires some_id { 0 < id }
+        requires id_fits { id < 2 ^ self.old.geometry.idlen }
+        ensures runs { Relabels (shape self.old.geometry z) (sector_of self.old z) (sector_of self.new z) start (RunKind.Id id) }
+        ensures list { runs_of self.new z ≡ labelled start (RunKind.Id id) (runs_of self.old z) }
+        ensures rest { LeavesRest (shape self.old.geometry z) (sector_of self.old z) (sector_of self.new z) }
+        ensures others { self.new ≡ with_zone self.old z (sector_of self.new z) }
+    {
+        let shape = shape_of(&self.geometry, z);
+        let from = place_of(&self.geometry, z);
+        let size = self.geometry.sector as usize;
+        fc_zone::label(&mut self.zones[from..from + size], &shape, start, id);
+    }
+
+    /// Turns the run of a zone that begins at `start` into a hole, and joins it with none.
+    pub fn release(&mut self, z: u16, start: u32)
+        requires zone { z < self.old.geometry.zones }
+        requires run { HasRunAt (shape self.old.geometry z) (sector_of self.old z) start }
+        ensures runs { Relabels (shape self.old.geometry z) (sector_of self.old z) (sector_of self.new z) start RunKind.Hole }
+        ensures list { runs_of self.new z ≡ labelled start RunKind.Hole (runs_of self.old z) }
+        ensures rest { LeavesRest (shape self.old.geometry z) (sector_of self.old z) (sector_of self.new z) }
+        ensures others { self.new ≡ with_zone self.old z (sector_of self.new z) }
+    {
+        let shape = shape_of(&self.geometry, z);
+        let from = place_of(&self.geometry, z);
+        let size = self.geometry.sector as usize;
+        fc_zone::release(&mut self.zones[from..from + size], &shape, start);
+    }
+
+    /// Cuts the run of a zone that begins at `start` into two of its kind, the first of `len` bits. Both parts have at least
+    /// the geometry's `min` bits and are multiples of its `q`.
+    pub fn split(&mut self, z: u16, start: u32, len: u32)
+        requires zone { z < self.old.geometry.zones }
+        requires run { HasRunToSplit (shape self.old.geometry z) (sector_of self.old z) start len }
+        ensures runs { Splits (shape self.old.geometry z) (sector_of self.old z) (sector_of self.new z) start len }
+        ensures list { runs_of self.new z ≡ split_at start len (runs_of self.old z) }
+        ensures rest { LeavesRest (shape self.old.geometry z) (sector_of self.old z) (sector_of self.new z) }
+        ensures others { self.new ≡ with_zone self.old z (sector_of self.new z) }
+    {
+        let shape = shape_of(&self.geometry, z);
+        let from = place_of(&self.geometry, z);
+        let size = self.geometry.sector as usize;
+        fc_zone::split(&mut self.zones[from..from + size], &shape, start, len);
+    }
+
+    /// Joins the run of a zone that begins at `start` with the next, which is of its kind: both are holes, or of one
+    /// identifier.
+    pub fn merge(&mut self, z: u16, start: u32)
+        requires zone { z < self.old.geometry.zones }
+        requires runs { HasRunsToMerge (shape self.old.geometry z) (sector_of self.old z) start }
+        ensures runs { Merges (shape self.old.geometry z) (sector_of self.old z) (sector_of self.new z) start }
+        ensures list { runs_of self.new z ≡ merged_at start (runs_of self.old z) }
+        ensures rest { LeavesRest (shape self.old.geometry z) (sector_of self.old z) (sector_of self.new z) }
+        ensures others { self.new ≡ with_zone self.old z (sector_of self.new z) }
+    {
+        let shape = shape_of(&self.geometry, z);
+        let from = place_of(&self.geometry, z);
+        let size = self.geometry.sector as usize;
+        fc_zone::merge(&mut self.zones[from..from + size], &shape, start);
     }
 
     /// Writes the right ZoneCheck into a zone, and changes no other byte.

@@ -1,8 +1,9 @@
 // The runs of an identifier, in the order in which they are found.
 
-ghost use Rattle.std.specs.Prelude.{◌≡◌, ◌<◌, ◌++◌, ◌∷◌, [], List, Contains, MatchOption, OnSome, slice_get};
+ghost use Rattle.std.specs.Prelude.{◌≡◌, ◌<◌, ◌++◌, ◌∷◌, [], List, Contains, IfSome, MatchOption, OnSome, slice_get};
 ghost use Rattle.fc_newmap.specs.Map.{ZoneRun, has_id, home_zone, id_runs};
 ghost use Rattle.fc_newmap.specs.NewMap.{IsOfRecord};
+ghost use Rattle.fc_newmap.specs.Walk.{IsBehind};
 
 use crate::NewMap;
 use crate::walk::Walk;
@@ -39,6 +40,19 @@ fn home_zone(g: &Geometry, id: u32) -> u16
     }
 }
 
+// How many zones come after a zone in a search that begins at zone `home`.
+fn zones_behind(g: &Geometry, home: u16, z: u16) -> u16
+    requires zone { z < g.now.zones }
+    requires home { home < g.now.zones }
+    ensures { IsBehind g.now home z result }
+{
+    if z >= home {
+        g.zones - 1 - (z - home)
+    } else {
+        home - 1 - z
+    }
+}
+
 // Whether a run is one of an identifier.
 fn has_id(id: u32, kind: RunKind) -> bool
     ensures { result ≡ has_id id kind }
@@ -50,7 +64,7 @@ fn has_id(id: u32, kind: RunKind) -> bool
 }
 
 impl RunCursor {
-    ghost use Rattle.fc_newmap.specs.Walk.{StandsAt, bits_left};
+    ghost use Rattle.fc_newmap.specs.Walk.{IsInZone, StandsAt, bits_left};
 
     /// Before the first run of an identifier.
     pub fn start(map: &NewMap, id: u32) -> Self
@@ -67,6 +81,7 @@ impl RunCursor {
         ensures value { (left : List ZoneRun) → StandsAt map.now left self.old
             → MatchOption result ((left ≡ []) × StandsAt map.now [] self.new) (λ p. (rest : List ZoneRun) × ((left ≡ p ∷ rest) × StandsAt map.now rest self.new)) }
         ensures onward { OnSome result (bits_left self.new.walk < bits_left self.old.walk) }
+        ensures within { IfSome result (IsInZone map.now.geometry) }
     {
         while let Some((z, run)) = self.walk.next(map) {
             if has_id(self.id, run.kind) {
@@ -87,5 +102,17 @@ impl NewMap {
         ensures { result ≡ slice_get (id_runs self.now id) 0 }
     {
         RunCursor::start(self, id).next(self)
+    }
+
+    /// The run that follows a run of an identifier, in the same order. It passes over the runs of the zone up to that
+    /// run: a `RunCursor` goes through all runs without that.
+    pub fn next_run(&self, id: u32, at: (u16, Run)) -> Option<(u16, Run)>
+        requires { Contains (id_runs self.now id) at }
+        ensures { (front rest : List ZoneRun) → id_runs self.now id ≡ front ++ at ∷ rest → result ≡ slice_get rest 0 }
+    {
+        let g = self.geometry();
+        let more = zones_behind(g, home_zone(g, id), at.0);
+        let walk = Walk::behind(self, at.0, at.1.start, more);
+        RunCursor { id, walk }.next(self)
     }
 }

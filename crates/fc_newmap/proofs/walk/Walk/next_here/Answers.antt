@@ -3,7 +3,7 @@ use Rattle.fc_zone.specs.declared.ZoneShape.{ZoneShape}
 use Rattle.fc_zone.specs.Zone.{IsShapeOf}
 use Rattle.fc_newmap.specs.Map.{sector_of}
 use Rattle.fc_newmap.proofs.HeldLemmas.{shape_fits}
-use Rattle.fc_newmap.proofs.WalkLemmas.{IsStep, here_is, here_onward}
+use Rattle.fc_newmap.proofs.WalkLemmas.{IsStep, here_is, here_onward, here_within}
 use Rattle.fc_newmap.proofs.walk.Walk.next_here.Goals as goal
 use Rattle.fc_newmap.proofs.walk.Walk.next_here.Goals.{After-next}
 
@@ -23,3 +23,6 @@ returns-clause-value c = λ left stands.
 pub returns-clause-onward : goal.returns-clause-onward
 returns-clause-onward c =
     here_onward c.args.map.now c.requires.0 c.args.self.now c.next.new.self c.next.result c.requires.1 (step (goal.at.returns-clause-onward c).After-next) c.next.ensures.place
+
+pub returns-clause-within : goal.returns-clause-within
+returns-clause-within c = here_within c.args.map.now c.requires.0 c.args.self.now c.next.new.self c.next.result c.requires.1 (step (goal.at.returns-clause-within c).After-next)
