@@ -6,9 +6,9 @@ use Rattle.fc_record.specs.Record.{geometry, is_valid}
 use Rattle.fc_newmap.specs.Map.{Map, sector_of, zones_in}
 use Rattle.fc_newmap.specs.RunsLaw.{HasZones}
 
--- the geometry is that of a valid record
+-- the geometry is that of a valid record, of which the share size is one of four bits
 abbrev pub IsOfRecord : Geometry → Type 0
-IsOfRecord g = (r : DiscRecord) × ((is_valid r ≡ true) × (geometry r ≡ g))
+IsOfRecord g = (r : DiscRecord) × ((is_valid r ≡ true) × (geometry r ≡ g) × (r.log2_share < 16))
 
 -- A map in memory: its geometry is that of a valid record, and each of its zones is one sector that has runs.
 pub record IsNewMap (m : Map) : Type 0 where

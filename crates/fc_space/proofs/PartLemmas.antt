@@ -1,15 +1,11 @@
 -- Parts of rows of sectors, and rows that are cut.
-use Rattle.std.proofs.Common.{◌≡◌, ◌<◌, ◌≤◌, ℕ, zero, suc, ◌+◌, ◌-◌, min, Bool, true, false, cond, List, [], ◌∷◌, ◌++◌, length, take, drop, Option, Some, None, refl, sym, ap, ◌∙◌, inl, inr, arith, append_assoc, drop_of_length-le}
+use Rattle.std.proofs.Common.{◌≡◌, ◌<◌, ◌≤◌, ℕ, zero, suc, ◌+◌, ◌-◌, min, Bool, true, false, List, [], ◌∷◌, ◌++◌, length, take, drop, Option, Some, None, refl, sym, ap, ◌∙◌, inl, inr, arith, append_assoc, drop_of_length-le}
 use Rattle.std.specs.Prelude.{nat_le, if◌then◌else◌}
-use Rattle.std.specs.List.{flat_map, range_with_len}
+use Rattle.std.specs.List.{range_with_len}
 use Rattle.std.specs.Option.{option_map}
 use Rattle.std.proofs.lemmas.Bool.{cases_lt, le-leb, lt-leb}
-use Rattle.std.proofs.lemmas.List.{drop-append-le}
 use Rattle.std.proofs.lemmas.List.FromFn.{length-range_with_len}
-use Rattle.std.proofs.lemmas.Grind.{flat_map-append}
-use Rattle.fc_device.specs.declared.disk.Extent.{Extent}
 use Rattle.fc_image.specs.Layout.{first_part}
-use Rattle.fc_objects.specs.Extents.{extent_sectors, sectors_in}
 
 drop_range : (k a n j : ℕ) → k ≤ n → a + k ≡ j → drop k (range_with_len a n) ≡ range_with_len j (n - k)
 drop_range zero a n j within at =
@@ -29,7 +25,7 @@ take_all zero (x ∷ xs) within = absurd (omega arith)
 take_all (suc k) [] within = refl
 take_all (suc k) (x ∷ xs) within = ap (λ (ys : List ℕ). x ∷ ys) (take_all k xs (omega arith))
 
-take_none : (k : ℕ) → take {A = ℕ} k [] ≡ []
+pub take_none : (k : ℕ) → take {A = ℕ} k [] ≡ []
 take_none zero = refl
 take_none (suc k) = refl
 
@@ -38,18 +34,18 @@ pub part_sectors : (first n skip need passed kept : ℕ) → passed ≡ min skip
     → range_with_len (first + passed) kept ≡ take need (drop skip (range_with_len first n))
 part_sectors first n skip need passed kept p k = elim (cases_lt skip n) [
   | inl inside ↦ (
-    let whole : passed ≡ skip = omega (arith, p) in
-    let d = drop_range skip first n (first + passed) (omega arith) (omega arith) in
-    elim (cases_lt need (n - skip)) [
-    | inl less ↦ (let all : kept ≡ need = omega (arith, k) in sym (ap (take need) d ∙ take_range need (first + passed) (n - skip) (omega arith) ∙ ap (range_with_len (first + passed)) (sym all)))
-    | inr more ↦ (
-      let all : kept ≡ n - skip = omega (arith, k) in
-      sym (ap (take need) d ∙ take_all need (range_with_len (first + passed) (n - skip)) (omega (arith, length-range_with_len (first + passed) (n - skip))) ∙ ap (range_with_len (first + passed)) (sym all)))
-    ])
+      let whole : passed ≡ skip = omega (arith, p) in
+      let d = drop_range skip first n (first + passed) (omega arith) (omega arith) in
+      elim (cases_lt need (n - skip)) [
+        | inl less ↦ (let all : kept ≡ need = omega (arith, k) in sym (ap (take need) d ∙ take_range need (first + passed) (n - skip) (omega arith) ∙ ap (range_with_len (first + passed)) (sym all)))
+        | inr more ↦ (
+            let all : kept ≡ n - skip = omega (arith, k) in
+            sym (ap (take need) d ∙ take_all need (range_with_len (first + passed) (n - skip)) (omega (arith, length-range_with_len (first + passed) (n - skip))) ∙ ap (range_with_len (first + passed)) (sym all)))
+      ])
   | inr beyond ↦ (
-    let none : kept ≡ 0 = omega (arith, p, k) in
-    ap (range_with_len (first + passed)) none
-    ∙ sym (ap (take need) (drop_of_length-le (range_with_len first n) {i = skip} (omega (arith, length-range_with_len first n))) ∙ take_none need))
+      let none : kept ≡ 0 = omega (arith, p, k) in
+      ap (range_with_len (first + passed)) none
+      ∙ sym (ap (take need) (drop_of_length-le (range_with_len first n) {i = skip} (omega (arith, length-range_with_len first n))) ∙ take_none need))
 ]
 
 -- ---- the first sectors of two rows

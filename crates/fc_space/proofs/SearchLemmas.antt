@@ -1,18 +1,16 @@
 -- A search for the sectors of an object along the runs of its identifier.
-use Rattle.std.proofs.Common.{◌≡◌, ◌<◌, ◌≤◌, ℕ, zero, suc, ◌+◌, ◌-◌, List, [], ◌∷◌, ◌++◌, length, take, drop, Option, Some, None, Contains, refl, sym, ap, ap₂, subst, ◌∙◌, arith, append_assoc, append-nil}
+use Rattle.std.proofs.Common.{◌≡◌, ◌<◌, ◌≤◌, ℕ, arith, ◌-◌, List, [], ◌∷◌, ◌++◌, length, take, drop, Option, Some, None, refl, sym, ap, ap₂, subst, ◌∙◌, append_assoc, append-nil, drop_of_length-le}
 use Rattle.std.specs.Prelude.{MatchOption}
 use Rattle.std.specs.Option.{option_map}
 use Rattle.std.proofs.lemmas.Grind.{flat_map-append}
 use Rattle.std.proofs.lemmas.List.FromFn.{length-range_with_len}
-use Rattle.std.proofs.lemmas.List.Elements.{Contains-append_right}
 use Rattle.fc_device.specs.declared.disk.Extent.{Extent}
 use Rattle.fc_newmap.specs.declared.runs.RunCursor.{RunCursor}
-use Rattle.fc_newmap.specs.Map.{Map, ZoneRun, all_runs, id_runs, sectors_of, extent_of, run_sectors}
+use Rattle.fc_newmap.specs.Map.{Map, ZoneRun, id_runs, sectors_of, extent_of, run_sectors}
 use Rattle.fc_newmap.specs.Walk.{StandsAt}
-use Rattle.fc_newmap.proofs.PlaceLemmas.{id_run_in, contains_here}
 use Rattle.fc_image.specs.Layout.{first_part, id_sectors}
 use Rattle.fc_objects.specs.Extents.{extent_sectors, sectors_in}
-use Rattle.fc_space.proofs.PartLemmas.{wanted_behind, map_more, none_wanted, none_behind}
+use Rattle.fc_space.proofs.PartLemmas.{take_none as take-nil, wanted_behind, map_more, none_wanted, none_behind}
 
 -- what the cursor has in front of it
 abbrev pub IsNextOf : Map → List ZoneRun → RunCursor → Option ZoneRun → Type 0
@@ -38,18 +36,8 @@ started m id skip need found cursor none s = record {
   stands = s;
   runs = refl;
   wanted = map_nothing (first_part need (drop skip (id_sectors m id)))
-  ∙ ap (λ (es : List Extent). option_map (λ (more : List ℕ). sectors_in es ++ more) (first_part need (drop skip (id_sectors m id)))) (sym none);
+      ∙ ap (λ (es : List Extent). option_map (λ (more : List ℕ). sectors_in es ++ more) (first_part need (drop skip (id_sectors m id)))) (sym none);
 }
-
-pub run_held : (m : Map) (id skip need : ℕ) (found : List Extent) (old new : RunCursor) (skip' need' : ℕ) (result : Option ZoneRun) (p : ZoneRun)
-    → Searches m id skip need found old skip' need' → ((left : List ZoneRun) → StandsAt m left old → IsNextOf m left new result) → result ≡ Some p
-    → Contains (all_runs m) p
-run_held m id skip need found old new skip' need' result p s next is =
-    let low = s.stands.walk.low in
-    let some : 1 ≤ m.geometry.zones = omega (arith, low) in
-    let step : IsNextOf m s.left new (Some p) = subst (IsNextOf m s.left new) is (next s.left s.stands) in
-    let here : Contains (s.done ++ (p ∷ step.0)) p = Contains-append_right s.done (p ∷ step.0) p (contains_here p step.0) in
-    (id_run_in m id p some (subst (λ (l : List ZoneRun). Contains l p) (sym (s.runs ∙ ap (λ (l : List ZoneRun). s.done ++ l) step.1.0)) here)).0
 
 pub nothing_left : (m : Map) (id skip need : ℕ) (found : List Extent) (old new : RunCursor) (skip' need' : ℕ) (result : Option ZoneRun)
     → Searches m id skip need found old skip' need' → 0 < need' → ((left : List ZoneRun) → StandsAt m left old → IsNextOf m left new result) → result ≡ None
@@ -93,11 +81,36 @@ part_taken m id skip need found found' old new skip' need' skip'' need'' result 
       stands = step.1.1;
       runs = s.runs ∙ ap (λ (l : List ZoneRun). s.done ++ l) step.1.0 ∙ sym (append_assoc s.done (p ∷ []) rest);
       wanted = s.wanted
-      ∙ ap (λ (l : List ZoneRun). option_map front (first_part need' (drop skip' (sectors_of m.geometry l)))) step.1.0
-      ∙ ap (option_map front) behind
-      ∙ map_more (sectors_in found) (take need' (drop skip' sectors)) (first_part (need' - length (take need' (drop skip' sectors))) (drop (skip' - length sectors) (sectors_of m.geometry rest)))
-      ∙ ap₂ (λ (n k : ℕ). option_map (λ (more : List ℕ). (sectors_in found ++ take need' (drop skip' sectors)) ++ more) (first_part n (drop k (sectors_of m.geometry rest))))
-      (ap (λ (n : ℕ). need' - n) long_part ∙ sym needed) (ap (λ (n : ℕ). skip' - n) long ∙ sym skipped)
-      ∙ ap (λ (xs : List ℕ). option_map (λ (more : List ℕ). xs ++ more) (first_part need'' (drop skip'' (sectors_of m.geometry rest))))
-      (ap (λ (xs : List ℕ). sectors_in found ++ xs) (sym of_part) ∙ sym (push_sectors found part) ∙ ap sectors_in (sym grown));
+          ∙ ap (λ (l : List ZoneRun). option_map front (first_part need' (drop skip' (sectors_of m.geometry l)))) step.1.0
+          ∙ ap (option_map front) behind
+          ∙ map_more (sectors_in found) (take need' (drop skip' sectors)) (first_part (need' - length (take need' (drop skip' sectors))) (drop (skip' - length sectors) (sectors_of m.geometry rest)))
+          ∙ ap₂ (λ (n k : ℕ). option_map (λ (more : List ℕ). (sectors_in found ++ take need' (drop skip' sectors)) ++ more) (first_part n (drop k (sectors_of m.geometry rest))))
+          (ap (λ (n : ℕ). need' - n) long_part ∙ sym needed) (ap (λ (n : ℕ). skip' - n) long ∙ sym skipped)
+          ∙ ap (λ (xs : List ℕ). option_map (λ (more : List ℕ). xs ++ more) (first_part need'' (drop skip'' (sectors_of m.geometry rest))))
+          (ap (λ (xs : List ℕ). sectors_in found ++ xs) (sym of_part) ∙ sym (push_sectors found part) ∙ ap sectors_in (sym grown));
     }
+
+-- a part without sectors may be left out
+without_empty : (m : Map) (id skip need : ℕ) (found : List Extent) (part : Extent) (cursor : RunCursor) (skip' need' : ℕ) → extent_sectors part ≡ [] → Searches m id skip need (found ++ part ∷ []) cursor skip' need'
+    → Searches m id skip need found cursor skip' need'
+without_empty m id skip need found part cursor skip' need' empty s = record {
+  done = s.done;
+  left = s.left;
+  stands = s.stands;
+  runs = s.runs;
+  wanted = s.wanted
+      ∙ ap (λ (xs : List ℕ). option_map (λ (more : List ℕ). xs ++ more) (first_part need' (drop skip' (sectors_of m.geometry s.left))))
+      (push_sectors found part ∙ ap (λ (xs : List ℕ). sectors_in found ++ xs) empty ∙ append-nil (sectors_in found));
+}
+
+-- a run all of whose sectors are to be passed over
+pub run_passed : (m : Map) (id skip need : ℕ) (found : List Extent) (old new : RunCursor) (skip' need' : ℕ) (result : Option ZoneRun) (p : ZoneRun) (extent : Extent)
+    → Searches m id skip need found old skip' need' → ((left : List ZoneRun) → StandsAt m left old → IsNextOf m left new result) → result ≡ Some p
+    → extent ≡ extent_of m.geometry p → extent.sectors ≤ skip' → Searches m id skip need found new (skip' - extent.sectors) need'
+run_passed m id skip need found old new skip' need' result p extent s next is e all =
+    let none : Extent = record { first = 0; sectors = 0 } in
+    let nothing : take need' (drop skip' (extent_sectors extent)) ≡ [] =
+    ap (take need') (drop_of_length-le (extent_sectors extent) {i = skip'} (omega (arith, length-range_with_len extent.first extent.sectors))) ∙ take-nil need' in
+    let rest = part_taken m id skip need found (found ++ none ∷ []) old new skip' need' (skip' - extent.sectors) need' result p extent none s next is e (sym nothing) refl refl
+    (let z : need' ≡ need' - 0 = omega arith in z) in
+    without_empty m id skip need found none new (skip' - extent.sectors) need' refl rest

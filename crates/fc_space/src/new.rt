@@ -1,31 +1,13 @@
 // Places on discs with new maps.
 
-ghost use Rattle.std.specs.Prelude.{Contains, ◌≡◌, ◌<◌, ◌≤◌, ◌^◌, ◌+◌, None, Some, IfOk, IsErrOf, take, drop, length};
-ghost use Rattle.fc_newmap.specs.Map.{all_runs, extent_of};
+ghost use Rattle.std.specs.Prelude.{◌≡◌, ◌<◌, ◌≤◌, ◌^◌, ◌+◌, None, Some, IfOk, IsErrOf, take, drop, length};
 ghost use Rattle.fc_image.specs.Layout.{first_part, id_sectors, is_object_id, low_start, new_sectors};
 ghost use Rattle.fc_objects.specs.Extents.{extent_sectors, sectors_in};
 
 use crate::PlaceError;
 use fc_device::Extent;
-use fc_newmap::{NewMap, RunCursor};
-use fc_zone::Run;
+use fc_newmap::{NewMap, RunCursor, extent_of};
 use std::alloc::Global;
-
-// A run as a row of sectors.
-fn extent_of(map: &NewMap, z: u16, run: Run) -> Extent
-    requires { Contains (all_runs map.now) (z, run) }
-    ensures value { result ≡ extent_of map.now.geometry (z, run) }
-    ensures fits { result.first + result.sectors < 2 ^ 64 }
-{
-    let g = map.geometry();
-    let skipped = if z == 0 { 512 } else { 32 };
-    let base = if z == 0 { 0 } else { u64::from(z) * u64::from(g.zone_size) - 480 };
-    let bit = base + u64::from(run.start - skipped);
-    Extent {
-        first: bit * g.bit_bytes / u64::from(g.sector),
-        sectors: u64::from(run.len) * g.bit_bytes / u64::from(g.sector),
-    }
-}
 
 // The part of an extent that stands behind `skip` sectors and has at most `need`.
 fn part_of(extent: Extent, skip: u64, need: u64) -> Extent
@@ -59,7 +41,13 @@ fn low_start(map: &NewMap, low: u32) -> u64
 }
 
 // The sectors `skip` to `skip + need` of an identifier, in the order of its runs, unless it has fewer.
-fn sectors_of_id(alloc: Global, map: &NewMap, id: u32, skip: u64, need: u64) -> Result<Vec<Extent>, PlaceError>
+fn sectors_of_id(
+    alloc: Global,
+    map: &NewMap,
+    id: u32,
+    skip: u64,
+    need: u64,
+) -> Result<Vec<Extent>, PlaceError>
     ensures place { IfOk result (λ place. first_part need (drop skip (id_sectors map.now id)) ≡ Some (sectors_in place.items)) }
     ensures outside { IsErrOf result PlaceError.Outside → first_part need (drop skip (id_sectors map.now id)) ≡ None }
 {
@@ -71,19 +59,28 @@ fn sectors_of_id(alloc: Global, map: &NewMap, id: u32, skip: u64, need: u64) -> 
         let Some((z, run)) = cursor.next(map) else {
             return Err(PlaceError::Outside);
         };
-        let extent = extent_of(map, z, run);
+        let extent = extent_of(map.geometry(), z, run);
+        if skip >= extent.sectors {
+            skip -= extent.sectors;
+            continue;
+        }
         let part = part_of(extent, skip, need);
         if place.push(part).is_err() {
             return Err(PlaceError::NoMemory);
         }
-        skip = skip.saturating_sub(extent.sectors);
+        skip = 0;
         need -= part.sectors;
     }
     Ok(place)
 }
 
 // The whole sectors of one byte or more at an indirect address.
-pub fn new_place(alloc: Global, map: &NewMap, address: u32, bytes: u64) -> Result<Vec<Extent>, PlaceError>
+pub fn new_place(
+    alloc: Global,
+    map: &NewMap,
+    address: u32,
+    bytes: u64,
+) -> Result<Vec<Extent>, PlaceError>
     ensures place { IfOk result (λ place. new_sectors map.now address bytes ≡ Some (sectors_in place.items)) }
     ensures outside { IsErrOf result PlaceError.Outside → new_sectors map.now address bytes ≡ None }
 {

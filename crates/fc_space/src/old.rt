@@ -10,7 +10,12 @@ use fc_oldmap::OldMap;
 use std::alloc::Global;
 
 // The whole sectors from an address on, unless they pass the disc's end.
-pub fn old_place(alloc: Global, map: &OldMap, address: u32, bytes: u64) -> Result<Vec<Extent>, PlaceError>
+pub fn old_place(
+    alloc: Global,
+    map: &OldMap,
+    address: u32,
+    bytes: u64,
+) -> Result<Vec<Extent>, PlaceError>
     ensures place { IfOk result (λ place. old_sectors map.now address bytes ≡ Some (sectors_in place.items)) }
     ensures outside { IsErrOf result PlaceError.Outside → old_sectors map.now address bytes ≡ None }
 {

@@ -25,7 +25,12 @@ impl Space {
     /// whatever the address. The address is an indirect disc address on a new map, and counts units of 256 bytes on an
     /// old one. `Outside` exactly where the bytes pass the object's end or the disc's, where no object can have the
     /// address's identifier, and, on an old map, where the address is no sector boundary.
-    pub fn place_of(&self, alloc: Global, address: u32, bytes: u64) -> Result<Vec<Extent>, PlaceError>
+    pub fn place_of(
+        &self,
+        alloc: Global,
+        address: u32,
+        bytes: u64,
+    ) -> Result<Vec<Extent>, PlaceError>
         ensures place { IfOk result (λ place. sectors_at (layout_of self.now) address bytes ≡ Some (sectors_in place.items)) }
         ensures outside { IsErrOf result PlaceError.Outside → sectors_at (layout_of self.now) address bytes ≡ None }
     {

@@ -1,4 +1,4 @@
-use Rattle.std.proofs.Common.{◌≡◌, ◌<◌, ◌≤◌, ℕ, ◌+◌, ◌*◌, ◌%◌, ◌^◌, min, ap, ◌∙◌, arith}
+use Rattle.std.proofs.Common.{◌≡◌, ℕ, ◌*◌, ◌%◌, ◌^◌, min, ap, ◌∙◌, arith}
 use Rattle.std.proofs.lemmas.Nat.{shl_whole}
 use Rattle.fc_space.proofs.GeometryLemmas.{idlen_is_low, is_id}
 use Rattle.fc_space.proofs.new.is_object_id.Goals as goal

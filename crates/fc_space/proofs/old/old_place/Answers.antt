@@ -1,4 +1,4 @@
-use Rattle.std.proofs.Common.{◌≡◌, ◌<◌, ℕ, ◌*◌, ◌⊎◌, inl, inr, arith}
+use Rattle.std.proofs.Common.{◌≡◌, ◌<◌, ℕ, ◌⊎◌, inl, inr, arith}
 use Rattle.fc_space.proofs.old.old_place.Goals as goal
 
 some_units : (n : ℕ) → (n ≡ 1) ⊎ (n ≡ 4) → 0 < n

@@ -1,4 +1,4 @@
-use Rattle.std.proofs.Common.{◌≡◌, ℕ, List, Option, Some, None, sym, ap, ◌∙◌}
+use Rattle.std.proofs.Common.{◌≡◌, ap, ◌∙◌}
 use Rattle.fc_image.specs.Layout.{Layout, sectors_at}
 use Rattle.fc_space.specs.Space.{layout_of}
 use Rattle.fc_space.proofs.PlaceLemmas.{no_bytes, some_bytes}
