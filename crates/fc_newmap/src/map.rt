@@ -174,7 +174,8 @@ impl NewMap {
     /// Writes the right ZoneCheck into a zone, and changes no other byte.
     pub fn seal(&mut self, z: u16)
         requires { z < self.old.geometry.zones }
-        ensures { self.new ≡ with_zone self.old z (sealed (sector_of self.old z)) }
+        ensures map { self.new ≡ with_zone self.old z (sealed (sector_of self.old z)) }
+        ensures runs { runs_of self.new z ≡ runs_of self.old z }
     {
         let from = place_of(&self.geometry, z);
         let size = self.geometry.sector as usize;
@@ -184,7 +185,8 @@ impl NewMap {
     /// Replaces a zone's CrossCheck, and no other byte.
     pub fn set_cross(&mut self, z: u16, v: u8)
         requires { z < self.old.geometry.zones }
-        ensures { self.new ≡ with_cross self.old z v }
+        ensures map { self.new ≡ with_cross self.old z v }
+        ensures runs { runs_of self.new z ≡ runs_of self.old z }
     {
         let from = place_of(&self.geometry, z);
         let size = self.geometry.sector as usize;
@@ -196,7 +198,8 @@ impl NewMap {
     pub fn set_root(&mut self, root: u32, size: u32)
         requires root { IsTrue (is_root_right (rooted self.old root size)) }
         requires size { IsTrue (is_root_size_right (rooted self.old root size)) }
-        ensures { self.new ≡ with_zone self.old 0 (with_root (sector_of self.old 0) root size) }
+        ensures map { self.new ≡ with_zone self.old 0 (with_root (sector_of self.old 0) root size) }
+        ensures runs { runs_of self.new 0 ≡ runs_of self.old 0 }
     {
         let from = place_of(&self.geometry, 0);
         let sector = self.geometry.sector as usize;
