@@ -171,7 +171,7 @@ Rises-split : (g : Geometry) (from to : ℕ) (xs ys : List ZoneRun) → Rises g 
 Rises-split g from to [] ys r = (from, (omega arith, r))
 Rises-split g from to (x ∷ xs) ys r = let rest = Rises-split g (first_sector g x + sector_count g x) to xs ys r.1 in (rest.0, ((r.0, rest.1.0), rest.1.1))
 
-range_cut : (from a b : ℕ) → range_with_len from (a + b) ≡ range_with_len from a ++ range_with_len (from + a) b
+pub range_cut : (from a b : ℕ) → range_with_len from (a + b) ≡ range_with_len from a ++ range_with_len (from + a) b
 range_cut from zero b = ap (range_with_len from) (let e : zero + b ≡ b = omega arith in e) ∙ ap (λ (k : ℕ). range_with_len k b) (let e : from ≡ from + zero = omega arith in e)
 range_cut from (suc a) b =
     ap (range_with_len from) (let e : suc a + b ≡ suc (a + b) = omega arith in e)

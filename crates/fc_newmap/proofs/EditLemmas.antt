@@ -145,3 +145,7 @@ module _ (s : ZoneShape) (old new : List ℕ) (start : ℕ) where
       ∙ sym (merged_at-cut s old r.0 r.1.0 runs.0 runs.1 r.1.1)
       ∙ ap (λ (k : ℕ). merged_at k (r.0 ++ runs.0 ∷ (runs.1 ∷ r.1.0))) runs.2
       ∙ ap (merged_at start) (sym (runs_of_zone s old (r.0 ++ runs.0 ∷ (runs.1 ∷ r.1.0)) r.1.1))
+
+-- a write that leaves the zone its runs
+pub same_runs : (g : Geometry) (m : Map) (z : ℕ) (old part items : List ℕ) → IsWrittenIn g m z old part items → Zone (shape g z) part (runs_of m z) → runs_of (map_in g items) z ≡ runs_of m z
+same_runs g m z old part items w zone = ap (runs_read (shape g z)) (sym w.new_is) ∙ runs_of_zone (shape g z) part (runs_of m z) zone

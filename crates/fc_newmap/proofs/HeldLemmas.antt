@@ -199,3 +199,14 @@ held_of g bytes of_record whole has = record {
   whole = whole;
   map = record { of_record = of_record; all = length-zones g bytes; whole = λ z low. length-sector g bytes z whole low; right = has };
 }
+
+-- there is a zone
+pub some_zone : (g : Geometry) (bytes : List ℕ) (m : Map) → IsHeld g bytes → map_in g bytes ≡ m → 0 < m.geometry.zones
+some_zone g bytes m held e = subst (λ (n : Map). 0 < n.geometry.zones) e (let f = geometry_facts g held.map.of_record in f.zones)
+
+-- zone 0 lies in the buffer
+pub first_fits : (g : Geometry) (bytes : List ℕ) (from : ℕ) → IsHeld g bytes → from ≡ 0 * g.sector → from + g.sector ≤ length bytes
+first_fits g bytes from held at =
+    let f = geometry_facts g held.map.of_record in
+    let fits = place_fits 0 g.zones g.sector f.zones in
+    omega (arith, held.whole)

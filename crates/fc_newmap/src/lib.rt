@@ -6,6 +6,7 @@
 
 mod extents;
 mod map;
+mod places;
 mod runs;
 mod shapes;
 mod sums;

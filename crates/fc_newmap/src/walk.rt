@@ -12,7 +12,10 @@ use crate::shapes::shape_of;
 use fc_record::Geometry;
 use fc_zone::{Cursor, Run, RunKind, ZoneShape};
 
-/// A place before the runs that are left in a zone and in the zones after it, round to zone 0.
+/// A place before the runs that are left in a zone and in the zones after it, round to zone 0, for a walk in one pass
+/// over the words of the zones.
+///
+/// It borrows nothing, and is right as long as the map's runs stay as they are.
 #[derive(Clone, Copy, Debug)]
 pub struct Walk {
     /// The shape of the zone in which it stands.
@@ -38,7 +41,7 @@ fn zone_after(g: &Geometry, z: u16) -> u16
 impl Walk {
     ghost use Rattle.fc_newmap.specs.Walk.{IsInZone, StandsBefore, bits_left, holes_in, zones_from};
 
-    // Before the runs of a zone and of `more` zones after it.
+    /// Before the runs of a zone and of `more` zones after it.
     pub fn from_zone(map: &NewMap, z: u16, more: u16) -> Self
         requires { z < map.now.geometry.zones }
         ensures stands { StandsBefore map.now (placed z (runs_of map.now z) ++ runs_in map.now (zones_from map.now.geometry (zone_after map.now.geometry z) more)) result }
@@ -53,7 +56,7 @@ impl Walk {
     }
 
     // Behind the run of a zone that begins at `start`, where `more` zones come after the zone.
-    pub fn behind(map: &NewMap, z: u16, start: u32, more: u16) -> Self
+    pub(crate) fn behind(map: &NewMap, z: u16, start: u32, more: u16) -> Self
         requires zone { z < map.now.geometry.zones }
         requires run { (run : Run) × ((front rest : List Run) × ((run.start ≡ start) × (runs_of map.now z ≡ front ++ run ∷ rest))) }
         ensures { (front rest : List Run) (run : Run) → run.start ≡ start → runs_of map.now z ≡ front ++ run ∷ rest
@@ -70,7 +73,7 @@ impl Walk {
         }
     }
 
-    // Before all runs of a map.
+    /// Before all runs of a map, in the order of zones and places.
     pub fn over_all(map: &NewMap) -> Self
         ensures stands { StandsBefore map.now (all_runs map.now) result }
         ensures short { bits_left result ≤ 2 ^ 32 }
@@ -78,7 +81,7 @@ impl Walk {
         Walk::from_zone(map, 0, map.geometry().zones - 1)
     }
 
-    // Goes past the next run and gives it, with its zone.
+    /// Goes past the next run and gives it, with its zone. `None` exactly at the end, where it stays.
     pub fn next(&mut self, map: &NewMap) -> Option<(u16, Run)>
         requires { (left : List ZoneRun) × StandsBefore map.now left self.old }
         ensures value { (left : List ZoneRun) → StandsBefore map.now left self.old
@@ -98,7 +101,7 @@ impl Walk {
         }
     }
 
-    // Goes past runs up to the next hole and past that, and gives it, with its zone.
+    /// Goes past the next hole and gives it, with its zone. `None` exactly where none is left.
     pub fn next_hole(&mut self, map: &NewMap) -> Option<(u16, Run)>
         requires { (left : List ZoneRun) × StandsBefore map.now left self.old }
         ensures value { (left : List ZoneRun) → StandsBefore map.now left self.old
