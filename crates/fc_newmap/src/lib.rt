@@ -4,8 +4,29 @@
 //! Source: the RISC OS PRM, chapter FileCore, "New maps".
 #![tactic(auto)]
 
+mod extents;
+mod map;
+mod places;
+mod runs;
+mod shapes;
+mod sums;
+mod walk;
+
 ghost use Rattle.fc_newmap.specs.Rows.{MapRows};
 ghost use Rattle.fc_newmap.specs.RunsLaw.{GeometryLaw, IdsLaw, RunsLaw, ShapeLaw, ZoneSectorsLaw};
+
+pub use extents::extent_of;
+use fc_zone::ZoneFault;
+pub use map::NewMap;
+pub use runs::RunCursor;
+pub use walk::Walk;
+
+/// Why a copy of a map is not loaded.
+#[derive(Clone, Copy, Debug, PartialEq, Eq)]
+pub enum MapError {
+    /// A zone has no runs: the first such zone, and the place of its fault.
+    Zone(ZoneFault),
+}
 
 /// The map of a fresh E disc, worked out.
 pub fn rows()

@@ -1,0 +1,4 @@
+pub mod PlaceLemmas
+pub mod GeometryLemmas
+pub mod PartLemmas
+pub mod SearchLemmas

@@ -1,0 +1,18 @@
+//! Where the bytes at an address of a disc lie, by its map, an old one or a new one.
+//!
+//! Source: the RISC OS PRM, chapter FileCore: "Old maps" and "New maps"; docs/FORMAT.md.
+#![tactic(auto)]
+
+mod new;
+mod old;
+mod space;
+
+pub use space::Space;
+
+/// Why the bytes at an address have no place.
+#[derive(Clone, Copy, Debug, PartialEq, Eq)]
+pub enum PlaceError {
+    /// They pass the object's end or the disc's, or no object can have the address.
+    Outside,
+    NoMemory,
+}

@@ -1,0 +1,94 @@
+// Places on discs with new maps.
+
+ghost use Rattle.std.specs.Prelude.{◌≡◌, ◌<◌, ◌≤◌, ◌^◌, ◌+◌, None, Some, IfOk, IsErrOf, take, drop, length};
+ghost use Rattle.fc_image.specs.Layout.{first_part, id_sectors, is_object_id, low_start, new_sectors};
+ghost use Rattle.fc_objects.specs.Extents.{extent_sectors, sectors_in};
+
+use crate::PlaceError;
+use fc_device::Extent;
+use fc_newmap::{NewMap, RunCursor, extent_of};
+use std::alloc::Global;
+
+// The part of an extent that stands behind `skip` sectors and has at most `need`.
+fn part_of(extent: Extent, skip: u64, need: u64) -> Extent
+    requires { extent.first + extent.sectors < 2 ^ 64 }
+    ensures sectors { extent_sectors result ≡ take need (drop skip (extent_sectors extent)) }
+    ensures few { result.sectors ≤ need }
+{
+    let passed = skip.min(extent.sectors);
+    Extent {
+        first: extent.first + passed,
+        sectors: need.min(extent.sectors - passed),
+    }
+}
+
+// Whether objects may have an identifier.
+fn is_object_id(map: &NewMap, id: u32) -> bool
+    ensures { result ≡ is_object_id map.now id }
+{
+    let g = map.geometry();
+    let ids = u64::from(g.ids_per_zone) * u64::from(g.zones);
+    id >= 2 && u64::from(id) < ids.min(1 << g.idlen)
+}
+
+// How many sectors into its identifier an object of this low byte begins.
+fn low_start(map: &NewMap, low: u32) -> u64
+    requires { low < 256 }
+    ensures { result ≡ low_start map.now low }
+{
+    let g = map.geometry();
+    u64::from(low).saturating_sub(1) * (g.share / u64::from(g.sector))
+}
+
+// The sectors `skip` to `skip + need` of an identifier, in the order of its runs, unless it has fewer.
+fn sectors_of_id(
+    alloc: Global,
+    map: &NewMap,
+    id: u32,
+    skip: u64,
+    need: u64,
+) -> Result<Vec<Extent>, PlaceError>
+    ensures place { IfOk result (λ place. first_part need (drop skip (id_sectors map.now id)) ≡ Some (sectors_in place.items)) }
+    ensures outside { IsErrOf result PlaceError.Outside → first_part need (drop skip (id_sectors map.now id)) ≡ None }
+{
+    let mut skip = skip;
+    let mut need = need;
+    let mut place = Vec::new(alloc);
+    let mut cursor = RunCursor::start(map, id);
+    while need > 0 {
+        let Some((z, run)) = cursor.next(map) else {
+            return Err(PlaceError::Outside);
+        };
+        let extent = extent_of(map.geometry(), z, run);
+        if skip >= extent.sectors {
+            skip -= extent.sectors;
+            continue;
+        }
+        let part = part_of(extent, skip, need);
+        if place.push(part).is_err() {
+            return Err(PlaceError::NoMemory);
+        }
+        skip = 0;
+        need -= part.sectors;
+    }
+    Ok(place)
+}
+
+// The whole sectors of one byte or more at an indirect address.
+pub fn new_place(
+    alloc: Global,
+    map: &NewMap,
+    address: u32,
+    bytes: u64,
+) -> Result<Vec<Extent>, PlaceError>
+    ensures place { IfOk result (λ place. new_sectors map.now address bytes ≡ Some (sectors_in place.items)) }
+    ensures outside { IsErrOf result PlaceError.Outside → new_sectors map.now address bytes ≡ None }
+{
+    let id = address / 256;
+    if !is_object_id(map, id) {
+        return Err(PlaceError::Outside);
+    }
+    let skip = low_start(map, address % 256);
+    let need = bytes.div_ceil(u64::from(map.geometry().sector));
+    sectors_of_id(alloc, map, id, skip, need)
+}

@@ -1,0 +1,32 @@
+// Places on discs with old maps.
+
+ghost use Rattle.std.specs.Prelude.{◌≡◌, None, Some, IfOk, IsErrOf};
+ghost use Rattle.fc_image.specs.Layout.{old_sectors};
+ghost use Rattle.fc_objects.specs.Extents.{sectors_in};
+
+use crate::PlaceError;
+use fc_device::Extent;
+use fc_oldmap::OldMap;
+use std::alloc::Global;
+
+// The whole sectors from an address on, unless they pass the disc's end.
+pub fn old_place(
+    alloc: Global,
+    map: &OldMap,
+    address: u32,
+    bytes: u64,
+) -> Result<Vec<Extent>, PlaceError>
+    ensures place { IfOk result (λ place. old_sectors map.now address bytes ≡ Some (sectors_in place.items)) }
+    ensures outside { IsErrOf result PlaceError.Outside → old_sectors map.now address bytes ≡ None }
+{
+    let units = map.sector_units();
+    let first = u64::from(address / units);
+    let sectors = bytes.div_ceil(256 * u64::from(units));
+    if address % units != 0 || first + sectors > u64::from(map.disc_units() / units) {
+        return Err(PlaceError::Outside);
+    }
+    match vec![in alloc; Extent { first, sectors }; 1] {
+        Ok(place) => Ok(place),
+        Err(_) => Err(PlaceError::NoMemory),
+    }
+}

@@ -1,0 +1,45 @@
+// A disc's map, and the place of the bytes at an address.
+
+ghost use Rattle.std.specs.Prelude.{◌≡◌, ◌↔◌, None, Some, IfOk, IsErrOf};
+ghost use Rattle.fc_image.specs.Layout.{sectors_at};
+ghost use Rattle.fc_objects.specs.Extents.{sectors_in};
+ghost use Rattle.fc_space.specs.Space.{layout_of};
+
+use crate::PlaceError;
+use crate::new::new_place;
+use crate::old::old_place;
+use fc_device::Extent;
+use fc_newmap::NewMap;
+use fc_oldmap::OldMap;
+use std::alloc::Global;
+
+/// The map of a disc: an old one, or a new one.
+#[derive(Drop)]
+pub enum Space {
+    OldMapped(OldMap),
+    NewMapped(NewMap),
+}
+
+impl Space {
+    /// The whole sectors that the first `bytes` bytes from an address take, in their order; none at all for no bytes,
+    /// whatever the address. The address is an indirect disc address on a new map, and counts units of 256 bytes on an
+    /// old one. `Outside` exactly where the bytes pass the object's end or the disc's, where no object can have the
+    /// address's identifier, and, on an old map, where the address is no sector boundary.
+    pub fn place_of(
+        &self,
+        alloc: Global,
+        address: u32,
+        bytes: u64,
+    ) -> Result<Vec<Extent>, PlaceError>
+        ensures place { IfOk result (λ place. sectors_at (layout_of self.now) address bytes ≡ Some (sectors_in place.items)) }
+        ensures outside { IsErrOf result PlaceError.Outside → sectors_at (layout_of self.now) address bytes ≡ None }
+    {
+        if bytes == 0 {
+            return Ok(Vec::new(alloc));
+        }
+        match self {
+            Space::OldMapped(map) => old_place(alloc, map, address, bytes),
+            Space::NewMapped(map) => new_place(alloc, map, address, bytes),
+        }
+    }
+}
