@@ -9,6 +9,9 @@ mod space;
 
 pub use space::Space;
 
+#[cfg(test)]
+mod tests;
+
 /// Why the bytes at an address have no place.
 #[derive(Clone, Copy, Debug, PartialEq, Eq)]
 pub enum PlaceError {
