@@ -1,0 +1,10 @@
+//! Big directories, on E+ and F+ discs.
+//!
+//! A directory is read whole, kept as its head, its heap of names and its entries in stored order, and written whole.
+//! The layout is that of the RISC OS 4 notes on big directories; where they leave a choice, of docs/FORMAT.md.
+#![tactic(auto)]
+
+mod big;
+
+pub use big::BigDir;
+pub use fc_dirs::{DirError, DirFault, Entry, InsertError};
