@@ -1,1 +1,3 @@
 pub mod FlipLemmas
+pub mod WrittenEntries
+pub mod LaidLemmas
