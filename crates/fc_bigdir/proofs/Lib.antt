@@ -1,3 +1,5 @@
 pub mod FlipLemmas
 pub mod WrittenEntries
 pub mod LaidLemmas
+pub mod WrittenChecks
+pub mod ReadBack
