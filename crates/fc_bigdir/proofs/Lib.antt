@@ -3,3 +3,4 @@ pub mod WrittenEntries
 pub mod LaidLemmas
 pub mod WrittenChecks
 pub mod ReadBack
+pub mod PutLemmas

@@ -5,6 +5,8 @@
 #![tactic(auto)]
 
 mod big;
+mod put;
+mod write;
 
 pub use big::BigDir;
 pub use fc_dirs::{DirError, DirFault, Entry, InsertError};
