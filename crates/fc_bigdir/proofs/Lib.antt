@@ -4,3 +4,4 @@ pub mod LaidLemmas
 pub mod WrittenChecks
 pub mod ReadBack
 pub mod PutLemmas
+pub mod WriteLemmas

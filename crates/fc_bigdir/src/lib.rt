@@ -5,7 +5,10 @@
 #![tactic(auto)]
 
 mod big;
+mod bytes;
+mod frame;
 mod put;
+mod space;
 mod write;
 
 pub use big::BigDir;

@@ -13,6 +13,7 @@ pub fn put(b: &mut [u8], at: usize, new: &[u8]) -> usize
     requires { at + length new.now ≤ length b.old }
     ensures end { result ≡ at + length new.now }
     ensures bytes { take result b.new ≡ take at b.old ++ new.now }
+    ensures of_bytes { AreBytes new.now }
 {
     let end = at + new.len();
     b[at..end].copy_from_slice(new);
@@ -43,6 +44,7 @@ pub fn put_name(b: &mut [u8], at: usize, name: &[u8], space: usize) -> usize
     requires within { at + space ≤ length b.old }
     ensures end { result ≡ at + space }
     ensures bytes { take result b.new ≡ take at b.old ++ padded_name space name.now }
+    ensures of_bytes { AreBytes name.now }
 {
     let behind = put(b, at, name);
     let end = at + space;
