@@ -6,6 +6,7 @@
 
 mod big;
 mod bytes;
+mod enter;
 mod frame;
 mod put;
 mod space;

@@ -1,0 +1,131 @@
+// Entries put into a list, with their names in a heap.
+ghost use Rattle.std.specs.Prelude.{◌≡◌, ◌+◌, ◌*◌, ◌<◌, ◌≤◌, ◌^◌, ◌++◌, [], length, insert, map, sum_by, vec_len, IfOk, MatchOption, OnErr, OnOk};
+ghost use Rattle.std.specs.Bool.{OnFalse, OnTrue};
+ghost use Rattle.std.specs.List.{flat_map};
+ghost use Rattle.std.specs.Vec.{vec_capacity};
+ghost use Rattle.fc_dirs.specs.Entries.{entry_place, padded_name, with_entry};
+ghost use Rattle.fc_dirs.specs.Big.{name_space, packed_heap, packed_places, size_limit};
+ghost use Rattle.fc_bigdir.specs.Entered.{IsRoomFor, entered_heap, entered_places, needed_for};
+
+use crate::put::put_name;
+use crate::space::size_for;
+use fc_dirs::Entry;
+use fc_names::{Name, fold_less};
+use std::alloc::{AllocError, Global};
+
+// How a directory takes a new name: its size, and whether the present heap takes the name besides. Else the heap is made
+// anew.
+#[derive(Clone, Copy)]
+pub struct Room {
+    pub size: u32,
+    pub is_loose: bool,
+}
+
+// The room for so many entries, which have a heap of `loose` bytes or, made anew, of `tight` bytes.
+pub fn room_for(
+    size: u32,
+    head: usize,
+    entries: usize,
+    loose: usize,
+    tight: usize,
+) -> Option<Room>
+    requires head { head < 2 ^ 32 }
+    requires entries { entries < 2 ^ 32 }
+    requires loose { loose < 2 ^ 32 }
+    requires tight { tight < 2 ^ 32 }
+    ensures { MatchOption result (size_limit < needed_for head entries loose tight) (IsRoomFor size head entries loose tight) }
+{
+    let needed = size_for(head, entries, loose).min(size_for(head, entries, tight));
+    if needed > 4_194_304 {
+        return None;
+    }
+    let size = size.max(needed as u32);
+    Some(Room {
+        size,
+        is_loose: 28 + head + 28 * entries + loose + 8 <= size as usize,
+    })
+}
+
+// The space of a name in the heap.
+pub fn name_space(name: &Name) -> usize
+    ensures space { result ≡ name_space name.now }
+    ensures small { result ≤ 256 }
+{
+    (name.bytes().len() + 4) / 4 * 4
+}
+
+// The size of a heap of exactly the names of entries.
+pub fn tight_heap(entries: &[Entry]) -> usize
+    requires { length entries.now < 2 ^ 32 }
+    ensures heap { result ≡ sum_by (λ e. name_space e.name) entries.now }
+    ensures small { result ≤ 256 * length entries.now }
+{
+    let mut heap = 0;
+    for e in entries {
+        heap += name_space(&e.name);
+    }
+    heap
+}
+
+// Puts a name behind a heap.
+fn push_name(heap: &mut Vec<u8>, name: &Name) -> Result<(), AllocError>
+    ensures ok { OnOk result (heap.new.items ≡ heap.old.items ++ padded_name (name_space name.now) name.now) }
+    ensures err { OnErr result (heap.new.items ≡ heap.old.items) }
+{
+    let mut field = [0; 256];
+    let end = put_name(&mut field, 0, name.bytes(), name_space(name));
+    heap.extend_from_slice(&field[..end])
+}
+
+// Puts the names of entries behind a heap.
+fn push_names(heap: &mut Vec<u8>, entries: &[Entry]) -> Result<(), AllocError>
+    ensures { OnOk result (heap.new.items ≡ heap.old.items ++ packed_heap entries.now) }
+{
+    for e in entries {
+        push_name(heap, &e.name)?;
+    }
+    Ok(())
+}
+
+// The heap of exactly the names of entries, with another name between them.
+fn packed_heap(
+    alloc: Global,
+    before: &[Entry],
+    name: &Name,
+    behind: &[Entry],
+    size: usize,
+) -> Result<Vec<u8>, AllocError>
+    ensures { IfOk result (λ heap. heap.items ≡ packed_heap before.now ++ padded_name (name_space name.now) name.now ++ packed_heap behind.now) }
+{
+    let mut heap = Vec::with_capacity(alloc, size)?;
+    push_names(&mut heap, before)?;
+    push_name(&mut heap, name)?;
+    push_names(&mut heap, behind)?;
+    Ok(heap)
+}
+
+// Where a new entry stands: before the first whose folded name is greater, and else last.
+pub fn place_of(entries: &[Entry], name: &Name) -> usize
+    ensures place { result ≡ entry_place name.now entries.now }
+    ensures within { result ≤ length entries.now }
+{
+    entries
+        .iter()
+        .position(|e| fold_less(name, &e.name))
+        .unwrap_or(entries.len())
+}
+
+// Puts an entry in its place, for which there is room. Its name begins at byte `at` of the heap.
+pub fn place_entry(places: &mut Vec<u32>, entries: &mut Vec<Entry>, at: u32, e: Entry)
+    requires many { vec_len places.old ≡ vec_len entries.old }
+    requires places { vec_len places.old < vec_capacity places.old }
+    requires entries { vec_len entries.old < vec_capacity entries.old }
+    ensures entries { entries.new.items ≡ with_entry e entries.old.items }
+    ensures places { places.new.items ≡ insert places.old.items (entry_place e.name entries.old.items) at }
+{
+    let place = place_of(entries, &e.name);
+    let done = places.insert(place, at).is_ok();
+    prove!(done);
+    let done = entries.insert(place, e).is_ok();
+    prove!(done);
+}
