@@ -5,3 +5,4 @@ pub mod WrittenChecks
 pub mod ReadBack
 pub mod PutLemmas
 pub mod WriteLemmas
+pub mod PackLemmas

@@ -1,5 +1,5 @@
 // Entries put into a list, with their names in a heap.
-ghost use Rattle.std.specs.Prelude.{◌≡◌, ◌+◌, ◌*◌, ◌<◌, ◌≤◌, ◌^◌, ◌++◌, [], length, insert, map, sum_by, vec_len, IfOk, MatchOption, OnErr, OnOk};
+ghost use Rattle.std.specs.Prelude.{◌≡◌, ◌+◌, ◌*◌, ◌<◌, ◌≤◌, ◌^◌, ◌++◌, [], true, false, length, insert, map, sum_by, vec_len, IfOk, MatchOption, OnErr, OnOk};
 ghost use Rattle.std.specs.Bool.{OnFalse, OnTrue};
 ghost use Rattle.std.specs.List.{flat_map};
 ghost use Rattle.std.specs.Vec.{vec_capacity};
@@ -128,4 +128,102 @@ pub fn place_entry(places: &mut Vec<u32>, entries: &mut Vec<Entry>, at: u32, e: 
     prove!(done);
     let done = entries.insert(place, e).is_ok();
     prove!(done);
+}
+
+// Sets where the names of entries begin in a heap of exactly these.
+fn number_places(places: &mut [u32], entries: &[Entry])
+    requires many { length places.old ≡ length entries.now }
+    requires few { length entries.now < 2 ^ 24 }
+    ensures { places.new ≡ packed_places 0 entries.now }
+{
+    let mut at = 0;
+    for i in 0..entries.len() {
+        places[i] = at;
+        at += name_space(&entries[i].name) as u32;
+    }
+}
+
+// Puts an entry in its place, and its name behind the heap. Where there is no memory nothing changes.
+fn enter_loose(
+    heap: &mut Vec<u8>,
+    places: &mut Vec<u32>,
+    entries: &mut Vec<Entry>,
+    e: Entry,
+) -> bool
+    requires heap { length heap.old.items < 2 ^ 32 }
+    requires many { vec_len places.old ≡ vec_len entries.old }
+    requires places { vec_len places.old < vec_capacity places.old }
+    requires entries { vec_len entries.old < vec_capacity entries.old }
+    ensures entries { OnTrue result (entries.new.items ≡ with_entry e entries.old.items) }
+    ensures heap { OnTrue result (heap.new.items ≡ entered_heap true heap.old.items e entries.old.items) }
+    ensures places { OnTrue result (places.new.items ≡ entered_places true heap.old.items places.old.items e entries.old.items) }
+    ensures same_heap { OnFalse result (heap.new.items ≡ heap.old.items) }
+    ensures same_places { OnFalse result (places.new ≡ places.old) }
+    ensures same_entries { OnFalse result (entries.new ≡ entries.old) }
+{
+    let at = heap.len() as u32;
+    if push_name(heap, &e.name).is_err() {
+        return false;
+    }
+    place_entry(places, entries, at, e);
+    true
+}
+
+// Puts an entry in its place, and makes the heap anew. Where there is no memory nothing changes.
+fn enter_tight(
+    heap: &mut Vec<u8>,
+    places: &mut Vec<u32>,
+    entries: &mut Vec<Entry>,
+    e: Entry,
+    tight: usize,
+) -> bool
+    requires few { length entries.old.items + 1 < 2 ^ 24 }
+    requires many { vec_len places.old ≡ vec_len entries.old }
+    requires places { vec_len places.old < vec_capacity places.old }
+    requires entries { vec_len entries.old < vec_capacity entries.old }
+    ensures entries { OnTrue result (entries.new.items ≡ with_entry e entries.old.items) }
+    ensures heap { OnTrue result (heap.new.items ≡ entered_heap false heap.old.items e entries.old.items) }
+    ensures places { OnTrue result (places.new.items ≡ entered_places false heap.old.items places.old.items e entries.old.items) }
+    ensures same_heap { OnFalse result (heap.new.items ≡ heap.old.items) }
+    ensures same_places { OnFalse result (places.new ≡ places.old) }
+    ensures same_entries { OnFalse result (entries.new ≡ entries.old) }
+{
+    let alloc = *heap.allocator();
+    let place = place_of(entries, &e.name);
+    let Ok(anew) = packed_heap(alloc, &entries[..place], &e.name, &entries[place..], tight) else {
+        return false;
+    };
+    place_entry(places, entries, 0, e);
+    number_places(places, entries);
+    *heap = anew;
+    true
+}
+
+// Puts an entry in its place, and its name behind the heap, or makes the heap anew, which then takes `tight` bytes. Where
+// there is no memory nothing changes.
+pub fn enter(
+    heap: &mut Vec<u8>,
+    places: &mut Vec<u32>,
+    entries: &mut Vec<Entry>,
+    e: Entry,
+    is_loose: bool,
+    tight: usize,
+) -> bool
+    requires heap { length heap.old.items < 2 ^ 32 }
+    requires few { length entries.old.items + 1 < 2 ^ 24 }
+    requires many { vec_len places.old ≡ vec_len entries.old }
+    requires places { vec_len places.old < vec_capacity places.old }
+    requires entries { vec_len entries.old < vec_capacity entries.old }
+    ensures entries { OnTrue result (entries.new.items ≡ with_entry e entries.old.items) }
+    ensures heap { OnTrue result (heap.new.items ≡ entered_heap is_loose heap.old.items e entries.old.items) }
+    ensures places { OnTrue result (places.new.items ≡ entered_places is_loose heap.old.items places.old.items e entries.old.items) }
+    ensures same_heap { OnFalse result (heap.new.items ≡ heap.old.items) }
+    ensures same_places { OnFalse result (places.new ≡ places.old) }
+    ensures same_entries { OnFalse result (entries.new ≡ entries.old) }
+{
+    if is_loose {
+        enter_loose(heap, places, entries, e)
+    } else {
+        enter_tight(heap, places, entries, e, tight)
+    }
 }
