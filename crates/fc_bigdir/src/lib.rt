@@ -5,6 +5,11 @@
 #![tactic(auto)]
 
 mod big;
+mod bytes;
+mod entries;
+mod frame;
+mod space;
 
 pub use big::BigDir;
 pub use fc_dirs::{DirError, DirFault, Entry, InsertError};
+pub use space::size_for;
