@@ -9,6 +9,7 @@ mod bytes;
 mod entries;
 mod frame;
 mod space;
+mod twins;
 
 pub use big::BigDir;
 pub use fc_dirs::{DirError, DirFault, Entry, InsertError};
