@@ -6,3 +6,5 @@ pub mod ReadBack
 pub mod PutLemmas
 pub mod WriteLemmas
 pub mod PackLemmas
+pub mod EntryLemmas
+pub mod OrderLemmas

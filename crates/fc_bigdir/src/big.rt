@@ -1,8 +1,9 @@
 // Big directories.
-ghost use Rattle.std.specs.Prelude.{◌≡◌, ◌≤◌, length};
-ghost use Rattle.fc_dirs.specs.Big.{IsBig, head_space, head_space_of};
+ghost use Rattle.std.specs.Prelude.{◌≡◌, length};
+ghost use Rattle.fc_dirs.specs.Big.{IsBig, head_space_of};
 ghost use Rattle.fc_dirs.specs.Small.{next_sequence};
 
+use crate::space::head_space;
 use fc_dirs::Entry;
 use std::marker::Model;
 
@@ -35,18 +36,6 @@ impl Model for BigDir {
 
     // The parts fit, each name stands in the heap, and no two names fold to one.
     ghost invariant = { λ d. IsBig (dir_of d.size d.sequence d.parent d.name.items d.second_form d.reserved d.heap.items d.places.items d.entries.items) };
-}
-
-// The space of a head's name of that length.
-fn head_space(second_form: bool, len: usize) -> usize
-    requires { len ≤ 4194304 }
-    ensures { result ≡ head_space second_form len }
-{
-    if second_form {
-        len.next_multiple_of(4)
-    } else {
-        (len + 4) / 4 * 4
-    }
 }
 
 impl BigDir {

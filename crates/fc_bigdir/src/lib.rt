@@ -7,10 +7,13 @@
 mod big;
 mod bytes;
 mod enter;
+mod entries;
 mod frame;
 mod put;
 mod space;
+mod twins;
 mod write;
 
 pub use big::BigDir;
 pub use fc_dirs::{DirError, DirFault, Entry, InsertError};
+pub use space::size_for;
