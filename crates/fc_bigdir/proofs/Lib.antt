@@ -8,3 +8,5 @@ pub mod WriteLemmas
 pub mod PackLemmas
 pub mod EntryLemmas
 pub mod OrderLemmas
+pub mod StandLemmas
+pub mod GrowLemmas
