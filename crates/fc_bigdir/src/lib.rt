@@ -9,6 +9,7 @@ mod bytes;
 mod enter;
 mod entries;
 mod frame;
+mod insert;
 mod put;
 mod space;
 mod twins;
