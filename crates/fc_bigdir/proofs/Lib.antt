@@ -10,3 +10,4 @@ pub mod EntryLemmas
 pub mod OrderLemmas
 pub mod StandLemmas
 pub mod GrowLemmas
+pub mod RenameLemmas
