@@ -10,18 +10,18 @@ use std::marker::Model;
 /// A big directory: its size, the fields of its head and tail, the heap of its names, and its entries in stored order.
 #[derive(Drop)]
 pub struct BigDir {
-    size: u32,
-    sequence: u8,
-    parent: u32,
+    pub(crate) size: u32,
+    pub(crate) sequence: u8,
+    pub(crate) parent: u32,
     // The name in the head: any bytes, as far as the size holds them.
-    name: Vec<u8>,
+    pub(crate) name: Vec<u8>,
     // Whether the head's name has the least space of whole words.
-    second_form: bool,
-    reserved: [u8; 2],
-    heap: Vec<u8>,
+    pub(crate) second_form: bool,
+    pub(crate) reserved: [u8; 2],
+    pub(crate) heap: Vec<u8>,
     // Where the name of each entry begins in the heap.
-    places: Vec<u32>,
-    entries: Vec<Entry>,
+    pub(crate) places: Vec<u32>,
+    pub(crate) entries: Vec<Entry>,
 }
 
 impl Model for BigDir {

@@ -8,6 +8,7 @@ mod big;
 mod bytes;
 mod entries;
 mod frame;
+mod read;
 mod space;
 mod twins;
 
