@@ -6,11 +6,14 @@
 
 mod big;
 mod bytes;
+mod enter;
 mod entries;
 mod frame;
 mod read;
+mod put;
 mod space;
 mod twins;
+mod write;
 
 pub use big::BigDir;
 pub use fc_dirs::{DirError, DirFault, Entry, InsertError};
