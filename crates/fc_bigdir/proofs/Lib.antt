@@ -12,3 +12,4 @@ pub mod FaultLemmas
 pub mod ReadLemmas
 pub mod StandLemmas
 pub mod GrowLemmas
+pub mod ChangeLemmas

@@ -22,13 +22,7 @@ pub struct Room {
 }
 
 // The room for so many entries, which have a heap of `loose` bytes or, made anew, of `tight` bytes.
-pub fn room_for(
-    size: u32,
-    head: usize,
-    entries: usize,
-    loose: usize,
-    tight: usize,
-) -> Option<Room>
+pub fn room_for(size: u32, head: usize, entries: usize, loose: usize, tight: usize) -> Option<Room>
     requires head { head < 2 ^ 32 }
     requires entries { entries < 2 ^ 32 }
     requires loose { loose < 2 ^ 32 }

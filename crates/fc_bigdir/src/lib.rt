@@ -6,11 +6,12 @@
 
 mod big;
 mod bytes;
+mod change;
 mod enter;
 mod entries;
 mod frame;
-mod read;
 mod put;
+mod read;
 mod space;
 mod twins;
 mod write;

@@ -70,7 +70,10 @@ fn read_parts(alloc: Global, b: &[u8], second_form: bool) -> Result<BigDir, DirE
     let entries = read_entries(alloc, b, second_form, heap)?;
     check_twins(alloc, &entries)?;
     let places = read_places(alloc, b, second_form)?;
-    let (Ok(name), Ok(heap)) = (copied(alloc, head_name(b, second_form)), copied(alloc, heap)) else {
+    let (Ok(name), Ok(heap)) = (
+        copied(alloc, head_name(b, second_form)),
+        copied(alloc, heap),
+    ) else {
         return Err(DirError::NoMemory);
     };
     Ok(BigDir {
