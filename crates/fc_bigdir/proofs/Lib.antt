@@ -8,6 +8,9 @@ pub mod WriteLemmas
 pub mod PackLemmas
 pub mod EntryLemmas
 pub mod OrderLemmas
+pub mod FaultLemmas
+pub mod ReadLemmas
 pub mod StandLemmas
 pub mod GrowLemmas
 pub mod RenameLemmas
+pub mod ChangeLemmas

@@ -94,8 +94,7 @@ earlier_of es j within twin =
     let x : Entry = any.1 in
     let below : i < j = omega (arith, any.2) in
     let here : get_or es i blank ≡ x = get_or_default es i blank x (omega arith) ∙ sym (get_or-take j es i x below) ∙ any.3 in
-    let pass : is_same_name (get_or es j blank).name x.name ≡ true = any.4 in
-    (
+    let pass : is_same_name (get_or es j blank).name x.name ≡ true = any.4 in (
       i,
       below,
       ap₂ is_same_name (name_at-get_or es j within) (name_at-get_or es i (omega arith) ∙ ap (λ (e : Entry). e.name) here) ∙ pass,

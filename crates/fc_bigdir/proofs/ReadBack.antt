@@ -150,9 +150,12 @@ marked_bytes dir big form right =
     let room = room_for_word dir (free_bytes dir) (big_dir_check (laid dir (free_bytes dir) 0) (parts_end dir)) big len form right in
     let zeros = zeros_four n room in
     let rest : List ℕ = replicate (n - 4) 0 in
-    let same : checked_bytes dir ≡ laid dir (0 ∷ 0 ∷ 0 ∷ 0 ∷ rest) (sum_over (parts_bytes dir) dir) = ap₂ (laid dir) zeros check in
-    (rest, ap (λ l. set l (parts_end dir) 1) same ∙ behind_heap_set dir 0 1 (0 ∷ 0 ∷ 0 ∷ rest) (sum_over (parts_bytes dir) dir) big,
-    omega (arith, room, length-replicate {A = ℕ} (n - 4) 0), sym (ap (is_check_right false) same) ∙ right)
+    let same : checked_bytes dir ≡ laid dir (0 ∷ 0 ∷ 0 ∷ 0 ∷ rest) (sum_over (parts_bytes dir) dir) = ap₂ (laid dir) zeros check in (
+      rest,
+      ap (λ l. set l (parts_end dir) 1) same ∙ behind_heap_set dir 0 1 (0 ∷ 0 ∷ 0 ∷ rest) (sum_over (parts_bytes dir) dir) big,
+      omega (arith, room, length-replicate {A = ℕ} (n - 4) 0),
+      sym (ap (is_check_right false) same) ∙ right,
+    )
 
 -- the form that is read, where that in which the bytes are laid is right, and the first one isn't in its place
 form_told : (right : Bool → Bool) (form : Bool) → right form ≡ true → (form && right false) ≡ false → not (right false) ≡ form

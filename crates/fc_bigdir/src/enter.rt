@@ -9,7 +9,7 @@ ghost use Rattle.fc_dirs.specs.Big.{name_space, packed_heap, packed_places, size
 ghost use Rattle.fc_bigdir.specs.Entered.{IsRoomFor, entered_heap, entered_places, needed_for};
 
 use crate::put::put_name;
-use crate::space::size_for;
+use crate::space::{bytes_for, size_for};
 use fc_dirs::Entry;
 use fc_names::{Name, fold_less};
 use std::alloc::{AllocError, Global};
@@ -24,13 +24,7 @@ pub struct Room {
 }
 
 // The room for so many entries, which have a heap of `loose` bytes or, made anew, of `tight` bytes.
-pub fn room_for(
-    size: u32,
-    head: usize,
-    entries: usize,
-    loose: usize,
-    tight: usize,
-) -> Option<Room>
+pub fn room_for(size: u32, head: usize, entries: usize, loose: usize, tight: usize) -> Option<Room>
     requires head { head < 2 ^ 32 }
     requires entries { entries < 2 ^ 32 }
     requires loose { loose < 2 ^ 32 }
@@ -44,7 +38,7 @@ pub fn room_for(
     let size = size.max(needed as u32);
     Some(Room {
         size,
-        is_loose: 28 + head + 28 * entries + loose + 8 <= size as usize,
+        is_loose: bytes_for(head, entries, loose) <= size as usize,
         tight,
     })
 }

@@ -27,9 +27,7 @@ fn is_name_at(heap: &[u8], at: usize, len: usize) -> bool
     requires len { len < 2 ^ 32 }
     ensures { result ≡ (is_in_range 1 255 len && nat_le (at + len) (length heap.now) && list_all (λ c. nat_le 32 c) (bytes_at heap.now at len)) }
 {
-    (1..=255).contains(&len)
-        && at + len <= heap.len()
-        && is_printed(&heap[at..at + len])
+    (1..=255).contains(&len) && at + len <= heap.len() && is_printed(&heap[at..at + len])
 }
 
 // The entry that 28 bytes say, if its name is right.

@@ -82,7 +82,7 @@ pub fn is_check_right(b: &[u8], second_form: bool) -> bool
 pub fn read_frame(b: &[u8]) -> Result<bool, DirFault>
     ensures right { IfOk result (λ _. frame_fault b.now ≡ None) }
     ensures form { IfOk result (λ second_form. second_form ≡ has_second_form b.now) }
-    ensures check { IfOk result (λ second_form. IsTrue (is_check_right second_form b.now)) }
+    ensures fits { IfOk result (λ second_form. IsTrue (does_fit second_form b.now)) }
     ensures fault { IfErr result (λ fault. frame_fault b.now ≡ Some fault) }
 {
     if !is_big_size(b.len()) {

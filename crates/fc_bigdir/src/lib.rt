@@ -6,11 +6,13 @@
 
 mod big;
 mod bytes;
+mod change;
 mod enter;
 mod entries;
 mod frame;
 mod insert;
 mod put;
+mod read;
 mod rename;
 mod space;
 mod twins;

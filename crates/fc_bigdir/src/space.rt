@@ -1,6 +1,6 @@
 // What the parts of a directory take.
 ghost use Rattle.std.specs.Prelude.{◌≡◌, ◌<◌, ◌^◌};
-ghost use Rattle.fc_dirs.specs.Big.{head_space, size_for};
+ghost use Rattle.fc_dirs.specs.Big.{bytes_for, head_space, size_for};
 
 // The space of a head's name of that length.
 pub fn head_space(second_form: bool, len: usize) -> usize
@@ -14,6 +14,17 @@ pub fn head_space(second_form: bool, len: usize) -> usize
     }
 }
 
+// The bytes that head, name, entries, heap and tail take, where the head's name and the heap have these spaces.
+pub fn bytes_for(head_name: usize, entries: usize, heap: usize) -> usize
+    requires head_name { head_name < 2 ^ 32 }
+    requires entries { entries < 2 ^ 32 }
+    requires heap { heap < 2 ^ 32 }
+    ensures bytes { result ≡ bytes_for head_name entries heap }
+    ensures small { result < 2 ^ 38 }
+{
+    28 + head_name + 28 * entries + heap + 8
+}
+
 /// The least size of a big directory that holds a head's name in so many bytes, so many entries, and a heap of so many
 /// bytes. It may be more than any directory has.
 pub fn size_for(head_name: usize, entries: usize, heap: usize) -> u64
@@ -22,6 +33,5 @@ pub fn size_for(head_name: usize, entries: usize, heap: usize) -> u64
     requires heap { heap < 2 ^ 32 }
     ensures { result ≡ size_for head_name entries heap }
 {
-    let taken = 28 + head_name + 28 * entries + heap + 8;
-    taken.next_multiple_of(2048) as u64
+    bytes_for(head_name, entries, heap).next_multiple_of(2048) as u64
 }

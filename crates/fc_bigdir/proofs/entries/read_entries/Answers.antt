@@ -26,11 +26,10 @@ loop-i-preserved c =
     let here : c.in-Some.e ≡ big_entry heap (entry_bytes form b i) = rw (← c.requires.heap, ← slice) c.in-Some.ensures.says in
     let right : is_entry_right heap (entry_bytes form b i) ≡ true = rw (← c.requires.heap, ← slice) c.in-Some.ensures.right in
     let done : is_ok c.push.result ≡ true = c.is_err.ensures.negation ∙ ap not c.if-is_err.false in
-    let pushed : c.push.new.self.items ≡ c.loop-i.entries.items ++ c.in-Some.e ∷ [] = rw done at c.push.ensures.items in
-    (
+    let pushed : c.push.new.self.items ≡ c.loop-i.entries.items ++ c.in-Some.e ∷ [] = rw done at c.push.ensures.items in (
       pushed ∙ ap (λ l. l ++ c.in-Some.e ∷ []) c.loop-i.invariant.0
-      ∙ ap (λ e. map (λ k. big_entry heap (entry_bytes form b k)) (range_with_len 0 i) ++ e ∷ []) here
-      ∙ sym (map-range_with_len_more (λ k. big_entry heap (entry_bytes form b k)) 0 i i (omega arith)),
+          ∙ ap (λ e. map (λ k. big_entry heap (entry_bytes form b k)) (range_with_len 0 i) ++ e ∷ []) here
+          ∙ sym (map-range_with_len_more (λ k. big_entry heap (entry_bytes form b k)) 0 i i (omega arith)),
       below_more (λ k. is_entry_right heap (entry_bytes form b k) ≡ true) i c.loop-i.invariant.1 right,
     )
 

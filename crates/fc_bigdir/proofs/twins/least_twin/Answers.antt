@@ -10,7 +10,7 @@ pub loop-i-preserved : goal.loop-i-preserved
 loop-i-preserved c = (
   omega arith,
   least_next c.args.entries.now c.args.names.now c.loop-i.i c.loop-i.least c.least_with-least.result c.index-names-i.result c.index-names-i-in-loop-i.result
-  c.requires.sorted c.loop-i.invariant.0 c.loop-i-test.true c.index-names-i.is c.index-names-i-in-loop-i.is c.least_with-least.ensures c.loop-i.invariant.1,
+      c.requires.sorted c.loop-i.invariant.0 c.loop-i-test.true c.index-names-i.is c.index-names-i-in-loop-i.is c.least_with-least.ensures c.loop-i.invariant.1,
 )
 
 pub returns : goal.returns
