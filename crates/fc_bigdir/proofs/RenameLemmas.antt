@@ -6,7 +6,7 @@ use Rattle.std.proofs.lemmas.List.Edits.{length-remove}
 use Rattle.std.proofs.lemmas.List.Elements.{All-from_recursion}
 use Rattle.std.proofs.lemmas.Option.{slice_get-get_or}
 use Rattle.std.proofs.lemmas.Slice.Eq.{bytes_eq-Decides}
-use Rattle.fc_names.specs.Names.{IsName}
+use Rattle.fc_names.specs.Names.{IsName, is_same_name}
 use Rattle.fc_smalldir.proofs.SearchLemmas.{blank}
 use Rattle.fc_dirs.specs.declared.Entry.{Entry}
 use Rattle.fc_dirs.specs.Entries.{has_name, without_entry}
@@ -36,3 +36,13 @@ big_replaced dir at e big within spelled absent last =
     let stands : StandsInHeap dir.heap (slice_index dir.name_places at) e.name = subst (StandsInHeap dir.heap (slice_index dir.name_places at)) name (stand_at dir.heap dir.name_places dir.entries at blank big.names within) in
     let size = length-remove dir.entries at within in
     big_entry_at (without_big_entry at dir) (slice_index dir.name_places at) e (big_left dir at big within) fits absent stands (omega (arith, big.fits, size, within))
+
+-- where no entry has the name, none of the others has it
+pub absent_without : (es : List Entry) (at : ℕ) (name : List ℕ) → has_name es name ≡ false → has_name (without_entry at es) name ≡ false
+absent_without [] zero name absent = refl
+absent_without [] (suc at) name absent = refl
+absent_without (e ∷ es) at name absent = go (is_same_name name e.name) refl at absent (λ i h. absent_without es i name h) where
+  go : (b : Bool) → is_same_name name e.name ≡ b → (at : ℕ) → has_name (e ∷ es) name ≡ false → ((i : ℕ) → has_name es name ≡ false → has_name (without_entry i es) name ≡ false) → has_name (without_entry at (e ∷ es)) name ≡ false
+  go true is at absent more = absurd (let some : true ≡ false = rw is at absent in cc)
+  go false is zero absent more = rw is at absent
+  go false is (suc i) absent more = rw is (more i (rw is at absent))

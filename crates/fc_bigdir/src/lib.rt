@@ -28,3 +28,6 @@ pub use space::size_for;
 pub fn reads_back()
     ensures { ReadsBack }
 {}
+
+#[cfg(test)]
+mod tests;
