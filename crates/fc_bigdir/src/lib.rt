@@ -19,3 +19,6 @@ mod write;
 pub use big::BigDir;
 pub use fc_dirs::{DirError, DirFault, Entry, InsertError};
 pub use space::size_for;
+
+#[cfg(test)]
+mod tests;
