@@ -1,5 +1,5 @@
 -- What an entry that is put in, or taken out, makes of a directory.
-use Rattle.std.proofs.Common.{◌≡◌, ◌≤◌, ◌<◌, ℕ, zero, suc, ◌+◌, ◌-◌, ◌*◌, ◌/◌, ◌%◌, min, max, not, ◌&&◌, ◌==◌, Bool, true, false, nat_le, if◌then◌else◌, List, [], ◌∷◌, ◌++◌, length, get_or, insert, remove, map, sum_by, take, drop, slice_index, None, refl, sym, ap, ap₂, ◌∙◌, subst, arith, length-append, le-leb}
+use Rattle.std.proofs.Common.{rules, ◌↔◌, IsErrOf, MatchOption, Option, Some, Ok, Err, ◌≡◌, ◌≤◌, ◌<◌, ℕ, zero, suc, ◌+◌, ◌-◌, ◌*◌, ◌/◌, ◌%◌, min, max, not, ◌&&◌, ◌==◌, Bool, true, false, nat_le, if◌then◌else◌, List, [], ◌∷◌, ◌++◌, length, get_or, insert, remove, map, sum_by, take, drop, slice_index, None, refl, sym, ap, ap₂, ◌∙◌, subst, arith, length-append, le-leb}
 use Rattle.std.specs.List.{AllByRecursion}
 use Rattle.std.specs.Int.{next_multiple_of}
 use Rattle.std.proofs.lemmas.List.{length-map}
@@ -10,9 +10,11 @@ use Rattle.fc_checks.specs.Checks.{is_big_size}
 use Rattle.fc_names.specs.Names.{IsName, is_name_before}
 use Rattle.fc_smalldir.proofs.TwinLemmas.{apart_from, none_from, apart_insert, apart_remove}
 use Rattle.fc_dirs.specs.declared.Entry.{Entry}
+use Rattle.fc_dirs.specs.declared.InsertError.TheVariants.{DirFull, NoMemory}
 use Rattle.fc_dirs.specs.Entries.{entry_place, with_entry, without_entry, has_name, first_twin, padded_name}
 use Rattle.fc_dirs.specs.Big.{BigDir, IsBig, FitsBig, StandsInHeap, AllStand, bytes_for, size_for, bytes_taken, head_space_of, name_space, packed_heap, packed_places, packed, appended, with_entry_at, size_with, size_limit, fitted, with_big_entry, without_big_entry}
-use Rattle.fc_bigdir.specs.Entered.{entered_heap, entered_places, needed_for}
+use Rattle.fc_bigdir.specs.declared.enter.Room.{Room}
+use Rattle.fc_bigdir.specs.Entered.{HasRoomFor, IsRoomFor, entered_heap, entered_places, needed_for}
 use Rattle.fc_bigdir.proofs.LaidLemmas.{SizeBounds, size_bounds, length-padded}
 use Rattle.fc_bigdir.proofs.PackLemmas.{length-packed, names_sum}
 use Rattle.fc_bigdir.proofs.StandLemmas.{recursion_insert, recursion_remove, stand_insert, stand_remove, stand_longer, stands_behind, packed_stand, packed_whole, name_whole}
@@ -188,3 +190,29 @@ big_entry_at dir place e big fits absent stands room =
     big_with dir dir.size dir.heap (insert dir.name_places p place) (with_entry e dir.entries) big big.size (omega (arith, count, room)) big.words
     (recursion_insert FitsBig dir.entries p e big.entries fits) (stand_insert dir.heap dir.name_places dir.entries p place e big.names stands)
     (none_from (with_entry e dir.entries) (apart_insert dir.entries p e (apart_from dir.entries big.apart) (place_within e.name dir.entries) absent))
+
+-- ---- refusals
+
+-- `DirFull` exactly where no room is found
+pub full_told : (needed wanted : ℕ) → wanted ≡ needed → size_limit < needed → {T : Type 0} → IsErrOf {T = T} (Err DirFull) DirFull ↔ (size_limit < wanted)
+full_told needed wanted is above = (λ _. omega (arith, is, above), λ _. search rules)
+
+pub not_full : (needed wanted : ℕ) → wanted ≡ needed → needed ≤ size_limit → {T : Type 0} → IsErrOf {T = T} (Err NoMemory) DirFull ↔ (size_limit < wanted)
+not_full needed wanted is least = (λ told. absurd (cc), λ above. absurd (omega (arith, is, least, above)))
+
+pub put_in : {T : Type 0} (x : T) (needed wanted : ℕ) → wanted ≡ needed → needed ≤ size_limit → IsErrOf (Ok x) DirFull ↔ (size_limit < wanted)
+put_in x needed wanted is least = (λ told. absurd (cc), λ above. absurd (omega (arith, is, least, above)))
+
+-- the room that was found is the one that is wanted
+pub room_found : (dir : BigDir) (e : Entry) (head n loose tight : ℕ) (found : Option Room) → head ≡ head_space_of dir → n ≡ length dir.entries + 1 → loose ≡ length dir.heap + name_space e.name → tight ≡ tight_with e dir.entries
+    → MatchOption found (size_limit < needed_for head n loose tight) (IsRoomFor dir.size head n loose tight) → MatchOption found (size_limit < size_with e dir) (HasRoomFor e dir)
+room_found dir e head n loose tight found hs count heap names room =
+    let needed : size_with e dir ≡ needed_for head n loose tight = needed_is dir e n loose tight count heap names ∙ ap (λ h. needed_for h n loose tight) (sym hs) in
+    by_found found needed room where
+      by_found : (found : Option Room) → size_with e dir ≡ needed_for head n loose tight → MatchOption found (size_limit < needed_for head n loose tight) (IsRoomFor dir.size head n loose tight) → MatchOption found (size_limit < size_with e dir) (HasRoomFor e dir)
+      by_found None needed above = omega (arith, needed, above)
+      by_found (Some r) needed room = record {
+        least = omega (arith, needed, room.least);
+        size_is = room.size_is ∙ ap (λ k. max k dir.size) (sym needed);
+        is_loose = room.is_loose ∙ ap₂ (λ h k. nat_le (bytes_for h k loose) r.size) hs count ∙ ap (λ l. nat_le (bytes_for (head_space_of dir) (length dir.entries + 1) l) r.size) heap;
+      }

@@ -12,4 +12,5 @@ pub mod FaultLemmas
 pub mod ReadLemmas
 pub mod StandLemmas
 pub mod GrowLemmas
+pub mod RenameLemmas
 pub mod ChangeLemmas

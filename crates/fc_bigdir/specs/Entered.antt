@@ -1,8 +1,8 @@
 -- What a directory becomes where an entry is put in: its heap and places, with the names as they stand or made anew.
-use Rattle.std.specs.Prelude.{◌≡◌, ◌<◌, ◌≤◌, ℕ, Bool, true, false, List, ◌++◌, length, insert, min, max, nat_le}
+use Rattle.std.specs.Prelude.{◌≡◌, ◌<◌, ◌≤◌, ◌+◌, ℕ, Bool, true, false, List, ◌++◌, length, insert, min, max, nat_le}
 use Rattle.fc_dirs.specs.declared.Entry.{Entry}
 use Rattle.fc_dirs.specs.Entries.{entry_place, padded_name, with_entry}
-use Rattle.fc_dirs.specs.Big.{bytes_for, name_space, packed_heap, packed_places, size_for, size_limit}
+use Rattle.fc_dirs.specs.Big.{BigDir, bytes_for, head_space_of, name_space, packed_heap, packed_places, size_for, size_limit, size_with}
 use Rattle.fc_bigdir.specs.declared.enter.Room.{Room}
 
 -- the heap: the present one with the new name behind it, or all names alone
@@ -24,3 +24,9 @@ pub record IsRoomFor (size head entries loose tight : ℕ) (room : Room) : Type 
   pub least : needed_for head entries loose tight ≤ size_limit
   pub size_is : room.size ≡ max (needed_for head entries loose tight) size
   pub is_loose : room.is_loose ≡ nat_le (bytes_for head entries loose) room.size
+
+-- the room that a directory has or gets for a new entry
+pub record HasRoomFor (e : Entry) (dir : BigDir) (room : Room) : Type 0 where
+  pub least : size_with e dir ≤ size_limit
+  pub size_is : room.size ≡ max (size_with e dir) dir.size
+  pub is_loose : room.is_loose ≡ nat_le (bytes_for (head_space_of dir) (length dir.entries + 1) (length dir.heap + name_space e.name)) room.size

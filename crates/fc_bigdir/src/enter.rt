@@ -3,22 +3,24 @@ ghost use Rattle.std.specs.Prelude.{◌≡◌, ◌+◌, ◌*◌, ◌<◌, ◌≤
 ghost use Rattle.std.specs.Bool.{OnFalse, OnTrue};
 ghost use Rattle.std.specs.List.{flat_map};
 ghost use Rattle.std.specs.Vec.{vec_capacity};
+ghost use Rattle.fc_names.specs.Names.{IsName};
 ghost use Rattle.fc_dirs.specs.Entries.{entry_place, padded_name, with_entry};
 ghost use Rattle.fc_dirs.specs.Big.{name_space, packed_heap, packed_places, size_limit};
 ghost use Rattle.fc_bigdir.specs.Entered.{IsRoomFor, entered_heap, entered_places, needed_for};
 
 use crate::put::put_name;
-use crate::space::size_for;
+use crate::space::{bytes_for, size_for};
 use fc_dirs::Entry;
 use fc_names::{Name, fold_less};
 use std::alloc::{AllocError, Global};
 
 // How a directory takes a new name: its size, and whether the present heap takes the name besides. Else the heap is made
-// anew.
+// anew, of `tight` bytes.
 #[derive(Clone, Copy)]
 pub struct Room {
     pub size: u32,
     pub is_loose: bool,
+    pub tight: usize,
 }
 
 // The room for so many entries, which have a heap of `loose` bytes or, made anew, of `tight` bytes.
@@ -36,7 +38,8 @@ pub fn room_for(size: u32, head: usize, entries: usize, loose: usize, tight: usi
     let size = size.max(needed as u32);
     Some(Room {
         size,
-        is_loose: 28 + head + 28 * entries + loose + 8 <= size as usize,
+        is_loose: bytes_for(head, entries, loose) <= size as usize,
+        tight,
     })
 }
 
@@ -44,6 +47,7 @@ pub fn room_for(size: u32, head: usize, entries: usize, loose: usize, tight: usi
 pub fn name_space(name: &Name) -> usize
     ensures space { result ≡ name_space name.now }
     ensures small { result ≤ 256 }
+    ensures name { IsName name.now }
 {
     (name.bytes().len() + 4) / 4 * 4
 }
@@ -193,15 +197,14 @@ fn enter_tight(
     true
 }
 
-// Puts an entry in its place, and its name behind the heap, or makes the heap anew, which then takes `tight` bytes. Where
-// there is no memory nothing changes.
+// Puts an entry in its place, and its name behind the heap, or makes the heap anew. Where there is no memory nothing
+// changes.
 pub fn enter(
     heap: &mut Vec<u8>,
     places: &mut Vec<u32>,
     entries: &mut Vec<Entry>,
     e: Entry,
-    is_loose: bool,
-    tight: usize,
+    room: Room,
 ) -> bool
     requires heap { length heap.old.items < 2 ^ 32 }
     requires few { length entries.old.items + 1 < 2 ^ 24 }
@@ -209,15 +212,15 @@ pub fn enter(
     requires places { vec_len places.old < vec_capacity places.old }
     requires entries { vec_len entries.old < vec_capacity entries.old }
     ensures entries { OnTrue result (entries.new.items ≡ with_entry e entries.old.items) }
-    ensures heap { OnTrue result (heap.new.items ≡ entered_heap is_loose heap.old.items e entries.old.items) }
-    ensures places { OnTrue result (places.new.items ≡ entered_places is_loose heap.old.items places.old.items e entries.old.items) }
+    ensures heap { OnTrue result (heap.new.items ≡ entered_heap room.is_loose heap.old.items e entries.old.items) }
+    ensures places { OnTrue result (places.new.items ≡ entered_places room.is_loose heap.old.items places.old.items e entries.old.items) }
     ensures same_heap { OnFalse result (heap.new.items ≡ heap.old.items) }
     ensures same_places { OnFalse result (places.new ≡ places.old) }
     ensures same_entries { OnFalse result (entries.new ≡ entries.old) }
 {
-    if is_loose {
+    if room.is_loose {
         enter_loose(heap, places, entries, e)
     } else {
-        enter_tight(heap, places, entries, e, tight)
+        enter_tight(heap, places, entries, e, room.tight)
     }
 }

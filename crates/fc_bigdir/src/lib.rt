@@ -10,15 +10,24 @@ mod change;
 mod enter;
 mod entries;
 mod frame;
+mod insert;
 mod put;
 mod read;
+mod rename;
 mod space;
 mod twins;
 mod write;
 
+ghost use Rattle.fc_bigdir.specs.Laws.{ReadsBack};
+
 pub use big::BigDir;
 pub use fc_dirs::{DirError, DirFault, Entry, InsertError};
 pub use space::size_for;
+
+/// A law: what is written reads as the same head, entries and form of the head's name.
+pub fn reads_back()
+    ensures { ReadsBack }
+{}
 
 #[cfg(test)]
 mod tests;
