@@ -1,0 +1,3 @@
+// Bytes from outside, and calls that succeed with ample memory.
+mod reading;
+mod writing;
