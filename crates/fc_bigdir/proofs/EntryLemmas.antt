@@ -1,14 +1,14 @@
 -- Entries of which bytes say the name to be right.
-use Rattle.std.proofs.Common.{◌≡◌, ◌<◌, ◌≤◌, ℕ, zero, suc, ◌+◌, ◌-◌, ◌*◌, ◌&&◌, Bool, true, false, not, nat_le, List, [], ◌∷◌, ◌++◌, length, get_or, map, take, drop, find, refl, sym, ap, ◌∙◌, subst, Some, None, arith, below_more}
-use Rattle.std.specs.List.{All, AllByRecursion, list_all, range_with_len}
-use Rattle.std.specs.Int.{is_in_range, IsInRange}
+use Rattle.std.proofs.Common.{◌≡◌, ◌<◌, ◌≤◌, ℕ, ◌+◌, ◌-◌, ◌*◌, ◌&&◌, Bool, true, false, not, nat_le, List, length, get_or, take, drop, refl, sym, ap, ◌∙◌, Some, None, arith}
+use Rattle.std.specs.List.{All, list_all}
+use Rattle.std.specs.Int.{is_in_range}
 use Rattle.std.proofs.lemmas.List.{drop-drop, drop-take}
 use Rattle.std.proofs.lemmas.List.Sums.{AllPass-from_list_all}
 use Rattle.std.proofs.lemmas.Bool.Decides.{nat_tests}
 use Rattle.byteorder.specs.Endian.{little_number}
 use Rattle.byteorder.specs.Numbers.{little_from-take}
 use Rattle.fc_bytes.specs.Words.{bytes_at, u32_at}
-use Rattle.fc_dirs.specs.Big.{is_entry_right, entry_bytes, entries_start, entry_count, name_place, entry_name_len, first_bad_entry, heap_of}
+use Rattle.fc_dirs.specs.Big.{is_entry_right, entry_bytes, entries_start, entry_count, name_place, first_bad_entry, heap_of}
 use Rattle.fc_smalldir.proofs.SearchLemmas.{find-none, find-found}
 
 pub both : (a b : Bool) → (a && b) ≡ true → (a ≡ true) × (b ≡ true)

@@ -1,5 +1,5 @@
 -- What an entry that is put in, or taken out, makes of a directory.
-use Rattle.std.proofs.Common.{rules, ◌↔◌, IsErrOf, MatchOption, Option, Some, Ok, Err, ◌≡◌, ◌≤◌, ◌<◌, ℕ, zero, suc, ◌+◌, ◌-◌, ◌*◌, ◌/◌, ◌%◌, min, max, not, ◌&&◌, ◌==◌, Bool, true, false, nat_le, if◌then◌else◌, List, [], ◌∷◌, ◌++◌, length, get_or, insert, remove, map, sum_by, take, drop, slice_index, None, refl, sym, ap, ap₂, ◌∙◌, subst, arith, length-append, le-leb}
+use Rattle.std.proofs.Common.{rules, ◌↔◌, IsErrOf, MatchOption, Option, Some, Ok, Err, ◌≡◌, ◌≤◌, ◌<◌, ℕ, ◌+◌, ◌%◌, min, max, not, Bool, true, false, nat_le, List, ◌++◌, length, insert, remove, map, sum_by, None, refl, sym, ap, ap₂, ◌∙◌, subst, arith, length-append, le-leb}
 use Rattle.std.specs.List.{AllByRecursion}
 use Rattle.std.specs.Int.{next_multiple_of}
 use Rattle.std.proofs.lemmas.List.{length-map}
@@ -7,12 +7,12 @@ use Rattle.std.proofs.lemmas.List.Edits.{length-insert, length-remove}
 use Rattle.std.proofs.lemmas.List.Sums.{prefix_len-le-length, sum_by-insert}
 use Rattle.std.proofs.lemmas.Bool.Decides.{nat_tests}
 use Rattle.fc_checks.specs.Checks.{is_big_size}
-use Rattle.fc_names.specs.Names.{IsName, is_name_before}
+use Rattle.fc_names.specs.Names.{is_name_before}
 use Rattle.fc_smalldir.proofs.TwinLemmas.{apart_from, none_from, apart_insert, apart_remove}
 use Rattle.fc_dirs.specs.declared.Entry.{Entry}
 use Rattle.fc_dirs.specs.declared.InsertError.TheVariants.{DirFull, NoMemory}
 use Rattle.fc_dirs.specs.Entries.{entry_place, with_entry, without_entry, has_name, first_twin, padded_name}
-use Rattle.fc_dirs.specs.Big.{BigDir, IsBig, FitsBig, StandsInHeap, AllStand, bytes_for, size_for, bytes_taken, head_space_of, name_space, packed_heap, packed_places, packed, appended, with_entry_at, size_with, size_limit, fitted, with_big_entry, without_big_entry}
+use Rattle.fc_dirs.specs.Big.{BigDir, IsBig, FitsBig, StandsInHeap, AllStand, bytes_for, size_for, bytes_taken, head_space_of, name_space, packed_heap, packed_places, appended, with_entry_at, size_with, size_limit, fitted, with_big_entry, without_big_entry}
 use Rattle.fc_bigdir.specs.declared.enter.Room.{Room}
 use Rattle.fc_bigdir.specs.Entered.{HasRoomFor, IsRoomFor, entered_heap, entered_places, needed_for}
 use Rattle.fc_bigdir.proofs.LaidLemmas.{SizeBounds, size_bounds, length-padded}

@@ -1,6 +1,6 @@
 -- Twins stand next to each other among names in order.
-use Rattle.std.proofs.Common.{◌≡◌, ◌<◌, ◌≤◌, ℕ, zero, suc, ◌+◌, ◌-◌, ◌==◌, Bool, true, false, if◌then◌else◌, min, List, [], ◌∷◌, ◌++◌, length, get_or, map, take, nat_lt, eqb, refl, sym, ap, ap₂, ◌∙◌, subst, Some, None, arith, length-take-le, inl, inr}
-use Rattle.std.specs.List.{All, AllByRecursion, list_any, range_with_len, IsDistinct}
+use Rattle.std.proofs.Common.{◌≡◌, ◌<◌, ◌≤◌, ℕ, zero, suc, ◌+◌, ◌-◌, Bool, true, false, if◌then◌else◌, min, List, [], ◌∷◌, ◌++◌, length, get_or, map, take, nat_lt, eqb, refl, sym, ap, ap₂, ◌∙◌, subst, arith, length-take-le, inl, inr}
+use Rattle.std.specs.List.{AllByRecursion, list_any, range_with_len, IsDistinct}
 use Rattle.std.specs.List.Sorted.{IsPermutation, IsSorted, IsSortedBy}
 use Rattle.std.specs.declared.cmp.Ordering.{Ordering}
 use Rattle.std.specs.declared.cmp.Ordering.TheVariants.{Less, Equal, Greater}
@@ -19,7 +19,7 @@ use Rattle.std.proofs.lemmas.Map.Keys.{IsDistinct-IsPermutation, apart_from_dist
 use Rattle.std.proofs.lemmas.Option.{slice_get-get_or}
 use Rattle.fc_names.specs.Names.{folded, name_cmp, is_same_name}
 use Rattle.fc_dirs.specs.declared.Entry.{Entry}
-use Rattle.fc_dirs.specs.Entries.{first_twin, is_twin, has_name}
+use Rattle.fc_dirs.specs.Entries.{first_twin, is_twin}
 use Rattle.fc_smalldir.proofs.SearchLemmas.{blank, is_some-find}
 use Rattle.fc_smalldir.proofs.TwinLemmas.{is_twin-at, twin_found, none_twin, same_name_sym}
 use Rattle.fc_bigdir.specs.declared.twins.Numbered.{Numbered}

@@ -1,10 +1,9 @@
 -- Heaps of exactly the names of entries.
-use Rattle.std.proofs.Common.{◌≡◌, ◌≤◌, ◌<◌, ℕ, zero, suc, ◌+◌, ◌-◌, ◌*◌, ◌/◌, ◌%◌, List, [], ◌∷◌, ◌++◌, length, get_or, insert, remove, map, sum_by, take, drop, refl, sym, ap, ap₂, ◌∙◌, arith, append_assoc, length-append}
-use Rattle.std.specs.List.{flat_map}
+use Rattle.std.proofs.Common.{◌≡◌, ◌<◌, ℕ, zero, suc, ◌+◌, List, [], ◌∷◌, ◌++◌, length, get_or, insert, map, sum_by, take, drop, refl, sym, ap, ap₂, ◌∙◌, arith, append_assoc, length-append}
 use Rattle.std.proofs.lemmas.List.Sums.{sum_by-cons}
 use Rattle.fc_dirs.specs.declared.Entry.{Entry}
 use Rattle.fc_dirs.specs.Entries.{padded_name}
-use Rattle.fc_dirs.specs.Big.{AllStand, StandsInHeap, name_space, packed_heap, packed_places}
+use Rattle.fc_dirs.specs.Big.{name_space, packed_heap, packed_places}
 use Rattle.fc_bigdir.proofs.LaidLemmas.{length-padded}
 
 -- the place behind the names of entries

@@ -1,7 +1,7 @@
 -- Bytes that were written part after part.
-use Rattle.std.proofs.Common.{◌≡◌, ◌≤◌, ◌<◌, ℕ, zero, suc, ◌+◌, ◌-◌, ◌*◌, List, [], ◌∷◌, ◌++◌, length, get_or, take, drop, set, replicate, refl, sym, ap, ap₂, ◌∙◌, arith, append_assoc, length-append, length-take-le}
+use Rattle.std.proofs.Common.{◌≡◌, ◌≤◌, ◌<◌, ℕ, zero, suc, ◌+◌, ◌-◌, List, [], ◌∷◌, ◌++◌, length, get_or, take, drop, set, replicate, refl, sym, ap, ◌∙◌, arith, append_assoc, length-append, length-take-le}
 use Rattle.std.specs.List.{AllByRecursion}
-use Rattle.std.proofs.lemmas.List.{take_at, set_at, take-append-drop, set-append_left, take-replicate, length-replicate, take_more}
+use Rattle.std.proofs.lemmas.List.{take_at, set_at, take-append-drop, take-replicate, length-replicate}
 use Rattle.fc_dirs.specs.declared.Entry.{Entry}
 use Rattle.fc_dirs.specs.Entries.{padded_name}
 use Rattle.fc_bigdir.specs.Written.{entry_bytes, entries_bytes}

@@ -1,16 +1,15 @@
 -- What is written of a directory reads as the directory.
-use Rattle.std.proofs.Common.{◌≡◌, ◌≤◌, ◌<◌, ℕ, zero, suc, ◌+◌, ◌-◌, ◌*◌, ◌%◌, ◌==◌, ◌&&◌, ◌||◌, Bool, true, false, not, nat_le, List, [], ◌∷◌, ◌++◌, length, map, find, take, set, replicate, slice_index, if◌then◌else◌, None, Option, refl, sym, ap, ap₂, ◌∙◌, arith, subst, eq-eqb, le-leb}
+use Rattle.std.proofs.Common.{◌≡◌, ◌≤◌, ℕ, zero, suc, ◌+◌, ◌-◌, ◌*◌, ◌%◌, ◌==◌, ◌&&◌, ◌||◌, Bool, true, false, not, List, ◌∷◌, length, map, find, take, set, replicate, slice_index, if◌then◌else◌, None, Option, refl, sym, ap, ap₂, ◌∙◌, arith, subst, eq-eqb, le-leb}
 use Rattle.std.specs.List.{range_with_len}
-use Rattle.std.specs.Str.{bytes_eq}
 use Rattle.std.proofs.lemmas.Bool.Decides.{nat_tests}
 use Rattle.std.proofs.lemmas.List.{length-replicate}
 use Rattle.fc_bytes.specs.Words.{bytes_at, u32_at}
 use Rattle.fc_checks.specs.Checks.{is_big_size, big_dir_check}
 use Rattle.fc_dirs.specs.declared.Entry.{Entry}
 use Rattle.fc_dirs.specs.Entries.{first_twin}
-use Rattle.fc_dirs.specs.Big.{BigDir, IsBig, IsBigDir, IsWrittenBig, head_space, head_space_of, bytes_taken, name_len, entry_count, heap_len, entries_start, heap_start, heap_end, does_fit, is_check_right, has_second_form, heap_of, entry_bytes, big_entry, big_entries, name_place, is_entry_right, first_bad_entry, is_magic_right, is_sequence_right, is_size_right, frame_fault, big_fault, big_dir}
+use Rattle.fc_dirs.specs.Big.{BigDir, IsBig, IsWrittenBig, head_space, head_space_of, bytes_taken, name_len, entry_count, heap_len, entries_start, heap_start, heap_end, does_fit, is_check_right, has_second_form, heap_of, entry_bytes, big_entry, big_entries, name_place, is_entry_right, first_bad_entry, is_magic_right, is_sequence_right, is_size_right, frame_fault, big_fault, big_dir}
 use Rattle.fc_bigdir.specs.Laws.{ReadsBack, HasWidths}
-use Rattle.fc_bigdir.specs.Written.{laid, free_bytes, checked_bytes, parts_bytes, parts_end, big_bytes, head_word, tail_word}
+use Rattle.fc_bigdir.specs.Written.{laid, free_bytes, checked_bytes, parts_bytes, parts_end, big_bytes, tail_word}
 use Rattle.fc_bigdir.proofs.WrittenEntries.{SaysEntries, says_entries}
 use Rattle.fc_bigdir.proofs.LaidLemmas.{SaysLaid, says_laid, size_bounds}
 use Rattle.fc_bigdir.proofs.WrittenChecks.{sum_over, check_of_parts, end_said, own_form_right, first_form_wrong, behind_heap_set}

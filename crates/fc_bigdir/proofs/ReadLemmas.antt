@@ -1,19 +1,17 @@
 -- What bytes say can be written again.
-use Rattle.std.proofs.Common.{◌≡◌, ◌<◌, ◌≤◌, ℕ, zero, suc, ◌+◌, ◌-◌, ◌*◌, ◌%◌, ◌^◌, Bool, true, false, not, List, [], ◌∷◌, length, get_or, map, take, drop, slice_index, Some, None, refl, sym, ap, ◌∙◌, subst, arith, length-take-le, length-drop}
-use Rattle.std.specs.List.{All, AllByRecursion, range_with_len}
-use Rattle.std.specs.Int.{IsInRange}
+use Rattle.std.proofs.Common.{◌≡◌, ◌<◌, ◌≤◌, ℕ, zero, suc, ◌+◌, ◌-◌, Bool, true, false, not, List, length, get_or, map, drop, slice_index, None, refl, ap, ◌∙◌, arith, length-take-le, length-drop}
+use Rattle.std.specs.List.{AllByRecursion, range_with_len}
 use Rattle.std.proofs.lemmas.List.{get_or_default}
 use Rattle.std.proofs.lemmas.List.FromFn.{length-map-range_with_len}
 use Rattle.byteorder.specs.Numbers.{little_from-lt}
 use Rattle.fc_bytes.specs.Words.{bytes_at, u32_at}
-use Rattle.fc_names.specs.Names.{IsName}
 use Rattle.fc_dirs.specs.declared.Entry.{Entry}
 use Rattle.fc_dirs.specs.Entries.{first_twin}
-use Rattle.fc_dirs.specs.Big.{AllStand, BigDir, FitsBig, IsBig, IsBigDir, StandsInHeap, big_dir, big_entries, big_entry, big_fault, entry_bytes, entry_count, entry_name_len, first_bad_entry, frame_fault, has_second_form, heap_len, heap_of, heap_start, is_entry_right, name_len, name_place}
+use Rattle.fc_dirs.specs.Big.{AllStand, FitsBig, IsBig, StandsInHeap, big_dir, big_entries, big_entry, entry_bytes, entry_count, entry_name_len, first_bad_entry, frame_fault, has_second_form, heap_len, heap_of, heap_start, is_entry_right, name_len, name_place}
 use Rattle.fc_bigdir.specs.Fields.{dir_of}
 use Rattle.fc_smalldir.proofs.ReadLemmas.{take_bytes, drop_bytes}
 use Rattle.fc_smalldir.proofs.SearchLemmas.{fails-find}
-use Rattle.fc_bigdir.proofs.EntryLemmas.{AreRight, IsNamed, named}
+use Rattle.fc_bigdir.proofs.EntryLemmas.{AreRight, named}
 use Rattle.fc_bigdir.proofs.FaultLemmas.{IsFramed, framed}
 
 pub length_at : (b : List ℕ) (at n : ℕ) → at + n ≤ length b → length (bytes_at b at n) ≡ n

@@ -1,9 +1,9 @@
 -- A directory that was written part after part.
-use Rattle.std.proofs.Common.{◌≡◌, ◌≤◌, ◌<◌, ℕ, ◌+◌, ◌-◌, ◌&&◌, true, false, List, [], ◌∷◌, ◌++◌, length, take, set, replicate, refl, sym, ap, ap₂, ◌∙◌, arith, length-append, subst}
-use Rattle.std.proofs.lemmas.List.{take_all, set_at, length-replicate}
+use Rattle.std.proofs.Common.{◌≡◌, ℕ, ◌-◌, ◌&&◌, true, false, List, [], ◌∷◌, ◌++◌, length, set, sym, ap, ap₂, ◌∙◌, arith, length-append}
+use Rattle.std.proofs.lemmas.List.{set_at}
 use Rattle.fc_checks.specs.Checks.{big_dir_check}
-use Rattle.fc_dirs.specs.Big.{BigDir, IsBig, IsWrittenBig, bytes_taken, is_check_right}
-use Rattle.fc_bigdir.specs.Written.{head_bytes, entries_bytes, parts_bytes, parts_end, tail_bytes, laid, free_bytes, checked_bytes, big_bytes}
+use Rattle.fc_dirs.specs.Big.{BigDir, is_check_right}
+use Rattle.fc_bigdir.specs.Written.{parts_bytes, parts_end, tail_bytes, laid, free_bytes, checked_bytes, big_bytes}
 
 -- the check is set
 pub check_set : (d : BigDir) (b : List ℕ) (last check end : ℕ) → b ≡ laid d (free_bytes d) 0 → last ≡ length b - 1 → end ≡ parts_end d → check ≡ big_dir_check b end → set b last check ≡ checked_bytes d

@@ -1,5 +1,5 @@
 -- The checks of laid bytes, in both forms.
-use Rattle.std.proofs.Common.{◌≡◌, ◌≢◌, ◌≤◌, ◌<◌, ℕ, zero, suc, ◌+◌, ◌-◌, ◌*◌, ◌/◌, ◌%◌, ◌^◌, ◌&&◌, ◌==◌, Bool, true, false, nat_le, List, [], ◌∷◌, ◌++◌, length, take, drop, set, replicate, slice_index, refl, sym, ap, ap₂, ◌∙◌, arith, subst, append_assoc, length-append, eq-eqb, le-leb}
+use Rattle.std.proofs.Common.{◌≡◌, ◌<◌, ℕ, zero, suc, ◌+◌, ◌-◌, ◌*◌, ◌%◌, ◌^◌, ◌&&◌, ◌==◌, Bool, true, false, List, [], ◌∷◌, ◌++◌, length, take, set, replicate, slice_index, refl, sym, ap, ap₂, ◌∙◌, arith, subst, append_assoc, length-append, eq-eqb, le-leb}
 use Rattle.std.specs.List.{AllByRecursion}
 use Rattle.std.proofs.lemmas.List.{take_at, set_at}
 use Rattle.std.proofs.lemmas.Bool.Decides.{nat_tests}
@@ -10,7 +10,7 @@ use Rattle.fc_dirs.specs.declared.Entry.{Entry}
 use Rattle.fc_dirs.specs.Entries.{padded_name}
 use Rattle.fc_dirs.specs.Big.{BigDir, IsBig, head_space, head_space_of, bytes_taken, heap_end, does_fit, is_check_right}
 use Rattle.fc_bigdir.specs.Written.{tail_word, head_bytes, entry_bytes, entries_bytes, parts_bytes, parts_end, tail_bytes, laid}
-use Rattle.fc_bigdir.specs.Laws.{AreBytes, HasWords, HasWidths}
+use Rattle.fc_bigdir.specs.Laws.{AreBytes, HasWidths}
 use Rattle.fc_bigdir.proofs.FlipLemmas.{flipped}
 use Rattle.fc_bigdir.proofs.LaidLemmas.{SaysLaid, says_laid, length-parts, parts_whole}
 

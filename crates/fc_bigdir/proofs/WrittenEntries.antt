@@ -1,5 +1,5 @@
 -- What is written of entries reads as the entries.
-use Rattle.std.proofs.Common.{◌≡◌, ◌≤◌, ◌<◌, ℕ, zero, suc, ◌+◌, ◌*◌, ◌^◌, ◌&&◌, Bool, true, false, not, nat_le, List, [], ◌∷◌, ◌++◌, length, map, take, drop, find, None, refl, sym, ap, ap₂, ◌∙◌, arith, append_assoc, length-append, le-leb}
+use Rattle.std.proofs.Common.{◌≡◌, ◌<◌, ℕ, suc, ◌+◌, ◌*◌, ◌^◌, ◌&&◌, Bool, true, false, not, nat_le, List, [], ◌∷◌, ◌++◌, length, map, take, drop, find, None, refl, sym, ap, ap₂, ◌∙◌, arith, append_assoc, length-append, le-leb}
 use Rattle.std.specs.List.{AllByRecursion, All, list_all, range_with_len}
 use Rattle.std.specs.Int.{is_in_range, IsInRange}
 use Rattle.std.proofs.lemmas.List.{take_at, drop_at, drop-drop, append-nil}

@@ -1,5 +1,5 @@
 -- What a directory becomes where an entry is put in: its heap and places, with the names as they stand or made anew.
-use Rattle.std.specs.Prelude.{◌≡◌, ◌<◌, ◌≤◌, ◌+◌, ℕ, Bool, true, false, List, ◌++◌, length, insert, min, max, nat_le}
+use Rattle.std.specs.Prelude.{◌≡◌, ◌≤◌, ◌+◌, ℕ, Bool, true, false, List, ◌++◌, length, insert, min, max, nat_le}
 use Rattle.fc_dirs.specs.declared.Entry.{Entry}
 use Rattle.fc_dirs.specs.Entries.{entry_place, padded_name, with_entry}
 use Rattle.fc_dirs.specs.Big.{BigDir, bytes_for, head_space_of, name_space, packed_heap, packed_places, size_for, size_limit, size_with}

@@ -1,5 +1,5 @@
 -- The bytes of big directories, as they are written.
-use Rattle.std.specs.Prelude.{ℕ, ◌+◌, ◌-◌, ◌&&◌, false, List, [], ◌∷◌, ◌++◌, length, replicate, slice_set, if◌then◌else◌}
+use Rattle.std.specs.Prelude.{ℕ, ◌-◌, ◌&&◌, false, List, [], ◌∷◌, ◌++◌, length, replicate, slice_set, if◌then◌else◌}
 use Rattle.byteorder.specs.Endian.{little_bytes}
 use Rattle.fc_checks.specs.Checks.{big_dir_check}
 use Rattle.fc_dirs.specs.declared.Entry.{Entry}

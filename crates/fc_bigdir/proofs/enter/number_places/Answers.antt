@@ -1,7 +1,5 @@
-use Rattle.std.proofs.Common.{◌≡◌, ◌<◌, ◌+◌, ◌++◌, ◌∷◌, [], get_or, length, take, sym, ap, ap₂, ◌∙◌, arith}
+use Rattle.std.proofs.Common.{◌<◌, ◌+◌, ◌++◌, ◌∷◌, [], length, sym, ap₂, ◌∙◌, arith}
 use Rattle.std.proofs.lemmas.List.{take_more_set}
-use Rattle.fc_dirs.specs.declared.Entry.{Entry}
-use Rattle.fc_dirs.specs.Big.{name_space}
 use Rattle.fc_bigdir.proofs.PackLemmas.{places_more, end_more}
 use Rattle.fc_bigdir.proofs.enter.number_places.Goals as goal
 

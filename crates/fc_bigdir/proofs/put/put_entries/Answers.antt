@@ -1,4 +1,4 @@
-use Rattle.std.proofs.Common.{◌≡◌, ◌<◌, ◌+◌, ◌++◌, get_or, length, take, subst, sym, ap, ap₂, ◌∙◌, arith, append_assoc}
+use Rattle.std.proofs.Common.{◌≡◌, ◌<◌, ◌++◌, get_or, length, take, subst, sym, ap, ap₂, ◌∙◌, arith, append_assoc}
 use Rattle.fc_bigdir.specs.Laws.{HasWords}
 use Rattle.fc_bigdir.specs.Written.{entries_bytes, entry_bytes}
 use Rattle.fc_bigdir.proofs.PutLemmas.{entries_more, recursion_more}

@@ -1,4 +1,4 @@
-use Rattle.std.proofs.Common.{◌≡◌, ◌++◌, length, take, ap, ◌∙◌}
+use Rattle.std.proofs.Common.{◌++◌, length, take, ap, ◌∙◌}
 use Rattle.byteorder.specs.Endian.{little_bytes}
 use Rattle.fc_bigdir.proofs.PutLemmas.{seven_put}
 use Rattle.fc_bigdir.proofs.put.put_entry.Goals as goal

@@ -4,7 +4,7 @@ use Rattle.std.specs.Option.{option_map}
 use Rattle.fc_smalldir.specs.Faults.{IsFaultOf}
 use Rattle.fc_dirs.specs.declared.DirFault.TheVariants.{BadEntry, Twin}
 use Rattle.fc_dirs.specs.Entries.{first_twin}
-use Rattle.fc_dirs.specs.Big.{IsBig, IsBigDir, big_dir, big_entries, first_bad_entry, has_second_form}
+use Rattle.fc_dirs.specs.Big.{IsBig, big_entries, first_bad_entry, has_second_form}
 use Rattle.fc_bigdir.proofs.FaultLemmas.{IsFramed, framed, entry_next, twin_last, no_fault}
 use Rattle.fc_bigdir.proofs.ReadLemmas.{says_big, same_parts, entries_count}
 use Rattle.fc_bigdir.proofs.read.read_parts.Goals as goal

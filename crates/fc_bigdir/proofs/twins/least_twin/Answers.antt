@@ -1,4 +1,4 @@
-use Rattle.std.proofs.Common.{map, length, ◌∙◌, arith}
+use Rattle.std.proofs.Common.{map, ◌∙◌, arith}
 use Rattle.fc_bigdir.specs.Twins.{shown}
 use Rattle.fc_bigdir.proofs.OrderLemmas.{least_start, least_next, least_is}
 use Rattle.fc_bigdir.proofs.twins.least_twin.Goals as goal

@@ -1,4 +1,4 @@
-use Rattle.std.proofs.Common.{◌≡◌, ◌≤◌, map}
+use Rattle.std.proofs.Common.{◌≤◌, map}
 use Rattle.fc_bigdir.specs.Twins.{shown}
 use Rattle.fc_bigdir.proofs.OrderLemmas.{IsLeast}
 use Rattle.fc_bigdir.proofs.twins.least_twin.Given as goal

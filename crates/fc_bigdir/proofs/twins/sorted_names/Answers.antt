@@ -1,8 +1,8 @@
-use Rattle.std.proofs.Common.{rules, ◌≡◌, ◌++◌, ◌∷◌, [], is_ok, true, map, sym, ap, ◌∙◌, arith, refl, subst, length}
+use Rattle.std.proofs.Common.{rules, map, subst}
 use Rattle.std.specs.List.Sorted.{IsPermutation}
 use Rattle.std.specs.Ordering.{is_lt}
 use Rattle.std.proofs.lemmas.List.Sorted.{answers_always, ranks_by, IsPermutation-map}
-use Rattle.fc_bigdir.specs.Twins.{AreSorted, cmp_numbered, numbered, shown}
+use Rattle.fc_bigdir.specs.Twins.{cmp_numbered, shown}
 use Rattle.fc_bigdir.proofs.OrderLemmas.{numbered_total, sorted_map}
 use Rattle.fc_bigdir.proofs.twins.sorted_names.Goals as goal
 

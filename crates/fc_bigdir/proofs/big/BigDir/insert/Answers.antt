@@ -1,10 +1,9 @@
-use Rattle.std.proofs.Common.{◌≡◌, length, sym, ap, ap₂, ◌∙◌, arith, subst}
+use Rattle.std.proofs.Common.{sym, ap, ap₂, ◌∙◌, arith, subst}
 use Rattle.fc_dirs.specs.Entries.{with_entry}
-use Rattle.fc_dirs.specs.Big.{IsBig, FitsBig}
 use Rattle.fc_bigdir.specs.Entered.{HasRoomFor, entered_heap, entered_places}
 use Rattle.fc_bigdir.specs.Fields.{dir_of}
 use Rattle.fc_bigdir.proofs.WrittenEntries.{places_as_many}
-use Rattle.fc_bigdir.proofs.GrowLemmas.{entered, big_entered}
+use Rattle.fc_bigdir.proofs.GrowLemmas.{big_entered}
 use Rattle.fc_bigdir.proofs.big.BigDir.insert.Goals as goal
 
 pub enter-requires-clause-many : goal.enter-requires-clause-many

@@ -1,4 +1,4 @@
-use Rattle.std.proofs.Common.{◌≡◌, refl, sym, ap}
+use Rattle.std.proofs.Common.{refl}
 use Rattle.fc_bigdir.proofs.WriteLemmas.{check_set}
 use Rattle.fc_bigdir.proofs.big.BigDir.put_checked.Goals as goal
 

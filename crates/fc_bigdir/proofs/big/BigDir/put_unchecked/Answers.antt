@@ -1,4 +1,4 @@
-use Rattle.std.proofs.Common.{◌≡◌, length, sym, ap, ◌∙◌}
+use Rattle.std.proofs.Common.{length, sym, ap, ◌∙◌}
 use Rattle.fc_bigdir.proofs.WrittenEntries.{places_as_many}
 use Rattle.fc_bigdir.proofs.big.BigDir.put_unchecked.Goals as goal
 

@@ -1,7 +1,3 @@
-use Rattle.std.specs.Option.{option_map}
-use Rattle.fc_dirs.specs.declared.DirFault.TheVariants.{BadEntry, Twin}
-use Rattle.fc_dirs.specs.Entries.{first_twin}
-use Rattle.fc_dirs.specs.Big.{big_entries, big_fault, first_bad_entry, frame_fault, has_second_form}
 use Rattle.fc_bigdir.proofs.FaultLemmas.{frame_first}
 use Rattle.fc_bigdir.proofs.big.BigDir.read.Goals as goal
 

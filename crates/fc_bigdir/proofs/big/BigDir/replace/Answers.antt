@@ -1,7 +1,5 @@
-use Rattle.std.proofs.Common.{◌≡◌, ◌<◌, get_or, length, sym, ap, ap₂, ◌∙◌, arith, subst, insert}
+use Rattle.std.proofs.Common.{◌≡◌, get_or, ◌∙◌, arith}
 use Rattle.std.proofs.lemmas.List.{get_or_default}
-use Rattle.fc_dirs.specs.Entries.{with_entry, entry_place}
-use Rattle.fc_dirs.specs.Big.{IsBig}
 use Rattle.fc_bigdir.proofs.WrittenEntries.{places_as_many}
 use Rattle.fc_bigdir.proofs.RenameLemmas.{big_replaced}
 use Rattle.fc_bigdir.proofs.big.BigDir.replace.Goals as goal

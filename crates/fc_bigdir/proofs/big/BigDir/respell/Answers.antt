@@ -1,10 +1,9 @@
-use Rattle.std.proofs.Common.{◌≡◌, ◌<◌, get_or, length, insert, remove, is_ok, true, sym, ap, ap₂, ◌∙◌, arith, subst}
+use Rattle.std.proofs.Common.{◌≡◌, ◌<◌, length, insert, remove, is_ok, true, sym, ap, ap₂, ◌∙◌, arith, subst}
 use Rattle.fc_dirs.specs.Entries.{with_entry}
-use Rattle.fc_dirs.specs.Big.{BigDir, IsBig, FitsBig, without_big_entry}
+use Rattle.fc_dirs.specs.Big.{BigDir, without_big_entry}
 use Rattle.fc_bigdir.specs.Entered.{HasRoomFor, entered_heap, entered_places}
-use Rattle.fc_bigdir.specs.Fields.{dir_of}
 use Rattle.fc_bigdir.proofs.WrittenEntries.{places_as_many}
-use Rattle.fc_bigdir.proofs.GrowLemmas.{entered, big_entered, big_left}
+use Rattle.fc_bigdir.proofs.GrowLemmas.{big_entered, big_left}
 use Rattle.fc_bigdir.proofs.RenameLemmas.{put_back}
 use Rattle.fc_bigdir.proofs.big.BigDir.respell.Goals as goal
 

@@ -4,7 +4,6 @@ use Rattle.std.proofs.lemmas.List.Sums.{sum_by-remove}
 use Rattle.fc_dirs.specs.declared.Entry.{Entry}
 use Rattle.fc_dirs.specs.Big.{BigDir, name_space, size_limit, size_with, head_space_of, without_big_entry}
 use Rattle.fc_bigdir.specs.Entered.{HasRoomFor}
-use Rattle.fc_bigdir.specs.Fields.{dir_of}
 use Rattle.fc_bigdir.proofs.GrowLemmas.{room_found, tight_with}
 use Rattle.fc_bigdir.proofs.big.BigDir.room_renamed.Goals as goal
 
