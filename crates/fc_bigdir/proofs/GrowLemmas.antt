@@ -1,5 +1,5 @@
 -- What an entry that is put in, or taken out, makes of a directory.
-use Rattle.std.proofs.Common.{rules, ◌↔◌, IsErrOf, MatchOption, Option, Some, Ok, Err, ◌≡◌, ◌≤◌, ◌<◌, ℕ, ◌+◌, ◌%◌, min, max, not, Bool, true, false, nat_le, List, ◌++◌, length, insert, remove, map, sum_by, None, refl, sym, ap, ap₂, ◌∙◌, subst, arith, length-append, le-leb}
+use Rattle.std.proofs.Common.{MatchOption, Option, Some, ◌≡◌, ◌≤◌, ◌<◌, ℕ, ◌+◌, ◌%◌, min, max, not, Bool, true, false, nat_le, List, ◌++◌, length, insert, remove, map, sum_by, None, refl, sym, ap, ap₂, ◌∙◌, subst, arith, length-append, le-leb}
 use Rattle.std.specs.List.{AllByRecursion}
 use Rattle.std.specs.Int.{next_multiple_of}
 use Rattle.std.proofs.lemmas.List.{length-map}
@@ -10,12 +10,12 @@ use Rattle.fc_checks.specs.Checks.{is_big_size}
 use Rattle.fc_names.specs.Names.{is_name_before}
 use Rattle.fc_smalldir.proofs.TwinLemmas.{apart_from, none_from, apart_insert, apart_remove}
 use Rattle.fc_dirs.specs.declared.Entry.{Entry}
-use Rattle.fc_dirs.specs.declared.InsertError.TheVariants.{DirFull, NoMemory}
 use Rattle.fc_dirs.specs.Entries.{entry_place, with_entry, without_entry, has_name, first_twin, padded_name}
-use Rattle.fc_dirs.specs.Big.{BigDir, IsBig, FitsBig, StandsInHeap, AllStand, bytes_for, size_for, bytes_taken, head_space_of, name_space, packed_heap, packed_places, appended, with_entry_at, size_with, size_limit, fitted, with_big_entry, without_big_entry}
+use Rattle.fc_dirs.specs.Big.{BigDir, IsBig, FitsBig, StandsInHeap, AllStand, bytes_for, size_for, head_space_of, name_space, packed_heap, packed_places, with_entry_at, size_with, size_limit, without_big_entry}
 use Rattle.fc_bigdir.specs.declared.enter.Room.{Room}
 use Rattle.fc_bigdir.specs.Entered.{HasRoomFor, IsRoomFor, entered_heap, entered_places, needed_for}
-use Rattle.fc_bigdir.proofs.LaidLemmas.{SizeBounds, size_bounds, length-padded}
+use Rattle.fc_smalldir.proofs.NameLemmas.{length-padded}
+use Rattle.fc_bigdir.proofs.LaidLemmas.{SizeBounds, size_bounds}
 use Rattle.fc_bigdir.proofs.PackLemmas.{length-packed, names_sum}
 use Rattle.fc_bigdir.proofs.StandLemmas.{recursion_insert, recursion_remove, stand_insert, stand_remove, stand_longer, stands_behind, packed_stand, packed_whole, name_whole}
 
@@ -89,19 +89,6 @@ entered is_loose size e dir = record dir {
   name_places = entered_places is_loose dir.heap dir.name_places e dir.entries;
   entries = with_entry e dir.entries;
 }
-
--- it is the one that is wanted
-pub entered_is : (dir : BigDir) (e : Entry) (is_loose : Bool) (size : ℕ) → size ≡ max (size_with e dir) dir.size
-    → is_loose ≡ nat_le (bytes_for (head_space_of dir) (length dir.entries + 1) (length dir.heap + name_space e.name)) size → with_big_entry e dir ≡ entered is_loose size e dir
-entered_is dir e is_loose size is fits =
-    let new : BigDir = record (appended e dir) { size = size } in
-    let padded = padded_name (name_space e.name) e.name in
-    let heap : length (dir.heap ++ padded) ≡ length dir.heap + name_space e.name = length-append dir.heap padded ∙ ap (λ n. length dir.heap + n) (length-padded (name_space e.name) e.name) in
-    let test : nat_le (bytes_taken new) size ≡ is_loose = ap₂ (λ n h. nat_le (bytes_for (head_space_of dir) n h) size) (length-with_entry e dir.entries) heap ∙ sym fits in
-    ap (λ s. fitted (record (appended e dir) { size = s })) (sym is) ∙ by_test is_loose test where
-      by_test : (loose : Bool) → nat_le (bytes_taken (record (appended e dir) { size = size })) size ≡ loose → fitted (record (appended e dir) { size = size }) ≡ entered loose size e dir
-      by_test true test = rw test refl
-      by_test false test = rw test refl
 
 -- a directory with other entries, that fit
 pub big_with : (dir : BigDir) (size : ℕ) (heap places : List ℕ) (es : List Entry) → IsBig dir → is_big_size size ≡ true → bytes_for (head_space_of dir) (length es) (length heap) ≤ size
@@ -190,18 +177,6 @@ big_entry_at dir place e big fits absent stands room =
     big_with dir dir.size dir.heap (insert dir.name_places p place) (with_entry e dir.entries) big big.size (omega (arith, count, room)) big.words
     (recursion_insert FitsBig dir.entries p e big.entries fits) (stand_insert dir.heap dir.name_places dir.entries p place e big.names stands)
     (none_from (with_entry e dir.entries) (apart_insert dir.entries p e (apart_from dir.entries big.apart) (place_within e.name dir.entries) absent))
-
--- ---- refusals
-
--- `DirFull` exactly where no room is found
-pub full_told : (needed wanted : ℕ) → wanted ≡ needed → size_limit < needed → {T : Type 0} → IsErrOf {T = T} (Err DirFull) DirFull ↔ (size_limit < wanted)
-full_told needed wanted is above = (λ _. omega (arith, is, above), λ _. search rules)
-
-pub not_full : (needed wanted : ℕ) → wanted ≡ needed → needed ≤ size_limit → {T : Type 0} → IsErrOf {T = T} (Err NoMemory) DirFull ↔ (size_limit < wanted)
-not_full needed wanted is least = (λ told. absurd (cc), λ above. absurd (omega (arith, is, least, above)))
-
-pub put_in : {T : Type 0} (x : T) (needed wanted : ℕ) → wanted ≡ needed → needed ≤ size_limit → IsErrOf (Ok x) DirFull ↔ (size_limit < wanted)
-put_in x needed wanted is least = (λ told. absurd (cc), λ above. absurd (omega (arith, is, least, above)))
 
 -- the room that was found is the one that is wanted
 pub room_found : (dir : BigDir) (e : Entry) (head n loose tight : ℕ) (found : Option Room) → head ≡ head_space_of dir → n ≡ length dir.entries + 1 → loose ≡ length dir.heap + name_space e.name → tight ≡ tight_with e dir.entries

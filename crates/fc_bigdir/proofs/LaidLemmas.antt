@@ -1,15 +1,16 @@
 -- The parts of a directory's bytes, each at its place.
-use Rattle.std.proofs.Common.{◌≡◌, ◌≤◌, ◌<◌, ℕ, ◌+◌, ◌-◌, ◌*◌, ◌%◌, ◌^◌, Bool, true, false, List, [], ◌∷◌, ◌++◌, length, take, drop, replicate, slice_index, refl, sym, ap, ◌∙◌, arith, append_assoc, length-append, length-take-le}
-use Rattle.std.proofs.lemmas.List.{take_at, take-take, take-append-le, length-replicate, get_or-drop}
+use Rattle.std.proofs.Common.{◌≡◌, ◌≤◌, ℕ, ◌+◌, ◌-◌, ◌*◌, ◌%◌, Bool, true, false, List, [], ◌∷◌, ◌++◌, length, take, drop, replicate, slice_index, refl, sym, ap, ◌∙◌, arith, append_assoc, length-append}
+use Rattle.std.proofs.lemmas.List.{take_at, take-take, take-append-le, get_or-drop}
 use Rattle.std.proofs.lemmas.Bool.Decides.{nat_tests}
-use Rattle.byteorder.specs.Endian.{little_bytes, little_number}
-use Rattle.byteorder.specs.Numbers.{little_number-reads_back, length-bytes_low_first}
+use Rattle.byteorder.specs.Endian.{little_bytes}
+use Rattle.byteorder.specs.Numbers.{length-bytes_low_first}
 use Rattle.fc_bytes.specs.Words.{bytes_at, u32_at}
 use Rattle.fc_checks.specs.Checks.{is_big_size}
+use Rattle.fc_smalldir.proofs.NameLemmas.{length-padded}
 use Rattle.fc_dirs.specs.Entries.{padded_name}
 use Rattle.fc_dirs.specs.Big.{BigDir, IsBig, head_space, head_space_of, bytes_taken}
 use Rattle.fc_bigdir.specs.Written.{head_word, tail_word, head_bytes, entries_bytes, parts_bytes, parts_end, tail_bytes, laid}
-use Rattle.fc_bigdir.proofs.WrittenEntries.{behind, places_as_many, length-entries}
+use Rattle.fc_bigdir.proofs.WrittenEntries.{behind, word_first, places_as_many, length-entries}
 
 -- ---- sizes
 
@@ -30,17 +31,9 @@ pub space_least : (form : Bool) (n : ℕ) → n ≤ head_space form n
 space_least false n = omega arith
 space_least true n = omega arith
 
-pub space_most : (form : Bool) (n : ℕ) → head_space form n ≤ n + 4
-space_most false n = omega arith
-space_most true n = omega arith
-
 pub space_whole : (form : Bool) (n : ℕ) → head_space form n % 4 ≡ 0
 space_whole false n = omega arith
 space_whole true n = omega arith
-
-pub length-padded : (n : ℕ) (name : List ℕ) → length (padded_name n name) ≡ n
-length-padded n name =
-    length-take-le n (name ++ 13 ∷ replicate n 0) (omega (arith, length-append name (13 ∷ replicate n 0), length-replicate {A = ℕ} n 0))
 
 -- ---- the parts
 
@@ -63,9 +56,6 @@ at_front : (bytes : List ℕ) (at x : ℕ) (rest : List ℕ) → drop at bytes �
 at_front bytes at x rest here =
     let place : at + 0 ≡ at = omega arith in
     sym (rw place at (get_or-drop at bytes 0 0)) ∙ ap (λ r. slice_index r 0) here
-
-word_first : (bytes rest : List ℕ) (at x : ℕ) → drop at bytes ≡ little_bytes 4 x ++ rest → x < 2 ^ 32 → u32_at bytes at ≡ x
-word_first bytes rest at x here small = ap (little_number 4) here ∙ little_number-reads_back 4 x rest small
 
 -- what stands behind the entries
 abbrev pub behind_entries : BigDir → List ℕ → ℕ → List ℕ

@@ -1,10 +1,10 @@
 -- Heaps of exactly the names of entries.
-use Rattle.std.proofs.Common.{◌≡◌, ◌<◌, ℕ, zero, suc, ◌+◌, List, [], ◌∷◌, ◌++◌, length, get_or, insert, map, sum_by, take, drop, refl, sym, ap, ap₂, ◌∙◌, arith, append_assoc, length-append}
+use Rattle.std.proofs.Common.{◌≡◌, ◌<◌, ℕ, zero, suc, ◌+◌, List, [], ◌∷◌, ◌++◌, length, get_or, map, sum_by, take, refl, sym, ap, ap₂, ◌∙◌, arith, length-append}
 use Rattle.std.proofs.lemmas.List.Sums.{sum_by-cons}
 use Rattle.fc_dirs.specs.declared.Entry.{Entry}
 use Rattle.fc_dirs.specs.Entries.{padded_name}
 use Rattle.fc_dirs.specs.Big.{name_space, packed_heap, packed_places}
-use Rattle.fc_bigdir.proofs.LaidLemmas.{length-padded}
+use Rattle.fc_smalldir.proofs.NameLemmas.{length-padded}
 
 -- the place behind the names of entries
 abbrev pub names_end : ℕ → List Entry → ℕ
@@ -36,14 +36,3 @@ pub names_sum : (es : List Entry) → sum_by name_space (map (λ (e : Entry). e.
 names_sum [] = refl
 names_sum (e ∷ es) =
     sum_by-cons name_space e.name (map (λ (x : Entry). x.name) es) ∙ ap (λ n. name_space e.name + n) (names_sum es) ∙ sym (sum_by-cons (λ (x : Entry). name_space x.name) e es)
-
--- a new name between others
-pub packed_insert : (es : List Entry) (p : ℕ) (e : Entry) → packed_heap (insert es p e) ≡ packed_heap (take p es) ++ padded_name (name_space e.name) e.name ++ packed_heap (drop p es)
-packed_insert es zero e = refl
-packed_insert [] (suc p) e = refl
-packed_insert (x ∷ es) (suc p) e =
-    let x' = padded_name (name_space x.name) x.name in
-    let e' = padded_name (name_space e.name) e.name in
-    ap (λ l. x' ++ l) (packed_insert es p e) ∙ regrouped x' (packed_heap (take p es)) e' (packed_heap (drop p es)) where
-      regrouped : (a b c d : List ℕ) → a ++ (b ++ c ++ d) ≡ a ++ b ++ c ++ d
-      regrouped a b c d = simp append_assoc

@@ -17,9 +17,6 @@ padded_room (suc n) k m (c ∷ name) is few = ap (λ l. c ∷ l) (padded_room n 
 pub padded_is : (space k : ℕ) (name : List ℕ) → space ≡ length name + suc k → padded_name space name ≡ name ++ 13 ∷ replicate k 0
 padded_is space k name is = padded_room space k space name is (omega arith)
 
-pub padded_whole : (space : ℕ) (name : List ℕ) → length name ≡ space → padded_name space name ≡ name
-padded_whole space name is = take_at name (13 ∷ replicate space 0) space is
-
 -- zeros that begin with another byte
 set_first_zero : (front : List ℕ) (n at x : ℕ) (rest : List ℕ) → length front ≡ at → 0 < n → set (front ++ replicate n 0 ++ rest) at x ≡ front ++ x ∷ replicate (n - 1) 0 ++ rest
 set_first_zero front zero at x rest len some = absurd (omega arith)

@@ -12,7 +12,7 @@ use Rattle.fc_bigdir.specs.Laws.{ReadsBack, HasWidths}
 use Rattle.fc_bigdir.specs.Written.{laid, free_bytes, checked_bytes, parts_bytes, parts_end, big_bytes, tail_word}
 use Rattle.fc_bigdir.proofs.WrittenEntries.{SaysEntries, says_entries}
 use Rattle.fc_bigdir.proofs.LaidLemmas.{SaysLaid, says_laid, size_bounds}
-use Rattle.fc_bigdir.proofs.WrittenChecks.{sum_over, check_of_parts, end_said, own_form_right, first_form_wrong, behind_heap_set}
+use Rattle.fc_bigdir.proofs.WrittenChecks.{second_true, sum_over, check_of_parts, end_said, own_form_right, first_form_wrong, behind_heap_set}
 
 -- ---- what is read, in plain words
 
@@ -165,10 +165,6 @@ chosen : (c : Bool) (x y : List ℕ) (P : List ℕ → Type 0) → (c ≡ true �
 chosen true x y P first second = first refl
 chosen false x y P first second = second refl
 
-right_true : (a b : Bool) → (a && b) ≡ true → b ≡ true
-right_true true b is = is
-right_true false b is = absurd (cc)
-
 pub read_back : ReadsBack
 unfolding big_bytes
 read_back dir big widths =
@@ -180,7 +176,7 @@ read_back dir big widths =
     chosen (dir.second_form && first) (set bytes (parts_end dir) 1) bytes (λ l. IsWrittenBig l dir)
     (λ both.
     let form = left_true dir.second_form first both in
-    let m = marked_bytes dir big form (right_true dir.second_form first both) in
+    let m = marked_bytes dir big form (second_true dir.second_form first both) in
     let wrong = first_form_wrong dir m.0 sum big widths m.2 form m.3 in
     subst (λ l. IsWrittenBig l dir) (sym m.1) (laid_reads dir (1 ∷ 0 ∷ 0 ∷ 0 ∷ m.0) sum big widths (omega (arith, m.2)) refl (ap not wrong ∙ sym form)))
     (λ other.

@@ -5,7 +5,7 @@ use Rattle.std.proofs.lemmas.List.{take_at, drop_at, take-take, take-append-le, 
 use Rattle.fc_dirs.specs.declared.Entry.{Entry}
 use Rattle.fc_dirs.specs.Entries.{padded_name}
 use Rattle.fc_dirs.specs.Big.{AllStand, StandsInHeap, name_space, packed_heap, packed_places}
-use Rattle.fc_bigdir.proofs.LaidLemmas.{length-padded}
+use Rattle.fc_smalldir.proofs.NameLemmas.{length-padded}
 
 -- ---- by recursion
 

@@ -138,7 +138,7 @@ own_form_right dir free check big len is =
 
 -- ---- the first form, where the second is laid
 
-second_true : (a b : Bool) → (a && b) ≡ true → b ≡ true
+pub second_true : (a b : Bool) → (a && b) ≡ true → b ≡ true
 second_true true b is = is
 second_true false b is = absurd (cc)
 

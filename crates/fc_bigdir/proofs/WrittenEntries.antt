@@ -31,7 +31,7 @@ regrouped : (a b c d f n p : List ℕ) → a ++ b ++ c ++ d ++ f ++ n ++ p ≡ a
 regrouped a b c d f n p = simp append_assoc
 
 -- a word that stands first
-word_first : (bytes rest : List ℕ) (at x : ℕ) → drop at bytes ≡ little_bytes 4 x ++ rest → x < 2 ^ 32 → u32_at bytes at ≡ x
+pub word_first : (bytes rest : List ℕ) (at x : ℕ) → drop at bytes ≡ little_bytes 4 x ++ rest → x < 2 ^ 32 → u32_at bytes at ≡ x
 word_first bytes rest at x here small = ap (little_number 4) here ∙ little_number-reads_back 4 x rest small
 
 says_words : (a b c d f n p : ℕ) → a < 2 ^ 32 → b < 2 ^ 32 → c < 2 ^ 32 → d < 2 ^ 32 → f < 2 ^ 32 → n < 2 ^ 32 → p < 2 ^ 32
