@@ -4,6 +4,7 @@
 
 mod bits;
 mod checks;
+mod directories;
 mod record;
 mod timing;
 mod zones;
@@ -14,12 +15,13 @@ fn main(rt: HostRuntime) -> std::io::Result<()> {
     let alloc = rt.alloc();
     let words: Vec<String> = env::args(&rt)?.skip(1).collect(alloc)?;
     if words.is_empty() {
-        println!(rt; "benches: bits checks record zones")?;
+        println!(rt; "benches: bits checks directories record zones")?;
     }
     for word in &words {
         match word.as_str() {
             "bits" => bits::run(&rt, alloc)?,
             "checks" => checks::run(&rt, alloc)?,
+            "directories" => directories::run(&rt, alloc)?,
             "record" => record::run(&rt, alloc)?,
             "zones" => zones::run(&rt, alloc)?,
             _ => println!(rt; "no such bench: {word}")?,
