@@ -12,8 +12,12 @@ use std::io::Print;
 use std::rt::Clock;
 use std::time::Instant;
 
-// How often each is done to the smaller directory. It is done to the greater a tenth as often.
 const PASSES: u32 = 50;
+
+// What the numbers of names are multiplied by: they rise, or they stand in no order.
+const RISING: u32 = 1;
+
+const SCATTERED: u32 = 2_654_435_761;
 
 // Puts bytes in their place, if it is there.
 fn put(b: &mut [u8], at: usize, new: &[u8]) {
@@ -22,11 +26,11 @@ fn put(b: &mut [u8], at: usize, new: &[u8]) {
     }
 }
 
-// Seven letters for a number, which tell numbers below 2^28 apart, and put them out of order.
+// Seven letters for the lowest 28 bits of a number, the highest first.
 fn letters(number: u32) -> [u8; 7] {
-    let mut left = number.wrapping_mul(2_654_435_761);
+    let mut left = number;
     let mut name = [b'A'; 7];
-    for place in &mut name {
+    for place in name.iter_mut().rev() {
         *place = b'A' + (left % 16) as u8;
         left /= 16;
     }
@@ -34,7 +38,7 @@ fn letters(number: u32) -> [u8; 7] {
 }
 
 // The bytes of a directory of so many entries, and of 2048 bytes or more that are free.
-fn directory(alloc: Global, entries: u16) -> io::Result<Vec<u8>> {
+fn directory(alloc: Global, entries: u16, order: u32) -> io::Result<Vec<u8>> {
     let count = usize::from(entries);
     let heap = 32 + 28 * count;
     let end = heap + 8 * count;
@@ -48,7 +52,11 @@ fn directory(alloc: Global, entries: u16) -> io::Result<Vec<u8>> {
     for i in 0..count {
         put(&mut b, 32 + 28 * i + 20, &[7]);
         put(&mut b, 32 + 28 * i + 24, &(8 * i as u32).to_le_bytes());
-        put(&mut b, heap + 8 * i, &letters(i as u32));
+        put(
+            &mut b,
+            heap + 8 * i,
+            &letters((i as u32).wrapping_mul(order)),
+        );
     }
     put(&mut b, size - 8, b"oven");
     if end + 8 <= b.len() {
@@ -85,13 +93,13 @@ fn enter(dir: &mut BigDir, name: Name) -> bool {
     !has_name(dir.entries(), &e.name) && dir.insert(e).is_ok()
 }
 
-// Reads, puts in and writes, each so many times.
-fn time<R: Print + Clock>(rt: &R, alloc: Global, entries: u16, passes: u32) -> io::Result<()> {
-    let bytes = directory(alloc, entries)?;
+// Reads, puts in and writes.
+fn time<R: Print + Clock>(rt: &R, alloc: Global, entries: u16, order: u32) -> io::Result<()> {
+    let bytes = directory(alloc, entries, order)?;
     println!(rt; "a big directory of {entries} entries")?;
     let start = Instant::now(rt)?;
     let mut read = 0u32;
-    for _ in 0..passes {
+    for _ in 0..PASSES {
         if BigDir::read(alloc, &bytes).is_ok() {
             read = read.saturating_add(1);
         }
@@ -102,7 +110,7 @@ fn time<R: Print + Clock>(rt: &R, alloc: Global, entries: u16, passes: u32) -> i
     };
     let start = Instant::now(rt)?;
     let mut entered = 0u32;
-    for i in 0..passes {
+    for i in 0..PASSES {
         if let Some(name) = new_name(i) {
             if enter(&mut dir, name) {
                 entered = entered.saturating_add(1);
@@ -112,15 +120,19 @@ fn time<R: Print + Clock>(rt: &R, alloc: Global, entries: u16, passes: u32) -> i
     print_rate(rt, "put into", u64::from(entered), "times", start)?;
     let mut buffer = vec![in alloc; 0u8; dir.size()]?;
     let start = Instant::now(rt)?;
-    for _ in 0..passes {
+    for _ in 0..PASSES {
         if buffer.len() == dir.size() {
             dir.write(&mut buffer);
         }
     }
-    print_rate(rt, "written", u64::from(passes), "times", start)
+    print_rate(rt, "written", u64::from(PASSES), "times", start)
 }
 
 pub fn run<R: Print + Clock>(rt: &R, alloc: Global) -> io::Result<()> {
-    time(rt, alloc, 5_000, PASSES)?;
-    time(rt, alloc, 50_000, PASSES / 10)
+    println!(rt; "names that rise:")?;
+    time(rt, alloc, 5_000, RISING)?;
+    time(rt, alloc, 50_000, RISING)?;
+    println!(rt; "names in no order:")?;
+    time(rt, alloc, 5_000, SCATTERED)?;
+    time(rt, alloc, 50_000, SCATTERED)
 }
