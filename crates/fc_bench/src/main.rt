@@ -2,6 +2,7 @@
 //! this is safe and ends, and that without words it prints the benches' names.
 #![tactic(auto)]
 
+mod bigdirs;
 mod bits;
 mod checks;
 mod dirs;
@@ -15,10 +16,11 @@ fn main(rt: HostRuntime) -> std::io::Result<()> {
     let alloc = rt.alloc();
     let words: Vec<String> = env::args(&rt)?.skip(1).collect(alloc)?;
     if words.is_empty() {
-        println!(rt; "benches: bits checks dirs record zones")?;
+        println!(rt; "benches: bigdirs bits checks dirs record zones")?;
     }
     for word in &words {
         match word.as_str() {
+            "bigdirs" => bigdirs::run(&rt, alloc)?,
             "bits" => bits::run(&rt, alloc)?,
             "checks" => checks::run(&rt, alloc)?,
             "dirs" => dirs::run(&rt, alloc)?,

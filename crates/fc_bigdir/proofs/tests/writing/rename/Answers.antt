@@ -1,4 +1,4 @@
-use Rattle.std.proofs.Common.{◌≡◌, sym, ap, ◌∙◌}
+use Rattle.std.proofs.Common.{sym, ap, ◌∙◌}
 use Rattle.fc_dirs.specs.Entries.{has_name}
 use Rattle.fc_bigdir.proofs.RenameLemmas.{absent_without}
 use Rattle.fc_bigdir.proofs.tests.writing.rename.Goals as goal
