@@ -2,7 +2,13 @@
 //! replies.
 #![tactic(auto)]
 
+mod command;
+mod numbers;
+mod words;
+
 ghost use Rattle.fc_script.specs.Rows.{ScriptRows};
+
+pub use command::{Bytes, Command, LineError};
 
 /// Lines and texts, worked out.
 pub fn rows()
