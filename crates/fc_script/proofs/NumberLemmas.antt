@@ -9,15 +9,8 @@ use Rattle.std.specs.List.{fold, list_all}
 use Rattle.std.specs.Str.{IsAscii}
 use Rattle.std.specs.Str.Parse.{AllDigits, IsNumeral, digits_value, digits_value_after}
 use Rattle.hex.specs.Hex.{hex_digit_value, is_hex_digit}
+use Rattle.fc_script.specs.Words.{number_of}
 use Rattle.fc_script.specs.Lines.{decimal_number, hex_number, is_decimal, is_digit, is_some_word, length_of, word_of}
-
-digit_ascii : (c : ℕ) → digit_value c < 36 → c < 128
-digit_ascii c h = grind (arith, nat_tests)
-
--- digits are no bytes above 127
-pub digits_ascii : (base : ℕ) (ds : List ℕ) → base ≤ 36 → AllDigits base ds → IsAscii ds
-digits_ascii base [] small h = IsAscii-nil
-digits_ascii base (c ∷ cs) small h = IsAscii-cons c cs (digit_ascii c (omega (arith, h.0, small))) (digits_ascii base cs small h.1)
 
 both : (a b : Bool) → (a && b) ≡ true → (a ≡ true) × (b ≡ true)
 both true b e = (refl, e)
@@ -60,10 +53,6 @@ decimal_after n (c ∷ cs) e =
     let same = digit_same c parts.0 in
     let next : 10 * n + (c - 48) ≡ n * 10 + digit_value c = omega (arith, same) in
     rw next (decimal_after (n * 10 + digit_value c) cs parts.1)
-
--- the number that digits of a base say, where it fits
-abbrev pub number_of : ℕ → List ℕ → Option ℕ
-number_of base ds = if nat_lt (digits_value base ds) (2 ^ 32) then Some (digits_value base ds) else None
 
 pub word_numeral : (text : List ℕ) → length text ≡ 8 → list_all is_hex_digit text ≡ true → IsNumeral 16 text
 word_numeral text size e = (omega (arith, size), hex_digits text e)

@@ -3,6 +3,7 @@
 #![tactic(auto)]
 
 mod command;
+mod line;
 mod numbers;
 mod words;
 
