@@ -1,2 +1,4 @@
 pub mod WordLemmas
 pub mod NumberLemmas
+pub mod PairLemmas
+pub mod LineLemmas

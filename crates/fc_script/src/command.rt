@@ -7,7 +7,7 @@ use std::marker::Model;
 /// The bytes that a `save` gives to a file.
 #[derive(Debug, Drop)]
 pub struct Bytes {
-    pub(crate) bytes: Vec<u8>,
+    bytes: Vec<u8>,
 }
 
 impl Model for Bytes {
@@ -19,6 +19,13 @@ impl Model for Bytes {
 }
 
 impl Bytes {
+    // Takes bytes.
+    pub(crate) fn new(bytes: Vec<u8>) -> Bytes
+        ensures { result ≡ bytes.items }
+    {
+        Bytes { bytes }
+    }
+
     /// The bytes.
     pub fn list(&self) -> &[u8]
         ensures { result.now ≡ self.now }

@@ -10,6 +10,7 @@ mod words;
 ghost use Rattle.fc_script.specs.Rows.{ScriptRows};
 
 pub use command::{Bytes, Command, LineError};
+pub use line::read_line;
 
 /// Lines and texts, worked out.
 pub fn rows()
