@@ -5,12 +5,14 @@
 mod command;
 mod line;
 mod numbers;
+mod texts;
 mod words;
 
 ghost use Rattle.fc_script.specs.Rows.{ScriptRows};
 
 pub use command::{Bytes, Command, LineError};
 pub use line::read_line;
+pub use texts::{check_text, entry_text, error_text, free_text};
 
 /// Lines and texts, worked out.
 pub fn rows()
