@@ -69,4 +69,3 @@ some_or_none None e = refl
 -- a word that says none
 pub bytes_of-none : (text : List ℕ) → bytes_eq text (codes "-") ≡ false → is_some (pairs_of text) ≡ false → bytes_of text ≡ None
 bytes_of-none text e none = bytes_of-pairs text e ∙ some_or_none (pairs_of text) none
-

@@ -16,7 +16,7 @@ use Rattle.fc_script.specs.Words.{is_space, split_words, word_list, words_after}
 -- a text that has a space is cut there, and one that has none is one word
 pub cut_once : (text : List ℕ) (read : Option (Bor (List ℕ) × Bor (List ℕ)))
     → MatchOption read (position_or_len is_space text ≡ length text)
-        (λ x. (position_or_len is_space text < length text) × (x.0.now ≡ before_first is_space text) × (x.1.now ≡ after_first is_space text))
+    (λ x. (position_or_len is_space text < length text) × (x.0.now ≡ before_first is_space text) × (x.1.now ≡ after_first is_space text))
     → MatchOption read (split_words text ≡ text ∷ []) (λ x. split_words text ≡ x.0.now ∷ split_words x.1.now)
 cut_once text None h = slice_split_none is_space text (λ k d below. fails_before_first is_space text k d (omega (arith, h, below)))
 cut_once text (Some x) h = rw (h.1, h.2) (slice_split_first is_space text 0 h.0)

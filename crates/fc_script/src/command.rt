@@ -38,15 +38,25 @@ impl Bytes {
 #[derive(Debug, Drop)]
 pub enum Command {
     /// Lists the entries of a directory.
-    Cat { path: Path },
+    Cat {
+        path: Path,
+    },
     /// Tells the bytes of a file.
-    Load { path: Path },
+    Load {
+        path: Path,
+    },
     /// Tells the SHA-256 of the bytes of a file.
-    Digest { path: Path },
+    Digest {
+        path: Path,
+    },
     /// Makes a directory.
-    Cdir { path: Path },
+    Cdir {
+        path: Path,
+    },
     /// Takes an object away. A directory must be empty.
-    Delete { path: Path },
+    Delete {
+        path: Path,
+    },
     /// Writes a file of these bytes.
     Save {
         path: Path,
@@ -62,7 +72,10 @@ pub enum Command {
         len: u32,
     },
     /// Gives an object another path.
-    Rename { from: Path, to: Path },
+    Rename {
+        from: Path,
+        to: Path,
+    },
     /// Gives an object these words and this access: bit 0 is reading by the owner, bit 1 writing, and bit 2 a lock.
     Set {
         path: Path,

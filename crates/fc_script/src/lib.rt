@@ -5,6 +5,8 @@
 mod command;
 mod line;
 mod numbers;
+#[cfg(test)]
+mod tests;
 mod texts;
 mod words;
 

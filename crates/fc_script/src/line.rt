@@ -113,9 +113,11 @@ fn read_save(
 ) -> Result<Command, LineError>
     ensures { Gives command result (with_three Model.Save path.now (word_of load.now) (word_of exec.now) (bytes_of bytes.now)) }
 {
-    let (Some(load), Some(exec), Some(digits)) =
-        (read_word(load), read_word(exec), read_digits(bytes))
-    else {
+    let (Some(load), Some(exec), Some(digits)) = (
+        read_word(load),
+        read_word(exec),
+        read_digits(bytes),
+    ) else {
         return Err(LineError::BadCommand);
     };
     let path = command_path(alloc, path)?;
@@ -163,9 +165,11 @@ fn read_set(
 ) -> Result<Command, LineError>
     ensures { Gives command result (with_three Model.Set path.now (word_of load.now) (word_of exec.now) (access_of access.now)) }
 {
-    let (Some(load), Some(exec), Some(access)) =
-        (read_word(load), read_word(exec), read_access(access))
-    else {
+    let (Some(load), Some(exec), Some(access)) = (
+        read_word(load),
+        read_word(exec),
+        read_access(access),
+    ) else {
         return Err(LineError::BadCommand);
     };
     let path = command_path(alloc, path)?;

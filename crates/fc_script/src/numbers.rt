@@ -7,6 +7,7 @@ ghost use Rattle.fc_script.specs.Lines.{access_of, is_decimal, is_digit, length_
 ghost use Rattle.fc_script.specs.Words.{number_of};
 
 const HEX: u32 = 16;
+
 const DECIMAL: u32 = 10;
 
 fn is_hex_digit(c: u8) -> bool
