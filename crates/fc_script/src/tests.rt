@@ -3,110 +3,122 @@ use fc_names::{Name, Path, Refusal, write_name};
 use std::alloc::Global;
 use std::test::Fail;
 
-// A path as it is spelled.
-fn spelled(alloc: Global, path: &Path) -> Result<String, Fail> {
+// The word of a command, its first path, and its numbers.
+fn parts(command: &Command) -> (&str, Option<&Path>, [u32; 3]) {
+    match command {
+        Command::Cat { path } => ("cat", Some(path), [0; 3]),
+        Command::Load { path } => ("load", Some(path), [0; 3]),
+        Command::Digest { path } => ("digest", Some(path), [0; 3]),
+        Command::Cdir { path } => ("cdir", Some(path), [0; 3]),
+        Command::Delete { path } => ("delete", Some(path), [0; 3]),
+        Command::Save {
+            path,
+            load,
+            exec,
+            ..
+        } => ("save", Some(path), [*load, *exec, 0]),
+        Command::Create {
+            path,
+            load,
+            exec,
+            len,
+        } => ("create", Some(path), [*load, *exec, *len]),
+        Command::Rename { from, .. } => ("rename", Some(from), [0; 3]),
+        Command::Set {
+            path,
+            load,
+            exec,
+            access,
+        } => ("set", Some(path), [*load, *exec, *access]),
+        Command::Free => ("free", None, [0; 3]),
+        Command::Check => ("check", None, [0; 3]),
+        Command::Compact => ("compact", None, [0; 3]),
+        Command::Reclaim => ("reclaim", None, [0; 3]),
+    }
+}
+
+// A path as it is spelled, and nothing for none.
+fn spelled(alloc: Global, path: Option<&Path>) -> Result<Vec<u8>, Fail> {
     let mut text = Vec::new(alloc);
+    let Some(path) = path else {
+        return Ok(text);
+    };
     text.extend_from_slice(b"$")?;
     for name in path.names() {
         text.extend_from_slice(b".")?;
         write_name(name, &mut text)?;
     }
-    Ok(String::from_str(alloc, str::from_utf8(&text)?)?)
-}
-
-// What a line says, or why it says nothing.
-fn told(alloc: Global, line: &[u8]) -> Result<String, Fail> {
-    Ok(match read_line(alloc, line) {
-        Ok(Command::Cat { path }) => format!(in alloc; "cat {}", spelled(alloc, &path)?)?,
-        Ok(Command::Load { path }) => format!(in alloc; "load {}", spelled(alloc, &path)?)?,
-        Ok(Command::Digest { path }) => format!(in alloc; "digest {}", spelled(alloc, &path)?)?,
-        Ok(Command::Cdir { path }) => format!(in alloc; "cdir {}", spelled(alloc, &path)?)?,
-        Ok(Command::Delete { path }) => format!(in alloc; "delete {}", spelled(alloc, &path)?)?,
-        Ok(
-            Command::Save {
-                path,
-                load,
-                exec,
-                bytes,
-            },
-        ) => {
-            let path = spelled(alloc, &path)?;
-            let list = bytes.list();
-            format!(in alloc; "save {path} {load} {exec} {list:?}")?
-        }
-        Ok(
-            Command::Create {
-                path,
-                load,
-                exec,
-                len,
-            },
-        ) => {
-            let path = spelled(alloc, &path)?;
-            format!(in alloc; "create {path} {load} {exec} {len}")?
-        }
-        Ok(Command::Rename { from, to }) => {
-            let from = spelled(alloc, &from)?;
-            let to = spelled(alloc, &to)?;
-            format!(in alloc; "rename {from} {to}")?
-        }
-        Ok(
-            Command::Set {
-                path,
-                load,
-                exec,
-                access,
-            },
-        ) => {
-            let path = spelled(alloc, &path)?;
-            format!(in alloc; "set {path} {load} {exec} {access}")?
-        }
-        Ok(Command::Free) => String::from_str(alloc, "free")?,
-        Ok(Command::Check) => String::from_str(alloc, "check")?,
-        Ok(Command::Compact) => String::from_str(alloc, "compact")?,
-        Ok(Command::Reclaim) => String::from_str(alloc, "reclaim")?,
-        Err(error) => format!(in alloc; "{error:?}")?,
-    })
+    Ok(text)
 }
 
 #[test]
 fn reads_lines(rt: HostRuntime) -> Result<(), Fail> {
     let alloc = rt.alloc();
-    for (line, want) in [
-        ("cat $", "cat $"),
-        ("load $.A%20B", "load $.A%20B"),
-        ("load $.AB", "load $.AB"),
-        ("digest $.Hello", "digest $.Hello"),
-        ("cdir $.D.E", "cdir $.D.E"),
-        ("delete $.None", "delete $.None"),
+    for (line, word, path, numbers) in [
+        ("cat $", "cat", "$", [0, 0, 0]),
+        ("load $.A%20B", "load", "$.A%20B", [0, 0, 0]),
+        ("digest $.Hello", "digest", "$.Hello", [0, 0, 0]),
+        ("cdir $.D.E", "cdir", "$.D.E", [0, 0, 0]),
+        ("delete $.None", "delete", "$.None", [0, 0, 0]),
+        ("rename $.D $.D.Q.X", "rename", "$.D", [0, 0, 0]),
         (
-            "save $.Ab FFFFFF00 00000000 01",
-            "save $.Ab 4294967040 0 [1]",
+            "save $.A FFFFFF00 0000000a -",
+            "save",
+            "$.A",
+            [0xffff_ff00, 10, 0],
         ),
-        ("save $.A 00000000 0000000a 4aB0", "save $.A 0 10 [74, 176]"),
         (
-            "save $.A%20B 12345678 9abcDEF0 -",
-            "save $.A%20B 305419896 2596069104 []",
+            "create $.A 9abcDEF0 00000000 0",
+            "create",
+            "$.A",
+            [0x9abc_def0, 0, 0],
         ),
-        ("create $.A 00000000 00000000 0", "create $.A 0 0 0"),
         (
             "create $.A 00000000 00000001 4294967295",
-            "create $.A 0 1 4294967295",
+            "create",
+            "$.A",
+            [0, 1, u32::MAX],
         ),
-        ("rename $.D $.D.Q.X", "rename $.D $.D.Q.X"),
-        ("rename $ $", "rename $ $"),
-        ("set $.L 00000000 00000001 RL", "set $.L 0 1 5"),
-        ("set $.L 00000000 00000000 -", "set $.L 0 0 0"),
-        ("set $.L 00000000 00000000 W", "set $.L 0 0 2"),
-        ("set $.L 00000000 00000000 RWL", "set $.L 0 0 7"),
-        ("free", "free"),
-        ("check", "check"),
-        ("compact", "compact"),
-        ("reclaim", "reclaim"),
+        ("set $.L 00000000 00000001 RL", "set", "$.L", [0, 1, 5]),
+        ("set $.L 00000000 00000000 -", "set", "$.L", [0, 0, 0]),
+        ("set $.L 00000000 00000000 W", "set", "$.L", [0, 0, 2]),
+        ("set $.L 00000000 00000000 RWL", "set", "$.L", [0, 0, 7]),
+        ("free", "free", "", [0, 0, 0]),
+        ("check", "check", "", [0, 0, 0]),
+        ("compact", "compact", "", [0, 0, 0]),
+        ("reclaim", "reclaim", "", [0, 0, 0]),
     ] {
-        let got = told(alloc, line.as_bytes())?;
-        assert!(rt; got.as_str() == want, "at {line}");
+        let command = read_line(alloc, line.as_bytes())?;
+        let (got_word, got_path, got_numbers) = parts(&command);
+        let got_path = spelled(alloc, got_path)?;
+        assert!(rt; got_word == word && got_numbers == numbers, "at {line}");
+        assert!(rt; got_path.as_slice() == path.as_bytes(), "at {line}");
     }
+    Ok(())
+}
+
+#[test]
+fn reads_bytes_and_second_paths(rt: HostRuntime) -> Result<(), Fail> {
+    let alloc = rt.alloc();
+    for (line, want) in [
+        ("save $.Ab FFFFFF00 00000000 01", [1].as_slice()),
+        (
+            "save $.A%20B 00000000 00000000 4aB0",
+            [0x4a, 0xb0].as_slice(),
+        ),
+        ("save $.A 00000000 00000000 -", [].as_slice()),
+    ] {
+        let command = read_line(alloc, line.as_bytes())?;
+        assert!(rt;
+            matches!(&command, Command::Save { bytes, .. } if bytes.list() == want),
+            "at {line}"
+        );
+    }
+    let Command::Rename { to, .. } = read_line(alloc, b"rename $.B $.D.B")? else {
+        return Err("another command".into());
+    };
+    let to = spelled(alloc, Some(&to))?;
+    assert!(rt; to.as_slice() == b"$.D.B".as_slice());
     Ok(())
 }
 
@@ -147,11 +159,10 @@ fn refuses_other_lines(rt: HostRuntime) -> Result<(), Fail> {
         "set $.L 00000000 00000000 LR",
         "set $.L 00000000 00000000 RR",
         "set $.L 00000000 00000000 r",
-        "set $.L 00000000 00000000 0",
         "put a $.A 00000000 00000000",
     ] {
-        let got = told(alloc, line.as_bytes())?;
-        assert!(rt; got.as_str() == "BadCommand", "at {line}");
+        let error = read_line(alloc, line.as_bytes()).err();
+        assert!(rt; error == Some(LineError::BadCommand), "at {line}");
     }
     for line in [
         "load $.A*",
@@ -163,8 +174,8 @@ fn refuses_other_lines(rt: HostRuntime) -> Result<(), Fail> {
         "create .A 00000000 00000000 1",
         "set $$ 00000000 00000000 R",
     ] {
-        let got = told(alloc, line.as_bytes())?;
-        assert!(rt; got.as_str() == "BadName", "at {line}");
+        let error = read_line(alloc, line.as_bytes()).err();
+        assert!(rt; error == Some(LineError::BadName), "at {line}");
     }
     Ok(())
 }
