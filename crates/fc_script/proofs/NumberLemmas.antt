@@ -1,16 +1,14 @@
 -- What std reads of the digits of numbers.
-use Rattle.std.proofs.Common.{◌≡◌, ◌<◌, ◌≤◌, ◌^◌, ◌+◌, ◌*◌, ◌-◌, ◌==◌, ◌&&◌, ◌||◌, not, ℕ, Bool, true, false, refl, sym, ◌∙◌, ap, subst, eq-eqb, arith, List, [], ◌∷◌, length, slice_index, Option, Some, None, unwrap_or, nat_lt, if◌then◌else◌}
+use Rattle.std.proofs.Common.{◌≡◌, ◌<◌, ◌^◌, ◌+◌, ◌*◌, ◌-◌, ◌==◌, ◌&&◌, ℕ, Bool, true, false, refl, subst, eq-eqb, arith, List, [], ◌∷◌, length, unwrap_or, nat_lt}
 use Rattle.std.proofs.lemmas.Bool.{ltb-true, lt-ltb}
 use Rattle.std.proofs.lemmas.Bool.Decides.{nat_tests}
 use Rattle.std.proofs.lemmas.Int.Digits.{digits_value-lt}
-use Rattle.std.proofs.lemmas.Str.Ascii.{IsAscii-nil, IsAscii-cons}
 use Rattle.std.specs.Char.{digit_value}
 use Rattle.std.specs.List.{fold, list_all}
-use Rattle.std.specs.Str.{IsAscii}
 use Rattle.std.specs.Str.Parse.{AllDigits, IsNumeral, digits_value, digits_value_after}
 use Rattle.hex.specs.Hex.{hex_digit_value, is_hex_digit}
 use Rattle.fc_script.specs.Words.{number_of}
-use Rattle.fc_script.specs.Lines.{decimal_number, hex_number, is_decimal, is_digit, is_some_word, length_of, word_of}
+use Rattle.fc_script.specs.Lines.{is_decimal, is_digit, is_some_word, length_of, word_of}
 
 both : (a b : Bool) → (a && b) ≡ true → (a ≡ true) × (b ≡ true)
 both true b e = (refl, e)

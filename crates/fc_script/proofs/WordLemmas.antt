@@ -1,5 +1,5 @@
 -- How a text is cut at its spaces.
-use Rattle.std.proofs.Common.{◌≡◌, ◌<◌, ◌≤◌, ◌==◌, ◌&&◌, ◌∙◌, not, ℕ, zero, suc, Err, Bor, Bool, MatchOption, option_map, true, false, List, [], ◌∷◌, Option, Some, None, refl, ap, subst, if◌then◌else◌, nat_lt, length, take, drop, ◌-◌, ◌+◌, arith, ltb-true, ltb-false, unwrap_or}
+use Rattle.std.proofs.Common.{◌≡◌, ◌<◌, ◌≤◌, ◌==◌, ◌&&◌, ◌∙◌, not, ℕ, zero, suc, Err, Bor, Bool, MatchOption, option_map, true, false, List, [], ◌∷◌, Option, Some, None, refl, ap, subst, nat_lt, length, arith}
 use Rattle.std.specs.Prelude.{nat_le}
 use Rattle.std.specs.List.{after_first, before_first, list_all, position_or_len}
 use Rattle.std.proofs.lemmas.Bool.Decides.{nat_tests}

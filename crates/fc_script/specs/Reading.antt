@@ -1,5 +1,5 @@
 -- What reading a line answers.
-use Rattle.std.specs.Prelude.{◌≡◌, ℕ, List, Option, Result, Ok, Err, IsOk, ok_or}
+use Rattle.std.specs.Prelude.{◌≡◌, ℕ, List, Result, Ok, Err, IsOk, ok_or}
 use Rattle.fc_names.specs.declared.refusal.Refusal.{Refusal}
 use Rattle.fc_names.specs.Names.{Path}
 use Rattle.fc_names.specs.Paths.{path_of}

@@ -92,8 +92,21 @@ pub fn error_text(number: u8, word: &str, into: &mut Vec<u8>) -> Result<(), NoMe
     ensures ok { OnOk result (into.new.items ≡ into.old.items ++ error_line number word.now) }
     ensures err { OnErr result (into.new.items ≡ into.old.items) }
 {
-    let number = Word::Number(u64::from(number));
-    push_line(&Word::Text("error"), &[number, Word::Text(word)], into)
+    push_line(
+        &Word::Text("error"),
+        &[Word::Number(u64::from(number)), Word::Text(word)],
+        into,
+    )
+}
+
+// The last word of an entry's line.
+fn length_word<'a>(len: Option<u64>) -> Word<'a>
+    ensures { word_text result ≡ length_word len }
+{
+    match len {
+        Some(len) => Word::Number(len),
+        None => Word::Text("dir"),
+    }
 }
 
 /// Appends the line of an entry: its name as it is spelled, its attributes, load and execution word of eight hexadecimal
@@ -115,16 +128,6 @@ pub fn entry_text(
         &[Word::Hex(attrs), Word::Hex(load), Word::Hex(exec), len],
         into,
     )
-}
-
-// The last word of an entry's line.
-fn length_word<'a>(len: Option<u64>) -> Word<'a>
-    ensures { word_text result ≡ length_word len }
-{
-    match len {
-        Some(len) => Word::Number(len),
-        None => Word::Text("dir"),
-    }
 }
 
 /// Appends the line of `free`: all free bytes, and those of the largest hole. After `NoMemory` the vector is as before.

@@ -1,4 +1,4 @@
-use Rattle.std.proofs.Common.{◌++◌, ◌∙◌, sym, subst, take}
+use Rattle.std.proofs.Common.{◌∙◌, sym, subst, take}
 use Rattle.fc_script.specs.Written.{Extends, spaced}
 use Rattle.fc_script.proofs.TextLemmas.{Extends-append, Extends-then, spaced_more}
 use Rattle.fc_script.proofs.texts.push_all_spaced.Goals as goal
