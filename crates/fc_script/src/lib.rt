@@ -2,7 +2,19 @@
 //! replies.
 #![tactic(auto)]
 
+mod command;
+mod line;
+mod numbers;
+#[cfg(test)]
+mod tests;
+mod texts;
+mod words;
+
 ghost use Rattle.fc_script.specs.Rows.{ScriptRows};
+
+pub use command::{Bytes, Command, LineError};
+pub use line::read_line;
+pub use texts::{check_text, entry_text, error_text, free_text};
 
 /// Lines and texts, worked out.
 pub fn rows()
