@@ -1,10 +1,10 @@
 -- The run in which a bit of the disc lies.
 use Rattle.std.proofs.Common.{◌≡◌, ◌<◌, ◌≤◌, ℕ, zero, suc, ◌+◌, ◌-◌, ◌*◌, ◌/◌, ◌%◌, Bool, true, false, cond, Option, Some, None, List, [], ◌∷◌, ◌++◌, refl, sym, ap, ap₂, subst, ◌∙◌, inl, inr, arith, mod-lt}
-use Rattle.std.specs.Prelude.{find, nat_le, nat_lt, ◌&&◌}
+use Rattle.std.specs.Prelude.{find, nat_le, ◌&&◌}
 use Rattle.std.specs.List.{range_with_len}
 use Rattle.std.specs.Option.{option_or}
 use Rattle.std.proofs.Math.Nat.{mul-le-mul_right}
-use Rattle.std.proofs.lemmas.Bool.{cases_lt, cases_order, le-leb, lt-leb, lt-ltb, le-ltb}
+use Rattle.std.proofs.lemmas.Bool.{cases_lt, cases_order, le-leb, lt-ltb, le-ltb}
 use Rattle.std.proofs.lemmas.Nat.{div-add-mod'}
 use Rattle.std.proofs.lemmas.List.Folds.{find-append}
 use Rattle.std.proofs.lemmas.List.Concat.{flat_map-append}
@@ -18,8 +18,8 @@ use Rattle.fc_newmap.specs.declared.walk.Walk.{Walk}
 use Rattle.std.specs.Option.{IsSome}
 use Rattle.fc_newmap.specs.Map.{Map, ZoneRun, all_runs, disc_bit, holds_bit, run_at, runs_in, runs_of, sector_of, shape}
 use Rattle.fc_newmap.specs.NewMap.{IsNewMap, IsOfRecord}
-use Rattle.fc_newmap.specs.RunsLaw.{HasZones, placed}
-use Rattle.fc_newmap.specs.Walk.{StandsBefore, zone_after, zones_from}
+use Rattle.fc_newmap.specs.RunsLaw.{placed}
+use Rattle.fc_newmap.specs.Walk.{StandsBefore}
 use Rattle.fc_newmap.proofs.CoverLemmas.{range_cut}
 use Rattle.fc_newmap.proofs.GeometryLemmas.{base_at, ends, ends_last, first_later, first_low, next_base}
 use Rattle.fc_newmap.proofs.HeldLemmas.{geometry_facts}

@@ -177,6 +177,55 @@ fn seals(rt: HostRuntime) -> Result<(), Fail> {
     Ok(())
 }
 
+// Cuts the first run of a zone after `len` bits.
+fn split_first(map: &mut NewMap, z: u16, len: u32) {
+    let g = *map.geometry();
+    if z >= g.zones || g.q != 16 || g.min != 16 || len < 16 || len > 1024 || len % 16 != 0 {
+        return;
+    }
+    if let Some(run) = map.first_in(z) {
+        if run.len >= len + 16 {
+            map.split(z, run.start, len);
+        }
+    }
+}
+
+// Gives the first run of a zone, if it is a hole, to an identifier.
+fn label_first(map: &mut NewMap, z: u16, id: u32) {
+    let g = *map.geometry();
+    if z >= g.zones || g.idlen != 15 || id == 0 || id >= 32_768 {
+        return;
+    }
+    if let Some(run) = map.first_in(z) {
+        if let RunKind::Hole = run.kind {
+            map.label(z, run.start, id);
+        }
+    }
+}
+
+// Turns the first run of a zone into a hole.
+fn release_first(map: &mut NewMap, z: u16) {
+    if z < map.geometry().zones {
+        if let Some(run) = map.first_in(z) {
+            map.release(z, run.start);
+        }
+    }
+}
+
+// Joins the first two runs of a zone, if they are holes.
+fn merge_first(map: &mut NewMap, z: u16) {
+    if z >= map.geometry().zones {
+        return;
+    }
+    let Some(one) = map.first_in(z) else { return };
+    let Some(two) = map.next_in(z, one) else {
+        return;
+    };
+    let RunKind::Hole = one.kind else { return };
+    let RunKind::Hole = two.kind else { return };
+    map.merge(z, one.start);
+}
+
 // A run cut from the hole of zone 1 is found where its identifier is looked for, and the zone is as before once it is
 // given back.
 #[test]
@@ -185,22 +234,18 @@ fn edits_and_back(rt: HostRuntime) -> Result<(), Fail> {
     let Some(Ok(mut map)) = load_f(alloc, &[]) else {
         return Err("no map".into());
     };
-    let g = *map.geometry();
-    if g.zones != 4 || g.q != 16 || g.min != 16 || g.idlen != 15 {
-        return Err("another geometry".into());
-    }
-    let hole = map.first_in(1).ok_or("no run")?;
-    assert_eq!(rt; hole, run(32, 6_592, RunKind::Hole));
-    map.split(1, 32, 16);
-    map.label(1, 32, 500);
+    split_first(&mut map, 1, 16);
+    label_first(&mut map, 1, 500);
     assert_eq!(rt;
         map.first_run(500),
         Some((1, run(32, 16, RunKind::Id(500))))
     );
     assert_eq!(rt; map.free_bits(), 25_360);
-    map.release(1, 32);
-    map.merge(1, 32);
-    assert!(rt; sealed(&mut map, 1) == *b"\x18\x18\x80\0");
+    assert_eq!(rt; map.largest_hole(), 6_576);
+    release_first(&mut map, 1);
+    assert_eq!(rt; map.largest_hole(), 6_576);
+    merge_first(&mut map, 1);
     assert_eq!(rt; map.largest_hole(), 6_592);
+    assert!(rt; sealed(&mut map, 1) == *b"\x18\x18\x80\0");
     Ok(())
 }

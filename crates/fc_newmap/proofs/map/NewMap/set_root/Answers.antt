@@ -1,6 +1,5 @@
-use Rattle.std.proofs.Common.{◌≡◌, ◌<◌, ◌≤◌, ◌+◌, ◌-◌, ◌*◌, length, List, ℕ, arith, refl, ap, sym, subst, ◌∙◌}
-use Rattle.fc_record.specs.declared.Geometry.{Geometry}
-use Rattle.fc_newmap.specs.Map.{Map, runs_of, shape, with_root, with_zone}
+use Rattle.std.proofs.Common.{length, List, ℕ, arith, refl, ap, ◌∙◌}
+use Rattle.fc_newmap.specs.Map.{runs_of, shape, with_root, with_zone}
 use Rattle.fc_newmap.proofs.EditLemmas.{Writes, lent, new_items, same_runs, sector_long, written_in}
 use Rattle.fc_newmap.proofs.HeldLemmas.{first_fits, some_zone}
 use Rattle.fc_newmap.proofs.RootLemmas.{root_kept}
