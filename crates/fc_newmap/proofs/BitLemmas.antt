@@ -1,10 +1,10 @@
 -- The run in which a bit of the disc lies.
 use Rattle.std.proofs.Common.{◌≡◌, ◌<◌, ◌≤◌, ℕ, zero, suc, ◌+◌, ◌-◌, ◌*◌, ◌/◌, ◌%◌, Bool, true, false, cond, Option, Some, None, List, [], ◌∷◌, ◌++◌, refl, sym, ap, ap₂, subst, ◌∙◌, inl, inr, arith, mod-lt}
-use Rattle.std.specs.Prelude.{find, nat_le, nat_lt, ◌&&◌}
+use Rattle.std.specs.Prelude.{find, nat_le, ◌&&◌}
 use Rattle.std.specs.List.{range_with_len}
 use Rattle.std.specs.Option.{option_or}
 use Rattle.std.proofs.Math.Nat.{mul-le-mul_right}
-use Rattle.std.proofs.lemmas.Bool.{cases_lt, cases_order, le-leb, lt-leb, lt-ltb, le-ltb}
+use Rattle.std.proofs.lemmas.Bool.{cases_lt, cases_order, le-leb, lt-ltb, le-ltb}
 use Rattle.std.proofs.lemmas.Nat.{div-add-mod'}
 use Rattle.std.proofs.lemmas.List.Folds.{find-append}
 use Rattle.std.proofs.lemmas.List.Concat.{flat_map-append}
@@ -18,8 +18,8 @@ use Rattle.fc_newmap.specs.declared.walk.Walk.{Walk}
 use Rattle.std.specs.Option.{IsSome}
 use Rattle.fc_newmap.specs.Map.{Map, ZoneRun, all_runs, disc_bit, holds_bit, run_at, runs_in, runs_of, sector_of, shape}
 use Rattle.fc_newmap.specs.NewMap.{IsNewMap, IsOfRecord}
-use Rattle.fc_newmap.specs.RunsLaw.{HasZones, placed}
-use Rattle.fc_newmap.specs.Walk.{StandsBefore, zone_after, zones_from}
+use Rattle.fc_newmap.specs.RunsLaw.{placed}
+use Rattle.fc_newmap.specs.Walk.{StandsBefore}
 use Rattle.fc_newmap.proofs.CoverLemmas.{range_cut}
 use Rattle.fc_newmap.proofs.GeometryLemmas.{base_at, ends, ends_last, first_later, first_low, next_base}
 use Rattle.fc_newmap.proofs.HeldLemmas.{geometry_facts}
@@ -38,18 +38,21 @@ zone_number g bit q is low e =
     let less : q < g.zones = elim (cases_lt q g.zones) [
       | inl here ↦ here
       | inr past ↦ absurd (let all : g.zones * g.zone_size ≤ q * g.zone_size = mul-le-mul_right {m = g.zones} {n = q} g.zone_size past in omega arith)
-    ] in
-    (less, from q refl, elim (cases_order (q + 1) g.zones) [
-      | inl last ↦ (
-          let here : g.zones - 1 ≡ q = omega arith in
-          let begun : base g q < g.disc_bits = subst (λ (n : ℕ). base g n < g.disc_bits) here f.begun in
-          let l = first_low q in
-          omega (arith, ends_last g q last))
-      | inr other ↦ elim other [
-        | inl before ↦ to q refl before
-        | inr after ↦ absurd (omega arith)
-      ]
-    ])
+    ] in (
+      less,
+      from q refl,
+      elim (cases_order (q + 1) g.zones) [
+        | inl last ↦ (
+            let here : g.zones - 1 ≡ q = omega arith in
+            let begun : base g q < g.disc_bits = subst (λ (n : ℕ). base g n < g.disc_bits) here f.begun in
+            let l = first_low q in
+            omega (arith, ends_last g q last))
+        | inr other ↦ elim other [
+          | inl before ↦ to q refl before
+          | inr after ↦ absurd (omega arith)
+        ]
+      ],
+    )
   where
     parts_of : (n : ℕ) → q ≡ n → (n * g.zone_size ≤ bit + 480) × (bit + 480 < n * g.zone_size + g.zone_size)
     parts_of n same =
@@ -125,7 +128,7 @@ zones_before m is (suc n) from z bit e low at =
     let up : base g (from + 1) ≤ base g z = omega (arith, base_at g (from + 1) (omega arith), base_at g z (omega arith), more) in
     find-append (holds_bit g bit) (placed from (runs_of m from)) (runs_in m (range_with_len (from + 1) n))
     ∙ ap₂ option_or (none_holds g from bit (bits (sector_of m from)) (runs_of m from) (first_bit from) (end_bit g from) (omega arith) zone.spelled (omega arith))
-      (zones_before m is n (from + 1) z bit (omega arith) low at)
+    (zones_before m is n (from + 1) z bit (omega arith) low at)
 
 -- the run is found in its zone
 pub found_in_zone : (m : Map) → IsNewMap m → (z bit : ℕ) → z < m.geometry.zones → base m.geometry z ≤ bit → bit < base m.geometry z + (end_bit m.geometry z - first_bit z)
@@ -145,7 +148,7 @@ found_in_zone m is z bit low from to =
       (
         ap (find t) all ∙ find-append t (runs_in m (range_with_len 0 z)) (placed z (runs_of m z) ++ runs_in m (range_with_len (z + 1) n))
             ∙ ap₂ option_or (zones_before m is z 0 z bit (omega arith) low from)
-              (find-append t (placed z (runs_of m z)) (runs_in m (range_with_len (z + 1) n)) ∙ ap (λ (o : Option ZoneRun). option_or o (find t (runs_in m (range_with_len (z + 1) n)))) r.1),
+            (find-append t (placed z (runs_of m z)) (runs_in m (range_with_len (z + 1) n)) ∙ ap (λ (o : Option ZoneRun). option_or o (find t (runs_in m (range_with_len (z + 1) n)))) r.1),
         find-append t (placed z (runs_of m z)) [] ∙ ap (λ (o : Option ZoneRun). option_or o None) r.1,
       ),
     )

@@ -8,8 +8,6 @@ use Rattle.fc_bytes.specs.Bits.{bits}
 use Rattle.fc_record.specs.declared.Geometry.{Geometry}
 use Rattle.fc_record.specs.Record.{first_bit, end_bit}
 use Rattle.fc_zone.specs.declared.Run.{Run}
-use Rattle.fc_zone.specs.declared.RunKind.{RunKind}
-use Rattle.fc_zone.specs.declared.RunKind.TheVariants.{Hole, Id}
 use Rattle.fc_zone.specs.declared.ZoneShape.{ZoneShape}
 use Rattle.fc_zone.specs.declared.cursor.Cursor.{Cursor}
 use Rattle.fc_zone.specs.Cursor.{StandsBetween}
@@ -196,26 +194,25 @@ pub all_is : (m : Map) (more : ℕ) → m.geometry.zones ≡ suc more → placed
 all_is m more some =
     ap (runs_in m) (zones_up m.geometry 0 (suc more) (omega arith)) ∙ ap (λ (n : ℕ). runs_in m (range_with_len 0 n)) (sym some)
 
-hole_first : (p : ZoneRun) (rest : List ZoneRun) → p.1.kind ≡ Hole → holes_in (p ∷ rest) ≡ p ∷ holes_in rest
-hole_first p rest e = ap (λ (k : RunKind). cond (is_hole k) (p ∷ holes_in rest) (holes_in rest)) e
+hole_first : (p : ZoneRun) (rest : List ZoneRun) → is_hole p.1.kind ≡ true → holes_in (p ∷ rest) ≡ p ∷ holes_in rest
+hole_first p rest e = ap (λ (b : Bool). cond b (p ∷ holes_in rest) (holes_in rest)) e
 
-hole_later : (kind : RunKind) (p : ZoneRun) (rest : List ZoneRun) → p.1.kind ≡ kind → (kind ≡ Hole → ⊥) → holes_in (p ∷ rest) ≡ holes_in rest
-hole_later Hole p rest e other = absurd (other refl)
-hole_later (Id id) p rest e other = ap (λ (k : RunKind). cond (is_hole k) (p ∷ holes_in rest) (holes_in rest)) e
+hole_later : (p : ZoneRun) (rest : List ZoneRun) → is_hole p.1.kind ≡ false → holes_in (p ∷ rest) ≡ holes_in rest
+hole_later p rest e = ap (λ (b : Bool). cond b (p ∷ holes_in rest) (holes_in rest)) e
 
 -- past a hole
-pub hole_taken : (m : Map) (left now : List ZoneRun) (old new : Walk) (p : ZoneRun) → holes_in left ≡ holes_in now → StandsBefore m now old → IsStepOf m old new (Some p) → p.1.kind ≡ Hole
+pub hole_taken : (m : Map) (left now : List ZoneRun) (old new : Walk) (p : ZoneRun) → holes_in left ≡ holes_in now → StandsBefore m now old → IsStepOf m old new (Some p) → is_hole p.1.kind ≡ true
     → (rest : List ZoneRun) × ((holes_in left ≡ p ∷ holes_in rest) × StandsBefore m rest new)
 hole_taken m left now old new p same stands step is =
     let r = step now stands in
     (r.0, (same ∙ ap holes_in r.1.0 ∙ hole_first p r.0 is, r.1.1))
 
 -- past another run
-pub hole_passed : (m : Map) (left now : List ZoneRun) (old new : Walk) (p : ZoneRun) → holes_in left ≡ holes_in now → StandsBefore m now old → IsStepOf m old new (Some p) → (p.1.kind ≡ Hole → ⊥)
+pub hole_passed : (m : Map) (left now : List ZoneRun) (old new : Walk) (p : ZoneRun) → holes_in left ≡ holes_in now → StandsBefore m now old → IsStepOf m old new (Some p) → is_hole p.1.kind ≡ false
     → (rest : List ZoneRun) × ((holes_in left ≡ holes_in rest) × StandsBefore m rest new)
 hole_passed m left now old new p same stands step other =
     let r = step now stands in
-    (r.0, (same ∙ ap holes_in r.1.0 ∙ hole_later p.1.kind p r.0 refl other, r.1.1))
+    (r.0, (same ∙ ap holes_in r.1.0 ∙ hole_later p r.0 other, r.1.1))
 
 pub no_hole : (m : Map) (left now : List ZoneRun) (old new : Walk) → holes_in left ≡ holes_in now → StandsBefore m now old → IsStepOf m old new None → (holes_in left ≡ []) × StandsBefore m [] new
 no_hole m left now old new same stands step = let r = step now stands in (same ∙ ap holes_in r.0, r.1)

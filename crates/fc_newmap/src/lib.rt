@@ -57,3 +57,6 @@ pub fn ids()
 pub fn one_zone()
     ensures { ZoneSectorsLaw }
 {}
+
+#[cfg(test)]
+mod tests;

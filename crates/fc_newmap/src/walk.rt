@@ -3,7 +3,7 @@
 ghost use Rattle.std.specs.Prelude.{◌≡◌, ◌+◌, ◌-◌, ◌^◌, ◌<◌, ◌≤◌, ◌++◌, ◌∷◌, [], List, IfSome, MatchOption};
 ghost use Rattle.fc_zone.specs.Cursor.{StandsBetween};
 ghost use Rattle.fc_zone.specs.declared.Run.{Run};
-ghost use Rattle.fc_newmap.specs.Map.{ZoneRun, all_runs, runs_in, runs_of, sector_of, shape};
+ghost use Rattle.fc_newmap.specs.Map.{ZoneRun, all_runs, is_hole, runs_in, runs_of, sector_of, shape};
 ghost use Rattle.fc_newmap.specs.NewMap.{IsNewMap};
 ghost use Rattle.fc_newmap.specs.RunsLaw.{placed};
 
@@ -36,6 +36,16 @@ fn zone_after(g: &Geometry, z: u16) -> u16
 {
     let last = g.zones - 1;
     if z == last { 0 } else { z + 1 }
+}
+
+// Whether a run is a hole.
+fn is_hole(kind: RunKind) -> bool
+    ensures { result ≡ is_hole kind }
+{
+    match kind {
+        RunKind::Hole => true,
+        RunKind::Id(_) => false,
+    }
 }
 
 impl Walk {
@@ -110,7 +120,7 @@ impl Walk {
         ensures within { IfSome result (IsInZone map.now.geometry) }
     {
         while let Some((z, run)) = self.next(map) {
-            if let RunKind::Hole = run.kind {
+            if is_hole(run.kind) {
                 return Some((z, run));
             }
         }

@@ -1,4 +1,4 @@
-use Rattle.std.proofs.Common.{◌≡◌, ◌<◌, ◌≤◌, ◌+◌, ◌/◌, ℕ, ap, arith}
+use Rattle.std.proofs.Common.{◌+◌, ◌/◌, ℕ, ap, arith}
 use Rattle.fc_newmap.proofs.BitLemmas.{zone_number}
 use Rattle.fc_newmap.proofs.HeldLemmas.{geometry_facts}
 use Rattle.fc_newmap.proofs.places.zone_of_bit.Goals as goal

@@ -1,7 +1,7 @@
-use Rattle.std.proofs.Common.{◌≡◌, ◌<◌, ◌≤◌, ◌+◌, ◌-◌, ◌∙◌, ℕ, List, [], ◌++◌, Option, Some, ap, sym, subst, true, false, Bool}
+use Rattle.std.proofs.Common.{◌<◌, ◌≤◌, ◌+◌, ◌-◌, ◌∙◌, [], ◌++◌, Option, Some, ap, sym, subst}
 use Rattle.fc_record.specs.declared.Geometry.{Geometry}
 use Rattle.fc_record.specs.Record.{base, end_bit, first_bit}
-use Rattle.fc_newmap.specs.Map.{ZoneRun, holds_bit, run_at, runs_of}
+use Rattle.fc_newmap.specs.Map.{ZoneRun, holds_bit, runs_of}
 use Rattle.fc_newmap.specs.RunsLaw.{placed}
 use Rattle.fc_newmap.proofs.BitLemmas.{ahead_end, ahead_on, ahead_some, found_in_zone}
 use Rattle.fc_newmap.proofs.WalkLemmas.{IsStepOf}

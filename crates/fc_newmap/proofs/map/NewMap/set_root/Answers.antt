@@ -1,6 +1,5 @@
-use Rattle.std.proofs.Common.{◌≡◌, ◌<◌, ◌≤◌, ◌+◌, ◌-◌, ◌*◌, length, List, ℕ, arith, refl, ap, sym, subst, ◌∙◌}
-use Rattle.fc_record.specs.declared.Geometry.{Geometry}
-use Rattle.fc_newmap.specs.Map.{Map, runs_of, shape, with_root, with_zone}
+use Rattle.std.proofs.Common.{length, List, ℕ, arith, refl, ap, ◌∙◌}
+use Rattle.fc_newmap.specs.Map.{runs_of, shape, with_root, with_zone}
 use Rattle.fc_newmap.proofs.EditLemmas.{Writes, lent, new_items, same_runs, sector_long, written_in}
 use Rattle.fc_newmap.proofs.HeldLemmas.{first_fits, some_zone}
 use Rattle.fc_newmap.proofs.RootLemmas.{root_kept}
@@ -28,8 +27,11 @@ pub invariant_of-self : goal.invariant_of-self
 invariant_of-self c =
     let w = after (goal.at.invariant_of-self c).After-put_root in
     let old = lent c.self.inside.geometry c.place_of-from.result c.deref_mut.result.now in
-    w.held (runs_of c.args.self.now 0, root_kept (shape c.self.inside.geometry 0) old c.put_root.new.b c.args.root c.args.size (runs_of c.args.self.now 0)
-        (sector_long old (shape c.self.inside.geometry 0) 55 w.fits (omega arith)) c.put_root.ensures (omega arith) w.zone)
+    w.held (
+      runs_of c.args.self.now 0,
+      root_kept (shape c.self.inside.geometry 0) old c.put_root.new.b c.args.root c.args.size (runs_of c.args.self.now 0)
+          (sector_long old (shape c.self.inside.geometry 0) 55 w.fits (omega arith)) c.put_root.ensures (omega arith) w.zone,
+    )
 
 pub returns-clause-map : goal.returns-clause-map
 returns-clause-map c =
