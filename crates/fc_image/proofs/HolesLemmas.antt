@@ -36,6 +36,7 @@ use Rattle.fc_image.specs.Walk.{Object, Listing, Reader, reader_of, at_path, obj
 use Rattle.fc_image.specs.Objects.{objects_of, first_object}
 use Rattle.fc_image.specs.Opening.{Opened, MapAndRoot, map_and_root, copy_or, agreement, difference, zones_or, reserved_in, boot_place, misplaced_sector, is_hole_or_movable, least_of, open_as}
 use Rattle.fc_image.specs.Stays.{IsNewKind, HolesLaw, HoleWriteLaw, HasSectorsOf, SameOutsideHoles}
+use Rattle.fc_image.specs.Moves.{BootApartLaw}
 use Rattle.fc_image.proofs.WalkLemmas.{bind_ok}
 use Rattle.fc_image.proofs.KindLemmas.{kind_place}
 use Rattle.fc_image.proofs.FreeLemmas.{layout_by, layout_is, parts_of, among_here, free_opens, free_stored}
@@ -140,6 +141,22 @@ has_zones image kind r w new is long right =
 
 -- ---- an opened image with a new map
 
+-- the sectors of holes and of identifiers that may move
+abbrev pub loose_sectors : Map → List Object → List ℕ
+loose_sectors m objects = sectors_of m.geometry (filter (λ p. is_hole_or_movable objects p.1.kind) (all_runs m))
+
+some_least : (n : ℕ) (ns : List ℕ) → least_of (n ∷ ns) ≡ None → ⊥
+some_least n ns e = cc
+
+-- Two lists that have no least number have none together.
+none_least : (xs ys : List ℕ) → least_of (xs ++ ys) ≡ None → (least_of xs ≡ None) × (least_of ys ≡ None)
+none_least [] ys e = (refl, e)
+none_least (x ∷ xs) ys e = absurd (some_least x (xs ++ ys) e)
+
+pub least_none : (xs ys : List ℕ) → least_of xs ≡ None → least_of ys ≡ None → least_of (xs ++ ys) ≡ None
+least_none [] ys e h = h
+least_none (x ∷ xs) ys e h = absurd (some_least x xs e)
+
 -- what an opened image says of its map
 pub record OpenMap (image : List ℕ) (kind : Kind) (r : DiscRecord) (v : Opened) (m : Map) : Type 0 where
   pub layout : v.layout ≡ Layout.New m
@@ -156,7 +173,8 @@ pub record OpenMap (image : List ℕ) (kind : Kind) (r : DiscRecord) (v : Opened
   pub found_map : FoundMap image r (Layout.New m, root, size)
   pub long : disc_size kind ≤ length image
   pub walked : walk (reader_of image (Layout.New m)) (Layout.New m) (reserved_in kind (Layout.New m)) root size ≡ Ok v.listings
-  pub tight : misplaced_sector kind (Layout.New m) (objects_of v.listings) ≡ None
+  pub tight : least_of (filter (is_among (loose_sectors m (objects_of v.listings))) (reserved_in kind (Layout.New m))) ≡ None
+  pub apart : least_of (filter (is_among (map_sectors m.geometry)) (boot_place kind m.geometry.sector)) ≡ None
 
 pub open_map : (image : List ℕ) (kind : Kind) (r : DiscRecord) (v : Opened) → IsNewKind kind r → is_valid r ≡ true → open_as image kind ≡ Ok v → (m : Map) × OpenMap image kind r v m
 open_map image kind r v new valid e =
@@ -165,7 +183,9 @@ open_map image kind r v new valid e =
     let g = geometry r in
     let m : Map = record { geometry = g; zones = copy_of g f.which image } in
     let facts = facts_of_valid r valid in
-    let right = is_map_of image r f.which f.right in (
+    let right = is_map_of image r f.which f.right in
+    let placed = none_least (filter (is_among (loose_sectors m (objects_of v.listings))) (reserved_in kind (Layout.New m))) (filter (is_among (map_sectors g)) (boot_place kind g.sector))
+    (subst (λ (q : MapAndRoot). misplaced_sector kind q.0 (objects_of v.listings) ≡ None) (sym f.is) p.1.3) in (
       m,
       record {
         layout = ap (λ (w : Opened). w.layout) (sym p.1.4) ∙ ap (λ (q : MapAndRoot). q.0) (sym f.is);
@@ -182,7 +202,8 @@ open_map image kind r v new valid e =
         found_map = subst (λ (q : MapAndRoot). FoundMap image r q) (sym f.is) f;
         long = p.1.0;
         walked = subst (λ (q : MapAndRoot). walk (reader_of image q.0) q.0 (reserved_in kind q.0) q.1 q.2 ≡ Ok v.listings) (sym f.is) p.1.2;
-        tight = subst (λ (q : MapAndRoot). misplaced_sector kind q.0 (objects_of v.listings) ≡ None) (sym f.is) p.1.3;
+        tight = placed.0;
+        apart = placed.1;
       },
     )
 
@@ -411,9 +432,6 @@ walk_lies read layout reserved address size listings =
 
 -- ---- the map's place
 
-some_least : (n : ℕ) (ns : List ℕ) → least_of (n ∷ ns) ≡ None → ⊥
-some_least n ns e = cc
-
 pub none_loose : (loose reserved : List ℕ) → least_of (filter (is_among loose) reserved) ≡ None → (s : ℕ) → is_among reserved s ≡ true → is_among loose s ≡ false
 none_loose loose [] e s h = absurd (cc)
 none_loose loose (x ∷ reserved) e s h = by (is_among loose x) refl e (none_loose loose reserved)
@@ -427,12 +445,18 @@ none_loose loose (x ∷ reserved) e s h = by (is_among loose x) refl e (none_loo
     by true f g more = absurd (some_least x (filter (is_among loose) reserved) g)
     by false f g more = then false (x == s) refl f h (more g s)
 
+pub boot_apart_law : BootApartLaw
+boot_apart_law image kind v m e layout =
+    let p = parts_of image kind v e in
+    let at : p.0.0 ≡ Layout.New m = ap (λ (w : Opened). w.layout) p.1.4 ∙ layout in
+    let placed = none_least (filter (is_among (loose_sectors m (objects_of v.listings))) (reserved_in kind (Layout.New m))) (filter (is_among (map_sectors m.geometry)) (boot_place kind m.geometry.sector))
+    (subst (λ (l : Layout). misplaced_sector kind l (objects_of v.listings) ≡ None) at p.1.3) in
+    apart_from (boot_place kind m.geometry.sector) (map_sectors m.geometry)
+    (λ s a b. let no = none_loose (map_sectors m.geometry) (boot_place kind m.geometry.sector) placed.1 s a in cc)
+
 loose_hole : (objects : List Object) (k : RunKind) → is_hole k ≡ true → is_hole_or_movable objects k ≡ true
 loose_hole objects kinds.Hole e = refl
 loose_hole objects (kinds.Id id) e = absurd (cc)
-
-abbrev pub loose_sectors : Map → List Object → List ℕ
-loose_sectors m objects = sectors_of m.geometry (filter (λ p. is_hole_or_movable objects p.1.kind) (all_runs m))
 
 pub holes_loose : (m : Map) (objects : List Object) (s : ℕ) → is_among (hole_sectors (Layout.New m)) s ≡ true → is_among (loose_sectors m objects) s ≡ true
 holes_loose m objects s e =

@@ -36,7 +36,7 @@ use Rattle.fc_image.specs.Moves.{sectors_or_none, object_in, listing_in, with_ma
 use Rattle.fc_image.proofs.WalkLemmas.{walk-Tells, open_as-spelled}
 use Rattle.fc_image.proofs.FreeLemmas.{layout_by, layout_is}
 use Rattle.fc_image.proofs.StoredLemmas.{stored_tree}
-use Rattle.fc_image.proofs.HolesLemmas.{OpenMap, open_map, has_zones, Each, EachListed, Each-objects, Lies, Has, lies_step, walk_lies, in_id, id_no_hole, apart_at, none_loose, loose_sectors, holes_loose}
+use Rattle.fc_image.proofs.HolesLemmas.{OpenMap, open_map, has_zones, Each, EachListed, Each-objects, Lies, Has, lies_step, walk_lies, in_id, id_no_hole, apart_at, none_loose, loose_sectors, least_none, holes_loose}
 use Rattle.fc_image.proofs.RemapLemmas.{moved_to, map_fixed, moved_out, moved_in, map_moved, moved_apart, first_same, carry, carry_listing, carry_walk, AllIn}
 
 pub unless : (b : Bool) → (b ≡ true → ⊥) → b ≡ false
@@ -354,13 +354,15 @@ carry_core image other kind r v m zs f new fits o c =
     ap (λ (t : ZoneRun → Bool). sectors_of m.geometry (filter t (all_runs m')))
     (λ i p. (ap (λ (os : List Object). is_hole_or_movable os p.1.kind) same_objects ∙ loose_carry f objects p.1.kind) i) in
     let tight' : misplaced_sector kind (Layout.New m') (objects_of (map (carry_listing f) v.listings)) ≡ None =
-    tight_from (loose_sectors m' (objects_of (map (carry_listing f) v.listings))) reserved
+    least_none (filter (is_among (loose_sectors m' (objects_of (map (carry_listing f) v.listings)))) reserved) (filter (is_among (map_sectors m.geometry)) (boot_place kind m.geometry.sector))
+    (tight_from (loose_sectors m' (objects_of (map (carry_listing f) v.listings))) reserved
     (λ s i. unless (is_among (loose_sectors m' (objects_of (map (carry_listing f) v.listings))) s)
     (λ h.
     let h' = subst (λ (xs : List ℕ). is_among xs s ≡ true) loose_same h in
     let was = loose_before m m' objects refl o.shape o.zones has' o.some c.fixed s h' in
     let no' = tight s i in
-    cc)) in
+    cc)))
+    o.apart in
     let long = o.long in
     let len = t.length_stays in
     let opened : open_as other kind ≡ Ok (record { kind = kind; layout = Layout.New m'; listings = map (carry_listing f) v.listings }) =

@@ -23,7 +23,7 @@ use Rattle.fc_image.specs.Moves.{sectors_or_none, object_in, listing_in, with_ma
 use Rattle.fc_image.proofs.FreeLemmas.{among_here, parts_of, fits_same}
 use Rattle.fc_image.proofs.KindLemmas.{boot_bytes}
 use Rattle.fc_image.proofs.StoredLemmas.{stored_tree}
-use Rattle.fc_image.proofs.HolesLemmas.{OpenMap, Each, EachListed, Lies, walk_lies, none_loose, loose_sectors, holes_loose, no_hole_in, apart_at, hole_write_law}
+use Rattle.fc_image.proofs.HolesLemmas.{OpenMap, Each, EachListed, Lies, walk_lies, none_loose, loose_sectors, holes_loose, no_hole_in, apart_at, hole_write_law, boot_apart_law}
 use Rattle.fc_image.proofs.MoveLemmas.{open_by, all_filter, unless, id_loose, fixed_stay, move_law, merge_law}
 
 -- ---- what is opened, by a map
@@ -256,7 +256,8 @@ then_law first second third kind r v m₀ m m' new valid e layout one two =
     }
 
 pub boot_stays_law : BootStaysLaw
-boot_stays_law image other r v m valid e layout apart len outside =
+boot_stays_law image other r v m valid e layout len outside =
+    let apart = boot_apart_law image (Boot r) v m e layout in
     let o = open_by image (Boot r) r v m refl valid e layout in
     let fits = (parts_of image (Boot r) v e).1.5 in
     let same : HasSectorsOf m.geometry.sector (boot_place (Boot r) m.geometry.sector) image other =

@@ -88,11 +88,16 @@ pub record StaysBy (kind : Kind) (image : List ℕ) (v : Opened) (m' : Map) (oth
   pub fixed_bytes : FixedBytesStay v.layout (objects_of v.listings) image other
   pub owned : (k : ℕ) → is_owned (objects_of (with_map m' v).listings) k ≡ is_owned (objects_of v.listings) k
 
--- The laws below take it that the second image passes the kind's own test. On a disc with a boot block it does, where no
--- sector of the boot block holds the map and the images differ only in the map and in holes.
+-- No sector of the boot block of an image that opens holds the map.
+abbrev pub BootApartLaw : Type 0
+BootApartLaw = (image : List ℕ) (kind : Kind) (v : Opened) (m : Map) → OpensAs image kind v → v.layout ≡ Layout.New m
+    → is_apart (boot_place kind m.geometry.sector) (map_sectors m.geometry) ≡ true
+
+-- The laws below take it that the second image passes the kind's own test. On a disc with a boot block it does, where the
+-- images differ only in the map and in holes.
 abbrev pub BootStaysLaw : Type 0
 BootStaysLaw = (image other : List ℕ) (r : DiscRecord) (v : Opened) (m : Map) → is_valid r ≡ true → OpensAs image (Boot r) v → v.layout ≡ Layout.New m
-    → is_apart (boot_place (Boot r) m.geometry.sector) (map_sectors m.geometry) ≡ true → length other ≡ length image
+    → length other ≡ length image
     → ((s : ℕ) → is_among (map_sectors m.geometry) s ≡ false → is_among (hole_sectors (Layout.New m)) s ≡ false
     → sector_at m.geometry.sector other s ≡ sector_at m.geometry.sector image s)
     → fits_kind other (Boot r) ≡ true

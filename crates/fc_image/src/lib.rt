@@ -7,7 +7,7 @@
 ghost use Rattle.fc_image.specs.Laws.{OpensLaw, WalkLaw};
 ghost use Rattle.fc_image.specs.Rows.{ImageRows};
 ghost use Rattle.fc_image.specs.Edits.{ApartLaw, EditLaw, PathsLaw, RoomLaw, StayLaw, WalkEditLaw, WalkFormLaw};
-ghost use Rattle.fc_image.specs.Moves.{BootStaysLaw, CarriedLaw, CarryLaw, CommitLaw, HoleStepLaw, KeepsObjectsLaw, MergeLaw, MoveLaw, ThenLaw, WholeLaw, WithMapLaw};
+ghost use Rattle.fc_image.specs.Moves.{BootApartLaw, BootStaysLaw, CarriedLaw, CarryLaw, CommitLaw, HoleStepLaw, KeepsObjectsLaw, MergeLaw, MoveLaw, ThenLaw, WholeLaw, WithMapLaw};
 ghost use Rattle.fc_image.specs.Stays.{FreeLaw, HoleWriteLaw, HolesLaw, StoredLaw};
 
 use fc_dirs::DirFault;
@@ -36,7 +36,7 @@ pub enum ImageFault {
     Place { path: Path },
     /// An object takes a sector that is taken already.
     Overlap { path: Path },
-    /// A sector of the map or of the boot block lies in a hole or in an identifier that may move.
+    /// A sector of the map or of the boot block lies in a hole or in an identifier that may move, or is of both.
     MapPlace { sector: u64 },
 }
 
@@ -73,6 +73,11 @@ pub fn holes()
 /// What is written into holes leaves the image as it opens.
 pub fn hole_writes()
     ensures { HoleWriteLaw }
+{}
+
+/// No sector of a boot block holds the map.
+pub fn boot_apart()
+    ensures { BootApartLaw }
 {}
 
 /// A disc with a boot block keeps its kind, where only the map and holes change.
