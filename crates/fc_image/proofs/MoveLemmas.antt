@@ -11,7 +11,7 @@ use Rattle.fc_record.specs.declared.DiscRecord.{DiscRecord}
 use Rattle.fc_record.specs.declared.Geometry.{Geometry}
 use Rattle.fc_record.specs.declared.Kind.{Kind}
 use Rattle.fc_record.specs.declared.Kind.TheVariants.{Boot, OneZone, DiscD, DiscL}
-use Rattle.fc_record.specs.Record.{geometry, is_valid, id_limit}
+use Rattle.fc_record.specs.Record.{geometry, id_limit}
 use Rattle.fc_record.specs.Kinds.{map_record, fits_kind}
 use Rattle.fc_zone.specs.declared.RunKind.{RunKind}
 use Rattle.fc_zone.specs.declared.RunKind.TheVariants as kinds
@@ -225,9 +225,9 @@ sectors_carry m m' f e ids a n xs h =
 
 -- ---- the law
 
-pub open_by : (image : List ℕ) (kind : Kind) (r : DiscRecord) (v : Opened) (m : Map) → IsNewKind kind r → is_valid r ≡ true → OpensAs image kind v → v.layout ≡ Layout.New m → OpenMap image kind r v m
-open_by image kind r v m new valid e layout =
-    let found = open_map image kind r v new valid e in
+pub open_by : (image : List ℕ) (kind : Kind) (r : DiscRecord) (v : Opened) (m : Map) → IsNewKind kind r → OpensAs image kind v → v.layout ≡ Layout.New m → OpenMap image kind r v m
+open_by image kind r v m new e layout =
+    let found = open_map image kind r v new e in
     subst (OpenMap image kind r v) (new_same found.0 m (sym found.1.layout ∙ layout)) found.1
   where
     new_same : (a b : Map) → Layout.New a ≡ Layout.New b → a ≡ b
@@ -374,7 +374,10 @@ carry_core image other kind r v m zs f new fits o c =
     (λ x l. ap (λ (xs : Option (List ℕ)). let y : Object = record x { sectors = sectors_or_none xs } in y) (sect x.entry.address (object_size (dir_form (Layout.New m)) x.entry) x.sectors l.placed).0)
     v.listings lies in
     let opens' : OpensAs other kind (with_map m' v) =
-    opened ∙ ap₂ (λ (k : Kind) (ls : List Listing). let q : Result Opened ImageFault = Ok (record { kind = k; layout = Layout.New m'; listings = ls }) in q) (sym o.kind_is) (sym same_listings) in
+    record {
+      kind_right = o.kind_right;
+      opened = opened ∙ ap₂ (λ (k : Kind) (ls : List Listing). let q : Result Opened ImageFault = Ok (record { kind = k; layout = Layout.New m'; listings = ls }) in q) (sym o.kind_is) (sym same_listings);
+    } in
     let same_stored : map (stored_object other (Layout.New m')) (objects_of (map (carry_listing f) v.listings)) ≡ map (stored_object image (Layout.New m)) objects =
     ap (map (stored_object other (Layout.New m'))) same_objects
     ∙ stored_carry image other m m' f objects
@@ -396,10 +399,10 @@ carry_core image other kind r v m zs f new fits o c =
     }
 
 pub carry_law : CarryLaw
-carry_law image other kind r v m m' f new valid e fits layout c =
+carry_law image other kind r v m m' f new e fits layout c =
     let back : at_zones m m'.zones ≡ m' = λ i. record { geometry = sym c.turns.geometry_stays i; zones = m'.zones } in
     subst (λ (n : Map). StaysBy kind image v n other) back
-    (carry_core image other kind r v m m'.zones f new fits (open_by image kind r v m new valid e layout)
+    (carry_core image other kind r v m m'.zones f new fits (open_by image kind r v m new e layout)
     (subst (λ (n : Map). Carries m n (objects_of v.listings) image other f) (sym back) c))
 
 -- ---- one identifier, and none
@@ -441,9 +444,9 @@ move_core image other kind r v m zs id new o c =
     }
 
 pub move_law : MoveLaw
-move_law image other kind r v m m' id new valid e fits layout c =
+move_law image other kind r v m m' id new e fits layout c =
     let back : at_zones m m'.zones ≡ m' = λ i. record { geometry = sym c.turns.geometry_stays i; zones = m'.zones } in
-    let o = open_by image kind r v m new valid e layout in
+    let o = open_by image kind r v m new e layout in
     subst (λ (n : Map). StaysBy kind image v n other) back
     (carry_core image other kind r v m m'.zones (moved_to (id_sectors m id) (id_sectors (at_zones m m'.zones) id)) new fits o
     (move_core image other kind r v m m'.zones id new o (subst (λ (n : Map). MovesOne m n (objects_of v.listings) id image other) (sym back) c)))
@@ -452,9 +455,9 @@ map_same_list : (xs : List ℕ) → map (λ s. s) xs ≡ xs
 map_same_list xs = map_fixed (λ s. s) xs (λ s i. refl)
 
 pub merge_law : MergeLaw
-merge_law image other kind r v m m' new valid e fits layout c =
-    let o = open_by image kind r v m new valid e layout in
-    carry_law image other kind r v m m' (λ s. s) new valid e fits layout
+merge_law image other kind r v m m' new e fits layout c =
+    let o = open_by image kind r v m new e layout in
+    carry_law image other kind r v m m' (λ s. s) new e fits layout
     (record {
       turns = c.turns;
       fixed = c.fixed;
