@@ -127,17 +127,15 @@ new_size (OneZone s) r is = ap (λ (t : DiscRecord). t.size) is
 new_size DiscD r is = absurd is
 new_size (DiscL units) r is = absurd is
 
-pub is_map_of : (image : List ℕ) (r : DiscRecord) (w : Which) → first_fault (geometry r) (zip (zone_numbers (geometry r)) (copy_of (geometry r) w image)) ≡ None
+pub is_map_of : (image : List ℕ) (r : DiscRecord) (w : Which) → ValidFacts r → r.size ≤ length image
+    → first_fault (geometry r) (zip (zone_numbers (geometry r)) (copy_of (geometry r) w image)) ≡ None
     → IsMap (record { geometry = geometry r; zones = copy_of (geometry r) w image })
-is_map_of image r w right = map_of_no_fault (record { geometry = geometry r; zones = copy_of (geometry r) w image }) (length-copy (geometry r) w image) right
+is_map_of image r w is long right =
+    map_of_no_fault (record { geometry = geometry r; zones = copy_of (geometry r) w image }) (length-copy (geometry r) w image) (copy_sectors r w image is long) right
 
-pub has_zones : (image : List ℕ) (kind : Kind) (r : DiscRecord) (w : Which) → IsNewKind kind r → ValidFacts r → disc_size kind ≤ length image
-    → IsMap (record { geometry = geometry r; zones = copy_of (geometry r) w image })
-    → HasZones (record { geometry = geometry r; zones = copy_of (geometry r) w image })
-has_zones image kind r w new is long right =
-    let size = new_size kind r new in
-    zones_of_map (record { geometry = geometry r; zones = copy_of (geometry r) w image }) right
-    (λ z low. let len = copy_sectors r w image is (omega arith) z low in let within = zone_within r is z low in omega arith)
+pub zones_of_valid : (r : DiscRecord) (zones : List (List ℕ)) → ValidFacts r → IsMap (record { geometry = geometry r; zones = zones })
+    → HasZones (record { geometry = geometry r; zones = zones })
+zones_of_valid r zones is right = zones_of_map (record { geometry = geometry r; zones = zones }) right (zone_within r is)
 
 -- ---- an opened image with a new map
 
@@ -191,7 +189,8 @@ open_map image kind r v new e =
     let g = geometry r in
     let m : Map = record { geometry = g; zones = copy_of g f.which image } in
     let facts = facts_of_valid r valid in
-    let right = is_map_of image r f.which f.right in
+    let size = new_size kind r new in
+    let right = is_map_of image r f.which facts (omega (arith, p.1.0)) f.right in
     let placed = none_least (filter (is_among (loose_sectors m (objects_of v.listings))) (reserved_in kind (Layout.New m))) (filter (is_among (map_sectors g)) (boot_place kind g.sector))
     (subst (λ (q : MapAndRoot). misplaced_sector kind q.0 (objects_of v.listings) ≡ None) (sym f.is) p.1.3) in (
       m,
@@ -203,7 +202,7 @@ open_map image kind r v new e =
         facts = facts;
         shape = geometry_of_valid r valid;
         map_is = right;
-        zones = has_zones image kind r f.which new facts p.1.0 right;
+        zones = zones_of_valid r (copy_of g f.which image) facts right;
         some = facts.zones;
         root = f.own.root;
         size = f.own.root_size;

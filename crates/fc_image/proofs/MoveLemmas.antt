@@ -20,6 +20,7 @@ use Rattle.fc_newmap.specs.RunsLaw.{IsGeometry, HasZones, HoldsSector}
 use Rattle.fc_newmap.proofs.RunsLemmas.{runs_apart}
 use Rattle.fc_newmap.proofs.PlaceLemmas.{in_front, in_back, holder_of, held_in, filter_in, in_filter, id_run_in, in_id_runs}
 use Rattle.fc_newmap.proofs.CoverLemmas.{id_Distinct, run_there}
+use Rattle.fc_newmap.proofs.GeometryLemmas.{ValidFacts}
 use Rattle.fc_newmap.proofs.MapLemmas.{no_fault_of_map}
 use Rattle.fc_copies.specs.declared.Which.{Which}
 use Rattle.fc_copies.specs.Copies.{chosen, copy_of, Chooses}
@@ -36,7 +37,7 @@ use Rattle.fc_image.specs.Moves.{sectors_or_none, object_in, listing_in, with_ma
 use Rattle.fc_image.proofs.WalkLemmas.{walk-Tells, open_as-spelled}
 use Rattle.fc_image.proofs.FreeLemmas.{layout_by, layout_is}
 use Rattle.fc_image.proofs.StoredLemmas.{stored_tree}
-use Rattle.fc_image.proofs.HolesLemmas.{OpenMap, open_map, has_zones, Each, EachListed, Each-objects, Lies, Has, lies_step, walk_lies, in_id, id_no_hole, apart_at, none_loose, loose_sectors, least_none, holes_loose}
+use Rattle.fc_image.proofs.HolesLemmas.{OpenMap, open_map, zones_of_valid, Each, EachListed, Each-objects, Lies, Has, lies_step, walk_lies, in_id, id_no_hole, apart_at, none_loose, loose_sectors, least_none, holes_loose}
 use Rattle.fc_image.proofs.RemapLemmas.{moved_to, map_fixed, moved_out, moved_in, map_moved, moved_apart, first_same, carry, carry_listing, carry_walk, AllIn}
 
 pub unless : (b : Bool) → (b ≡ true → ⊥) → b ≡ false
@@ -257,16 +258,10 @@ found_new image other kind r v m zs new o0 o t =
     ∙ ap₂ (λ (g : Geometry) (p : ℕ × ℕ). let q : Result MapAndRoot ImageFault = Ok (Layout.New (record { geometry = g; zones = zs }), p.0, p.1) in q) (sym o.geometry_is)
     (ap (λ (q : MapAndRoot). let p : ℕ × ℕ = (q.1, q.2) in p) fm.is)
 
-zones_new : (image other : List ℕ) (kind : Kind) (r : DiscRecord) (v : Opened) (m : Map) (zs : List (List ℕ)) → IsNewKind kind r → OpenMap image kind r v m
-    → Turns m (at_zones m zs) image other → HasZones (at_zones m zs)
-zones_new image other kind r v m zs new o t =
-    let ch : Chooses (geometry r) zs other = subst (λ (g : Geometry). Chooses g zs other) o.geometry_is t.chosen_map in
-    let is : IsMap (record { geometry = geometry r; zones = zs }) = subst (λ (g : Geometry). IsMap (record { geometry = g; zones = zs })) o.geometry_is t.is_map in
-    let long = o.long in
-    let len = t.length_stays in
-    let has = has_zones other kind r ch.which new o.facts (omega arith) (subst (λ (z : List (List ℕ)). IsMap (record { geometry = geometry r; zones = z })) (sym ch.content) is) in
-    let back : HasZones (record { geometry = geometry r; zones = zs }) = subst (λ (z : List (List ℕ)). HasZones (record { geometry = geometry r; zones = z })) ch.content has in
-    subst (λ (g : Geometry). HasZones (record { geometry = g; zones = zs })) (sym o.geometry_is) back
+zones_new : (r : DiscRecord) (m : Map) (zs : List (List ℕ)) → ValidFacts r → m.geometry ≡ geometry r → IsMap (at_zones m zs) → HasZones (at_zones m zs)
+zones_new r m zs facts at is =
+    subst (λ (g : Geometry). HasZones (record { geometry = g; zones = zs })) (sym at)
+    (zones_of_valid r zs facts (subst (λ (g : Geometry). IsMap (record { geometry = g; zones = zs })) at is))
 
 not_fixed : (objects : List Object) (k : ℕ) → is_fixed objects k ≡ true → is_movable objects k ≡ false
 not_fixed objects k e = by (k == 1) (k == 2) (list_any (is_owner_of k) objects) (nat_le 3 k) refl refl refl e
@@ -325,7 +320,7 @@ carry_core image other kind r v m zs f new fits o c =
     let m' : Map = at_zones m zs in
     let t = c.turns in
     let objects = objects_of v.listings in
-    let has' = zones_new image other kind r v m zs new o t in
+    let has' = zones_new r m zs o.facts o.geometry_is t.is_map in
     let reserved = reserved_in kind (Layout.New m) in
     let D : ℕ → Type 0 = λ s. is_among (hole_sectors (Layout.New m)) s ≡ false in
     let size = m.geometry.sector in
@@ -418,7 +413,7 @@ move_core image other kind r v m zs id new o c =
     let m' : Map = at_zones m zs in
     let t = c.turns in
     let objects = objects_of v.listings in
-    let has' = zones_new image other kind r v m zs new o t in
+    let has' = zones_new r m zs o.facts o.geometry_is t.is_map in
     let size = m.geometry.sector in
     let holes = hole_sectors (Layout.New m) in
     let old = id_sectors m id in
