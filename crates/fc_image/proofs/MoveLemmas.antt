@@ -49,7 +49,7 @@ some_one a b e = cc
 
 -- ---- the new map is found
 
-found_with : (other : List ℕ) (r s : DiscRecord) (w : Which) (zones old : List (List ℕ)) → chosen (geometry r) other ≡ Ok w → copy_of (geometry r) w other ≡ zones
+pub found_with : (other : List ℕ) (r s : DiscRecord) (w : Which) (zones old : List (List ℕ)) → chosen (geometry r) other ≡ Ok w → copy_of (geometry r) w other ≡ zones
     → map_record (slice_index_or zones 0 []) ≡ map_record (slice_index_or old 0 [])
     → agreement r (map_record (slice_index_or old 0 [])) (difference r (map_record (slice_index_or old 0 []))) ≡ Ok s
     → first_fault (geometry r) (zip (zone_numbers (geometry r)) zones) ≡ None
@@ -58,7 +58,7 @@ unfolding layout_by
 found_with other r s w zones old choice copy same agreed right =
     rw (choice, copy, ap (λ (t : DiscRecord). agreement r t (difference r t)) same ∙ agreed, right) refl
 
-found_kind : (other : List ℕ) (kind : Kind) (r : DiscRecord) (found : MapAndRoot) → IsNewKind kind r
+pub found_kind : (other : List ℕ) (kind : Kind) (r : DiscRecord) (found : MapAndRoot) → IsNewKind kind r
     → layout_by r (chosen (geometry r) other) (λ w. copy_of (geometry r) w other) ≡ Ok found → map_and_root other kind ≡ Ok found
 found_kind other (Boot s) r found new e = layout_is other s ∙ subst (λ (t : DiscRecord). layout_by t (chosen (geometry t) other) (λ w. copy_of (geometry t) w other) ≡ Ok found) (sym new) e
 found_kind other (OneZone s) r found new e = layout_is other s ∙ subst (λ (t : DiscRecord). layout_by t (chosen (geometry t) other) (λ w. copy_of (geometry t) w other) ≡ Ok found) (sym new) e

@@ -4,7 +4,7 @@
 //! Source: the RISC OS PRM, chapter FileCore.
 #![tactic(auto)]
 
-ghost use Rattle.fc_image.specs.Laws.{OpensLaw, WalkLaw};
+ghost use Rattle.fc_image.specs.Laws.{AcceptedLaw, LaterOpeningLaw, OpensLaw, WalkLaw};
 ghost use Rattle.fc_image.specs.Rows.{ImageRows};
 ghost use Rattle.fc_image.specs.Edits.{ApartLaw, EditLaw, PathsLaw, RoomLaw, StayLaw, WalkEditLaw, WalkFormLaw};
 ghost use Rattle.fc_image.specs.Moves.{BootApartLaw, BootStaysLaw, CarriedLaw, CarryLaw, CommitLaw, HoleStepLaw, KeepsObjectsLaw, MergeLaw, MoveLaw, ThenLaw, WholeLaw, WithMapLaw};
@@ -53,6 +53,16 @@ pub fn walking()
 /// An image opens where its parts are right and its bytes spell them.
 pub fn opens()
     ensures { OpensLaw }
+{}
+
+/// An image that is accepted opens as its own kind.
+pub fn accepted()
+    ensures { AcceptedLaw }
+{}
+
+/// Opening an image by itself gives what opening it as a kind gives, where no earlier kind fits.
+pub fn opened_again()
+    ensures { LaterOpeningLaw }
 {}
 
 /// What lies outside the map and all objects counts for nothing.
