@@ -13,7 +13,7 @@ use Rattle.fc_record.specs.declared.Geometry.{Geometry}
 use Rattle.fc_record.specs.declared.Kind.{Kind}
 use Rattle.fc_record.specs.declared.Kind.TheVariants.{Boot, OneZone, DiscD, DiscL}
 use Rattle.fc_record.specs.Record.{geometry, record_fault, is_valid}
-use Rattle.fc_record.specs.Kinds.{disc_size, map_record, IsKind}
+use Rattle.fc_record.specs.Kinds.{disc_size, map_record, fits_kind, IsKind}
 use Rattle.fc_zone.specs.declared.ZoneFault.{ZoneFault}
 use Rattle.fc_zone.specs.declared.RunKind.{RunKind}
 use Rattle.fc_zone.specs.declared.RunKind.TheVariants as kinds
@@ -176,6 +176,7 @@ pub record OpenMap (image : List ℕ) (kind : Kind) (r : DiscRecord) (v : Opened
   pub size : ℕ
   pub found : map_and_root image kind ≡ Ok (Layout.New m, root, size)
   pub found_map : FoundMap image r (Layout.New m, root, size)
+  pub fits : fits_kind image kind ≡ true
   pub long : disc_size kind ≤ length image
   pub walked : walk (reader_of image (Layout.New m)) (Layout.New m) (reserved_in kind (Layout.New m)) root size ≡ Ok v.listings
   pub tight : least_of (filter (is_among (loose_sectors m (objects_of v.listings))) (reserved_in kind (Layout.New m))) ≡ None
@@ -208,6 +209,7 @@ open_map image kind r v new e =
         size = f.own.root_size;
         found = p.1.1 ∙ ap (λ (q : MapAndRoot). let a : Result MapAndRoot ImageFault = Ok q in a) (sym f.is);
         found_map = subst (λ (q : MapAndRoot). FoundMap image r q) (sym f.is) f;
+        fits = p.1.5;
         long = p.1.0;
         walked = subst (λ (q : MapAndRoot). walk (reader_of image q.0) q.0 (reserved_in kind q.0) q.1 q.2 ≡ Ok v.listings) (sym f.is) p.1.2;
         tight = placed.0;

@@ -1,11 +1,10 @@
 -- That a later opening by itself takes the kind as which an image opens.
-use Rattle.std.proofs.Common.{◌≡◌, ◌≤◌, ℕ, ◌+◌, ◌^◌, Bool, true, false, cond, List, [], ◌∷◌, length, map, refl, sym, ap, ap₂, subst, ◌∙◌, arith, Option, Some, None}
-use Rattle.std.specs.Prelude.{Result, Ok, Err, nat_le, ◌==◌, ◌&&◌, ◌||◌, slice_index, slice_index_or, is_none}
-use Rattle.std.specs.List.{range_with_len, list_all, zip}
+use Rattle.std.proofs.Common.{◌≡◌, ◌≤◌, ℕ, Bool, true, false, cond, List, [], ◌∷◌, length, refl, sym, ap, ap₂, subst, ◌∙◌, Option, Some, None}
+use Rattle.std.specs.Prelude.{Result, Ok, nat_le, ◌==◌, ◌&&◌, ◌||◌, slice_index, slice_index_or, is_none}
+use Rattle.std.specs.List.{zip}
 use Rattle.std.specs.Int.{is_in_range}
-use Rattle.std.specs.Int.Bits.{xor_zero_l}
 use Rattle.std.specs.Str.{bytes_eq}
-use Rattle.std.proofs.lemmas.Bool.{eqb-true, eq-eqb, leb-true}
+use Rattle.std.proofs.lemmas.Bool.{eqb-true, leb-true}
 use Rattle.std.proofs.lemmas.Slice.Eq.{bytes_eq-Decides}
 use Rattle.fc_bytes.specs.Words.{bytes_at}
 use Rattle.fc_device.specs.Sectors.{sector_at}
@@ -16,122 +15,26 @@ use Rattle.fc_record.specs.declared.RecordFault.{RecordFault}
 use Rattle.fc_record.specs.declared.Kind.{Kind}
 use Rattle.fc_record.specs.declared.Kind.TheVariants.{Boot, OneZone, DiscD, DiscL}
 use Rattle.fc_record.specs.Record.{record_of, geometry, record_fault, is_valid, IsRecord}
-use Rattle.fc_record.specs.Kinds.{IsKind, boot_block, boot_record, map_record, is_boot, is_whole_map, is_one_zone, is_old_map, old_units, kind_of, fits_kind, disc_size, looks_earlier}
-use Rattle.fc_newmap.specs.Map.{Map, first_fault, zone_numbers}
+use Rattle.fc_record.specs.Kinds.{IsKind, boot_block, boot_record, map_record, is_boot, is_whole_map, is_old_map, old_units, kind_of, looks_earlier}
+use Rattle.fc_newmap.specs.Map.{first_fault, zone_numbers}
 use Rattle.fc_copies.specs.declared.Which.{Which}
 use Rattle.fc_copies.specs.declared.Which.TheVariants.{One, Two}
-use Rattle.fc_copies.specs.Copies.{copy_start, copy_of, is_check_right, is_sound, chosen, unsound_zone}
-use Rattle.fc_newmap.proofs.GeometryLemmas.{ValidFacts, facts_of_valid}
+use Rattle.fc_copies.specs.Copies.{copy_of, is_check_right, is_sound, chosen}
+use Rattle.fc_newmap.proofs.GeometryLemmas.{facts_of_valid}
 use Rattle.fc_image.specs.declared.ImageFault.{ImageFault}
 use Rattle.fc_image.specs.Layout.{Layout}
-use Rattle.fc_image.specs.Walk.{Object, Listing, reader_of, walk}
+use Rattle.fc_image.specs.Walk.{Object, reader_of, walk}
 use Rattle.fc_image.specs.Objects.{objects_of}
-use Rattle.fc_image.specs.Opening.{Opened, MapAndRoot, map_and_root, agreement, difference, reserved_in, misplaced_sector, open_as, open_as_some, open_image}
+use Rattle.fc_image.specs.Opening.{Opened, MapAndRoot, map_and_root, agreement, difference, reserved_in, misplaced_sector, open_as_some, open_image}
 use Rattle.fc_image.specs.Stays.{OpensAs}
 use Rattle.fc_image.specs.Laws.{AcceptedLaw, LaterOpeningLaw}
 use Rattle.fc_image.proofs.WalkLemmas.{walk-Tells, open_as-spelled}
 use Rattle.fc_image.proofs.FreeLemmas.{parts_of}
-use Rattle.fc_image.proofs.KindLemmas.{first_place, second_place, map_at_front}
-use Rattle.fc_image.proofs.HolesLemmas.{FoundMap, found_map, copy_sectors, valid_of}
+use Rattle.fc_image.proofs.KindLemmas.{first_place, second_place}
+use Rattle.fc_image.proofs.HolesLemmas.{found_map, valid_of}
+use Rattle.fc_image.proofs.OneZoneLemmas.{and_first, and_second, place, one_copy, whole_sound, SaysOf, choice_says, one_whole, zone_fits}
 use Rattle.fc_image.proofs.MoveLemmas.{found_with, found_kind}
-use Rattle.fc_image.proofs.RecordLemmas.{Agreed, agreed_valid, agreed_own, agrees_itself}
-
-and_first : (a b : Bool) → (a && b) ≡ true → a ≡ true
-and_first true b e = refl
-and_first false b e = absurd (cc)
-
-and_second : (a b : Bool) → (a && b) ≡ true → b ≡ true
-and_second true b e = e
-and_second false b e = absurd (cc)
-
-both : (a b : Bool) → a ≡ true → b ≡ true → (a && b) ≡ true
-both true b e f = f
-both false b e f = absurd (cc)
-
--- ---- the map of one zone
-
--- where a copy of one zone stands
-place : Which → ℕ
-place One = 0
-place Two = 1
-
-copy_by : ℕ → ℕ → ℕ → Which → List ℕ → List (List ℕ)
-copy_by sector start zones One image = map (sector_at sector image) (range_with_len start zones)
-copy_by sector start zones Two image = map (sector_at sector image) (range_with_len (start + zones) zones)
-
-copy_is_by : (g : Geometry) (w : Which) (image : List ℕ) → copy_of g w image ≡ copy_by g.sector g.map_sector g.zones w image
-unfolding copy_by
-copy_is_by g One image = refl
-copy_is_by g Two image = refl
-
-copy_at_front : (w : Which) (image : List ℕ) → copy_by 1024 0 1 w image ≡ sector_at 1024 image (place w) ∷ []
-unfolding copy_by place
-copy_at_front One image = refl
-copy_at_front Two image = refl
-
--- a copy of one zone is one sector
-one_copy : (r : DiscRecord) (w : Which) (image : List ℕ) → r.log2_sector ≡ 10 → r.zones ≡ 1 → copy_of (geometry r) w image ≡ sector_at 1024 image (place w) ∷ []
-one_copy r w image size one =
-    copy_is_by (geometry r) w image
-    ∙ ap₂ (λ (a b : ℕ). copy_by a b r.zones w image) (ap (λ (n : ℕ). 2 ^ n) size) (map_at_front r one)
-    ∙ ap (λ (n : ℕ). copy_by 1024 0 n w image) one
-    ∙ copy_at_front w image
-
--- ---- whole maps
-
-cross_one : (z : List ℕ) → is_sound (z ∷ []) ≡ ((is_check_right z && true) && (slice_index z 3 == 255))
-unfolding is_sound
-cross_one z = ap (λ (n : ℕ). (is_check_right z && true) && (n == 255)) (xor_zero_l (slice_index z 3))
-
-pub whole_sound : (z : List ℕ) → is_whole_map z ≡ true → is_sound (z ∷ []) ≡ true
-whole_sound z e = cross_one z ∙ by (length z == 1024) (is_check_right z) (slice_index z 3 == 255) (is_valid (map_record z)) ((map_record z).log2_sector == 10) ((map_record z).zones == 1) e
-  where
-    by : (a b c d f g : Bool) → (a && b && c && d && f && g) ≡ true → ((b && true) && c) ≡ true
-    by true true true d f g h = refl
-    by true true false d f g h = absurd (cc)
-    by true false c d f g h = absurd (cc)
-    by false b c d f g h = absurd (cc)
-
-pub sound_whole : (z : List ℕ) → length z ≡ 1024 → is_sound (z ∷ []) ≡ true → record_fault (map_record z) ≡ None → (map_record z).log2_sector ≡ 10 → (map_record z).zones ≡ 1
-    → is_whole_map z ≡ true
-sound_whole z long sound valid size one =
-    by (length z == 1024) (is_check_right z) (slice_index z 3 == 255) (is_valid (map_record z)) ((map_record z).log2_sector == 10) ((map_record z).zones == 1)
-    (eq-eqb (length z) 1024 long) (sym (cross_one z) ∙ sound) (ap is_none valid) (eq-eqb _ 10 size) (eq-eqb _ 1 one)
-  where
-    by : (a b c d f g : Bool) → a ≡ true → ((b && true) && c) ≡ true → d ≡ true → f ≡ true → g ≡ true → (a && b && c && d && f && g) ≡ true
-    by true true true true true true h i j k l = refl
-    by true true true true true false h i j k l = absurd (cc)
-    by true true true true false g h i j k l = absurd (cc)
-    by true true true false f g h i j k l = absurd (cc)
-    by true true false d f g h i j k l = absurd (cc)
-    by true false c d f g h i j k l = absurd (cc)
-    by false b c d f g h i j k l = absurd (cc)
-
--- ---- which copy was chosen
-
-abbrev Choice : Geometry → List ℕ → Bool → Bool → Result Which (ℕ × ℕ)
-Choice g image a b = cond a (Ok One) (cond b (Ok Two) (Err (unsound_zone (copy_of g One image), unsound_zone (copy_of g Two image))))
-
--- what a choice says of both copies
-abbrev SaysOf : List ℕ → Geometry → Which → Type 0
-SaysOf image g One = is_sound (copy_of g One image) ≡ true
-SaysOf image g Two = (is_sound (copy_of g One image) ≡ false) × (is_sound (copy_of g Two image) ≡ true)
-
-choice_says : (g : Geometry) (image : List ℕ) (w : Which) → chosen g image ≡ Ok w → SaysOf image g w
-unfolding chosen
-choice_says g image w e = by (is_sound (copy_of g One image)) (is_sound (copy_of g Two image)) refl refl e
-  where
-    which_ok : (x y : Which) → (let q : Result Which (ℕ × ℕ) = Ok x in q) ≡ Ok y → x ≡ y
-    which_ok x y h = cc
-
-    by : (a b : Bool) → is_sound (copy_of g One image) ≡ a → is_sound (copy_of g Two image) ≡ b → Choice g image a b ≡ Ok w → SaysOf image g w
-    by true b s t h = subst (SaysOf image g) (which_ok One w h) s
-    by false true s t h = subst (SaysOf image g) (which_ok Two w h) (s, t)
-    by false false s t h = absurd (cc)
-
-says_sound : (image : List ℕ) (g : Geometry) (w : Which) → SaysOf image g w → is_sound (copy_of g w image) ≡ true
-says_sound image g One s = s
-says_sound image g Two s = s.1
+use Rattle.fc_image.proofs.RecordLemmas.{agrees_itself}
 
 -- ---- the kind that is found
 
@@ -150,7 +53,6 @@ kind_by image boot first second discd discl a b c d e = λ i. KindChoice (a i) (
 -- the kind of an image with one zone is that of the copy that counts
 zone_kind : (image : List ℕ) (g : Geometry) (w : Which) → is_boot image ≡ false → ((x : Which) → copy_of g x image ≡ sector_at 1024 image (place x) ∷ []) → SaysOf image g w
     → is_whole_map (sector_at 1024 image (place w)) ≡ true → kind_of image ≡ Some (OneZone (map_record (sector_at 1024 image (place w))))
-unfolding place
 zone_kind image g One boot copy says whole =
     kind_by image false true _ _ _ boot (ap is_whole_map (first_place image) ∙ whole) refl refl refl ∙ ap (λ (z : List ℕ). Some (OneZone (map_record z))) (first_place image)
 zone_kind image g Two boot copy says whole =
@@ -164,24 +66,28 @@ zone_kind image g Two boot copy says whole =
         let not_sound = says.0 in
         cc)
 
--- ---- one zone
+-- ---- the records of kinds
 
--- the sector that counts is a whole map, whose record agrees with the kind's
-one_whole : (image : List ℕ) (r own : DiscRecord) (w : Which) → IsKind (OneZone r) → ValidFacts r → r.size ≤ length image → chosen (geometry r) image ≡ Ok w
-    → agreement r (map_record (slice_index_or (copy_of (geometry r) w image) 0 [])) (difference r (map_record (slice_index_or (copy_of (geometry r) w image) 0 []))) ≡ Ok own
-    → (is_whole_map (sector_at 1024 image (place w)) ≡ true) × Agreed r (map_record (sector_at 1024 image (place w))) × (map_record (sector_at 1024 image (place w)) ≡ own)
-one_whole image r own w kind facts long choice agreed =
-    let z = sector_at 1024 image (place w) in
-    let s = map_record z in
-    let copy = one_copy r w image kind.1 kind.2 in
-    let agreed' : agreement r s (difference r s) ≡ Ok own = subst (λ (zs : List (List ℕ)). agreement r (map_record (slice_index_or zs 0 [])) (difference r (map_record (slice_index_or zs 0 []))) ≡ Ok own) copy agreed in
-    let a = agreed_valid r s own kind.0.from_raw refl kind.0.valid agreed' in
-    let zones = facts.zones in
-    let whole : length z ≡ 1024 = ap (λ (zs : List (List ℕ)). length (slice_index_or zs 0 [])) (sym copy) ∙ copy_sectors r w image facts long 0 (omega arith) ∙ ap (λ (n : ℕ). 2 ^ n) kind.1 in
-    let sound : is_sound (z ∷ []) ≡ true = ap is_sound (sym copy) ∙ says_sound image (geometry r) w (choice_says (geometry r) image w choice) in
-    let size : s.log2_sector ≡ 10 = ap (λ (t : DiscRecord). t.log2_sector) a.same ∙ kind.1 in
-    let one : s.zones ≡ 1 = ap (λ (t : DiscRecord). t.zones) a.same ∙ kind.2 in
-    (sound_whole z whole sound a.valid size one, a, agreed_own r s own (difference r s) agreed')
+none_is : (o : Option RecordFault) → is_none o ≡ true → o ≡ None
+none_is None e = refl
+none_is (Some fault) e = absurd (cc)
+
+valid_record : (xs : List ℕ) → is_valid (record_of xs) ≡ true → IsRecord (record_of xs)
+valid_record xs e = record { from_raw = refl; valid = none_is (record_fault (record_of xs)) e }
+
+whole_kind : (z : List ℕ) → is_whole_map z ≡ true → IsKind (OneZone (map_record z))
+whole_kind z e =
+    let r = map_record z in
+    let size : Bool = r.log2_sector == 10 in
+    let one : Bool = r.zones == 1 in
+    let front : Bool = (length z == 1024) && is_check_right z && (slice_index z 3 == 255) in
+    let rest = and_first (front && is_valid r && size) one e in (
+      valid_record (bytes_at z 4 60) (and_second front (is_valid r) (and_first (front && is_valid r) size rest)),
+      eqb-true r.log2_sector 10 (and_second (front && is_valid r) size rest),
+      eqb-true r.zones 1 (and_second (front && is_valid r && size) one e),
+    )
+
+-- ---- one zone
 
 reserved_zone : (r s : DiscRecord) (l : Layout) → reserved_in (OneZone r) l ≡ reserved_in (OneZone s) l
 reserved_zone r s (Layout.Old space) = refl
@@ -190,15 +96,6 @@ reserved_zone r s (Layout.New m) = refl
 misplaced_zone : (r s : DiscRecord) (l : Layout) (objects : List Object) → misplaced_sector (OneZone s) l objects ≡ misplaced_sector (OneZone r) l objects
 misplaced_zone r s (Layout.Old space) objects = refl
 misplaced_zone r s (Layout.New m) objects = refl
-
-either : (w : Which) (image : List ℕ) → is_whole_map (sector_at 1024 image (place w)) ≡ true → is_one_zone image ≡ true
-unfolding place
-either One image e = ap (λ (z : List ℕ). is_whole_map z || is_whole_map (bytes_at image 1024 1024)) (first_place image) ∙ ap (λ (b : Bool). b || is_whole_map (bytes_at image 1024 1024)) e
-either Two image e = by (is_whole_map (bytes_at image 0 1024)) (is_whole_map (bytes_at image 1024 1024)) (ap is_whole_map (second_place image) ∙ e)
-  where
-    by : (a b : Bool) → b ≡ true → (a || b) ≡ true
-    by true b h = refl
-    by false b h = h
 
 abbrev Later : List ℕ → Opened → Type 0
 Later image v = (w : Opened) × (open_image image ≡ Ok w) × (w.layout ≡ v.layout) × (w.listings ≡ v.listings)
@@ -227,12 +124,8 @@ later_zone image r v e boot =
     found_s
     ∙ ap₂ (λ (g : Geometry) (t : DiscRecord). let q : Result MapAndRoot ImageFault = Ok (Layout.New (record { geometry = g; zones = zones }), t.root, t.root_size) in q) same a.2
     ∙ ap (λ (q : MapAndRoot). let x : Result MapAndRoot ImageFault = Ok q in x) f.is in
-    let size : s.log2_sector ≡ 10 = ap (λ (t : DiscRecord). t.log2_sector) a.1.same ∙ e.kind_right.1 in
-    let one : s.zones ≡ 1 = ap (λ (t : DiscRecord). t.zones) a.1.same ∙ e.kind_right.2 in
-    let fits : fits_kind image (OneZone s) ≡ true =
-    both (is_one_zone image) (is_valid s && (s.log2_sector == 10) && (s.zones == 1)) (either w image a.0)
-    (both (is_valid s && (s.log2_sector == 10)) (s.zones == 1) (both (is_valid s) (s.log2_sector == 10) (ap is_none a.1.valid) (eq-eqb _ 10 size)) (eq-eqb _ 1 one)) in
     let long : s.size ≤ length image = subst (λ (t : DiscRecord). t.size ≤ length image) (sym a.1.same) p.1.0 in
+    let fits = zone_fits image s p.0 (whole_kind z a.0) long found in
     let walked : walk (reader_of image p.0.0) p.0.0 (reserved_in (OneZone s) p.0.0) p.0.1 p.0.2 ≡ Ok v.listings =
     subst (λ (xs : List ℕ). walk (reader_of image p.0.0) p.0.0 xs p.0.1 p.0.2 ≡ Ok v.listings) (reserved_zone r s p.0.0) p.1.2 in
     let opened = open_as-spelled image (OneZone s) p.0.0 p.0.1 p.0.2 (reader_of image p.0.0) v.listings fits long found walked
@@ -294,25 +187,6 @@ later_opening_law image DiscD v e earlier = later_d image v e earlier
 later_opening_law image (DiscL units) v e earlier = later_l image units v e earlier
 
 -- ---- accepted images
-
-none_is : (o : Option RecordFault) → is_none o ≡ true → o ≡ None
-none_is None e = refl
-none_is (Some fault) e = absurd (cc)
-
-valid_record : (xs : List ℕ) → is_valid (record_of xs) ≡ true → IsRecord (record_of xs)
-valid_record xs e = record { from_raw = refl; valid = none_is (record_fault (record_of xs)) e }
-
-whole_kind : (z : List ℕ) → is_whole_map z ≡ true → IsKind (OneZone (map_record z))
-whole_kind z e =
-    let r = map_record z in
-    let size : Bool = r.log2_sector == 10 in
-    let one : Bool = r.zones == 1 in
-    let front : Bool = (length z == 1024) && is_check_right z && (slice_index z 3 == 255) in
-    let rest = and_first (front && is_valid r && size) one e in (
-      valid_record (bytes_at z 4 60) (and_second front (is_valid r) (and_first (front && is_valid r) size rest)),
-      eqb-true r.log2_sector 10 (and_second (front && is_valid r) size rest),
-      eqb-true r.zones 1 (and_second (front && is_valid r && size) one e),
-    )
 
 kind_right : (image : List ℕ) (kind : Kind) → kind_of image ≡ Some kind → IsKind kind
 kind_right image kind e =

@@ -1,13 +1,12 @@
 -- Records that agree in the compared bytes: one is valid where the other is and its own root is right, with one geometry.
-use Rattle.std.proofs.Common.{◌≡◌, ℕ, ◌+◌, ◌*◌, ◌%◌, ◌^◌, Bool, true, false, cond, List, [], ◌∷◌, refl, sym, ap, ap₂, ◌∙◌, subst, Option, Some, None, drop}
+use Rattle.std.proofs.Common.{◌≡◌, ℕ, ◌+◌, ◌*◌, ◌^◌, Bool, true, false, cond, List, [], ◌∷◌, refl, sym, ap, ap₂, ◌∙◌, Option, Some, None}
 use Rattle.std.specs.Prelude.{Result, Ok, Err, not, ◌==◌, slice_index}
 use Rattle.std.specs.List.{find}
 use Rattle.std.proofs.lemmas.Bool.{eqb-true, eq-eqb}
 use Rattle.std.proofs.lemmas.List.{get_or-drop}
 use Rattle.fc_bytes.specs.Words.{u16_at, u32_at}
 use Rattle.fc_record.specs.declared.DiscRecord.{DiscRecord}
-use Rattle.fc_record.specs.declared.Geometry.{Geometry}
-use Rattle.fc_record.specs.Record.{record_of, geometry, record_fault, is_root_right, is_root_size_right}
+use Rattle.fc_record.specs.Record.{record_of, record_fault, is_root_right, is_root_size_right}
 use Rattle.fc_record.proofs.FaultLemmas.{valid_meets, none_fails}
 use Rattle.fc_image.specs.declared.ImageFault.{ImageFault}
 use Rattle.fc_image.specs.declared.ImageFault.TheVariants as faults

@@ -1,18 +1,18 @@
 -- Maps that change while the tree stays: runs that move into holes, and runs that become one.
-use Rattle.std.specs.Prelude.{◌≡◌, ◌<◌, ◌≤◌, ◌+◌, ◌⊎◌, ℕ, slice_index, true, false, List, [], ◌∷◌, ◌++◌, length, map, filter, Option, Some, None}
+use Rattle.std.specs.Prelude.{◌≡◌, ◌<◌, ◌≤◌, ◌+◌, ◌⊎◌, ℕ, slice_index, true, false, List, [], ◌∷◌, ◌++◌, length, map, filter, Option, Some, None, Ok}
 use Rattle.std.specs.List.{range_with_len}
 use Rattle.fc_device.specs.Sectors.{sector_at}
 use Rattle.fc_record.specs.declared.DiscRecord.{DiscRecord}
 use Rattle.fc_record.specs.declared.Kind.{Kind}
-use Rattle.fc_record.specs.declared.Kind.TheVariants.{Boot}
+use Rattle.fc_record.specs.declared.Kind.TheVariants.{Boot, OneZone}
 use Rattle.fc_record.specs.declared.Geometry.{Geometry}
-use Rattle.fc_record.specs.Kinds.{map_record, fits_kind}
+use Rattle.fc_record.specs.Kinds.{IsKind, map_record, fits_kind}
 use Rattle.fc_newmap.specs.Map.{Map, IsMap, sector_of, id_runs, all_runs, sectors_of, map_sectors}
 use Rattle.fc_copies.specs.Copies.{Chooses, CommitLeaves}
 use Rattle.fc_image.specs.Layout.{Layout, dir_form, sectors_at, id_sectors, hole_sectors, is_among, is_apart}
 use Rattle.fc_image.specs.Walk.{Object, Listing, object_size}
 use Rattle.fc_image.specs.Objects.{objects_of, tree_of, is_movable, is_owned}
-use Rattle.fc_image.specs.Opening.{Opened, is_hole_or_movable, boot_place}
+use Rattle.fc_image.specs.Opening.{Opened, MapAndRoot, map_and_root, is_hole_or_movable, boot_place}
 use Rattle.fc_image.specs.Stays.{IsNewKind, OpensAs, StaysWhole, stored_objects, FixedStay, FixedBytesStay, SameOutsideHoles}
 
 -- ---- what is opened, where the map is another
@@ -93,8 +93,7 @@ abbrev pub BootApartLaw : Type 0
 BootApartLaw = (image : List ℕ) (kind : Kind) (v : Opened) (m : Map) → OpensAs image kind v → v.layout ≡ Layout.New m
     → is_apart (boot_place kind m.geometry.sector) (map_sectors m.geometry) ≡ true
 
--- The laws below take it that the second image passes the kind's own test. On a disc with a boot block it does, where the
--- images differ only in the map and in holes.
+-- A disc with a boot block passes its kind's own test, where it differs from one that opens only in the map and in holes.
 abbrev pub BootStaysLaw : Type 0
 BootStaysLaw = (image other : List ℕ) (r : DiscRecord) (v : Opened) (m : Map) → OpensAs image (Boot r) v → v.layout ≡ Layout.New m
     → length other ≡ length image
@@ -102,20 +101,25 @@ BootStaysLaw = (image other : List ℕ) (r : DiscRecord) (v : Opened) (m : Map) 
     → sector_at m.geometry.sector other s ≡ sector_at m.geometry.sector image s)
     → fits_kind other (Boot r) ≡ true
 
+-- A disc of one zone passes its kind's own test, where its map is found.
+abbrev pub ZoneFitsLaw : Type 0
+ZoneFitsLaw = (image : List ℕ) (r : DiscRecord) (found : MapAndRoot) → IsKind (OneZone r) → r.size ≤ length image → map_and_root image (OneZone r) ≡ Ok found
+    → fits_kind image (OneZone r) ≡ true
+
 -- Movable identifiers may move.
 abbrev pub CarryLaw : Type 0
 CarryLaw = (image other : List ℕ) (kind : Kind) (r : DiscRecord) (v : Opened) (m m' : Map) (f : ℕ → ℕ) → IsNewKind kind r
-    → OpensAs image kind v → fits_kind other kind ≡ true → v.layout ≡ Layout.New m → Carries m m' (objects_of v.listings) image other f → StaysBy kind image v m' other
+    → OpensAs image kind v → v.layout ≡ Layout.New m → Carries m m' (objects_of v.listings) image other f → StaysBy kind image v m' other
 
 -- A movable identifier may move into holes.
 abbrev pub MoveLaw : Type 0
 MoveLaw = (image other : List ℕ) (kind : Kind) (r : DiscRecord) (v : Opened) (m m' : Map) (id : ℕ) → IsNewKind kind r
-    → OpensAs image kind v → fits_kind other kind ≡ true → v.layout ≡ Layout.New m → MovesOne m m' (objects_of v.listings) id image other → StaysBy kind image v m' other
+    → OpensAs image kind v → v.layout ≡ Layout.New m → MovesOne m m' (objects_of v.listings) id image other → StaysBy kind image v m' other
 
 -- Runs and holes that touch may become one, and may be cut.
 abbrev pub MergeLaw : Type 0
 MergeLaw = (image other : List ℕ) (kind : Kind) (r : DiscRecord) (v : Opened) (m m' : Map) → IsNewKind kind r
-    → OpensAs image kind v → fits_kind other kind ≡ true → v.layout ≡ Layout.New m → MovesNone m m' (objects_of v.listings) image other → StaysBy kind image v m' other
+    → OpensAs image kind v → v.layout ≡ Layout.New m → MovesNone m m' (objects_of v.listings) image other → StaysBy kind image v m' other
 
 -- ---- steps, and one after another
 
@@ -148,7 +152,7 @@ CanCommit m m' objects image = ((id : ℕ) × CanMove m m' objects id image) ⊎
 -- Each image that a stop inside a commit may leave, and the one after it, has the tree whole, by the old map or the new one.
 abbrev pub CommitLaw : Type 0
 CommitLaw = (image other : List ℕ) (kind : Kind) (r : DiscRecord) (v : Opened) (m m' : Map) → IsNewKind kind r
-    → OpensAs image kind v → fits_kind other kind ≡ true → v.layout ≡ Layout.New m → CanCommit m m' (objects_of v.listings) image → CommitLeaves m.geometry image m.zones m'.zones other
+    → OpensAs image kind v → v.layout ≡ Layout.New m → CanCommit m m' (objects_of v.listings) image → CommitLeaves m.geometry image m.zones m'.zones other
     → (Chooses m.geometry m.zones other → StaysBy kind image v m other) × (Chooses m.geometry m'.zones other → StaysBy kind image v m' other)
 
 -- what is written into holes

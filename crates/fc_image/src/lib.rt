@@ -7,7 +7,7 @@
 ghost use Rattle.fc_image.specs.Laws.{AcceptedLaw, LaterOpeningLaw, OpensLaw, WalkLaw};
 ghost use Rattle.fc_image.specs.Rows.{ImageRows};
 ghost use Rattle.fc_image.specs.Edits.{ApartLaw, EditLaw, PathsLaw, RoomLaw, StayLaw, WalkEditLaw, WalkFormLaw};
-ghost use Rattle.fc_image.specs.Moves.{BootApartLaw, BootStaysLaw, CarriedLaw, CarryLaw, CommitLaw, HoleStepLaw, KeepsObjectsLaw, MergeLaw, MoveLaw, ThenLaw, WholeLaw, WithMapLaw};
+ghost use Rattle.fc_image.specs.Moves.{BootApartLaw, BootStaysLaw, CarriedLaw, CarryLaw, CommitLaw, HoleStepLaw, KeepsObjectsLaw, MergeLaw, MoveLaw, ThenLaw, WholeLaw, WithMapLaw, ZoneFitsLaw};
 ghost use Rattle.fc_image.specs.Stays.{FreeLaw, HoleWriteLaw, HolesLaw, StoredLaw};
 
 use fc_dirs::DirFault;
@@ -93,6 +93,11 @@ pub fn boot_apart()
 /// A disc with a boot block keeps its kind, where only the map and holes change.
 pub fn boot_stays()
     ensures { BootStaysLaw }
+{}
+
+/// A disc of one zone keeps its kind, where its map is found.
+pub fn zone_fits()
+    ensures { ZoneFitsLaw }
 {}
 
 /// Movable identifiers may move, any number at once.
