@@ -19,7 +19,7 @@ use Rattle.fc_image.specs.Walk.{Object, Listing, reader_of}
 use Rattle.fc_image.specs.Objects.{objects_of, is_owned, tree_of}
 use Rattle.fc_image.specs.Opening.{Opened, reserved_in, boot_place}
 use Rattle.fc_image.specs.Stays.{OpensAs, stored_objects, is_fixed, is_fixed_run, fixed_sectors, FixedStay, FixedBytesStay, SameOutsideHoles}
-use Rattle.fc_image.specs.Moves.{sectors_or_none, object_in, listing_in, with_map, Carried, WithMapLaw, CommitLaw, HoleStepLaw, ThenLaw, WholeLaw, KeepsObjectsLaw, BootStaysLaw}
+use Rattle.fc_image.specs.Moves.{sectors_or_none, object_in, listing_in, with_map, Carried, WithMapLaw, CommitLaw, HoleStepLaw, ThenLaw, WholeLaw, BootStaysLaw}
 use Rattle.fc_image.proofs.FreeLemmas.{among_here}
 use Rattle.fc_image.proofs.StoredLemmas.{stored_tree}
 use Rattle.fc_image.proofs.HolesLemmas.{OpenMap, Each, EachListed, Lies, walk_lies, none_loose, loose_sectors, holes_loose, hole_write_law}
@@ -256,14 +256,3 @@ then_law first second third kind r v m₀ m m' new e layout one two =
 
 pub boot_stays_law : BootStaysLaw
 boot_stays_law image other r v m e layout len outside = boot_fits image other r r v m (open_by image (Boot r) r v m refl e layout) len outside
-
-pub keeps_objects_law : KeepsObjectsLaw
-keeps_objects_law = record {
-  same = λ g image kind r v m new e layout at. (m, hole_step_law image image kind r v m new e layout refl (λ s h. refl));
-  after = λ g first second third one two kind r v m new e layout at.
-      (let a = one kind r v m new e layout at in
-      let o = open_by first kind r v m new e layout in
-      let o' = open_by second kind r (with_map a.0 v) a.0 new a.1.opens refl in
-      let b = two kind r (with_map a.0 v) a.0 new a.1.opens refl (o'.geometry_is ∙ sym o.geometry_is ∙ at) in
-      (b.0, then_law first second third kind r v m a.0 b.0 new e layout a.1 b.1));
-}

@@ -170,16 +170,26 @@ ThenLaw = (first second third : List ℕ) (kind : Kind) (r : DiscRecord) (v : Op
 abbrev pub WholeLaw : Type 0
 WholeLaw = (image other : List ℕ) (kind : Kind) (v : Opened) (m' : Map) → StaysBy kind image v m' other → StaysWhole kind image v other
 
+-- As each kind of one geometry an image has one map, and says the same.
+abbrev pub SameMapLaw : Type 0
+SameMapLaw = (image : List ℕ) (kind other : Kind) (r s : DiscRecord) (v w : Opened) (m n : Map) → IsNewKind kind r → IsNewKind other s → OpensAs image kind v → OpensAs image other w
+    → v.layout ≡ Layout.New m → w.layout ≡ Layout.New n → n.geometry ≡ m.geometry → (n ≡ m) × (w.listings ≡ v.listings)
+
 -- From one image to another the tree is whole, as each kind whose map has this geometry: what each stop and each exit keeps.
 -- (An image may open as another kind too, with other bytes as its map; that isn't kept.)
 abbrev pub KeepsObjects : Geometry → List ℕ → List ℕ → Type 0
 KeepsObjects g image other = (kind : Kind) (r : DiscRecord) (v : Opened) (m : Map) → IsNewKind kind r → OpensAs image kind v → v.layout ≡ Layout.New m
     → m.geometry ≡ g → (m' : Map) × StaysBy kind image v m' other
 
--- It holds of an image and itself, and of the first and the last of three images.
+-- It holds of an image and itself, and of the first and the last of three images; what is written into holes keeps it, and so
+-- does each image inside a commit of a map that may be committed.
 pub record KeepsObjectsLaw : Type 0 where
   pub same : (g : Geometry) (image : List ℕ) → KeepsObjects g image image
   pub after : (g : Geometry) (first second third : List ℕ) → KeepsObjects g first second → KeepsObjects g second third → KeepsObjects g first third
+  pub hole : (image other : List ℕ) (kind : Kind) (r : DiscRecord) (v : Opened) (m : Map) → IsNewKind kind r → OpensAs image kind v → v.layout ≡ Layout.New m
+      → length other ≡ length image → SameOutsideHoles m.geometry.sector (Layout.New m) image other → KeepsObjects m.geometry image other
+  pub commit : (image other : List ℕ) (kind : Kind) (r : DiscRecord) (v : Opened) (m m' : Map) → IsNewKind kind r → OpensAs image kind v → v.layout ≡ Layout.New m
+      → CanCommit m m' (objects_of v.listings) image → CommitLeaves m.geometry image m.zones m'.zones other → KeepsObjects m.geometry image other
 
 -- ---- sectors that are carried, piece by piece
 
