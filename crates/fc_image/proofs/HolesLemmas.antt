@@ -1,7 +1,7 @@
 -- The map of an opened image, and where its objects lie.
 use Rattle.std.proofs.Common.{◌≡◌, ◌<◌, ◌≤◌, ℕ, zero, suc, ◌+◌, ◌*◌, Bool, true, false, cond, List, [], ◌∷◌, ◌++◌, length, map, refl, sym, ap, subst, ◌∙◌, arith, Some, None, Option, take, drop}
 use Rattle.std.proofs.Math.Nat.{mul-le-mul_right}
-use Rattle.std.specs.Prelude.{Result, Ok, Err, Contains, filter, nat_le, ◌==◌, ◌||◌, slice_index_or}
+use Rattle.std.specs.Prelude.{Result, Ok, Err, Contains, filter, nat_le, ◌==◌, ◌||◌, slice_index_or, is_none}
 use Rattle.std.specs.List.{flat_map, range_with_len, list_any, zip}
 use Rattle.std.specs.Int.{div_ceil}
 use Rattle.std.proofs.lemmas.Bool.{eqb-true}
@@ -12,8 +12,8 @@ use Rattle.fc_record.specs.declared.DiscRecord.{DiscRecord}
 use Rattle.fc_record.specs.declared.Geometry.{Geometry}
 use Rattle.fc_record.specs.declared.Kind.{Kind}
 use Rattle.fc_record.specs.declared.Kind.TheVariants.{Boot, OneZone, DiscD, DiscL}
-use Rattle.fc_record.specs.Record.{geometry, is_valid}
-use Rattle.fc_record.specs.Kinds.{disc_size, map_record}
+use Rattle.fc_record.specs.Record.{geometry, record_fault, is_valid}
+use Rattle.fc_record.specs.Kinds.{disc_size, map_record, fits_kind, IsKind}
 use Rattle.fc_zone.specs.declared.ZoneFault.{ZoneFault}
 use Rattle.fc_zone.specs.declared.RunKind.{RunKind}
 use Rattle.fc_zone.specs.declared.RunKind.TheVariants as kinds
@@ -34,8 +34,9 @@ use Rattle.fc_image.specs.declared.ImageFault.TheVariants as faults
 use Rattle.fc_image.specs.Layout.{Layout, dir_form, map_place, hole_sectors, id_of, low_of, low_start, first_part, id_sectors, is_object_id, sectors_at, is_among, is_apart}
 use Rattle.fc_image.specs.Walk.{Object, Listing, Reader, reader_of, at_path, object_of, placed_on, children_of, is_directory_object, object_size, listings_from, root_entry, walk}
 use Rattle.fc_image.specs.Objects.{objects_of, first_object}
-use Rattle.fc_image.specs.Opening.{Opened, MapAndRoot, map_and_root, copy_or, agreement, difference, zones_or, reserved_in, boot_place, misplaced_sector, is_hole_or_movable, least_of, open_as}
-use Rattle.fc_image.specs.Stays.{IsNewKind, HolesLaw, HoleWriteLaw, HasSectorsOf, SameOutsideHoles}
+use Rattle.fc_image.specs.Opening.{Opened, MapAndRoot, map_and_root, copy_or, agreement, difference, zones_or, reserved_in, boot_place, misplaced_sector, is_hole_or_movable, least_of}
+use Rattle.fc_image.specs.Stays.{IsNewKind, OpensAs, HolesLaw, HoleWriteLaw, HasSectorsOf, SameOutsideHoles}
+use Rattle.fc_image.specs.Moves.{BootApartLaw}
 use Rattle.fc_image.proofs.WalkLemmas.{bind_ok}
 use Rattle.fc_image.proofs.KindLemmas.{kind_place}
 use Rattle.fc_image.proofs.FreeLemmas.{layout_by, layout_is, parts_of, among_here, free_opens, free_stored}
@@ -126,24 +127,45 @@ new_size (OneZone s) r is = ap (λ (t : DiscRecord). t.size) is
 new_size DiscD r is = absurd is
 new_size (DiscL units) r is = absurd is
 
-pub is_map_of : (image : List ℕ) (r : DiscRecord) (w : Which) → first_fault (geometry r) (zip (zone_numbers (geometry r)) (copy_of (geometry r) w image)) ≡ None
+pub is_map_of : (image : List ℕ) (r : DiscRecord) (w : Which) → ValidFacts r → r.size ≤ length image
+    → first_fault (geometry r) (zip (zone_numbers (geometry r)) (copy_of (geometry r) w image)) ≡ None
     → IsMap (record { geometry = geometry r; zones = copy_of (geometry r) w image })
-is_map_of image r w right = map_of_no_fault (record { geometry = geometry r; zones = copy_of (geometry r) w image }) (length-copy (geometry r) w image) right
+is_map_of image r w is long right =
+    map_of_no_fault (record { geometry = geometry r; zones = copy_of (geometry r) w image }) (length-copy (geometry r) w image) (copy_sectors r w image is long) right
 
-pub has_zones : (image : List ℕ) (kind : Kind) (r : DiscRecord) (w : Which) → IsNewKind kind r → ValidFacts r → disc_size kind ≤ length image
-    → IsMap (record { geometry = geometry r; zones = copy_of (geometry r) w image })
-    → HasZones (record { geometry = geometry r; zones = copy_of (geometry r) w image })
-has_zones image kind r w new is long right =
-    let size = new_size kind r new in
-    zones_of_map (record { geometry = geometry r; zones = copy_of (geometry r) w image }) right
-    (λ z low. let len = copy_sectors r w image is (omega arith) z low in let within = zone_within r is z low in omega arith)
+pub zones_of_valid : (r : DiscRecord) (zones : List (List ℕ)) → ValidFacts r → IsMap (record { geometry = geometry r; zones = zones })
+    → HasZones (record { geometry = geometry r; zones = zones })
+zones_of_valid r zones is right = zones_of_map (record { geometry = geometry r; zones = zones }) right (zone_within r is)
 
 -- ---- an opened image with a new map
+
+-- the sectors of holes and of identifiers that may move
+abbrev pub loose_sectors : Map → List Object → List ℕ
+loose_sectors m objects = sectors_of m.geometry (filter (λ p. is_hole_or_movable objects p.1.kind) (all_runs m))
+
+some_least : (n : ℕ) (ns : List ℕ) → least_of (n ∷ ns) ≡ None → ⊥
+some_least n ns e = cc
+
+-- Two lists that have no least number have none together.
+none_least : (xs ys : List ℕ) → least_of (xs ++ ys) ≡ None → (least_of xs ≡ None) × (least_of ys ≡ None)
+none_least [] ys e = (refl, e)
+none_least (x ∷ xs) ys e = absurd (some_least x (xs ++ ys) e)
+
+pub least_none : (xs ys : List ℕ) → least_of xs ≡ None → least_of ys ≡ None → least_of (xs ++ ys) ≡ None
+least_none [] ys e h = h
+least_none (x ∷ xs) ys e h = absurd (some_least x xs e)
+
+pub valid_of : (kind : Kind) (r : DiscRecord) → IsNewKind kind r → IsKind kind → is_valid r ≡ true
+valid_of (Boot s) r new is = ap is_none (subst (λ (t : DiscRecord). record_fault t ≡ None) new is.valid)
+valid_of (OneZone s) r new is = ap is_none (subst (λ (t : DiscRecord). record_fault t ≡ None) new is.0.valid)
+valid_of DiscD r new is = absurd new
+valid_of (DiscL units) r new is = absurd new
 
 -- what an opened image says of its map
 pub record OpenMap (image : List ℕ) (kind : Kind) (r : DiscRecord) (v : Opened) (m : Map) : Type 0 where
   pub layout : v.layout ≡ Layout.New m
   pub kind_is : v.kind ≡ kind
+  pub kind_right : IsKind kind
   pub geometry_is : m.geometry ≡ geometry r
   pub facts : ValidFacts r
   pub shape : IsGeometry m.geometry
@@ -154,35 +176,44 @@ pub record OpenMap (image : List ℕ) (kind : Kind) (r : DiscRecord) (v : Opened
   pub size : ℕ
   pub found : map_and_root image kind ≡ Ok (Layout.New m, root, size)
   pub found_map : FoundMap image r (Layout.New m, root, size)
+  pub fits : fits_kind image kind ≡ true
   pub long : disc_size kind ≤ length image
   pub walked : walk (reader_of image (Layout.New m)) (Layout.New m) (reserved_in kind (Layout.New m)) root size ≡ Ok v.listings
-  pub tight : misplaced_sector kind (Layout.New m) (objects_of v.listings) ≡ None
+  pub tight : least_of (filter (is_among (loose_sectors m (objects_of v.listings))) (reserved_in kind (Layout.New m))) ≡ None
+  pub apart : least_of (filter (is_among (map_sectors m.geometry)) (boot_place kind m.geometry.sector)) ≡ None
 
-pub open_map : (image : List ℕ) (kind : Kind) (r : DiscRecord) (v : Opened) → IsNewKind kind r → is_valid r ≡ true → open_as image kind ≡ Ok v → (m : Map) × OpenMap image kind r v m
-open_map image kind r v new valid e =
-    let p = parts_of image kind v e in
+pub open_map : (image : List ℕ) (kind : Kind) (r : DiscRecord) (v : Opened) → IsNewKind kind r → OpensAs image kind v → (m : Map) × OpenMap image kind r v m
+open_map image kind r v new e =
+    let valid = valid_of kind r new e.kind_right in
+    let p = parts_of image kind v e.opened in
     let f = found_map image kind r p.0 new p.1.1 in
     let g = geometry r in
     let m : Map = record { geometry = g; zones = copy_of g f.which image } in
     let facts = facts_of_valid r valid in
-    let right = is_map_of image r f.which f.right in (
+    let size = new_size kind r new in
+    let right = is_map_of image r f.which facts (omega (arith, p.1.0)) f.right in
+    let placed = none_least (filter (is_among (loose_sectors m (objects_of v.listings))) (reserved_in kind (Layout.New m))) (filter (is_among (map_sectors g)) (boot_place kind g.sector))
+    (subst (λ (q : MapAndRoot). misplaced_sector kind q.0 (objects_of v.listings) ≡ None) (sym f.is) p.1.3) in (
       m,
       record {
         layout = ap (λ (w : Opened). w.layout) (sym p.1.4) ∙ ap (λ (q : MapAndRoot). q.0) (sym f.is);
         kind_is = ap (λ (w : Opened). w.kind) (sym p.1.4);
+        kind_right = e.kind_right;
         geometry_is = refl;
         facts = facts;
         shape = geometry_of_valid r valid;
         map_is = right;
-        zones = has_zones image kind r f.which new facts p.1.0 right;
+        zones = zones_of_valid r (copy_of g f.which image) facts right;
         some = facts.zones;
         root = f.own.root;
         size = f.own.root_size;
         found = p.1.1 ∙ ap (λ (q : MapAndRoot). let a : Result MapAndRoot ImageFault = Ok q in a) (sym f.is);
         found_map = subst (λ (q : MapAndRoot). FoundMap image r q) (sym f.is) f;
+        fits = p.1.5;
         long = p.1.0;
         walked = subst (λ (q : MapAndRoot). walk (reader_of image q.0) q.0 (reserved_in kind q.0) q.1 q.2 ≡ Ok v.listings) (sym f.is) p.1.2;
-        tight = subst (λ (q : MapAndRoot). misplaced_sector kind q.0 (objects_of v.listings) ≡ None) (sym f.is) p.1.3;
+        tight = placed.0;
+        apart = placed.1;
       },
     )
 
@@ -411,9 +442,6 @@ walk_lies read layout reserved address size listings =
 
 -- ---- the map's place
 
-some_least : (n : ℕ) (ns : List ℕ) → least_of (n ∷ ns) ≡ None → ⊥
-some_least n ns e = cc
-
 pub none_loose : (loose reserved : List ℕ) → least_of (filter (is_among loose) reserved) ≡ None → (s : ℕ) → is_among reserved s ≡ true → is_among loose s ≡ false
 none_loose loose [] e s h = absurd (cc)
 none_loose loose (x ∷ reserved) e s h = by (is_among loose x) refl e (none_loose loose reserved)
@@ -427,12 +455,18 @@ none_loose loose (x ∷ reserved) e s h = by (is_among loose x) refl e (none_loo
     by true f g more = absurd (some_least x (filter (is_among loose) reserved) g)
     by false f g more = then false (x == s) refl f h (more g s)
 
+pub boot_apart_law : BootApartLaw
+boot_apart_law image kind v m e layout =
+    let p = parts_of image kind v e.opened in
+    let at : p.0.0 ≡ Layout.New m = ap (λ (w : Opened). w.layout) p.1.4 ∙ layout in
+    let placed = none_least (filter (is_among (loose_sectors m (objects_of v.listings))) (reserved_in kind (Layout.New m))) (filter (is_among (map_sectors m.geometry)) (boot_place kind m.geometry.sector))
+    (subst (λ (l : Layout). misplaced_sector kind l (objects_of v.listings) ≡ None) at p.1.3) in
+    apart_from (boot_place kind m.geometry.sector) (map_sectors m.geometry)
+    (λ s a b. let no = none_loose (map_sectors m.geometry) (boot_place kind m.geometry.sector) placed.1 s a in cc)
+
 loose_hole : (objects : List Object) (k : RunKind) → is_hole k ≡ true → is_hole_or_movable objects k ≡ true
 loose_hole objects kinds.Hole e = refl
 loose_hole objects (kinds.Id id) e = absurd (cc)
-
-abbrev pub loose_sectors : Map → List Object → List ℕ
-loose_sectors m objects = sectors_of m.geometry (filter (λ p. is_hole_or_movable objects p.1.kind) (all_runs m))
 
 pub holes_loose : (m : Map) (objects : List Object) (s : ℕ) → is_among (hole_sectors (Layout.New m)) s ≡ true → is_among (loose_sectors m objects) s ≡ true
 holes_loose m objects s e =
@@ -442,8 +476,8 @@ holes_loose m objects s e =
     (in_filter (λ q. is_hole_or_movable objects q.1.kind) (all_runs m) p.0 f.0 (loose_hole objects p.0.1.kind f.1)) p.1.1
 
 pub holes_law : HolesLaw
-holes_law image kind r v new valid e =
-    let found = open_map image kind r v new valid e in
+holes_law image kind r v new e =
+    let found = open_map image kind r v new e in
     let m = found.0 in
     let o = found.1 in
     let place : is_apart (map_place (Layout.New m)) (hole_sectors (Layout.New m)) ≡ true =
@@ -476,11 +510,11 @@ no_hole_in m objects reserved tight s h = unless (is_among (hole_sectors (Layout
     cc)
 
 pub hole_write_law : HoleWriteLaw
-hole_write_law image other kind r v new valid e len same =
-    let found = open_map image kind r v new valid e in
+hole_write_law image other kind r v new e len same =
+    let found = open_map image kind r v new e in
     let m = found.0 in
     let o = found.1 in
-    let apart = holes_law image kind r v new valid e in
+    let apart = holes_law image kind r v new e in
     let placed = walk_lies (reader_of image (Layout.New m)) (Layout.New m) (reserved_in kind (Layout.New m)) o.root o.size v.listings o.walked in
     let same' : SameOutsideHoles (geometry r).sector (Layout.New m) image other = subst (λ (l : Layout). SameOutsideHoles (geometry r).sector l image other) o.layout same in
     let place : is_apart (map_sectors (geometry r)) (hole_sectors (Layout.New m)) ≡ true =
@@ -489,7 +523,7 @@ hole_write_law image other kind r v new valid e len same =
     let keeps : (object : Object) → IsPlaced (Layout.New m) object → HasSectorsOf (geometry r).sector object.sectors image other =
     λ object at s h.
     same' s (unless (is_among (hole_sectors (Layout.New m)) s) (id_no_hole m o.shape o.zones o.some (id_of object.entry.address) s (in_id m object.entry.address _ object.sectors s at h))) in
-    let fits = (parts_of image kind v e).1.5 in
+    let fits = (parts_of image kind v e.opened).1.5 in
     let map_same : HasSectorsOf (geometry r).sector (map_sectors (geometry r)) image other =
     λ s h. same' s (apart_at (map_sectors (geometry r)) (hole_sectors (Layout.New m)) s place h) in
     let boot_same : HasSectorsOf (geometry r).sector (boot_place kind (geometry r).sector) image other =
@@ -497,7 +531,10 @@ hole_write_law image other kind r v new valid e len same =
     (λ s h. same' s (no_hole_in m (objects_of v.listings) (reserved_in kind (Layout.New m)) o.tight s (in_back (map_place (Layout.New m)) (boot_place kind m.geometry.sector) s h))) in
     let objects : (object : Object) → Contains (objects_of v.listings) object → HasSectorsOf (geometry r).sector object.sectors image other =
     λ object c. keeps object (Each-contains (Lies (Layout.New m) (reserved_in kind (Layout.New m))) (objects_of v.listings) object (Each-objects (Lies (Layout.New m) (reserved_in kind (Layout.New m))) v.listings placed) c).placed in (
-      free_opens image other kind r v new e len (kind_place image other kind r new o.facts fits map_same boot_same) map_same
-          (λ l c. keeps l.object (Listed-contains (Lies (Layout.New m) (reserved_in kind (Layout.New m))) v.listings l placed c).placed),
-      free_stored image other kind r v new e objects,
+      record {
+        kind_right = e.kind_right;
+        opened = free_opens image other kind r v new e.opened len (kind_place image other kind r new o.facts fits map_same boot_same) map_same
+            (λ l c. keeps l.object (Listed-contains (Lies (Layout.New m) (reserved_in kind (Layout.New m))) v.listings l placed c).placed);
+      },
+      free_stored image other kind r v new e.opened objects,
     )

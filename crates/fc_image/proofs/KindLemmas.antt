@@ -81,13 +81,21 @@ first : (a b : Bool) → (a && b) ≡ true → a ≡ true
 first true b e = refl
 first false b e = absurd (cc)
 
-first_place : (image : List ℕ) → bytes_at image 0 1024 ≡ sector_at 1024 image 0
+pub first_place : (image : List ℕ) → bytes_at image 0 1024 ≡ sector_at 1024 image 0
 unfolding sector_at
 first_place image = refl
 
-second_place : (image : List ℕ) → bytes_at image 1024 1024 ≡ sector_at 1024 image 1
+pub second_place : (image : List ℕ) → bytes_at image 1024 1024 ≡ sector_at 1024 image 1
 unfolding sector_at
 second_place image = refl
+
+-- the map of one zone is at the front
+pub map_at_front : (t : DiscRecord) → t.zones ≡ 1 → (geometry t).map_sector ≡ 0
+map_at_front t e =
+    let g = geometry t in
+    ap (λ (n : ℕ). zone_start g.zone_size (n / 2) * g.bit_bytes / g.sector) e
+    ∙ ap (λ (n : ℕ). n / g.sector) (let none : 0 * g.bit_bytes ≡ 0 * g.sector + 0 = omega arith in none)
+    ∙ div-mul-add 0 g.sector 0 (pow_pos t.log2_sector)
 
 one_zone_bytes : (zones sector start : ℕ) (image other : List ℕ) → zones ≡ 1 → sector ≡ 1024 → start ≡ 0
     → HasSectorsOf sector (range_with_len start (2 * zones)) image other
@@ -112,13 +120,6 @@ kind_place image other (OneZone s) r is facts fits same boot =
     let zones : s.zones ≡ 1 = eqb-true s.zones 1 (second _ (s.zones == 1) own) in
     let log2 : s.log2_sector ≡ 10 = eqb-true s.log2_sector 10 (second (is_valid s) _ (first _ (s.zones == 1) own)) in
     let same' : HasSectorsOf (geometry s).sector (map_sectors (geometry s)) image other = subst (λ (t : DiscRecord). HasSectorsOf (geometry t).sector (map_sectors (geometry t)) image other) (sym is) same in
-    one_zone_bytes s.zones (geometry s).sector (geometry s).map_sector image other zones (ap (λ (n : ℕ). 2 ^ n) log2) (start s zones) same'
-  where
-    start : (t : DiscRecord) → t.zones ≡ 1 → (geometry t).map_sector ≡ 0
-    start t e =
-        let g = geometry t in
-        ap (λ (n : ℕ). zone_start g.zone_size (n / 2) * g.bit_bytes / g.sector) e
-        ∙ ap (λ (n : ℕ). n / g.sector) (let none : 0 * g.bit_bytes ≡ 0 * g.sector + 0 = omega arith in none)
-        ∙ div-mul-add 0 g.sector 0 (pow_pos t.log2_sector)
+    one_zone_bytes s.zones (geometry s).sector (geometry s).map_sector image other zones (ap (λ (n : ℕ). 2 ^ n) log2) (map_at_front s zones) same'
 kind_place image other DiscD r is facts fits same boot = absurd is
 kind_place image other (DiscL units) r is facts fits same boot = absurd is

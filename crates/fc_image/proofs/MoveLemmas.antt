@@ -1,6 +1,6 @@
 -- A map that changes while the tree stays.
 use Rattle.std.proofs.Common.{◌≡◌, ◌≤◌, ℕ, ◌-◌, ◌*◌, ◌/◌, Bool, true, false, cond, List, [], ◌∷◌, ◌++◌, map, refl, sym, ap, ap₂, subst, ◌∙◌, arith, Some, None, Option, take, drop}
-use Rattle.std.specs.Prelude.{Result, Ok, Err, Contains, filter, nat_lt, nat_le, ◌==◌, ◌||◌, ◌&&◌, not, slice_index_or, All}
+use Rattle.std.specs.Prelude.{Result, Ok, Err, Contains, filter, length, nat_lt, nat_le, ◌==◌, ◌||◌, ◌&&◌, not, slice_index_or, All}
 use Rattle.std.specs.List.{flat_map, list_any, zip}
 use Rattle.std.specs.Int.{div_ceil}
 use Rattle.std.proofs.lemmas.List.Elements.{All-nil, All-cons}
@@ -11,8 +11,8 @@ use Rattle.fc_record.specs.declared.DiscRecord.{DiscRecord}
 use Rattle.fc_record.specs.declared.Geometry.{Geometry}
 use Rattle.fc_record.specs.declared.Kind.{Kind}
 use Rattle.fc_record.specs.declared.Kind.TheVariants.{Boot, OneZone, DiscD, DiscL}
-use Rattle.fc_record.specs.Record.{geometry, is_valid, id_limit}
-use Rattle.fc_record.specs.Kinds.{map_record, fits_kind}
+use Rattle.fc_record.specs.Record.{geometry, id_limit}
+use Rattle.fc_record.specs.Kinds.{map_record, fits_kind, disc_size}
 use Rattle.fc_zone.specs.declared.RunKind.{RunKind}
 use Rattle.fc_zone.specs.declared.RunKind.TheVariants as kinds
 use Rattle.fc_newmap.specs.Map.{Map, ZoneRun, IsMap, first_fault, zone_numbers, map_sectors, all_runs, hole_runs, id_runs, sectors_of, has_id, is_hole}
@@ -20,6 +20,7 @@ use Rattle.fc_newmap.specs.RunsLaw.{IsGeometry, HasZones, HoldsSector}
 use Rattle.fc_newmap.proofs.RunsLemmas.{runs_apart}
 use Rattle.fc_newmap.proofs.PlaceLemmas.{in_front, in_back, holder_of, held_in, filter_in, in_filter, id_run_in, in_id_runs}
 use Rattle.fc_newmap.proofs.CoverLemmas.{id_Distinct, run_there}
+use Rattle.fc_newmap.proofs.GeometryLemmas.{ValidFacts}
 use Rattle.fc_newmap.proofs.MapLemmas.{no_fault_of_map}
 use Rattle.fc_copies.specs.declared.Which.{Which}
 use Rattle.fc_copies.specs.Copies.{chosen, copy_of, Chooses}
@@ -31,12 +32,14 @@ use Rattle.fc_image.specs.Layout.{Layout, dir_form, map_place, hole_sectors, id_
 use Rattle.fc_image.specs.Walk.{Object, Listing, reader_of, object_size, object_bytes, walk}
 use Rattle.fc_image.specs.Objects.{objects_of, first_object, is_movable, is_owned, is_owner_of}
 use Rattle.fc_image.specs.Opening.{Opened, MapAndRoot, map_and_root, agreement, difference, reserved_in, boot_place, misplaced_sector, is_hole_or_movable, least_of, open_as}
-use Rattle.fc_image.specs.Stays.{IsNewKind, OpensAs, stored_object, stored_objects, is_fixed, is_fixed_run, FixedStay, FixedBytesStay}
+use Rattle.fc_image.specs.Stays.{IsNewKind, OpensAs, stored_object, stored_objects, is_fixed, is_fixed_run, FixedStay, FixedBytesStay, HasSectorsOf}
 use Rattle.fc_image.specs.Moves.{sectors_or_none, object_in, listing_in, with_map, Turns, MovesOne, Carries, StaysBy, CarryLaw, MoveLaw, MergeLaw}
 use Rattle.fc_image.proofs.WalkLemmas.{walk-Tells, open_as-spelled}
-use Rattle.fc_image.proofs.FreeLemmas.{layout_by, layout_is}
+use Rattle.fc_image.proofs.FreeLemmas.{layout_by, layout_is, fits_same}
+use Rattle.fc_image.proofs.KindLemmas.{boot_bytes}
+use Rattle.fc_image.proofs.OneZoneLemmas.{zone_fits}
 use Rattle.fc_image.proofs.StoredLemmas.{stored_tree}
-use Rattle.fc_image.proofs.HolesLemmas.{OpenMap, open_map, has_zones, Each, EachListed, Each-objects, Lies, Has, lies_step, walk_lies, in_id, id_no_hole, apart_at, none_loose, loose_sectors, holes_loose}
+use Rattle.fc_image.proofs.HolesLemmas.{OpenMap, open_map, zones_of_valid, Each, EachListed, Each-objects, Lies, Has, lies_step, walk_lies, in_id, id_no_hole, apart_at, none_loose, no_hole_in, loose_sectors, least_none, holes_loose}
 use Rattle.fc_image.proofs.RemapLemmas.{moved_to, map_fixed, moved_out, moved_in, map_moved, moved_apart, first_same, carry, carry_listing, carry_walk, AllIn}
 
 pub unless : (b : Bool) → (b ≡ true → ⊥) → b ≡ false
@@ -48,7 +51,7 @@ some_one a b e = cc
 
 -- ---- the new map is found
 
-found_with : (other : List ℕ) (r s : DiscRecord) (w : Which) (zones old : List (List ℕ)) → chosen (geometry r) other ≡ Ok w → copy_of (geometry r) w other ≡ zones
+pub found_with : (other : List ℕ) (r s : DiscRecord) (w : Which) (zones old : List (List ℕ)) → chosen (geometry r) other ≡ Ok w → copy_of (geometry r) w other ≡ zones
     → map_record (slice_index_or zones 0 []) ≡ map_record (slice_index_or old 0 [])
     → agreement r (map_record (slice_index_or old 0 [])) (difference r (map_record (slice_index_or old 0 []))) ≡ Ok s
     → first_fault (geometry r) (zip (zone_numbers (geometry r)) zones) ≡ None
@@ -57,7 +60,7 @@ unfolding layout_by
 found_with other r s w zones old choice copy same agreed right =
     rw (choice, copy, ap (λ (t : DiscRecord). agreement r t (difference r t)) same ∙ agreed, right) refl
 
-found_kind : (other : List ℕ) (kind : Kind) (r : DiscRecord) (found : MapAndRoot) → IsNewKind kind r
+pub found_kind : (other : List ℕ) (kind : Kind) (r : DiscRecord) (found : MapAndRoot) → IsNewKind kind r
     → layout_by r (chosen (geometry r) other) (λ w. copy_of (geometry r) w other) ≡ Ok found → map_and_root other kind ≡ Ok found
 found_kind other (Boot s) r found new e = layout_is other s ∙ subst (λ (t : DiscRecord). layout_by t (chosen (geometry t) other) (λ w. copy_of (geometry t) w other) ≡ Ok found) (sym new) e
 found_kind other (OneZone s) r found new e = layout_is other s ∙ subst (λ (t : DiscRecord). layout_by t (chosen (geometry t) other) (λ w. copy_of (geometry t) w other) ≡ Ok found) (sym new) e
@@ -225,9 +228,9 @@ sectors_carry m m' f e ids a n xs h =
 
 -- ---- the law
 
-pub open_by : (image : List ℕ) (kind : Kind) (r : DiscRecord) (v : Opened) (m : Map) → IsNewKind kind r → is_valid r ≡ true → OpensAs image kind v → v.layout ≡ Layout.New m → OpenMap image kind r v m
-open_by image kind r v m new valid e layout =
-    let found = open_map image kind r v new valid e in
+pub open_by : (image : List ℕ) (kind : Kind) (r : DiscRecord) (v : Opened) (m : Map) → IsNewKind kind r → OpensAs image kind v → v.layout ≡ Layout.New m → OpenMap image kind r v m
+open_by image kind r v m new e layout =
+    let found = open_map image kind r v new e in
     subst (OpenMap image kind r v) (new_same found.0 m (sym found.1.layout ∙ layout)) found.1
   where
     new_same : (a b : Map) → Layout.New a ≡ Layout.New b → a ≡ b
@@ -257,16 +260,10 @@ found_new image other kind r v m zs new o0 o t =
     ∙ ap₂ (λ (g : Geometry) (p : ℕ × ℕ). let q : Result MapAndRoot ImageFault = Ok (Layout.New (record { geometry = g; zones = zs }), p.0, p.1) in q) (sym o.geometry_is)
     (ap (λ (q : MapAndRoot). let p : ℕ × ℕ = (q.1, q.2) in p) fm.is)
 
-zones_new : (image other : List ℕ) (kind : Kind) (r : DiscRecord) (v : Opened) (m : Map) (zs : List (List ℕ)) → IsNewKind kind r → OpenMap image kind r v m
-    → Turns m (at_zones m zs) image other → HasZones (at_zones m zs)
-zones_new image other kind r v m zs new o t =
-    let ch : Chooses (geometry r) zs other = subst (λ (g : Geometry). Chooses g zs other) o.geometry_is t.chosen_map in
-    let is : IsMap (record { geometry = geometry r; zones = zs }) = subst (λ (g : Geometry). IsMap (record { geometry = g; zones = zs })) o.geometry_is t.is_map in
-    let long = o.long in
-    let len = t.length_stays in
-    let has = has_zones other kind r ch.which new o.facts (omega arith) (subst (λ (z : List (List ℕ)). IsMap (record { geometry = geometry r; zones = z })) (sym ch.content) is) in
-    let back : HasZones (record { geometry = geometry r; zones = zs }) = subst (λ (z : List (List ℕ)). HasZones (record { geometry = geometry r; zones = z })) ch.content has in
-    subst (λ (g : Geometry). HasZones (record { geometry = g; zones = zs })) (sym o.geometry_is) back
+zones_new : (r : DiscRecord) (m : Map) (zs : List (List ℕ)) → ValidFacts r → m.geometry ≡ geometry r → IsMap (at_zones m zs) → HasZones (at_zones m zs)
+zones_new r m zs facts at is =
+    subst (λ (g : Geometry). HasZones (record { geometry = g; zones = zs })) (sym at)
+    (zones_of_valid r zs facts (subst (λ (g : Geometry). IsMap (record { geometry = g; zones = zs })) at is))
 
 not_fixed : (objects : List Object) (k : ℕ) → is_fixed objects k ≡ true → is_movable objects k ≡ false
 not_fixed objects k e = by (k == 1) (k == 2) (list_any (is_owner_of k) objects) (nat_le 3 k) refl refl refl e
@@ -319,13 +316,35 @@ fixed_stay image other m objects is has some outside =
     (λ s i h. outside s (not_true (is_among (map_place (Layout.New m)) s) h)
     (unless (is_among (hole_sectors (Layout.New m)) s) (fixed_in m is has some objects s i)))
 
-carry_core : (image other : List ℕ) (kind : Kind) (r : DiscRecord) (v : Opened) (m : Map) (zs : List (List ℕ)) (f : ℕ → ℕ) → IsNewKind kind r → fits_kind other kind ≡ true → OpenMap image kind r v m
+-- ---- the kind's own test
+
+pub boot_fits : (image other : List ℕ) (s r : DiscRecord) (v : Opened) (m : Map) → OpenMap image (Boot s) r v m → length other ≡ length image
+    → ((t : ℕ) → is_among (map_sectors m.geometry) t ≡ false → is_among (hole_sectors (Layout.New m)) t ≡ false → sector_at m.geometry.sector other t ≡ sector_at m.geometry.sector image t)
+    → fits_kind other (Boot s) ≡ true
+boot_fits image other s r v m o len outside =
+    let place = boot_place (Boot s) m.geometry.sector in
+    let same : HasSectorsOf m.geometry.sector place image other =
+    λ t h. outside t (none_loose (map_sectors m.geometry) place o.apart t h)
+    (no_hole_in m (objects_of v.listings) (reserved_in (Boot s) (Layout.New m)) o.tight t (in_back (map_place (Layout.New m)) place t h)) in
+    let same' : HasSectorsOf (geometry r).sector (boot_place (Boot s) (geometry r).sector) image other =
+    subst (λ (g : Geometry). HasSectorsOf g.sector (boot_place (Boot s) g.sector) image other) o.geometry_is same in
+    fits_same image other (Boot s) len (boot_bytes s r.log2_sector image other o.facts.sector_low o.facts.sector_high same') ∙ o.fits
+
+kind_fits : (image other : List ℕ) (kind : Kind) (r : DiscRecord) (v : Opened) (m : Map) (found : MapAndRoot) → IsNewKind kind r → OpenMap image kind r v m → length other ≡ length image
+    → ((t : ℕ) → is_among (map_sectors m.geometry) t ≡ false → is_among (hole_sectors (Layout.New m)) t ≡ false → sector_at m.geometry.sector other t ≡ sector_at m.geometry.sector image t)
+    → disc_size kind ≤ length other → map_and_root other kind ≡ Ok found → fits_kind other kind ≡ true
+kind_fits image other (Boot s) r v m found new o len outside long e = boot_fits image other s r v m o len outside
+kind_fits image other (OneZone s) r v m found new o len outside long e = zone_fits other s found o.kind_right long e
+kind_fits image other DiscD r v m found new o len outside long e = absurd new
+kind_fits image other (DiscL units) r v m found new o len outside long e = absurd new
+
+carry_core : (image other : List ℕ) (kind : Kind) (r : DiscRecord) (v : Opened) (m : Map) (zs : List (List ℕ)) (f : ℕ → ℕ) → IsNewKind kind r → OpenMap image kind r v m
     → Carries m (at_zones m zs) (objects_of v.listings) image other f → StaysBy kind image v (at_zones m zs) other
-carry_core image other kind r v m zs f new fits o c =
+carry_core image other kind r v m zs f new o c =
     let m' : Map = at_zones m zs in
     let t = c.turns in
     let objects = objects_of v.listings in
-    let has' = zones_new image other kind r v m zs new o t in
+    let has' = zones_new r m zs o.facts o.geometry_is t.is_map in
     let reserved = reserved_in kind (Layout.New m) in
     let D : ℕ → Type 0 = λ s. is_among (hole_sectors (Layout.New m)) s ≡ false in
     let size = m.geometry.sector in
@@ -354,25 +373,33 @@ carry_core image other kind r v m zs f new fits o c =
     ap (λ (t : ZoneRun → Bool). sectors_of m.geometry (filter t (all_runs m')))
     (λ i p. (ap (λ (os : List Object). is_hole_or_movable os p.1.kind) same_objects ∙ loose_carry f objects p.1.kind) i) in
     let tight' : misplaced_sector kind (Layout.New m') (objects_of (map (carry_listing f) v.listings)) ≡ None =
-    tight_from (loose_sectors m' (objects_of (map (carry_listing f) v.listings))) reserved
+    least_none (filter (is_among (loose_sectors m' (objects_of (map (carry_listing f) v.listings)))) reserved) (filter (is_among (map_sectors m.geometry)) (boot_place kind m.geometry.sector))
+    (tight_from (loose_sectors m' (objects_of (map (carry_listing f) v.listings))) reserved
     (λ s i. unless (is_among (loose_sectors m' (objects_of (map (carry_listing f) v.listings))) s)
     (λ h.
     let h' = subst (λ (xs : List ℕ). is_among xs s ≡ true) loose_same h in
     let was = loose_before m m' objects refl o.shape o.zones has' o.some c.fixed s h' in
     let no' = tight s i in
-    cc)) in
+    cc)))
+    o.apart in
     let long = o.long in
     let len = t.length_stays in
+    let long' : disc_size kind ≤ length other = omega arith in
+    let found' = found_new image other kind r v m zs new o o t in
+    let fits = kind_fits image other kind r v m _ new o len t.outside long' found' in
     let opened : open_as other kind ≡ Ok (record { kind = kind; layout = Layout.New m'; listings = map (carry_listing f) v.listings }) =
-    open_as-spelled other kind (Layout.New m') o.root o.size (reader_of other (Layout.New m')) (map (carry_listing f) v.listings) fits (omega arith)
-    (found_new image other kind r v m zs new o o t) walked tight'
+    open_as-spelled other kind (Layout.New m') o.root o.size (reader_of other (Layout.New m')) (map (carry_listing f) v.listings) fits long'
+    found' walked tight'
     (walk-Tells (reader_of other (Layout.New m')) (Layout.New m') reserved o.root o.size (map (carry_listing f) v.listings) walked) in
     let same_listings : map (listing_in (Layout.New m')) v.listings ≡ map (carry_listing f) v.listings =
     in_carry (Layout.New m') f (Lies (Layout.New m) reserved)
     (λ x l. ap (λ (xs : Option (List ℕ)). let y : Object = record x { sectors = sectors_or_none xs } in y) (sect x.entry.address (object_size (dir_form (Layout.New m)) x.entry) x.sectors l.placed).0)
     v.listings lies in
     let opens' : OpensAs other kind (with_map m' v) =
-    opened ∙ ap₂ (λ (k : Kind) (ls : List Listing). let q : Result Opened ImageFault = Ok (record { kind = k; layout = Layout.New m'; listings = ls }) in q) (sym o.kind_is) (sym same_listings) in
+    record {
+      kind_right = o.kind_right;
+      opened = opened ∙ ap₂ (λ (k : Kind) (ls : List Listing). let q : Result Opened ImageFault = Ok (record { kind = k; layout = Layout.New m'; listings = ls }) in q) (sym o.kind_is) (sym same_listings);
+    } in
     let same_stored : map (stored_object other (Layout.New m')) (objects_of (map (carry_listing f) v.listings)) ≡ map (stored_object image (Layout.New m)) objects =
     ap (map (stored_object other (Layout.New m'))) same_objects
     ∙ stored_carry image other m m' f objects
@@ -394,10 +421,10 @@ carry_core image other kind r v m zs f new fits o c =
     }
 
 pub carry_law : CarryLaw
-carry_law image other kind r v m m' f new valid e fits layout c =
+carry_law image other kind r v m m' f new e layout c =
     let back : at_zones m m'.zones ≡ m' = λ i. record { geometry = sym c.turns.geometry_stays i; zones = m'.zones } in
     subst (λ (n : Map). StaysBy kind image v n other) back
-    (carry_core image other kind r v m m'.zones f new fits (open_by image kind r v m new valid e layout)
+    (carry_core image other kind r v m m'.zones f new (open_by image kind r v m new e layout)
     (subst (λ (n : Map). Carries m n (objects_of v.listings) image other f) (sym back) c))
 
 -- ---- one identifier, and none
@@ -413,7 +440,7 @@ move_core image other kind r v m zs id new o c =
     let m' : Map = at_zones m zs in
     let t = c.turns in
     let objects = objects_of v.listings in
-    let has' = zones_new image other kind r v m zs new o t in
+    let has' = zones_new r m zs o.facts o.geometry_is t.is_map in
     let size = m.geometry.sector in
     let holes = hole_sectors (Layout.New m) in
     let old = id_sectors m id in
@@ -439,20 +466,20 @@ move_core image other kind r v m zs id new o c =
     }
 
 pub move_law : MoveLaw
-move_law image other kind r v m m' id new valid e fits layout c =
+move_law image other kind r v m m' id new e layout c =
     let back : at_zones m m'.zones ≡ m' = λ i. record { geometry = sym c.turns.geometry_stays i; zones = m'.zones } in
-    let o = open_by image kind r v m new valid e layout in
+    let o = open_by image kind r v m new e layout in
     subst (λ (n : Map). StaysBy kind image v n other) back
-    (carry_core image other kind r v m m'.zones (moved_to (id_sectors m id) (id_sectors (at_zones m m'.zones) id)) new fits o
+    (carry_core image other kind r v m m'.zones (moved_to (id_sectors m id) (id_sectors (at_zones m m'.zones) id)) new o
     (move_core image other kind r v m m'.zones id new o (subst (λ (n : Map). MovesOne m n (objects_of v.listings) id image other) (sym back) c)))
 
 map_same_list : (xs : List ℕ) → map (λ s. s) xs ≡ xs
 map_same_list xs = map_fixed (λ s. s) xs (λ s i. refl)
 
 pub merge_law : MergeLaw
-merge_law image other kind r v m m' new valid e fits layout c =
-    let o = open_by image kind r v m new valid e layout in
-    carry_law image other kind r v m m' (λ s. s) new valid e fits layout
+merge_law image other kind r v m m' new e layout c =
+    let o = open_by image kind r v m new e layout in
+    carry_law image other kind r v m m' (λ s. s) new e layout
     (record {
       turns = c.turns;
       fixed = c.fixed;

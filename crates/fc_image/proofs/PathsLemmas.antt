@@ -378,7 +378,7 @@ two_is_many path front middle rest o p h g low =
 
 pub paths_law : PathsLaw
 paths_law image kind v front middle rest o p opens e =
-    let parts = parts_of image kind v opens in
+    let parts = parts_of image kind v opens.opened in
     let found = parts.0 in
     let had = walk_gives (reader_of image found.0) found.0 (reserved_in kind found.0) found.1 found.2 v.listings parts.1.2 in
     let most = once image found.0 had.0 v.listings had.1.path had.2 (length o.path) o.path refl in

@@ -212,8 +212,8 @@ walk_once read layout reserved address size listings h =
     ])).once
 
 pub room_law : RoomLaw
-room_law image kind r v new valid e =
-    let found = open_map image kind r v new valid e in
+room_law image kind r v new e =
+    let found = open_map image kind r v new e in
     let m = found.0 in
     let o = found.1 in
     let layout = Layout.New m in

@@ -18,13 +18,12 @@ use Rattle.fc_image.specs.Layout.{Layout, map_place, hole_sectors, id_sectors, i
 use Rattle.fc_image.specs.Walk.{Object, Listing, reader_of}
 use Rattle.fc_image.specs.Objects.{objects_of, is_owned, tree_of}
 use Rattle.fc_image.specs.Opening.{Opened, reserved_in, boot_place}
-use Rattle.fc_image.specs.Stays.{OpensAs, HasSectorsOf, stored_objects, is_fixed, is_fixed_run, fixed_sectors, FixedStay, FixedBytesStay, SameOutsideHoles}
-use Rattle.fc_image.specs.Moves.{sectors_or_none, object_in, listing_in, with_map, Carried, WithMapLaw, CommitLaw, HoleStepLaw, ThenLaw, WholeLaw, KeepsObjectsLaw, BootStaysLaw}
-use Rattle.fc_image.proofs.FreeLemmas.{among_here, parts_of, fits_same}
-use Rattle.fc_image.proofs.KindLemmas.{boot_bytes}
+use Rattle.fc_image.specs.Stays.{OpensAs, stored_objects, is_fixed, is_fixed_run, fixed_sectors, FixedStay, FixedBytesStay, SameOutsideHoles}
+use Rattle.fc_image.specs.Moves.{sectors_or_none, object_in, listing_in, with_map, Carried, WithMapLaw, CommitLaw, HoleStepLaw, ThenLaw, WholeLaw, BootStaysLaw}
+use Rattle.fc_image.proofs.FreeLemmas.{among_here}
 use Rattle.fc_image.proofs.StoredLemmas.{stored_tree}
-use Rattle.fc_image.proofs.HolesLemmas.{OpenMap, Each, EachListed, Lies, walk_lies, none_loose, loose_sectors, holes_loose, no_hole_in, apart_at, hole_write_law}
-use Rattle.fc_image.proofs.MoveLemmas.{open_by, all_filter, unless, id_loose, fixed_stay, move_law, merge_law}
+use Rattle.fc_image.proofs.HolesLemmas.{OpenMap, Each, EachListed, Lies, walk_lies, none_loose, loose_sectors, holes_loose, hole_write_law}
+use Rattle.fc_image.proofs.MoveLemmas.{open_by, all_filter, unless, id_loose, fixed_stay, boot_fits, move_law, merge_law}
 
 -- ---- what is opened, by a map
 
@@ -63,7 +62,7 @@ again_map m m' v = ap (λ (ls : List Listing). let w : Opened = record { kind = 
 
 pub with_map_law : WithMapLaw
 with_map_law = record {
-  own = λ image kind r v m new valid e layout. own_map image kind r v m (open_by image kind r v m new valid e layout);
+  own = λ image kind r v m new e layout. own_map image kind r v m (open_by image kind r v m new e layout);
   again = again_map;
 }
 
@@ -103,20 +102,20 @@ carried_over size image other holes (s ∷ old) (t ∷ new) in_holes in_old c = 
 )
 
 pub commit_law : CommitLaw
-commit_law image other kind r v m m' new valid e fits layout can left =
-    let o = open_by image kind r v m new valid e layout in
+commit_law image other kind r v m m' new e layout can left =
+    let o = open_by image kind r v m new e layout in
     let out : (s : ℕ) → is_among (map_sectors m.geometry) s ≡ false → sector_at m.geometry.sector other s ≡ sector_at m.geometry.sector image s = λ s h. left.frame.outside s (outside_map m.geometry s h) in
     let objects = objects_of v.listings in
     let tight = none_loose (loose_sectors m objects) (reserved_in kind (Layout.New m)) o.tight in
     let not_map : (s : ℕ) → is_among (loose_sectors m objects) s ≡ true → is_among (map_sectors m.geometry) s ≡ false =
     λ s l. unless (is_among (map_sectors m.geometry) s) (λ i. let no' = tight s (in_front (map_sectors m.geometry) (boot_place kind m.geometry.sector) s i) in cc) in (
-      λ old. merge_law image other kind r v m m new valid e fits layout (record {
+      λ old. merge_law image other kind r v m m new e layout (record {
         turns = record { geometry_stays = refl; record_stays = refl; is_map = o.map_is; chosen_map = old; length_stays = left.frame.same_length; outside = λ s h free. out s h };
         fixed = λ k h. refl;
         sectors = λ k. refl;
       }),
       λ after. elim can [
-        | inl move ↦ (let c = move.1 in move_law image other kind r v m m' move.0 new valid e fits layout (record {
+        | inl move ↦ (let c = move.1 in move_law image other kind r v m m' move.0 new e layout (record {
           turns = record { geometry_stays = c.geometry_stays; record_stays = c.record_stays; is_map = c.is_map; chosen_map = after; length_stays = left.frame.same_length; outside = λ s h free. out s h };
           movable = c.movable;
           others = c.others;
@@ -124,7 +123,7 @@ commit_law image other kind r v m m' new valid e fits layout can left =
               (λ t h. out t (not_map t (holes_loose m objects t h)))
               (λ s i. out s (not_map s (id_loose m objects move.0 s o.some c.movable i))) c.carried;
         }))
-        | inr c ↦ merge_law image other kind r v m m' new valid e fits layout (record {
+        | inr c ↦ merge_law image other kind r v m m' new e layout (record {
           turns = record { geometry_stays = c.geometry_stays; record_stays = c.record_stays; is_map = c.is_map; chosen_map = after; length_stays = left.frame.same_length; outside = λ s h free. out s h };
           fixed = c.fixed;
           sectors = c.sectors;
@@ -135,11 +134,11 @@ commit_law image other kind r v m m' new valid e fits layout can left =
 -- ---- writes into holes
 
 pub hole_step_law : HoleStepLaw
-hole_step_law image other kind r v m new valid e layout len same =
-    let o = open_by image kind r v m new valid e layout in
+hole_step_law image other kind r v m new e layout len same =
+    let o = open_by image kind r v m new e layout in
     let own = own_map image kind r v m o in
     let objects = objects_of v.listings in
-    let written = hole_write_law image other kind r v new valid e len
+    let written = hole_write_law image other kind r v new e len
     (subst (λ (l : Layout). SameOutsideHoles (geometry r).sector l image other) (sym layout)
     (subst (λ (g : Geometry). SameOutsideHoles g.sector (Layout.New m) image other) o.geometry_is same)) in
     record {
@@ -230,11 +229,11 @@ all_from P xs each = subst (All P) (all_kept xs) (all_filter (λ s. true) P xs (
     all_kept (y ∷ ys) = ap (λ (zs : List ℕ). y ∷ zs) (all_kept ys)
 
 pub then_law : ThenLaw
-then_law first second third kind r v m₀ m m' new valid e layout one two =
+then_law first second third kind r v m₀ m m' new e layout one two =
     let objects = objects_of v.listings in
     let objects' = objects_of (with_map m v).listings in
-    let o = open_by first kind r v m₀ new valid e layout in
-    let o' = open_by second kind r (with_map m v) m new valid one.opens refl in
+    let o = open_by first kind r v m₀ new e layout in
+    let o' = open_by second kind r (with_map m v) m new one.opens refl in
     let same_geometry : m.geometry ≡ m₀.geometry = o'.geometry_is ∙ sym o.geometry_is in
     let again = again_map m m' v in
     let fixed : (k : ℕ) → is_fixed objects k ≡ true → id_runs m k ≡ id_runs m₀ k = subst (λ (l : Layout). FixedStay l (Layout.New m) objects) layout one.fixed in
@@ -256,21 +255,4 @@ then_law first second third kind r v m₀ m m' new valid e layout one two =
     }
 
 pub boot_stays_law : BootStaysLaw
-boot_stays_law image other r v m valid e layout apart len outside =
-    let o = open_by image (Boot r) r v m refl valid e layout in
-    let fits = (parts_of image (Boot r) v e).1.5 in
-    let same : HasSectorsOf m.geometry.sector (boot_place (Boot r) m.geometry.sector) image other =
-    λ s h. outside s (apart_at (boot_place (Boot r) m.geometry.sector) (map_sectors m.geometry) s apart h)
-    (no_hole_in m (objects_of v.listings) (reserved_in (Boot r) (Layout.New m)) o.tight s (in_back (map_place (Layout.New m)) (boot_place (Boot r) m.geometry.sector) s h)) in
-    let same' : HasSectorsOf (geometry r).sector (boot_place (Boot r) (geometry r).sector) image other =
-    subst (λ (g : Geometry). HasSectorsOf g.sector (boot_place (Boot r) g.sector) image other) o.geometry_is same in
-    fits_same image other (Boot r) len (boot_bytes r r.log2_sector image other o.facts.sector_low o.facts.sector_high same') ∙ fits
-
-pub keeps_objects_law : KeepsObjectsLaw
-keeps_objects_law = record {
-  same = λ image kind r v m new valid e layout. (m, hole_step_law image image kind r v m new valid e layout refl (λ s h. refl));
-  after = λ first second third one two kind r v m new valid e layout.
-      (let a = one kind r v m new valid e layout in
-      let b = two kind r (with_map a.0 v) a.0 new valid a.1.opens refl in
-      (b.0, then_law first second third kind r v m a.0 b.0 new valid e layout a.1 b.1));
-}
+boot_stays_law image other r v m e layout len outside = boot_fits image other r r v m (open_by image (Boot r) r v m refl e layout) len outside

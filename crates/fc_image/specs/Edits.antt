@@ -10,7 +10,6 @@ use Rattle.fc_image.specs.Opening.{Opened}
 use Rattle.fc_image.specs.Stays.{IsNewKind, OpensAs, HasSectorsOf}
 use Rattle.fc_record.specs.declared.DiscRecord.{DiscRecord}
 use Rattle.fc_record.specs.declared.Kind.{Kind}
-use Rattle.fc_record.specs.Record.{is_valid}
 
 -- the object's sectors are those of its address
 abbrev pub IsAt : Layout → Object → Type 0
@@ -58,7 +57,7 @@ pub record WalkFormLaw : Type 0 where
 
 -- An opened disc has no more directories than sectors.
 abbrev pub RoomLaw : Type 0
-RoomLaw = (image : List ℕ) (kind : Kind) (r : DiscRecord) (v : Opened) → IsNewKind kind r → is_valid r ≡ true → OpensAs image kind v → length v.listings ≤ disc_sectors v.layout
+RoomLaw = (image : List ℕ) (kind : Kind) (r : DiscRecord) (v : Opened) → IsNewKind kind r → OpensAs image kind v → length v.listings ≤ disc_sectors v.layout
 
 -- ---- edits
 

@@ -1,18 +1,18 @@
 -- Maps that change while the tree stays: runs that move into holes, and runs that become one.
-use Rattle.std.specs.Prelude.{◌≡◌, ◌<◌, ◌≤◌, ◌+◌, ◌⊎◌, ℕ, slice_index, true, false, List, [], ◌∷◌, ◌++◌, length, map, filter, Option, Some, None}
+use Rattle.std.specs.Prelude.{◌≡◌, ◌<◌, ◌≤◌, ◌+◌, ◌⊎◌, ℕ, slice_index, true, false, List, [], ◌∷◌, ◌++◌, length, map, filter, Option, Some, None, Ok}
 use Rattle.std.specs.List.{range_with_len}
 use Rattle.fc_device.specs.Sectors.{sector_at}
 use Rattle.fc_record.specs.declared.DiscRecord.{DiscRecord}
 use Rattle.fc_record.specs.declared.Kind.{Kind}
-use Rattle.fc_record.specs.declared.Kind.TheVariants.{Boot}
-use Rattle.fc_record.specs.Record.{is_valid}
-use Rattle.fc_record.specs.Kinds.{map_record, fits_kind}
+use Rattle.fc_record.specs.declared.Kind.TheVariants.{Boot, OneZone}
+use Rattle.fc_record.specs.declared.Geometry.{Geometry}
+use Rattle.fc_record.specs.Kinds.{IsKind, map_record, fits_kind}
 use Rattle.fc_newmap.specs.Map.{Map, IsMap, sector_of, id_runs, all_runs, sectors_of, map_sectors}
 use Rattle.fc_copies.specs.Copies.{Chooses, CommitLeaves}
 use Rattle.fc_image.specs.Layout.{Layout, dir_form, sectors_at, id_sectors, hole_sectors, is_among, is_apart}
 use Rattle.fc_image.specs.Walk.{Object, Listing, object_size}
 use Rattle.fc_image.specs.Objects.{objects_of, tree_of, is_movable, is_owned}
-use Rattle.fc_image.specs.Opening.{Opened, is_hole_or_movable, boot_place}
+use Rattle.fc_image.specs.Opening.{Opened, MapAndRoot, map_and_root, is_hole_or_movable, boot_place}
 use Rattle.fc_image.specs.Stays.{IsNewKind, OpensAs, StaysWhole, stored_objects, FixedStay, FixedBytesStay, SameOutsideHoles}
 
 -- ---- what is opened, where the map is another
@@ -88,35 +88,44 @@ pub record StaysBy (kind : Kind) (image : List ℕ) (v : Opened) (m' : Map) (oth
   pub fixed_bytes : FixedBytesStay v.layout (objects_of v.listings) image other
   pub owned : (k : ℕ) → is_owned (objects_of (with_map m' v).listings) k ≡ is_owned (objects_of v.listings) k
 
--- The laws below take it that the second image passes the kind's own test. On a disc with a boot block it does, where no
--- sector of the boot block holds the map and the images differ only in the map and in holes.
+-- No sector of the boot block of an image that opens holds the map.
+abbrev pub BootApartLaw : Type 0
+BootApartLaw = (image : List ℕ) (kind : Kind) (v : Opened) (m : Map) → OpensAs image kind v → v.layout ≡ Layout.New m
+    → is_apart (boot_place kind m.geometry.sector) (map_sectors m.geometry) ≡ true
+
+-- A disc with a boot block passes its kind's own test, where it differs from one that opens only in the map and in holes.
 abbrev pub BootStaysLaw : Type 0
-BootStaysLaw = (image other : List ℕ) (r : DiscRecord) (v : Opened) (m : Map) → is_valid r ≡ true → OpensAs image (Boot r) v → v.layout ≡ Layout.New m
-    → is_apart (boot_place (Boot r) m.geometry.sector) (map_sectors m.geometry) ≡ true → length other ≡ length image
+BootStaysLaw = (image other : List ℕ) (r : DiscRecord) (v : Opened) (m : Map) → OpensAs image (Boot r) v → v.layout ≡ Layout.New m
+    → length other ≡ length image
     → ((s : ℕ) → is_among (map_sectors m.geometry) s ≡ false → is_among (hole_sectors (Layout.New m)) s ≡ false
     → sector_at m.geometry.sector other s ≡ sector_at m.geometry.sector image s)
     → fits_kind other (Boot r) ≡ true
 
+-- A disc of one zone passes its kind's own test, where its map is found.
+abbrev pub ZoneFitsLaw : Type 0
+ZoneFitsLaw = (image : List ℕ) (r : DiscRecord) (found : MapAndRoot) → IsKind (OneZone r) → r.size ≤ length image → map_and_root image (OneZone r) ≡ Ok found
+    → fits_kind image (OneZone r) ≡ true
+
 -- Movable identifiers may move.
 abbrev pub CarryLaw : Type 0
-CarryLaw = (image other : List ℕ) (kind : Kind) (r : DiscRecord) (v : Opened) (m m' : Map) (f : ℕ → ℕ) → IsNewKind kind r → is_valid r ≡ true
-    → OpensAs image kind v → fits_kind other kind ≡ true → v.layout ≡ Layout.New m → Carries m m' (objects_of v.listings) image other f → StaysBy kind image v m' other
+CarryLaw = (image other : List ℕ) (kind : Kind) (r : DiscRecord) (v : Opened) (m m' : Map) (f : ℕ → ℕ) → IsNewKind kind r
+    → OpensAs image kind v → v.layout ≡ Layout.New m → Carries m m' (objects_of v.listings) image other f → StaysBy kind image v m' other
 
 -- A movable identifier may move into holes.
 abbrev pub MoveLaw : Type 0
-MoveLaw = (image other : List ℕ) (kind : Kind) (r : DiscRecord) (v : Opened) (m m' : Map) (id : ℕ) → IsNewKind kind r → is_valid r ≡ true
-    → OpensAs image kind v → fits_kind other kind ≡ true → v.layout ≡ Layout.New m → MovesOne m m' (objects_of v.listings) id image other → StaysBy kind image v m' other
+MoveLaw = (image other : List ℕ) (kind : Kind) (r : DiscRecord) (v : Opened) (m m' : Map) (id : ℕ) → IsNewKind kind r
+    → OpensAs image kind v → v.layout ≡ Layout.New m → MovesOne m m' (objects_of v.listings) id image other → StaysBy kind image v m' other
 
 -- Runs and holes that touch may become one, and may be cut.
 abbrev pub MergeLaw : Type 0
-MergeLaw = (image other : List ℕ) (kind : Kind) (r : DiscRecord) (v : Opened) (m m' : Map) → IsNewKind kind r → is_valid r ≡ true
-    → OpensAs image kind v → fits_kind other kind ≡ true → v.layout ≡ Layout.New m → MovesNone m m' (objects_of v.listings) image other → StaysBy kind image v m' other
+MergeLaw = (image other : List ℕ) (kind : Kind) (r : DiscRecord) (v : Opened) (m m' : Map) → IsNewKind kind r
+    → OpensAs image kind v → v.layout ≡ Layout.New m → MovesNone m m' (objects_of v.listings) image other → StaysBy kind image v m' other
 
 -- ---- steps, and one after another
 
 -- With its own map what is opened is itself, and of two maps the later counts.
 pub record WithMapLaw : Type 0 where
-  pub own : (image : List ℕ) (kind : Kind) (r : DiscRecord) (v : Opened) (m : Map) → IsNewKind kind r → is_valid r ≡ true → OpensAs image kind v → v.layout ≡ Layout.New m → with_map m v ≡ v
+  pub own : (image : List ℕ) (kind : Kind) (r : DiscRecord) (v : Opened) (m : Map) → IsNewKind kind r → OpensAs image kind v → v.layout ≡ Layout.New m → with_map m v ≡ v
   pub again : (m m' : Map) (v : Opened) → with_map m' (with_map m v) ≡ with_map m' v
 
 -- what was copied into holes lets the map m' be committed
@@ -142,34 +151,45 @@ CanCommit m m' objects image = ((id : ℕ) × CanMove m m' objects id image) ⊎
 
 -- Each image that a stop inside a commit may leave, and the one after it, has the tree whole, by the old map or the new one.
 abbrev pub CommitLaw : Type 0
-CommitLaw = (image other : List ℕ) (kind : Kind) (r : DiscRecord) (v : Opened) (m m' : Map) → IsNewKind kind r → is_valid r ≡ true
-    → OpensAs image kind v → fits_kind other kind ≡ true → v.layout ≡ Layout.New m → CanCommit m m' (objects_of v.listings) image → CommitLeaves m.geometry image m.zones m'.zones other
+CommitLaw = (image other : List ℕ) (kind : Kind) (r : DiscRecord) (v : Opened) (m m' : Map) → IsNewKind kind r
+    → OpensAs image kind v → v.layout ≡ Layout.New m → CanCommit m m' (objects_of v.listings) image → CommitLeaves m.geometry image m.zones m'.zones other
     → (Chooses m.geometry m.zones other → StaysBy kind image v m other) × (Chooses m.geometry m'.zones other → StaysBy kind image v m' other)
 
 -- what is written into holes
 abbrev pub HoleStepLaw : Type 0
-HoleStepLaw = (image other : List ℕ) (kind : Kind) (r : DiscRecord) (v : Opened) (m : Map) → IsNewKind kind r → is_valid r ≡ true
+HoleStepLaw = (image other : List ℕ) (kind : Kind) (r : DiscRecord) (v : Opened) (m : Map) → IsNewKind kind r
     → OpensAs image kind v → v.layout ≡ Layout.New m → length other ≡ length image → SameOutsideHoles m.geometry.sector (Layout.New m) image other
     → StaysBy kind image v m other
 
 -- one step after others
 abbrev pub ThenLaw : Type 0
-ThenLaw = (first second third : List ℕ) (kind : Kind) (r : DiscRecord) (v : Opened) (m₀ m m' : Map) → IsNewKind kind r → is_valid r ≡ true
+ThenLaw = (first second third : List ℕ) (kind : Kind) (r : DiscRecord) (v : Opened) (m₀ m m' : Map) → IsNewKind kind r
     → OpensAs first kind v → v.layout ≡ Layout.New m₀ → StaysBy kind first v m second → StaysBy kind second (with_map m v) m' third → StaysBy kind first v m' third
 
 -- so the tree is whole
 abbrev pub WholeLaw : Type 0
 WholeLaw = (image other : List ℕ) (kind : Kind) (v : Opened) (m' : Map) → StaysBy kind image v m' other → StaysWhole kind image v other
 
--- From one image to another the tree is whole, where the first opens with a new map: what each stop and each exit keeps.
-abbrev pub KeepsObjects : List ℕ → List ℕ → Type 0
-KeepsObjects image other = (kind : Kind) (r : DiscRecord) (v : Opened) (m : Map) → IsNewKind kind r → is_valid r ≡ true → OpensAs image kind v → v.layout ≡ Layout.New m
-    → (m' : Map) × StaysBy kind image v m' other
+-- As each kind of one geometry an image has one map, and says the same.
+abbrev pub SameMapLaw : Type 0
+SameMapLaw = (image : List ℕ) (kind other : Kind) (r s : DiscRecord) (v w : Opened) (m n : Map) → IsNewKind kind r → IsNewKind other s → OpensAs image kind v → OpensAs image other w
+    → v.layout ≡ Layout.New m → w.layout ≡ Layout.New n → n.geometry ≡ m.geometry → (n ≡ m) × (w.listings ≡ v.listings)
 
--- It holds of an image and itself, and of the first and the last of three images.
+-- From one image to another the tree is whole, as each kind whose map has this geometry: what each stop and each exit keeps.
+-- (An image may open as another kind too, with other bytes as its map; that isn't kept.)
+abbrev pub KeepsObjects : Geometry → List ℕ → List ℕ → Type 0
+KeepsObjects g image other = (kind : Kind) (r : DiscRecord) (v : Opened) (m : Map) → IsNewKind kind r → OpensAs image kind v → v.layout ≡ Layout.New m
+    → m.geometry ≡ g → (m' : Map) × StaysBy kind image v m' other
+
+-- It holds of an image and itself, and of the first and the last of three images; what is written into holes keeps it, and so
+-- does each image inside a commit of a map that may be committed.
 pub record KeepsObjectsLaw : Type 0 where
-  pub same : (image : List ℕ) → KeepsObjects image image
-  pub after : (first second third : List ℕ) → KeepsObjects first second → KeepsObjects second third → KeepsObjects first third
+  pub same : (g : Geometry) (image : List ℕ) → KeepsObjects g image image
+  pub after : (g : Geometry) (first second third : List ℕ) → KeepsObjects g first second → KeepsObjects g second third → KeepsObjects g first third
+  pub hole : (image other : List ℕ) (kind : Kind) (r : DiscRecord) (v : Opened) (m : Map) → IsNewKind kind r → OpensAs image kind v → v.layout ≡ Layout.New m
+      → length other ≡ length image → SameOutsideHoles m.geometry.sector (Layout.New m) image other → KeepsObjects m.geometry image other
+  pub commit : (image other : List ℕ) (kind : Kind) (r : DiscRecord) (v : Opened) (m m' : Map) → IsNewKind kind r → OpensAs image kind v → v.layout ≡ Layout.New m
+      → CanCommit m m' (objects_of v.listings) image → CommitLeaves m.geometry image m.zones m'.zones other → KeepsObjects m.geometry image other
 
 -- ---- sectors that are carried, piece by piece
 

@@ -12,7 +12,7 @@ use Rattle.fc_zone.specs.declared.ZoneFault.{ZoneFault}
 use Rattle.fc_zone.specs.declared.RunKind.{RunKind}
 use Rattle.fc_zone.specs.declared.RunKind.TheVariants as kinds
 use Rattle.fc_oldmap.specs.OldMap.{free_space, hole_fault}
-use Rattle.fc_newmap.specs.Map.{Map, first_fault, zone_numbers, all_runs, sectors_of}
+use Rattle.fc_newmap.specs.Map.{Map, first_fault, zone_numbers, all_runs, sectors_of, map_sectors}
 use Rattle.fc_copies.specs.declared.Which.{Which}
 use Rattle.fc_copies.specs.Copies.{chosen, copy_of}
 use Rattle.std.specs.List.{zip}
@@ -119,12 +119,12 @@ abbrev pub least_of : List ℕ → Option ℕ
 least_of [] = None
 least_of (n ∷ ns) = Some (least_or n (least_of ns))
 
--- the first sector of the map or of a boot block that compaction or an object might come to take
+-- the first sector of the map or of a boot block that compaction or an object might come to take, or that is of both
 abbrev pub misplaced_sector : Kind → Layout → List Object → Option ℕ
 misplaced_sector kind (Layout.Old space) objects = None
 misplaced_sector kind (Layout.New m) objects =
     let misplaced = sectors_of m.geometry (filter (λ p. is_hole_or_movable objects p.1.kind) (all_runs m)) in
-    least_of (filter (is_among misplaced) (reserved_in kind (Layout.New m)))
+    least_of (filter (is_among misplaced) (reserved_in kind (Layout.New m)) ++ filter (is_among (map_sectors m.geometry)) (boot_place kind m.geometry.sector))
 
 -- what was opened, unless a sector of the map is misplaced
 abbrev pub unless_misplaced : Opened → Option ℕ → Result Opened ImageFault

@@ -1,6 +1,9 @@
 -- Whole images, worked out.
 use Rattle.std.specs.Prelude.{◌≡◌, ℕ, List, [], ◌∷◌, ◌++◌, take, drop, replicate, Option, Some, None, Result, Ok, Err}
-use Rattle.fc_checks.specs.Rows.{e_root}
+use Rattle.fc_checks.specs.Rows.{e_root, e_sector}
+use Rattle.fc_record.specs.Rows.{e}
+use Rattle.fc_record.specs.Record.{record_of}
+use Rattle.fc_image.specs.Layout.{Layout}
 use Rattle.fc_checks.specs.Checks.{small_dir_check}
 use Rattle.fc_zone.specs.Edits.{sealed}
 use Rattle.fc_oldmap.specs.OldMap.{with_holes}
@@ -8,8 +11,8 @@ use Rattle.fc_dirs.specs.declared.DirFault.TheVariants as dirs
 use Rattle.fc_image.specs.declared.ImageFault.{ImageFault}
 use Rattle.fc_image.specs.declared.ImageFault.TheVariants as faults
 use Rattle.fc_image.specs.Report.{Counts, counts}
-use Rattle.fc_record.specs.declared.Kind.TheVariants.{DiscD, DiscL}
-use Rattle.fc_image.specs.Opening.{Opened, open_image, open_as}
+use Rattle.fc_record.specs.declared.Kind.TheVariants.{Boot, OneZone, DiscD, DiscL}
+use Rattle.fc_image.specs.Opening.{Opened, misplaced_sector, open_image, open_as}
 
 -- the fault of an image that does not open
 abbrev pub fault_of : Result Opened ImageFault → Option ImageFault
@@ -81,3 +84,6 @@ pub record ImageRows : Type 0 where
   pub as_l : counts_of (open_as least_l (DiscL 7)) ≡ Some (record { files = 0; dirs = 1; lost = 0; holes = 0; free = 0; unsorted = 0; parents = 0 })
   pub unchecked : fault_of (open_as (take 255 least_l ++ 1 ∷ drop 256 least_l) (DiscL 7)) ≡ Some faults.NoKind
   pub as_d : fault_of (open_as least_l DiscD) ≡ Some faults.NoKind
+  -- sector 3 is of the boot block and the map, and sector 4, of the map, lies in a hole
+  pub boot_in_map : misplaced_sector (Boot (record_of [])) (Layout.New (record { geometry = record e { map_sector = 3 }; zones = e_sector ∷ [] })) [] ≡ Some 3
+  pub map_in_hole : misplaced_sector (OneZone (record_of [])) (Layout.New (record { geometry = record e { map_sector = 3 }; zones = e_sector ∷ [] })) [] ≡ Some 4

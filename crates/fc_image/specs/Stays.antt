@@ -1,12 +1,12 @@
 -- Images that open to the very same tree.
-use Rattle.fc_record.specs.Record.{geometry, is_valid}
+use Rattle.fc_record.specs.Record.{geometry}
 use Rattle.fc_record.specs.declared.Kind.TheVariants.{Boot, OneZone, DiscD, DiscL}
 use Rattle.fc_record.specs.declared.DiscRecord.{DiscRecord}
 use Rattle.std.specs.Prelude.{◌≡◌, ℕ, Bool, true, false, ◌||◌, ◌==◌, List, length, map, filter, not, Ok, Contains, All}
 use Rattle.fc_device.specs.Sectors.{sector_at}
 use Rattle.fc_record.specs.declared.Kind.{Kind}
 use Rattle.fc_bytes.specs.Words.{bytes_at}
-use Rattle.fc_record.specs.Kinds.{boot_block}
+use Rattle.fc_record.specs.Kinds.{boot_block, IsKind}
 use Rattle.fc_names.specs.Names.{Path}
 use Rattle.fc_dirs.specs.declared.Entry.{Entry}
 use Rattle.fc_zone.specs.declared.RunKind.{RunKind}
@@ -18,9 +18,10 @@ use Rattle.fc_image.specs.Walk.{Listing, Object, object_bytes}
 use Rattle.fc_image.specs.Objects.{objects_of, tree_of, is_lost}
 use Rattle.fc_image.specs.Opening.{Opened, open_as}
 
--- the image opens as a disc of that kind, and says this
-abbrev pub OpensAs : List ℕ → Kind → Opened → Type 0
-OpensAs image kind v = open_as image kind ≡ Ok v
+-- the image opens as a disc of that kind, and says this; the kind's record is a valid one as its bytes say it
+pub record OpensAs (image : List ℕ) (kind : Kind) (v : Opened) : Type 0 where
+  pub kind_right : IsKind kind
+  pub opened : open_as image kind ≡ Ok v
 
 -- identifiers 1 and 2 and lost identifiers
 abbrev pub is_fixed : List Object → ℕ → Bool
@@ -117,7 +118,7 @@ FreeLaw = (image other : List ℕ) (kind : Kind) (r : DiscRecord) (v : Opened) �
 -- Holes lie apart from the map and all objects. With the law above this is the law of holes: what is written into a hole
 -- leaves the image as it opens.
 abbrev pub HolesLaw : Type 0
-HolesLaw = (image : List ℕ) (kind : Kind) (r : DiscRecord) (v : Opened) → IsNewKind kind r → is_valid r ≡ true → OpensAs image kind v
+HolesLaw = (image : List ℕ) (kind : Kind) (r : DiscRecord) (v : Opened) → IsNewKind kind r → OpensAs image kind v
     → (is_apart (map_place v.layout) (hole_sectors v.layout) ≡ true)
     × ((o : Object) → Contains (objects_of v.listings) o → is_apart o.sectors (hole_sectors v.layout) ≡ true)
 
@@ -127,6 +128,6 @@ SameOutsideHoles size layout image other = (s : ℕ) → is_among (hole_sectors 
 
 -- An image that differs only in sectors that lie in holes opens as the same, with the same objects.
 abbrev pub HoleWriteLaw : Type 0
-HoleWriteLaw = (image other : List ℕ) (kind : Kind) (r : DiscRecord) (v : Opened) → IsNewKind kind r → is_valid r ≡ true → OpensAs image kind v
+HoleWriteLaw = (image other : List ℕ) (kind : Kind) (r : DiscRecord) (v : Opened) → IsNewKind kind r → OpensAs image kind v
     → length other ≡ length image → SameOutsideHoles (geometry r).sector v.layout image other
     → OpensAs other kind v × (stored_objects other v ≡ stored_objects image v)

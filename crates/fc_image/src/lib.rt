@@ -4,10 +4,10 @@
 //! Source: the RISC OS PRM, chapter FileCore.
 #![tactic(auto)]
 
-ghost use Rattle.fc_image.specs.Laws.{OpensLaw, WalkLaw};
+ghost use Rattle.fc_image.specs.Laws.{AcceptedLaw, LaterOpeningLaw, OpensLaw, WalkLaw};
 ghost use Rattle.fc_image.specs.Rows.{ImageRows};
 ghost use Rattle.fc_image.specs.Edits.{ApartLaw, EditLaw, PathsLaw, RoomLaw, StayLaw, WalkEditLaw, WalkFormLaw};
-ghost use Rattle.fc_image.specs.Moves.{BootStaysLaw, CarriedLaw, CarryLaw, CommitLaw, HoleStepLaw, KeepsObjectsLaw, MergeLaw, MoveLaw, ThenLaw, WholeLaw, WithMapLaw};
+ghost use Rattle.fc_image.specs.Moves.{BootApartLaw, BootStaysLaw, CarriedLaw, CarryLaw, CommitLaw, HoleStepLaw, KeepsObjectsLaw, MergeLaw, MoveLaw, SameMapLaw, ThenLaw, WholeLaw, WithMapLaw, ZoneFitsLaw};
 ghost use Rattle.fc_image.specs.Stays.{FreeLaw, HoleWriteLaw, HolesLaw, StoredLaw};
 
 use fc_dirs::DirFault;
@@ -36,7 +36,7 @@ pub enum ImageFault {
     Place { path: Path },
     /// An object takes a sector that is taken already.
     Overlap { path: Path },
-    /// A sector of the map or of the boot block lies in a hole or in an identifier that may move.
+    /// A sector of the map or of the boot block lies in a hole or in an identifier that may move, or is of both.
     MapPlace { sector: u64 },
 }
 
@@ -53,6 +53,16 @@ pub fn walking()
 /// An image opens where its parts are right and its bytes spell them.
 pub fn opens()
     ensures { OpensLaw }
+{}
+
+/// An image that is accepted opens as its own kind.
+pub fn accepted()
+    ensures { AcceptedLaw }
+{}
+
+/// Opening an image by itself gives what opening it as a kind gives, where no earlier kind fits.
+pub fn opened_again()
+    ensures { LaterOpeningLaw }
 {}
 
 /// What lies outside the map and all objects counts for nothing.
@@ -75,9 +85,19 @@ pub fn hole_writes()
     ensures { HoleWriteLaw }
 {}
 
+/// No sector of a boot block holds the map.
+pub fn boot_apart()
+    ensures { BootApartLaw }
+{}
+
 /// A disc with a boot block keeps its kind, where only the map and holes change.
 pub fn boot_stays()
     ensures { BootStaysLaw }
+{}
+
+/// A disc of one zone keeps its kind, where its map is found.
+pub fn zone_fits()
+    ensures { ZoneFitsLaw }
 {}
 
 /// Movable identifiers may move, any number at once.
@@ -118,6 +138,11 @@ pub fn steps()
 /// A step that keeps all objects keeps the image whole.
 pub fn wholes()
     ensures { WholeLaw }
+{}
+
+/// As each kind of one geometry an image has one map, and says the same.
+pub fn one_map()
+    ensures { SameMapLaw }
 {}
 
 /// What each stop of compaction keeps, is kept from one to the next.

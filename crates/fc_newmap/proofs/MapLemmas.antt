@@ -24,13 +24,13 @@ zone_read g z sector runs within e =
     let both = runs_from-Right (shape g z) (bits sector) (AreBits-bits sector) (omega (arith, length-bits sector)) _ (shape g z).first _ runs (in_zone-Ok z _ runs e) in
     record { spelled = both.0; chained = both.1 }
 
-pub zones_of_map : (m : Map) → IsMap m → ((z : ℕ) → z < m.geometry.zones → end_bit m.geometry z ≤ 8 * length (sector_of m z)) → HasZones m
+pub zones_of_map : (m : Map) → IsMap m → ((z : ℕ) → z < m.geometry.zones → end_bit m.geometry z ≤ 8 * m.geometry.sector) → HasZones m
 unfolding read_runs
 zones_of_map m is within z low =
     let all = is.all in
     let r = is.right z (omega arith) in
     let runs : r.0 ≡ runs_of m z = ap (λ (q : Result (List Run) ZoneFault). runs_or_none q) (sym r.1) in
-    subst (λ (rs : List Run). Zone (shape m.geometry z) (sector_of m z) rs) runs (zone_read m.geometry z (sector_of m z) r.0 (within z low) r.1)
+    subst (λ (rs : List Run). Zone (shape m.geometry z) (sector_of m z) rs) runs (zone_read m.geometry z (sector_of m z) r.0 (omega (arith, within z low, is.whole z (omega arith))) r.1)
 
 no_fault : (g : Geometry) (zones : List (List ℕ)) (from n : ℕ) → length zones ≡ n → first_fault g (zip (range_with_len from n) zones) ≡ None
     → (i : ℕ) → i < n → (runs : List Run) × (zone_of (shape g (from + i)) (slice_index_or zones i []) ≡ Ok runs)
@@ -47,9 +47,11 @@ no_fault g (sector ∷ zones) from (suc n) e h i low = by (zone_of (shape g from
         (r.0, subst (λ (z : ℕ). zone_of (shape g z) (slice_index_or zones j []) ≡ Ok r.0) (let k : from + 1 + j ≡ from + suc j = omega arith in k) r.1)
     by (Err fault) f h' j below more = absurd (cc)
 
-pub map_of_no_fault : (m : Map) → length m.zones ≡ m.geometry.zones → first_fault m.geometry (zip (zone_numbers m.geometry) m.zones) ≡ None → IsMap m
-map_of_no_fault m e h = record {
+pub map_of_no_fault : (m : Map) → length m.zones ≡ m.geometry.zones → ((z : ℕ) → z < m.geometry.zones → length (sector_of m z) ≡ m.geometry.sector)
+    → first_fault m.geometry (zip (zone_numbers m.geometry) m.zones) ≡ None → IsMap m
+map_of_no_fault m e whole h = record {
   all = e;
+  whole = λ z low. whole z (omega arith);
   right = λ z low.
       (let r = no_fault m.geometry m.zones 0 m.geometry.zones e h z (omega arith) in
       (r.0, subst (λ (k : ℕ). zone_of (shape m.geometry k) (sector_of m z) ≡ Ok r.0) (let k : 0 + z ≡ z = omega arith in k) r.1));
@@ -70,12 +72,15 @@ right_zones g (sector ∷ zones) from (suc n) each =
     let r = each (suc i) (omega arith) in
     (r.0, subst (λ (z : ℕ). zone_of (shape g z) (slice_index_or zones i []) ≡ Ok r.0) (let k : from + suc i ≡ from + 1 + i = omega arith in k) r.1)))
 
-pub no_fault_of_map : (m : Map) → IsMap m → first_fault m.geometry (zip (zone_numbers m.geometry) m.zones) ≡ None
-no_fault_of_map m is =
-    let all = is.all in
+pub no_fault_of_right : (m : Map) → ((z : ℕ) → z < m.geometry.zones → (runs : List Run) × (zone_of (shape m.geometry z) (sector_of m z) ≡ Ok runs))
+    → first_fault m.geometry (zip (zone_numbers m.geometry) m.zones) ≡ None
+no_fault_of_right m right =
     right_zones m.geometry m.zones 0 m.geometry.zones (λ i low.
-    let r = is.right i (omega arith) in
+    let r = right i low in
     (r.0, subst (λ (k : ℕ). zone_of (shape m.geometry k) (sector_of m i) ≡ Ok r.0) (let k : i ≡ 0 + i = omega arith in k) r.1))
+
+pub no_fault_of_map : (m : Map) → IsMap m → first_fault m.geometry (zip (zone_numbers m.geometry) m.zones) ≡ None
+no_fault_of_map m is = let all = is.all in no_fault_of_right m (λ z low. is.right z (omega arith))
 
 -- the first zone with a fault, where those before it have none
 fault_from : (g : Geometry) (zones : List (List ℕ)) (from n k : ℕ) (fault : ZoneFault) → length zones ≡ n → k < n
@@ -103,6 +108,5 @@ fault_of_zone m z fault long low each is =
     (subst (λ (k : ℕ). zone_of (shape m.geometry k) (sector_of m z) ≡ Err fault) (let j : z ≡ 0 + z = omega arith in j) is)
 
 -- a map whose zones have runs has no fault
-pub no_fault_of_zones : (m : Map) → length m.zones ≡ m.geometry.zones → HasZones m → first_fault m.geometry (zip (zone_numbers m.geometry) m.zones) ≡ None
-no_fault_of_zones m long has =
-    no_fault_of_map m (record { all = long; right = λ z low. (runs_of m z, Zone-zone_of (shape m.geometry z) (sector_of m z) (runs_of m z) (has z (omega arith))) })
+pub no_fault_of_zones : (m : Map) → HasZones m → first_fault m.geometry (zip (zone_numbers m.geometry) m.zones) ≡ None
+no_fault_of_zones m has = no_fault_of_right m (λ z low. (runs_of m z, Zone-zone_of (shape m.geometry z) (sector_of m z) (runs_of m z) (has z low)))

@@ -41,9 +41,10 @@ abbrev pub first_fault : Geometry → List (ℕ × List ℕ) → Option ZoneFaul
 first_fault g [] = None
 first_fault g (zone ∷ zones) = fault_or (zone_of (shape g zone.0) zone.1) (first_fault g zones)
 
--- The map has all its zones, and each of them has runs.
+-- The map has all its zones, each of them is a whole sector, and has runs.
 pub record IsMap (m : Map) : Type 0 where
   pub all : length m.zones ≡ m.geometry.zones
+  pub whole : EachIndex m.zones (λ z. length (sector_of m z) ≡ m.geometry.sector)
   pub right : EachIndex m.zones (λ z. (runs : List Run) × (zone_of (shape m.geometry z) (sector_of m z) ≡ Ok runs))
 
 -- ---- runs

@@ -10,6 +10,8 @@ use Rattle.fc_dirs.specs.declared.DirFault.TheVariants as dirs
 use Rattle.fc_names.specs.declared.name.NameForm.{NameForm}
 use Rattle.fc_names.specs.declared.name.NameForm.TheVariants as forms
 use Rattle.fc_dirs.specs.declared.SmallForm.TheVariants.{Bytes1280, Bytes2048}
+use Rattle.fc_dirs.specs.Small.{IsSmall}
+use Rattle.fc_dirs.specs.Big.{IsBig}
 use Rattle.fc_dirs.specs.Directory.{Directory}
 use Rattle.fc_image.specs.Layout.{dir_form}
 use Rattle.fc_image.specs.Walk.{Listing, Reader, walk}
@@ -43,14 +45,20 @@ HasForm forms.Ten len (Directory.Small dir) = dir.form ≡ Bytes2048
 HasForm forms.Long len (Directory.Big dir) = dir.size ≡ len
 HasForm _ len _ = ⊥
 
--- The walk over the nodes' directories meets no fault, and finds these nodes; no sector of the map lies in a hole or a
--- movable identifier; the owners are theirs.
+-- a directory that bytes can say
+abbrev pub IsDirectory : Directory → Type 0
+IsDirectory (Directory.Small dir) = IsSmall dir
+IsDirectory (Directory.Big dir) = IsBig dir
+
+-- The walk over the nodes' directories meets no fault, and finds these nodes; bytes can say each directory; no sector of
+-- the map lies in a hole or a movable identifier; the owners are theirs.
 pub record Agree (parts : Parts) : Type 0 where
   pub root : Node
   pub root_is : get parts.nodes 0 ≡ Some root
   pub listings : List Listing
   pub walked : walk (reader_of_nodes parts.nodes) parts.layout (reserved_in no_boot parts.layout) root.entry.address root.entry.len ≡ Ok listings
   pub forms : (l : Listing) → Contains listings l → HasForm (dir_form parts.layout) l.object.entry.len l.content
+  pub bodies : (l : Listing) → Contains listings l → IsDirectory l.content
   pub held : HoldObjects parts.nodes listings
   pub map_placed : misplaced_sector no_boot parts.layout (objects_of listings) ≡ None
   pub owned : AreOwners parts.owners parts.nodes parts.layout (objects_of listings)

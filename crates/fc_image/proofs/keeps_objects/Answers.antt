@@ -1,4 +1,4 @@
-use Rattle.fc_image.proofs.StepLemmas.{keeps_objects_law}
+use Rattle.fc_image.proofs.SameMapLemmas.{keeps_objects_law}
 use Rattle.fc_image.proofs.keeps_objects.Goals as goal
 
 pub returns : goal.returns

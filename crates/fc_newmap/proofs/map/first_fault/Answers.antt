@@ -24,4 +24,4 @@ loop-z-preserved c = λ k low. elim (cases_lt k c.loop-z.z) [
 pub returns-clause-fault : goal.returns-clause-fault
 returns-clause-fault c =
     let m : Map = map_in c.args.g.now c.args.zones.now in
-    sym (no_fault_of_zones m (length-zones c.args.g.now c.args.zones.now) (λ z low. c.loop-z.invariant z (omega arith)))
+    sym (no_fault_of_zones m (λ z low. c.loop-z.invariant z (omega arith)))
