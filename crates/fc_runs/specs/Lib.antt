@@ -4,3 +4,4 @@ pub mod Demo
 pub mod Rows
 pub mod HostRun
 pub mod ReadLaw
+pub mod Early
