@@ -25,14 +25,15 @@ Files = FinMap (slice_cmp nat_cmp) (List ℕ)
 abbrev pub HostRefuses : State → Files → Refusal → List ℕ → State → Files → Type 0
 HostRefuses s files refusal reply s' files' = Refuses s (refusal_line refusal) reply s' × (files' ≡ files)
 
+-- what `put` does with a file, which may be too long, where the model accepts it
+abbrev pub PutsBytes : Bool → Mode → State → Files → Command → List ℕ → State → Files → Type 0
+PutsBytes true mode s files save reply s' files' = HostRefuses s files refusals.HostTooLong reply s' files'
+PutsBytes false mode s files save reply s' files' = Takes mode s (Ok save) reply s' × (files' ≡ files)
+
 -- what `put` does where the model accepts it
 abbrev pub PutsFile : Mode → State → Files → (List ℕ → Command) → Option (List ℕ) → List ℕ → State → Files → Type 0
 PutsFile mode s files save None reply s' files' = HostRefuses s files refusals.NoHostFile reply s' files'
-PutsFile mode s files save (Some bytes) reply s' files' = fits (nat_lt 1073741824 (length bytes))
-  where
-    fits : Bool → Type 0
-    fits true = HostRefuses s files refusals.HostTooLong reply s' files'
-    fits false = Takes mode s (Ok (save bytes)) reply s' × (files' ≡ files)
+PutsFile mode s files save (Some bytes) reply s' files' = PutsBytes (nat_lt 1073741824 (length bytes)) mode s files (save bytes) reply s' files'
 
 -- `put` is refused as `save` is by the model, then for want of the file, and is else that `save`
 abbrev pub Puts : Mode → State → Files → (List ℕ → Command) → Option (List ℕ) → Result Tree Refusal → List ℕ → State → Files → Type 0

@@ -5,3 +5,4 @@ pub mod Rows
 pub mod HostRun
 pub mod ReadLaw
 pub mod Early
+pub mod TreeLaw

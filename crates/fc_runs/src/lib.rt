@@ -4,6 +4,7 @@
 
 ghost use Rattle.fc_runs.specs.ReadLaw.{ReadLaw};
 ghost use Rattle.fc_runs.specs.Rows.{RunRows};
+ghost use Rattle.fc_runs.specs.TreeLaw.{TreeLaw};
 
 /// The demo's first draws and script, and texts of replies, worked out.
 pub fn rows()
@@ -13,4 +14,9 @@ pub fn rows()
 /// A command that reads has exactly one reply, and leaves everything.
 pub fn reading()
     ensures { ReadLaw }
+{}
+
+/// Every step of a line ends with the same tree, whatever space it takes.
+pub fn trees()
+    ensures { TreeLaw }
 {}
