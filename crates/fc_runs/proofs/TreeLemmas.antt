@@ -21,7 +21,7 @@ answer_or_ok : (t t' : Tree) (refusal : Option Refusal) → answer_or t refusal 
 answer_or_ok t t' None e = cc
 answer_or_ok t t' (Some refusal) e = absurd (cc)
 
-answer_ok : (t t' : Tree) (form : NameForm) (ro : Bool) (c : Command) → answer t form ro c ≡ Ok t' → t' ≡ changed t c
+pub answer_ok : (t t' : Tree) (form : NameForm) (ro : Bool) (c : Command) → answer t form ro c ≡ Ok t' → t' ≡ changed t c
 unfolding answer
 answer_ok t t' form ro c e = answer_or_ok (changed t c) t' (first_of (reasons t form ro c)) e
 
@@ -29,7 +29,7 @@ changes_tree : (safe : Bool) (kind : Kind) (s s' : State) (c : Command) (t : Tre
 changes_tree true kind s s' c t e = e.tree
 changes_tree false kind s s' c t e = e.tree
 
-effect_tree : (mode : Mode) (s s' : State) (c : Command) (t : Tree) → t ≡ changed (tree_in s) c → Effect mode s c t s' → tree_in s' ≡ t
+pub effect_tree : (mode : Mode) (s s' : State) (c : Command) (t : Tree) → t ≡ changed (tree_in s) c → Effect mode s c t s' → tree_in s' ≡ t
 effect_tree mode s s' (Command.Cat path) t h e = ap tree_in e ∙ sym h
 effect_tree mode s s' (Command.Load path) t h e = ap tree_in e ∙ sym h
 effect_tree mode s s' (Command.Digest path) t h e = ap tree_in e ∙ sym h

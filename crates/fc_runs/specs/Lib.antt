@@ -6,3 +6,4 @@ pub mod HostRun
 pub mod ReadLaw
 pub mod Early
 pub mod TreeLaw
+pub mod RepliesLaw

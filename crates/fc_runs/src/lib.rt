@@ -5,6 +5,7 @@
 ghost use Rattle.fc_runs.specs.ReadLaw.{ReadLaw};
 ghost use Rattle.fc_runs.specs.Rows.{RunRows};
 ghost use Rattle.fc_runs.specs.TreeLaw.{TreeLaw};
+ghost use Rattle.fc_runs.specs.RepliesLaw.{RepliesLaw};
 
 /// The demo's first draws and script, and texts of replies, worked out.
 pub fn rows()
@@ -19,4 +20,9 @@ pub fn reading()
 /// Every step of a line ends with the same tree, whatever space it takes.
 pub fn trees()
     ensures { TreeLaw }
+{}
+
+/// Lines with the same replies end with the same tree on a new map.
+pub fn replies()
+    ensures { RepliesLaw }
 {}
