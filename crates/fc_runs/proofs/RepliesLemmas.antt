@@ -22,13 +22,12 @@ use Rattle.fc_safe.specs.Reclaim.{ReclaimOutside}
 use Rattle.fc_script.specs.Lines.{command_of}
 use Rattle.fc_script.specs.Texts.{ok_line, refusal_line}
 use Rattle.fc_runs.specs.Run.{Mode, ChangesBy, Effect, Serves, Answers, Takes, Steps, shortage, safe_line, layout_reason, reply_of, keeps_tree}
-use Rattle.fc_runs.specs.RepliesLaw.{RepliesLaw}
 use Rattle.fc_runs.proofs.TreeLemmas.{effect_tree, answer_ok}
 
 -- ---- the form of names stays
 
 -- a new map, with directories of the same form
-abbrev Kept : Layout → Layout → Type 0
+abbrev pub Kept : Layout → Layout → Type 0
 Kept l l' = IsNewLayout l' × (dir_form l' ≡ dir_form l)
 
 abbrev form_by : Geometry → NameForm
@@ -45,7 +44,7 @@ reclaim_kept old new kind (Layout.New m) (Layout.Old space') objects x = absurd 
 reclaim_kept old new kind (Layout.Old space) (Layout.New m') objects x = absurd x
 reclaim_kept old new kind (Layout.Old space) (Layout.Old space') objects x = absurd x
 
-same_kept : (s s' : State) → IsNewLayout s.view.layout → s' ≡ s → Kept s.view.layout s'.view.layout
+pub same_kept : (s s' : State) → IsNewLayout s.view.layout → s' ≡ s → Kept s.view.layout s'.view.layout
 same_kept s s' h e = subst (λ (r : State). Kept s.view.layout r.view.layout) (sym e) (h, refl)
 
 changes_kept : (safe : Bool) (kind : Kind) (s s' : State) (c : Command) (t : Tree) → IsNewLayout s.view.layout → ChangesBy safe kind s s' c t → Kept s.view.layout s'.view.layout
@@ -78,7 +77,7 @@ answered_kept : (mode : Mode) (s s' : State) (reply : List ℕ) (c : Command) (a
 answered_kept mode s s' reply c (Err refusal) h x = same_kept s s' h x.1
 answered_kept mode s s' reply c (Ok t) h x = served_kept mode s s' reply c t (shortage mode.safe s.view c) h x
 
-taken_kept : (mode : Mode) (s s' : State) (reply : List ℕ) (r : Result Command Refusal) → IsNewLayout s.view.layout
+pub taken_kept : (mode : Mode) (s s' : State) (reply : List ℕ) (r : Result Command Refusal) → IsNewLayout s.view.layout
     → Takes mode s r reply s' → Kept s.view.layout s'.view.layout
 taken_kept mode s s' reply (Err refusal) h x = same_kept s s' h x.1
 taken_kept mode s s' reply (Ok c) h x = answered_kept mode s s' reply c (answer (tree_in s) (dir_form s.view.layout) mode.read_only c) h x
@@ -172,7 +171,7 @@ answered_same mode x y x' y' reply c (Ok t) same ax ay a b =
     (shortage_error mode.safe x.view c) (shortage_error mode.safe y.view c) same
     (answer_ok (tree_in x) t (dir_form x.view.layout) mode.read_only c ax) (answer_ok (tree_in y) t (dir_form y.view.layout) mode.read_only c ay) a b
 
-taken_same : (mode : Mode) (x y x' y' : State) (reply : List ℕ) (r : Result Command Refusal) → tree_in x ≡ tree_in y
+pub taken_same : (mode : Mode) (x y x' y' : State) (reply : List ℕ) (r : Result Command Refusal) → tree_in x ≡ tree_in y
     → dir_form x.view.layout ≡ dir_form y.view.layout → Takes mode x r reply x' → Takes mode y r reply y' → tree_in x' ≡ tree_in y'
 taken_same mode x y x' y' reply (Err refusal) same form a b = ap tree_in a.1 ∙ same ∙ sym (ap tree_in b.1)
 taken_same mode x y x' y' reply (Ok c) same form a b =
@@ -183,7 +182,7 @@ taken_same mode x y x' y' reply (Ok c) same form a b =
 
 -- ---- lines in turn
 
-steps_same : (mode : Mode) (x y a b : State) (lines replies : List (List ℕ)) → IsNewLayout x.view.layout → IsNewLayout y.view.layout
+pub steps_same : (mode : Mode) (x y a b : State) (lines replies : List (List ℕ)) → IsNewLayout x.view.layout → IsNewLayout y.view.layout
     → tree_in x ≡ tree_in y → dir_form x.view.layout ≡ dir_form y.view.layout
     → Steps (λ between. Unit {0}) mode x lines replies a → Steps (λ between. Unit {0}) mode y lines replies b → tree_in a ≡ tree_in b
 steps_same mode x y a b [] [] nx ny same form p q = ap tree_in p ∙ same ∙ sym (ap tree_in q)
@@ -194,6 +193,3 @@ steps_same mode x y a b (line ∷ lines) (reply ∷ replies) nx ny same form p q
     let ky = taken_kept mode y q.0 reply (command_of line) ny q.2 in
     steps_same mode p.0 q.0 a b lines replies kx.0 ky.0
     (taken_same mode x y p.0 q.0 reply (command_of line) same form p.2 q.2) (kx.1 ∙ form ∙ sym ky.1) p.3 q.3)
-
-pub replies_law : RepliesLaw
-replies_law = λ mode s a b lines replies new p q. steps_same mode s s a b lines replies new new refl refl p q

@@ -1,5 +1,5 @@
 -- Demos, replies and runs, worked out.
-use Rattle.std.specs.Prelude.{◌≡◌, [], ◌∷◌, ◌++◌, codes, drop, true, false}
+use Rattle.std.specs.Prelude.{◌≡◌, [], ◌∷◌, ◌++◌, codes, drop, true, false, Some, None}
 use Rattle.fc_dirs.specs.declared.DirFault.TheVariants as dirs
 use Rattle.fc_image.specs.declared.ImageFault.TheVariants as faults
 use Rattle.fc_runs.specs.Replies.{bad_image_line}
@@ -8,6 +8,7 @@ use Rattle.fc_names.specs.declared.refusal.Refusal.TheVariants.{NotNewMap, DiscF
 use Rattle.fc_script.specs.Texts.{refusal_line}
 use Rattle.fc_runs.specs.Run.{is_error, whole_replies, all_keep_tree}
 use Rattle.fc_runs.specs.HostRun.{all_host_keep_tree}
+use Rattle.fc_runs.specs.Early.{text_begun}
 
 -- demos, replies and runs
 pub record RunRows : Type 0 where
@@ -31,3 +32,6 @@ pub record RunRows : Type 0 where
   pub second_broke_off : all_keep_tree (codes "compact" ∷ codes "delete $.A" ∷ []) ((codes "ok" ++ 10 ∷ []) ∷ []) ≡ false
   pub put_broke_off : all_host_keep_tree (codes "put a $.A 00000000 00000000" ∷ []) [] ≡ false
   pub get_broke_off : all_host_keep_tree (codes "get $.A a" ∷ []) [] ≡ true
+  -- the text of a run that breaks off in its second line: what was written of a load's reply may follow, and a demo has none
+  pub begun : text_begun None ((codes "ok" ++ 10 ∷ []) ∷ []) (Some (codes "load $.A")) (λ line. codes "41" ++ 10 ∷ []) ≡ codes "ok" ++ 10 ∷ codes "41" ++ 10 ∷ []
+  pub demo_begun : text_begun (Some 1) ((codes "ok" ++ 10 ∷ []) ∷ []) (Some (codes "load $.A")) (λ line. codes "41" ++ 10 ∷ []) ≡ []

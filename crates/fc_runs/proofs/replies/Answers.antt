@@ -1,4 +1,4 @@
-use Rattle.fc_runs.proofs.RepliesLemmas.{replies_law}
+use Rattle.fc_runs.proofs.HostRepliesLemmas.{replies_law}
 use Rattle.fc_runs.proofs.replies.Goals as goal
 
 pub returns : goal.returns
