@@ -128,7 +128,7 @@ SameEntries [] [] = Unit {0}
 SameEntries (e ∷ old) (f ∷ new) = SameButAddress e f × SameEntries old new
 SameEntries _ _ = ⊥
 
--- The entries have the addresses that they had, and so has the holder.
+-- The addresses of the entries and the parent field are as they were.
 abbrev pub has_same_places : SmallDir → SmallDir → Bool
 has_same_places old new = bytes_eq (map (λ e. e.address) new.entries) (map (λ e. e.address) old.entries) && (new.parent == old.parent)
 
