@@ -1,5 +1,5 @@
 -- What single steps of compaction leave at their end.
-use Rattle.std.specs.Prelude.{◌≡◌, ◌≢◌, ◌<◌, ℕ, ◌+◌, ◌*◌, Bool, true, not, ◌==◌, List, [], ◌∷◌, ◌++◌, Contains}
+use Rattle.std.specs.Prelude.{◌≡◌, ◌≢◌, ◌<◌, ◌≤◌, ℕ, ◌+◌, ◌*◌, ◌%◌, Bool, true, false, not, ◌||◌, ◌==◌, List, [], ◌∷◌, ◌++◌, Contains, All}
 use Rattle.std.specs.List.{list_any, list_all}
 use Rattle.fc_bytes.specs.Words.{bytes_at}
 use Rattle.fc_device.specs.Sectors.{sector_at}
@@ -7,7 +7,7 @@ use Rattle.fc_zone.specs.declared.Run.{Run}
 use Rattle.fc_zone.specs.declared.RunKind.TheVariants as kinds
 use Rattle.fc_oldmap.specs.declared.Hole.{Hole}
 use Rattle.fc_oldmap.specs.Holes.{hole_end, hole_sum}
-use Rattle.fc_oldmap.specs.OldMap.{FreeSpace}
+use Rattle.fc_oldmap.specs.OldMap.{FreeSpace, IsOldMap}
 use Rattle.fc_newmap.specs.Map.{Map, ZoneRun, runs_of, id_runs, hole_runs, bits_in}
 use Rattle.fc_image.specs.Layout.{hole_sectors_in, is_among}
 use Rattle.fc_effects.specs.Placed.{front_of, holes_left}
@@ -53,7 +53,12 @@ SameBodies old new (o ∷ was) (p ∷ now) =
     (p ≡ record o { start = p.start }) × (bytes_at new (256 * p.start) (256 * p.len) ≡ bytes_at old (256 * o.start) (256 * o.len)) × SameBodies old new was now
 SameBodies old new _ _ = ⊥
 
--- the sector lies in an object or a hole
+-- Each object begins at or behind the end of the one before.
+abbrev pub AreInOrder : ℕ → List Owned → Type 0
+AreInOrder floor [] = Unit {0}
+AreInOrder floor (o ∷ owned) = (floor ≤ o.start) × AreInOrder (o.start + o.len) owned
+
+-- The sector lies in an object.
 abbrev pub is_in_body : ℕ → List Owned → ℕ → Bool
 is_in_body units owned s = list_any (λ o. is_among (hole_sectors_in units (record { start = o.start; len = o.len })) s) owned
 
@@ -61,9 +66,17 @@ is_in_body units owned s = list_any (λ o. is_among (hole_sectors_in units (reco
 abbrev pub is_in_hole : ℕ → List Hole → ℕ → Bool
 is_in_hole units holes s = list_any (λ h. is_among (hole_sectors_in units h) s) holes
 
--- No hole is directly followed by an object or another hole, and as much is free as before. Other sectors keep their bytes.
+-- The objects lie apart in their order, and apart from the holes; together they take the sectors that they took, and other
+-- sectors keep their bytes. No hole is directly followed by an object or another hole, and as much is free as before.
 pub record Squashed (old new : List ℕ) (space space' : FreeSpace) (was now : List Owned) : Type 0 where
+  pub disc : (space'.disc_units ≡ space.disc_units) × (space'.sector_units ≡ space.sector_units)
+  pub map : IsOldMap space'
   pub bodies : SameBodies old new was now
+  pub whole : All (λ o. o.start % space.sector_units ≡ 0) now
+  pub order : AreInOrder 0 now
+  pub clear : (s : ℕ) → is_in_body space.sector_units now s ≡ true → is_in_hole space.sector_units space'.holes s ≡ false
+  pub same : (s : ℕ) → (is_in_body space.sector_units now s || is_in_hole space.sector_units space'.holes s)
+      ≡ (is_in_body space.sector_units was s || is_in_hole space.sector_units space.holes s)
   pub sum : hole_sum space'.holes ≡ hole_sum space.holes
   pub apart : are_apart space'.holes ≡ true
   pub settled : list_all (λ h. not (list_any (λ o. o.start == hole_end h) now)) space'.holes ≡ true

@@ -1,6 +1,7 @@
 -- Layouts that compaction leaves, and what it may change.
-use Rattle.std.specs.Prelude.{◌≡◌, ◌<◌, ◌≤◌, ◌⊎◌, ℕ, ◌+◌, ◌*◌, Bool, true, false, not, ◌&&◌, ◌||◌, ◌==◌, nat_lt, nat_le, List, [], ◌∷◌, length, filter, if◌then◌else◌, IsSomeAnd, Contains}
+use Rattle.std.specs.Prelude.{◌≡◌, ◌<◌, ◌≤◌, ◌⊎◌, ℕ, ◌+◌, ◌*◌, Bool, true, false, not, ◌&&◌, ◌||◌, ◌==◌, nat_lt, nat_le, List, [], ◌∷◌, length, map, filter, if◌then◌else◌, IsSomeAnd, Contains}
 use Rattle.std.specs.List.{list_any, list_all}
+use Rattle.std.specs.Str.{bytes_eq}
 use Rattle.fc_record.specs.declared.Geometry.{Geometry}
 use Rattle.fc_zone.specs.declared.Run.{Run}
 use Rattle.fc_zone.specs.declared.RunKind.{RunKind}
@@ -11,14 +12,14 @@ use Rattle.fc_oldmap.specs.OldMap.{FreeSpace}
 use Rattle.fc_newmap.specs.Map.{Map, runs_of, zone_numbers, id_runs, hole_runs, bits_in, longest, is_used}
 use Rattle.fc_dirs.specs.declared.Entry.{Entry}
 use Rattle.fc_dirs.specs.Directory.{Directory}
-use Rattle.fc_dirs.specs.Small.{next_sequence}
+use Rattle.fc_dirs.specs.Small.{SmallDir, next_sequence}
 use Rattle.fc_image.specs.Layout.{Layout, id_of}
 use Rattle.fc_image.specs.Walk.{Object, Listing}
 use Rattle.fc_image.specs.Objects.{objects_of, is_movable, is_lost, has_sectors, listing_at, object_at}
 use Rattle.fc_image.specs.Opening.{Opened}
 use Rattle.fc_image.specs.Report.{holder_address}
 use Rattle.fc_image.specs.Stays.{stored_objects}
-use Rattle.fc_effects.specs.Steady.{keeps_runs}
+use Rattle.fc_effects.specs.Steady.{keeps_runs, lost_sectors}
 
 -- a test of each run and the next
 abbrev pub passes_adjacent : (Run → Run → Bool) → List Run → Bool
@@ -96,16 +97,18 @@ pub record CompactedMap (m m' : Map) (objects : List Object) : Type 0 where
   pub bits : (id : ℕ) → is_movable objects id ≡ true → KeepsBits m m' id
   pub runs : (id : ℕ) → is_movable objects id ≡ true → length (id_runs m' id) ≤ length (id_runs m id)
 
--- what compaction does to a map
-abbrev pub CompactedLayout : Layout → Layout → List Object → Type 0
-CompactedLayout (Layout.New m) (Layout.New m') objects = CompactedMap m m' objects
-CompactedLayout (Layout.Old space) (Layout.Old space') objects = hole_sum space'.holes ≡ hole_sum space.holes
-CompactedLayout _ _ objects = ⊥
+-- What compaction does to a map, by the objects before and after. On an old map as much is free as before, and the lost
+-- sectors are the same ones.
+abbrev pub CompactedLayout : Layout → Layout → List Object → List Object → Type 0
+CompactedLayout (Layout.New m) (Layout.New m') was now = CompactedMap m m' was
+CompactedLayout (Layout.Old space) (Layout.Old space') was now =
+    (hole_sum space'.holes ≡ hole_sum space.holes) × (lost_sectors space' now ≡ lost_sectors space was)
+CompactedLayout _ _ was now = ⊥
 
 -- w is v compacted
 pub record Compacted (v w : Opened) : Type 0 where
   pub settled : is_settled w ≡ true
-  pub layout : CompactedLayout v.layout w.layout (objects_of v.listings)
+  pub layout : CompactedLayout v.layout w.layout (objects_of v.listings) (objects_of w.listings)
 
 -- ---- which identifiers and directories stay
 
@@ -125,12 +128,17 @@ SameEntries [] [] = Unit {0}
 SameEntries (e ∷ old) (f ∷ new) = SameButAddress e f × SameEntries old new
 SameEntries _ _ = ⊥
 
--- On an old map a directory keeps all but addresses and the parent field if its holder moved; if it changes, it is rewritten once.
+-- The addresses of the entries and the parent field are as they were.
+abbrev pub has_same_places : SmallDir → SmallDir → Bool
+has_same_places old new = bytes_eq (map (λ e. e.address) new.entries) (map (λ e. e.address) old.entries) && (new.parent == old.parent)
+
+-- On an old map a directory keeps all but addresses and the parent field if its holder moved. If one of these changes it is
+-- rewritten once, and else it keeps its sequence byte.
 abbrev pub CompactedDir : ℕ → ℕ → Directory → Directory → Type 0
 CompactedDir was is (Directory.Small old) (Directory.Small new) =
     (new ≡ record old { sequence = new.sequence; parent = new.parent; entries = new.entries }) × SameEntries old.entries new.entries
     × (new.parent ≡ (if was == is then old.parent else is))
-    × ((new ≡ old) ⊎ (new.sequence ≡ next_sequence old.sequence))
+    × (new.sequence ≡ (if has_same_places old new then old.sequence else next_sequence old.sequence))
 CompactedDir was is _ _ = ⊥
 
 -- On an old map each directory is as it was but for addresses and parent, and a file of no bytes keeps its address.

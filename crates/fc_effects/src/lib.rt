@@ -3,8 +3,14 @@
 #![tactic(auto)]
 
 ghost use Rattle.fc_effects.specs.Rows.{SpaceRows};
+ghost use Rattle.fc_effects.specs.CompactionRows.{CompactionRows};
 
 /// Space on small images, worked out.
 pub fn rows()
     ensures { SpaceRows }
+{}
+
+/// What compaction of old maps doesn't do, worked out.
+pub fn compaction_rows()
+    ensures { CompactionRows }
 {}

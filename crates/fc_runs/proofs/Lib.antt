@@ -1,1 +1,4 @@
 mod ReadLemmas
+mod TreeLemmas
+mod RepliesLemmas
+mod HostRepliesLemmas

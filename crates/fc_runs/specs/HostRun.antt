@@ -1,5 +1,5 @@
 -- Runs of scripts whose lines may move files between a volume and the host.
-use Rattle.std.specs.Prelude.{◌≡◌, ◌⊎◌, ℕ, Bool, true, false, ◌||◌, ◌&&◌, nat_lt, List, [], ◌∷◌, length, take, Option, Some, None, is_some, IsOk, Result, Ok, Err}
+use Rattle.std.specs.Prelude.{◌≡◌, ◌≤◌, ◌⊎◌, ℕ, Bool, true, false, ◌||◌, ◌&&◌, nat_lt, if◌then◌else◌, List, [], ◌∷◌, length, take, Option, Some, None, is_some, IsOk, Result, Ok, Err}
 use Rattle.std.specs.Ordering.{nat_cmp}
 use Rattle.std.specs.Cmp.Lexicographic.{slice_cmp}
 use Rattle.std.specs.FinMap.{FinMap, get, insert}
@@ -11,10 +11,11 @@ use Rattle.fc_model.specs.Command.{Command}
 use Rattle.fc_model.specs.Answer.{answer}
 use Rattle.fc_image.specs.Layout.{dir_form}
 use Rattle.fc_effects.specs.Effect.{State, tree_in}
+use Rattle.fc_safe.specs.SafeEffect.{HasTree, HasTreeBeforeOrAfter}
 use Rattle.fc_script.specs.HostLines.{HostLine, host_line_of}
 use Rattle.fc_script.specs.Texts.{refusal_line, ok_line}
 use Rattle.fc_runs.specs.Replies.{bytes_of}
-use Rattle.fc_runs.specs.Run.{Mode, Refuses, Takes, commands_in, script_for, text_for, is_error, keeps_tree}
+use Rattle.fc_runs.specs.Run.{Mode, Refuses, Takes, commands_in, script_for, text_for, is_error, keeps_tree, tree_after, line_begun}
 
 -- the files of the host by their names
 abbrev pub Files : Type 0
@@ -24,14 +25,15 @@ Files = FinMap (slice_cmp nat_cmp) (List ℕ)
 abbrev pub HostRefuses : State → Files → Refusal → List ℕ → State → Files → Type 0
 HostRefuses s files refusal reply s' files' = Refuses s (refusal_line refusal) reply s' × (files' ≡ files)
 
+-- what `put` does with a file, which may be too long, where the model accepts it
+abbrev pub PutsBytes : Bool → Mode → State → Files → Command → List ℕ → State → Files → Type 0
+PutsBytes true mode s files save reply s' files' = HostRefuses s files refusals.HostTooLong reply s' files'
+PutsBytes false mode s files save reply s' files' = Takes mode s (Ok save) reply s' × (files' ≡ files)
+
 -- what `put` does where the model accepts it
 abbrev pub PutsFile : Mode → State → Files → (List ℕ → Command) → Option (List ℕ) → List ℕ → State → Files → Type 0
 PutsFile mode s files save None reply s' files' = HostRefuses s files refusals.NoHostFile reply s' files'
-PutsFile mode s files save (Some bytes) reply s' files' = fits (nat_lt 1073741824 (length bytes))
-  where
-    fits : Bool → Type 0
-    fits true = HostRefuses s files refusals.HostTooLong reply s' files'
-    fits false = Takes mode s (Ok (save bytes)) reply s' × (files' ≡ files)
+PutsFile mode s files save (Some bytes) reply s' files' = PutsBytes (nat_lt 1073741824 (length bytes)) mode s files (save bytes) reply s' files'
 
 -- `put` is refused as `save` is by the model, then for want of the file, and is else that `save`
 abbrev pub Puts : Mode → State → Files → (List ℕ → Command) → Option (List ℕ) → Result Tree Refusal → List ℕ → State → Files → Type 0
@@ -101,7 +103,35 @@ host_keeps_tree refused (Ok (HostLine.Put host path load exec)) = refused
 host_keeps_tree refused (Ok (HostLine.Other command)) = refused || keeps_tree command
 host_keeps_tree refused (Err refusal) = true
 
--- Every line that is not refused leaves the tree.
+-- Every line that is not refused leaves the tree, and so does the one that broke off without a reply.
 abbrev pub all_host_keep_tree : List (List ℕ) → List (List ℕ) → Bool
 all_host_keep_tree (line ∷ lines) (reply ∷ replies) = host_keeps_tree (is_error reply) (host_line_of line) && all_host_keep_tree lines replies
-all_host_keep_tree _ _ = true
+all_host_keep_tree (line ∷ lines) [] = host_keeps_tree false (host_line_of line)
+all_host_keep_tree [] replies = true
+
+-- the tree after `put`, by the file
+abbrev pub tree_after_put : Mode → State → (List ℕ → Command) → Option (List ℕ) → Tree
+tree_after_put mode s save None = tree_in s
+tree_after_put mode s save (Some bytes) = if nat_lt 1073741824 (length bytes) then tree_in s else tree_after mode s (Ok (save bytes))
+
+-- the tree after a line, which is the same for each step
+abbrev pub host_tree_after : Mode → State → Files → Result HostLine Refusal → Tree
+host_tree_after mode s files (Err refusal) = tree_in s
+host_tree_after mode s files (Ok (HostLine.Put host path load exec)) = tree_after_put mode s (Command.Save path load exec) (get files host)
+host_tree_after mode s files (Ok (HostLine.Get path host)) = tree_in s
+host_tree_after mode s files (Ok (HostLine.Other command)) = tree_after mode s (Ok command)
+
+-- The image has the tree of the state, or the one after the line that broke off, if one did.
+abbrev pub HostHasTreeAround : Mode → State → Files → Option (List ℕ) → List ℕ → Type 0
+HostHasTreeAround mode s files None image = HasTree mode.kind (tree_in s) image
+HostHasTreeAround mode s files (Some line) image = HasTreeBeforeOrAfter mode.kind s (host_tree_after mode s files (host_line_of line)) image
+
+-- `HasTreeAfter` for lines that may move files of the host
+pub record HostHasTreeAfter (May : List ℕ → Type 0) (mode : Mode) (s : State) (files : Files) (lines replies : List (List ℕ)) (least : ℕ) (image : List ℕ) : Type 0 where
+  pub count : ℕ
+  pub enough : least ≤ count
+  pub within : count ≤ length replies
+  pub mid : State
+  pub between : Files
+  pub steps : HostSteps May mode s files (take count lines) (take count replies) mid between
+  pub tree : HostHasTreeAround mode mid between (line_begun lines replies count) image

@@ -4,3 +4,6 @@ pub mod Demo
 pub mod Rows
 pub mod HostRun
 pub mod ReadLaw
+pub mod Early
+pub mod TreeLaw
+pub mod RepliesLaw

@@ -1,12 +1,14 @@
 -- Demos, replies and runs, worked out.
-use Rattle.std.specs.Prelude.{◌≡◌, [], ◌∷◌, ◌++◌, codes, drop, true, false}
+use Rattle.std.specs.Prelude.{◌≡◌, [], ◌∷◌, ◌++◌, codes, drop, true, false, Some, None}
 use Rattle.fc_dirs.specs.declared.DirFault.TheVariants as dirs
 use Rattle.fc_image.specs.declared.ImageFault.TheVariants as faults
 use Rattle.fc_runs.specs.Replies.{bad_image_line}
 use Rattle.fc_runs.specs.Demo.{next_seed, draw, demo_script}
-use Rattle.fc_names.specs.declared.refusal.Refusal.TheVariants.{NotNewMap}
+use Rattle.fc_names.specs.declared.refusal.Refusal.TheVariants.{NotNewMap, DiscFull}
 use Rattle.fc_script.specs.Texts.{refusal_line}
-use Rattle.fc_runs.specs.Run.{is_error, whole_replies}
+use Rattle.fc_runs.specs.Run.{is_error, whole_replies, all_keep_tree}
+use Rattle.fc_runs.specs.HostRun.{all_host_keep_tree}
+use Rattle.fc_runs.specs.Early.{text_begun}
 
 -- demos, replies and runs
 pub record RunRows : Type 0 where
@@ -21,3 +23,15 @@ pub record RunRows : Type 0 where
   pub listed : is_error (codes "error 00000003 00000000 00000000 0" ++ 10 ∷ codes "ok" ++ 10 ∷ []) ≡ false
   pub refused : is_error (refusal_line NotNewMap) ≡ true
   pub taken : whole_replies 7 ((codes "ok" ++ 10 ∷ []) ∷ (codes "ok" ++ 10 ∷ []) ∷ (codes "ok" ++ 10 ∷ []) ∷ []) ≡ 2
+  -- A `save` that broke off, or was done, may leave another tree, and one that was refused doesn't; no line behind the one
+  -- that broke off was begun.
+  pub broke_off : all_keep_tree (codes "save $.A 00000000 00000000 41" ∷ []) [] ≡ false
+  pub done : all_keep_tree (codes "save $.A 00000000 00000000 41" ∷ []) ((codes "ok" ++ 10 ∷ []) ∷ []) ≡ false
+  pub was_refused : all_keep_tree (codes "save $.A 00000000 00000000 41" ∷ []) (refusal_line DiscFull ∷ []) ≡ true
+  pub reading_broke_off : all_keep_tree (codes "load $.A" ∷ codes "save $.A 00000000 00000000 41" ∷ []) [] ≡ true
+  pub second_broke_off : all_keep_tree (codes "compact" ∷ codes "delete $.A" ∷ []) ((codes "ok" ++ 10 ∷ []) ∷ []) ≡ false
+  pub put_broke_off : all_host_keep_tree (codes "put a $.A 00000000 00000000" ∷ []) [] ≡ false
+  pub get_broke_off : all_host_keep_tree (codes "get $.A a" ∷ []) [] ≡ true
+  -- the text of a run that breaks off in its second line: what was written of a load's reply may follow, and a demo has none
+  pub begun : text_begun None ((codes "ok" ++ 10 ∷ []) ∷ []) (Some (codes "load $.A")) (λ line. codes "41" ++ 10 ∷ []) ≡ codes "ok" ++ 10 ∷ codes "41" ++ 10 ∷ []
+  pub demo_begun : text_begun (Some 1) ((codes "ok" ++ 10 ∷ []) ∷ []) (Some (codes "load $.A")) (λ line. codes "41" ++ 10 ∷ []) ≡ []

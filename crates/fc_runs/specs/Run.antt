@@ -1,5 +1,5 @@
 -- Runs of scripts: each line is a step from one image to the next, with its reply.
-use Rattle.std.specs.Prelude.{◌≡◌, ◌≤◌, ℕ, suc, ◌-◌, Bool, true, false, not, ◌||◌, ◌&&◌, ◌==◌, nat_le, List, [], ◌∷◌, ◌++◌, length, filter, take, if◌then◌else◌, Option, Some, None, Result, Ok, Err, codes}
+use Rattle.std.specs.Prelude.{◌≡◌, ◌≤◌, ℕ, suc, ◌-◌, Bool, true, false, not, ◌||◌, ◌&&◌, ◌==◌, nat_le, List, [], ◌∷◌, ◌++◌, length, filter, take, if◌then◌else◌, Option, Some, None, Result, Ok, Err, codes, slice_get}
 use Rattle.std.specs.List.{flat_map, count_by, ends_with}
 use Rattle.std.specs.Option.{option_map}
 use Rattle.std.specs.Fmt.{decimal}
@@ -13,11 +13,10 @@ use Rattle.fc_model.specs.Command.{Command}
 use Rattle.fc_model.specs.Answer.{answer, first_of}
 use Rattle.fc_image.specs.Layout.{Layout, dir_form}
 use Rattle.fc_image.specs.Opening.{Opened}
-use Rattle.fc_image.specs.Stays.{KeepsTree}
 use Rattle.fc_effects.specs.Short.{short}
 use Rattle.fc_effects.specs.Effect.{State, tree_in, Changes, Compacts}
 use Rattle.fc_safe.specs.SafeShort.{SafeRefusal, safe_refusal}
-use Rattle.fc_safe.specs.SafeEffect.{SafeChanges}
+use Rattle.fc_safe.specs.SafeEffect.{SafeChanges, HasTree, HasTreeBeforeOrAfter}
 use Rattle.fc_safe.specs.Reclaim.{Reclaims, reclaimed_bytes}
 use Rattle.fc_script.specs.Lines.{lines_of, is_command_line, command_of}
 use Rattle.fc_script.specs.Texts.{refusal_line, error_line, reclaimed_line, line_of, ok_line}
@@ -158,23 +157,44 @@ abbrev pub keeps_tree_or : Bool → Result Command Refusal → Bool
 keeps_tree_or refused (Err refusal) = true
 keeps_tree_or refused (Ok c) = refused || keeps_tree c
 
--- Every line that isn't refused leaves the tree: then every stop of the run has the tree from before, by `KeepsTree`.
+-- Every line that isn't refused leaves the tree: then every stop of the run has the tree from before, by `KeepsTree`. The
+-- line that broke off without a reply wasn't refused; those behind it were not begun.
 abbrev pub all_keep_tree : List (List ℕ) → List (List ℕ) → Bool
 all_keep_tree (line ∷ lines) (reply ∷ replies) = keeps_tree_or (is_error reply) (command_of line) && all_keep_tree lines replies
-all_keep_tree _ _ = true
+all_keep_tree (line ∷ lines) [] = keeps_tree_or false (command_of line)
+all_keep_tree [] replies = true
 
 -- the replies of which the sink took all, where it took so many bytes
 abbrev pub whole_replies : ℕ → List (List ℕ) → ℕ
 whole_replies n [] = 0
 whole_replies n (reply ∷ replies) = if nat_le (length reply) n then suc (whole_replies (n - length reply) replies) else 0
 
--- The image has the tree that stands after some of the lines, at least so many. In the safe mode every stop leaves such an
--- image, and every exit one with at least the lines whose whole replies the sink took.
-pub record HasTreeAfter (mode : Mode) (s : State) (lines : List (List ℕ)) (least : ℕ) (image : List ℕ) : Type 0 where
+-- the tree after a command, by what the model answers and space allows
+abbrev pub tree_by : State → Result Tree Refusal → Option (List ℕ) → Tree
+tree_by s (Ok t) None = t
+tree_by s answered short = tree_in s
+
+-- the tree after a line, which is the same for each step
+abbrev pub tree_after : Mode → State → Result Command Refusal → Tree
+tree_after mode s (Err refusal) = tree_in s
+tree_after mode s (Ok c) = tree_by s (answer (tree_in s) (dir_form s.view.layout) mode.read_only c) (shortage mode.safe s.view c)
+
+-- The image has the tree of the state, or the one after the line that broke off, if one did.
+abbrev pub HasTreeAround : Mode → State → Option (List ℕ) → List ℕ → Type 0
+HasTreeAround mode s None image = HasTree mode.kind (tree_in s) image
+HasTreeAround mode s (Some line) image = HasTreeBeforeOrAfter mode.kind s (tree_after mode s (command_of line)) image
+
+-- the line that broke off after so many lines: the one behind all that were done
+abbrev pub line_begun : List (List ℕ) → List (List ℕ) → ℕ → Option (List ℕ)
+line_begun lines replies count = if count == length replies then slice_get lines count else None
+
+-- The image has the tree that stands after some of the lines done with these replies, at least so many, or that after the
+-- line that broke off. In the safe mode every stop leaves such an image, and every exit one with at least the lines whose
+-- whole replies the sink took.
+pub record HasTreeAfter (May : List ℕ → Type 0) (mode : Mode) (s : State) (lines replies : List (List ℕ)) (least : ℕ) (image : List ℕ) : Type 0 where
   pub count : ℕ
   pub enough : least ≤ count
-  pub within : count ≤ length lines
-  pub replies : List (List ℕ)
+  pub within : count ≤ length replies
   pub mid : State
-  pub steps : Steps (λ between. Unit {0}) mode s (take count lines) replies mid
-  pub tree : KeepsTree mode.kind mid.image mid.view image
+  pub steps : Steps May mode s (take count lines) (take count replies) mid
+  pub tree : HasTreeAround mode mid (line_begun lines replies count) image

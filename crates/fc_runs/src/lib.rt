@@ -4,6 +4,8 @@
 
 ghost use Rattle.fc_runs.specs.ReadLaw.{ReadLaw};
 ghost use Rattle.fc_runs.specs.Rows.{RunRows};
+ghost use Rattle.fc_runs.specs.TreeLaw.{TreeLaw};
+ghost use Rattle.fc_runs.specs.RepliesLaw.{RepliesLaw};
 
 /// The demo's first draws and script, and texts of replies, worked out.
 pub fn rows()
@@ -13,4 +15,14 @@ pub fn rows()
 /// A command that reads has exactly one reply, and leaves everything.
 pub fn reading()
     ensures { ReadLaw }
+{}
+
+/// Every step of a line ends with the same tree, whatever space it takes.
+pub fn trees()
+    ensures { TreeLaw }
+{}
+
+/// Lines with the same replies end with the same tree on a new map.
+pub fn replies()
+    ensures { RepliesLaw }
 {}
