@@ -218,7 +218,7 @@ module _ (q x : ℕ) (some : 0 < q) where
     ]
   ]
 
-three_sizes : (l n : ℕ) → 8 ≤ l → l ≤ 10 → n ≡ 2 ^ l → (n ≡ 256) ⊎ ((n ≡ 512) ⊎ (n ≡ 1024))
+pub three_sizes : (l n : ℕ) → 8 ≤ l → l ≤ 10 → n ≡ 2 ^ l → (n ≡ 256) ⊎ ((n ≡ 512) ⊎ (n ≡ 1024))
 three_sizes l n low high e = elim (cases_order l 9) [
   | inl same ↦ inr (inl (e ∙ ap (λ (k : ℕ). 2 ^ k) same))
   | inr rest ↦ elim rest [
@@ -227,12 +227,12 @@ three_sizes l n low high e = elim (cases_order l 9) [
   ]
 ]
 
-header_high : (z : ℕ) → 32 ≤ first_bit z
+pub header_high : (z : ℕ) → 32 ≤ first_bit z
 header_high zero = omega arith
 header_high (suc z) = omega (arith, first_later z)
 
 -- a zone's bits lie on the disc
-zone_on_disc : (g : Geometry) (z : ℕ) → z < g.zones → 480 ≤ g.zone_size → base g (g.zones - 1) < g.disc_bits → base g z + (end_bit g z - first_bit z) ≤ g.disc_bits
+pub zone_on_disc : (g : Geometry) (z : ℕ) → z < g.zones → 480 ≤ g.zone_size → base g (g.zones - 1) < g.disc_bits → base g z + (end_bit g z - first_bit z) ≤ g.disc_bits
 zone_on_disc g z low large begun = elim (cases_order (z + 1) g.zones) [
   | inl same ↦ (
       let here : g.zones - 1 ≡ z = omega arith in

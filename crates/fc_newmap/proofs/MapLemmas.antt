@@ -1,5 +1,5 @@
 -- Maps in which each zone has runs.
-use Rattle.std.proofs.Common.{◌≡◌, ◌<◌, ◌≤◌, ℕ, zero, suc, ◌+◌, ◌*◌, List, [], ◌∷◌, length, refl, sym, ap, subst, arith, None}
+use Rattle.std.proofs.Common.{◌≡◌, ◌<◌, ◌≤◌, ℕ, zero, suc, ◌+◌, ◌*◌, List, [], ◌∷◌, length, refl, sym, ap, subst, ◌∙◌, arith, None, Some}
 use Rattle.std.specs.Prelude.{Result, Ok, Err, slice_index_or}
 use Rattle.std.specs.List.{range_with_len, zip}
 use Rattle.fc_bytes.specs.Bits.{bits}
@@ -10,7 +10,7 @@ use Rattle.fc_zone.specs.declared.Run.{Run}
 use Rattle.fc_zone.specs.declared.ZoneFault.{ZoneFault}
 use Rattle.fc_zone.specs.Zone.{Zone}
 use Rattle.fc_zone.specs.Reading.{in_zone, zone_of, runs_of as read_runs, runs_or_none}
-use Rattle.fc_zone.proofs.ReadingLemmas.{runs_from-Right}
+use Rattle.fc_zone.proofs.ReadingLemmas.{runs_from-Right, Zone-zone_of}
 use Rattle.fc_newmap.specs.Map.{Map, IsMap, shape, sector_of, runs_of, zone_numbers, first_fault, fault_or}
 use Rattle.fc_newmap.specs.RunsLaw.{HasZones}
 
@@ -76,3 +76,33 @@ no_fault_of_map m is =
     right_zones m.geometry m.zones 0 m.geometry.zones (λ i low.
     let r = is.right i (omega arith) in
     (r.0, subst (λ (k : ℕ). zone_of (shape m.geometry k) (sector_of m i) ≡ Ok r.0) (let k : i ≡ 0 + i = omega arith in k) r.1))
+
+-- the first zone with a fault, where those before it have none
+fault_from : (g : Geometry) (zones : List (List ℕ)) (from n k : ℕ) (fault : ZoneFault) → length zones ≡ n → k < n
+    → ((i : ℕ) → i < k → (runs : List Run) × (zone_of (shape g (from + i)) (slice_index_or zones i []) ≡ Ok runs)) → zone_of (shape g (from + k)) (slice_index_or zones k []) ≡ Err fault
+    → first_fault g (zip (range_with_len from n) zones) ≡ Some fault
+fault_from g [] from n k fault e low each is = absurd (omega arith)
+fault_from g (sector ∷ zones) from zero k fault e low each is = absurd (omega arith)
+fault_from g (sector ∷ zones) from (suc n) zero fault e low each is =
+    let here : zone_of (shape g from) sector ≡ Err fault = subst (λ (z : ℕ). zone_of (shape g z) sector ≡ Err fault) (let j : from + 0 ≡ from = omega arith in j) is in
+    ap (λ (r : Result (List Run) ZoneFault). fault_or r (first_fault g (zip (range_with_len (from + 1) n) zones))) here
+fault_from g (sector ∷ zones) from (suc n) (suc k) fault e low each is =
+    let first = each 0 (omega arith) in
+    let here : zone_of (shape g from) sector ≡ Ok first.0 = subst (λ (z : ℕ). zone_of (shape g z) sector ≡ Ok first.0) (let j : from + 0 ≡ from = omega arith in j) first.1 in
+    ap (λ (r : Result (List Run) ZoneFault). fault_or r (first_fault g (zip (range_with_len (from + 1) n) zones))) here
+    ∙ fault_from g zones (from + 1) n k fault (omega arith) (omega arith)
+    (λ i below. let r = each (suc i) (omega arith) in (r.0, subst (λ (z : ℕ). zone_of (shape g z) (slice_index_or zones i []) ≡ Ok r.0) (let j : from + suc i ≡ from + 1 + i = omega arith in j) r.1))
+    (subst (λ (z : ℕ). zone_of (shape g z) (slice_index_or zones k []) ≡ Err fault) (let j : from + suc k ≡ from + 1 + k = omega arith in j) is)
+
+pub fault_of_zone : (m : Map) (z : ℕ) (fault : ZoneFault) → length m.zones ≡ m.geometry.zones → z < m.geometry.zones
+    → ((k : ℕ) → k < z → Zone (shape m.geometry k) (sector_of m k) (runs_of m k)) → zone_of (shape m.geometry z) (sector_of m z) ≡ Err fault
+    → first_fault m.geometry (zip (zone_numbers m.geometry) m.zones) ≡ Some fault
+fault_of_zone m z fault long low each is =
+    fault_from m.geometry m.zones 0 m.geometry.zones z fault long low
+    (λ i below. (runs_of m i, subst (λ (k : ℕ). zone_of (shape m.geometry k) (sector_of m i) ≡ Ok (runs_of m i)) (let j : i ≡ 0 + i = omega arith in j) (Zone-zone_of (shape m.geometry i) (sector_of m i) (runs_of m i) (each i below))))
+    (subst (λ (k : ℕ). zone_of (shape m.geometry k) (sector_of m z) ≡ Err fault) (let j : z ≡ 0 + z = omega arith in j) is)
+
+-- a map whose zones have runs has no fault
+pub no_fault_of_zones : (m : Map) → length m.zones ≡ m.geometry.zones → HasZones m → first_fault m.geometry (zip (zone_numbers m.geometry) m.zones) ≡ None
+no_fault_of_zones m long has =
+    no_fault_of_map m (record { all = long; right = λ z low. (runs_of m z, Zone-zone_of (shape m.geometry z) (sector_of m z) (runs_of m z) (has z (omega arith))) })

@@ -4,8 +4,21 @@
 //! Source: the RISC OS PRM, chapter FileCore, "New maps".
 #![tactic(auto)]
 
+mod map;
+mod shapes;
+
 ghost use Rattle.fc_newmap.specs.Rows.{MapRows};
 ghost use Rattle.fc_newmap.specs.RunsLaw.{GeometryLaw, IdsLaw, RunsLaw, ShapeLaw, ZoneSectorsLaw};
+
+use fc_zone::ZoneFault;
+pub use map::NewMap;
+
+/// Why a copy of a map is not loaded.
+#[derive(Clone, Copy, Debug, PartialEq, Eq)]
+pub enum MapError {
+    /// A zone has no runs: the first such zone, and the place of its fault.
+    Zone(ZoneFault),
+}
 
 /// The map of a fresh E disc, worked out.
 pub fn rows()

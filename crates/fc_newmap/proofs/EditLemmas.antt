@@ -1,0 +1,78 @@
+-- A write to one zone's sector in the buffer of a map.
+use Rattle.std.proofs.Common.{◌≡◌, ◌<◌, ◌≤◌, ℕ, ◌+◌, ◌-◌, ◌*◌, List, length, take, drop, sym, ap, subst, ◌∙◌, arith, inl, inr}
+use Rattle.std.specs.Prelude.{Vec}
+use Rattle.std.specs.Vec.{with_items}
+use Rattle.std.proofs.lemmas.List.{with_items_is}
+use borrow.Rule.Slice.PartMut.{put_mid}
+use Rattle.fc_record.specs.declared.Geometry.{Geometry}
+use Rattle.fc_zone.specs.declared.ZoneShape.{ZoneShape}
+use Rattle.fc_zone.specs.Zone.{IsShapeOf, IsZone, Zone}
+use Rattle.fc_newmap.specs.Map.{Map, shape, sector_of, runs_of, with_zone}
+use Rattle.fc_newmap.specs.NewMap.{IsHeld, map_in}
+use Rattle.fc_record.specs.Record.{first_bit}
+use Rattle.fc_newmap.proofs.GeometryLemmas.{header_high}
+use Rattle.fc_newmap.proofs.HeldLemmas as held
+
+-- the sector of the buffer that is lent
+abbrev pub lent : Geometry → ℕ → List ℕ → List ℕ
+lent g from was = take (from + g.sector - from) (drop from was)
+
+-- what a write to a zone's sector makes of a map
+pub record IsWrittenIn (g : Geometry) (m : Map) (z : ℕ) (old part items : List ℕ) : Type 0 where
+  pub geometry : m.geometry ≡ g
+  pub low : z < g.zones
+  pub old_is : old ≡ sector_of m z
+  pub old_long : length old ≡ g.sector
+  pub fits : IsShapeOf old (shape g z)
+  pub low_first : 8 ≤ first_bit z
+  pub zone : Zone (shape g z) old (runs_of m z)
+  pub map : map_in g items ≡ with_zone m z part
+  pub new_is : part ≡ sector_of (map_in g items) z
+  pub others : map_in g items ≡ with_zone m z (sector_of (map_in g items) z)
+  pub held : IsZone (shape g z) part → IsHeld g items
+
+-- the buffer after the write
+abbrev pub new_items : {Z : Type 0} (g : Geometry) (v : Vec ℕ Z) (was part : List ℕ) (from : ℕ) → List ℕ
+new_items g v was part from = (with_items v (put_mid from (from + g.sector - from) was part)).items
+
+abbrev pub Writes : {Z : Type 0} (g : Geometry) (v : Vec ℕ Z) (m : Map) (was part : List ℕ) (from z : ℕ) → Type 0
+Writes g v m was part from z = IsWrittenIn g m z (lent g from was) part (new_items g v was part from)
+
+pub written_in : {Z : Type 0} (g : Geometry) (v : Vec ℕ Z) (m : Map) (was part : List ℕ) (from z : ℕ) → IsHeld g v.items → map_in g v.items ≡ m → z < m.geometry.zones → from ≡ z * g.sector
+    → was ≡ v.items → length part ≡ length (lent g from was) → Writes g v m was part from z
+written_in g v m was part from z is view low at same long =
+    let k : m.geometry ≡ g = ap (λ (n : Map). n.geometry) (sym view) in
+    let below : z < g.zones = subst (λ (h : Geometry). z < h.zones) k low in
+    let there : lent g from was ≡ sector_of (map_in g v.items) z =
+    ap (λ (x : ℕ). lent g x was) at ∙ ap (lent g (z * g.sector)) same ∙ held.slice_is g v.items z is.whole below in
+    let size : length (lent g from was) ≡ g.sector = ap length there ∙ held.length-sector g v.items z is.whole below in
+    let whole : length part ≡ g.sector = long ∙ size in
+    let after = held.after g v.items z part is below whole in
+    let put : put_mid from (from + g.sector - from) was part ≡ after =
+    ap (λ (x : ℕ). put_mid x (x + g.sector - x) was part) at ∙ ap (λ (xs : List ℕ). put_mid (z * g.sector) (z * g.sector + g.sector - z * g.sector) xs part) same in
+    let stays : length (put_mid from (from + g.sector - from) was part) ≡ v.len = ap length put ∙ held.length-after g v.items z part is below whole ∙ sym v.ok.0 in
+    let items : new_items g v was part from ≡ after = with_items_is v (put_mid from (from + g.sector - from) was part) stays ∙ put in
+    let new : map_in g (new_items g v was part from) ≡ map_in g after = ap (map_in g) items in
+    let sector : sector_of (map_in g (new_items g v was part from)) z ≡ part = ap (λ (n : Map). sector_of n z) new ∙ held.sector_after g v.items z part is below whole in
+    let map : map_in g (new_items g v was part from) ≡ with_zone m z part =
+    new ∙ held.map_after g v.items z part is below whole ∙ ap (λ (n : Map). with_zone n z part) view in
+    record {
+      geometry = k;
+      low = below;
+      old_is = there ∙ ap (λ (n : Map). sector_of n z) view;
+      old_long = size;
+      fits = held.shape_fits g z (lent g from was) is.map.of_record below size;
+      low_first = (let h = header_high z in omega arith);
+      zone = subst (λ (n : Map). Zone (shape g z) (lent g from was) (runs_of n z)) view (subst (λ (s : List ℕ). Zone (shape g z) s (runs_of (map_in g v.items) z)) (sym there) (is.map.right z below));
+      map = map;
+      new_is = sym sector;
+      others = map ∙ ap (with_zone m z) (sym sector);
+      held = λ zone. subst (IsHeld g) (sym items) (held.held_after g v.items z part is below whole zone);
+    }
+
+-- a sector has so many bytes
+pub sector_long : (sector : List ℕ) (shape : ZoneShape) (n : ℕ) → IsShapeOf sector shape → n < 256 → n < length sector
+sector_long sector shape n fits low = elim fits.size [
+  | inl one ↦ omega arith
+  | inr rest ↦ elim rest [ inl two ↦ omega arith | inr three ↦ omega arith ]
+]

@@ -1,0 +1,24 @@
+use Rattle.std.proofs.Common.{refl, ap, ◌∙◌}
+use Rattle.fc_zone.specs.Edits.{sealed}
+use Rattle.fc_newmap.specs.Map.{runs_of, shape, with_zone}
+use Rattle.fc_newmap.proofs.EditLemmas.{Writes, lent, written_in}
+use Rattle.fc_newmap.proofs.map.NewMap.seal.Goals as goal
+use Rattle.fc_newmap.proofs.map.NewMap.seal.Goals.{After-seal}
+
+made : (c : After-seal) → Writes c.self.inside.geometry c.self.inside.zones c.args.self.now c.deref_mut.result.now c.seal.new.b c.place_of-from.result c.args.z
+made c = written_in c.self.inside.geometry c.self.inside.zones c.args.self.now c.deref_mut.result.now c.seal.new.b c.place_of-from.result c.args.z c.self.invariant c.self.view_is c.requires c.place_of-from.ensures c.deref_mut.ensures.value c.seal.auto.b
+
+pub seal-requires : goal.seal-requires
+seal-requires c =
+    let w = written_in c.self.inside.geometry c.self.inside.zones c.args.self.now c.deref_mut.result.now (lent c.self.inside.geometry c.place_of-from.result c.deref_mut.result.now) c.place_of-from.result c.args.z c.self.invariant c.self.view_is c.requires c.place_of-from.ensures c.deref_mut.ensures.value refl in
+    w.fits.size
+
+pub invariant_of-self : goal.invariant_of-self
+invariant_of-self c =
+    let w = made (goal.at.invariant_of-self c).After-seal in
+    w.held (runs_of c.args.self.now c.args.z, c.seal.ensures.zone (shape c.self.inside.geometry c.args.z) (runs_of c.args.self.now c.args.z) w.low_first w.zone)
+
+pub returns : goal.returns
+returns c =
+    let w = made (goal.at.returns c).After-seal in
+    w.map ∙ ap (with_zone c.args.self.now c.args.z) (c.seal.ensures.sector ∙ ap sealed w.old_is)
