@@ -61,48 +61,73 @@ module _ {D : Type 0} {d : Ghosts D} (law : Laws d) where
         (then.0, then.1, after was there.0 then.0 told there.1 there.2 then.2);
   }
 
+  -- where the bytes at the start are told, P says less than R
+  pub keeps_told : {P R : List ℕ → List ℕ → Type 0} {old new : D} → Kept P old new → ((was image : List ℕ) → d.bytes old ≡ Some was → P was image → R was image) → Kept R old new
+  keeps_told keeps less = record {
+    stops = weaker law _ keeps.stops (λ image led was told. less was image told (led was told));
+    exit = λ was told. let there = keeps.exit was told in (there.0, there.1, less was there.0 told there.2);
+  }
+
+-- a pass at other numbers, that are the same
+module _ (size size' first first' low high : ℕ) (new new' : ℕ → List ℕ) (size_is : size ≡ size') (first_is : first ≡ first') (new_is : (z : ℕ) → new z ≡ new' z) where
+  pub part_as : (was image : List ℕ) → IsPartWritten size first low high new was image → IsPartWritten size' first' low high new' was image
+  part_as was image part =
+      subst (λ (s : ℕ). IsPartWritten s first' low high new' was image) size_is
+      (subst (λ (f : ℕ). IsPartWritten size f low high new' was image) first_is
+      record { same_length = part.same_length; inside = λ z from to. ⊎_elim (λ old. inl old) (λ there. inr (there ∙ new_is z)) (part.inside z from to); outside = part.outside })
+
+  pub written_as : (image : List ℕ) → HasWritten size first low high new image → HasWritten size' first' low high new' image
+  written_as image written z from to =
+      ap (λ s. sector_at s image (first' + z)) (sym size_is) ∙ ap (λ f. sector_at size image (f + z)) (sym first_is) ∙ written z from to ∙ new_is z
+
 -- ---- a pass over a disk, from `old` on, when nothing is pending
+
+-- what the pass has left so far
+abbrev pub Passed : {D : Type 0} → Ghosts D → D → ℕ → ℕ → ℕ → (List ℕ → ℕ → List ℕ) → D → Type 0
+Passed d old first low high new_of mid = Keeps d.moment d.left_since d.bytes old mid (λ was image. IsPartWritten (d.sector_size old) first low high (new_of was) was image)
+
+-- the zones below this one are new
+abbrev pub Written : {D : Type 0} → Ghosts D → D → ℕ → ℕ → (List ℕ → ℕ → List ℕ) → D → ℕ → Type 0
+Written d old first low new_of mid z = ForSome (d.bytes old) (λ was. ForSome (d.bytes mid) (HasWritten (d.sector_size old) first low z (new_of was)))
 
 module _ {D : Type 0} {d : Ghosts D} (law : Laws d) (old : D) (first low high : ℕ) (new_of : List ℕ → ℕ → List ℕ) where
   abbrev size : ℕ
   size = d.sector_size old
 
-  -- what the pass has left so far
-  abbrev Passed : D → Type 0
-  Passed mid = Keeps d.moment d.left_since d.bytes old mid (λ was image. IsPartWritten size first low high (new_of was) was image)
+  abbrev Pass : D → Type 0
+  Pass = Passed d old first low high new_of
 
-  -- the zones below this one are new
-  abbrev Written : D → ℕ → Type 0
-  Written mid z = ForSome (d.bytes old) (λ was. ForSome (d.bytes mid) (HasWritten size first low z (new_of was)))
+  abbrev Done : D → ℕ → Type 0
+  Done = Written d old first low new_of
 
-  pub pass_start : IsFalse (d.pending old) → Passed old
+  pub pass_start : IsFalse (d.pending old) → Pass old
   pass_start quiet = keeps_start law (λ image. part_start size first low high (new_of image) image) old quiet
 
-  pub written_none : (mid : D) → Written mid low
+  pub written_none : (mid : D) → Done mid low
   written_none mid = λ was told image is z from to. absurd (omega (arith, from, to))
 
   -- a call that adds no image and keeps the bytes
-  pub pass_same : {mid new : D} → Passed mid → LeavesOnly d.moment d.left_since mid new (d.left_since mid (d.moment mid)) → d.bytes new ≡ d.bytes mid → Passed new
+  pub pass_same : {mid new : D} → Pass mid → LeavesOnly d.moment d.left_since mid new (d.left_since mid (d.moment mid)) → d.bytes new ≡ d.bytes mid → Pass new
   pass_same passed stops same = keeps_same law passed stops same
 
-  pub written_same : {mid new : D} (z : ℕ) → Written mid z → d.bytes new ≡ d.bytes mid → Written new z
+  pub written_same : {mid new : D} (z : ℕ) → Done mid z → d.bytes new ≡ d.bytes mid → Done new z
   written_same z written same = λ was told image is. written was told image (sym same ∙ is)
 
   -- what was read in the middle of the pass, outside the zones that it writes, was there at the start
-  pub pass_source : {mid : D} → Passed mid → d.sector_size mid ≡ size → (s : ℕ) → (s < first + low) ⊎ (first + high ≤ s) → (piece : List ℕ)
+  pub pass_source : {mid : D} → Pass mid → d.sector_size mid ≡ size → (s : ℕ) → (s < first + low) ⊎ (first + high ≤ s) → (piece : List ℕ)
       → ForSome (d.bytes mid) (λ image. piece ≡ sector_at (d.sector_size mid) image s) → (was : List ℕ) → d.bytes old ≡ Some was → piece ≡ sector_at size was s
   pass_source passed same s there piece read was told =
       let now = passed.exit was told in
       read now.0 now.1 ∙ ap (λ n. sector_at n now.0 s) same ∙ now.2.outside s there
 
   -- zone z is written, at the sector `at`
-  module _ {mid new : D} (passed : Passed mid) (same : d.sector_size mid ≡ size) (z at : ℕ) (place : at ≡ first + z) (from : low ≤ z) (to : z < high) (inside : at < d.sectors old)
+  module _ (mid new : D) (passed : Pass mid) (same : d.sector_size mid ≡ size) (z at : ℕ) (place : at ≡ first + z) (from : low ≤ z) (to : z < high) (inside : at < d.sectors old)
       (piece : List ℕ) (whole : length piece ≡ size) (piece_is : (was : List ℕ) → d.bytes old ≡ Some was → piece ≡ new_of was z) where
     zone_is_inside : (was : List ℕ) → d.bytes old ≡ Some was → (first + z) * size + size ≤ length was
     zone_is_inside was told = subst (λ (n : ℕ). n * size + size ≤ length was) place (sector_fits law old at inside was told)
 
     pub pass_write : LeavesOnly d.moment d.left_since mid new (SectorOldOrNew (d.sector_size mid) at piece (d.left_since mid (d.moment mid)))
-        → (d.bytes new ≡ d.bytes mid) ⊎ (d.bytes new ≡ option_map (λ image. with_sector (d.sector_size mid) image at piece) (d.bytes mid)) → Passed new
+        → (d.bytes new ≡ d.bytes mid) ⊎ (d.bytes new ≡ option_map (λ image. with_sector (d.sector_size mid) image at piece) (d.bytes mid)) → Pass new
     pass_write stops old_or_new =
         keeps_write law (d.sector_size mid) at piece passed stops old_or_new
         (λ was image told part.
@@ -110,7 +135,7 @@ module _ {D : Type 0} {d : Ghosts D} (law : Laws d) (old : D) (first low high : 
         (subst (λ (n : ℕ). IsPartWritten size first low high (new_of was) was (with_sector size image n piece)) (sym place)
         (part_more size first low high (new_of was) was image piece z from to whole (zone_is_inside was told) (piece_is was told) part)))
 
-    pub written_one : Written mid z → d.bytes new ≡ option_map (λ image. with_sector (d.sector_size mid) image at piece) (d.bytes mid) → Written new (z + 1)
+    pub written_one : Done mid z → d.bytes new ≡ option_map (λ image. with_sector (d.sector_size mid) image at piece) (d.bytes mid) → Done new (z + 1)
     written_one written is = λ was told image told_now.
         let now = passed.exit was told in
         let then : Some (with_sector (d.sector_size mid) now.0 at piece) ≡ Some image = sym (ap (option_map (λ (i : List ℕ). with_sector (d.sector_size mid) i at piece)) now.1) ∙ sym is ∙ told_now in
@@ -120,7 +145,7 @@ module _ {D : Type 0} {d : Ghosts D} (law : Laws d) (old : D) (first low high : 
         (written_more size first low high (new_of was) now.0 piece z whole fits (piece_is was told) (written was told now.0 now.1))
 
     -- zone z is found as it would be written
-    pub found_one : Written mid z → d.bytes new ≡ d.bytes mid → ForSome (d.bytes mid) (λ image. piece ≡ sector_at (d.sector_size mid) image at) → Written new (z + 1)
+    pub found_one : Done mid z → d.bytes new ≡ d.bytes mid → ForSome (d.bytes mid) (λ image. piece ≡ sector_at (d.sector_size mid) image at) → Done new (z + 1)
     found_one written is there = λ was told image told_now.
         let before : d.bytes mid ≡ Some image = sym is ∙ told_now in
         let here : sector_at size image (first + z) ≡ new_of was z = ap (sector_at size image) (sym place) ∙ ap (λ n. sector_at n image at) (sym same) ∙ sym (there image before) ∙ piece_is was told in
