@@ -1,5 +1,5 @@
 -- Passes over a copy: one zone more, and one pass after another.
-use Rattle.std.proofs.Common.{◌≡◌, ◌<◌, ◌≤◌, ◌⊎◌, inl, inr, ⊎_elim, ℕ, ◌+◌, ◌-◌, ◌*◌, List, length, refl, sym, ap, subst, ◌∙◌, arith, Some, option_map, IsFalse}
+use Rattle.std.proofs.Common.{◌≡◌, ◌<◌, ◌≤◌, ◌⊎◌, inl, inr, ⊎_elim, ℕ, ◌+◌, ◌-◌, ◌*◌, List, length, get_or, refl, sym, ap, subst, ◌∙◌, arith, Some, option_map, IsFalse}
 use Rattle.std.specs.Option.{ForSome}
 use Rattle.std.proofs.lemmas.Bool.{cases_eq}
 use Rattle.fc_device.specs.Sectors.{sector_at, with_sector}
@@ -90,6 +90,11 @@ Passed d old first low high new_of mid = Keeps d.moment d.left_since d.bytes old
 abbrev pub Written : {D : Type 0} → Ghosts D → D → ℕ → ℕ → (List ℕ → ℕ → List ℕ) → D → ℕ → Type 0
 Written d old first low new_of mid z = ForSome (d.bytes old) (λ was. ForSome (d.bytes mid) (HasWritten (d.sector_size old) first low z (new_of was)))
 
+-- the first i of these zones are new
+abbrev pub Each : {D : Type 0} → Ghosts D → D → ℕ → (List ℕ → ℕ → List ℕ) → List ℕ → D → ℕ → Type 0
+Each d old first new_of zones mid i =
+    ForSome (d.bytes old) (λ was. ForSome (d.bytes mid) (λ image. (k : ℕ) → k < i → sector_at (d.sector_size old) image (first + get_or zones k 0) ≡ new_of was (get_or zones k 0)))
+
 module _ {D : Type 0} {d : Ghosts D} (law : Laws d) (old : D) (first low high : ℕ) (new_of : List ℕ → ℕ → List ℕ) where
   abbrev size : ℕ
   size = d.sector_size old
@@ -153,3 +158,23 @@ module _ {D : Type 0} {d : Ghosts D} (law : Laws d) (old : D) (first low high : 
           | inl e ↦ ap (λ n. sector_at size image (first + n)) e ∙ here ∙ ap (new_of was) (sym e)
           | inr apart ↦ written was told image before y y_from (omega (arith, y_to, apart))
         ]
+
+    -- of a list of zones, one more is written
+    pub each_one : (zones : List ℕ) (i : ℕ) → z ≡ get_or zones i 0 → Each d old first new_of zones mid i
+        → d.bytes new ≡ option_map (λ image. with_sector (d.sector_size mid) image at piece) (d.bytes mid) → Each d old first new_of zones new (i + 1)
+    each_one zones i z_is written is = λ was told image told_now k lt.
+        let now = passed.exit was told in
+        let then : Some (with_sector (d.sector_size mid) now.0 at piece) ≡ Some image = sym (ap (option_map (λ (i : List ℕ). with_sector (d.sector_size mid) i at piece)) now.1) ∙ sym is ∙ told_now in
+        let e : image ≡ with_sector size now.0 (first + z) piece = sym (some_is then) ∙ ap (λ n. with_sector n now.0 at piece) same ∙ ap (λ n. with_sector size now.0 n piece) place in
+        let fits : (first + z) * size + size ≤ length now.0 = omega (arith, zone_is_inside was told, now.2.same_length) in
+        let y = get_or zones k 0 in
+        ap (λ l. sector_at size l (first + y)) e
+        ∙ elim (cases_eq y z) [
+          | inl one ↦ ap (λ n. sector_at size (with_sector size now.0 (first + z) piece) (first + n)) one ∙ sector_at-with_sector_same size now.0 (first + z) piece whole fits ∙ piece_is was told ∙ ap (new_of was) (sym one)
+          | inr apart ↦
+              let earlier : k < i = before k i lt (λ last. apart (ap (λ n. get_or zones n 0) last ∙ sym z_is)) in
+              sector_at-with_sector_other size now.0 (first + z) (first + y) piece whole fits (λ at. apart (omega (arith, at))) ∙ written was told now.0 now.1 k earlier
+        ]
+      where
+        before : (k i : ℕ) → k < i + 1 → (k ≡ i → ⊥) → k < i
+        before k i lt apart = omega (arith, lt, apart)

@@ -8,6 +8,7 @@
 
 ghost use Rattle.fc_copies.specs.Gate.{GateHolds, MixLaw};
 
+mod committing;
 mod reading;
 mod repairing;
 

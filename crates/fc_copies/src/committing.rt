@@ -1,0 +1,99 @@
+// A map that is written into both copies.
+ghost use Rattle.std.specs.Prelude.{◌≡◌, ◌<◌, ◌≤◌, ◌+◌, ◌*◌, ◌^◌, ℕ, [], All, EachIndex, length, slice_index, IsTrue, IsFalse, OnOk};
+ghost use Rattle.std.specs.List.Sorted.{IsStrictlyIncreasing};
+ghost use Rattle.std.specs.Option.{ForSome};
+ghost use Rattle.fc_device.specs.Calls.{FailsByFault, SameForm, StopsAndExitsLeave};
+ghost use Rattle.fc_device.specs.Sectors.{sector_at};
+ghost use Rattle.fc_newmap.specs.Map.{sector_of, with_zone};
+ghost use Rattle.fc_copies.specs.Committing.{CanCommit};
+ghost use Rattle.fc_copies.specs.Copies.{copy_of, sealed_zones, ChangesCopies, CommitEnds, CommitLeaves};
+ghost use Rattle.fc_copies.specs.declared.Which.TheVariants.{One};
+ghost use Rattle.fc_copies.specs.Gate.{gate_delta, gated, gated_sector};
+ghost use Rattle.fc_copies.specs.Passes.{IsPartWritten};
+
+use crate::Which;
+use crate::reading::start_of;
+use arrayvec::ArrayVec;
+use fc_device::{Disk, DiskFault};
+use fc_newmap::NewMap;
+
+/// The most zones that a commit changes, so that its gate has room in a byte.
+const MOST_ZONES: usize = 9;
+
+/// The place of CrossCheck in a zone's sector.
+const CROSS_CHECK: usize = 3;
+
+// What the CrossCheck of the i-th of k zones is exclusively ored with, counted from 0.
+fn delta_of(k: usize, i: usize) -> u8
+    requires within { i < k }
+    requires few { k ≤ 9 }
+    ensures { result ≡ gate_delta k i }
+{
+    if i + 1 == k {
+        ((1u16 << i) - 1) as u8
+    } else {
+        1 << i
+    }
+}
+
+// Turns the CrossCheck of a zone by a delta, and sets its ZoneCheck.
+fn turn(map: &mut NewMap, z: u16, delta: u8)
+    requires zone { z < map.old.geometry.zones }
+    requires header { 3 < map.old.geometry.sector }
+    ensures { map.new ≡ with_zone map.old z (gated_sector (sector_of map.old z) delta) }
+{
+    let cross = map.bytes(z)[CROSS_CHECK];
+    map.set_cross(z, cross ^ delta);
+    map.seal(z);
+}
+
+// Turns the CrossChecks of the zones, so that no mix of old and new ones is sound, and sets their ZoneChecks.
+fn gate_zones(map: &mut NewMap, changed: &[u16])
+    requires few { length changed.now ≤ 9 }
+    requires header { 3 < map.old.geometry.sector }
+    requires zones { All (λ z. z < map.old.geometry.zones) changed.now }
+    ensures { map.new ≡ record map.old { zones = gated changed.now map.old.zones } }
+{
+    for (i, z) in changed.iter().enumerate() {
+        turn(map, *z, delta_of(changed.len(), i));
+    }
+}
+
+// Sets the ZoneChecks of the zones.
+fn seal_zones(map: &mut NewMap, changed: &[u16])
+    requires zones { All (λ z. z < map.old.geometry.zones) changed.now }
+    ensures { map.new ≡ record map.old { zones = sealed_zones changed.now map.old.zones } }
+{
+    for z in changed {
+        map.seal(*z);
+    }
+}
+
+// Writes these zones into the copy that begins at sector `start`, and syncs.
+fn write_zones<D: Disk>(
+    disk: &mut D,
+    map: &NewMap,
+    start: u64,
+    changed: &[u16],
+) -> Result<(), DiskFault>
+    requires attached { IsTrue (D.attached disk.old) }
+    requires settled { IsFalse (D.pending disk.old) }
+    requires size { D.sector_size disk.old ≡ map.now.geometry.sector }
+    requires on_disk { start + map.now.geometry.zones ≤ D.sectors disk.old }
+    requires fits { start + map.now.geometry.zones < 2 ^ 64 }
+    requires zones { All (λ z. z < map.now.geometry.zones) changed.now }
+    ensures keeps { StopsAndExitsLeave D.Disk disk.old disk.new (IsPartWritten (D.sector_size disk.old) start 0 map.now.geometry.zones (sector_of map.now)) }
+    ensures written { OnOk result (ForSome (D.bytes disk.old) (λ was. ForSome (D.bytes disk.new) (λ image.
+        EachIndex changed.now (λ k. sector_at (D.sector_size disk.old) image (start + slice_index changed.now k) ≡ sector_of map.now (slice_index changed.now k))))) }
+    ensures durable { OnOk result (IsFalse (D.pending disk.new)) }
+    ensures form { SameForm D.Disk disk.old disk.new }
+    ensures cause { FailsByFault D.Disk disk.old disk.new result }
+{
+    for z in changed {
+        disk.write(start + u64::from(*z), map.bytes(*z))?;
+    }
+    disk.sync()?;
+    Ok(())
+}
+
+// Writes these zones into copy 1, syncs, then writes them into copy 2, and syncs.
