@@ -10,7 +10,9 @@ use Rattle.std.proofs.lemmas.List.{length-set, length-map, get_or-set_same, get_
 use Rattle.std.proofs.lemmas.List.FromFn.{length-map-range_with_len}
 use Rattle.std.proofs.lemmas.Slice.Zip.{firsts-zip, seconds-zip}
 use Rattle.fc_checks.specs.Checks.{xor_all, zone_check}
-use Rattle.fc_copies.specs.Copies.{cross_of, is_check_right, is_sound}
+use Rattle.std.proofs.Math.Seq.{map-set_same}
+use Rattle.fc_zone.specs.Edits.{sealed}
+use Rattle.fc_copies.specs.Copies.{cross_of, is_check_right, is_sound, sealed_zones}
 use Rattle.fc_copies.specs.Gate.{chosen_deltas, gate_delta, gate_deltas, gated, gated_by, gated_sector, is_gate, is_mixed}
 use Rattle.fc_copies.proofs.GateLemmas.{cancel, choice_passes, cross-gated, cross-gated_by, first_part, gate_of, second_part, xor_all-cons, length-gated}
 use Rattle.fc_copies.proofs.ReadingLemmas.{same_lists}
@@ -356,7 +358,7 @@ module _ (old base : List (List ℕ)) (changed : List ℕ) (few : length changed
         ap (λ (ds : List ℕ). xor_all (items_where_true made.flags ds)) (sym seconds_are) ∙ cancel 255 turn back
 
     flags_many : length made.flags ≡ length changed
-    flags_many = made.as_many ∙ sym (length-map (λ (t : ℕ × ℕ). t.0) turns) ∙ ap (λ (l : List ℕ). length l) firsts_are
+    flags_many = made.as_many ∙ sym (length-map turns (λ (t : ℕ × ℕ). t.0)) ∙ ap (λ (l : List ℕ). length l) firsts_are
 
     all_new : list_any not made.flags ≡ false → mix ≡ new
     all_new none =
@@ -371,3 +373,80 @@ module _ (old base : List (List ℕ)) (changed : List ℕ) (few : length changed
         let total : cross_of mix ≡ 255 = eqb-true _ _ (second_part (list_all is_check_right mix) (cross_of mix == 255) mix_sound) in
         ⊎_elim (λ none. inl (made.none none)) (λ none. inr (all_new none))
         (either_none (list_any yes made.flags) (list_any not made.flags) (no_mix (length changed) few made.flags flags_many (cancels total)))
+
+-- ---- zones that are only sealed
+
+cross-sealed : (s : List ℕ) → slice_index (sealed s) 3 ≡ slice_index s 3
+cross-sealed s = get_or-set_other s 0 3 (zone_check s) 0 (λ e. omega (arith, e))
+
+sealed_right : (s : List ℕ) → 0 < length s → is_check_right (sealed s) ≡ true
+sealed_right s some = eq-eqb _ _ (get_or-set_same s 0 (zone_check s) 0 some ∙ sym (check-masked s (zone_check s)))
+
+pub length-sealed : (changed : List ℕ) (zones : List (List ℕ)) → length (sealed_zones changed zones) ≡ length zones
+length-sealed [] zones = refl
+length-sealed (y ∷ changed) zones = length-sealed changed (set zones y (sealed (get_or zones y []))) ∙ length-set zones y (sealed (get_or zones y []))
+
+pub sealed_out : (changed : List ℕ) (zones : List (List ℕ)) (z : ℕ) → NotIn z changed → get_or (sealed_zones changed zones) z [] ≡ get_or zones z []
+sealed_out [] zones z out = refl
+sealed_out (y ∷ changed) zones z out =
+    sealed_out changed (set zones y (sealed (get_or zones y []))) z out.1 ∙ get_or-set_other zones y z (sealed (get_or zones y [])) [] (λ e. out.0 (sym e))
+
+-- the total stays
+sealed_total : (changed : List ℕ) (zones : List (List ℕ)) → cross_of (sealed_zones changed zones) ≡ cross_of zones
+sealed_total [] zones = refl
+sealed_total (y ∷ changed) zones =
+    sealed_total changed (set zones y (sealed (get_or zones y []))) ∙ ap xor_all (map-set_same (λ (s : List ℕ). slice_index s 3) zones y (sealed (get_or zones y [])) [] (cross-sealed (get_or zones y [])))
+
+-- each zone has a right check, where those outside the list had one
+sealed_at : (changed : List ℕ) (zones : List (List ℕ)) (z : ℕ) → z < length zones → 0 < length (get_or zones z []) → (NotIn z changed → is_check_right (get_or zones z []) ≡ true)
+    → is_check_right (get_or (sealed_zones changed zones) z []) ≡ true
+sealed_at [] zones z inside some right = right tt
+sealed_at (y ∷ changed) zones z inside some right =
+    let s = sealed (get_or zones y []) in
+    let next = set zones y s in
+    let lt : z < length next = omega (arith, inside, length-set zones y s) in
+    elim (cases_eq y z) [
+      | inl same ↦
+          let here : get_or next z [] ≡ sealed (get_or zones z []) =
+          ap (λ n. get_or (set zones n (sealed (get_or zones n []))) z []) same ∙ get_or-set_same zones z (sealed (get_or zones z [])) [] inside in
+          let long : 0 < length (get_or next z []) = omega (arith, some, ap (λ (l : List ℕ). length l) here, length-set (get_or zones z []) 0 (zone_check (get_or zones z []))) in
+          sealed_at changed next z lt long (λ out. ap is_check_right here ∙ sealed_right (get_or zones z []) some)
+      | inr other ↦
+          let here : get_or next z [] ≡ get_or zones z [] = get_or-set_other zones y z s [] (λ e. other (sym e)) in
+          let long : 0 < length (get_or next z []) = omega (arith, some, ap (λ (l : List ℕ). length l) here) in
+          sealed_at changed next z lt long (λ out. ap is_check_right here ∙ right (other, out))
+    ]
+
+pub sealed_sound : (old base : List (List ℕ)) (changed : List ℕ) → length base ≡ length old → ((z : ℕ) → z < length base → 4 ≤ length (get_or base z [])) → is_sound old ≡ true
+    → ((z : ℕ) → z < length base → slice_index (get_or base z []) 3 ≡ slice_index (get_or old z []) 3) → ((z : ℕ) → NotIn z changed → get_or base z [] ≡ get_or old z []) → is_sound (sealed_zones changed base) ≡ true
+unfolding is_sound
+sealed_sound old base changed same_length long sound crosses others = ap₂ (λ a b. a && b) (all_right_from (sealed_zones changed base) right) (eq-eqb (cross_of (sealed_zones changed base)) 255 total)
+  where
+    right : (z : ℕ) → z < length (sealed_zones changed base) → is_check_right (get_or (sealed_zones changed base) z []) ≡ true
+    right z lt =
+        let inside : z < length base = omega (arith, lt, length-sealed changed base) in
+        let some : 0 < length (get_or base z []) = omega (arith, long z inside) in
+        sealed_at changed base z inside some (λ out. ap is_check_right (others z out) ∙ sound_right old z (omega (arith, inside, same_length)) sound)
+
+    total : cross_of (sealed_zones changed base) ≡ 255
+    total = sealed_total changed base ∙ same_crosses base old same_length crosses ∙ eqb-true _ _ (second_part (list_all is_check_right old) (cross_of old == 255) sound)
+
+-- ---- lengths of sectors stay
+
+set_lengths : (zones : List (List ℕ)) (y : ℕ) (s : List ℕ) (z : ℕ) → length s ≡ length (get_or zones y []) → length (get_or (set zones y s) z []) ≡ length (get_or zones z [])
+set_lengths [] y s z e = refl
+set_lengths (x ∷ zones) zero s zero e = e
+set_lengths (x ∷ zones) zero s (suc z) e = refl
+set_lengths (x ∷ zones) (suc y) s zero e = refl
+set_lengths (x ∷ zones) (suc y) s (suc z) e = set_lengths zones y s z e
+
+pub gated_lengths : (turns : List (ℕ × ℕ)) (zones : List (List ℕ)) (z : ℕ) → length (get_or (gated_by turns zones) z []) ≡ length (get_or zones z [])
+gated_lengths [] zones z = refl
+gated_lengths (t ∷ turns) zones z =
+    gated_lengths turns (set zones t.0 (gated_sector (get_or zones t.0 []) t.1)) z ∙ set_lengths zones t.0 (gated_sector (get_or zones t.0 []) t.1) z (length-gated (get_or zones t.0 []) t.1)
+
+pub sealed_lengths : (changed : List ℕ) (zones : List (List ℕ)) (z : ℕ) → length (get_or (sealed_zones changed zones) z []) ≡ length (get_or zones z [])
+sealed_lengths [] zones z = refl
+sealed_lengths (y ∷ changed) zones z =
+    let s = sealed (get_or zones y []) in
+    sealed_lengths changed (set zones y s) z ∙ set_lengths zones y s z (length-set (get_or zones y []) 0 (zone_check (get_or zones y [])))

@@ -8,7 +8,7 @@ use Rattle.fc_device.specs.declared.disk.Disk.{Ghosts}
 use Rattle.fc_device.proofs.DiskLaws.{Laws, sector_fits}
 use Rattle.fc_device.proofs.StopLemmas.{goes_on, weaker, keeps_start, keeps_same, keeps_write}
 use Rattle.fc_device.proofs.SectorLemmas.{length-with_sector, sector_at-with_sector_same, sector_at-with_sector_other}
-use Rattle.fc_copies.specs.Passes.{IsPartWritten, HasWritten}
+use Rattle.fc_copies.specs.Passes.{HasEach, HasWritten, IsPartWritten}
 
 some_is : {A : Type 0} {a b : A} → Some a ≡ Some b → a ≡ b
 some_is e = cc
@@ -79,6 +79,11 @@ module _ (size size' first first' low high : ℕ) (new new' : ℕ → List ℕ) 
   pub written_as : (image : List ℕ) → HasWritten size first low high new image → HasWritten size' first' low high new' image
   written_as image written z from to =
       ap (λ s. sector_at s image (first' + z)) (sym size_is) ∙ ap (λ f. sector_at size image (f + z)) (sym first_is) ∙ written z from to ∙ new_is z
+
+-- so are the zones of a list
+pub each_as : (size size' first first' : ℕ) (zones : List ℕ) (new : ℕ → List ℕ) (image : List ℕ) → size ≡ size' → first ≡ first' → HasEach size first zones new image → HasEach size' first' zones new image
+each_as size size' first first' zones new image size_is first_is each k lt =
+    ap (λ s. sector_at s image (first' + get_or zones k 0)) (sym size_is) ∙ ap (λ f. sector_at size image (f + get_or zones k 0)) (sym first_is) ∙ each k lt
 
 -- ---- a pass over a disk, from `old` on, when nothing is pending
 

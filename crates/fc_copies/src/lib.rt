@@ -12,6 +12,7 @@ mod committing;
 mod reading;
 mod repairing;
 
+pub use committing::{commit, commit_wide};
 pub use reading::{choose, fetch};
 pub use repairing::repair;
 
