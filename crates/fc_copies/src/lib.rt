@@ -42,3 +42,6 @@ pub fn gate()
 pub fn mix()
     ensures { MixLaw }
 {}
+
+#[cfg(test)]
+mod tests;
