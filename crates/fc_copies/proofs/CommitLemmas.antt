@@ -183,10 +183,11 @@ passes_frame g start image changed new passes =
 
 -- No pass is one over no zones.
 pub none_passed : (g : Geometry) (was : List ℕ) (new : ℕ → List ℕ) → HasPassedBoth g [] new was was
-none_passed g was new =
-    (was,
-    record { part = part_start g.sector g.map_sector 0 g.zones new was; each = λ k lt. absurd (omega (arith, lt)) },
-    record { part = part_start g.sector (copy_start g Two) 0 g.zones new was; each = λ k lt. absurd (omega (arith, lt)) })
+none_passed g was new = (
+  was,
+  record { part = part_start g.sector g.map_sector 0 g.zones new was; each = λ k lt. absurd (omega (arith, lt)) },
+  record { part = part_start g.sector (copy_start g Two) 0 g.zones new was; each = λ k lt. absurd (omega (arith, lt)) },
+)
 
 pub header_fits : (size : ℕ) → IsSectorSize size → 4 ≤ size
 header_fits size (inl e) = omega (arith, e)

@@ -86,9 +86,10 @@ pub gated_here : (turns : List (ℕ × ℕ)) (zones : List (List ℕ)) → Disti
 gated_here [] zones distinct low = tt
 gated_here (t ∷ turns) zones distinct low =
     let s = gated_sector (get_or zones t.0 []) t.1 in
-    let next = set zones t.0 s in
-    (gated_other turns next t.0 distinct.0 ∙ get_or-set_same zones t.0 s [] low.0,
-    elsewhere turns zones (gated_by turns next) t.0 s distinct.0 (gated_here turns next distinct.1 (lower turns (length zones) (length next) (sym (length-set zones t.0 s)) low.1)))
+    let next = set zones t.0 s in (
+      gated_other turns next t.0 distinct.0 ∙ get_or-set_same zones t.0 s [] low.0,
+      elsewhere turns zones (gated_by turns next) t.0 s distinct.0 (gated_here turns next distinct.1 (lower turns (length zones) (length next) (sym (length-set zones t.0 s)) low.1)),
+    )
   where
     lower : (turns : List (ℕ × ℕ)) (n m : ℕ) → n ≡ m → AllByRecursion (λ t. t.0 < n) turns → AllByRecursion (λ t. t.0 < m) turns
     lower [] n m e all = tt
@@ -169,8 +170,11 @@ module _ (t : ℕ × ℕ) (turns : List (ℕ × ℕ)) (old new mix : List (List 
         total = ap cross_of (sym whole) ∙ put ∙ ap (λ n. bit_xor n t.1) later.total ∙ xor_assoc (cross_of old) (xor_all rest) t.1
             ∙ ap (bit_xor (cross_of old)) (xor_comm (xor_all rest) t.1 ∙ sym (xor_all-cons t.1 rest));
         none = λ e. absurd (cc);
-        all = λ e. (is, all_but turns t.0 (λ u. get_or next u.0 [] ≡ get_or new u.0 []) (λ u. get_or mix u.0 [] ≡ get_or new u.0 []) out
-            (λ u other same. sym (get_or-set_other mix t.0 u.0 held [] other) ∙ same) (later.all e));
+        all = λ e. (
+          is,
+          all_but turns t.0 (λ u. get_or next u.0 [] ≡ get_or new u.0 []) (λ u. get_or mix u.0 [] ≡ get_or new u.0 []) out
+              (λ u other same. sym (get_or-set_other mix t.0 u.0 held [] other) ∙ same) (later.all e),
+        );
       }
 
 pub mixed : (turns : List (ℕ × ℕ)) (old new mix : List (List ℕ)) → Distinct (firsts turns) → AllByRecursion (λ t. t.0 < length old) turns → length mix ≡ length old

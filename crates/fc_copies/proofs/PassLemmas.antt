@@ -54,7 +54,7 @@ module _ {D : Type 0} {d : Ghosts D} (law : Laws d) where
       → ((was there image : List ℕ) → d.bytes old ≡ Some was → d.bytes mid ≡ Some there → P was there → Q there image → R was image) → Kept R old new
   keeps_on first second before after = record {
     stops = goes_on law (weaker law _ first.stops (λ image led was told. before was image told (led was told))) second.stops
-    (λ image led was told. let there = first.exit was told in after was there.0 image told there.1 there.2 (led there.0 there.1));
+        (λ image led was told. let there = first.exit was told in after was there.0 image told there.1 there.2 (led there.0 there.1));
     exit = λ was told.
         let there = first.exit was told in
         let then = second.exit there.0 there.1 in

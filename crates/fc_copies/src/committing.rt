@@ -17,9 +17,6 @@ use arrayvec::ArrayVec;
 use fc_device::{Disk, DiskFault};
 use fc_newmap::NewMap;
 
-/// The most zones that a commit changes, so that its gate has room in a byte.
-const MOST_ZONES: usize = 9;
-
 /// The place of CrossCheck in a zone's sector.
 const CROSS_CHECK: usize = 3;
 

@@ -12,12 +12,7 @@ use fc_device::{Disk, DiskFault};
 use fc_record::Geometry;
 
 // Writes these bytes as sector n, where others stand there. Answers whether it wrote.
-fn write_other<D: Disk>(
-    disk: &mut D,
-    n: u64,
-    bytes: &[u8],
-    there: &[u8],
-) -> Result<bool, DiskFault>
+fn write_other<D: Disk>(disk: &mut D, n: u64, bytes: &[u8], there: &[u8]) -> Result<bool, DiskFault>
     requires attached { IsTrue (D.attached disk.old) }
     requires on_disk { n < D.sectors disk.old }
     requires whole { length bytes.now ≡ D.sector_size disk.old }

@@ -29,11 +29,7 @@ const FRESH_F: [&[Part]; 4] = [
         (827, b"\x80"),
     ],
     &[(1, b"\x18\x80"), (827, b"\x80")],
-    &[
-        (1, b"\xb8\x80\0\x02"),
-        (23, b"\x80"),
-        (827, b"\x80"),
-    ],
+    &[(1, b"\xb8\x80\0\x02"), (23, b"\x80"), (827, b"\x80")],
     &[(1, b"\x18\x80"), (791, b"\x80")],
 ];
 
@@ -104,7 +100,13 @@ fn zones_of(
 }
 
 // An image of so many bytes, with these bytes at a place twice, one behind the other.
-fn image_of(alloc: Global, length: usize, at: u64, one: &[u8], two: &[u8]) -> Result<Vec<u8>, Fail> {
+fn image_of(
+    alloc: Global,
+    length: usize,
+    at: u64,
+    one: &[u8],
+    two: &[u8],
+) -> Result<Vec<u8>, Fail> {
     let mut image = vec![in alloc; 0; length]?;
     let copies = one.iter().chain(two);
     for (place, byte) in image.iter_mut().skip(at as usize).zip(copies) {
@@ -148,11 +150,7 @@ fn are_rising(zones: &[u16], below: u16) -> bool
 }
 
 // The copy that counts on an image, and its zones.
-fn counted(
-    alloc: Global,
-    image: Vec<u8>,
-    g: &Geometry,
-) -> Result<Option<(Which, Vec<u8>)>, Fail> {
+fn counted(alloc: Global, image: Vec<u8>, g: &Geometry) -> Result<Option<(Which, Vec<u8>)>, Fail> {
     let mut disk = PlainDisk::new(String::from_str(alloc, "disc")?, image, 0)?;
     if !opened(&mut disk, g)? {
         return Ok(None);
@@ -356,7 +354,9 @@ fn two_zones_of_an_f_change(rt: HostRuntime) -> Result<(), Fail> {
     assert!(rt; old.iter().step_by(1024).eq(checks.iter()));
     let done = committed(alloc, &g, F_BYTES, &old, new, &[0, 1])?;
     assert!(rt; done.is_some());
-    let Some((disk, map)) = done else { return Ok(()) };
+    let Some((disk, map)) = done else {
+        return Ok(())
+    };
     let new = bytes_of(alloc, &map)?;
     // Each zone alone turns the total by 1.
     let crosses = [0xfe, 0x01, 0, 0];
@@ -396,15 +396,18 @@ fn chosen_of(
 const REPAIRED: usize = 9;
 
 // Whether a repair leaves these zones counting at each stop, and both copies with them at its end.
-fn repairs(alloc: Global, one: &[u8], two: &[u8], w: Which) -> Result<bool, Fail> {
+fn repairs<'x>(alloc: Global, one: &'x [u8], two: &'x [u8], w: Which) -> Result<bool, Fail> {
     let g = match geometry_of(RECORD_F) {
         Some(g) => g,
         None => return Ok(false),
     };
-    let mut disk = match chosen_of(alloc, &g, one, two)? {
-        Some((disk, Ok(answer))) if answer == w => disk,
-        _ => return Ok(false),
+    let (mut disk, answer) = match chosen_of(alloc, &g, one, two)? {
+        Some(found) => found,
+        None => return Ok(false),
     };
+    if answer != Ok(w) {
+        return Ok(false);
+    }
     if !opened(&mut disk, &g)? {
         return Ok(false);
     }
@@ -415,7 +418,10 @@ fn repairs(alloc: Global, one: &[u8], two: &[u8], w: Which) -> Result<bool, Fail
     let zones = if w == Which::One { one } else { two };
     let equal = image_of(alloc, 821_248, 813_056, zones, zones)?;
     let last = disk.inner.stopped(alloc, REPAIRED + 1, &[])?;
-    Ok(last.as_slice() == equal.as_slice() && each_stop(alloc, &disk.inner, REPAIRED + 1, &g, [zones, zones])?)
+    Ok(
+        last.as_slice() == equal.as_slice()
+            && each_stop(alloc, &disk.inner, REPAIRED + 1, &g, [zones, zones])?,
+    )
 }
 
 #[test]

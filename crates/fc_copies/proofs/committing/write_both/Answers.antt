@@ -84,11 +84,14 @@ returns-clause-written g c =
     (λ written was told image is.
     let there = c.write_zones.ensures.keeps.exit was told in
     let now = c.write_zones-2.ensures.keeps.exit there.0 there.1 in
-    let e : now.0 ≡ image = some_is (sym now.1 ∙ is) in
-    (there.0, first_passed was there.0 told there.1 there.2, record {
-      part = subst (λ (i : List ℕ). IsPartWritten geometry.sector (copy_start geometry Two) 0 geometry.zones (sector_of m) there.0 i) e (part_two there.0 now.0 now.2);
-      each = each_as (d.sector_size mid) geometry.sector two (copy_start geometry Two) zones (sector_of m) image size two_is (written there.0 there.1 image is);
-    }))
+    let e : now.0 ≡ image = some_is (sym now.1 ∙ is) in (
+      there.0,
+      first_passed was there.0 told there.1 there.2,
+      record {
+        part = subst (λ (i : List ℕ). IsPartWritten geometry.sector (copy_start geometry Two) 0 geometry.zones (sector_of m) there.0 i) e (part_two there.0 now.0 now.2);
+        each = each_as (d.sector_size mid) geometry.sector two (copy_start geometry Two) zones (sector_of m) image size two_is (written there.0 there.1 image is);
+      },
+    ))
     c.write_zones-2.ensures.written
 
 pub returns-then-is_empty-clause-written : goal.returns-then-is_empty-clause-written
