@@ -1,5 +1,5 @@
 -- Both copies written anew, one after the other.
-use Rattle.std.proofs.Common.{◌≡◌, ◌<◌, ◌≤◌, ◌⊎◌, inl, inr, ⊎_elim, ℕ, zero, suc, ◌+◌, ◌*◌, Bool, true, false, List, [], ◌∷◌, length, get_or, refl, sym, ap, subst, ◌∙◌, arith}
+use Rattle.std.proofs.Common.{◌≡◌, ◌<◌, ◌≤◌, ◌⊎◌, inl, inr, ⊎_elim, ℕ, suc, ◌+◌, ◌*◌, Bool, true, false, List, [], ◌∷◌, length, get_or, refl, sym, ap, ◌∙◌, arith}
 use Rattle.std.specs.Prelude.{All, slice_index, ◌==◌}
 use Rattle.std.proofs.lemmas.List.Elements.{All-get_or}
 use Rattle.fc_device.specs.Sectors.{IsSectorSize}
@@ -14,9 +14,9 @@ use Rattle.fc_newmap.specs.Map.{Map}
 use Rattle.fc_copies.specs.declared.Which.{Which}
 use Rattle.fc_copies.specs.declared.Which.TheVariants.{One, Two}
 use Rattle.fc_copies.specs.Committing.{CanCommit}
-use Rattle.fc_copies.specs.Copies.{ChangesCopies, Chooses, CommitEnds, CommitLeaves, HoldsCopies, copy_of, copy_start, is_sound, sealed_zones}
+use Rattle.fc_copies.specs.Copies.{ChangesCopies, CommitEnds, CommitLeaves, copy_of, copy_start, is_sound, sealed_zones}
 use Rattle.fc_copies.specs.Gate.{gate_deltas, gated}
-use Rattle.fc_copies.specs.Passes.{HasEach, HasPassed, HasPassedBoth, IsPartWritten, PassesBoth}
+use Rattle.fc_copies.specs.Passes.{HasPassed, HasPassedBoth, IsPartWritten, PassesBoth}
 use Rattle.fc_copies.proofs.MixLemmas.{NotIn, at_or_out, gated_length, gated_lengths, gated_out, gated_sound, length-gated_by, length-sealed, sealed_lengths, not_contained, sealed_out, sealed_sound, whole}
 use Rattle.fc_copies.proofs.PassLemmas.{part_start}
 use Rattle.fc_copies.proofs.ReadingLemmas.{chooses_one, chooses_two, copy_is, length-copy, zone_of_copy}

@@ -1,6 +1,6 @@
 -- A copy whose zones are old or new, each by itself.
-use Rattle.std.proofs.Common.{◌≡◌, ◌<◌, ◌≤◌, ◌≢◌, ◌⊎◌, inl, inr, ⊎_elim, ℕ, zero, suc, ◌+◌, Bool, true, false, List, [], ◌∷◌, length, map, get_or, set, refl, sym, ap, ap₂, subst, ◌∙◌, arith}
-use Rattle.std.specs.Prelude.{not, ◌&&◌, ◌||◌, ◌==◌, slice_index, bit_xor, Contains}
+use Rattle.std.proofs.Common.{◌≡◌, ◌<◌, ◌≤◌, ◌⊎◌, inl, inr, ⊎_elim, ℕ, zero, suc, ◌+◌, Bool, true, false, List, [], ◌∷◌, length, map, get_or, set, refl, sym, ap, ap₂, subst, ◌∙◌, arith}
+use Rattle.std.specs.Prelude.{not, ◌&&◌, ◌==◌, slice_index, bit_xor, Contains}
 use Rattle.std.specs.List.{list_all, list_any, zip, items_where_true, AllByRecursion}
 use Rattle.std.specs.List.Sorted.{IsStrictlyIncreasing}
 use Rattle.std.specs.Int.Bits.{xor_assoc, xor_zero_r}
@@ -13,7 +13,7 @@ use Rattle.fc_checks.specs.Checks.{xor_all, zone_check}
 use Rattle.std.proofs.Math.Seq.{map-set_same}
 use Rattle.fc_zone.specs.Edits.{sealed}
 use Rattle.fc_copies.specs.Copies.{cross_of, is_check_right, is_sound, sealed_zones}
-use Rattle.fc_copies.specs.Gate.{chosen_deltas, gate_delta, gate_deltas, gated, gated_by, gated_sector, is_gate, is_mixed}
+use Rattle.fc_copies.specs.Gate.{chosen_deltas, gate_delta, gate_deltas, gated, gated_by, gated_sector, is_mixed}
 use Rattle.fc_copies.proofs.GateLemmas.{cancel, choice_passes, cross-gated, cross-gated_by, first_part, gate_of, second_part, xor_all-cons, length-gated}
 use Rattle.fc_copies.proofs.ReadingLemmas.{same_lists}
 use Rattle.fc_copies.proofs.RepairLemmas.{check-masked, sound_right}

@@ -1,5 +1,5 @@
 -- Passes over a copy: one zone more, and one pass after another.
-use Rattle.std.proofs.Common.{◌≡◌, ◌<◌, ◌≤◌, ◌⊎◌, inl, inr, ⊎_elim, ℕ, ◌+◌, ◌-◌, ◌*◌, List, length, get_or, refl, sym, ap, subst, ◌∙◌, arith, Some, option_map, IsFalse}
+use Rattle.std.proofs.Common.{◌≡◌, ◌<◌, ◌≤◌, ◌⊎◌, inl, inr, ⊎_elim, ℕ, ◌+◌, ◌*◌, List, length, get_or, refl, sym, ap, subst, ◌∙◌, arith, Some, option_map, IsFalse}
 use Rattle.std.specs.Option.{ForSome}
 use Rattle.std.proofs.lemmas.Bool.{cases_eq}
 use Rattle.fc_device.specs.Sectors.{sector_at, with_sector}
@@ -115,6 +115,9 @@ module _ {D : Type 0} {d : Ghosts D} (law : Laws d) (old : D) (first low high : 
 
   pub written_none : (mid : D) → Done mid low
   written_none mid = λ was told image is z from to. absurd (omega (arith, from, to))
+
+  pub each_none : (zones : List ℕ) (mid : D) → Each d old first new_of zones mid 0
+  each_none zones mid = λ was told image is k lt. absurd (omega (arith, lt))
 
   -- a call that adds no image and keeps the bytes
   pub pass_same : {mid new : D} → Pass mid → LeavesOnly d.moment d.left_since mid new (d.left_since mid (d.moment mid)) → d.bytes new ≡ d.bytes mid → Pass new

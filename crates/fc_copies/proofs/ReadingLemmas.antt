@@ -1,16 +1,14 @@
 -- A copy that is read zone by zone.
-use Rattle.std.proofs.Common.{◌≡◌, ◌<◌, ◌≤◌, ◌≢◌, ℕ, zero, suc, ◌+◌, ◌-◌, ◌*◌, ◌/◌, ◌^◌, Bool, true, false, cond, inl, inr, List, [], ◌∷◌, length, map, get_or, take, refl, sym, ap, subst, ◌∙◌, arith, Some, None}
+use Rattle.std.proofs.Common.{◌≡◌, ◌<◌, ◌≤◌, ◌≢◌, ℕ, zero, suc, ◌+◌, ◌-◌, ◌*◌, ◌/◌, ◌^◌, Bool, true, false, cond, inl, inr, List, [], ◌∷◌, length, get_or, take, refl, sym, ap, ◌∙◌, arith, Some, None}
 use Rattle.std.specs.Prelude.{not, ◌&&◌, ◌==◌, slice_index, bit_xor, Option, Result, Ok, Err}
-use Rattle.std.specs.List.{fold, list_all, range_with_len}
+use Rattle.std.specs.List.{fold, list_all}
 use Rattle.std.proofs.lemmas.Bool.{cases_eq, ne_eqb, eq-eqb}
 use Rattle.std.proofs.lemmas.List.{take_all}
 use Rattle.std.proofs.lemmas.List.Folds.{fold-map, list_all_more, list_all_at}
-use Rattle.std.proofs.lemmas.List.Sums.{fold_more, position_or_len_is, AllPass-from_list_all}
+use Rattle.std.proofs.lemmas.List.Sums.{fold_more, position_or_len_is}
 use Rattle.std.proofs.lemmas.List.FromFn.{length-map-range_with_len, get_or-map-range_with_len}
-use Rattle.std.proofs.lemmas.List.Elements.{All-get_or}
 use borrow.Rule.Slice.PartMut.{put_mid}
-use Rattle.fc_checks.specs.Checks.{xor_all, zone_check}
-use Rattle.fc_device.specs.Sectors.{sector_at, with_sector, IsSectorSize}
+use Rattle.fc_device.specs.Sectors.{sector_at, with_sector}
 use Rattle.fc_device.specs.declared.disk.Disk.{Ghosts}
 use Rattle.fc_device.proofs.DiskLaws.{Laws}
 use Rattle.fc_device.proofs.SectorLemmas.{put_mid-with_sector, sector_at-with_sector_same, sector_at-with_sector_other}

@@ -1,9 +1,9 @@
 -- One copy made equal to the other: what counts on the way.
-use Rattle.std.proofs.Common.{◌≡◌, ◌<◌, ◌≤◌, ◌≢◌, ◌⊎◌, inl, inr, ⊎_elim, ℕ, zero, suc, ◌+◌, ◌-◌, ◌*◌, Bool, true, false, List, [], ◌∷◌, length, get_or, set, refl, sym, ap, subst, ◌∙◌, arith, Ok, Some}
+use Rattle.std.proofs.Common.{◌≡◌, ◌<◌, ◌≤◌, ◌⊎◌, inl, inr, ⊎_elim, ℕ, zero, suc, ◌+◌, true, false, List, [], ◌∷◌, length, get_or, set, refl, sym, ap, subst, ◌∙◌, arith, Ok, Some}
 use Rattle.std.specs.Option.{ForSome}
 use Rattle.std.specs.Prelude.{◌&&◌, ◌==◌, slice_index, bit_xor}
 use Rattle.std.specs.List.{list_all}
-use Rattle.std.proofs.lemmas.Bool.{cases_eq, eqb-true, ne_eqb}
+use Rattle.std.proofs.lemmas.Bool.{eqb-true, ne_eqb}
 use Rattle.std.proofs.lemmas.List.{get_or-set_same, set-get_or, take_all}
 use Rattle.std.proofs.lemmas.List.Folds.{list_all_at}
 use Rattle.std.specs.Int.Bits.{xor_zero_r}
@@ -14,7 +14,6 @@ use Rattle.fc_device.specs.Stops.{Keeps}
 use Rattle.fc_device.specs.declared.disk.Disk.{Ghosts}
 use Rattle.fc_device.proofs.DiskLaws.{Laws, sector_fits}
 use Rattle.fc_device.proofs.SectorLemmas.{length-sector_at}
-use Rattle.fc_device.proofs.StopLemmas.{keeps_weaker}
 use Rattle.fc_copies.proofs.PassLemmas.{keeps_on, keeps_told, part_as, written_as}
 use Rattle.fc_record.specs.declared.Geometry.{Geometry}
 use Rattle.fc_copies.specs.declared.Which.{Which}

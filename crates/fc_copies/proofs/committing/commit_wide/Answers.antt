@@ -1,11 +1,9 @@
-use Rattle.std.proofs.Common.{◌≡◌, ◌≤◌, ◌∙◌, ap, sym, subst, ℕ, List, length, get_or, Some, Ok, arith}
-use Rattle.std.specs.Option.{ForSome}
+use Rattle.std.proofs.Common.{◌≡◌, ◌≤◌, ◌∙◌, ap, sym, subst, ℕ, List, arith}
 use Rattle.std.proofs.lemmas.Result.{on_ok_weaker}
 use Rattle.fc_device.proofs.DiskLaws.{laws}
 use Rattle.fc_newmap.specs.Map.{Map, sector_of}
 use Rattle.fc_newmap.specs.NewMap.{IsNewMap}
-use Rattle.fc_copies.specs.declared.Which.TheVariants.{One}
-use Rattle.fc_copies.specs.Copies.{ChangesCopies, CommitEnds, sealed_zones}
+use Rattle.fc_copies.specs.Copies.{CommitEnds, sealed_zones}
 use Rattle.fc_copies.specs.Passes.{HasPassedBoth, PassesBoth}
 use Rattle.fc_copies.proofs.CommitLemmas.{header_fits, passes_frame, seal_ends}
 use Rattle.fc_copies.proofs.PassLemmas.{keeps_told}

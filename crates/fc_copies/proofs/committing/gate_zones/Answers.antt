@@ -1,7 +1,6 @@
-use Rattle.std.proofs.Common.{◌≡◌, ◌≤◌, ℕ, List, length, refl, ap, ◌∙◌, take, arith}
+use Rattle.std.proofs.Common.{◌≤◌, ℕ, List, length, refl, ap, ◌∙◌, arith}
 use Rattle.std.specs.List.{zip}
 use Rattle.std.proofs.lemmas.List.{take_all}
-use Rattle.std.proofs.lemmas.Slice.Zip.{length-zip}
 use Rattle.fc_copies.specs.Gate.{gate_deltas, gated_by}
 use Rattle.fc_copies.proofs.MapLemmas.{gated_more, turns_short}
 use Rattle.fc_copies.proofs.committing.gate_zones.Goals as goal

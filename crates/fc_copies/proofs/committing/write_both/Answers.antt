@@ -1,15 +1,13 @@
-use Rattle.std.proofs.Common.{◌≡◌, ◌∙◌, ap, sym, refl, subst, inl, inr, ℕ, List, [], Some, Ok, arith}
-use Rattle.std.specs.Option.{ForSome}
+use Rattle.std.proofs.Common.{◌≡◌, ◌∙◌, ap, sym, refl, subst, inl, inr, ℕ, List, [], Some, arith}
 use Rattle.std.proofs.lemmas.Result.{on_ok_weaker}
 use Rattle.fc_device.proofs.DiskLaws.{laws}
-use Rattle.fc_device.proofs.StopLemmas.{keeps_start}
 use Rattle.fc_record.specs.declared.Geometry.{Geometry}
 use Rattle.fc_newmap.specs.Map.{sector_of}
 use Rattle.fc_copies.specs.declared.Which.TheVariants.{One, Two}
 use Rattle.fc_copies.specs.Copies.{copy_start}
-use Rattle.fc_copies.specs.Passes.{HasEach, HasPassed, HasPassedBoth, IsPartWritten, PassesBoth}
+use Rattle.fc_copies.specs.Passes.{HasPassed, HasPassedBoth, IsPartWritten}
 use Rattle.fc_copies.proofs.CommitLemmas.{no_zones, none_passed}
-use Rattle.fc_copies.proofs.PassLemmas.{each_as, keeps_on, keeps_told, part_as, part_start}
+use Rattle.fc_copies.proofs.PassLemmas.{each_as, keeps_on, keeps_told, part_as}
 use Rattle.fc_copies.proofs.ReadingLemmas.{sectors_fit}
 use Rattle.fc_copies.proofs.RepairLemmas.{some_is}
 use Rattle.fc_copies.proofs.committing.write_both.Goals as goal

@@ -2,7 +2,7 @@ use Rattle.std.proofs.Common.{◌≡◌, ◌<◌, ◌+◌, ◌∙◌, ap, sym, r
 use Rattle.std.proofs.lemmas.List.Elements.{All-get_or}
 use Rattle.fc_device.proofs.DiskLaws.{laws, form_same, form_then}
 use Rattle.fc_newmap.specs.Map.{sector_of}
-use Rattle.fc_copies.proofs.PassLemmas.{each_one, pass_same, pass_start, pass_write}
+use Rattle.fc_copies.proofs.PassLemmas.{each_none, each_one, pass_same, pass_start, pass_write}
 use Rattle.fc_copies.proofs.committing.write_zones.Goals as goal
 
 pub loop-z-init : goal.loop-z-init
@@ -11,7 +11,7 @@ loop-z-init g c =
     record {
       form = form_same g.D.Disk start;
       passed = pass_start (laws g.met.D.Disk) start c.args.start 0 c.args.map.now.geometry.zones (λ was. sector_of c.args.map.now) c.requires.settled;
-      written = λ was told image is k lt. absurd (omega (arith, lt));
+      written = each_none (laws g.met.D.Disk) start c.args.start 0 c.args.map.now.geometry.zones (λ was. sector_of c.args.map.now) c.args.changed.now start;
       faults = omega arith;
     }
 

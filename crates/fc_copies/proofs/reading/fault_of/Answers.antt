@@ -1,10 +1,10 @@
-use Rattle.std.proofs.Common.{Some, ◌≡◌, ◌<◌, ◌+◌, ℕ, List, [], length, get_or, take, refl, sym, ap, ◌∙◌, arith}
+use Rattle.std.proofs.Common.{Some, ◌≡◌, ◌<◌, ◌+◌, ℕ, List, [], length, get_or, refl, sym, ap, ◌∙◌, arith}
 use Rattle.fc_device.proofs.DiskLaws.{laws}
 use Rattle.fc_device.specs.Sectors.{sector_at}
 use Rattle.fc_record.proofs.ReadLemmas.{reads_start, reads_then}
 use Rattle.fc_copies.specs.Choosing.{cross_if_right}
 use Rattle.fc_copies.specs.Copies.{copy_of, copy_start}
-use Rattle.fc_copies.proofs.ReadingLemmas.{all_read, length-copy, right_more, sectors_fit, total_more, total_right, total_wrong, wrong_here, zone_of_copy}
+use Rattle.fc_copies.proofs.ReadingLemmas.{length-copy, right_more, sectors_fit, total_more, total_right, total_wrong, wrong_here, zone_of_copy}
 use Rattle.fc_copies.proofs.reading.fault_of.Goals as goal
 
 pub start_of-start-requires : goal.start_of-start-requires

@@ -1,9 +1,8 @@
-use Rattle.std.proofs.Common.{◌≡◌, ◌<◌, ◌≤◌, ◌+◌, ◌*◌, ◌-◌, ℕ, List, length, drop, length-take, length-drop, sym, ap, ◌∙◌, arith}
+use Rattle.std.proofs.Common.{◌≡◌, ◌<◌, ◌≤◌, ◌+◌, ◌*◌, ◌-◌, length, drop, length-take, length-drop, ap, ◌∙◌, arith}
 use Rattle.fc_device.proofs.DiskLaws.{laws}
 use Rattle.fc_device.specs.Sectors.{sector_at}
 use Rattle.fc_record.specs.Reads.{OnlyReads}
 use Rattle.fc_record.proofs.ReadLemmas.{reads_start, reads_then}
-use Rattle.fc_copies.specs.Copies.{copy_start}
 use Rattle.fc_copies.proofs.ReadingLemmas.{filled_more, filled_all, sectors_fit, zone_fits}
 use Rattle.fc_copies.proofs.reading.fetch.Goals as goal
 

@@ -1,7 +1,6 @@
-use Rattle.std.proofs.Common.{◌≡◌, ◌<◌, ◌+◌, ◌∙◌, ap, inl, ⊎_elim, ℕ, zero, List, length, Some, arith, slice_set}
+use Rattle.std.proofs.Common.{◌≡◌, ◌+◌, ◌∙◌, ap, ℕ, List, length, Some, arith}
 use Rattle.std.proofs.lemmas.List.{length-set}
 use Rattle.fc_device.specs.Sectors.{sector_at}
-use Rattle.fc_device.specs.Stops.{Keeps}
 use Rattle.fc_device.proofs.DiskLaws.{laws}
 use Rattle.fc_copies.specs.Passes.{masked}
 use Rattle.fc_copies.proofs.PassLemmas.{pass_same, pass_start, pass_write, written_none, written_one, written_same}

@@ -1,4 +1,4 @@
-use Rattle.std.proofs.Common.{◌≡◌, ◌≤◌, false, length}
+use Rattle.std.proofs.Common.{◌≡◌, ◌≤◌, false}
 use Rattle.fc_device.specs.Calls.{SameForm}
 use Rattle.fc_copies.specs.Passes.{zone_from}
 use Rattle.fc_copies.proofs.PassLemmas.{Passed, Written}

@@ -1,4 +1,4 @@
-use Rattle.std.proofs.Common.{◌≡◌, ◌<◌, ◌+◌, ◌∙◌, ap, Ok, OnOk, refl, sym, subst, ℕ, List, arith}
+use Rattle.std.proofs.Common.{◌≡◌, ◌<◌, ◌+◌, ◌∙◌, ap, Ok, sym, subst, ℕ, List, arith}
 use Rattle.std.specs.Option.{ForSome}
 use Rattle.std.proofs.lemmas.Result.{on_ok_weaker}
 use Rattle.fc_device.specs.Stops.{Keeps}
@@ -7,7 +7,7 @@ use Rattle.fc_device.proofs.DiskLaws.{laws}
 use Rattle.fc_copies.specs.declared.Which.{Which}
 use Rattle.fc_copies.specs.declared.Which.TheVariants.{One, Two}
 use Rattle.fc_copies.specs.Copies.{chosen, copy_of, copy_start, HoldsCopies, RepairLeaves}
-use Rattle.fc_copies.specs.Passes.{HasWritten, IsPartWritten, zone_from}
+use Rattle.fc_copies.specs.Passes.{IsPartWritten, zone_from}
 use Rattle.fc_copies.proofs.PassLemmas.{keeps_told, part_as, written_as}
 use Rattle.fc_copies.proofs.ReadingLemmas.{sectors_fit}
 use Rattle.fc_copies.proofs.RepairLemmas.{some_is, first_mends, first_spoils, last_ends, last_mends, mends_leaves, one_holds, one_leaves, rest_mends, rest_rests, rest_spoils}

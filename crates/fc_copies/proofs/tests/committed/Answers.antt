@@ -1,7 +1,5 @@
-use Rattle.std.proofs.Common.{◌<◌, ℕ, List, subst, refl, ap, sym, ◌∙◌}
-use Rattle.std.specs.Prelude.{All}
+use Rattle.std.proofs.Common.{subst}
 use Rattle.std.specs.List.Sorted.{IsStrictlyIncreasing}
-use Rattle.fc_record.specs.declared.Geometry.{Geometry}
 use Rattle.fc_copies.proofs.tests.committed.Goals as goal
 
 pub commit-requires-clause-rising : goal.commit-requires-clause-rising
