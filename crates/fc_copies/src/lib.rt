@@ -1,16 +1,36 @@
-//! What the two copies of a new map are, which of them counts, and the gate: how the CrossChecks of changed zones are
-//! turned, so that a copy with some old and some new zones is never sound.
+//! The two copies of a new map: which of them counts, how one is made equal to the other, and how changed zones are
+//! written so that a stop of the machine leaves the old map or the new one, whole.
 //!
-//! The two copies and their checks are those of the RISC OS PRM, chapter FileCore; the gate is fcore's own.
+//! The copies and their checks are those of the RISC OS PRM, chapter FileCore; the order of the writes and the gate,
+//! which turns the CrossChecks of changed zones so that no mix of old and new zones is sound, are fcore's own
+//! (docs/FORMAT.md, "Two copies").
 #![tactic(auto)]
 
 ghost use Rattle.fc_copies.specs.Gate.{GateHolds, MixLaw};
 
+mod committing;
+mod reading;
+mod repairing;
+
+pub use committing::{commit, commit_wide};
+pub use reading::{choose, fetch};
+pub use repairing::repair;
+
 /// One of the two copies of the map: the one at the map's address, or the one behind it.
-#[derive(Clone, Copy)]
+#[derive(Clone, Copy, Debug, PartialEq, Eq)]
 pub enum Which {
     One,
     Two,
+}
+
+/// Why no copy was chosen.
+#[derive(Clone, Copy, Debug, PartialEq, Eq)]
+pub enum CopyError {
+    /// Neither copy is sound. Each number is the first zone of that copy whose ZoneCheck is wrong, or the number of
+    /// zones where only the total of the CrossChecks is.
+    BothBad { c1: u16, c2: u16 },
+    /// A read failed.
+    DiskFault,
 }
 
 /// For 2 to 9 changed zones: the deltas of no mix of old and new zones cancel, and all of them together do.
@@ -22,3 +42,6 @@ pub fn gate()
 pub fn mix()
     ensures { MixLaw }
 {}
+
+#[cfg(test)]
+mod tests;

@@ -1,0 +1,24 @@
+use Rattle.std.proofs.Common.{◌∙◌}
+use Rattle.fc_copies.specs.declared.Which.TheVariants.{One, Two}
+use Rattle.fc_copies.specs.Copies.{copy_of}
+use Rattle.fc_copies.proofs.ReadingLemmas.{chooses_none, chooses_one, chooses_two, sound_copy, wrong_copy}
+use Rattle.fc_copies.proofs.reading.choose.Goals as goal
+
+pub returns-in-Ok-None-clause-answer : goal.returns-in-Ok-None-clause-answer
+returns-in-Ok-None-clause-answer g c = λ image told.
+    chooses_one c.args.g.now image (sound_copy (copy_of c.args.g.now One image) c.in-Ok-None.field-0 (c.in-Ok-None.ensures.found image told) c.in-Ok-None.field-0-is)
+
+pub returns-in-Ok-None-fault_of-clause-answer : goal.returns-in-Ok-None-fault_of-clause-answer
+returns-in-Ok-None-fault_of-clause-answer g c = λ image told.
+    let geometry = c.args.g.now in
+    let first = wrong_copy (copy_of geometry One image) c.in-Ok-Some.field-0 c.in-Ok-Some.zone (c.in-Ok-Some.ensures.found image told) c.in-Ok-Some.field-0-is in
+    let second = sound_copy (copy_of geometry Two image) c.in-Ok-None-fault_of.field-0 (c.in-Ok-None-fault_of.ensures.found image (c.fault_of.ensures.reads.bytes ∙ told)) c.in-Ok-None-fault_of.field-0-is in
+    chooses_two geometry image first.0 second
+
+pub returns-in-Ok-Some-fault_of-clause-answer : goal.returns-in-Ok-Some-fault_of-clause-answer
+returns-in-Ok-Some-fault_of-clause-answer g c = λ image told.
+    let geometry = c.args.g.now in
+    let first = wrong_copy (copy_of geometry One image) c.in-Ok-Some.field-0 c.in-Ok-Some.zone (c.in-Ok-Some.ensures.found image told) c.in-Ok-Some.field-0-is in
+    let there = c.in-Ok-Some-fault_of.ensures.found image (c.fault_of.ensures.reads.bytes ∙ told) in
+    let second = wrong_copy (copy_of geometry Two image) c.in-Ok-Some-fault_of.field-0 c.in-Ok-Some-fault_of.c2 there c.in-Ok-Some-fault_of.field-0-is in
+    chooses_none geometry image c.in-Ok-Some.zone c.in-Ok-Some-fault_of.c2 first.0 first.1 second.0 second.1

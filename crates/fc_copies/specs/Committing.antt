@@ -1,0 +1,11 @@
+-- What a commit asks of the image before it.
+use Rattle.std.specs.Prelude.{◌≡◌, ◌<◌, ℕ, List, [], slice_index, slice_index_or, Contains}
+use Rattle.fc_newmap.specs.Map.{Map, sector_of}
+use Rattle.fc_copies.specs.Copies.{HoldsCopies}
+
+-- Both copies are equal and sound, the map has their CrossChecks, and its other zones are theirs.
+pub record CanCommit (m : Map) (changed image : List ℕ) : Type 0 where
+  pub base : List (List ℕ)
+  pub copies : HoldsCopies m.geometry base image
+  pub crosses : (z : ℕ) → z < m.geometry.zones → slice_index (sector_of m z) 3 ≡ slice_index (slice_index_or base z []) 3
+  pub others : (z : ℕ) → z < m.geometry.zones → (Contains changed z → ⊥) → sector_of m z ≡ slice_index_or base z []

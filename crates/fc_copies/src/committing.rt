@@ -1,0 +1,179 @@
+// A map that is written into both copies.
+ghost use Rattle.std.specs.Prelude.{◌≡◌, ◌<◌, ◌≤◌, ◌+◌, ◌*◌, ◌^◌, ℕ, [], All, length, IsTrue, IsFalse, OnOk};
+ghost use Rattle.std.specs.List.Sorted.{IsStrictlyIncreasing};
+ghost use Rattle.std.specs.Option.{ForSome};
+ghost use Rattle.fc_device.specs.Calls.{FailsByFault, SameForm, StopsAndExitsLeave};
+ghost use Rattle.fc_newmap.specs.Map.{sector_of, with_zone};
+ghost use Rattle.fc_newmap.specs.NewMap.{IsNewMap};
+ghost use Rattle.fc_copies.specs.Committing.{CanCommit};
+ghost use Rattle.fc_copies.specs.Copies.{copy_of, sealed_zones, ChangesCopies, CommitEnds, CommitLeaves};
+ghost use Rattle.fc_copies.specs.declared.Which.TheVariants.{One};
+ghost use Rattle.fc_copies.specs.Gate.{gate_delta, gated, gated_sector};
+ghost use Rattle.fc_copies.specs.Passes.{HasEach, HasPassedBoth, IsPartWritten, PassesBoth};
+
+use crate::Which;
+use crate::reading::start_of;
+use arrayvec::ArrayVec;
+use fc_device::{Disk, DiskFault};
+use fc_newmap::NewMap;
+
+/// The place of CrossCheck in a zone's sector.
+const CROSS_CHECK: usize = 3;
+
+// What the CrossCheck of the i-th of k zones is exclusively ored with, counted from 0.
+fn delta_of(k: usize, i: usize) -> u8
+    requires within { i < k }
+    requires few { k ≤ 9 }
+    ensures { result ≡ gate_delta k i }
+{
+    if i + 1 == k {
+        ((1u16 << i) - 1) as u8
+    } else {
+        1 << i
+    }
+}
+
+// Turns the CrossCheck of a zone by a delta, and sets its ZoneCheck.
+fn turn(map: &mut NewMap, z: u16, delta: u8)
+    requires zone { z < map.old.geometry.zones }
+    requires header { 3 < map.old.geometry.sector }
+    ensures { map.new ≡ with_zone map.old z (gated_sector (sector_of map.old z) delta) }
+{
+    let cross = map.bytes(z)[CROSS_CHECK];
+    map.set_cross(z, cross ^ delta);
+    map.seal(z);
+}
+
+// Turns the CrossChecks of the zones, so that no mix of old and new ones is sound, and sets their ZoneChecks.
+fn gate_zones(map: &mut NewMap, changed: &[u16])
+    requires few { length changed.now ≤ 9 }
+    requires header { 3 < map.old.geometry.sector }
+    requires zones { All (λ z. z < map.old.geometry.zones) changed.now }
+    ensures { map.new ≡ record map.old { zones = gated changed.now map.old.zones } }
+{
+    for (i, z) in changed.iter().enumerate() {
+        turn(map, *z, delta_of(changed.len(), i));
+    }
+}
+
+// Sets the ZoneChecks of the zones.
+fn seal_zones(map: &mut NewMap, changed: &[u16])
+    requires zones { All (λ z. z < map.old.geometry.zones) changed.now }
+    ensures { map.new ≡ record map.old { zones = sealed_zones changed.now map.old.zones } }
+{
+    for z in changed {
+        map.seal(*z);
+    }
+}
+
+// Writes these zones into the copy that begins at sector `start`, and syncs.
+fn write_zones<D: Disk>(
+    disk: &mut D,
+    map: &NewMap,
+    start: u64,
+    changed: &[u16],
+) -> Result<(), DiskFault>
+    requires attached { IsTrue (D.attached disk.old) }
+    requires settled { IsFalse (D.pending disk.old) }
+    requires size { D.sector_size disk.old ≡ map.now.geometry.sector }
+    requires on_disk { start + map.now.geometry.zones ≤ D.sectors disk.old }
+    requires fits { start + map.now.geometry.zones < 2 ^ 64 }
+    requires zones { All (λ z. z < map.now.geometry.zones) changed.now }
+    ensures keeps { StopsAndExitsLeave D.Disk disk.old disk.new (IsPartWritten (D.sector_size disk.old) start 0 map.now.geometry.zones (sector_of map.now)) }
+    ensures written { OnOk result (ForSome (D.bytes disk.old) (λ was. ForSome (D.bytes disk.new) (HasEach (D.sector_size disk.old) start changed.now (sector_of map.now)))) }
+    ensures durable { OnOk result (IsFalse (D.pending disk.new)) }
+    ensures form { SameForm D.Disk disk.old disk.new }
+    ensures cause { FailsByFault D.Disk disk.old disk.new result }
+{
+    for z in changed {
+        disk.write(start + u64::from(*z), map.bytes(*z))?;
+    }
+    disk.sync()?;
+    Ok(())
+}
+
+// Writes these zones into copy 1, syncs, then writes them into copy 2, and syncs. For no zones it does nothing.
+fn write_both<D: Disk>(disk: &mut D, map: &NewMap, changed: &[u16]) -> Result<(), DiskFault>
+    requires attached { IsTrue (D.attached disk.old) }
+    requires settled { IsFalse (D.pending disk.old) }
+    requires size { D.sector_size disk.old ≡ map.now.geometry.sector }
+    requires on_disk { map.now.geometry.map_sector + 2 * map.now.geometry.zones ≤ D.sectors disk.old }
+    requires zones { All (λ z. z < map.now.geometry.zones) changed.now }
+    ensures keeps { StopsAndExitsLeave D.Disk disk.old disk.new (PassesBoth map.now.geometry changed.now (sector_of map.now)) }
+    ensures map { IsNewMap map.now }
+    ensures nothing { changed.now ≡ [] → D.bytes disk.new ≡ D.bytes disk.old }
+    ensures written { OnOk result (ForSome (D.bytes disk.old) (λ was. ForSome (D.bytes disk.new) (HasPassedBoth map.now.geometry changed.now (sector_of map.now) was))) }
+    ensures durable { OnOk result (IsFalse (D.pending disk.new)) }
+    ensures form { SameForm D.Disk disk.old disk.new }
+    ensures cause { FailsByFault D.Disk disk.old disk.new result }
+{
+    let one = start_of(map.geometry(), Which::One);
+    let two = start_of(map.geometry(), Which::Two);
+    if changed.is_empty() {
+        return Ok(());
+    }
+    write_zones(disk, map, one, changed)?;
+    write_zones(disk, map, two, changed)
+}
+
+/// Writes the changed zones of a map into both copies, so that a stop of the machine leaves the old map or the new one,
+/// whole (docs/FORMAT.md, "Two copies"). `changed` is a rising list of zones. The disk is attached, has the geometry's
+/// sectors and holds both copies, and nothing is pending. Where the disk tells its bytes, the two copies are equal and
+/// sound, the map has their CrossChecks, and its zones that aren't listed are theirs.
+///
+/// The CrossChecks of the listed zones are turned first, so that no mix of old and new zones is sound, and their
+/// ZoneChecks are set; this is what the map holds afterwards, whatever the answer. Then copy 1 is written, and copy 2
+/// once it stands. At every stop and at every exit the copy that counts is the old map or the new one, and no sector
+/// outside the two copies changes. It fails only where the disk's count of faults rose.
+pub fn commit<D: Disk>(
+    disk: &mut D,
+    map: &mut NewMap,
+    changed: &ArrayVec<u16, 9>,
+) -> Result<(), DiskFault>
+    requires attached { IsTrue (D.attached disk.old) }
+    requires settled { IsFalse (D.pending disk.old) }
+    requires size { D.sector_size disk.old ≡ map.old.geometry.sector }
+    requires on_disk { map.old.geometry.map_sector + 2 * map.old.geometry.zones ≤ D.sectors disk.old }
+    requires rising { IsStrictlyIncreasing changed.now.items }
+    requires zones { All (λ z. z < map.old.geometry.zones) changed.now.items }
+    requires ready { ForSome (D.bytes disk.old) (CanCommit map.old changed.now.items) }
+    ensures map { map.new ≡ record map.old { zones = gated changed.now.items map.old.zones } }
+    ensures keeps { StopsAndExitsLeave D.Disk disk.old disk.new (λ start image.
+        CommitLeaves map.old.geometry start (copy_of map.old.geometry One start) map.new.zones image) }
+    ensures ends { OnOk result (ForSome (D.bytes disk.old) (λ start. ForSome (D.bytes disk.new) (CommitEnds map.old.geometry start map.new.zones))) }
+    ensures durable { OnOk result (IsFalse (D.pending disk.new)) }
+    ensures form { SameForm D.Disk disk.old disk.new }
+    ensures cause { FailsByFault D.Disk disk.old disk.new result }
+{
+    gate_zones(map, changed);
+    write_both(disk, map, changed)
+}
+
+/// Writes any number of changed zones of a map into both copies, without the gate: what a stop of the machine leaves of
+/// the two copies is not promised. The conditions are those of `commit`; the list may be empty, and then nothing is
+/// written. The ZoneChecks of the listed zones are set, and their CrossChecks stay, and with them the total.
+///
+/// At every stop and at every exit no sector outside the two copies changes, and at the end both copies are the map. It
+/// fails only where the disk's count of faults rose.
+pub fn commit_wide<D: Disk>(
+    disk: &mut D,
+    map: &mut NewMap,
+    changed: &Vec<u16>,
+) -> Result<(), DiskFault>
+    requires attached { IsTrue (D.attached disk.old) }
+    requires settled { IsFalse (D.pending disk.old) }
+    requires size { D.sector_size disk.old ≡ map.old.geometry.sector }
+    requires on_disk { map.old.geometry.map_sector + 2 * map.old.geometry.zones ≤ D.sectors disk.old }
+    requires zones { All (λ z. z < map.old.geometry.zones) changed.now.items }
+    requires ready { ForSome (D.bytes disk.old) (CanCommit map.old changed.now.items) }
+    ensures map { map.new ≡ record map.old { zones = sealed_zones changed.now.items map.old.zones } }
+    ensures frame { StopsAndExitsLeave D.Disk disk.old disk.new (ChangesCopies map.old.geometry) }
+    ensures nothing { changed.now.items ≡ [] → D.bytes disk.new ≡ D.bytes disk.old }
+    ensures ends { OnOk result (ForSome (D.bytes disk.old) (λ start. ForSome (D.bytes disk.new) (CommitEnds map.old.geometry start map.new.zones))) }
+    ensures durable { OnOk result (IsFalse (D.pending disk.new)) }
+    ensures form { SameForm D.Disk disk.old disk.new }
+    ensures cause { FailsByFault D.Disk disk.old disk.new result }
+{
+    seal_zones(map, changed);
+    write_both(disk, map, changed)
+}
