@@ -52,7 +52,7 @@ one_sector : (image : List ℕ) → boot_block image ≡ sector_at 512 image 6
 unfolding sector_at
 one_sector image = refl
 
-half_sector : (image : List ℕ) → boot_block image ≡ take 512 (sector_at 1024 image 3)
+pub half_sector : (image : List ℕ) → boot_block image ≡ take 512 (sector_at 1024 image 3)
 unfolding sector_at
 half_sector image = sym (take_less 512 1024 (drop 3072 image) (omega arith))
 

@@ -152,7 +152,7 @@ hole_step_law image other kind r v m new e layout len same =
 
 -- ---- one after another
 
-all_at : (P : ℕ → Type 0) (xs : List ℕ) (s : ℕ) → All P xs → is_among xs s ≡ true → P s
+pub all_at : (P : ℕ → Type 0) (xs : List ℕ) (s : ℕ) → All P xs → is_among xs s ≡ true → P s
 all_at P [] s all i = absurd (cc)
 all_at P (x ∷ xs) s all i = by (x == s) refl i (λ later. all_at P xs s (All-tail P x xs all) later)
   where
@@ -160,7 +160,7 @@ all_at P (x ∷ xs) s all i = by (x == s) refl i (λ later. all_at P xs s (All-t
     by true h g more = subst P (eqb-true x s h) (All-head P x xs all)
     by false h g more = more g
 
-among_filter : (t : ℕ → Bool) (xs : List ℕ) (s : ℕ) → is_among xs s ≡ true → t s ≡ true → is_among (filter t xs) s ≡ true
+pub among_filter : (t : ℕ → Bool) (xs : List ℕ) (s : ℕ) → is_among xs s ≡ true → t s ≡ true → is_among (filter t xs) s ≡ true
 among_filter t [] s i h = i
 among_filter t (x ∷ xs) s i h = by (x == s) (t x) refl refl i (λ later. among_filter t xs s later h)
   where

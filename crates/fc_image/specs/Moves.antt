@@ -6,7 +6,7 @@ use Rattle.fc_record.specs.declared.DiscRecord.{DiscRecord}
 use Rattle.fc_record.specs.declared.Kind.{Kind}
 use Rattle.fc_record.specs.declared.Kind.TheVariants.{Boot, OneZone}
 use Rattle.fc_record.specs.declared.Geometry.{Geometry}
-use Rattle.fc_record.specs.Kinds.{IsKind, map_record, fits_kind}
+use Rattle.fc_record.specs.Kinds.{IsKind, map_record, fits_kind, looks_earlier}
 use Rattle.fc_newmap.specs.Map.{Map, IsMap, sector_of, id_runs, all_runs, sectors_of, map_sectors}
 use Rattle.fc_copies.specs.Copies.{Chooses, CommitLeaves}
 use Rattle.fc_image.specs.Layout.{Layout, dir_form, sectors_at, id_sectors, hole_sectors, is_among, is_apart}
@@ -169,6 +169,12 @@ ThenLaw = (first second third : List ℕ) (kind : Kind) (r : DiscRecord) (v : Op
 -- so the tree is whole
 abbrev pub WholeLaw : Type 0
 WholeLaw = (image other : List ℕ) (kind : Kind) (v : Opened) (m' : Map) → StaysBy kind image v m' other → StaysWhole kind image v other
+
+-- A disc of one zone with sector 3 in identifier 2 doesn't come to look like one with a boot block, where it stays whole.
+abbrev pub LooksLaw : Type 0
+LooksLaw = (image other : List ℕ) (r : DiscRecord) (v : Opened) (m : Map) → OpensAs image (OneZone r) v → v.layout ≡ Layout.New m
+    → is_among (id_sectors m 2) 3 ≡ true → StaysWhole (OneZone r) image v other → length other ≡ length image
+    → looks_earlier other (OneZone r) ≡ looks_earlier image (OneZone r)
 
 -- As each kind of one geometry an image has one map, and says the same.
 abbrev pub SameMapLaw : Type 0

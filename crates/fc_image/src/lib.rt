@@ -7,7 +7,7 @@
 ghost use Rattle.fc_image.specs.Laws.{AcceptedLaw, LaterOpeningLaw, OpensLaw, WalkLaw};
 ghost use Rattle.fc_image.specs.Rows.{ImageRows};
 ghost use Rattle.fc_image.specs.Edits.{ApartLaw, EditLaw, PathsLaw, RoomLaw, StayLaw, WalkEditLaw, WalkFormLaw};
-ghost use Rattle.fc_image.specs.Moves.{BootApartLaw, BootStaysLaw, CarriedLaw, CarryLaw, CommitLaw, HoleStepLaw, KeepsObjectsLaw, MergeLaw, MoveLaw, SameMapLaw, ThenLaw, WholeLaw, WithMapLaw, ZoneFitsLaw};
+ghost use Rattle.fc_image.specs.Moves.{BootApartLaw, BootStaysLaw, CarriedLaw, CarryLaw, CommitLaw, HoleStepLaw, KeepsObjectsLaw, LooksLaw, MergeLaw, MoveLaw, SameMapLaw, ThenLaw, WholeLaw, WithMapLaw, ZoneFitsLaw};
 ghost use Rattle.fc_image.specs.Stays.{FreeLaw, HoleWriteLaw, HolesLaw, StoredLaw};
 
 use fc_dirs::DirFault;
@@ -138,6 +138,11 @@ pub fn steps()
 /// A step that keeps all objects keeps the image whole.
 pub fn wholes()
     ensures { WholeLaw }
+{}
+
+/// A disc of one zone doesn't come to look like one with a boot block, where sector 3 lies in identifier 2.
+pub fn looks()
+    ensures { LooksLaw }
 {}
 
 /// As each kind of one geometry an image has one map, and says the same.
