@@ -6,6 +6,7 @@ mod bigdirs;
 mod bits;
 mod checks;
 mod dirs;
+mod maps;
 mod record;
 mod timing;
 mod zones;
@@ -16,7 +17,7 @@ fn main(rt: HostRuntime) -> std::io::Result<()> {
     let alloc = rt.alloc();
     let words: Vec<String> = env::args(&rt)?.skip(1).collect(alloc)?;
     if words.is_empty() {
-        println!(rt; "benches: bigdirs bits checks dirs record zones")?;
+        println!(rt; "benches: bigdirs bits checks dirs maps record zones")?;
     }
     for word in &words {
         match word.as_str() {
@@ -24,6 +25,7 @@ fn main(rt: HostRuntime) -> std::io::Result<()> {
             "bits" => bits::run(&rt, alloc)?,
             "checks" => checks::run(&rt, alloc)?,
             "dirs" => dirs::run(&rt, alloc)?,
+            "maps" => maps::run(&rt, alloc)?,
             "record" => record::run(&rt, alloc)?,
             "zones" => zones::run(&rt, alloc)?,
             _ => println!(rt; "no such bench: {word}")?,
