@@ -171,7 +171,7 @@ Rises-split : (g : Geometry) (from to : ℕ) (xs ys : List ZoneRun) → Rises g 
 Rises-split g from to [] ys r = (from, (omega arith, r))
 Rises-split g from to (x ∷ xs) ys r = let rest = Rises-split g (first_sector g x + sector_count g x) to xs ys r.1 in (rest.0, ((r.0, rest.1.0), rest.1.1))
 
-range_cut : (from a b : ℕ) → range_with_len from (a + b) ≡ range_with_len from a ++ range_with_len (from + a) b
+pub range_cut : (from a b : ℕ) → range_with_len from (a + b) ≡ range_with_len from a ++ range_with_len (from + a) b
 range_cut from zero b = ap (range_with_len from) (let e : zero + b ≡ b = omega arith in e) ∙ ap (λ (k : ℕ). range_with_len k b) (let e : from ≡ from + zero = omega arith in e)
 range_cut from (suc a) b =
     ap (range_with_len from) (let e : suc a + b ≡ suc (a + b) = omega arith in e)
@@ -215,7 +215,7 @@ id_Distinct m is has some id =
 
 -- ---- one zone changes
 
-split_once : (zs : List ℕ) (z : ℕ) → Distinct zs → is_in zs z ≡ true → (front rest : List ℕ) × (zs ≡ front ++ z ∷ rest) × (is_in front z ≡ false) × (is_in rest z ≡ false)
+pub split_once : (zs : List ℕ) (z : ℕ) → Distinct zs → is_in zs z ≡ true → (front rest : List ℕ) × (zs ≡ front ++ z ∷ rest) × (is_in front z ≡ false) × (is_in rest z ≡ false)
 split_once [] z d e = absurd (cc)
 split_once (x ∷ zs) z d e = by (x == z) refl e (split_once zs z d.1)
   where
@@ -229,7 +229,7 @@ split_once (x ∷ zs) z d e = by (x == z) refl e (split_once zs z d.1)
         let r = more g in
         (x ∷ r.0, r.1, ap (λ (ys : List ℕ). x ∷ ys) r.2, ap (λ b. b || is_in r.0 z) h ∙ r.3, r.4)
 
-order_Distinct : (g : Geometry) (id : ℕ) → Distinct (search_order g id)
+pub order_Distinct : (g : Geometry) (id : ℕ) → Distinct (search_order g id)
 order_Distinct g id =
     let home = home_zone g id in
     Distinct-append (range_with_len home (g.zones - home)) (range_with_len 0 home) (Distinct-range home (g.zones - home)) (Distinct-range 0 home)

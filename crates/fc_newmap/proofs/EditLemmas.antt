@@ -1,12 +1,18 @@
 -- A write to one zone's sector in the buffer of a map.
-use Rattle.std.proofs.Common.{◌≡◌, ◌<◌, ◌≤◌, ℕ, ◌+◌, ◌-◌, ◌*◌, List, length, take, drop, sym, ap, subst, ◌∙◌, arith, inl, inr}
+use Rattle.std.proofs.Common.{◌≡◌, ◌<◌, ◌≤◌, ℕ, ◌+◌, ◌-◌, ◌*◌, List, ◌∷◌, ◌++◌, length, take, drop, sym, ap, subst, ◌∙◌, arith, inl, inr}
 use Rattle.std.specs.Prelude.{Vec}
 use Rattle.std.specs.Vec.{with_items}
 use Rattle.std.proofs.lemmas.List.{with_items_is}
 use borrow.Rule.Slice.PartMut.{put_mid}
 use Rattle.fc_record.specs.declared.Geometry.{Geometry}
 use Rattle.fc_zone.specs.declared.ZoneShape.{ZoneShape}
+use Rattle.fc_zone.specs.declared.Run.{Run}
+use Rattle.fc_zone.specs.declared.RunKind.{RunKind}
 use Rattle.fc_zone.specs.Zone.{IsShapeOf, IsZone, Zone}
+use Rattle.fc_zone.specs.Reading.{runs_of as runs_read}
+use Rattle.fc_zone.specs.Edits.{HasHoleAt, HasRunAt, HasRunToSplit, HasRunsToMerge, Merges, Relabels, Splits, labelled, merged_at, split_at}
+use Rattle.fc_zone.proofs.ReadingLemmas.{runs_of_zone}
+use Rattle.fc_zone.proofs.LawLemmas.{labelled-cut, merged_at-cut, split_at-cut}
 use Rattle.fc_newmap.specs.Map.{Map, shape, sector_of, runs_of, with_zone}
 use Rattle.fc_newmap.specs.NewMap.{IsHeld, map_in}
 use Rattle.fc_record.specs.Record.{first_bit}
@@ -76,3 +82,70 @@ sector_long sector shape n fits low = elim fits.size [
   | inl one ↦ omega arith
   | inr rest ↦ elim rest [ inl two ↦ omega arith | inr three ↦ omega arith ]
 ]
+
+-- ---- what the edits of a zone say of the map
+
+module _ (g : Geometry) (m : Map) (z : ℕ) (old part items : List ℕ) (s : ZoneShape) (w : IsWrittenIn g m z old part items) (is : s ≡ shape g z) where
+  shape_same : shape g z ≡ shape m.geometry z
+  shape_same = ap (λ (h : Geometry). shape h z) (sym w.geometry)
+
+  -- what holds of the sector that is lent, and of what it holds then
+  pub lifted : (P : ZoneShape → List ℕ → List ℕ → Type 0) → P s old part → P (shape m.geometry z) (sector_of m z) (sector_of (map_in g items) z)
+  lifted P h =
+      subst (λ (t : List ℕ). P (shape m.geometry z) (sector_of m z) t) w.new_is
+      (subst (λ (t : List ℕ). P (shape m.geometry z) t part) w.old_is (subst (λ (k : ZoneShape). P k old part) (is ∙ shape_same) h))
+
+  pub lowered : (Q : ZoneShape → List ℕ → Type 0) → Q (shape m.geometry z) (sector_of m z) → Q s old
+  lowered Q h = subst (λ (k : ZoneShape). Q k old) (sym (is ∙ shape_same)) (subst (λ (t : List ℕ). Q (shape m.geometry z) t) (sym w.old_is) h)
+
+  -- the list of runs that the sector has then
+  pub listed : (f : List Run → List Run) → runs_read s part ≡ f (runs_read s old) → runs_of (map_in g items) z ≡ f (runs_of m z)
+  listed f h =
+      subst (λ (k : ZoneShape). runs_read k (sector_of (map_in g items) z) ≡ f (runs_of m z)) (sym shape_same) (lifted (λ k a b. runs_read k b ≡ f (runs_read k a)) h)
+
+  pub held_by : IsZone s part → IsHeld g items
+  held_by zone = w.held (subst (λ (k : ZoneShape). IsZone k part) is zone)
+
+-- the zone has runs after an edit, and which
+module _ (s : ZoneShape) (old new : List ℕ) (start : ℕ) where
+  pub relabelled : (kind : RunKind) → HasRunAt s old start → Relabels s old new start kind → IsZone s new
+  relabelled kind run edit = let r = run.1.1 in (r.0 ++ record run.0 { kind = kind } ∷ r.1.0, edit r.0 r.1.0 run.0 r.1.1 run.1.0)
+
+  pub relabelled_list : (kind : RunKind) → HasRunAt s old start → Relabels s old new start kind → runs_read s new ≡ labelled start kind (runs_read s old)
+  relabelled_list kind run edit =
+      let r = run.1.1 in
+      runs_of_zone s new (r.0 ++ record run.0 { kind = kind } ∷ r.1.0) (edit r.0 r.1.0 run.0 r.1.1 run.1.0)
+      ∙ sym (labelled-cut s old r.0 r.1.0 run.0 r.1.1 kind)
+      ∙ ap (λ (k : ℕ). labelled k kind (r.0 ++ run.0 ∷ r.1.0)) run.1.0
+      ∙ ap (labelled start kind) (sym (runs_of_zone s old (r.0 ++ run.0 ∷ r.1.0) r.1.1))
+
+  pub was_run : HasHoleAt s old start → HasRunAt s old start
+  was_run hole = (hole.0, (hole.1.0, hole.1.2))
+
+  pub split_zone : (len : ℕ) → HasRunToSplit s old start len → Splits s old new start len → IsZone s new
+  split_zone len run edit = let r = run.1.2 in
+      (r.0 ++ record run.0 { len = len } ∷ (record run.0 { start = start + len; len = run.0.len - len } ∷ r.1.0), edit r.0 r.1.0 run.0 r.1.1 run.1.0)
+
+  pub split_list : (len : ℕ) → HasRunToSplit s old start len → Splits s old new start len → runs_read s new ≡ split_at start len (runs_read s old)
+  split_list len run edit =
+      let r = run.1.2 in
+      runs_of_zone s new (r.0 ++ record run.0 { len = len } ∷ (record run.0 { start = start + len; len = run.0.len - len } ∷ r.1.0)) (edit r.0 r.1.0 run.0 r.1.1 run.1.0)
+      ∙ ap (λ (k : ℕ). r.0 ++ record run.0 { len = len } ∷ (record run.0 { start = k + len; len = run.0.len - len } ∷ r.1.0)) (sym run.1.0)
+      ∙ sym (split_at-cut s old r.0 r.1.0 run.0 r.1.1 len)
+      ∙ ap (λ (k : ℕ). split_at k len (r.0 ++ run.0 ∷ r.1.0)) run.1.0
+      ∙ ap (split_at start len) (sym (runs_of_zone s old (r.0 ++ run.0 ∷ r.1.0) r.1.1))
+
+  pub merged_zone : HasRunsToMerge s old start → Merges s old new start → IsZone s new
+  merged_zone runs edit = let r = runs.4 in (r.0 ++ record runs.0 { len = runs.0.len + runs.1.len } ∷ r.1.0, edit r.0 r.1.0 runs.0 runs.1 r.1.1 runs.2)
+
+  pub merged_list : HasRunsToMerge s old start → Merges s old new start → runs_read s new ≡ merged_at start (runs_read s old)
+  merged_list runs edit =
+      let r = runs.4 in
+      runs_of_zone s new (r.0 ++ record runs.0 { len = runs.0.len + runs.1.len } ∷ r.1.0) (edit r.0 r.1.0 runs.0 runs.1 r.1.1 runs.2)
+      ∙ sym (merged_at-cut s old r.0 r.1.0 runs.0 runs.1 r.1.1)
+      ∙ ap (λ (k : ℕ). merged_at k (r.0 ++ runs.0 ∷ (runs.1 ∷ r.1.0))) runs.2
+      ∙ ap (merged_at start) (sym (runs_of_zone s old (r.0 ++ runs.0 ∷ (runs.1 ∷ r.1.0)) r.1.1))
+
+-- a write that leaves the zone its runs
+pub same_runs : (g : Geometry) (m : Map) (z : ℕ) (old part items : List ℕ) → IsWrittenIn g m z old part items → Zone (shape g z) part (runs_of m z) → runs_of (map_in g items) z ≡ runs_of m z
+same_runs g m z old part items w zone = ap (runs_read (shape g z)) (sym w.new_is) ∙ runs_of_zone (shape g z) part (runs_of m z) zone

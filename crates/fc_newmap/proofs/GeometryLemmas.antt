@@ -83,7 +83,7 @@ first_later z = ap (λ b. cond b 512 32) (ne_eqb (suc z) 0 (omega arith))
 pub base_at : (g : Geometry) (z : ℕ) → 0 < z → base g z ≡ z * g.zone_size - 480
 base_at g z some = ap (λ b. cond b 0 (z * g.zone_size - 480)) (ne_eqb z 0 (omega arith))
 
-next_base : (g : Geometry) → 480 ≤ g.zone_size → (z : ℕ) → z + 1 < g.zones → base g (z + 1) ≡ base g z + (end_bit g z - first_bit z)
+pub next_base : (g : Geometry) → 480 ≤ g.zone_size → (z : ℕ) → z + 1 < g.zones → base g (z + 1) ≡ base g z + (end_bit g z - first_bit z)
 next_base g large zero h = omega (arith, ends g zero h, base_at g 1 (omega arith))
 next_base g large (suc z) h =
     omega (arith, ends g (suc z) h, first_later z, base_at g (suc z) (omega arith), base_at g (suc z + 1) (omega arith))

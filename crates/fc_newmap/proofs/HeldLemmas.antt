@@ -1,8 +1,9 @@
 -- The zones of a map in one buffer, and what an edit of one of them leaves.
-use Rattle.std.proofs.Common.{◌≡◌, ◌≢◌, ◌<◌, ◌≤◌, ℕ, suc, ◌+◌, ◌-◌, ◌*◌, ◌^◌, List, [], length, take, drop, true, refl, sym, ap, subst, ◌∙◌, inl, inr, arith, ◌⊎◌}
+use Rattle.std.proofs.Common.{◌≡◌, ◌≢◌, ◌<◌, ◌≤◌, ℕ, suc, ◌+◌, ◌-◌, ◌*◌, ◌/◌, ◌^◌, List, [], length, take, drop, true, refl, sym, ap, subst, ◌∙◌, inl, inr, arith, ◌⊎◌}
 use Rattle.std.specs.Prelude.{slice_index_or, slice_set}
 use Rattle.std.proofs.Math.Nat.{div-le_self}
-use Rattle.std.proofs.lemmas.Bool.{cases_eq}
+use Rattle.std.proofs.Math.Nat.{mod-lt}
+use Rattle.std.proofs.lemmas.Bool.{cases_eq, cases_lt}
 use Rattle.std.proofs.lemmas.Nat.{div-add-mod', mul-le}
 use Rattle.std.proofs.lemmas.List.{get_or-set_same, get_or-set_other, length-set}
 use Rattle.std.proofs.lemmas.List.FromFn.{length-map-range_with_len, get_or-map-range_with_len, fill_by_all}
@@ -31,6 +32,16 @@ pub record GeometryFacts (g : Geometry) : Type 0 where
   pub covered : g.disc_bits ≤ g.zones * g.zone_size - 480
   pub bytes : g.disc_bits * g.bit_bytes ≤ 2 ^ 40
   pub bits : g.disc_bits ≤ 2 ^ 40
+  pub ids : 0 < g.ids_per_zone
+
+some_ids : (idlen size : ℕ) → 480 ≤ size → idlen ≤ 19 → 0 < size / (idlen + 1)
+some_ids idlen size high low =
+    let parts = div-add-mod' size (idlen + 1) in
+    let rest = mod-lt size {m = idlen + 1} (omega arith) in
+    elim (cases_lt 0 (size / (idlen + 1))) [
+      | inl some ↦ some
+      | inr none ↦ absurd (let zero_ids : size / (idlen + 1) ≡ 0 = omega arith in let gone : size / (idlen + 1) * (idlen + 1) ≡ 0 = ap (λ (n : ℕ). n * (idlen + 1)) zero_ids ∙ (let z : 0 * (idlen + 1) ≡ 0 = omega arith in z) in omega arith)
+    ]
 
 facts_of : (r : DiscRecord) → is_valid r ≡ true → GeometryFacts (geometry r)
 facts_of r valid =
@@ -48,6 +59,7 @@ facts_of r valid =
       begun = is.begun;
       covered = is.covered;
       bytes = omega arith;
+      ids = (let i = is.idlen_high in some_ids r.idlen ((geometry r).zone_size) (omega arith) i);
       bits = (let low = div-le_self r.size ((geometry r).bit_bytes) in omega arith);
     }
 
@@ -187,3 +199,14 @@ held_of g bytes of_record whole has = record {
   whole = whole;
   map = record { of_record = of_record; all = length-zones g bytes; whole = λ z low. length-sector g bytes z whole low; right = has };
 }
+
+-- there is a zone
+pub some_zone : (g : Geometry) (bytes : List ℕ) (m : Map) → IsHeld g bytes → map_in g bytes ≡ m → 0 < m.geometry.zones
+some_zone g bytes m held e = subst (λ (n : Map). 0 < n.geometry.zones) e (let f = geometry_facts g held.map.of_record in f.zones)
+
+-- zone 0 lies in the buffer
+pub first_fits : (g : Geometry) (bytes : List ℕ) (from : ℕ) → IsHeld g bytes → from ≡ 0 * g.sector → from + g.sector ≤ length bytes
+first_fits g bytes from held at =
+    let f = geometry_facts g held.map.of_record in
+    let fits = place_fits 0 g.zones g.sector f.zones in
+    omega (arith, held.whole)

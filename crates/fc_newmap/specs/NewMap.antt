@@ -1,8 +1,8 @@
 -- Maps in memory: what each of them has.
-use Rattle.std.specs.Prelude.{◌≡◌, ◌<◌, ℕ, ◌*◌, true, List, length}
+use Rattle.std.specs.Prelude.{◌≡◌, ◌<◌, ℕ, ◌*◌, true, List, length, slice_range}
 use Rattle.fc_record.specs.declared.DiscRecord.{DiscRecord}
 use Rattle.fc_record.specs.declared.Geometry.{Geometry}
-use Rattle.fc_record.specs.Record.{geometry, is_valid}
+use Rattle.fc_record.specs.Record.{geometry, is_valid, record_of}
 use Rattle.fc_newmap.specs.Map.{Map, sector_of, zones_in}
 use Rattle.fc_newmap.specs.RunsLaw.{HasZones}
 
@@ -25,3 +25,8 @@ map_in g bytes = record { geometry = g; zones = zones_in g bytes }
 pub record IsHeld (g : Geometry) (bytes : List ℕ) : Type 0 where
   pub whole : length bytes ≡ g.zones * g.sector
   pub map : IsNewMap (map_in g bytes)
+
+-- the record of zone 0, with this root and root size
+abbrev pub rooted : Map → ℕ → ℕ → DiscRecord
+rooted m root size =
+    let r = record_of (slice_range (sector_of m 0) 4 64) in record r { root = root; root_size = size }

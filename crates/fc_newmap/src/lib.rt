@@ -4,14 +4,22 @@
 //! Source: the RISC OS PRM, chapter FileCore, "New maps".
 #![tactic(auto)]
 
+mod extents;
 mod map;
+mod places;
+mod runs;
 mod shapes;
+mod sums;
+mod walk;
 
 ghost use Rattle.fc_newmap.specs.Rows.{MapRows};
 ghost use Rattle.fc_newmap.specs.RunsLaw.{GeometryLaw, IdsLaw, RunsLaw, ShapeLaw, ZoneSectorsLaw};
 
+pub use extents::extent_of;
 use fc_zone::ZoneFault;
 pub use map::NewMap;
+pub use runs::RunCursor;
+pub use walk::Walk;
 
 /// Why a copy of a map is not loaded.
 #[derive(Clone, Copy, Debug, PartialEq, Eq)]
@@ -49,3 +57,6 @@ pub fn ids()
 pub fn one_zone()
     ensures { ZoneSectorsLaw }
 {}
+
+#[cfg(test)]
+mod tests;

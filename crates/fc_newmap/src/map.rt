@@ -1,19 +1,26 @@
 // New maps in memory.
 
-ghost use Rattle.std.specs.Prelude.{◌≡◌, ◌+◌, ◌*◌, ◌<◌, ◌≤◌, ◌^◌, length, slice_set, IfOk, IfNone, Ok, Err, MatchResult, OnOk};
+ghost use Rattle.std.specs.Prelude.{◌≡◌, ◌+◌, ◌*◌, ◌<◌, ◌≤◌, ◌^◌, length, slice_get, slice_set, ◌++◌, ◌∷◌, List, IsTrue, IfOk, IfSome, IfNone, Ok, Err, MatchResult, OnOk};
 ghost use Rattle.std.specs.List.{zip};
-ghost use Rattle.fc_zone.specs.Edits.{sealed};
+ghost use Rattle.fc_zone.specs.declared.RunKind.{RunKind};
+ghost use Rattle.fc_zone.specs.Edits.{HasHoleAt, HasRunAt, HasRunToSplit, HasRunsToMerge, Merges, Relabels, Splits, labelled, merged_at, sealed, split_at};
+ghost use Rattle.fc_zone.specs.Laws.{LeavesRest};
 ghost use Rattle.fc_zone.specs.Reading.{zone_of};
-ghost use Rattle.fc_zone.specs.Zone.{Zone};
-ghost use Rattle.fc_newmap.specs.Map.{first_fault, runs_of, sector_of, shape, with_cross, with_zone, zone_numbers, zones_in};
-ghost use Rattle.fc_newmap.specs.NewMap.{IsNewMap, IsOfRecord, map_in};
+ghost use Rattle.fc_zone.specs.declared.Run.{Run};
+ghost use Rattle.fc_zone.specs.Zone.{HasRun, Zone};
+ghost use Rattle.fc_bytes.specs.Bits.{overwritten};
+ghost use Rattle.byteorder.specs.Endian.{little_bytes};
+ghost use Rattle.fc_record.specs.Record.{is_root_right, is_root_size_right};
+ghost use Rattle.fc_newmap.specs.Map.{first_fault, runs_of, sector_of, shape, with_cross, with_root, with_zone, zone_numbers, zones_in};
+ghost use Rattle.fc_newmap.specs.NewMap.{IsNewMap, IsOfRecord, map_in, rooted};
 ghost use Rattle.fc_newmap.specs.Loaded.{loaded};
 ghost use Rattle.fc_newmap.specs.RunsLaw.{HasZones};
 
 use crate::MapError;
 use crate::shapes::{place_of, sector_in, shape_of};
+use byteorder::{ByteOrder, LittleEndian};
 use fc_record::Geometry;
-use fc_zone::{ZoneFault, check_zone};
+use fc_zone::{Run, ZoneFault, check_zone};
 use std::marker::Model;
 
 /// One copy of a new map, read and edited in place: its zones in one buffer, one sector each.
@@ -92,14 +99,83 @@ impl NewMap {
         requires { z < self.now.geometry.zones }
         ensures value { result.now ≡ sector_of self.now z }
         ensures long { length result.now ≡ self.now.geometry.sector }
+        ensures map { IsNewMap self.now }
     {
         sector_in(&self.zones, &self.geometry, z)
+    }
+
+    /// Turns the hole of a zone that begins at `start` into a run of an identifier.
+    ///
+    /// This and the edits below are those of `fc_zone` in one zone: every other zone keeps its bytes, and in the zone every
+    /// bit outside FreeLink and the runs stays, ZoneCheck too, which `seal` writes. None takes memory.
+    pub fn label(&mut self, z: u16, start: u32, id: u32)
+        requires zone { z < self.old.geometry.zones }
+        requires hole { HasHoleAt (shape self.old.geometry z) (sector_of self.old z) start }
+        requires some_id { 0 < id }
+        requires id_fits { id < 2 ^ self.old.geometry.idlen }
+        ensures runs { Relabels (shape self.old.geometry z) (sector_of self.old z) (sector_of self.new z) start (RunKind.Id id) }
+        ensures list { runs_of self.new z ≡ labelled start (RunKind.Id id) (runs_of self.old z) }
+        ensures rest { LeavesRest (shape self.old.geometry z) (sector_of self.old z) (sector_of self.new z) }
+        ensures others { self.new ≡ with_zone self.old z (sector_of self.new z) }
+    {
+        let shape = shape_of(&self.geometry, z);
+        let from = place_of(&self.geometry, z);
+        let size = self.geometry.sector as usize;
+        fc_zone::label(&mut self.zones[from..from + size], &shape, start, id);
+    }
+
+    /// Turns the run of a zone that begins at `start` into a hole, and joins it with none.
+    pub fn release(&mut self, z: u16, start: u32)
+        requires zone { z < self.old.geometry.zones }
+        requires run { HasRunAt (shape self.old.geometry z) (sector_of self.old z) start }
+        ensures runs { Relabels (shape self.old.geometry z) (sector_of self.old z) (sector_of self.new z) start RunKind.Hole }
+        ensures list { runs_of self.new z ≡ labelled start RunKind.Hole (runs_of self.old z) }
+        ensures rest { LeavesRest (shape self.old.geometry z) (sector_of self.old z) (sector_of self.new z) }
+        ensures others { self.new ≡ with_zone self.old z (sector_of self.new z) }
+    {
+        let shape = shape_of(&self.geometry, z);
+        let from = place_of(&self.geometry, z);
+        let size = self.geometry.sector as usize;
+        fc_zone::release(&mut self.zones[from..from + size], &shape, start);
+    }
+
+    /// Cuts the run of a zone that begins at `start` into two of its kind, the first of `len` bits. Both parts have at least
+    /// the geometry's `min` bits and are multiples of its `q`.
+    pub fn split(&mut self, z: u16, start: u32, len: u32)
+        requires zone { z < self.old.geometry.zones }
+        requires run { HasRunToSplit (shape self.old.geometry z) (sector_of self.old z) start len }
+        ensures runs { Splits (shape self.old.geometry z) (sector_of self.old z) (sector_of self.new z) start len }
+        ensures list { runs_of self.new z ≡ split_at start len (runs_of self.old z) }
+        ensures rest { LeavesRest (shape self.old.geometry z) (sector_of self.old z) (sector_of self.new z) }
+        ensures others { self.new ≡ with_zone self.old z (sector_of self.new z) }
+    {
+        let shape = shape_of(&self.geometry, z);
+        let from = place_of(&self.geometry, z);
+        let size = self.geometry.sector as usize;
+        fc_zone::split(&mut self.zones[from..from + size], &shape, start, len);
+    }
+
+    /// Joins the run of a zone that begins at `start` with the next, which is of its kind: both are holes, or of one
+    /// identifier.
+    pub fn merge(&mut self, z: u16, start: u32)
+        requires zone { z < self.old.geometry.zones }
+        requires runs { HasRunsToMerge (shape self.old.geometry z) (sector_of self.old z) start }
+        ensures runs { Merges (shape self.old.geometry z) (sector_of self.old z) (sector_of self.new z) start }
+        ensures list { runs_of self.new z ≡ merged_at start (runs_of self.old z) }
+        ensures rest { LeavesRest (shape self.old.geometry z) (sector_of self.old z) (sector_of self.new z) }
+        ensures others { self.new ≡ with_zone self.old z (sector_of self.new z) }
+    {
+        let shape = shape_of(&self.geometry, z);
+        let from = place_of(&self.geometry, z);
+        let size = self.geometry.sector as usize;
+        fc_zone::merge(&mut self.zones[from..from + size], &shape, start);
     }
 
     /// Writes the right ZoneCheck into a zone, and changes no other byte.
     pub fn seal(&mut self, z: u16)
         requires { z < self.old.geometry.zones }
-        ensures { self.new ≡ with_zone self.old z (sealed (sector_of self.old z)) }
+        ensures map { self.new ≡ with_zone self.old z (sealed (sector_of self.old z)) }
+        ensures runs { runs_of self.new z ≡ runs_of self.old z }
     {
         let from = place_of(&self.geometry, z);
         let size = self.geometry.sector as usize;
@@ -109,16 +185,56 @@ impl NewMap {
     /// Replaces a zone's CrossCheck, and no other byte.
     pub fn set_cross(&mut self, z: u16, v: u8)
         requires { z < self.old.geometry.zones }
-        ensures { self.new ≡ with_cross self.old z v }
+        ensures map { self.new ≡ with_cross self.old z v }
+        ensures runs { runs_of self.new z ≡ runs_of self.old z }
     {
         let from = place_of(&self.geometry, z);
         let size = self.geometry.sector as usize;
         put_cross(&mut self.zones[from..from + size], v);
     }
+
+    /// Replaces the root and the root's size in the record of zone 0, and no other byte. With them the record stays
+    /// valid (docs/FORMAT.md, "Valid records").
+    pub fn set_root(&mut self, root: u32, size: u32)
+        requires root { IsTrue (is_root_right (rooted self.old root size)) }
+        requires size { IsTrue (is_root_size_right (rooted self.old root size)) }
+        ensures map { self.new ≡ with_zone self.old 0 (with_root (sector_of self.old 0) root size) }
+        ensures runs { runs_of self.new 0 ≡ runs_of self.old 0 }
+    {
+        let from = place_of(&self.geometry, 0);
+        let sector = self.geometry.sector as usize;
+        put_root(&mut self.zones[from..from + sector], root, size);
+    }
+
+    /// The first run of a zone, and `None` where the zone has no bits.
+    pub fn first_in(&self, z: u16) -> Option<Run>
+        requires { z < self.now.geometry.zones }
+        ensures value { result ≡ slice_get (runs_of self.now z) 0 }
+        ensures run { IfSome result (HasRun (shape self.now.geometry z) (sector_of self.now z)) }
+    {
+        let shape = shape_of(&self.geometry, z);
+        fc_zone::first(sector_in(&self.zones, &self.geometry, z), &shape)
+    }
+
+    /// The run that follows a run of a zone, and `None` at the zone's last.
+    pub fn next_in(&self, z: u16, after: Run) -> Option<Run>
+        requires zone { z < self.now.geometry.zones }
+        requires run { HasRun (shape self.now.geometry z) (sector_of self.now z) after }
+        ensures value { (front rest : List Run) → runs_of self.now z ≡ front ++ after ∷ rest → result ≡ slice_get rest 0 }
+        ensures run { IfSome result (λ run. HasRun (shape self.now.geometry z) (sector_of self.now z) run × (run.start ≡ after.start + after.len)) }
+    {
+        let shape = shape_of(&self.geometry, z);
+        fc_zone::next(sector_in(&self.zones, &self.geometry, z), &shape, after)
+    }
 }
 
 /// The place of CrossCheck in a sector.
 const CROSS_CHECK: usize = 3;
+
+/// The places of the root and of its size in the sector of zone 0, whose record begins at byte 4.
+const ROOT: usize = 4 + 12;
+
+const ROOT_SIZE: usize = 4 + 48;
 
 // Writes a sector's CrossCheck.
 fn put_cross(b: &mut [u8], v: u8)
@@ -126,4 +242,21 @@ fn put_cross(b: &mut [u8], v: u8)
     ensures { b.new ≡ slice_set b.old 3 v }
 {
     b[CROSS_CHECK] = v;
+}
+
+// Writes a number into the four bytes from byte `at` on, the lowest first.
+fn put_u32(b: &mut [u8], at: usize, v: u32)
+    requires { at + 4 ≤ length b.old }
+    ensures { b.new ≡ overwritten b.old at (little_bytes 4 v) }
+{
+    LittleEndian::write_u32(&mut b[at..], v);
+}
+
+// Writes the root and its size into the sector of zone 0.
+fn put_root(b: &mut [u8], root: u32, size: u32)
+    requires { 56 ≤ length b.old }
+    ensures { b.new ≡ with_root b.old root size }
+{
+    put_u32(b, ROOT, root);
+    put_u32(b, ROOT_SIZE, size);
 }

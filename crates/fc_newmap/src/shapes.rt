@@ -10,7 +10,7 @@ use fc_record::Geometry;
 use fc_zone::ZoneShape;
 
 // The bits of a map that are the disc record's: in zone 0 they stand before the runs.
-const RECORD_BITS: u64 = 480;
+pub const RECORD_BITS: u64 = 480;
 
 // The place of a zone's first bit in its sector.
 pub fn first_bit(z: u16) -> u32

@@ -1,7 +1,7 @@
 use Rattle.std.proofs.Common.{refl, ap, ◌∙◌}
 use Rattle.fc_zone.specs.Edits.{sealed}
 use Rattle.fc_newmap.specs.Map.{runs_of, shape, with_zone}
-use Rattle.fc_newmap.proofs.EditLemmas.{Writes, lent, written_in}
+use Rattle.fc_newmap.proofs.EditLemmas.{Writes, lent, new_items, same_runs, written_in}
 use Rattle.fc_newmap.proofs.map.NewMap.seal.Goals as goal
 use Rattle.fc_newmap.proofs.map.NewMap.seal.Goals.{After-seal}
 
@@ -18,7 +18,14 @@ invariant_of-self c =
     let w = made (goal.at.invariant_of-self c).After-seal in
     w.held (runs_of c.args.self.now c.args.z, c.seal.ensures.zone (shape c.self.inside.geometry c.args.z) (runs_of c.args.self.now c.args.z) w.low_first w.zone)
 
-pub returns : goal.returns
-returns c =
-    let w = made (goal.at.returns c).After-seal in
+pub returns-clause-map : goal.returns-clause-map
+returns-clause-map c =
+    let w = made (goal.at.returns-clause-map c).After-seal in
     w.map ∙ ap (with_zone c.args.self.now c.args.z) (c.seal.ensures.sector ∙ ap sealed w.old_is)
+
+pub returns-clause-runs : goal.returns-clause-runs
+returns-clause-runs c =
+    let w = made (goal.at.returns-clause-runs c).After-seal in
+    same_runs c.self.inside.geometry c.args.self.now c.args.z (lent c.self.inside.geometry c.place_of-from.result c.deref_mut.result.now) c.seal.new.b
+    (new_items c.self.inside.geometry c.self.inside.zones c.deref_mut.result.now c.seal.new.b c.place_of-from.result) w
+    (c.seal.ensures.zone (shape c.self.inside.geometry c.args.z) (runs_of c.args.self.now c.args.z) w.low_first w.zone)

@@ -1,6 +1,6 @@
 use Rattle.std.proofs.Common.{List, ℕ, arith, refl, ap, ◌∙◌, slice_set}
 use Rattle.fc_newmap.specs.Map.{runs_of, shape, with_zone}
-use Rattle.fc_newmap.proofs.EditLemmas.{Writes, lent, written_in, sector_long}
+use Rattle.fc_newmap.proofs.EditLemmas.{Writes, lent, new_items, same_runs, sector_long, written_in}
 use Rattle.fc_newmap.proofs.SameLemmas.{cross_kept}
 use Rattle.fc_newmap.proofs.map.NewMap.set_cross.Goals as goal
 use Rattle.fc_newmap.proofs.map.NewMap.set_cross.Goals.{After-put_cross}
@@ -20,7 +20,15 @@ invariant_of-self c =
     let runs = runs_of c.args.self.now c.args.z in
     w.held (runs, cross_kept shape (lent c.self.inside.geometry c.place_of-from.result c.deref_mut.result.now) c.put_cross.new.b c.args.v runs c.put_cross.ensures w.fits.header w.zone)
 
-pub returns : goal.returns
-returns c =
-    let w = made (goal.at.returns c).After-put_cross in
+pub returns-clause-map : goal.returns-clause-map
+returns-clause-map c =
+    let w = made (goal.at.returns-clause-map c).After-put_cross in
     w.map ∙ ap (with_zone c.args.self.now c.args.z) (c.put_cross.ensures ∙ ap (λ (s : List ℕ). slice_set s 3 c.args.v) w.old_is)
+
+pub returns-clause-runs : goal.returns-clause-runs
+returns-clause-runs c =
+    let w = made (goal.at.returns-clause-runs c).After-put_cross in
+    let old = lent c.self.inside.geometry c.place_of-from.result c.deref_mut.result.now in
+    same_runs c.self.inside.geometry c.args.self.now c.args.z old c.put_cross.new.b
+    (new_items c.self.inside.geometry c.self.inside.zones c.deref_mut.result.now c.put_cross.new.b c.place_of-from.result) w
+    (cross_kept (shape c.self.inside.geometry c.args.z) old c.put_cross.new.b c.args.v (runs_of c.args.self.now c.args.z) c.put_cross.ensures w.fits.header w.zone)

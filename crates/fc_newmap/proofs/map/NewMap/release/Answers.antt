@@ -1,0 +1,52 @@
+use Rattle.std.proofs.Common.{subst, sym, refl}
+use Rattle.fc_zone.specs.declared.ZoneShape.{ZoneShape}
+use Rattle.fc_zone.specs.declared.RunKind.TheVariants.{Hole}
+use Rattle.fc_zone.specs.Edits.{HasRunAt, Relabels, labelled}
+use Rattle.fc_zone.specs.Laws.{LeavesRest}
+use Rattle.fc_zone.specs.Zone.{IsShapeOf}
+use Rattle.fc_newmap.proofs.EditLemmas.{Writes, held_by, lent, lifted, listed, lowered, new_items, relabelled, relabelled_list, written_in}
+use Rattle.fc_newmap.proofs.map.NewMap.release.Goals as goal
+use Rattle.fc_newmap.proofs.map.NewMap.release.Goals.{After-deref_mut, After-release}
+
+before : (c : After-deref_mut) → Writes c.self.inside.geometry c.self.inside.zones c.args.self.now c.deref_mut.result.now (lent c.self.inside.geometry c.place_of-from.result c.deref_mut.result.now) c.place_of-from.result c.args.z
+before c = written_in c.self.inside.geometry c.self.inside.zones c.args.self.now c.deref_mut.result.now (lent c.self.inside.geometry c.place_of-from.result c.deref_mut.result.now) c.place_of-from.result c.args.z c.self.invariant c.self.view_is c.requires.zone c.place_of-from.ensures c.deref_mut.ensures.value refl
+
+after : (c : After-release) → Writes c.self.inside.geometry c.self.inside.zones c.args.self.now c.deref_mut.result.now c.release.new.b c.place_of-from.result c.args.z
+after c = written_in c.self.inside.geometry c.self.inside.zones c.args.self.now c.deref_mut.result.now c.release.new.b c.place_of-from.result c.args.z c.self.invariant c.self.view_is c.requires.zone c.place_of-from.ensures c.deref_mut.ensures.value c.release.auto.b
+
+pub release-requires-clause-shape : goal.release-requires-clause-shape
+release-requires-clause-shape c =
+    let w = before (goal.at.release-requires-clause-shape c).After-deref_mut in
+    subst (λ (k : ZoneShape). IsShapeOf (lent c.self.inside.geometry c.place_of-from.result c.deref_mut.result.now) k) (sym c.shape_of-shape.ensures.value) w.fits
+
+pub release-requires-clause-run : goal.release-requires-clause-run
+release-requires-clause-run c =
+    let w = before (goal.at.release-requires-clause-run c).After-deref_mut in
+    lowered c.self.inside.geometry c.args.self.now c.args.z (lent c.self.inside.geometry c.place_of-from.result c.deref_mut.result.now) (lent c.self.inside.geometry c.place_of-from.result c.deref_mut.result.now) (new_items c.self.inside.geometry c.self.inside.zones c.deref_mut.result.now (lent c.self.inside.geometry c.place_of-from.result c.deref_mut.result.now) c.place_of-from.result) c.shape_of-shape.result w c.shape_of-shape.ensures.value (λ k t. HasRunAt k t c.args.start) c.requires.run
+
+pub invariant_of-self : goal.invariant_of-self
+invariant_of-self c =
+    let w = after (goal.at.invariant_of-self c).After-release in
+    let req = lowered c.self.inside.geometry c.args.self.now c.args.z (lent c.self.inside.geometry c.place_of-from.result c.deref_mut.result.now) c.release.new.b (new_items c.self.inside.geometry c.self.inside.zones c.deref_mut.result.now c.release.new.b c.place_of-from.result) c.shape_of-shape.result w c.shape_of-shape.ensures.value (λ k t. HasRunAt k t c.args.start) c.requires.run in
+    held_by c.self.inside.geometry c.args.self.now c.args.z (lent c.self.inside.geometry c.place_of-from.result c.deref_mut.result.now) c.release.new.b (new_items c.self.inside.geometry c.self.inside.zones c.deref_mut.result.now c.release.new.b c.place_of-from.result) c.shape_of-shape.result w c.shape_of-shape.ensures.value (relabelled c.shape_of-shape.result (lent c.self.inside.geometry c.place_of-from.result c.deref_mut.result.now) c.release.new.b c.args.start Hole req c.release.ensures.runs)
+
+pub returns-clause-runs : goal.returns-clause-runs
+returns-clause-runs c =
+    let w = after (goal.at.returns-clause-runs c).After-release in
+    lifted c.self.inside.geometry c.args.self.now c.args.z (lent c.self.inside.geometry c.place_of-from.result c.deref_mut.result.now) c.release.new.b (new_items c.self.inside.geometry c.self.inside.zones c.deref_mut.result.now c.release.new.b c.place_of-from.result) c.shape_of-shape.result w c.shape_of-shape.ensures.value (λ k a b. Relabels k a b c.args.start Hole) c.release.ensures.runs
+
+pub returns-clause-list : goal.returns-clause-list
+returns-clause-list c =
+    let w = after (goal.at.returns-clause-list c).After-release in
+    let req = lowered c.self.inside.geometry c.args.self.now c.args.z (lent c.self.inside.geometry c.place_of-from.result c.deref_mut.result.now) c.release.new.b (new_items c.self.inside.geometry c.self.inside.zones c.deref_mut.result.now c.release.new.b c.place_of-from.result) c.shape_of-shape.result w c.shape_of-shape.ensures.value (λ k t. HasRunAt k t c.args.start) c.requires.run in
+    listed c.self.inside.geometry c.args.self.now c.args.z (lent c.self.inside.geometry c.place_of-from.result c.deref_mut.result.now) c.release.new.b (new_items c.self.inside.geometry c.self.inside.zones c.deref_mut.result.now c.release.new.b c.place_of-from.result) c.shape_of-shape.result w c.shape_of-shape.ensures.value (labelled c.args.start Hole) (relabelled_list c.shape_of-shape.result (lent c.self.inside.geometry c.place_of-from.result c.deref_mut.result.now) c.release.new.b c.args.start Hole req c.release.ensures.runs)
+
+pub returns-clause-rest : goal.returns-clause-rest
+returns-clause-rest c =
+    let w = after (goal.at.returns-clause-rest c).After-release in
+    lifted c.self.inside.geometry c.args.self.now c.args.z (lent c.self.inside.geometry c.place_of-from.result c.deref_mut.result.now) c.release.new.b (new_items c.self.inside.geometry c.self.inside.zones c.deref_mut.result.now c.release.new.b c.place_of-from.result) c.shape_of-shape.result w c.shape_of-shape.ensures.value LeavesRest (record { size = c.release.auto.b; links = c.release.ensures.links; outside = c.release.ensures.outside })
+
+pub returns-clause-others : goal.returns-clause-others
+returns-clause-others c =
+    let w = after (goal.at.returns-clause-others c).After-release in
+    w.others

@@ -1,0 +1,51 @@
+use Rattle.std.proofs.Common.{subst, sym, refl}
+use Rattle.fc_zone.specs.declared.ZoneShape.{ZoneShape}
+use Rattle.fc_zone.specs.Edits.{HasRunToSplit, Splits, split_at}
+use Rattle.fc_zone.specs.Laws.{LeavesRest}
+use Rattle.fc_zone.specs.Zone.{IsShapeOf}
+use Rattle.fc_newmap.proofs.EditLemmas.{Writes, held_by, lent, lifted, listed, lowered, new_items, split_list, split_zone, written_in}
+use Rattle.fc_newmap.proofs.map.NewMap.split.Goals as goal
+use Rattle.fc_newmap.proofs.map.NewMap.split.Goals.{After-deref_mut, After-split}
+
+before : (c : After-deref_mut) → Writes c.self.inside.geometry c.self.inside.zones c.args.self.now c.deref_mut.result.now (lent c.self.inside.geometry c.place_of-from.result c.deref_mut.result.now) c.place_of-from.result c.args.z
+before c = written_in c.self.inside.geometry c.self.inside.zones c.args.self.now c.deref_mut.result.now (lent c.self.inside.geometry c.place_of-from.result c.deref_mut.result.now) c.place_of-from.result c.args.z c.self.invariant c.self.view_is c.requires.zone c.place_of-from.ensures c.deref_mut.ensures.value refl
+
+after : (c : After-split) → Writes c.self.inside.geometry c.self.inside.zones c.args.self.now c.deref_mut.result.now c.split.new.b c.place_of-from.result c.args.z
+after c = written_in c.self.inside.geometry c.self.inside.zones c.args.self.now c.deref_mut.result.now c.split.new.b c.place_of-from.result c.args.z c.self.invariant c.self.view_is c.requires.zone c.place_of-from.ensures c.deref_mut.ensures.value c.split.auto.b
+
+pub split-requires-clause-shape : goal.split-requires-clause-shape
+split-requires-clause-shape c =
+    let w = before (goal.at.split-requires-clause-shape c).After-deref_mut in
+    subst (λ (k : ZoneShape). IsShapeOf (lent c.self.inside.geometry c.place_of-from.result c.deref_mut.result.now) k) (sym c.shape_of-shape.ensures.value) w.fits
+
+pub split-requires-clause-run : goal.split-requires-clause-run
+split-requires-clause-run c =
+    let w = before (goal.at.split-requires-clause-run c).After-deref_mut in
+    lowered c.self.inside.geometry c.args.self.now c.args.z (lent c.self.inside.geometry c.place_of-from.result c.deref_mut.result.now) (lent c.self.inside.geometry c.place_of-from.result c.deref_mut.result.now) (new_items c.self.inside.geometry c.self.inside.zones c.deref_mut.result.now (lent c.self.inside.geometry c.place_of-from.result c.deref_mut.result.now) c.place_of-from.result) c.shape_of-shape.result w c.shape_of-shape.ensures.value (λ k t. HasRunToSplit k t c.args.start c.args.len) c.requires.run
+
+pub invariant_of-self : goal.invariant_of-self
+invariant_of-self c =
+    let w = after (goal.at.invariant_of-self c).After-split in
+    let req = lowered c.self.inside.geometry c.args.self.now c.args.z (lent c.self.inside.geometry c.place_of-from.result c.deref_mut.result.now) c.split.new.b (new_items c.self.inside.geometry c.self.inside.zones c.deref_mut.result.now c.split.new.b c.place_of-from.result) c.shape_of-shape.result w c.shape_of-shape.ensures.value (λ k t. HasRunToSplit k t c.args.start c.args.len) c.requires.run in
+    held_by c.self.inside.geometry c.args.self.now c.args.z (lent c.self.inside.geometry c.place_of-from.result c.deref_mut.result.now) c.split.new.b (new_items c.self.inside.geometry c.self.inside.zones c.deref_mut.result.now c.split.new.b c.place_of-from.result) c.shape_of-shape.result w c.shape_of-shape.ensures.value (split_zone c.shape_of-shape.result (lent c.self.inside.geometry c.place_of-from.result c.deref_mut.result.now) c.split.new.b c.args.start c.args.len req c.split.ensures.runs)
+
+pub returns-clause-runs : goal.returns-clause-runs
+returns-clause-runs c =
+    let w = after (goal.at.returns-clause-runs c).After-split in
+    lifted c.self.inside.geometry c.args.self.now c.args.z (lent c.self.inside.geometry c.place_of-from.result c.deref_mut.result.now) c.split.new.b (new_items c.self.inside.geometry c.self.inside.zones c.deref_mut.result.now c.split.new.b c.place_of-from.result) c.shape_of-shape.result w c.shape_of-shape.ensures.value (λ k a b. Splits k a b c.args.start c.args.len) c.split.ensures.runs
+
+pub returns-clause-list : goal.returns-clause-list
+returns-clause-list c =
+    let w = after (goal.at.returns-clause-list c).After-split in
+    let req = lowered c.self.inside.geometry c.args.self.now c.args.z (lent c.self.inside.geometry c.place_of-from.result c.deref_mut.result.now) c.split.new.b (new_items c.self.inside.geometry c.self.inside.zones c.deref_mut.result.now c.split.new.b c.place_of-from.result) c.shape_of-shape.result w c.shape_of-shape.ensures.value (λ k t. HasRunToSplit k t c.args.start c.args.len) c.requires.run in
+    listed c.self.inside.geometry c.args.self.now c.args.z (lent c.self.inside.geometry c.place_of-from.result c.deref_mut.result.now) c.split.new.b (new_items c.self.inside.geometry c.self.inside.zones c.deref_mut.result.now c.split.new.b c.place_of-from.result) c.shape_of-shape.result w c.shape_of-shape.ensures.value (split_at c.args.start c.args.len) (split_list c.shape_of-shape.result (lent c.self.inside.geometry c.place_of-from.result c.deref_mut.result.now) c.split.new.b c.args.start c.args.len req c.split.ensures.runs)
+
+pub returns-clause-rest : goal.returns-clause-rest
+returns-clause-rest c =
+    let w = after (goal.at.returns-clause-rest c).After-split in
+    lifted c.self.inside.geometry c.args.self.now c.args.z (lent c.self.inside.geometry c.place_of-from.result c.deref_mut.result.now) c.split.new.b (new_items c.self.inside.geometry c.self.inside.zones c.deref_mut.result.now c.split.new.b c.place_of-from.result) c.shape_of-shape.result w c.shape_of-shape.ensures.value LeavesRest (record { size = c.split.auto.b; links = c.split.ensures.links; outside = c.split.ensures.outside })
+
+pub returns-clause-others : goal.returns-clause-others
+returns-clause-others c =
+    let w = after (goal.at.returns-clause-others c).After-split in
+    w.others

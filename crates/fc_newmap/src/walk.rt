@@ -1,0 +1,141 @@
+// A walk over the runs of some zones of a map, in one pass over the zones' words.
+
+ghost use Rattle.std.specs.Prelude.{◌≡◌, ◌+◌, ◌-◌, ◌^◌, ◌<◌, ◌≤◌, ◌++◌, ◌∷◌, [], List, IfSome, MatchOption};
+ghost use Rattle.fc_zone.specs.Cursor.{StandsBetween};
+ghost use Rattle.fc_zone.specs.declared.Run.{Run};
+ghost use Rattle.fc_newmap.specs.Map.{ZoneRun, all_runs, is_hole, runs_in, runs_of, sector_of, shape};
+ghost use Rattle.fc_newmap.specs.NewMap.{IsNewMap};
+ghost use Rattle.fc_newmap.specs.RunsLaw.{placed};
+
+use crate::NewMap;
+use crate::shapes::shape_of;
+use fc_record::Geometry;
+use fc_zone::{Cursor, Run, RunKind, ZoneShape};
+
+/// A place before the runs that are left in a zone and in the zones after it, round to zone 0, for a walk in one pass
+/// over the words of the zones.
+///
+/// It borrows nothing, and is right as long as the map's runs stay as they are.
+#[derive(Clone, Copy, Debug)]
+pub struct Walk {
+    /// The shape of the zone in which it stands.
+    pub shape: ZoneShape,
+    /// Where it stands in that zone.
+    pub place: Cursor,
+    /// How many zones come after that zone.
+    pub more: u16,
+}
+
+ghost use Rattle.fc_newmap.specs.Walk.{zone_after};
+
+// The zone above a zone, or zone 0 above the last.
+fn zone_after(g: &Geometry, z: u16) -> u16
+    requires { z < g.now.zones }
+    ensures value { result ≡ zone_after g.now z }
+    ensures low { result < g.now.zones }
+{
+    let last = g.zones - 1;
+    if z == last { 0 } else { z + 1 }
+}
+
+// Whether a run is a hole.
+fn is_hole(kind: RunKind) -> bool
+    ensures { result ≡ is_hole kind }
+{
+    match kind {
+        RunKind::Hole => true,
+        RunKind::Id(_) => false,
+    }
+}
+
+impl Walk {
+    ghost use Rattle.fc_newmap.specs.Walk.{IsInZone, StandsBefore, bits_left, holes_in, zones_from};
+
+    /// Before the runs of a zone and of `more` zones after it.
+    pub fn from_zone(map: &NewMap, z: u16, more: u16) -> Self
+        requires { z < map.now.geometry.zones }
+        ensures stands { StandsBefore map.now (placed z (runs_of map.now z) ++ runs_in map.now (zones_from map.now.geometry (zone_after map.now.geometry z) more)) result }
+        ensures zone { result.shape.zone ≡ z }
+        ensures map { IsNewMap map.now }
+        ensures more { result.more ≡ more }
+        ensures short { result.shape.end - result.place.at ≤ 8192 }
+    {
+        let shape = shape_of(map.geometry(), z);
+        let place = Cursor::start(map.bytes(z), &shape);
+        Walk { shape, place, more }
+    }
+
+    // Behind the run of a zone that begins at `start`, where `more` zones come after the zone.
+    pub(crate) fn behind(map: &NewMap, z: u16, start: u32, more: u16) -> Self
+        requires zone { z < map.now.geometry.zones }
+        requires run { (run : Run) × ((front rest : List Run) × ((run.start ≡ start) × (runs_of map.now z ≡ front ++ run ∷ rest))) }
+        ensures { (front rest : List Run) (run : Run) → run.start ≡ start → runs_of map.now z ≡ front ++ run ∷ rest
+            → StandsBefore map.now (placed z rest ++ runs_in map.now (zones_from map.now.geometry (zone_after map.now.geometry z) more)) result }
+    {
+        let mut walk = Walk::from_zone(map, z, more);
+        loop {
+            let Some((_, run)) = walk.next(map) else {
+                return walk;
+            };
+            if run.start == start {
+                return walk;
+            }
+        }
+    }
+
+    /// Before all runs of a map, in the order of zones and places.
+    pub fn over_all(map: &NewMap) -> Self
+        ensures stands { StandsBefore map.now (all_runs map.now) result }
+        ensures short { bits_left result ≤ 2 ^ 32 }
+    {
+        Walk::from_zone(map, 0, map.geometry().zones - 1)
+    }
+
+    /// Goes past the next run and gives it, with its zone. `None` exactly at the end, where it stays.
+    pub fn next(&mut self, map: &NewMap) -> Option<(u16, Run)>
+        requires { (left : List ZoneRun) × StandsBefore map.now left self.old }
+        ensures value { (left : List ZoneRun) → StandsBefore map.now left self.old
+            → MatchOption result ((left ≡ []) × StandsBefore map.now [] self.new) (λ p. (rest : List ZoneRun) × ((left ≡ p ∷ rest) × StandsBefore map.now rest self.new)) }
+        ensures onward { IfSome result (λ p. (0 < p.1.len) × (bits_left self.new + p.1.len ≤ bits_left self.old)) }
+        ensures within { IfSome result (IsInZone map.now.geometry) }
+    {
+        loop {
+            if let Some(run) = self.next_here(map) {
+                return Some((self.shape.zone, run));
+            }
+            if self.more == 0 {
+                return None;
+            }
+            let z = zone_after(map.geometry(), self.shape.zone);
+            *self = Walk::from_zone(map, z, self.more - 1);
+        }
+    }
+
+    /// Goes past the next hole and gives it, with its zone. `None` exactly where none is left.
+    pub fn next_hole(&mut self, map: &NewMap) -> Option<(u16, Run)>
+        requires { (left : List ZoneRun) × StandsBefore map.now left self.old }
+        ensures value { (left : List ZoneRun) → StandsBefore map.now left self.old
+            → MatchOption result ((holes_in left ≡ []) × StandsBefore map.now [] self.new) (λ p. (rest : List ZoneRun) × ((holes_in left ≡ p ∷ holes_in rest) × StandsBefore map.now rest self.new)) }
+        ensures onward { IfSome result (λ p. (0 < p.1.len) × (bits_left self.new + p.1.len ≤ bits_left self.old)) }
+        ensures within { IfSome result (IsInZone map.now.geometry) }
+    {
+        while let Some((z, run)) = self.next(map) {
+            if is_hole(run.kind) {
+                return Some((z, run));
+            }
+        }
+        None
+    }
+
+    // Goes past the next run of the zone.
+    fn next_here(&mut self, map: &NewMap) -> Option<Run>
+        requires { (left : List ZoneRun) × StandsBefore map.now left self.old }
+        ensures value { (left : List ZoneRun) → StandsBefore map.now left self.old
+            → MatchOption result ((self.new ≡ self.old) × (left ≡ runs_in map.now (zones_from map.now.geometry (zone_after map.now.geometry self.old.shape.zone) self.old.more)))
+            (λ run. (rest : List ZoneRun) × ((left ≡ (self.new.shape.zone, run) ∷ rest) × StandsBefore map.now rest self.new)) }
+        ensures onward { IfSome result (λ run. (0 < run.len) × (bits_left self.new + run.len ≤ bits_left self.old)) }
+        ensures within { IfSome result (λ run. IsInZone map.now.geometry (self.new.shape.zone, run)) }
+    {
+        self.place.next(map.bytes(self.shape.zone), &self.shape)
+    }
+}
