@@ -6,6 +6,7 @@
 //! (docs/FORMAT.md, "Two copies").
 #![tactic(auto)]
 
+ghost use Rattle.fc_copies.specs.CopiesLaw.{CopiesLaw};
 ghost use Rattle.fc_copies.specs.Gate.{GateHolds, MixLaw};
 
 mod committing;
@@ -41,6 +42,11 @@ pub fn gate()
 /// A copy in which only some of the changed zones are new is not sound.
 pub fn mix()
     ensures { MixLaw }
+{}
+
+/// A valid record's map has a zone, and an image that its disc fits into has the sectors of both copies.
+pub fn copies_fit()
+    ensures { CopiesLaw }
 {}
 
 #[cfg(test)]

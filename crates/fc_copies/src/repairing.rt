@@ -58,7 +58,7 @@ fn match_copy<D: Disk>(
         disk.read(from + u64::from(z), bytes)?;
         disk.read(to + u64::from(z), there)?;
         let written = write_other(disk, to + u64::from(z), bytes, there)?;
-        wrote = wrote | written;
+        wrote |= written;
     }
     if wrote {
         disk.sync()?;
