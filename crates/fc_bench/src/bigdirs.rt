@@ -1,4 +1,5 @@
-// Big directories that are read, put into and written, of 5,000 entries and of ten times as many.
+// Big directories that are read, put into and written, each once: of 5,000 entries, and a tenth as many of ten times
+// as many. So both have as many entries together, and none stands in a cache before.
 ghost use Rattle.std.specs.Prelude.{◌≡◌};
 ghost use Rattle.fc_dirs.specs.Entries.{has_name};
 
@@ -12,7 +13,7 @@ use std::io::Print;
 use std::rt::Clock;
 use std::time::Instant;
 
-const PASSES: u32 = 50;
+const ENTRIES: u32 = 500_000;
 
 // What the numbers of names are multiplied by: they rise, or they stand in no order.
 const RISING: u32 = 1;
@@ -93,39 +94,72 @@ fn enter(dir: &mut BigDir, name: Name) -> bool {
     !has_name(dir.entries(), &e.name) && dir.insert(e).is_ok()
 }
 
-// Reads, puts in and writes.
+// Reads so many directories of the same bytes.
+fn read_all(alloc: Global, bytes: &[u8], count: u32) -> io::Result<Vec<BigDir>> {
+    let mut dirs = Vec::new(alloc);
+    for _ in 0..count {
+        if let Ok(dir) = BigDir::read(alloc, bytes) {
+            dirs.push(dir)?;
+        }
+    }
+    Ok(dirs)
+}
+
+// Puts a name into each directory, and says into how many.
+fn enter_all(dirs: &mut [BigDir], name: Name) -> u64 {
+    let mut entered = 0u64;
+    for dir in dirs {
+        if enter(dir, name) {
+            entered = entered.saturating_add(1);
+        }
+    }
+    entered
+}
+
+// Writes each directory, and says how many.
+fn write_all(dirs: &[BigDir], buffer: &mut [u8]) -> u64 {
+    let mut written = 0u64;
+    for dir in dirs {
+        if buffer.len() == dir.size() {
+            dir.write(buffer);
+            written = written.saturating_add(1);
+        }
+    }
+    written
+}
+
+// Reads, puts into and writes directories, each once, that have `ENTRIES` entries together.
 fn time<R: Print + Clock>(rt: &R, alloc: Global, entries: u16, order: u32) -> io::Result<()> {
     let bytes = directory(alloc, entries, order)?;
-    println!(rt; "a big directory of {entries} entries")?;
+    let each = u64::from(entries);
+    let count = ENTRIES.checked_div(u32::from(entries)).unwrap_or(0);
+    println!(rt; "{count} big directories of {entries} entries")?;
     let start = Instant::now(rt)?;
-    let mut read = 0u32;
-    for _ in 0..PASSES {
-        if BigDir::read(alloc, &bytes).is_ok() {
-            read = read.saturating_add(1);
-        }
-    }
-    print_rate(rt, "read", u64::from(read), "times", start)?;
-    let Ok(mut dir) = BigDir::read(alloc, &bytes) else {
-        return Ok(());
+    let mut dirs = read_all(alloc, &bytes, count)?;
+    let read = each.saturating_mul(dirs.len() as u64);
+    print_rate(rt, "  read", read, "entries", start)?;
+    let start = Instant::now(rt)?;
+    let entered = match new_name(0) {
+        Some(name) => enter_all(&mut dirs, name),
+        None => 0,
     };
+    print_rate(
+        rt,
+        "  put into",
+        each.saturating_mul(entered),
+        "entries",
+        start,
+    )?;
+    let mut buffer = vec![in alloc; 0u8; bytes.len()]?;
     let start = Instant::now(rt)?;
-    let mut entered = 0u32;
-    for i in 0..PASSES {
-        if let Some(name) = new_name(i) {
-            if enter(&mut dir, name) {
-                entered = entered.saturating_add(1);
-            }
-        }
-    }
-    print_rate(rt, "put into", u64::from(entered), "times", start)?;
-    let mut buffer = vec![in alloc; 0u8; dir.size()]?;
-    let start = Instant::now(rt)?;
-    for _ in 0..PASSES {
-        if buffer.len() == dir.size() {
-            dir.write(&mut buffer);
-        }
-    }
-    print_rate(rt, "written", u64::from(PASSES), "times", start)
+    let written = write_all(&dirs, &mut buffer);
+    print_rate(
+        rt,
+        "  written",
+        each.saturating_mul(written),
+        "entries",
+        start,
+    )
 }
 
 pub fn run<R: Print + Clock>(rt: &R, alloc: Global) -> io::Result<()> {
