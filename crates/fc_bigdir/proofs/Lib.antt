@@ -7,6 +7,7 @@ pub mod PutLemmas
 pub mod WriteLemmas
 pub mod PackLemmas
 pub mod EntryLemmas
+pub mod LetterLemmas
 pub mod OrderLemmas
 pub mod FaultLemmas
 pub mod ReadLemmas

@@ -1,6 +1,6 @@
 -- Twins stand next to each other among names in order.
-use Rattle.std.proofs.Common.{◌≡◌, ◌<◌, ◌≤◌, ℕ, zero, suc, ◌+◌, ◌-◌, Bool, true, false, if◌then◌else◌, min, List, [], ◌∷◌, ◌++◌, length, get_or, map, take, nat_lt, eqb, refl, sym, ap, ap₂, ◌∙◌, subst, arith, length-take-le, inl, inr}
-use Rattle.std.specs.List.{AllByRecursion, list_any, range_with_len, IsDistinct}
+use Rattle.std.proofs.Common.{◌≡◌, ◌<◌, ◌≤◌, ℕ, zero, suc, ◌+◌, ◌-◌, ◌*◌, ◌%◌, ◌^◌, Bool, true, false, if◌then◌else◌, min, List, [], ◌∷◌, ◌++◌, length, get_or, map, take, nat_lt, eqb, refl, sym, ap, ap₂, ◌∙◌, subst, arith, length-take-le, inl, inr}
+use Rattle.std.specs.List.{AllByRecursion, fold, list_any, range_with_len, IsDistinct}
 use Rattle.std.specs.List.Sorted.{IsPermutation, IsSorted, IsSortedBy}
 use Rattle.std.specs.declared.cmp.Ordering.{Ordering}
 use Rattle.std.specs.declared.cmp.Ordering.TheVariants.{Less, Equal, Greater}
@@ -9,7 +9,11 @@ use Rattle.std.specs.Bool.{then_some}
 use Rattle.std.specs.Option.{option_map_or}
 use Rattle.std.specs.Cmp.{IsTotalOrder, IsStrictWeakOrder}
 use Rattle.std.proofs.lemmas.Cmp.{on_total, then_total, nat_cmp_total, nat_list_cmp_total}
-use Rattle.std.proofs.lemmas.Bool.{cases_lt}
+use Rattle.std.proofs.lemmas.Bool.{and_parts, cases_lt, false_from_ne_true, leb-true}
+use Rattle.std.specs.Cmp.{nat_cmp_is}
+use Rattle.std.specs.FinMap.{nat_cmp-IsAntisymmetric, slice_cmp-IsAntisymmetric}
+use Rattle.std.specs.Int.{is_in_range}
+use Rattle.std.specs.Prelude.{All, nat_le}
 use Rattle.std.proofs.lemmas.Bool.Decides.{nat_tests}
 use Rattle.std.proofs.lemmas.List.{get_or-map, get_or-take, get_or_default, length-map, map-append}
 use Rattle.std.proofs.lemmas.List.Folds.{Any-from_list_any, list_any-from_Any}
@@ -17,23 +21,63 @@ use Rattle.std.proofs.lemmas.List.FromFn.{length-map-range_with_len, get_or-map-
 use Rattle.std.proofs.lemmas.List.Sorted.{IsPermutation-map, length_permutation, All-permutation, Contains-permutation, ranks_by, sorted_far}
 use Rattle.std.proofs.lemmas.Map.Keys.{IsDistinct-IsPermutation, apart_from_distinct}
 use Rattle.std.proofs.lemmas.Option.{slice_get-get_or}
-use Rattle.fc_names.specs.Names.{folded, name_cmp, is_same_name}
+use Rattle.fc_names.specs.Names.{folded, name_cmp, is_same_name, upper}
 use Rattle.fc_dirs.specs.declared.Entry.{Entry}
 use Rattle.fc_dirs.specs.Entries.{first_twin, is_twin}
 use Rattle.fc_smalldir.proofs.SearchLemmas.{blank, is_some-find}
 use Rattle.fc_smalldir.proofs.TwinLemmas.{is_twin-at, twin_found, none_twin, same_name_sym}
 use Rattle.fc_bigdir.specs.declared.twins.Numbered.{Numbered}
-use Rattle.fc_bigdir.specs.Twins.{AreSorted, cmp_numbered, name_at, numbered, shown}
+use Rattle.fc_bigdir.specs.Twins.{AreSorted, IsLettered, cmp_held, cmp_lettered, cmp_numbered, first_letters, name_at, numbered, shown}
 
 -- ---- orders
 
-ordered : IsTotalOrder name_cmp
-ordered = on_total folded nat_list_cmp_total
+ordered : IsTotalOrder cmp_lettered
+ordered = then_total (on_total first_letters nat_cmp_total) (on_total folded nat_list_cmp_total)
+
+-- a letter counts the same in either case
+same_rest : (c : ℕ) → upper c % 32 ≡ c % 32
+same_rest c = go (is_in_range 97 122 c) refl where
+  go : (small : Bool) → is_in_range 97 122 c ≡ small → (if small then c - 32 else c) % 32 ≡ c % 32
+  go true is =
+      let low : 97 ≤ c = leb-true 97 c (and_parts (nat_le 97 c) (nat_le c 122) is).0 in
+      omega arith
+  go false is = refl
+
+letters_folded : (n so_far : ℕ) (name : List ℕ) → fold (λ k c. k % 2 ^ 59 * 32 + c % 32) so_far (take n (folded name)) ≡ fold (λ k c. k % 2 ^ 59 * 32 + c % 32) so_far (take n name)
+letters_folded zero so_far name = refl
+letters_folded (suc n) so_far [] = refl
+letters_folded (suc n) so_far (c ∷ name) =
+    letters_folded n (so_far % 2 ^ 59 * 32 + upper c % 32) name
+    ∙ ap (λ k. fold (λ k c. k % 2 ^ 59 * 32 + c % 32) k (take n name)) (ap (λ r. so_far % 2 ^ 59 * 32 + r) (same_rest c))
+
+-- names that are the same have the same first letters
+pub same_letters : (a b : List ℕ) → is_same_name a b ≡ true → first_letters a ≡ first_letters b
+same_letters a b same =
+    let folds : folded a ≡ folded b = slice_cmp-IsAntisymmetric nat_cmp-IsAntisymmetric (folded a) (folded b) (equal (name_cmp a b) same) in
+    sym (letters_folded 12 0 a) ∙ ap (λ f. fold (λ k c. k % 2 ^ 59 * 32 + c % 32) 0 (take 12 f)) folds ∙ letters_folded 12 0 b
+  where
+    equal : (o : Ordering) → is_eq o ≡ true → o ≡ Equal
+    equal Less is = absurd (cc)
+    equal Equal is = refl
+    equal Greater is = absurd (cc)
+
+then_eq : (a b : Ordering) → is_eq (ordering_then a b) ≡ true → is_eq b ≡ true
+then_eq Less b is = absurd (cc)
+then_eq Equal b is = is
+then_eq Greater b is = absurd (cc)
+
+-- the same names tie
+tie_of : (a b : List ℕ) → is_same_name a b ≡ true → is_eq (cmp_lettered a b) ≡ true
+tie_of a b same =
+    ap (λ o. is_eq (ordering_then o (name_cmp a b))) (ap (λ n. nat_cmp n (first_letters b)) (same_letters a b same) ∙ level (first_letters b)) ∙ same
+  where
+    level : (n : ℕ) → nat_cmp n n ≡ Equal
+    level n = sym (nat_cmp_is n n Equal refl)
 
 pub numbered_total : IsTotalOrder cmp_numbered
 numbered_total = then_total (on_total (λ (p : ℕ × List ℕ). p.1) ordered) (on_total (λ (p : ℕ × List ℕ). p.0) nat_cmp_total)
 
-names_rank : IsStrictWeakOrder (λ a b. is_lt (name_cmp a b))
+names_rank : IsStrictWeakOrder (λ a b. is_lt (cmp_lettered a b))
 names_rank = ranks_by ordered (λ (a : List ℕ). a)
 
 pairs_rank : IsStrictWeakOrder (λ p q. is_lt (cmp_numbered p q))
@@ -59,8 +103,9 @@ neither_less Less a b = absurd (cc)
 neither_less Equal a b = refl
 neither_less Greater a b = absurd (cc)
 
-same_from_neither : (a b : List ℕ) → is_lt (name_cmp a b) ≡ false → is_lt (name_cmp b a) ≡ false → is_same_name a b ≡ true
-same_from_neither a b left right = neither_less (name_cmp a b) left (ap is_lt (sym (ordered.antisymm b a)) ∙ right)
+same_from_neither : (a b : List ℕ) → is_lt (cmp_lettered a b) ≡ false → is_lt (cmp_lettered b a) ≡ false → is_same_name a b ≡ true
+same_from_neither a b left right =
+    then_eq (nat_cmp (first_letters a) (first_letters b)) (name_cmp a b) (neither_less (cmp_lettered a b) left (ap is_lt (sym (ordered.antisymm b a)) ∙ right))
 
 not_less_le : (i j : ℕ) → is_lt (nat_cmp j i) ≡ false → i ≤ j
 not_less_le i j is = elim (cases_lt j i) [
@@ -188,14 +233,14 @@ module _ (es : List Entry) (qs : List (ℕ × List ℕ)) (places : IsPermutation
   far : (i j : ℕ) → i ≤ j → j < length es → is_lt (cmp_numbered (get_or qs j no_pair) (get_or qs i no_pair)) ≡ false
   far i j order within = sorted_far (λ p q. is_lt (cmp_numbered p q)) pairs_rank qs sorted i j no_pair order (omega (arith, size))
 
-  names_far : (i j : ℕ) → i ≤ j → j < length es → is_lt (name_cmp (name j) (name i)) ≡ false
-  names_far i j order within = first_not_less (name_cmp (name j) (name i)) (nat_cmp (at j) (at i)) (far i j order within)
+  names_far : (i j : ℕ) → i ≤ j → j < length es → is_lt (cmp_lettered (name j) (name i)) ≡ false
+  names_far i j order within = first_not_less (cmp_lettered (name j) (name i)) (nat_cmp (at j) (at i)) (far i j order within)
 
   -- Of two neighbours with one name the second is a twin.
   neighbour_twin : (k : ℕ) → k + 1 < length es → is_same_name (name k) (name (k + 1)) ≡ true → is_twin es (at (k + 1)) ≡ true
   neighbour_twin k within same =
       let back : is_same_name (name (k + 1)) (name k) ≡ true = same_name_sym (name (k + 1)) (name k) ∙ same in
-      let le : at k ≤ at (k + 1) = not_less_le (at k) (at (k + 1)) (second_not_less (name_cmp (name (k + 1)) (name k)) (nat_cmp (at (k + 1)) (at k)) back (far k (k + 1) (omega arith) within)) in
+      let le : at k ≤ at (k + 1) = not_less_le (at k) (at (k + 1)) (second_not_less (cmp_lettered (name (k + 1)) (name k)) (nat_cmp (at (k + 1)) (at k)) (tie_of (name (k + 1)) (name k) back) (far k (k + 1) (omega arith) within)) in
       let other = apart k (k + 1) (omega arith) within in
       let order : at k < at (k + 1) = grind (arith, nat_tests, le, other) in
       let first = each k (omega arith) in
@@ -222,13 +267,13 @@ module _ (es : List Entry) (qs : List (ℕ × List ℕ)) (places : IsPermutation
       let order : r < p = elim (cases_lt r p) [
         | inl l ↦ l
         | inr l ↦
-            let le : at p ≤ at r = not_less_le (at p) (at r) (second_not_less (name_cmp (name r) (name p)) (nat_cmp (at r) (at p)) back (far p r l r_in)) in
+            let le : at p ≤ at r = not_less_le (at p) (at r) (second_not_less (cmp_lettered (name r) (name p)) (nat_cmp (at r) (at p)) (tie_of (name r) (name p) back) (far p r l r_in)) in
             absurd (omega (arith, le, p_at, r_at, below))
       ] in
       let k : ℕ = p - 1 in
       let next : k + 1 ≡ p = omega arith in
       let up = names_far k p (omega arith) p_in in
-      let down = names_rank.chain (name k) (name r) (name p) (names_far r k (omega arith) (omega arith)) (eq_not_less (name_cmp (name r) (name p)) back) in
+      let down = names_rank.chain (name k) (name r) (name p) (names_far r k (omega arith) (omega arith)) (eq_not_less (cmp_lettered (name r) (name p)) (tie_of (name r) (name p) back)) in
       let same : is_same_name (name k) (name p) ≡ true = same_from_neither (name k) (name p) down up in
       (k, omega (arith, next, p_in), ap at next ∙ p_at, ap (λ n. is_same_name (name k) (name n)) next ∙ same)
 
@@ -288,14 +333,25 @@ module _ (es : List Entry) (qs : List (ℕ × List ℕ)) (places : IsPermutation
 
 -- ---- names in memory
 
--- in order, where what is shown of the elements is
-pub sorted_map : (names : List Numbered) → IsSortedBy (λ a b. is_lt (cmp_numbered (shown a) (shown b))) names → IsSorted cmp_numbered (map shown names)
-sorted_map [] sorted k d low high = absurd (omega arith)
-sorted_map (n ∷ names) sorted k d low high =
+pub held_total : IsTotalOrder cmp_held
+held_total =
+    then_total (then_total (on_total (λ (n : Numbered). n.letters) nat_cmp_total) (on_total (λ (n : Numbered). folded n.name.now) nat_list_cmp_total)) (on_total (λ (n : Numbered). n.at) nat_cmp_total)
+
+same_order : (a b : Numbered) → IsLettered a → IsLettered b → cmp_held a b ≡ cmp_numbered (shown a) (shown b)
+same_order a b first second =
+    ap₂ (λ x y. ordering_then (ordering_then (nat_cmp x y) (name_cmp a.name.now b.name.now)) (nat_cmp a.at b.at)) first second
+
+-- in order, where the elements are in order by what they hold
+pub sorted_map : (names : List Numbered) → All IsLettered names → IsSortedBy (λ a b. is_lt (cmp_held a b)) names → IsSorted cmp_numbered (map shown names)
+sorted_map [] lettered sorted k d low high = absurd (omega arith)
+sorted_map (n ∷ names) lettered sorted k d low high =
     let second : k + 1 < length (n ∷ names) = omega (arith, high, length-map (n ∷ names) shown) in
+    let first : k < length (n ∷ names) = omega (arith, second) in
     let up = get_or-map shown (n ∷ names) (k + 1) n d second in
     let down = get_or-map shown (n ∷ names) k n d (omega arith) in
-    ap₂ (λ a b. is_lt (cmp_numbered a b)) up down ∙ sorted k n low second
+    ap₂ (λ a b. is_lt (cmp_numbered a b)) up down
+    ∙ ap is_lt (sym (same_order (get_or (n ∷ names) (k + 1) n) (get_or (n ∷ names) k n) (lettered (k + 1) n second) (lettered k n first)))
+    ∙ sorted k n low second
 
 -- one more name with its number
 pub numbered_pushed : (es : List Entry) (names new : List Numbered) (x : Numbered) (e : Entry) (i : ℕ) → i < length es → new ≡ names ++ x ∷ []
@@ -327,3 +383,7 @@ least_is es names i least sorted all is =
     let qs = map shown names in
     let same = size es qs sorted.places sorted.sorted in
     least_end es qs sorted.places sorted.sorted i least (omega (arith, all, same, length-map names shown)) is
+
+-- names of other first letters are others
+pub other_letters : (a b : Numbered) → IsLettered a → IsLettered b → (a.letters ≡ b.letters → ⊥) → is_same_name a.name.now b.name.now ≡ false
+other_letters a b first second other = false_from_ne_true (is_same_name a.name.now b.name.now) (λ same. other (first ∙ same_letters a.name.now b.name.now same ∙ sym second))

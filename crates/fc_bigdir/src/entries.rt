@@ -14,6 +14,9 @@ use fc_dirs::{DirError, DirFault, Entry};
 use fc_names::Name;
 use std::alloc::Global;
 
+// The room for more entries that a directory gets when it is read, so that the first of them don't move all others.
+const SPARE: usize = 16;
+
 // Whether all bytes of a name are from 32 on.
 fn is_printed(name: &[u8]) -> bool
     ensures { result ≡ list_all (λ c. nat_le 32 c) name.now }
@@ -69,7 +72,7 @@ pub fn read_entries(
 {
     let start = entries_start(b, second_form);
     let count = word_at(b, 16) as usize;
-    let Ok(mut entries) = Vec::with_capacity(alloc, count) else {
+    let Ok(mut entries) = Vec::with_capacity(alloc, count + SPARE) else {
         return Err(DirError::NoMemory);
     };
     for i in 0..count {
@@ -95,7 +98,7 @@ pub fn read_places(alloc: Global, b: &[u8], second_form: bool) -> Result<Vec<u32
 {
     let start = entries_start(b, second_form);
     let count = word_at(b, 16) as usize;
-    let Ok(mut places) = Vec::with_capacity(alloc, count) else {
+    let Ok(mut places) = Vec::with_capacity(alloc, count + SPARE) else {
         return Err(DirError::NoMemory);
     };
     for i in 0..count {

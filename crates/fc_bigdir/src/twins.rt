@@ -1,36 +1,55 @@
 // Names that fold to one.
-ghost use Rattle.std.specs.Prelude.{◌≡◌, ◌<◌, ◌^◌, length, map, min, if◌then◌else◌, IfOk};
+ghost use Rattle.std.specs.Prelude.{◌≡◌, ◌<◌, ◌^◌, All, length, map, min, if◌then◌else◌, IfOk};
 ghost use Rattle.fc_dirs.specs.Entries.{first_twin};
 ghost use Rattle.fc_names.specs.Names.{is_same_name};
-ghost use Rattle.fc_bigdir.specs.Twins.{AreSorted, cmp_numbered, numbered, shown};
+ghost use Rattle.fc_bigdir.specs.Twins.{AreSorted, IsLettered, cmp_held, first_letters, numbered, shown};
 
 use fc_dirs::Entry;
 use fc_names::{Name, fold_cmp, fold_eq};
 use std::alloc::{AllocError, Global};
 use std::cmp::Ordering;
 
-// The name of an entry and the number of the entry.
+// The name of an entry and the number of the entry. The first letters settle most comparisons, with no look at the names
+// themselves, which lie far apart.
 #[derive(Clone, Copy)]
 struct Numbered<'a> {
+    letters: u64,
     name: &'a Name,
     at: u32,
 }
 
-// The order of names by folding, and of those that are the same by their numbers.
-fn cmp_numbered(a: &Numbered<'_>, b: &Numbered<'_>) -> Ordering
-    ensures { result ≡ cmp_numbered (shown a.now) (shown b.now) }
+// The first letters of a name as a number, in which names that are the same agree.
+fn first_letters(name: &Name) -> u64
+    ensures { result ≡ first_letters name.now }
 {
-    fold_cmp(a.name, b.name).then(a.at.cmp(&b.at))
+    let bytes = name.bytes();
+    let mut letters = 0;
+    for c in &bytes[..bytes.len().min(12)] {
+        letters = letters % (1 << 59) * 32 + u64::from(*c % 32);
+    }
+    letters
+}
+
+// The order of first letters, then of names by folding, and of those that are the same by their numbers.
+fn cmp_held(a: &Numbered<'_>, b: &Numbered<'_>) -> Ordering
+    ensures { result ≡ cmp_held a.now b.now }
+{
+    match a.letters.cmp(&b.letters) {
+        Ordering::Equal => fold_cmp(a.name, b.name).then(a.at.cmp(&b.at)),
+        order => order,
+    }
 }
 
 // The names in stored order with their numbers.
 fn numbered_names(alloc: Global, entries: &[Entry]) -> Result<Vec<Numbered<'_>>, AllocError>
     requires { length entries.now < 2 ^ 32 }
-    ensures { IfOk result (λ names. map shown names.items ≡ numbered entries.now (length entries.now)) }
+    ensures names { IfOk result (λ names. map shown names.items ≡ numbered entries.now (length entries.now)) }
+    ensures letters { IfOk result (λ names. All IsLettered names.items) }
 {
     let mut names = Vec::with_capacity(alloc, entries.len())?;
     for (i, e) in entries.iter().enumerate() {
         names.push(Numbered {
+            letters: first_letters(&e.name),
             name: &e.name,
             at: i as u32,
         })?;
@@ -44,15 +63,17 @@ fn sorted_names(alloc: Global, entries: &[Entry]) -> Result<Vec<Numbered<'_>>, A
     ensures { IfOk result (λ names. AreSorted entries.now names.items) }
 {
     let mut names = numbered_names(alloc, entries)?;
-    names.sort_unstable_by(|a, b| cmp_numbered(a, b));
+    names.sort_unstable_by(|a, b| cmp_held(a, b));
     Ok(names)
 }
 
 // The lesser of a number and that of the second name, where the names are the same.
 fn least_with(least: u32, a: &Numbered<'_>, b: &Numbered<'_>) -> u32
+    requires first { IsLettered a.now }
+    requires second { IsLettered b.now }
     ensures { result ≡ (if is_same_name a.now.name.now b.now.name.now then min least b.now.at else least) }
 {
-    if fold_eq(a.name, b.name) {
+    if a.letters == b.letters && fold_eq(a.name, b.name) {
         least.min(b.at)
     } else {
         least
