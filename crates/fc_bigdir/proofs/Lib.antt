@@ -1,0 +1,16 @@
+pub mod FlipLemmas
+pub mod WrittenEntries
+pub mod LaidLemmas
+pub mod WrittenChecks
+pub mod ReadBack
+pub mod PutLemmas
+pub mod WriteLemmas
+pub mod PackLemmas
+pub mod EntryLemmas
+pub mod OrderLemmas
+pub mod FaultLemmas
+pub mod ReadLemmas
+pub mod StandLemmas
+pub mod GrowLemmas
+pub mod RenameLemmas
+pub mod ChangeLemmas

@@ -1,0 +1,5 @@
+pub mod Fields
+pub mod Written
+pub mod Laws
+pub mod Entered
+pub mod Twins

@@ -1,0 +1,104 @@
+// Reading big directories.
+ghost use Rattle.std.specs.Prelude.{◌≡◌, ◌-◌, ◌<◌, ◌≤◌, ◌^◌, None, length, IfOk, IfErr, IsTrue, OnOk};
+ghost use Rattle.std.specs.Option.{option_map};
+ghost use Rattle.fc_bytes.specs.Words.{bytes_at};
+ghost use Rattle.fc_dirs.specs.declared.DirFault.TheVariants as faults;
+ghost use Rattle.fc_dirs.specs.Entries.{first_twin};
+ghost use Rattle.fc_dirs.specs.Big.{IsBigDir, big_fault, does_fit, frame_fault, has_second_form, heap_of, name_len};
+ghost use Rattle.fc_smalldir.specs.Faults.{IsFaultOf};
+
+use crate::BigDir;
+use crate::bytes::{copied, word_at};
+use crate::entries::{read_entries, read_places};
+use crate::frame::{entries_start, read_frame};
+use crate::twins::first_twin;
+use fc_dirs::{DirError, DirFault, Entry};
+use std::alloc::Global;
+
+// The bytes of the name in the head.
+fn head_name(b: &[u8], second_form: bool) -> &[u8]
+    requires size { 2048 ≤ length b.now }
+    requires fits { IsTrue (does_fit second_form b.now) }
+    ensures { result.now ≡ bytes_at b.now 28 (name_len b.now) }
+{
+    &b[28..28 + word_at(b, 8) as usize]
+}
+
+// The bytes of the heap.
+fn heap_of(b: &[u8], second_form: bool) -> &[u8]
+    requires size { 2048 ≤ length b.now }
+    requires fits { IsTrue (does_fit second_form b.now) }
+    ensures { result.now ≡ heap_of second_form b.now }
+{
+    let start = entries_start(b, second_form) + 28 * word_at(b, 16) as usize;
+    &b[start..start + word_at(b, 20) as usize]
+}
+
+// The two bytes between the sequence and the check in the tail.
+fn reserved(b: &[u8]) -> [u8; 2]
+    requires { 2048 ≤ length b.now }
+    ensures { result ≡ bytes_at b.now (length b.now - 3) 2 }
+{
+    let at = b.len() - 3;
+    let mut bytes = [0; 2];
+    bytes.copy_from_slice(&b[at..at + 2]);
+    bytes
+}
+
+// Whether no name folds to an earlier one.
+fn check_twins(alloc: Global, entries: &[Entry]) -> Result<(), DirError>
+    requires { length entries.now < 2 ^ 32 }
+    ensures ok { OnOk result (first_twin entries.now ≡ None) }
+    ensures err { IfErr result (IsFaultOf (option_map faults.Twin (first_twin entries.now))) }
+{
+    match first_twin(alloc, entries) {
+        Ok(None) => Ok(()),
+        Ok(Some(at)) => Err(DirError::Fault(DirFault::Twin { at })),
+        Err(_) => Err(DirError::NoMemory),
+    }
+}
+
+// The directory that bytes say which have no fault around the entries.
+fn read_parts(alloc: Global, b: &[u8], second_form: bool) -> Result<BigDir, DirError>
+    requires frame { frame_fault b.now ≡ None }
+    requires form { second_form ≡ has_second_form b.now }
+    requires fits { IsTrue (does_fit second_form b.now) }
+    ensures ok { IfOk result (λ dir. IsBigDir b.now dir) }
+    ensures err { IfErr result (IsFaultOf (big_fault b.now)) }
+{
+    let heap = heap_of(b, second_form);
+    let entries = read_entries(alloc, b, second_form, heap)?;
+    check_twins(alloc, &entries)?;
+    let places = read_places(alloc, b, second_form)?;
+    let (Ok(name), Ok(heap)) = (
+        copied(alloc, head_name(b, second_form)),
+        copied(alloc, heap),
+    ) else {
+        return Err(DirError::NoMemory);
+    };
+    Ok(BigDir {
+        size: b.len() as u32,
+        sequence: b[0],
+        parent: word_at(b, 24),
+        name,
+        second_form,
+        reserved: reserved(b),
+        heap,
+        places,
+        entries,
+    })
+}
+
+impl BigDir {
+    /// The directory that bytes say. A fault is the first in the order of `DirFault`: all entries are tried for their
+    /// names before any is compared with another.
+    pub fn read(alloc: Global, b: &[u8]) -> Result<BigDir, DirError>
+        ensures ok { IfOk result (λ dir. IsBigDir b.now dir) }
+        ensures err { IfErr result (IsFaultOf (big_fault b.now)) }
+    {
+        match read_frame(b) {
+            Ok(second_form) => read_parts(alloc, b, second_form),
+            Err(fault) => Err(DirError::Fault(fault)),
+        }
+    }
+}

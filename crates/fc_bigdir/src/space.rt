@@ -1,0 +1,37 @@
+// What the parts of a directory take.
+ghost use Rattle.std.specs.Prelude.{◌≡◌, ◌<◌, ◌^◌};
+ghost use Rattle.fc_dirs.specs.Big.{bytes_for, head_space, size_for};
+
+// The space of a head's name of that length.
+pub fn head_space(second_form: bool, len: usize) -> usize
+    requires { len < 2 ^ 32 }
+    ensures { result ≡ head_space second_form len }
+{
+    if second_form {
+        len.next_multiple_of(4)
+    } else {
+        (len + 4) / 4 * 4
+    }
+}
+
+// The bytes that head, name, entries, heap and tail take, where the head's name and the heap have these spaces.
+pub fn bytes_for(head_name: usize, entries: usize, heap: usize) -> usize
+    requires head_name { head_name < 2 ^ 32 }
+    requires entries { entries < 2 ^ 32 }
+    requires heap { heap < 2 ^ 32 }
+    ensures bytes { result ≡ bytes_for head_name entries heap }
+    ensures small { result < 2 ^ 38 }
+{
+    28 + head_name + 28 * entries + heap + 8
+}
+
+/// The least size of a big directory that holds a head's name in so many bytes, so many entries, and a heap of so many
+/// bytes. It may be more than any directory has.
+pub fn size_for(head_name: usize, entries: usize, heap: usize) -> u64
+    requires head_name { head_name < 2 ^ 32 }
+    requires entries { entries < 2 ^ 32 }
+    requires heap { heap < 2 ^ 32 }
+    ensures { result ≡ size_for head_name entries heap }
+{
+    bytes_for(head_name, entries, heap).next_multiple_of(2048) as u64
+}

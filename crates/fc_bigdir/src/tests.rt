@@ -1,0 +1,2 @@
+// Bytes from outside, and calls that succeed with ample memory.
+mod reading;
