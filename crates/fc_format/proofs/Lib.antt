@@ -1,0 +1,4 @@
+mod BlockLemmas
+mod FrontLemmas
+mod PassLemmas
+mod SizeLemmas

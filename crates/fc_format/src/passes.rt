@@ -1,0 +1,61 @@
+// Rows of sectors written one after another, over the front of an image.
+ghost use Rattle.std.specs.Prelude.{◌≡◌, ◌<◌, ◌≤◌, ◌+◌, ◌-◌, ◌*◌, ◌/◌, ◌%◌, ℕ, List, length, IsTrue, OnOk};
+ghost use Rattle.fc_device.specs.Calls.{FailsByFault, SameForm};
+ghost use Rattle.fc_format.specs.Fresh.{zeros};
+ghost use Rattle.fc_format.specs.Passes.{HasFront, KeepsBehind, LengthensFront};
+
+use fc_device::{Disk, DiskFault};
+
+/// The bytes in a sector while a disk is made a fresh volume.
+pub const SECTOR: usize = 256;
+
+// Writes sector n.
+fn write_sector<D: Disk>(disk: &mut D, n: u64, sector: &[u8]) -> Result<(), DiskFault>
+    requires attached { IsTrue (D.attached disk.old) }
+    requires size { D.sector_size disk.old ≡ 256 }
+    requires whole { length sector.now ≡ 256 }
+    requires on_disk { n < D.sectors disk.old }
+    ensures front { OnOk result (LengthensFront D.Disk disk.old disk.new (256 * n) sector.now) }
+    ensures keeps { KeepsBehind D.Disk disk.old disk.new (256 * (n + 1)) }
+    ensures form { SameForm D.Disk disk.old disk.new }
+    ensures cause { FailsByFault D.Disk disk.old disk.new result }
+{
+    disk.write(n, sector)?;
+    Ok(())
+}
+
+/// Writes bytes, which are whole sectors, from sector `first` on.
+pub fn write_bytes<D: Disk>(disk: &mut D, first: u64, bytes: &[u8]) -> Result<(), DiskFault>
+    requires attached { IsTrue (D.attached disk.old) }
+    requires size { D.sector_size disk.old ≡ 256 }
+    requires whole { length bytes.now % 256 ≡ 0 }
+    requires on_disk { first + length bytes.now / 256 ≤ D.sectors disk.old }
+    ensures front { OnOk result (LengthensFront D.Disk disk.old disk.new (256 * first) bytes.now) }
+    ensures keeps { KeepsBehind D.Disk disk.old disk.new (256 * (first + length bytes.now / 256)) }
+    ensures form { SameForm D.Disk disk.old disk.new }
+    ensures cause { FailsByFault D.Disk disk.old disk.new result }
+{
+    for i in 0..bytes.len() / SECTOR {
+        let at = i * SECTOR;
+        write_sector(disk, first + i as u64, &bytes[at..at + SECTOR])?;
+    }
+    Ok(())
+}
+
+/// Writes bytes 0 from sector `first` up to sector `end`.
+pub fn write_zeros<D: Disk>(disk: &mut D, first: u64, end: u64) -> Result<(), DiskFault>
+    requires attached { IsTrue (D.attached disk.old) }
+    requires size { D.sector_size disk.old ≡ 256 }
+    requires order { first ≤ end }
+    requires on_disk { end ≤ D.sectors disk.old }
+    ensures front { OnOk result (LengthensFront D.Disk disk.old disk.new (256 * first) (zeros (256 * (end - first)))) }
+    ensures keeps { KeepsBehind D.Disk disk.old disk.new (256 * end) }
+    ensures form { SameForm D.Disk disk.old disk.new }
+    ensures cause { FailsByFault D.Disk disk.old disk.new result }
+{
+    let zeros = [0; SECTOR];
+    for n in first..end {
+        write_sector(disk, n, &zeros)?;
+    }
+    Ok(())
+}
