@@ -1,14 +1,14 @@
 -- Passes over the front of an image, one after another.
-use Rattle.std.proofs.Common.{◌≡◌, ◌⊎◌, ℕ, ◌+◌, ◌-◌, ◌*◌, ◌≤◌, List, [], ◌++◌, length, take, drop, option_map, refl, sym, ap, subst, ◌∙◌, arith, append_assoc, length-append}
-use Rattle.std.proofs.Math.Seq.{take-add}
-use Rattle.std.proofs.lemmas.List.{append-nil, replicate-append-replicate}
+use Rattle.std.proofs.Common.{◌≡◌, ◌⊎◌, ℕ, ◌+◌, ◌-◌, ◌*◌, ◌/◌, ◌%◌, ◌<◌, ◌≤◌, List, [], ◌∷◌, ◌++◌, length, take, drop, slice_index_or, suc, option_map, refl, sym, ap, subst, ◌∙◌, arith, append_assoc, length-append}
+use Rattle.std.proofs.Math.Seq.{drop-cons, take-add}
+use Rattle.std.proofs.lemmas.List.{append-nil, length-replicate, replicate-append-replicate}
 use Rattle.fc_device.specs.declared.disk.Disk.{Ghosts}
 use Rattle.fc_device.specs.Calls.{StopsTearOne}
 use Rattle.fc_device.specs.Sectors.{with_sector}
 use Rattle.fc_device.proofs.DiskLaws.{Laws}
 use Rattle.fc_device.proofs.StopLemmas.{keeps_write}
 use Rattle.fc_format.specs.Fresh.{zeros}
-use Rattle.fc_format.specs.Passes.{HasFront, KeepsBehind, LengthensFront}
+use Rattle.fc_format.specs.Passes.{AreParts, HasFront, KeepsBehind, LengthensFront, Part, laid}
 use Rattle.fc_format.proofs.FrontLemmas.{behind_stays, front_written}
 
 module _ {D : Type 0} (d : Ghosts D) where
@@ -47,6 +47,62 @@ module _ {D : Type 0} {d : Ghosts D} (law : Laws d) where
       λ start m le was.
       keeps_write law (d.sector_size old) n piece was torn old_or_new
       (λ first image told same. ap (λ (s : ℕ). drop m (with_sector s image n piece)) is ∙ behind_stays m n piece image (omega (arith, le)) whole ∙ same)
+
+-- parts end where the disc ends at the latest
+parts_end : (at : ℕ) (parts : List Part) (end : ℕ) → AreParts at parts end → at ≤ end
+parts_end at [] end le = le
+parts_end at (part ∷ parts) end are =
+    let later = parts_end (part.0 + length part.1.now / 256) parts end are.2 in
+    omega (arith, are.0, later)
+
+-- the parts from number i on
+pub next_part : (all : List Part) (i : ℕ) (none : Part) → i < length all → drop i all ≡ slice_index_or all i none ∷ drop (i + 1) all
+next_part all i none lt = let next : suc i ≡ i + 1 = omega arith in drop-cons all i none lt ∙ ap (λ (n : ℕ). slice_index_or all i none ∷ drop n all) next
+
+-- where a part of them ends
+pub part_end : (at : ℕ) (part : Part) (left : List Part) (end : ℕ) → AreParts at (part ∷ left) end → part.0 + length part.1.now / 256 ≤ end
+part_end at part left end are = parts_end (part.0 + length part.1.now / 256) left end are.2
+
+-- The parts up to sector `at` are written, and these are left of all.
+pub record HasLaid {D : Type 0} (d : Ghosts D) (start now : D) (at : ℕ) (left all : List Part) (end : ℕ) : Type 0 where
+  pub done : List ℕ
+  pub split : done ++ laid at left end ≡ laid 0 all end
+  pub size : length done ≡ 256 * at
+  pub fits : AreParts at left end
+  pub front : LengthensFront d start now 0 done
+  pub keeps : KeepsBehind d start now (256 * end)
+
+module _ {D : Type 0} (d : Ghosts D) where
+  pub laid_start : (start : D) (all : List Part) (end : ℕ) → AreParts 0 all end → HasLaid d start start 0 all all end
+  laid_start start all end fits =
+      record { done = []; split = refl; size = refl; fits = fits; front = lengthens_none d start 0; keeps = behind_none d start (256 * end) }
+
+  -- a part more
+  pub laid_part : (start mid new : D) (at : ℕ) (part : Part) (left all : List Part) (end : ℕ) → HasLaid d start mid at (part ∷ left) all end
+      → LengthensFront d mid new (256 * at) (zeros (256 * (part.0 - at)) ++ part.1.now) → KeepsBehind d mid new (256 * (part.0 + length part.1.now / 256))
+      → HasLaid d start new (part.0 + length part.1.now / 256) left all end
+  laid_part start mid new at part left all end was front keeps =
+      let bytes = part.1.now in
+      let next = part.0 + length bytes / 256 in
+      let more = zeros (256 * (part.0 - at)) ++ bytes in
+      let fits : (at ≤ part.0) × (length bytes % 256 ≡ 0) × AreParts next left end = was.fits in
+      let last : next ≤ end = parts_end next left end fits.2 in
+      let zero_length : length (zeros (256 * (part.0 - at))) ≡ 256 * (part.0 - at) = length-replicate {A = ℕ} (256 * (part.0 - at)) 0 in
+      record {
+        done = was.done ++ more;
+        split = append_assoc was.done more (laid next left end) ∙ was.split;
+        size = omega (arith, was.size, length-append was.done more, length-append (zeros (256 * (part.0 - at))) bytes, zero_length, fits.0, fits.1);
+        fits = fits.2;
+        front = lengthens_then d start mid new 0 (256 * at) was.done more (omega (arith, was.size)) was.front front;
+        keeps = behind_then d start mid new (256 * end) (256 * next) (256 * end) (omega arith) (omega (arith, last)) was.keeps keeps;
+      }
+
+  -- and bytes 0 up to the end
+  pub laid_end : (start mid new : D) (at : ℕ) (all : List Part) (end : ℕ) → HasLaid d start mid at [] all end
+      → LengthensFront d mid new (256 * at) (zeros (256 * (end - at))) → LengthensFront d start new 0 (laid 0 all end)
+  laid_end start mid new at all end was front =
+      subst (λ (l : List ℕ). LengthensFront d start new 0 l) was.split
+      (lengthens_then d start mid new 0 (256 * at) was.done (zeros (256 * (end - at))) (omega (arith, was.size)) was.front front)
 
 -- so many bytes are so many and then a sector
 pub sector_more : (bytes : List ℕ) (i at : ℕ) → at ≡ i * 256 → take (256 * i) bytes ++ take (at + 256 - at) (drop at bytes) ≡ take (256 * (i + 1)) bytes

@@ -1,6 +1,8 @@
 -- How the front of an image is written, sector after sector.
-use Rattle.std.specs.Prelude.{◌≡◌, ◌≤◌, ℕ, List, ◌++◌, length, drop, option_map}
+use Rattle.std.specs.Prelude.{◌≡◌, ◌≤◌, ℕ, ◌+◌, ◌-◌, ◌*◌, ◌/◌, ◌%◌, List, [], ◌∷◌, ◌++◌, length, drop, option_map}
+use denote.Bor.{Bor}
 use Rattle.fc_device.specs.declared.disk.Disk.{Ghosts}
+use Rattle.fc_format.specs.Fresh.{zeros}
 use Rattle.fc_device.specs.Calls.{StopsAndExitsLeave}
 
 -- the image is the one at `start` with these bytes written over its front
@@ -18,3 +20,17 @@ SameBehind n was image = drop n image ≡ drop n was
 -- Where each stop and each exit since some start left the bytes from place n on, those from place `from` or an earlier one, it still does.
 abbrev pub KeepsBehind : {D : Type 0} → Ghosts D → D → D → ℕ → Type 0
 KeepsBehind {D} d old new from = (start : D) (n : ℕ) → from ≤ n → StopsAndExitsLeave d start old (SameBehind n) → StopsAndExitsLeave d start new (SameBehind n)
+
+-- a part of a disc: its first sector, and its bytes
+abbrev pub Part : Type 0
+Part = ℕ × Bor (List ℕ)
+
+-- the parts are whole sectors, and stand in this order from sector `at` to sector `end`
+abbrev pub AreParts : ℕ → List Part → ℕ → Type 0
+AreParts at [] end = at ≤ end
+AreParts at (part ∷ parts) end = (at ≤ part.0) × (length part.1.now % 256 ≡ 0) × AreParts (part.0 + length part.1.now / 256) parts end
+
+-- the bytes of the sectors from `at` up to `end`: the parts, and bytes 0 between and behind them
+abbrev pub laid : ℕ → List Part → ℕ → List ℕ
+laid at [] end = zeros (256 * (end - at))
+laid at (part ∷ parts) end = zeros (256 * (part.0 - at)) ++ part.1.now ++ laid (part.0 + length part.1.now / 256) parts end
