@@ -2,7 +2,8 @@
 use Rattle.std.specs.Prelude.{◌≡◌, ◌≤◌, ℕ, ◌+◌, ◌-◌, ◌*◌, ◌/◌, ◌%◌, List, [], ◌∷◌, ◌++◌, length, drop, option_map}
 use denote.Bor.{Bor}
 use Rattle.fc_device.specs.declared.disk.Disk.{Ghosts}
-use Rattle.fc_format.specs.Fresh.{zeros}
+use Rattle.fc_format.specs.declared.Format.{Format}
+use Rattle.fc_format.specs.Fresh.{format_size, front_of, zeros}
 use Rattle.fc_device.specs.Calls.{StopsAndExitsLeave}
 
 -- the image is the one at `start` with these bytes written over its front
@@ -34,3 +35,14 @@ AreParts at (part ∷ parts) end = (at ≤ part.0) × (length part.1.now % 256 �
 abbrev pub laid : ℕ → List Part → ℕ → List ℕ
 laid at [] end = zeros (256 * (end - at))
 laid at (part ∷ parts) end = zeros (256 * (part.0 - at)) ++ part.1.now ++ laid (part.0 + length part.1.now / 256) parts end
+
+-- the disc of a fresh volume
+unfoldable pub disc_of : Format → List ℕ
+disc_of format = front_of format ++ zeros (format_size format - length (front_of format))
+
+-- what shaping a disk and writing to it keep
+pub record SameImage {D : Type 0} (d : Ghosts D) (old new : D) : Type 0 where
+  pub attached_stays : d.attached new ≡ d.attached old
+  pub tells_stays : d.tells_stops new ≡ d.tells_stops old
+  pub gives_stays : d.gives new ≡ d.gives old
+  pub length_stays : d.image_length new ≡ d.image_length old
