@@ -1,12 +1,13 @@
 -- The discs of fresh volumes, as they are written.
-use Rattle.std.proofs.Common.{Result, Ok, Err, OnOk, ◌≡◌, ℕ, ◌+◌, ◌-◌, ◌*◌, ◌/◌, List, [], ◌∷◌, ◌++◌, length, refl, ap, ◌∙◌, append_assoc, sym, arith, length-append}
+use Rattle.std.proofs.Common.{Result, Ok, Err, OnOk, Option, Some, None, option_map, drop, ◌≡◌, ◌≤◌, ◌%◌, ℕ, ◌+◌, ◌-◌, ◌*◌, ◌/◌, List, [], ◌∷◌, ◌++◌, length, refl, ap, ◌∙◌, append_assoc, sym, arith, length-append}
 use Rattle.std.proofs.lemmas.List.{length-replicate}
 use denote.Bor.{Bor}
 use Rattle.fc_oldmap.specs.OldMap.{with_holes}
+use Rattle.fc_device.specs.declared.disk.Disk.{Ghosts}
 use Rattle.fc_format.specs.declared.Format.{Format}
 use Rattle.fc_format.specs.declared.Format.TheVariants.{E, F, D, L, EPlus, FPlus}
-use Rattle.fc_format.specs.Fresh.{big_root, boot_block, e_map, e_plus_map, f_map, f_plus_map, f_record, format_size, front_of, new_root, old_map_with, old_root, plus_record, zeros}
-use Rattle.fc_format.specs.Passes.{disc_of, laid}
+use Rattle.fc_format.specs.Fresh.{big_root, boot_block, e_map, e_plus_map, f_map, f_plus_map, f_record, format_size, fresh_image, front_of, new_root, old_map_with, old_root, plus_record, zeros}
+use Rattle.fc_format.specs.Passes.{LengthensFront, disc_of, laid}
 
 -- bytes that are lent
 abbrev pub lent : List ℕ → Bor (List ℕ)
@@ -65,46 +66,93 @@ old_l m r m_long r_long =
 
 -- ---- the discs of the formats
 
--- with a front of so many bytes
-disc_with : (format : Format) (size long : ℕ) → format_size format ≡ size → length (front_of format) ≡ long → front_of format ++ zeros (size - long) ≡ disc_of format
-unfolding disc_of
-disc_with format size long size_is long_is =
-    ap (λ (n : ℕ). front_of format ++ zeros (n - long)) (sym size_is) ∙ ap (λ (n : ℕ). front_of format ++ zeros (format_size format - n)) (sym long_is)
-
 length-six : (a b c m r : List ℕ) → length a ≡ 3072 → length b ≡ 512 → length c ≡ 809472 → length m ≡ 4096 → length r ≡ 2048 → length (a ++ b ++ c ++ m ++ m ++ r) ≡ 823296
 length-six a b c m r a_long b_long c_long m_long r_long =
     omega
     (arith, a_long, b_long, c_long, m_long, r_long, length-append a b, length-append (a ++ b) c, length-append (a ++ b ++ c) m, length-append (a ++ b ++ c ++ m) m, length-append (a ++ b ++ c ++ m ++ m) r)
 
+-- the bytes before the last zeros
+abbrev front_long : Format → ℕ
+front_long E = 4096
+front_long EPlus = 4096
+front_long F = 823296
+front_long FPlus = 823296
+front_long D = 3072
+front_long L = 1792
+
+length-front : (format : Format) → length (front_of format) ≡ front_long format
+unfolding with_holes
+length-front E = refl
+length-front EPlus = refl
+length-front F =
+    length-six (zeros 0xC00) (boot_block f_record) (zeros (0xC6800 - 0xE00)) f_map (new_root 0x209) (length-replicate {A = ℕ} 0xC00 0) refl (length-replicate {A = ℕ} (0xC6800 - 0xE00) 0) refl refl
+length-front FPlus =
+    length-six (zeros 0xC00) (boot_block (plus_record f_record)) (zeros (0xC6800 - 0xE00)) f_plus_map (big_root 0x301) (length-replicate {A = ℕ} 0xC00 0) refl (length-replicate {A = ℕ} (0xC6800 - 0xE00) 0) refl refl
+length-front D = refl
+length-front L = refl
+
+disc_with : (format : Format) → front_of format ++ zeros (format_size format - front_long format) ≡ disc_of format
+unfolding disc_of
+disc_with format = ap (λ (n : ℕ). front_of format ++ zeros (format_size format - n)) (sym (length-front format))
+
+front_fits : (format : Format) → front_long format ≤ format_size format
+front_fits E = omega arith
+front_fits EPlus = omega arith
+front_fits F = omega arith
+front_fits FPlus = omega arith
+front_fits D = omega arith
+front_fits L = omega arith
+
+length-disc : (format : Format) → length (disc_of format) ≡ format_size format
+unfolding disc_of
+length-disc format =
+    let rest = format_size format - length (front_of format) in
+    omega (arith, length-append (front_of format) (zeros rest), length-replicate {A = ℕ} rest 0, length-front format, front_fits format)
+
+-- a disc is whole sectors of 256 bytes
+whole_size : (format : Format) → format_size format % 256 ≡ 0
+whole_size E = refl
+whole_size EPlus = refl
+whole_size F = refl
+whole_size FPlus = refl
+whole_size D = refl
+whole_size L = refl
+
+pub sectors_reach : (format : Format) (sectors long size : ℕ) → size ≡ 256 → sectors ≡ long / size → format_size format ≤ long → format_size format ≤ 256 * sectors
+sectors_reach format sectors long size is whole fits =
+    let e : sectors ≡ long / 256 = whole ∙ ap (λ (n : ℕ). long / n) is in
+    omega (arith, e, fits, whole_size format)
+
 pub disc_E : e_map ++ e_map ++ new_root 0x203 ++ zeros (819200 - 4096) ≡ disc_of E
-disc_E = disc_with E 819200 4096 refl refl
+disc_E = disc_with E
 
 pub disc_E+ : e_plus_map ++ e_plus_map ++ big_root 0x301 ++ zeros (819200 - 4096) ≡ disc_of EPlus
-disc_E+ = disc_with EPlus 819200 4096 refl refl
-
-length-D : length (front_of D) ≡ 3072
-unfolding with_holes
-length-D = refl
-
-length-L : length (front_of L) ≡ 1792
-unfolding with_holes
-length-L = refl
+disc_E+ = disc_with EPlus
 
 pub disc_D : old_map_with 3200 12 ++ zeros 512 ++ new_root 4 ++ zeros (819200 - 3072) ≡ disc_of D
-disc_D = disc_with D 819200 3072 refl length-D
+disc_D = disc_with D
 
 pub disc_L : old_map_with 2560 7 ++ old_root 2 ++ zeros (655360 - 1792) ≡ disc_of L
-disc_L = disc_with L 655360 1792 refl length-L
+disc_L = disc_with L
 
 pub disc_F : zeros 0xC00 ++ boot_block f_record ++ zeros (0xC6800 - 0xE00) ++ f_map ++ f_map ++ new_root 0x209 ++ zeros (1638400 - 823296) ≡ disc_of F
-disc_F =
-    disc_with F 1638400 823296 refl
-    (length-six (zeros 0xC00) (boot_block f_record) (zeros (0xC6800 - 0xE00)) f_map (new_root 0x209) (length-replicate {A = ℕ} 0xC00 0) refl (length-replicate {A = ℕ} (0xC6800 - 0xE00) 0) refl refl)
+disc_F = disc_with F
 
 pub disc_F+ : zeros 0xC00 ++ boot_block (plus_record f_record) ++ zeros (0xC6800 - 0xE00) ++ f_plus_map ++ f_plus_map ++ big_root 0x301 ++ zeros (1638400 - 823296) ≡ disc_of FPlus
-disc_F+ =
-    disc_with FPlus 1638400 823296 refl
-    (length-six (zeros 0xC00) (boot_block (plus_record f_record)) (zeros (0xC6800 - 0xE00)) f_plus_map (big_root 0x301) (length-replicate {A = ℕ} 0xC00 0) refl (length-replicate {A = ℕ} (0xC6800 - 0xE00) 0) refl refl)
+disc_F+ = disc_with FPlus
+
+-- ---- the image
+
+no_front : (told : Option (List ℕ)) → told ≡ option_map (λ image. [] ++ drop (length {A = ℕ} []) image) told
+no_front None = refl
+no_front (Some image) = refl
+
+-- an image whose front is the disc is the fresh one
+pub fresh_is : {D : Type 0} (d : Ghosts D) (old new : D) (format : Format) → LengthensFront d old new 0 (disc_of format) → d.bytes new ≡ option_map (λ image. fresh_image format image) (d.bytes old)
+unfolding fresh_image disc_of
+fresh_is d old new format written =
+    written old [] refl (no_front (d.bytes old))
+    ∙ ap (λ (n : ℕ). option_map (λ image. disc_of format ++ drop n image) (d.bytes old)) (length-disc format)
 
 -- What holds where there is a value, leads on.
 pub on_ok : {T E : Type 0} {P Q : Type 0} (r : Result T E) → OnOk r P → (P → Q) → OnOk r Q

@@ -4,17 +4,17 @@
 //! values of other fields are of docs/FORMAT.md.
 #![tactic(auto)]
 
-mod make;
 mod parts;
 mod passes;
 mod roots;
+mod volume;
 
 ghost use Rattle.std.specs.Prelude.{◌≡◌};
 ghost use Rattle.fc_format.specs.Fresh.{format_size};
 ghost use Rattle.fc_format.specs.Rows.{FormatRows};
 
 pub use fc_device::Disk;
-pub use make::FormatError;
+pub use volume::{FormatError, make};
 
 /// The format of a fresh volume.
 #[derive(Clone, Copy, Debug, PartialEq, Eq)]
@@ -50,6 +50,4 @@ impl Format {
 pub fn rows()
     ensures { FormatRows }
 {}
-
-
 

@@ -2,8 +2,8 @@
 ghost use Rattle.std.specs.Prelude.{◌≡◌, ◌++◌, ◌≤◌, ◌<◌, ◌-◌, ◌*◌, ◌/◌, ℕ, Err, option_map, length, IsTrue, IsFalse, OnOk};
 ghost use Rattle.fc_device.specs.Calls.{FailsByFault, SameForm, StopsAndExitsLeave};
 ghost use Rattle.fc_device.specs.Faults.{Rose};
-ghost use Rattle.fc_format.specs.declared.make.FormatError.{FormatError};
-ghost use Rattle.fc_format.specs.declared.make.FormatError.TheVariants.{TooSmall};
+ghost use Rattle.fc_format.specs.declared.volume.FormatError.{FormatError};
+ghost use Rattle.fc_format.specs.declared.volume.FormatError.TheVariants.{DiskFault, TooSmall};
 ghost use Rattle.fc_format.specs.Fresh.{boot_block, f_zone0, f_zone1, f_zone3, format_size, fresh_image, zeros};
 ghost use Rattle.fc_format.specs.Passes.{KeepsBehind, LengthensFront, SameBehind, SameImage, disc_of};
 
@@ -107,5 +107,54 @@ fn write_disc<D: Disk>(disk: &mut D, f: Format) -> Result<(), DiskFault>
             let map = old_map(2560, 7);
             write_parts(disk, &[(0, &map), (2, &old_root(2))], 2560)
         }
+    }
+}
+
+// Writes the disc of a format, and syncs.
+fn write_volume<D: Disk>(disk: &mut D, f: Format) -> Result<(), DiskFault>
+    requires attached { IsTrue (D.attached disk.old) }
+    requires size { D.sector_size disk.old ≡ 256 }
+    requires on_disk { format_size f ≤ 256 * D.sectors disk.old }
+    ensures fresh { OnOk result (D.bytes disk.new ≡ option_map (λ image. fresh_image f image) (D.bytes disk.old)) }
+    ensures durable { OnOk result (IsFalse (D.pending disk.new)) }
+    ensures keeps { KeepsBehind D.Disk disk.old disk.new (format_size f) }
+    ensures form { SameForm D.Disk disk.old disk.new }
+    ensures cause { FailsByFault D.Disk disk.old disk.new result }
+{
+    write_disc(disk, f)?;
+    disk.sync()?;
+    Ok(())
+}
+
+/// Makes the disk a fresh volume. The disk is attached, with sectors of any size, and nothing is pending.
+///
+/// Each sector of the disc is written once, in rising order, and one sync ends it. Then the image is the fresh one of
+/// the format, with the bytes that stood behind the disc's end; the disk has sectors of 256 bytes, and nothing is
+/// pending. What stands behind the disc's end stays in any case, at each stop of the machine too.
+///
+/// The answer is `TooSmall` exactly where the image is shorter than the disc, and then nothing has changed. It is
+/// `DiskFault` only where the disk's count of faults rose. No memory is taken.
+pub fn make<D: Disk>(disk: &mut D, f: Format) -> Result<(), FormatError>
+    requires attached { IsTrue (D.attached disk.old) }
+    requires settled { IsFalse (D.pending disk.old) }
+    ensures fresh { OnOk result (D.bytes disk.new ≡ option_map (λ image. fresh_image f image) (D.bytes disk.old)) }
+    ensures size { OnOk result (D.sector_size disk.new ≡ 256) }
+    ensures durable { OnOk result (IsFalse (D.pending disk.new)) }
+    ensures small { D.image_length disk.old < format_size f → (result ≡ Err (TooSmall (format_size f) (D.image_length disk.old))) × (disk.new ≡ disk.old) }
+    ensures large { (need have : ℕ) → result ≡ Err (TooSmall need have) → D.image_length disk.old < format_size f }
+    ensures keeps { StopsAndExitsLeave D.Disk disk.old disk.new (SameBehind (format_size f)) }
+    ensures image { SameImage D.Disk disk.old disk.new }
+    ensures later { D.faults disk.old ≤ D.faults disk.new }
+    ensures cause { result ≡ Err DiskFault → Rose (D.faults disk.old) (D.faults disk.new) }
+{
+    let need = f.size();
+    let have = disk.length();
+    if have < need {
+        return Err(FormatError::TooSmall { need, have });
+    }
+    disk.shape(8);
+    match write_volume(disk, f) {
+        Ok(()) => Ok(()),
+        Err(DiskFault) => Err(FormatError::DiskFault),
     }
 }

@@ -2,7 +2,7 @@ use Rattle.std.proofs.Common.{rules, ◌++◌, ◌-◌, ◌≡◌, List, ℕ, le
 use Rattle.fc_format.specs.Fresh.{boot_block, f_zone0, f_zone1, f_zone3, zeros}
 use Rattle.fc_format.specs.Passes.{LengthensFront}
 use Rattle.fc_format.proofs.SizeLemmas.{four_zones}
-use Rattle.fc_format.proofs.make.write_four_zones.Goals as goal
+use Rattle.fc_format.proofs.volume.write_four_zones.Goals as goal
 
 -- the disc of these parts
 abbrev disc : List ℕ → List ℕ → List ℕ → List ℕ → List ℕ → List ℕ → List ℕ
