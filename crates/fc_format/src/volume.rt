@@ -2,8 +2,6 @@
 ghost use Rattle.std.specs.Prelude.{◌≡◌, ◌++◌, ◌≤◌, ◌<◌, ◌-◌, ◌*◌, ◌/◌, ℕ, Err, option_map, length, IsTrue, IsFalse, OnOk};
 ghost use Rattle.fc_device.specs.Calls.{FailsByFault, SameForm, StopsAndExitsLeave};
 ghost use Rattle.fc_device.specs.Faults.{Rose};
-ghost use Rattle.fc_format.specs.declared.volume.FormatError.{FormatError};
-ghost use Rattle.fc_format.specs.declared.volume.FormatError.TheVariants.{DiskFault, TooSmall};
 ghost use Rattle.fc_format.specs.Fresh.{boot_block, f_zone0, f_zone1, f_zone3, format_size, fresh_image, zeros};
 ghost use Rattle.fc_format.specs.Passes.{KeepsBehind, LengthensFront, SameBehind, SameImage, disc_of};
 
@@ -140,12 +138,12 @@ pub fn make<D: Disk>(disk: &mut D, f: Format) -> Result<(), FormatError>
     ensures fresh { OnOk result (D.bytes disk.new ≡ option_map (λ image. fresh_image f image) (D.bytes disk.old)) }
     ensures size { OnOk result (D.sector_size disk.new ≡ 256) }
     ensures durable { OnOk result (IsFalse (D.pending disk.new)) }
-    ensures small { D.image_length disk.old < format_size f → (result ≡ Err (TooSmall (format_size f) (D.image_length disk.old))) × (disk.new ≡ disk.old) }
-    ensures large { (need have : ℕ) → result ≡ Err (TooSmall need have) → D.image_length disk.old < format_size f }
+    ensures small { D.image_length disk.old < format_size f → (result ≡ Err (FormatError.TooSmall (format_size f) (D.image_length disk.old))) × (disk.new ≡ disk.old) }
+    ensures large { (need have : ℕ) → result ≡ Err (FormatError.TooSmall need have) → D.image_length disk.old < format_size f }
     ensures keeps { StopsAndExitsLeave D.Disk disk.old disk.new (SameBehind (format_size f)) }
     ensures image { SameImage D.Disk disk.old disk.new }
     ensures later { D.faults disk.old ≤ D.faults disk.new }
-    ensures cause { result ≡ Err DiskFault → Rose (D.faults disk.old) (D.faults disk.new) }
+    ensures cause { result ≡ Err FormatError.DiskFault → Rose (D.faults disk.old) (D.faults disk.new) }
 {
     let need = f.size();
     let have = disk.length();
