@@ -28,7 +28,7 @@ front_written front piece n (Some image) old new long whole had written =
 -- what stands behind a written sector stays
 pub behind_stays : (n at : ℕ) (piece image : List ℕ) → at * 256 + 256 ≤ n → length piece ≡ 256 → drop n (with_sector 256 image at piece) ≡ drop n image
 unfolding with_sector
-behind_stays n at piece image far whole = elim (cases_lt (length image) (at * 256)) [ | inl short ↦ past short | inr long ↦ whole_sector long ]
+behind_stays n at piece image far whole = elim (cases_lt (length image) (at * 256)) [ inl short ↦ past short | inr long ↦ whole_sector long ]
   where
     front : List ℕ
     front = take (at * 256) image ++ piece

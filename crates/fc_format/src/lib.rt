@@ -51,3 +51,5 @@ pub fn rows()
     ensures { FormatRows }
 {}
 
+#[cfg(test)]
+mod tests;

@@ -7,8 +7,8 @@ ghost use Rattle.fc_format.specs.Passes.{KeepsBehind, LengthensFront, SameBehind
 
 use crate::Format;
 use crate::parts::{
-    Record, Zone, boot_block, e_map, e_plus_map, f_plus_zone2, f_record, f_zone0, f_zone1,
-    f_zone2, f_zone3, old_map, with_big_root,
+    Record, Zone, boot_block, e_map, e_plus_map, f_plus_zone2, f_record, f_zone0, f_zone1, f_zone2,
+    f_zone3, old_map, with_big_root,
 };
 use crate::passes::{Part, write_parts};
 use crate::roots::{big_root, new_root, old_root};
@@ -24,11 +24,7 @@ pub enum FormatError {
 }
 
 // Writes a disc of one zone: both copies of the map, and the root.
-fn write_one_zone<D: Disk>(
-    disk: &mut D,
-    map: &Zone,
-    root: &[u8; 2048],
-) -> Result<(), DiskFault>
+fn write_one_zone<D: Disk>(disk: &mut D, map: &Zone, root: &[u8; 2048]) -> Result<(), DiskFault>
     requires attached { IsTrue (D.attached disk.old) }
     requires size { D.sector_size disk.old ≡ 256 }
     requires on_disk { 3200 ≤ D.sectors disk.old }
@@ -52,8 +48,7 @@ fn write_four_zones<D: Disk>(
     requires attached { IsTrue (D.attached disk.old) }
     requires size { D.sector_size disk.old ≡ 256 }
     requires on_disk { 6400 ≤ D.sectors disk.old }
-    ensures front {
-        let map = f_zone0 of.now ++ f_zone1 ++ zone2.now ++ f_zone3 in
+    ensures front { let map = f_zone0 of.now ++ f_zone1 ++ zone2.now ++ f_zone3 in
         OnOk result (LengthensFront D.Disk disk.old disk.new 0 (zeros 0xC00 ++ boot_block of.now ++ zeros (0xC6800 - 0xE00) ++ map ++ map ++ root.now ++ zeros (1638400 - 823296))) }
     ensures keeps { KeepsBehind D.Disk disk.old disk.new 1638400 }
     ensures form { SameForm D.Disk disk.old disk.new }

@@ -13,7 +13,6 @@ abbrev four_zones_disc : List ℕ → List ℕ → List ℕ → List ℕ
 four_zones_disc of z2 r =
     zeros 0xC00 ++ boot_block of ++ zeros (0xC6800 - 0xE00) ++ (f_zone0 of ++ f_zone1 ++ z2 ++ f_zone3) ++ (f_zone0 of ++ f_zone1 ++ z2 ++ f_zone3) ++ r ++ zeros (1638400 - 823296)
 
-
 pub returns-in-E-clause-front : goal.returns-in-E-clause-front
 returns-in-E-clause-front g c =
     let is = ap (λ (l : List ℕ). one_zone_disc l c.new_root.result) c.e_map.ensures ∙ ap (one_zone_disc e_map) c.new_root.ensures ∙ disc_E ∙ ap disc_of (sym c.in-E.is) in
