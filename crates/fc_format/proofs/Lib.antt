@@ -1,4 +1,5 @@
 mod BlockLemmas
 mod FrontLemmas
 mod PassLemmas
+mod OneZoneLemmas
 mod SizeLemmas

@@ -11,6 +11,7 @@ mod volume;
 
 ghost use Rattle.std.specs.Prelude.{◌≡◌};
 ghost use Rattle.fc_format.specs.Fresh.{format_size};
+ghost use Rattle.fc_format.specs.Opens.{FreshLaw};
 ghost use Rattle.fc_format.specs.Rows.{FormatRows};
 
 pub use fc_device::Disk;
@@ -49,6 +50,11 @@ impl Format {
 /// Maps, boot block and roots of fresh volumes, worked out.
 pub fn rows()
     ensures { FormatRows }
+{}
+
+/// A law: a fresh volume is accepted, and its tree is the root alone.
+pub fn opens()
+    ensures { FreshLaw }
 {}
 
 #[cfg(test)]
