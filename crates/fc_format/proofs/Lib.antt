@@ -2,4 +2,5 @@ mod BlockLemmas
 mod FrontLemmas
 mod PassLemmas
 mod OneZoneLemmas
+mod OpenLemmas
 mod SizeLemmas

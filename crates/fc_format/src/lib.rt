@@ -55,7 +55,9 @@ pub fn rows()
 /// A law: a fresh volume is accepted, and its tree is the root alone.
 pub fn opens()
     ensures { FreshLaw }
-{}
+{
+    fc_image::opens();
+}
 
 #[cfg(test)]
 mod tests;
