@@ -1,5 +1,5 @@
 -- What the fresh discs of one zone open as.
-use Rattle.std.proofs.Common.{◌≡◌, ◌≤◌, ◌+◌, ℕ, Bool, true, false, ◌&&◌, ◌==◌, List, [], ◌∷◌, ◌++◌, length, Option, Some, None, Result, Ok, refl, ap, ◌∙◌, arith, length-append}
+use Rattle.std.proofs.Common.{◌≡◌, ◌≤◌, ℕ, Bool, true, false, ◌&&◌, ◌==◌, List, [], ◌∷◌, ◌++◌, length, Option, Some, None, Result, Ok, refl, ap, ◌∙◌}
 use Rattle.fc_bytes.specs.Bits.{bits, num, low_bits}
 use Rattle.fc_bytes.specs.Words.{bytes_at}
 use Rattle.fc_device.specs.Sectors.{sector_at}
@@ -73,13 +73,13 @@ module _ (rest : List ℕ) where
   unfolding layout_E root_E sector_at bytes_in small_fault small_dir accumulated
   says_E = refl
 
-  pub opens_E : OpensLaw → 819200 ≤ 4096 + length rest → OpensAlone (front_of E ++ rest)
+  pub opens_E : OpensLaw → 819200 ≤ length image_E → OpensAlone (front_of E ++ rest)
   unfolding kind_E root_E small_dir
   opens_E law long =
       let is_map : is_whole_map (bytes_at image_E 0 1024) ≡ true = ap is_whole_map whole_E ∙ is_map_E in
       let is = one_zone_kind image_E (not_boot image_E no_record_E) is_map ∙ ap (λ l. Some (OneZone (map_record l))) whole_E in
       let fits = one_zone_fits image_E (map_record e_map) is_map right_E in
-      opens_alone law image_E kind_E layout_E 0x203 0 root_E is fits (omega (arith, long, length-append (front_of E) rest)) found_E walked_E placed_E says_E refl refl refl
+      opens_alone law image_E kind_E layout_E 0x203 0 root_E is fits long found_E walked_E placed_E says_E refl refl refl
 
 -- ---- E+
 
@@ -131,10 +131,10 @@ module _ (rest : List ℕ) where
   unfolding layout_E+ root_E+ sector_at bytes_in big_fault big_dir accumulated
   says_E+ = refl
 
-  pub opens_E+ : OpensLaw → 819200 ≤ 4096 + length rest → OpensAlone (front_of EPlus ++ rest)
+  pub opens_E+ : OpensLaw → 819200 ≤ length image_E+ → OpensAlone (front_of EPlus ++ rest)
   unfolding kind_E+ root_E+ big_dir
   opens_E+ law long =
       let is_map : is_whole_map (bytes_at image_E+ 0 1024) ≡ true = ap is_whole_map whole_E+ ∙ is_map_E+ in
       let is = one_zone_kind image_E+ (not_boot image_E+ no_record_E+) is_map ∙ ap (λ l. Some (OneZone (map_record l))) whole_E+ in
       let fits = one_zone_fits image_E+ (map_record e_plus_map) is_map right_E+ in
-      opens_alone law image_E+ kind_E+ layout_E+ 0x301 2048 root_E+ is fits (omega (arith, long, length-append (front_of EPlus) rest)) found_E+ walked_E+ placed_E+ says_E+ refl refl refl
+      opens_alone law image_E+ kind_E+ layout_E+ 0x301 2048 root_E+ is fits long found_E+ walked_E+ placed_E+ says_E+ refl refl refl

@@ -72,7 +72,7 @@ length-six a b c m r a_long b_long c_long m_long r_long =
     (arith, a_long, b_long, c_long, m_long, r_long, length-append a b, length-append (a ++ b) c, length-append (a ++ b ++ c) m, length-append (a ++ b ++ c ++ m) m, length-append (a ++ b ++ c ++ m ++ m) r)
 
 -- the bytes before the last zeros
-abbrev front_long : Format → ℕ
+abbrev pub front_long : Format → ℕ
 front_long E = 4096
 front_long EPlus = 4096
 front_long F = 823296
@@ -80,7 +80,7 @@ front_long FPlus = 823296
 front_long D = 3072
 front_long L = 1792
 
-length-front : (format : Format) → length (front_of format) ≡ front_long format
+pub length-front : (format : Format) → length (front_of format) ≡ front_long format
 unfolding with_holes
 length-front E = refl
 length-front EPlus = refl
@@ -153,6 +153,10 @@ unfolding fresh_image disc_of
 fresh_is d old new format written =
     written old [] refl (no_front (d.bytes old))
     ∙ ap (λ (n : ℕ). option_map (λ image. disc_of format ++ drop n image) (d.bytes old)) (length-disc format)
+
+pub fresh_long : (format : Format) (old : List ℕ) → format_size format ≤ length (fresh_image format old)
+unfolding fresh_image disc_of
+fresh_long format old = omega (arith, length-append (disc_of format) (drop (format_size format) old), length-disc format)
 
 -- What holds where there is a value, leads on.
 pub on_ok : {T E : Type 0} {P Q : Type 0} (r : Result T E) → OnOk r P → (P → Q) → OnOk r Q

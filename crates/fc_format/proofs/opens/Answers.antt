@@ -1,5 +1,5 @@
-use Rattle.fc_format.proofs.OneZoneLemmas.{opens_E, opens_E+}
+use Rattle.fc_format.proofs.FreshLemmas.{opens_fresh}
 use Rattle.fc_format.proofs.opens.Goals as goal
 
 pub returns : goal.returns
-returns c = ?
+returns c = opens_fresh c.opens.ensures
