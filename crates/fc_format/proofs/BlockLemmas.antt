@@ -1,0 +1,31 @@
+-- Blocks whose last byte is their check.
+use Rattle.std.proofs.Common.{◌≡◌, ℕ, zero, suc, ◌+◌, ◌%◌, ◌≤◌, List, [], ◌∷◌, ◌++◌, length, take, drop, slice_set, refl, sym, ap, ◌∙◌, arith, append_assoc, length-append}
+use Rattle.std.proofs.lemmas.List.{set_at, take-append-le, length-replicate}
+use Rattle.fc_bytes.specs.Bits.{overwritten}
+use Rattle.fc_checks.specs.Checks.{boot_check, carry_sum}
+use Rattle.fc_format.specs.Fresh.{boot_block, zeros}
+
+-- the boot block of a record, with this as its last byte
+abbrev block_with : List ℕ → ℕ → List ℕ
+block_with r last = zeros 448 ++ r ++ zeros 3 ++ last ∷ []
+
+unchecked-block : (r : List ℕ) → length r ≡ 60 → overwritten (zeros 512) 448 r ≡ block_with r 0
+unchecked-block r long =
+    sym (append_assoc (zeros 448) r (drop (448 + length r) (zeros 512)))
+    ∙ ap (λ (n : ℕ). zeros 448 ++ r ++ drop (448 + n) (zeros 512)) long
+    ∙ sym (append_assoc (zeros 448 ++ r) (zeros 3) (0 ∷ []))
+
+pub boot_laid : (r block : List ℕ) (check : ℕ) → length r ≡ 60 → block ≡ overwritten (zeros 512) 448 r → check ≡ boot_check block → slice_set block 511 check ≡ boot_block r
+boot_laid r block check long laid is =
+    let whole : block ≡ block_with r 0 = laid ∙ unchecked-block r long in
+    let size : length (zeros 448 ++ r ++ zeros 3) ≡ 511 = omega (arith, long, length-append (zeros 448 ++ r) (zeros 3), length-append (zeros 448) r) in
+    let same : boot_check block ≡ boot_check (zeros 448 ++ r ++ zeros 3) =
+    ap boot_check whole ∙ ap (λ (l : List ℕ). carry_sum 256 0 l % 256) (take-append-le 511 (zeros 448 ++ r ++ zeros 3) (0 ∷ []) (omega (arith, size))) in
+    ap (λ (l : List ℕ). slice_set l 511 check) whole ∙ set_at (zeros 448 ++ r ++ zeros 3) 0 [] check 511 size ∙ ap (block_with r) (is ∙ same)
+
+-- the last element replaced
+pub set-last : (xs : List ℕ) (n v : ℕ) → length xs ≡ suc n → slice_set xs n v ≡ take n xs ++ v ∷ []
+set-last (x ∷ []) zero v long = refl
+set-last (x ∷ xs) (suc n) v long = ap (λ (l : List ℕ). x ∷ l) (set-last xs n v (omega arith))
+set-last [] n v long = absurd (omega arith)
+set-last (x ∷ y ∷ xs) zero v long = absurd (omega arith)

@@ -1,0 +1,9 @@
+mod BlockLemmas
+mod FourZoneLemmas
+mod FreshLemmas
+mod FrontLemmas
+mod PassLemmas
+mod OldDiscLemmas
+mod OneZoneLemmas
+mod OpenLemmas
+mod SizeLemmas

@@ -1,0 +1,7 @@
+use Rattle.std.proofs.Common.{◌≡◌, ◌∙◌, ap, length, slice_set}
+use Rattle.fc_checks.specs.Checks.{boot_check}
+use Rattle.fc_format.proofs.BlockLemmas.{boot_laid}
+use Rattle.fc_format.proofs.parts.boot_block.Goals as goal
+
+pub returns : goal.returns
+returns c = boot_laid c.args.of.now c.put.new.b c.boot_check.result c.told-of c.put.ensures c.boot_check.ensures

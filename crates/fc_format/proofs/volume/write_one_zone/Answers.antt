@@ -1,0 +1,10 @@
+use Rattle.std.proofs.Common.{◌++◌, ◌-◌, List, ℕ, subst}
+use Rattle.fc_format.specs.Fresh.{zeros}
+use Rattle.fc_format.specs.Passes.{LengthensFront}
+use Rattle.fc_format.proofs.SizeLemmas.{one_zone}
+use Rattle.fc_format.proofs.volume.write_one_zone.Goals as goal
+
+pub returns-clause-front : goal.returns-clause-front
+returns-clause-front g c =
+    subst (λ (l : List ℕ). LengthensFront g.D.Disk c.args.disk.now c.write_parts.new.disk 0 l) (one_zone c.args.map.now c.args.root.now c.told-map c.told-root)
+    c.in_ok-write_parts.ensures.front

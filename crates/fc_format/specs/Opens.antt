@@ -1,0 +1,19 @@
+-- What fresh volumes open as.
+use Rattle.std.specs.Prelude.{◌≡◌, ℕ, List, [], ◌∷◌, Ok}
+use Rattle.fc_dirs.specs.Directory.{entries_of}
+use Rattle.fc_image.specs.Walk.{Listing}
+use Rattle.fc_image.specs.Opening.{Opened, open_image}
+use Rattle.fc_format.specs.declared.Format.{Format}
+use Rattle.fc_format.specs.Fresh.{fresh_image}
+
+-- The root is the only directory, and holds nothing.
+pub record IsRootAlone (listings : List Listing) : Type 0 where
+  pub root : Listing
+  pub alone : listings ≡ root ∷ []
+  pub at_top : root.object.path ≡ []
+  pub empty : entries_of root.content ≡ []
+  pub no_children : root.children ≡ []
+
+-- A fresh volume is accepted, whatever stood there before, and its tree is the root alone.
+abbrev pub FreshLaw : Type 0
+FreshLaw = (format : Format) (old : List ℕ) → (v : Opened) × (open_image (fresh_image format old) ≡ Ok v) × IsRootAlone v.listings

@@ -1,0 +1,199 @@
+// Disc records, maps and boot blocks of fresh volumes.
+ghost use Rattle.std.specs.Prelude.{◌≡◌, ◌+◌, ◌≤◌, ◌<◌, ◌^◌, length};
+ghost use Rattle.fc_bytes.specs.Bits.{overwritten};
+ghost use Rattle.fc_oldmap.specs.OldMap.{checked_half};
+ghost use Rattle.fc_format.specs.Fresh.{boot_block, e_map, e_plus_map, e_record, f_plus_zone2, f_record, f_zone0, f_zone1, f_zone2, f_zone3, old_map_with, plus_record, zeros};
+
+use fc_bytes::put_le24;
+use fc_checks::{boot_check, old_check};
+use fc_zone::seal;
+
+/// A disc record.
+pub type Record = [u8; 60];
+
+/// A zone's sector.
+pub type Zone = [u8; 1024];
+
+/// Writes bytes from byte `at` on.
+pub fn put(b: &mut [u8], at: usize, bytes: &[u8])
+    requires { at + length bytes.now ≤ length b.old }
+    ensures { b.new ≡ overwritten b.old at bytes.now }
+{
+    b[at..at + bytes.len()].copy_from_slice(bytes);
+}
+
+// The record of an E disc.
+fn e_record() -> Record
+    ensures { result ≡ e_record }
+{
+    let mut bytes = [0; 60];
+    let filled = b"\x0A\x05\x02\x02\x0F\x07\x01\0\0\x01\x20\x05\x03\x02\0\0\0\x80\x0C";
+    bytes[..filled.len()].copy_from_slice(filled);
+    bytes
+}
+
+/// The record of an F disc.
+pub fn f_record() -> Record
+    ensures { result ≡ f_record }
+{
+    let mut bytes = [0; 60];
+    let filled = b"\x0A\x0A\x02\x04\x0F\x06\x01\0\0\x04\x40\x06\x09\x02\0\0\0\0\x19";
+    bytes[..filled.len()].copy_from_slice(filled);
+    bytes
+}
+
+/// The record with big directories: format version 1, and the root at &301, of 2048 bytes.
+pub fn with_big_root(of: &Record) -> Record
+    ensures { result ≡ plus_record of.now }
+{
+    let mut bytes = *of;
+    bytes[12] = 0x01;
+    bytes[13] = 0x03;
+    bytes[44] = 1;
+    bytes[49] = 8;
+    bytes
+}
+
+// A zone's sector with a record in it and nothing else.
+fn with_record(of: &Record) -> Zone
+    ensures { result ≡ overwritten (zeros 1024) 4 of.now }
+{
+    let mut zone = [0; 1024];
+    put(&mut zone, 4, of);
+    zone
+}
+
+/// The map of an E disc. FreeLink and CrossCheck, identifier 2 with 32 bits, and one hole.
+pub fn e_map() -> Zone
+    ensures { result ≡ e_map }
+{
+    let mut zone = with_record(&e_record());
+    zone[1] = 0x18;
+    zone[2] = 0x82;
+    zone[3] = 0xFF;
+    zone[64] = 2;
+    zone[67] = 0x80;
+    zone[863] = 0x80;
+    seal(&mut zone);
+    zone
+}
+
+/// The map of an E+ disc. FreeLink and CrossCheck, identifiers 2 and 3 with 16 bits each, and one hole.
+pub fn e_plus_map() -> Zone
+    ensures { result ≡ e_plus_map }
+{
+    let mut zone = with_record(&with_big_root(&e_record()));
+    zone[1] = 0x18;
+    zone[2] = 0x82;
+    zone[3] = 0xFF;
+    zone[64] = 2;
+    zone[65] = 0x80;
+    zone[66] = 3;
+    zone[67] = 0x80;
+    zone[863] = 0x80;
+    seal(&mut zone);
+    zone
+}
+
+/// Zone 0 of an F disc with this record. FreeLink and CrossCheck, identifier 2 with 64 bits, and one hole.
+pub fn f_zone0(of: &Record) -> Zone
+    ensures { result ≡ f_zone0 of.now }
+{
+    let mut zone = with_record(of);
+    zone[1] = 0x38;
+    zone[2] = 0x82;
+    zone[3] = 0xFF;
+    zone[64] = 2;
+    zone[71] = 0x80;
+    zone[827] = 0x80;
+    seal(&mut zone);
+    zone
+}
+
+/// Zone 1 of an F disc: one hole.
+pub fn f_zone1() -> Zone
+    ensures { result ≡ f_zone1 }
+{
+    let mut zone = [0; 1024];
+    zone[1] = 0x18;
+    zone[2] = 0x80;
+    zone[827] = 0x80;
+    seal(&mut zone);
+    zone
+}
+
+/// Zone 2 of an F disc: identifier 2 with 160 bits, and one hole.
+pub fn f_zone2() -> Zone
+    ensures { result ≡ f_zone2 }
+{
+    let mut zone = [0; 1024];
+    zone[1] = 0xB8;
+    zone[2] = 0x80;
+    zone[4] = 2;
+    zone[23] = 0x80;
+    zone[827] = 0x80;
+    seal(&mut zone);
+    zone
+}
+
+/// Zone 2 of an F+ disc: identifier 2 with 128 bits, identifier 3 with 32 bits, and one hole.
+pub fn f_plus_zone2() -> Zone
+    ensures { result ≡ f_plus_zone2 }
+{
+    let mut zone = [0; 1024];
+    zone[1] = 0xB8;
+    zone[2] = 0x80;
+    zone[4] = 2;
+    zone[19] = 0x80;
+    zone[20] = 3;
+    zone[23] = 0x80;
+    zone[827] = 0x80;
+    seal(&mut zone);
+    zone
+}
+
+/// Zone 3 of an F disc: one hole up to the disc's end.
+pub fn f_zone3() -> Zone
+    ensures { result ≡ f_zone3 }
+{
+    let mut zone = [0; 1024];
+    zone[1] = 0x18;
+    zone[2] = 0x80;
+    zone[791] = 0x80;
+    seal(&mut zone);
+    zone
+}
+
+/// The boot block with this record.
+pub fn boot_block(of: &Record) -> [u8; 512]
+    ensures { result ≡ boot_block of.now }
+{
+    let mut block = [0; 512];
+    put(&mut block, 448, of);
+    block[511] = boot_check(&block);
+    block
+}
+
+// Sets the check of half an old map.
+fn seal_half(half: &mut [u8])
+    requires { length half.old ≡ 256 }
+    ensures { half.new ≡ checked_half half.old }
+{
+    half[255] = old_check(half, 255);
+}
+
+/// An old map of a disc of so many units, with one hole from this unit to the disc's end.
+pub fn old_map(units: u32, first: u32) -> [u8; 512]
+    requires order { first ≤ units }
+    requires fits { units < 2 ^ 24 }
+    ensures { result ≡ old_map_with units first }
+{
+    let mut map = [0; 512];
+    put_le24(&mut map, 0, first);
+    put_le24(&mut map, 252, units);
+    put_le24(&mut map, 256, units - first);
+    map[510] = 3;
+    seal_half(&mut map[..256]);
+    seal_half(&mut map[256..]);
+    map
+}
