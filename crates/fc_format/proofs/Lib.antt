@@ -3,7 +3,9 @@ mod FourZoneLemmas
 mod FreshLemmas
 mod FrontLemmas
 mod PassLemmas
+mod LaidLemmas
 mod OldDiscLemmas
 mod OneZoneLemmas
 mod OpenLemmas
 mod SizeLemmas
+mod ZoneLemmas

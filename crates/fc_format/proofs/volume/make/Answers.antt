@@ -1,4 +1,4 @@
-use Rattle.std.proofs.Common.{◌≡◌, ◌≤◌, refl, ℕ, arith}
+use Rattle.std.proofs.Common.{refl, arith}
 use Rattle.fc_device.proofs.DiskLaws.{laws}
 use Rattle.fc_device.proofs.StopLemmas.{keeps_same, keeps_start}
 use Rattle.fc_format.specs.Fresh.{format_size}
