@@ -1,13 +1,11 @@
 -- What the fresh discs of four zones open as.
-use Rattle.std.proofs.Common.{◌≡◌, ◌<◌, ◌≤◌, ◌+◌, ◌-◌, ◌*◌, ℕ, true, false, ◌==◌, List, [], ◌∷◌, ◌++◌, length, take, drop, slice_index, slice_index_or, None, Ok, refl, ap, sym, ◌∙◌, subst, arith, length-append, append_assoc}
-use Rattle.std.specs.Str.{bytes_eq}
+use Rattle.std.proofs.Common.{◌≡◌, ◌<◌, ◌≤◌, ◌+◌, ◌-◌, ◌*◌, ℕ, true, ◌==◌, List, [], ◌∷◌, ◌++◌, length, take, drop, slice_index, slice_index_or, None, Ok, refl, ap, sym, ◌∙◌, subst, arith, length-append, append_assoc}
 use Rattle.std.proofs.lemmas.List.{length-replicate, take-append-drop}
 use Rattle.fc_bytes.specs.Bits.{bits, num, low_bits}
 use Rattle.fc_bytes.specs.Words.{bytes_at}
 use Rattle.fc_device.specs.Sectors.{sector_at}
 use Rattle.fc_checks.specs.Checks.{accumulated, boot_check, carry_sum}
 use Rattle.fc_record.specs.declared.DiscRecord.{DiscRecord}
-use Rattle.fc_record.specs.declared.Kind.{Kind}
 use Rattle.fc_record.specs.declared.Kind.TheVariants.{Boot}
 use Rattle.fc_record.specs.Record.{geometry, is_valid, record_fault, record_of}
 use Rattle.fc_zone.specs.Reading.{runs_from, runs_of}
@@ -22,7 +20,7 @@ use Rattle.fc_image.specs.Laws.{OpensLaw}
 use Rattle.fc_image.specs.Layout.{Layout, sectors_at, bytes_in}
 use Rattle.fc_image.specs.Walk.{Listing, children_of, listings_from, reader_of, root_entry, walk}
 use Rattle.fc_image.specs.Objects.{objects_of}
-use Rattle.fc_image.specs.Opening.{map_and_root, misplaced_sector, reserved_in}
+use Rattle.fc_image.specs.Opening.{misplaced_sector, reserved_in}
 use Rattle.fc_format.specs.declared.Format.TheVariants.{F, FPlus}
 use Rattle.fc_format.specs.Fresh.{big_root, boot_block, f_map, f_plus_map, f_plus_zone2, f_record, f_zone0, f_zone1, f_zone2, f_zone3, front_of, new_root, plus_record, zeros}
 use Rattle.fc_format.proofs.OpenLemmas.{AreSectors, OpensAlone, boot_fits, boot_kind, first_layout, layout_of, opens_alone, part_at, pieces, sector_is}

@@ -10,7 +10,7 @@ use Rattle.fc_format.proofs.FourZoneLemmas.{opens_F, opens_F+}
 use Rattle.fc_format.proofs.OldDiscLemmas.{opens_D, opens_L}
 use Rattle.fc_format.proofs.OneZoneLemmas.{opens_E, opens_E+}
 use Rattle.fc_format.proofs.OpenLemmas.{OpensAlone}
-use Rattle.fc_format.proofs.SizeLemmas.{fresh_long, front_long, length-front}
+use Rattle.fc_format.proofs.DiscLemmas.{fresh_long, front_long, length-front}
 
 -- what comes behind the front
 abbrev rest_of : Format → List ℕ → List ℕ

@@ -1,9 +1,11 @@
 mod BlockLemmas
+mod DiscLemmas
 mod FourZoneLemmas
 mod FreshLemmas
 mod FrontLemmas
-mod PassLemmas
+mod LaidLemmas
 mod OldDiscLemmas
 mod OneZoneLemmas
 mod OpenLemmas
-mod SizeLemmas
+mod PassLemmas
+mod ZoneLemmas

@@ -1,5 +1,5 @@
 -- What the fresh discs with an old map open as.
-use Rattle.std.proofs.Common.{◌≡◌, ◌≤◌, ℕ, true, false, List, [], ◌∷◌, ◌++◌, length, None, Ok, refl, arith}
+use Rattle.std.proofs.Common.{◌≡◌, ◌≤◌, ℕ, true, false, List, [], ◌∷◌, ◌++◌, length, Ok, refl, arith}
 use Rattle.fc_bytes.specs.Words.{bytes_at}
 use Rattle.fc_device.specs.Sectors.{sector_at}
 use Rattle.fc_checks.specs.Checks.{accumulated, carry_sum, is_half_right}

@@ -1,6 +1,5 @@
 -- How an image opens, from its parts.
-use Rattle.std.proofs.Common.{◌≡◌, ◌<◌, ◌≤◌, ◌-◌, ◌+◌, ◌*◌, take, drop, slice_index, slice_index_or, ℕ, zero, suc, Bool, true, false, ◌&&◌, ◌||◌, ◌==◌, List, [], ◌∷◌, ◌++◌, length, Option, Some, None, Result, Ok, refl, ap, sym, ◌∙◌, subst, arith, length-append, append_assoc}
-use Rattle.std.specs.Prelude.{Contains}
+use Rattle.std.proofs.Common.{◌≡◌, ◌<◌, ◌≤◌, ◌+◌, ◌*◌, take, drop, slice_index, slice_index_or, ℕ, zero, suc, Bool, true, false, ◌&&◌, ◌==◌, List, [], ◌∷◌, ◌++◌, length, Some, None, Result, Ok, refl, ap, sym, ◌∙◌, subst, arith, length-append, append_assoc}
 use Rattle.fc_bytes.specs.Words.{bytes_at}
 use Rattle.std.proofs.lemmas.Bool.{le-leb}
 use Rattle.std.proofs.lemmas.List.{drop_at, take_at}
@@ -14,7 +13,7 @@ use Rattle.fc_record.specs.declared.Kind.TheVariants.{Boot, OneZone, DiscD, Disc
 use Rattle.fc_record.specs.declared.Geometry.{Geometry}
 use Rattle.fc_record.specs.Record.{geometry, is_valid, record_of}
 use Rattle.fc_record.specs.Kinds.{boot_record, disc_size, fits_kind, is_boot, is_old_map, is_whole_map, kind_of, map_record, old_units}
-use Rattle.fc_dirs.specs.Directory.{Directory, entries_of}
+use Rattle.fc_dirs.specs.Directory.{entries_of}
 use Rattle.fc_newmap.specs.Map.{first_fault, zone_numbers}
 use Rattle.fc_copies.specs.declared.Which.TheVariants.{One}
 use Rattle.fc_copies.specs.Copies.{chosen, copy_of, is_sound}
@@ -23,7 +22,7 @@ use Rattle.fc_image.specs.Layout.{Layout}
 use Rattle.fc_image.specs.Laws.{OpensLaw, Tells}
 use Rattle.fc_image.specs.Walk.{◌>>=◌, Listing, Reader, reader_of, walk}
 use Rattle.fc_image.specs.Objects.{objects_of}
-use Rattle.fc_image.specs.Opening.{MapAndRoot, Opened, agreement, copy_or, difference, map_and_root, misplaced_sector, new_layout, open_as, open_as_some, open_image, reserved_in, zones_or}
+use Rattle.fc_image.specs.Opening.{MapAndRoot, Opened, agreement, copy_or, difference, map_and_root, misplaced_sector, new_layout, open_as_some, open_image, reserved_in, zones_or}
 use Rattle.fc_format.specs.Opens.{IsRootAlone}
 
 never : (a : Bool) → a && false ≡ false

@@ -8,6 +8,7 @@ mod parts;
 mod passes;
 mod roots;
 mod volume;
+mod zones;
 
 ghost use Rattle.std.specs.Prelude.{◌≡◌};
 ghost use Rattle.fc_format.specs.Fresh.{format_size};

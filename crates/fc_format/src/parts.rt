@@ -1,18 +1,72 @@
 // Disc records, maps and boot blocks of fresh volumes.
-ghost use Rattle.std.specs.Prelude.{◌≡◌, ◌+◌, ◌≤◌, ◌<◌, ◌^◌, length};
+ghost use Rattle.std.specs.Prelude.{slice_set, ◌≡◌, ◌+◌, ◌≤◌, ◌<◌, ◌^◌, length};
 ghost use Rattle.fc_bytes.specs.Bits.{overwritten};
 ghost use Rattle.fc_oldmap.specs.OldMap.{checked_half};
+ghost use Rattle.fc_format.specs.Zones.{IsRecordOfF};
 ghost use Rattle.fc_format.specs.Fresh.{boot_block, e_map, e_plus_map, e_record, f_plus_zone2, f_record, f_zone0, f_zone1, f_zone2, f_zone3, old_map_with, plus_record, zeros};
 
+use crate::zones::lay_out;
 use fc_bytes::put_le24;
 use fc_checks::{boot_check, old_check};
-use fc_zone::seal;
+use fc_zone::{ZoneShape, seal};
 
 /// A disc record.
 pub type Record = [u8; 60];
 
 /// A zone's sector.
 pub type Zone = [u8; 1024];
+
+// The zone of an E disc: a bit stands for 128 bytes.
+const ONE_ZONE: ZoneShape = ZoneShape {
+    zone: 0,
+    first: 512,
+    end: 6912,
+    base: 0,
+    idlen: 15,
+    q: 8,
+    min: 16,
+};
+
+// The zones of an F disc: a bit stands for 64 bytes.
+const ZONE_0: ZoneShape = ZoneShape {
+    zone: 0,
+    first: 512,
+    end: 6624,
+    base: 0,
+    idlen: 15,
+    q: 16,
+    min: 16,
+};
+
+const ZONE_1: ZoneShape = ZoneShape {
+    zone: 1,
+    first: 32,
+    end: 6624,
+    base: 6112,
+    idlen: 15,
+    q: 16,
+    min: 16,
+};
+
+const ZONE_2: ZoneShape = ZoneShape {
+    zone: 2,
+    first: 32,
+    end: 6624,
+    base: 12704,
+    idlen: 15,
+    q: 16,
+    min: 16,
+};
+
+const ZONE_3: ZoneShape = ZoneShape {
+    zone: 3,
+    first: 32,
+    end: 6336,
+    base: 19296,
+    idlen: 15,
+    q: 16,
+    min: 16,
+};
 
 /// Writes bytes from byte `at` on.
 pub fn put(b: &mut [u8], at: usize, bytes: &[u8])
@@ -54,58 +108,43 @@ pub fn with_big_root(of: &Record) -> Record
     bytes
 }
 
-// A zone's sector with a record in it and nothing else.
+// Zone 0 with a record and CrossCheck, before its runs are laid out.
 fn with_record(of: &Record) -> Zone
-    ensures { result ≡ overwritten (zeros 1024) 4 of.now }
+    ensures { result ≡ slice_set (overwritten (zeros 1024) 4 of.now) 3 255 }
 {
     let mut zone = [0; 1024];
     put(&mut zone, 4, of);
+    zone[3] = 255;
     zone
 }
 
-/// The map of an E disc. FreeLink and CrossCheck, identifier 2 with 32 bits, and one hole.
+/// The map of an E disc: identifier 2 with 32 bits, and one hole.
 pub fn e_map() -> Zone
     ensures { result ≡ e_map }
 {
     let mut zone = with_record(&e_record());
-    zone[1] = 0x18;
-    zone[2] = 0x82;
-    zone[3] = 0xFF;
-    zone[64] = 2;
-    zone[67] = 0x80;
-    zone[863] = 0x80;
+    lay_out(&mut zone, &ONE_ZONE, &[(32, 2)]);
     seal(&mut zone);
     zone
 }
 
-/// The map of an E+ disc. FreeLink and CrossCheck, identifiers 2 and 3 with 16 bits each, and one hole.
+/// The map of an E+ disc: identifiers 2 and 3 with 16 bits each, and one hole.
 pub fn e_plus_map() -> Zone
     ensures { result ≡ e_plus_map }
 {
     let mut zone = with_record(&with_big_root(&e_record()));
-    zone[1] = 0x18;
-    zone[2] = 0x82;
-    zone[3] = 0xFF;
-    zone[64] = 2;
-    zone[65] = 0x80;
-    zone[66] = 3;
-    zone[67] = 0x80;
-    zone[863] = 0x80;
+    lay_out(&mut zone, &ONE_ZONE, &[(16, 2), (16, 3)]);
     seal(&mut zone);
     zone
 }
 
-/// Zone 0 of an F disc with this record. FreeLink and CrossCheck, identifier 2 with 64 bits, and one hole.
+/// Zone 0 of an F disc with this record: identifier 2 with 64 bits, and one hole.
 pub fn f_zone0(of: &Record) -> Zone
+    requires { IsRecordOfF of.now }
     ensures { result ≡ f_zone0 of.now }
 {
     let mut zone = with_record(of);
-    zone[1] = 0x38;
-    zone[2] = 0x82;
-    zone[3] = 0xFF;
-    zone[64] = 2;
-    zone[71] = 0x80;
-    zone[827] = 0x80;
+    lay_out(&mut zone, &ZONE_0, &[(64, 2)]);
     seal(&mut zone);
     zone
 }
@@ -115,9 +154,7 @@ pub fn f_zone1() -> Zone
     ensures { result ≡ f_zone1 }
 {
     let mut zone = [0; 1024];
-    zone[1] = 0x18;
-    zone[2] = 0x80;
-    zone[827] = 0x80;
+    lay_out(&mut zone, &ZONE_1, &[]);
     seal(&mut zone);
     zone
 }
@@ -127,11 +164,7 @@ pub fn f_zone2() -> Zone
     ensures { result ≡ f_zone2 }
 {
     let mut zone = [0; 1024];
-    zone[1] = 0xB8;
-    zone[2] = 0x80;
-    zone[4] = 2;
-    zone[23] = 0x80;
-    zone[827] = 0x80;
+    lay_out(&mut zone, &ZONE_2, &[(160, 2)]);
     seal(&mut zone);
     zone
 }
@@ -141,13 +174,7 @@ pub fn f_plus_zone2() -> Zone
     ensures { result ≡ f_plus_zone2 }
 {
     let mut zone = [0; 1024];
-    zone[1] = 0xB8;
-    zone[2] = 0x80;
-    zone[4] = 2;
-    zone[19] = 0x80;
-    zone[20] = 3;
-    zone[23] = 0x80;
-    zone[827] = 0x80;
+    lay_out(&mut zone, &ZONE_2, &[(128, 2), (32, 3)]);
     seal(&mut zone);
     zone
 }
@@ -157,9 +184,7 @@ pub fn f_zone3() -> Zone
     ensures { result ≡ f_zone3 }
 {
     let mut zone = [0; 1024];
-    zone[1] = 0x18;
-    zone[2] = 0x80;
-    zone[791] = 0x80;
+    lay_out(&mut zone, &ZONE_3, &[]);
     seal(&mut zone);
     zone
 }

@@ -3,6 +3,7 @@ ghost use Rattle.std.specs.Prelude.{◌≡◌, ◌++◌, ◌≤◌, ◌<◌, ◌
 ghost use Rattle.fc_device.specs.Calls.{FailsByFault, SameForm, StopsAndExitsLeave};
 ghost use Rattle.fc_device.specs.Faults.{Rose};
 ghost use Rattle.fc_format.specs.Fresh.{boot_block, f_zone0, f_zone1, f_zone3, format_size, fresh_image, zeros};
+ghost use Rattle.fc_format.specs.Zones.{IsRecordOfF};
 ghost use Rattle.fc_format.specs.Passes.{KeepsBehind, LengthensFront, SameBehind, SameImage, disc_of};
 
 use crate::Format;
@@ -48,6 +49,7 @@ fn write_four_zones<D: Disk>(
     requires attached { IsTrue (D.attached disk.old) }
     requires size { D.sector_size disk.old ≡ 256 }
     requires on_disk { 6400 ≤ D.sectors disk.old }
+    requires of { IsRecordOfF of.now }
     ensures front { let map = f_zone0 of.now ++ f_zone1 ++ zone2.now ++ f_zone3 in
         OnOk result (LengthensFront D.Disk disk.old disk.new 0 (zeros 0xC00 ++ boot_block of.now ++ zeros (0xC6800 - 0xE00) ++ map ++ map ++ root.now ++ zeros (1638400 - 823296))) }
     ensures keeps { KeepsBehind D.Disk disk.old disk.new 1638400 }

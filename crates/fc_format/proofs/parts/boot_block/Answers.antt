@@ -1,5 +1,3 @@
-use Rattle.std.proofs.Common.{◌≡◌, ◌∙◌, ap, length, slice_set}
-use Rattle.fc_checks.specs.Checks.{boot_check}
 use Rattle.fc_format.proofs.BlockLemmas.{boot_laid}
 use Rattle.fc_format.proofs.parts.boot_block.Goals as goal
 

@@ -1,7 +1,7 @@
-use Rattle.std.proofs.Common.{◌≡◌, ◌+◌, ◌*◌, ◌/◌, ◌∷◌, List, [], length, drop, slice_index_or, ℕ, subst, sym, ◌∙◌, ap, arith}
+use Rattle.std.proofs.Common.{◌≡◌, ◌+◌, ◌*◌, ◌/◌, List, [], length, drop, slice_index_or, ℕ, subst, sym, arith}
 use Rattle.std.proofs.lemmas.List.{drop_all}
 use Rattle.fc_device.proofs.DiskLaws.{form_same, form_then}
-use Rattle.fc_format.specs.Passes.{KeepsBehind, Part}
+use Rattle.fc_format.specs.Passes.{Part}
 use Rattle.fc_format.proofs.PassLemmas.{HasLaid, behind_then, laid_end, laid_part, laid_start, next_part, part_end}
 use Rattle.fc_format.proofs.passes.write_parts.Goals as goal
 

@@ -1,4 +1,4 @@
-use Rattle.std.proofs.Common.{◌≡◌, ◌+◌, ◌-◌, ◌*◌, ◌≤◌, ◌++◌, List, length, replicate, ℕ, subst, sym, arith}
+use Rattle.std.proofs.Common.{◌≡◌, ◌+◌, ◌-◌, ◌*◌, ◌++◌, List, length, replicate, ℕ, subst, sym, arith}
 use Rattle.std.proofs.lemmas.List.{length-replicate}
 use Rattle.fc_device.proofs.DiskLaws.{form_same, form_then}
 use Rattle.fc_format.specs.Passes.{LengthensFront}

@@ -1,8 +1,8 @@
-use Rattle.std.proofs.Common.{◌≡◌, ◌≤◌, refl, ℕ, arith}
+use Rattle.std.proofs.Common.{refl, arith}
 use Rattle.fc_device.proofs.DiskLaws.{laws}
 use Rattle.fc_device.proofs.StopLemmas.{keeps_same, keeps_start}
 use Rattle.fc_format.specs.Fresh.{format_size}
-use Rattle.fc_format.proofs.SizeLemmas.{sectors_reach}
+use Rattle.fc_format.proofs.DiscLemmas.{sectors_reach}
 use Rattle.fc_format.proofs.volume.make.Goals as goal
 
 pub write_volume-requires-clause-on_disk : goal.write_volume-requires-clause-on_disk

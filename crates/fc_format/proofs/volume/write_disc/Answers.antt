@@ -1,8 +1,8 @@
-use Rattle.std.proofs.Common.{rules, ◌≡◌, ◌++◌, ◌-◌, ◌≤◌, List, ℕ, ap, sym, ◌∙◌, subst}
+use Rattle.std.proofs.Common.{rules, ◌++◌, ◌-◌, ◌≤◌, List, ℕ, ap, sym, ◌∙◌, subst}
 use Rattle.fc_format.specs.declared.Format.{Format}
-use Rattle.fc_format.specs.Fresh.{big_root, boot_block, e_map, e_plus_map, f_plus_zone2, f_record, f_zone0, f_zone1, f_zone2, f_zone3, format_size, new_root, old_map_with, old_root, plus_record, zeros}
+use Rattle.fc_format.specs.Fresh.{boot_block, e_map, e_plus_map, f_plus_zone2, f_record, f_zone0, f_zone1, f_zone2, f_zone3, format_size, old_map_with, plus_record, zeros}
 use Rattle.fc_format.specs.Passes.{LengthensFront, disc_of}
-use Rattle.fc_format.proofs.SizeLemmas.{disc_D, disc_E, disc_E+, disc_F, disc_F+, disc_L, old_d, old_l, on_ok}
+use Rattle.fc_format.proofs.DiscLemmas.{disc_D, disc_E, disc_E+, disc_F, disc_F+, disc_L, old_d, old_l, on_ok}
 use Rattle.fc_format.proofs.volume.write_disc.Goals as goal
 
 -- the discs of these parts

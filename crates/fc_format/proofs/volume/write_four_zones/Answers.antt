@@ -1,7 +1,7 @@
-use Rattle.std.proofs.Common.{rules, ◌++◌, ◌-◌, ◌≡◌, List, ℕ, length, ap, ◌∙◌, subst}
-use Rattle.fc_format.specs.Fresh.{boot_block, f_zone0, f_zone1, f_zone3, zeros}
+use Rattle.std.proofs.Common.{rules, ◌++◌, ◌-◌, List, ℕ, ap, ◌∙◌, subst}
+use Rattle.fc_format.specs.Fresh.{boot_block, f_zone0, f_zone1, zeros}
 use Rattle.fc_format.specs.Passes.{LengthensFront}
-use Rattle.fc_format.proofs.SizeLemmas.{four_zones}
+use Rattle.fc_format.proofs.DiscLemmas.{four_zones}
 use Rattle.fc_format.proofs.volume.write_four_zones.Goals as goal
 
 -- the disc of these parts

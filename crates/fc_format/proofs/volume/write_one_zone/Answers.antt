@@ -1,7 +1,6 @@
-use Rattle.std.proofs.Common.{◌++◌, ◌-◌, List, ℕ, subst}
-use Rattle.fc_format.specs.Fresh.{zeros}
+use Rattle.std.proofs.Common.{List, ℕ, subst}
 use Rattle.fc_format.specs.Passes.{LengthensFront}
-use Rattle.fc_format.proofs.SizeLemmas.{one_zone}
+use Rattle.fc_format.proofs.DiscLemmas.{one_zone}
 use Rattle.fc_format.proofs.volume.write_one_zone.Goals as goal
 
 pub returns-clause-front : goal.returns-clause-front

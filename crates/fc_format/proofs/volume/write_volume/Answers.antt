@@ -1,7 +1,7 @@
 use Rattle.fc_device.proofs.DiskLaws.{laws}
 use Rattle.fc_device.proofs.StopLemmas.{keeps_same}
 use Rattle.std.proofs.Common.{◌∙◌}
-use Rattle.fc_format.proofs.SizeLemmas.{fresh_is}
+use Rattle.fc_format.proofs.DiscLemmas.{fresh_is}
 use Rattle.fc_format.proofs.volume.write_volume.Goals as goal
 
 pub returns-clause-fresh : goal.returns-clause-fresh
