@@ -4,6 +4,7 @@
 
 ghost use Rattle.fc_effects.specs.Rows.{SpaceRows};
 ghost use Rattle.fc_effects.specs.CompactionRows.{CompactionRows};
+ghost use Rattle.fc_effects.specs.PlacingRows.{PlacingRows};
 
 /// Space on small images, worked out.
 pub fn rows()
@@ -13,4 +14,9 @@ pub fn rows()
 /// What compaction of old maps doesn't do, worked out.
 pub fn compaction_rows()
     ensures { CompactionRows }
+{}
+
+/// Space that is taken from holes, worked out.
+pub fn placing_rows()
+    ensures { PlacingRows }
 {}

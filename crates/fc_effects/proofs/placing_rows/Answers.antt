@@ -1,0 +1,58 @@
+use Rattle.std.proofs.Common.{◌≡◌, ◌≤◌, Bool, true, false, List, [], ◌∷◌, length, refl, inl, arith, Contains}
+use Rattle.std.proofs.lemmas.List.Elements.{All-from_recursion}
+use Rattle.std.specs.List.{count_by}
+use Rattle.fc_newmap.specs.Map.{ZoneRun}
+use Rattle.fc_effects.specs.Placed.{IsFront, chosen_bits, stands_at}
+use Rattle.fc_effects.specs.PlacingRows.{hole_at, narrow, two, three}
+use Rattle.fc_effects.proofs.placing_rows.Goals as goal
+
+front_whole : (holes : List ZoneRun) (hole : ZoneRun) → Contains holes hole → stands_at hole hole ≡ true → (h : ZoneRun) × Contains holes h × IsFront narrow h hole
+front_whole holes hole held same = (hole, held, record { at_front = same; within = omega arith; rest = inl refl })
+
+two_fewest : (flags : List Bool) → length flags ≡ length two → 20 ≤ chosen_bits flags two → 2 ≤ count_by (λ b. b) flags
+two_fewest [] long enough = absurd (omega (arith, long))
+two_fewest (a ∷ []) long enough = absurd (omega (arith, long))
+two_fewest (true ∷ true ∷ []) long enough = omega arith
+two_fewest (true ∷ false ∷ []) long enough = absurd (omega (arith, enough))
+two_fewest (false ∷ true ∷ []) long enough = absurd (omega (arith, enough))
+two_fewest (false ∷ false ∷ []) long enough = absurd (omega (arith, enough))
+two_fewest (a ∷ b ∷ c ∷ flags) long enough = absurd (omega (arith, long))
+
+three_fewest : (flags : List Bool) → length flags ≡ length three → 70 ≤ chosen_bits flags three → 2 ≤ count_by (λ b. b) flags
+three_fewest [] long enough = absurd (omega (arith, long))
+three_fewest (a ∷ []) long enough = absurd (omega (arith, long))
+three_fewest (a ∷ b ∷ []) long enough = absurd (omega (arith, long))
+three_fewest (true ∷ true ∷ true ∷ []) long enough = omega arith
+three_fewest (true ∷ true ∷ false ∷ []) long enough = omega arith
+three_fewest (true ∷ false ∷ true ∷ []) long enough = omega arith
+three_fewest (false ∷ true ∷ true ∷ []) long enough = omega arith
+three_fewest (true ∷ false ∷ false ∷ []) long enough = absurd (omega (arith, enough))
+three_fewest (false ∷ true ∷ false ∷ []) long enough = absurd (omega (arith, enough))
+three_fewest (false ∷ false ∷ true ∷ []) long enough = absurd (omega (arith, enough))
+three_fewest (false ∷ false ∷ false ∷ []) long enough = absurd (omega (arith, enough))
+three_fewest (a ∷ b ∷ c ∷ d ∷ flags) long enough = absurd (omega (arith, long))
+
+pub returns : goal.returns
+returns c = record {
+  needs = refl;
+  least = refl;
+  whole = refl;
+  both = record {
+    fronts = All-from_recursion (λ (part : ZoneRun). (h : ZoneRun) × Contains two h × IsFront narrow h part) two (
+      front_whole two (hole_at 32 18) (0, omega arith, refl) refl,
+      (front_whole two (hole_at 96 18) (1, omega arith, refl) refl, tt),
+    );
+    enough = omega arith;
+    few_more = omega arith;
+    fewest = record { some = (true ∷ true ∷ [], refl, refl, omega arith); no_fewer = two_fewest };
+  };
+  long_and_one = record {
+    fronts = All-from_recursion (λ (part : ZoneRun). (h : ZoneRun) × Contains three h × IsFront narrow h part) (hole_at 160 64 ∷ hole_at 32 16 ∷ []) (
+      front_whole three (hole_at 160 64) (2, omega arith, refl) refl,
+      (front_whole three (hole_at 32 16) (0, omega arith, refl) refl, tt),
+    );
+    enough = omega arith;
+    few_more = omega arith;
+    fewest = record { some = (true ∷ false ∷ true ∷ [], refl, refl, omega arith); no_fewer = three_fewest };
+  };
+}
