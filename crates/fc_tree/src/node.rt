@@ -1,0 +1,44 @@
+// Nodes of trees.
+
+use fc_bigdir::BigDir;
+use fc_dirs::Entry;
+use fc_image::ImageFault;
+use fc_smalldir::SmallDir;
+
+/// What a directory says, or that the object is a file.
+#[derive(Drop)]
+pub enum Body {
+    File,
+    Small(SmallDir),
+    Big(BigDir),
+}
+
+/// An object of a tree: the number of the node that holds it, its entry there, and what it says. The root holds itself,
+/// and its entry is the one that it would have: the name `$`, its address and its size, attributes 8 and words 0.
+#[derive(Drop)]
+pub struct Node {
+    pub holder: u64,
+    pub entry: Entry,
+    pub body: Body,
+}
+
+/// Where a path leads.
+#[derive(Clone, Copy, Debug, PartialEq, Eq)]
+pub enum Found {
+    /// To the node of this number.
+    Node(u64),
+    /// The shortest prefix that is no directory isn't there.
+    Absent,
+    /// It is a file, and names follow.
+    NotDirectory,
+}
+
+/// Why no tree is loaded.
+#[derive(Drop)]
+pub enum TreeError {
+    /// A directory, or the place of an object, is wrong: the first fault in the order of the walk.
+    Image(ImageFault),
+    /// A read failed.
+    DiskFault,
+    NoMemory,
+}
