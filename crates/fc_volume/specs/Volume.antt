@@ -1,0 +1,39 @@
+-- Volumes, and when one stands for a disk.
+use Rattle.std.specs.Prelude.{◌≡◌, ◌≤◌, ℕ, Bool, true, List}
+use Rattle.fc_device.specs.declared.disk.Disk.{Ghosts}
+use Rattle.fc_device.specs.Calls.{StopsAsBefore}
+use Rattle.fc_device.specs.Stops.{StillLeaves}
+use Rattle.fc_alloc.specs.declared.owner.Owner.{Owner}
+use Rattle.fc_space.specs.declared.space.Space.{Space}
+use Rattle.fc_space.specs.Space.{layout_of}
+use Rattle.fc_tree.specs.Nodes.{Numbers, nodes_of}
+use Rattle.fc_tree.specs.Parts.{Parts}
+use Rattle.fc_tree.specs.Stands.{StandFor}
+
+-- a volume: its map, its objects, who owns which identifier, and whether it may be changed, and used at all
+pub record Volume : Type 0 where
+  pub space : Space
+  pub tree : Numbers
+  pub owners : List Owner
+  pub read_only : Bool
+  pub fit : Bool
+
+-- its parts
+abbrev pub parts_of : Volume → Parts
+parts_of v = record { layout = layout_of v.space; nodes = nodes_of v.tree; owners = v.owners }
+
+-- The volume stands for the disk.
+abbrev pub StandsFor : {D : Type 0} → Ghosts D → Volume → D → Type 0
+StandsFor d v disk = StandFor (parts_of v) (d.sector_size disk) (d.sectors disk) (d.bytes disk)
+
+-- What stays of a disk that is read, and of which the size of sectors may be set.
+pub record OnlyShapes {D : Type 0} (d : Ghosts D) (old new : D) : Type 0 where
+  pub attached_stays : d.attached new ≡ d.attached old
+  pub tells_stays : d.tells_stops new ≡ d.tells_stops old
+  pub gives_stays : d.gives new ≡ d.gives old
+  pub length_stays : d.image_length new ≡ d.image_length old
+  pub bytes_stay : d.bytes new ≡ d.bytes old
+  pub pending_stays : d.pending new ≡ d.pending old
+  pub stops : StopsAsBefore d old new
+  pub still : StillLeaves d.moment d.left_since old new
+  pub faults : d.faults old ≤ d.faults new

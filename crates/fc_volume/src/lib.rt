@@ -1,0 +1,6 @@
+//! Volumes: the filing system over one disk.
+#![tactic(auto)]
+
+mod lines;
+
+pub use lines::{CommandError, FileRef, Line, Listed, MountError};
