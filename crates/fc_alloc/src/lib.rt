@@ -2,7 +2,7 @@
 //! object of a directory may share one identifier.
 #![tactic(auto)]
 
-
+mod index;
 mod owner;
 mod owners;
 
@@ -10,3 +10,5 @@ pub use fc_device::NoMemory;
 pub use owner::Owner;
 pub use owners::Owners;
 
+#[cfg(test)]
+mod tests;
