@@ -1,10 +1,5 @@
-pub mod Writing
-pub mod Script
-pub mod Reading
-pub mod Objects
-pub mod Digits
-pub mod Plain
-pub mod Replies
 pub mod Ends
 pub mod Lines
-pub mod Found
+pub mod Reading
+pub mod Replies
+pub mod Writing

@@ -1,27 +1,24 @@
--- How a run ends over an image, and what it writes.
-use Rattle.std.specs.Prelude.{◌≡◌, ◌≢◌, ℕ, Bool, true, false, ◌||◌, List, [], ◌∷◌, take, if◌then◌else◌, Option, Some, None, Result, Ok, Err, is_some}
+-- What a run answers and writes, by words, script and image.
+use Rattle.std.specs.Prelude.{◌≡◌, ℕ, ◌^◌, Bool, true, false, not, ◌||◌, nat_lt, List, [], length, map, replicate, if◌then◌else◌, Option, Some, None, is_some, Result, Ok, Err}
+use Rattle.std.specs.List.{list_any}
+use Rattle.std.specs.Option.{option_map}
 use Rattle.fc_names.specs.declared.refusal.Refusal.{Refusal}
-use Rattle.fc_names.specs.declared.refusal.Refusal.TheVariants.{NotFound, IsDirectory}
-use Rattle.fc_names.specs.Names.{is_directory}
-use Rattle.fc_dirs.specs.declared.Entry.{Entry}
-use Rattle.fc_dirs.specs.declared.DirFault.{DirFault}
-use Rattle.fc_dirs.specs.declared.SmallForm.TheVariants.{Bytes2048}
-use Rattle.fc_dirs.specs.Entries.{entry_named}
-use Rattle.fc_dirs.specs.Small.{small_entries}
-use Rattle.fc_smalldir.specs.Faults.{fault_but_check}
+use Rattle.fc_model.specs.Command.{Command}
 use Rattle.fc_image.specs.declared.ImageFault.{ImageFault}
-use Rattle.fc_image.specs.declared.ImageFault.TheVariants.{Zone, Directory, Place}
-use Rattle.fc_zone.specs.declared.Run.{Run}
-use Rattle.fc_zone.specs.declared.ZoneFault.{ZoneFault}
-use Rattle.fc_zone.specs.Reading.{zone_of}
-use Rattle.fc_script.specs.Texts.{load_reply, refusal_line}
+use Rattle.fc_image.specs.Opening.{Opened, open_image}
+use Rattle.fc_effects.specs.Effect.{State}
+use Rattle.fc_format.specs.declared.Format.{Format}
+use Rattle.fc_format.specs.Fresh.{format_size, fresh_image}
+use Rattle.fc_script.specs.Lines.{command_of}
+use Rattle.fc_script.specs.Texts.{refusal_line}
 use Rattle.fc_runs.specs.Replies.{bad_image_line}
+use Rattle.fc_runs.specs.ReadLaw.{is_reading, reading_reply}
+use Rattle.fc_runs.specs.Run.{Mode, commands_in, is_error, text_of}
 use Rattle.fc_words.specs.CommandLine.{Request, request_of}
+use Rattle.fc_words.specs.declared.Format.{Format as Word}
+use Rattle.fc_words.specs.declared.Format.TheVariants as words
 use Rattle.fc_shell.specs.declared.ending.End.{End}
-use Rattle.fc_shell.specs.declared.ending.End.TheVariants.{Done, Refused, BadWords, BadImage, DiskFault, ScriptFault, OutFault, NoMemory, NotBuilt, NoImage}
-use Rattle.fc_shell.specs.Objects.{bytes_in, plain_shape, sectors_at}
-use Rattle.fc_shell.specs.Plain.{is_plain_image}
-use Rattle.fc_shell.specs.Script.{asked_name}
+use Rattle.fc_shell.specs.declared.ending.End.TheVariants.{Done, Refused, BadWords, BadImage, DiskFault, ScriptFault, OutFault, NoMemory, ScriptTooLong, NotBuilt, NoImage}
 use Rattle.fc_shell.specs.Writing.{Wrote, WrotePart}
 
 -- how a run ends where no call of the outside fails and memory is found, and what it writes
@@ -29,67 +26,100 @@ pub record Reply : Type 0 where
   pub end : End
   pub text : List ℕ
 
-abbrev pub unbuilt : Reply
-unbuilt = record { end = NotBuilt; text = [] }
+-- an end before anything is written
+abbrev pub silent : End → Reply
+silent end = record { end = end; text = [] }
 
-abbrev pub bad_image : ImageFault → Reply
-bad_image fault = record { end = BadImage fault; text = bad_image_line fault }
+-- ---- scripts
 
-abbrev pub refused : Refusal → Reply
-refused refusal = record { end = Refused; text = refusal_line refusal }
+-- the most bytes of a script
+abbrev pub script_limit : ℕ
+script_limit = 2 ^ 24
 
-abbrev pub loaded : List ℕ → Reply
-loaded bytes = record { end = Done; text = load_reply bytes }
+-- A command that isn't built yet: each that changes something.
+abbrev pub is_unbuilt_command : Result Command Refusal → Bool
+is_unbuilt_command (Ok c) = not (is_reading c)
+is_unbuilt_command (Err refusal) = false
 
--- the named file's bytes have a place, or not
-abbrev pub file_reply : List ℕ → Entry → Option (List ℕ) → Reply
-file_reply image e None = bad_image (Place (e.name ∷ []))
-file_reply image e (Some sectors) = loaded (bytes_in image sectors e.len)
+-- A line of the script is such a command.
+abbrev pub has_unbuilt : List ℕ → Bool
+has_unbuilt script = list_any (λ line. is_unbuilt_command (command_of line)) (commands_in script)
 
--- the name is there, and names a file
-abbrev pub entry_reply : List ℕ → List Run → Option Entry → Reply
-entry_reply image runs None = refused NotFound
-entry_reply image runs (Some e) = if is_directory e.attrs then refused IsDirectory else file_reply image e (sectors_at runs e.address e.len)
+-- the reply to a line, by the command that it spells
+abbrev pub command_reply : Mode → State → Result Command Refusal → List ℕ
+command_reply mode s (Err refusal) = refusal_line refusal
+command_reply mode s (Ok c) = reading_reply mode s c
 
--- the root's bytes are a directory, its check byte left out
-abbrev pub directory_reply : List ℕ → List ℕ → List Run → List ℕ → Option DirFault → Reply
-directory_reply image name runs bytes (Some fault) = bad_image (Directory [] fault)
-directory_reply image name runs bytes None = entry_reply image runs (entry_named (small_entries Bytes2048 bytes) name)
+-- the reply to a line
+abbrev pub line_reply : Mode → State → List ℕ → List ℕ
+line_reply mode s line = command_reply mode s (command_of line)
 
--- the root's bytes have a place
-abbrev pub root_reply : List ℕ → List ℕ → List Run → Option (List ℕ) → Reply
-root_reply image name runs None = bad_image (Place [])
-root_reply image name runs (Some sectors) =
-    let bytes = bytes_in image sectors 2048 in directory_reply image name runs bytes (fault_but_check Bytes2048 bytes)
+-- the replies to a script of commands that read
+abbrev pub replies_of : Mode → State → List ℕ → List (List ℕ)
+replies_of mode s script = map (line_reply mode s) (commands_in script)
 
--- the zone in the first sector has runs
-abbrev pub zone_reply : List ℕ → List ℕ → Result (List Run) ZoneFault → Reply
-zone_reply image name (Err fault) = bad_image (Zone fault.zone fault.bit)
-zone_reply image name (Ok runs) = root_reply image name runs (sectors_at runs 0x203 2048)
+-- the script's end was reached
+abbrev pub served : List (List ℕ) → Reply
+served replies = record { end = if list_any is_error replies then Refused else Done; text = text_of replies }
 
--- the tests of an image in their order; the first that fails decides
-unfoldable pub image_reply : List ℕ → List ℕ → Reply
-image_reply name image = if is_plain_image image then zone_reply image name (zone_of plain_shape (take 1024 image)) else unbuilt
+-- ---- images
+
+-- the fault, or the replies over what the image opens as
+abbrev pub opened_reply : Bool → List ℕ → List ℕ → Result Opened ImageFault → Reply
+opened_reply read_only script image (Err fault) = record { end = BadImage fault; text = bad_image_line fault }
+opened_reply read_only script image (Ok v) =
+    served (replies_of (record { kind = v.kind; read_only = read_only; safe = false }) (record { image = image; view = v }) script)
+
+-- the replies over an image
+abbrev pub image_reply : Bool → List ℕ → List ℕ → Reply
+image_reply read_only script image = opened_reply read_only script image (open_image image)
+
+-- the format that a word names
+abbrev pub format_in : Word → Format
+format_in words.E = Format.E
+format_in words.F = Format.F
+format_in words.D = Format.D
+format_in words.L = Format.L
+format_in words.EPlus = Format.EPlus
+format_in words.FPlus = Format.FPlus
+
+-- the bytes of a new image, if one is asked for
+abbrev pub blank_size : Request → Option ℕ
+blank_size r = option_map (λ f. format_size (format_in f)) r.new
+
+-- the image over which the script runs: the one that is there, or a fresh one
+abbrev pub image_for : Option Word → List ℕ → List ℕ
+image_for None image = image
+image_for (Some f) image = fresh_image (format_in f) (replicate (format_size (format_in f)) 0)
+
+-- the name is given, or not
+abbrev pub attached_reply : Bool → Request → List ℕ → List ℕ → Reply
+attached_reply false r script image = silent NoImage
+attached_reply true r script image = image_reply r.read_only script (image_for r.new image)
+
+-- ---- words
 
 -- what the words ask for isn't built yet
 abbrev pub is_unbuilt : Request → Bool
-is_unbuilt r = is_some r.new || is_some r.demo || r.safe
+is_unbuilt r = is_some r.demo || r.safe
 
-abbrev pub attached_reply : Bool → List ℕ → List ℕ → Reply
-attached_reply false name image = record { end = NoImage; text = [] }
-attached_reply true name image = image_reply name image
+-- what the words ask for, over a script that was read
+abbrev pub script_reply : (List ℕ → Option ℕ → Bool) → Request → List ℕ → List ℕ → Reply
+script_reply gives r script image =
+    if nat_lt script_limit (length script) then silent ScriptTooLong
+    else if has_unbuilt script then silent NotBuilt
+    else attached_reply (gives r.image (blank_size r)) r script image
 
-abbrev pub script_reply : Bool → List ℕ → Option (List ℕ) → Reply
-script_reply given image None = unbuilt
-script_reply given image (Some name) = attached_reply given name image
-
+-- a run of what the words ask for
 abbrev pub request_reply : (List ℕ → Option ℕ → Bool) → List ℕ → List ℕ → Option Request → Reply
-request_reply gives script image None = record { end = BadWords; text = [] }
-request_reply gives script image (Some r) = if is_unbuilt r then unbuilt else script_reply (gives r.image None) image (asked_name script)
+request_reply gives script image None = silent BadWords
+request_reply gives script image (Some r) = if is_unbuilt r then silent NotBuilt else script_reply gives r script image
 
 -- a whole run: words, the names that the disk gives, script and image
 abbrev pub run_reply : List (List ℕ) → (List ℕ → Option ℕ → Bool) → List ℕ → List ℕ → Reply
 run_reply words gives script image = request_reply gives script image (request_of words)
+
+-- ---- how a run ends
 
 -- The run ended so. Where a call of the outside failed or memory was short, a part of the reply was written; else the
 -- reply decides, and all of it was.
@@ -99,10 +129,3 @@ EndsAs reply ScriptFault before after = after ≡ before
 EndsAs reply OutFault before after = WrotePart before after reply.text
 EndsAs reply NoMemory before after = WrotePart before after reply.text
 EndsAs reply end before after = (reply.end ≡ end) × Wrote before after reply.text
-
--- an end that an opened image may bring
-pub record IsOfImage (end : End) : Type 0 where
-  pub words_right : end ≢ BadWords
-  pub script_read : end ≢ ScriptFault
-  pub image_given : end ≢ NoImage
-  pub built : end ≢ NotBuilt

