@@ -1,0 +1,112 @@
+// The owners of a disc's identifiers.
+ghost use Rattle.std.specs.Prelude.{◌≡◌, [], ◌∷◌, ◌++◌, Contains, IsPermutation, IsFalse, IsTrue, OnErr, OnOk};
+ghost use Rattle.fc_alloc.specs.Owners.{HaveOwnNodes, has_node, is_id_owned, with_changed};
+ghost use Rattle.fc_alloc.specs.declared.owner.Owner.{Owner};
+
+use crate::Owner;
+use crate::index::{count_down, count_up, grow_counts, grow_places, place_of};
+use fc_device::NoMemory;
+use std::alloc::Global;
+use std::marker::Model;
+
+/// The owners of a disc's identifiers, at most one for each node. Contracts see the list of them.
+#[derive(Drop)]
+pub struct Owners {
+    list: Vec<Owner>,
+    // By node, where its owner stands in the list. A node without an owner may have any number.
+    places: Vec<usize>,
+    // By identifier, how many owners have it. `change` may bring identifiers past the table's end.
+    counts: Vec<usize>,
+    // No owner has a greater identifier.
+    top: u32,
+}
+
+impl Model for Owners {
+    ghost use Rattle.std.specs.Prelude.{List};
+    ghost use Rattle.fc_alloc.specs.declared.owner.Owner.{Owner};
+    ghost use Rattle.fc_alloc.specs.Index.{IsIndexed};
+
+    ghost Value = { List Owner };
+
+    ghost view = { λ a. a.list.items };
+
+    ghost invariant = { λ a. IsIndexed a.list.items a.places.items a.counts.items a.top };
+}
+
+impl Owners {
+    /// No owners.
+    pub fn new(alloc: Global) -> Owners
+        ensures { result ≡ [] }
+    {
+        Owners {
+            list: Vec::new(alloc),
+            places: Vec::new(alloc),
+            counts: Vec::new(alloc),
+            top: 0,
+        }
+    }
+
+    /// Puts an owner behind the others. None of them may be its node. After `NoMemory` the list is as before.
+    pub fn add(&mut self, o: Owner) -> Result<(), NoMemory>
+        requires { IsFalse (has_node self.old o.node) }
+        ensures ok { OnOk result (self.new ≡ self.old ++ o ∷ []) }
+        ensures err { OnErr result (self.new ≡ self.old) }
+    {
+        grow_places(&mut self.places, o.node)?;
+        let top = self.top.max(o.id);
+        grow_counts(&mut self.counts, &self.list, top)?;
+        let place = self.list.len();
+        if self.list.push(o).is_err() {
+            return Err(NoMemory);
+        }
+        self.places[o.node as usize] = place;
+        count_up(&mut self.counts, o.id);
+        self.top = top;
+        Ok(())
+    }
+
+    /// Takes the owner that is a node out, if there is one. The others may change places.
+    pub fn remove(&mut self, node: u64)
+        ensures found { (o : Owner) → Contains self.old o → o.node ≡ node → IsPermutation self.old (o ∷ self.new) }
+        ensures absent { IsFalse (has_node self.old node) → self.new ≡ self.old }
+    {
+        let Some(place) = place_of(&self.list, &self.places, node) else {
+            return;
+        };
+        let removed = self.list.swap_remove(place);
+        if let Some(moved) = self.list.get(place) {
+            self.places[moved.node as usize] = place;
+        }
+        count_down(&mut self.counts, removed.id);
+    }
+
+    /// Puts an owner in the place of the one that is its node, which must be there.
+    pub fn change(&mut self, o: Owner)
+        requires { IsTrue (has_node self.old o.node) }
+        ensures { self.new ≡ with_changed o self.old }
+    {
+        let place = self.places[o.node as usize];
+        count_down(&mut self.counts, self.list[place].id);
+        count_up(&mut self.counts, o.id);
+        self.list[place] = o;
+        self.top = self.top.max(o.id);
+    }
+
+    /// The owners: in the order in which they were added, but for those that `remove` moved.
+    pub fn list(&self) -> &[Owner]
+        ensures same { result.now ≡ self.now }
+        ensures nodes { HaveOwnNodes self.now }
+    {
+        &self.list
+    }
+
+    /// Whether an owner has this identifier.
+    pub fn owned(&self, id: u32) -> bool
+        ensures { result ≡ is_id_owned self.now id }
+    {
+        match self.counts.get(id as usize) {
+            Some(count) => *count > 0,
+            None => id <= self.top && self.list.iter().any(|o| o.id == id),
+        }
+    }
+}
