@@ -12,8 +12,11 @@ pub fn place_of(list: &[Owner], places: &[usize], node: u64) -> Option<usize>
     requires { ArePlaces list.now places.now }
     ensures { MatchOption result (IsFalse (has_node list.now node)) (λ k. (k < length list.now) × HoldsAt (λ o. o.node ≡ node) list.now k) }
 {
-    let place = *places.get(node as usize)?;
-    if list.get(place)?.node == node {
+    if node as usize >= places.len() {
+        return None;
+    }
+    let place = places[node as usize];
+    if place < list.len() && list[place].node == node {
         Some(place)
     } else {
         None
@@ -54,10 +57,11 @@ pub fn grow_counts(counts: &mut Vec<usize>, list: &[Owner], id: u32) -> Result<(
 }
 
 // Counts the owners of the identifiers from `from` on, whose counts are 0.
-fn count_from(counts: &mut [usize], list: &[Owner], from: usize)
-    requires { (id : ℕ) → from ≤ id → slice_index counts.old id ≡ 0 }
-    ensures before { (id : ℕ) → id < from → slice_index counts.new id ≡ slice_index counts.old id }
-    ensures counted { (id : ℕ) → from ≤ id → id < length counts.old → slice_index counts.new id ≡ count_by (owns id) list.now }
+fn count_from(counts: &mut Vec<usize>, list: &[Owner], from: usize)
+    requires { (id : ℕ) → from ≤ id → slice_index counts.old.items id ≡ 0 }
+    ensures len { vec_len counts.new ≡ vec_len counts.old }
+    ensures before { (id : ℕ) → id < from → slice_index counts.new.items id ≡ slice_index counts.old.items id }
+    ensures counted { (id : ℕ) → from ≤ id → id < vec_len counts.old → slice_index counts.new.items id ≡ count_by (owns id) list.now }
 {
     for owner in list {
         if from <= owner.id as usize {
@@ -67,21 +71,23 @@ fn count_from(counts: &mut [usize], list: &[Owner], from: usize)
 }
 
 // Counts one owner more of an identifier, where the table has it.
-pub fn count_up(counts: &mut [usize], id: u32)
-    requires { id < length counts.old → slice_index counts.old id + 1 < 2 ^ 64 }
-    ensures { counts.new ≡ slice_set counts.old id (slice_index counts.old id + 1) }
+pub fn count_up(counts: &mut Vec<usize>, id: u32)
+    requires { id < vec_len counts.old → slice_index counts.old.items id + 1 < 2 ^ 64 }
+    ensures { counts.new.items ≡ slice_set counts.old.items id (slice_index counts.old.items id + 1) }
 {
-    if let Some(count) = counts.get_mut(id as usize) {
-        *count += 1;
+    let id = id as usize;
+    if id < counts.len() {
+        counts[id] += 1;
     }
 }
 
 // Counts one owner less of an identifier, where the table has it.
-pub fn count_down(counts: &mut [usize], id: u32)
-    requires { id < length counts.old → 0 < slice_index counts.old id }
-    ensures { counts.new ≡ slice_set counts.old id (slice_index counts.old id - 1) }
+pub fn count_down(counts: &mut Vec<usize>, id: u32)
+    requires { id < vec_len counts.old → 0 < slice_index counts.old.items id }
+    ensures { counts.new.items ≡ slice_set counts.old.items id (slice_index counts.old.items id - 1) }
 {
-    if let Some(count) = counts.get_mut(id as usize) {
-        *count -= 1;
+    let id = id as usize;
+    if id < counts.len() {
+        counts[id] -= 1;
     }
 }

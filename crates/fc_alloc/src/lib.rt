@@ -10,3 +10,6 @@ pub use fc_device::NoMemory;
 pub use owner::Owner;
 pub use owners::Owners;
 
+
+#[cfg(test)]
+mod tests;

@@ -53,15 +53,13 @@ impl Owners {
         ensures err { OnErr result (self.new ≡ self.old) }
     {
         grow_places(&mut self.places, o.node)?;
-        let top = self.top.max(o.id);
-        grow_counts(&mut self.counts, &self.list, top)?;
-        let place = self.list.len();
+        grow_counts(&mut self.counts, &self.list, o.id)?;
         if self.list.push(o).is_err() {
             return Err(NoMemory);
         }
-        self.places[o.node as usize] = place;
+        self.places[o.node as usize] = self.list.len() - 1;
         count_up(&mut self.counts, o.id);
-        self.top = top;
+        self.top = self.top.max(o.id);
         Ok(())
     }
 
@@ -74,10 +72,11 @@ impl Owners {
             return;
         };
         let removed = self.list.swap_remove(place);
-        if let Some(moved) = self.list.get(place) {
-            self.places[moved.node as usize] = place;
-        }
         count_down(&mut self.counts, removed.id);
+        if place < self.list.len() {
+            let moved = self.list[place].node;
+            self.places[moved as usize] = place;
+        }
     }
 
     /// Puts an owner in the place of the one that is its node, which must be there.

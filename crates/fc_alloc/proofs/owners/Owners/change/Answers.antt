@@ -1,0 +1,39 @@
+use Rattle.std.proofs.Common.{◌≡◌, ◌<◌, ◌≤◌, ◌∙◌, ap, arith}
+use Rattle.fc_alloc.specs.Owners.{has_node, with_changed}
+use Rattle.fc_alloc.proofs.PlaceLemmas.{found_place, at_place, places_changed, changed}
+use Rattle.fc_alloc.proofs.CountLemmas.{count_some, count_fits, counts_changed, top_changed}
+use Rattle.fc_alloc.proofs.owners.Owners.change.Goals as goal
+
+pub index-place-requires : goal.index-place-requires
+index-place-requires c =
+    let found = found_place c.self.inside.list.items c.self.inside.places.items c.args.o.node c.self.invariant.placed (rw (← c.self.view_is) at c.requires) in
+    omega (arith, found.0)
+
+pub index-requires : goal.index-requires
+index-requires c =
+    let at = at_place c.self.inside.list.items c.self.inside.places.items c.args.o.node c.index-place.result.now c.self.invariant.placed (rw (← c.self.view_is) at c.requires) c.index-place.ensures in
+    omega (arith, at.0)
+
+pub count_down-requires : goal.count_down-requires
+count_down-requires c room =
+    let at = at_place c.self.inside.list.items c.self.inside.places.items c.args.o.node c.index-place.result.now c.self.invariant.placed (rw (← c.self.view_is) at c.requires) c.index-place.ensures in
+    count_some c.self.inside.list.items c.self.inside.counts.items c.index-place.result.now c.index.result.now c.self.invariant.counted at.0 c.index.ensures (omega (arith, room))
+
+pub index_mut-requires : goal.index_mut-requires
+index_mut-requires c =
+    let at = at_place c.self.inside.list.items c.self.inside.places.items c.args.o.node c.index-place.result.now c.self.invariant.placed (rw (← c.self.view_is) at c.requires) c.index-place.ensures in
+    omega (arith, at.0)
+
+pub invariant_of-self : goal.invariant_of-self
+invariant_of-self c =
+    let at = at_place c.self.inside.list.items c.self.inside.places.items c.args.o.node c.index-place.result.now c.self.invariant.placed (rw (← c.self.view_is) at c.requires) c.index-place.ensures in
+    record {
+      placed = places_changed c.self.inside.list.items c.self.inside.places.items c.index-place.result.now c.args.o c.self.invariant.placed at.1;
+      counted = counts_changed c.self.inside.list.items c.self.inside.counts.items c.count_down.new.counts.items c.count_up.new.counts.items c.index-place.result.now c.index.result.now c.args.o c.self.invariant.counted at.0 c.index.ensures c.count_down.ensures c.count_up.ensures;
+      highest = top_changed c.self.inside.list.items c.self.inside.top c.max-self-inside.result c.index-place.result.now c.args.o c.self.invariant.highest (omega arith) (omega arith);
+    }
+
+pub returns : goal.returns
+returns c =
+    let at = at_place c.self.inside.list.items c.self.inside.places.items c.args.o.node c.index-place.result.now c.self.invariant.placed (rw (← c.self.view_is) at c.requires) c.index-place.ensures in
+    changed c.self.inside.list.items c.self.inside.places.items c.index-place.result.now c.args.o c.self.invariant.placed at.0 at.1 ∙ ap (with_changed c.args.o) c.self.view_is
