@@ -96,9 +96,9 @@ pub any_counted : {X : Type 0} (p : X → Bool) (xs : List X) → nat_lt 0 (coun
 any_counted p [] = refl
 any_counted p (x ∷ xs) =
     ap (nat_lt 0) (sum_by-cons (λ y. cond (p y) 1 0) x xs) ∙ go (p x) (count_by p xs) (list_any p xs) (any_counted p xs) where
-  go : (b : Bool) (n : ℕ) (any : Bool) → nat_lt 0 n ≡ any → nat_lt 0 (cond b 1 0 + n) ≡ (b || any)
-  go true n any is = grind (arith, nat_tests)
-  go false n any is = let plain : 0 + n ≡ n = omega arith in rw plain is
+      go : (b : Bool) (n : ℕ) (any : Bool) → nat_lt 0 n ≡ any → nat_lt 0 (cond b 1 0 + n) ≡ (b || any)
+      go true n any is = grind (arith, nat_tests)
+      go false n any is = let plain : 0 + n ≡ n = omega arith in rw plain is
 
 -- no owner has an identifier above the highest
 pub none_above : (owners : List Owner) (top id : ℕ) → IsTop owners top → top < id → is_id_owned owners id ≡ false
@@ -129,7 +129,7 @@ counts_changed owners counts down up place was o counted inside is fell rose id 
     let middle : id < length down = rw length-set at (rw rose at within) in
     let room : id < length counts = rw length-set at (rw fell at middle) in
     let between : get_or down id 0 ≡ count (remove owners place) id =
-        rw fell (fallen counts (count owners id) (count (remove owners place) id) was.id id room (counted id room) (count_without owners place was id inside is)) in
+    rw fell (fallen counts (count owners id) (count (remove owners place) id) was.id id room (counted id room) (count_without owners place was id inside is)) in
     rw rose (risen down (count (remove owners place) id) (count (set owners place o) id) o.id id middle between (count_changed owners place was o id inside is))
 
 -- the count of a new owner's identifier fits beside the others
@@ -139,7 +139,7 @@ pub count_fits : (owners : List Owner) (counts down : List ℕ) (place : ℕ) (w
 count_fits owners counts down place was id counted inside is fell within =
     let room : id < length counts = rw length-set at (rw fell at within) in
     let between : get_or down id 0 ≡ count (remove owners place) id =
-        rw fell (fallen counts (count owners id) (count (remove owners place) id) was.id id room (counted id room) (count_without owners place was id inside is)) in
+    rw fell (fallen counts (count owners id) (count (remove owners place) id) was.id id room (counted id room) (count_without owners place was id inside is)) in
     let sum = count_without owners place was id inside is in
     let few = count_few owners id in
     omega (arith, between, sum, few)

@@ -10,6 +10,5 @@ pub use fc_device::NoMemory;
 pub use owner::Owner;
 pub use owners::Owners;
 
-
 #[cfg(test)]
 mod tests;

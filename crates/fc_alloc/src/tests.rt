@@ -7,6 +7,7 @@ use std::alloc::Global;
 use std::test::Fail;
 
 // A call, by node and identifier.
+#[derive(Clone, Copy)]
 enum Call {
     Add(u64, u32),
     Remove(u64),
@@ -59,9 +60,7 @@ fn has(owners: &Owners, node: u64) -> bool
 // Makes a call. False where it can't be made or fails.
 fn is_made(owners: &mut Owners, call: &Call) -> bool {
     match call {
-        Call::Add(node, id) => {
-            !has(owners, *node) && owners.add(owner(*node, *id)).is_ok()
-        }
+        Call::Add(node, id) => { !has(owners, *node) && owners.add(owner(*node, *id)).is_ok() }
         Call::Remove(node) => {
             owners.remove(*node);
             true
@@ -85,6 +84,79 @@ fn are_owners(owners: &Owners, want: &[(u64, u32)]) -> bool {
             .zip(want)
             .all(|(o, w)| o.node == w.0 && o.id == w.1)
         && (0..100).all(|id| owners.owned(id) == want.iter().any(|w| w.1 == id))
+}
+
+// The next of a row of numbers that look random.
+fn next_number(n: u32) -> u32 {
+    n.wrapping_mul(1_664_525).wrapping_add(1_013_904_223)
+}
+
+// A call about a node below 8, with an identifier below 96.
+fn call_of(n: u32) -> Call {
+    let node = u64::from(n >> 16 & 7);
+    let id = (n >> 24) % 96;
+    match n >> 20 & 3 {
+        0 => Call::Remove(node),
+        1 => Call::Change(node, id),
+        _ => Call::Add(node, id),
+    }
+}
+
+// Makes the call on a table of identifiers by node. False where it can't be made.
+fn is_noted(ids: &mut [Option<u32>; 8], call: &Call) -> bool {
+    let (node, id) = match call {
+        Call::Add(node, id) | Call::Change(node, id) => (*node, Some(*id)),
+        Call::Remove(node) => (*node, None),
+    };
+    let Some(place) = ids.get_mut(node as usize) else {
+        return false;
+    };
+    let possible = match call {
+        Call::Add(_, _) => place.is_none(),
+        Call::Change(_, _) => place.is_some(),
+        Call::Remove(_) => true,
+    };
+    if possible {
+        *place = id;
+    }
+    possible
+}
+
+// Whether the list has the table's nodes with their identifiers, and no more.
+fn are_noted(owners: &Owners, ids: &[Option<u32>; 8]) -> bool {
+    let list = owners.list();
+    list.len() == ids.iter().filter(|id| id.is_some()).count()
+        && list.iter().all(|o| ids.get(o.node as usize).copied().flatten() == Some(o.id))
+        && (0..100).all(|id| owners.owned(id) == ids.contains(&Some(id)))
+}
+
+#[test]
+fn agrees_with_a_table(rt: HostRuntime) -> Result<(), Fail> {
+    let mut owners = Owners::new(rt.alloc());
+    let mut ids = [None; 8];
+    let mut n = 1;
+    for step in 0..4000 {
+        n = next_number(n);
+        let call = call_of(n);
+        let made = is_made(&mut owners, &call);
+        assert_eq!(rt; made, is_noted(&mut ids, &call));
+        assert!(rt; are_noted(&owners, &ids), "step {step}");
+    }
+    Ok(())
+}
+
+#[test]
+fn refuses_a_node_past_all_memory(rt: HostRuntime) -> Result<(), Fail> {
+    let mut owners = Owners::new(rt.alloc());
+    assert!(rt; is_made(&mut owners, &Call::Add(4, 9)));
+    assert!(rt; !is_made(&mut owners, &Call::Add(u64::MAX, 10)));
+    assert!(rt; !is_made(&mut owners, &Call::Add(1 << 62, 10)));
+    assert!(rt; are_owners(&owners, &[(4, 9)]));
+    assert!(rt; is_made(&mut owners, &Call::Change(4, u32::MAX)));
+    assert!(rt; owners.owned(u32::MAX) && !owners.owned(u32::MAX - 1));
+    assert!(rt; is_made(&mut owners, &Call::Add(5, 9)));
+    assert!(rt; are_owners(&owners, &[(4, u32::MAX), (5, 9)]));
+    Ok(())
 }
 
 #[test]

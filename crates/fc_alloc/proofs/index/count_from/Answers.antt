@@ -28,15 +28,15 @@ loop-owner-preserved c =
             len = omega arith;
             before = λ id below. rw items (get_or-set_other was n id (get_or was n 0 + 1) 0 (λ e. absurd (omega (arith, w.if-from-owner.true))) ∙ c.loop-owner.invariant.before id below);
             counted = λ id above within.
-            rw items (risen was (count (take i c.args.list.now) id) (count (take (i + 1) c.args.list.now) id) n id (omega arith) (c.loop-owner.invariant.counted id above within) (count_more c.args.list.now i id blank c.loop-owner-test.true));
+                rw items (risen was (count (take i c.args.list.now) id) (count (take (i + 1) c.args.list.now) id) n id (omega arith) (c.loop-owner.invariant.counted id above within) (count_more c.args.list.now i id blank c.loop-owner-test.true));
           }
       | else-from-owner w ↦ record {
         len = rw w.counts-is c.loop-owner.invariant.len;
         before = λ id below. rw w.counts-is (c.loop-owner.invariant.before id below);
         counted = λ id above within.
-        let none = one_there n id (λ e. absurd (omega (arith, w.if-from-owner.false))) in
-        let step = count_more c.args.list.now i id blank c.loop-owner-test.true in
-        let so_far = c.loop-owner.invariant.counted id above within in
-        rw w.counts-is (omega (arith, none, step, so_far));
+            let none = one_there n id (λ e. absurd (omega (arith, w.if-from-owner.false))) in
+            let step = count_more c.args.list.now i id blank c.loop-owner-test.true in
+            let so_far = c.loop-owner.invariant.counted id above within in
+            rw w.counts-is (omega (arith, none, step, so_far));
       }
     ]
