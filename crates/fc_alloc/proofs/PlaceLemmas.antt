@@ -111,7 +111,7 @@ pub place_unique : (owners : List Owner) (places : List ℕ) (i j : ℕ) (d e : 
 place_unique owners places i j d e placed first second same =
     sym (placed i d first).1 ∙ (ap (λ n. get_or places n 0) same ∙ (placed j e second).1)
 
--- no two owners are one node
+-- no two owners are of one node
 pub own_nodes : (owners : List Owner) (places : List ℕ) → ArePlaces owners places → HaveOwnNodes owners
 own_nodes owners places placed =
     IsDistinct-from_apart eqb (map (λ (o : Owner). o.node) owners) (λ i j d order within.

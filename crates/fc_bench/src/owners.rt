@@ -72,7 +72,13 @@ pub fn run<R: Print + Clock>(rt: &R, alloc: Global) -> io::Result<()> {
     print_rate(rt, "owners added", u64::from(added), "owners", start)?;
     let start = Instant::now(rt)?;
     let owned = count_owned(&owners);
-    print_rate(rt, "identifiers asked for", u64::from(owned), "identifiers", start)?;
+    print_rate(
+        rt,
+        "identifiers asked for",
+        u64::from(owned),
+        "identifiers",
+        start,
+    )?;
     let start = Instant::now(rt)?;
     let changed = change_all(&mut owners);
     print_rate(rt, "owners changed", u64::from(changed), "owners", start)?;
