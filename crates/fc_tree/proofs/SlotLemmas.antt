@@ -1,5 +1,5 @@
 -- The nodes that slots hold, by their numbers.
-use Rattle.std.proofs.Common.{◌≡◌, ◌<◌, ◌≤◌, ℕ, zero, suc, ◌+◌, Bool, true, false, cond, T, List, [], ◌∷◌, ◌++◌, map, length, refl, sym, ap, subst, ◌∙◌, arith, Some, None, Option, ◌==◌, find, slice_get, slice_set, lt-ltb, eq-eqb, ne_eqb, eqb-true, false-eqb}
+use Rattle.std.proofs.Common.{◌≡◌, ◌<◌, ◌≤◌, ℕ, zero, suc, ◌+◌, Bool, true, false, cond, List, [], ◌∷◌, ◌++◌, map, length, refl, sym, ap, ◌∙◌, arith, Some, None, Option, ◌==◌, find, slice_get, slice_set, lt-ltb, eq-eqb, ne_eqb, eqb-true, false-eqb}
 use Rattle.std.specs.Option.{option_flatten, option_map}
 use Rattle.std.proofs.lemmas.Option.{slice_get-map, slice_get_past}
 use Rattle.std.specs.Ordering.{nat_cmp, eq_by_cmp}

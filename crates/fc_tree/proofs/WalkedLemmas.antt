@@ -1,12 +1,12 @@
 -- What the listings of a sound walk are: of each path there is one object and one listing.
-use Rattle.std.proofs.Common.{◌≡◌, ◌<◌, ◌≤◌, ℕ, zero, suc, ◌+◌, Bool, true, false, cond, List, [], ◌∷◌, ◌++◌, length, refl, sym, ap, subst, ◌∙◌, arith, Some, None, Option, Contains, find, filter, flat_map, slice_get, unwrap_or}
+use Rattle.std.proofs.Common.{◌≡◌, ◌<◌, ◌≤◌, ℕ, zero, suc, Bool, true, false, cond, List, [], ◌∷◌, ◌++◌, length, refl, sym, ap, subst, ◌∙◌, arith, Some, None, Contains, find, filter, flat_map, slice_get, unwrap_or}
 use Rattle.std.proofs.lemmas.Option.{slice_get-get_or, slice_get_within, get_or_from_slice_get}
 use Rattle.fc_names.specs.Names.{Path, is_same_path}
 use Rattle.fc_dirs.specs.declared.Entry.{Entry}
 use Rattle.fc_dirs.specs.Entries.{first_twin}
-use Rattle.fc_dirs.specs.Directory.{Directory, entries_of, directory_size}
-use Rattle.fc_image.specs.Layout.{Layout, dir_form}
-use Rattle.fc_image.specs.Walk.{Object, Listing, Reader, is_directory_object, root_entry}
+use Rattle.fc_dirs.specs.Directory.{Directory, entries_of}
+use Rattle.fc_image.specs.Layout.{Layout}
+use Rattle.fc_image.specs.Walk.{Object, Listing, Reader, is_directory_object}
 use Rattle.fc_image.specs.Objects.{objects_of, listing_at}
 use Rattle.fc_image.specs.Edits.{AreChildren, IsListing, Follows, Apart, IsRoot}
 use Rattle.fc_image.proofs.EditLemmas.{walk_gives, root_first}

@@ -5,10 +5,16 @@
 mod node;
 
 ghost use Rattle.fc_tree.specs.Agree.{NodesLaw};
+ghost use Rattle.fc_tree.specs.Laws.{NumbersLaw};
 
 pub use node::{Body, Found, Node, TreeError};
 
 /// The nodes of a tree tell what the listings say from which they were made.
 pub fn nodes_tell()
     ensures { NodesLaw }
+{}
+
+/// Nodes numbered in the order of a walk's objects hold them.
+pub fn numbered()
+    ensures { NumbersLaw }
 {}
