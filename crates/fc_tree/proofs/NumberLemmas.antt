@@ -2,7 +2,7 @@
 use Rattle.std.proofs.Common.{◌≡◌, ◌<◌, ℕ, zero, suc, ◌+◌, ◌-◌, Bool, true, false, not, ◌&&◌, ◌==◌, List, [], ◌∷◌, ◌++◌, map, length, take, refl, sym, ap, subst, ◌∙◌, arith, length-append, Some, None, Option, Contains, find, slice_get, eq-eqb, ne_eqb, eqb-true, inl, inr}
 use Rattle.std.specs.Option.{option_map, option_and_then}
 use Rattle.std.specs.Ordering.{nat_cmp}
-use Rattle.std.specs.FinMap.{FinMap}
+use Rattle.std.specs.FinMap.{FinMap, get, len-entries}
 use Rattle.std.proofs.lemmas.Option.{slice_get-map, slice_get_within}
 use Rattle.fc_names.specs.Names.{Path, is_same_name, is_same_path}
 use Rattle.fc_names.proofs.FoldOrder.{fold_law}
@@ -13,11 +13,12 @@ use Rattle.fc_image.specs.Walk.{Object, Listing}
 use Rattle.fc_image.specs.Objects.{objects_of, listing_at}
 use Rattle.fc_image.proofs.PathsLemmas.{same_last, itself, unless}
 use Rattle.fc_tree.specs.declared.node.Node.{Node}
-use Rattle.fc_tree.specs.Nodes.{Numbers, nodes_of, child, number_from, number_of, body_of, HasNode, HoldObjects}
+use Rattle.fc_tree.specs.Nodes.{Numbers, numbered_from, nodes_of, child, number_from, number_of, body_of, HasNode, HoldObjects}
 use Rattle.fc_tree.specs.Agree.{InOrder}
 use Rattle.fc_tree.specs.Numbered.{HasBody, HasHolder, IsNodeOf, AreNumbered}
 use Rattle.fc_tree.specs.Laws.{AreSound, NumbersLaw}
-use Rattle.fc_tree.proofs.SlotLemmas.{entries-nodes_of, get-nodes_of_all, len-nodes_of_all, NoneBefore, find_first_node}
+use Rattle.fc_tree.specs.Slots.{slot_at, is_child}
+use Rattle.fc_tree.proofs.SlotLemmas.{get-nodes_of, entries-nodes_of, child_is}
 use Rattle.fc_tree.proofs.WalkedLemmas.{same_place, place_of, element_at, same_some, root, root_path, first_is_root, one_object, child_path, listing_found, no_listing, not_first}
 
 -- ---- names one by one
@@ -78,9 +79,18 @@ three true true false e = absurd (cc)
 not_zero : (n : ℕ) → not (n == 0) ≡ true → n ≡ 0 → ⊥
 not_zero n e is = let zero_test : (n == 0) ≡ true = eq-eqb n 0 is in let turned = ap not zero_test in cc
 
--- the nodes that a directory may hold under a name
-abbrev pub is_child : ℕ → List ℕ → ℕ × Node → Bool
-is_child dir name e = (e.1.holder == dir) && not (e.0 == 0) && is_same_name name e.1.entry.name
+-- ---- where each slot holds a node
+
+full_slot : (nodes : List Node) (n : ℕ) → slot_at (map Some nodes) n ≡ slice_get nodes n
+full_slot nodes n = ap (option_and_then (λ o. o)) (slice_get-map Some nodes n) ∙ flat (slice_get nodes n)
+  where
+    flat : (o : Option Node) → option_and_then (λ s. s) (option_map Some o) ≡ o
+    flat None = refl
+    flat (Some node) = refl
+
+length-numbered_from : (nodes : List Node) (n : ℕ) → length (numbered_from n (map Some nodes)) ≡ length nodes
+length-numbered_from [] n = refl
+length-numbered_from (node ∷ nodes) n = let rest = length-numbered_from nodes (n + 1) in omega arith
 
 -- ---- numbered nodes
 
@@ -103,13 +113,6 @@ module _ (layout : Layout) (listings : List Listing) (nodes : List Node) (room :
       let low = slice_get_within nodes i n is in
       let at = element_at objects i (omega (arith, low, numbered.all)) in
       (at.0, at.1, numbered.each i n at.0 is at.1)
-
-  full_slot : (j : ℕ) (m : Node) → slice_get (map Some nodes) j ≡ Some (Some m) → slice_get nodes j ≡ Some m
-  full_slot j m is = by (slice_get nodes j) (sym (slice_get-map Some nodes j) ∙ is)
-    where
-      by : (o : Option Node) → option_map Some o ≡ Some (Some m) → o ≡ Some m
-      by None e = absurd (cc)
-      by (Some n) e = same_some (Some n) (Some m) e
 
   -- of the nodes of a directory that have an object's name there is one
   one_child : (l : Listing) (o : Object) (i dir : ℕ) → Contains listings l → Contains l.children o → slice_get objects dir ≡ Some l.object → slice_get objects i ≡ Some o
@@ -138,19 +141,14 @@ module _ (layout : Layout) (listings : List Listing) (nodes : List Node) (room :
   child_found : (l : Listing) (o : Object) (i : ℕ) (n : Node) → Contains listings l → Contains l.children o → slice_get objects n.holder ≡ Some l.object
       → slice_get objects i ≡ Some o → slice_get nodes i ≡ Some n → n.entry ≡ o.entry → child (nodes_of tree) n.holder o.entry.name ≡ Some i
   child_found l o i n at held above is is_n same =
-      let place : 0 + i ≡ i = omega arith in
-      let slot : slice_get (map Some nodes) i ≡ Some (Some n) = slice_get-map Some nodes i ∙ ap (option_map Some) is_n in
-      let other_test : not (0 + i == 0) ≡ true = ap not (ne_eqb (0 + i) 0 (λ e. not_first layout listings sound l o i at held is (omega arith))) in
-      let passes : is_child n.holder o.entry.name (0 + i, n) ≡ true = three_hold (n.holder == n.holder) (not (0 + i == 0)) (is_same_name o.entry.name n.entry.name)
+      let test = is_child n.holder o.entry.name in
+      let other_test : not (i == 0) ≡ true = ap not (ne_eqb i 0 (not_first layout listings sound l o i at held is)) in
+      let passes : test (i, n) ≡ true = three_hold (n.holder == n.holder) (not (i == 0)) (is_same_name o.entry.name n.entry.name)
       (eq-eqb n.holder n.holder refl) other_test (ap (λ (e : Entry). is_same_name o.entry.name e.name) same ∙ own_name o.entry.name) in
-      let never : NoneBefore (is_child n.holder o.entry.name) (map Some nodes) 0 i = λ j m low slot_m.
-      unless (is_child n.holder o.entry.name (0 + j, m)) (λ test.
-      let start : 0 + j ≡ j = omega arith in
-      let there = one_child l o i n.holder at held above is j m (full_slot j m slot_m) (ap (λ (k : ℕ). is_child n.holder o.entry.name (k, m)) (sym start) ∙ test) in
-      omega arith) in
-      ap (λ (es : List (ℕ × Node)). option_map (λ e. e.0) (find (is_child n.holder o.entry.name) es)) (entries-nodes_of tree)
-      ∙ ap (λ (x : Option (ℕ × Node)). option_map (λ e. e.0) x) (find_first_node (is_child n.holder o.entry.name) (map Some nodes) 0 i n slot passes never)
-      ∙ ap (λ (k : ℕ). Some k) place
+      sym (child_is tree n.holder i o.entry.name n (full_slot nodes i ∙ is_n) passes (λ j m low slot_m.
+      unless (test (j, m)) (λ passes_m.
+      let there = one_child l o i n.holder at held above is j m (sym (full_slot nodes j) ∙ slot_m) passes_m in
+      omega arith)))
 
   abbrev Known : ℕ → Type 0
   Known long = (i : ℕ) (o : Object) → slice_get objects i ≡ Some o → length o.path ≡ long → number_of (nodes_of tree) o.path ≡ Some i
@@ -216,11 +214,11 @@ module _ (layout : Layout) (listings : List Listing) (nodes : List Node) (room :
         holder_number = n.0.holder;
         at_path = in_order place.0 o place.1;
         at_holder = holder_known place.0 o n.0 place.1 n.2.held;
-        is = get-nodes_of_all nodes room place.0 ∙ n.1 ∙ (λ k. Some (record { holder = n.0.holder; entry = entry k; body = body k }));
+        is = get-nodes_of tree place.0 ∙ full_slot nodes place.0 ∙ n.1 ∙ (λ k. Some (record { holder = n.0.holder; entry = entry k; body = body k }));
       }
 
   hold_objects : HoldObjects (nodes_of tree) listings
-  hold_objects = record { each = has_node; no_more = len-nodes_of_all nodes room ∙ numbered.all }
+  hold_objects = record { each = has_node; no_more = len-entries (nodes_of tree) ∙ ap length (entries-nodes_of tree) ∙ length-numbered_from nodes 0 ∙ numbered.all }
 
 pub numbers_law : NumbersLaw
 numbers_law layout listings nodes room sound numbered =
