@@ -2,3 +2,4 @@ pub mod SlotLemmas
 pub mod ChangedSlotLemmas
 pub mod WalkedLemmas
 pub mod NumberLemmas
+pub mod HeldLemmas
