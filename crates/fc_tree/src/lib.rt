@@ -3,12 +3,32 @@
 #![tactic(auto)]
 
 mod node;
+mod slots;
+mod tree;
 
 ghost use Rattle.fc_tree.specs.Agree.{NodesLaw};
+ghost use Rattle.fc_tree.specs.Counts.{CountsLaw, HolderLaw};
+ghost use Rattle.fc_tree.specs.Laws.{NumbersLaw};
 
 pub use node::{Body, Found, Node, TreeError};
+pub use tree::Tree;
 
 /// The nodes of a tree tell what the listings say from which they were made.
 pub fn nodes_tell()
     ensures { NodesLaw }
+{}
+
+/// Nodes numbered in the order of a walk's objects hold them.
+pub fn numbered()
+    ensures { NumbersLaw }
+{}
+
+/// Nodes that hold the objects of a walk can be counted in place of them.
+pub fn counted()
+    ensures { CountsLaw }
+{}
+
+/// A directory's node says what the directory says, and the node above it has its holder's address.
+pub fn holders()
+    ensures { HolderLaw }
 {}

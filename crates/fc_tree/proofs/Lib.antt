@@ -1,0 +1,5 @@
+pub mod SlotLemmas
+pub mod ChangedSlotLemmas
+pub mod WalkedLemmas
+pub mod NumberLemmas
+pub mod HeldLemmas
