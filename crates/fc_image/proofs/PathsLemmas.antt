@@ -34,7 +34,7 @@ one_if : Bool → ℕ
 one_if true = 1
 one_if false = 0
 
-pub many : {X : Type 0} → (X → Bool) → List X → ℕ
+unfoldable pub many : {X : Type 0} → (X → Bool) → List X → ℕ
 many t [] = 0
 many t (x ∷ xs) = cond (t x) 1 0 + many t xs
 

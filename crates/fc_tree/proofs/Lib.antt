@@ -1,0 +1,3 @@
+mod MemberLemmas
+mod SoundLemmas
+mod TreeLemmas
