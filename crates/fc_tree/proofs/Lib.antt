@@ -1,3 +1,4 @@
 mod MemberLemmas
 mod SoundLemmas
 mod TreeLemmas
+mod PlaceLemmas
