@@ -2,3 +2,5 @@ mod MemberLemmas
 mod SoundLemmas
 mod TreeLemmas
 mod PlaceLemmas
+mod FindLemmas
+mod ChildrenLemmas

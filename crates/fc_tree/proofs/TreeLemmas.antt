@@ -46,7 +46,7 @@ module _ {K X : Type 0} (R : K → K → Ordering) where
 -- ---- the tree
 
 module _ (image : List ℕ) (layout : Layout) (listings : List Listing) where
-  tree_get : (q : Path) → get (tree_of image layout listings) q ≡ value_at key_cmp q (map (tree_entry image layout) (objects_of listings))
+  pub tree_get : (q : Path) → get (tree_of image layout listings) q ≡ value_at key_cmp q (map (tree_entry image layout) (objects_of listings))
   unfolding tree_of
   tree_get q = get-from_entries key_total (map (tree_entry image layout) (objects_of listings)) q
 
