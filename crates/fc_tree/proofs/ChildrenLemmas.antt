@@ -1,8 +1,7 @@
 -- What a directory holds, in the order of folded names, is what the tree lists there.
 use Rattle.std.proofs.Common.{◌≡◌, ◌≤◌, ⊎_elim, ℕ, ◌+◌, Bool, true, false, cond, T, List, [], ◌∷◌, ◌++◌, map, length, take, refl, sym, ap, ap₂, subst, ◌∙◌, arith, Option, Some, None, Ordering, Less, Equal, Greater, is_eq, is_lt, is_le, eqb-true, eq-eqb, nat_cmp}
-use Rattle.std.specs.Prelude.{Contains, IsPermutation, ◌&&◌, ◌==◌, bytes_eq}
-use Rattle.std.specs.List.{starts_with}
-use Rattle.std.specs.Ordering.{eq_by_cmp, ordering_then}
+use Rattle.std.specs.Prelude.{Contains, IsPermutation, ◌&&◌, ◌==◌}
+use Rattle.std.specs.Ordering.{ordering_then}
 use Rattle.std.specs.Cmp.{nat_cmp_total, tied_itself, first_so, second_so}
 use Rattle.std.specs.Cmp.Lexicographic.{slice_cmp, lists_total, pointwise_decides, bytes_decides}
 use Rattle.std.specs.FinMap.{get-entries, entries, entries_sorted, find as value_at, is_sorted}
@@ -11,14 +10,13 @@ use Rattle.std.proofs.lemmas.List.{length-map, length_push, take_at}
 use Rattle.std.proofs.lemmas.List.Sorted.{Contains-permutation, IsPermutation-sym}
 use Rattle.fc_names.specs.Names.{Path, folded, folded_path, key_cmp, name_cmp, is_same_name, is_same_path}
 use Rattle.fc_model.specs.Tree.{Node, children, is_prefix}
-use Rattle.fc_dirs.specs.declared.Entry.{Entry}
 use Rattle.fc_dirs.specs.Directory.{entries_of}
 use Rattle.fc_image.specs.Layout.{Layout}
 use Rattle.fc_image.specs.Walk.{Object, Listing}
 use Rattle.fc_image.specs.Objects.{objects_of, node_of, tree_entry, tree_of}
-use Rattle.fc_image.proofs.PathsLemmas.{many, has_that, names_once, same_equal}
+use Rattle.fc_image.proofs.PathsLemmas.{many, has_that, names_once}
 use Rattle.fc_tree.specs.Laws.{Rise, ChildrenLaw}
-use Rattle.fc_tree.proofs.MemberLemmas.{contains_here, contains_later, from_map, in_map, some_many, many_permuted, many_mapped}
+use Rattle.fc_tree.proofs.MemberLemmas.{from_map, in_map, many_permuted, many_mapped}
 use Rattle.fc_tree.proofs.SoundLemmas.{key_total, key_exact, folds_alike, same_by_folds, fold_pushed, Walked, walked_of, child_path, children_stored, child_object, root_or_child, same_object, same_listing}
 use Rattle.fc_tree.proofs.TreeLemmas.{value_is, no_value, tree_get}
 

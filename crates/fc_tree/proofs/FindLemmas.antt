@@ -1,6 +1,6 @@
 -- Paths lead among nodes as in the tree of the image that they stand for.
 use Rattle.std.proofs.Common.{◌≡◌, ℕ, Bool, true, false, List, [], ◌∷◌, ◌++◌, length, refl, sym, ap, subst, ◌∙◌, append-nil, append_assoc, Option, Some, None, nat_cmp, unwrap_or, if◌then◌else◌}
-use Rattle.std.specs.Prelude.{Contains, is_some, option_map, Result, Ok, Err}
+use Rattle.std.specs.Prelude.{Contains, is_some, option_map, Result, Err}
 use Rattle.std.specs.Option.{option_and_then, option_map_or}
 use Rattle.std.specs.FinMap.{FinMap, get}
 use Rattle.fc_names.specs.declared.refusal.Refusal.{Refusal}
@@ -12,7 +12,6 @@ use Rattle.fc_image.specs.Layout.{Layout}
 use Rattle.fc_image.specs.Walk.{Object, Listing, is_directory_object, object_bytes}
 use Rattle.fc_image.specs.Objects.{objects_of, node_of, tree_of}
 use Rattle.fc_tree.specs.declared.node.Node.{Node}
-use Rattle.fc_tree.specs.declared.node.Found.{Found}
 use Rattle.fc_tree.specs.declared.node.Found.TheVariants as founds
 use Rattle.fc_tree.specs.Nodes.{child, number_of, found_from, is_directory_node, HoldObjects}
 use Rattle.fc_tree.specs.Laws.{AreAlike, FindLaw}
@@ -110,9 +109,9 @@ module _ (image : List ℕ) (layout : Layout) (listings : List Listing) (nodes :
     where
       by : (d : Bool) (next : Option ℕ) → child nodes at name ≡ next
           → ((p : Object) (n : ℕ) → Contains (objects_of listings) p → is_same_path (seen ++ name ∷ []) p.path ≡ true → number_of nodes p.path ≡ Some n
-              → AreAlike nodes image layout listings ((seen ++ name ∷ []) ++ names) (found_from nodes n names) (found_below tree (seen ++ name ∷ []) names))
+          → AreAlike nodes image layout listings ((seen ++ name ∷ []) ++ names) (found_from nodes n names) (found_below tree (seen ++ name ∷ []) names))
           → AreAlike nodes image layout listings (seen ++ name ∷ names) (if d then option_map_or (λ n. found_from nodes n names) next founds.Absent else founds.NotDirectory)
-              (if is_directory_body (if d then ModelBody.Directory else ModelBody.File (object_bytes image layout o)) then found_below tree (seen ++ name ∷ []) names else Err refusals.NotDirectory)
+          (if is_directory_body (if d then ModelBody.Directory else ModelBody.File (object_bytes image layout o)) then found_below tree (seen ++ name ∷ []) names else Err refusals.NotDirectory)
       by false next h more = tt
       by true None h more =
           subst (λ (r : Result ModelNode Refusal). AreAlike nodes image layout listings (seen ++ name ∷ names) founds.Absent r)

@@ -1,20 +1,20 @@
 -- Where paths lead among numbered nodes, and that each node is an object's.
-use Rattle.std.proofs.Common.{◌≡◌, ◌≤◌, ◌<◌, ◌⊎◌, inl, inr, ⊎_elim, ℕ, zero, suc, ◌+◌, ◌-◌, Bool, true, false, cond, not, T, List, [], ◌∷◌, ◌++◌, map, length, refl, sym, ap, ap₂, subst, ◌∙◌, arith, Option, Some, None, Ordering, Less, Equal, Greater, is_eq, is_lt, eqb-true, eq-eqb, nat_cmp}
+use Rattle.std.proofs.Common.{◌≡◌, ◌≤◌, ◌⊎◌, inl, inr, ⊎_elim, ℕ, zero, suc, ◌+◌, ◌-◌, Bool, true, false, cond, not, T, List, [], ◌∷◌, ◌++◌, length, refl, sym, ap, ap₂, subst, ◌∙◌, arith, Option, Some, None, Ordering, Less, Equal, Greater, is_eq, is_lt, eqb-true, eq-eqb, nat_cmp}
 use Rattle.std.specs.Prelude.{Contains, ◌&&◌, ◌==◌, is_some, find}
 use Rattle.std.specs.Option.{option_map, option_and_then}
 use Rattle.std.specs.Ordering.{eq_by_cmp, ordering_reverse}
 use Rattle.std.specs.Cmp.{IsTotalOrder, nat_cmp_total, tied_itself, first_so, second_so}
 use Rattle.std.specs.Cmp.Lexicographic.{slice_cmp}
-use Rattle.std.specs.FinMap.{FinMap, get, get-entries, get-empty, get-remove, len, len-remove, empty, empty_of_len, remove, entries, entries_sorted, find as value_at, is_sorted, nat_cmp-IsAntisymmetric}
+use Rattle.std.specs.FinMap.{FinMap, get, get-entries, get-empty, get-remove, len, len-remove, empty_of_len, remove, entries, entries_sorted, find as value_at, is_sorted, nat_cmp-IsAntisymmetric}
 use Rattle.std.specs.FinMap.Entries.{below_all}
 use Rattle.std.proofs.lemmas.Bool.{cases_eq}
 use Rattle.fc_names.specs.Names.{Path, folded, folded_path, is_same_name, is_same_path}
 use Rattle.fc_image.specs.Walk.{Object}
-use Rattle.fc_image.proofs.PathsLemmas.{many, is_at, same_equal, Cut, cut, itself, unless}
+use Rattle.fc_image.proofs.PathsLemmas.{many, is_at, same_equal, cut, itself, unless}
 use Rattle.fc_tree.specs.declared.node.Node.{Node}
 use Rattle.fc_tree.specs.Nodes.{child, number_from, number_of}
 use Rattle.fc_tree.proofs.MemberLemmas.{contains_here, contains_later, contains_cases, no_element, some_many}
-use Rattle.fc_tree.proofs.SoundLemmas.{name_folds_alike, folds_alike, same_by_folds, fold_pushed}
+use Rattle.fc_tree.proofs.SoundLemmas.{name_folds_alike, fold_pushed}
 
 -- ---- by folding
 
@@ -56,7 +56,7 @@ number_pushed nodes at (first ∷ path) name = by (child nodes at first) (λ nex
   where
     by : (o : Option ℕ) → ((next : ℕ) → number_from nodes next (path ++ name ∷ []) ≡ option_and_then (λ dir. child nodes dir name) (number_from nodes next path))
         → option_and_then (λ next. number_from nodes next (path ++ name ∷ [])) o
-            ≡ option_and_then (λ dir. child nodes dir name) (option_and_then (λ next. number_from nodes next path) o)
+        ≡ option_and_then (λ dir. child nodes dir name) (option_and_then (λ next. number_from nodes next path) o)
     by None more = refl
     by (Some next) more = more next
 

@@ -1,9 +1,8 @@
 -- What stands in the tree of an image: at the path of each object its node, and nothing else.
-use Rattle.std.proofs.Common.{◌≡◌, ◌⊎◌, ⊎_elim, Bool, true, false, cond, T, List, [], ◌∷◌, map, refl, sym, ap, subst, ◌∙◌, Option, Some, None, Ordering, Equal, is_eq, is_lt, ℕ}
-use Rattle.std.specs.Prelude.{Contains, ◌&&◌}
+use Rattle.std.proofs.Common.{◌≡◌, ⊎_elim, Bool, true, false, cond, List, [], ◌∷◌, map, refl, sym, ap, ◌∙◌, Option, Some, None, Ordering, Equal, is_eq, ℕ}
+use Rattle.std.specs.Prelude.{Contains}
 use Rattle.std.specs.Ordering.{eq_by_cmp}
-use Rattle.std.specs.Cmp.{IsTotalOrder}
-use Rattle.std.specs.FinMap.{get, get-from_entries, find as value_at, is_sorted}
+use Rattle.std.specs.FinMap.{get, get-from_entries, find as value_at}
 use Rattle.fc_names.specs.Names.{Path, folded_path, key_cmp, is_same_path}
 use Rattle.fc_model.specs.Tree.{Node, node_at}
 use Rattle.fc_image.specs.Layout.{Layout}
@@ -11,7 +10,7 @@ use Rattle.fc_image.specs.Walk.{Object, Listing}
 use Rattle.fc_image.specs.Objects.{objects_of, node_of, tree_entry, tree_of}
 use Rattle.fc_image.proofs.PathsLemmas.{same_equal}
 use Rattle.fc_tree.proofs.MemberLemmas.{contains_here, contains_later, contains_cases, no_element, from_map, in_map}
-use Rattle.fc_tree.proofs.SoundLemmas.{key_total, folds_alike, same_by_folds, Walked, same_object}
+use Rattle.fc_tree.proofs.SoundLemmas.{key_total, Walked, same_object}
 
 -- ---- entries under an order
 
