@@ -1,3 +1,7 @@
+pub mod SlotLemmas
+pub mod ChangedSlotLemmas
+pub mod WalkedLemmas
+pub mod NumberLemmas
 mod MemberLemmas
 mod SoundLemmas
 mod TreeLemmas

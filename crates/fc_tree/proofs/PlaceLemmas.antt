@@ -13,6 +13,7 @@ use Rattle.fc_image.specs.Walk.{Object}
 use Rattle.fc_image.proofs.PathsLemmas.{many, is_at, same_equal, cut, itself, unless}
 use Rattle.fc_tree.specs.declared.node.Node.{Node}
 use Rattle.fc_tree.specs.Nodes.{child, number_from, number_of}
+use Rattle.fc_tree.proofs.NumberLemmas.{number_from-push}
 use Rattle.fc_tree.proofs.MemberLemmas.{contains_here, contains_later, contains_cases, no_element, some_many}
 use Rattle.fc_tree.proofs.SoundLemmas.{name_folds_alike, fold_pushed}
 
@@ -42,23 +43,6 @@ same_number nodes p q e = number_folds nodes 0 p ∙ ap (number_by nodes 0) e �
 
 pub same_child : (nodes : FinMap nat_cmp Node) (dir : ℕ) (a b : List ℕ) → folded a ≡ folded b → child nodes dir a ≡ child nodes dir b
 same_child nodes dir a b e = ap (child_by nodes dir) e
-
--- ---- the last step of a path
-
-and_then_some : (o : Option ℕ) → o ≡ option_and_then (λ n. Some n) o
-and_then_some None = refl
-and_then_some (Some n) = refl
-
-pub number_pushed : (nodes : FinMap nat_cmp Node) (at : ℕ) (path : Path) (name : List ℕ)
-    → number_from nodes at (path ++ name ∷ []) ≡ option_and_then (λ dir. child nodes dir name) (number_from nodes at path)
-number_pushed nodes at [] name = sym (and_then_some (child nodes at name))
-number_pushed nodes at (first ∷ path) name = by (child nodes at first) (λ next. number_pushed nodes next path name)
-  where
-    by : (o : Option ℕ) → ((next : ℕ) → number_from nodes next (path ++ name ∷ []) ≡ option_and_then (λ dir. child nodes dir name) (number_from nodes next path))
-        → option_and_then (λ next. number_from nodes next (path ++ name ∷ [])) o
-        ≡ option_and_then (λ dir. child nodes dir name) (option_and_then (λ next. number_from nodes next path) o)
-    by None more = refl
-    by (Some next) more = more next
 
 -- ---- what a map holds
 
@@ -145,7 +129,7 @@ pub record LastStep (nodes : FinMap nat_cmp Node) (path : Path) (name : List ℕ
   pub step : child nodes dir name ≡ Some n
 
 pub last_step : (nodes : FinMap nat_cmp Node) (path : Path) (name : List ℕ) (n : ℕ) → number_of nodes (path ++ name ∷ []) ≡ Some n → LastStep nodes path name n
-last_step nodes path name n h = by (number_of nodes path) refl (sym (number_pushed nodes 0 path name) ∙ h)
+last_step nodes path name n h = by (number_of nodes path) refl (sym (number_from-push nodes 0 path name) ∙ h)
   where
     by : (o : Option ℕ) → number_of nodes path ≡ o → option_and_then (λ dir. child nodes dir name) o ≡ Some n → LastStep nodes path name n
     by None f g = absurd (cc)

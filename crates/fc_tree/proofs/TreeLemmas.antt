@@ -9,8 +9,9 @@ use Rattle.fc_image.specs.Layout.{Layout}
 use Rattle.fc_image.specs.Walk.{Object, Listing}
 use Rattle.fc_image.specs.Objects.{objects_of, node_of, tree_entry, tree_of}
 use Rattle.fc_image.proofs.PathsLemmas.{same_equal}
+use Rattle.fc_tree.specs.Laws.{AreSound}
 use Rattle.fc_tree.proofs.MemberLemmas.{contains_here, contains_later, contains_cases, no_element, from_map, in_map}
-use Rattle.fc_tree.proofs.SoundLemmas.{key_total, Walked, same_object}
+use Rattle.fc_tree.proofs.SoundLemmas.{key_total, same_object}
 
 -- ---- entries under an order
 
@@ -65,13 +66,13 @@ module _ (image : List ℕ) (layout : Layout) (listings : List Listing) where
       (in_map (tree_entry image layout) (objects_of listings) o at) (same_equal (key_cmp (folded_path path) (folded_path o.path)) same)
 
   -- at each object's path stands its node
-  pub node_of_object : Walked listings → (path : Path) (o : Object) → Contains (objects_of listings) o → is_same_path path o.path ≡ true
+  pub node_of_object : AreSound layout listings → (path : Path) (o : Object) → Contains (objects_of listings) o → is_same_path path o.path ≡ true
       → node_at (tree_of image layout listings) path ≡ Some (node_of image layout o)
-  node_of_object w path o at same = by (node_at (tree_of image layout listings) path) refl
+  node_of_object sound path o at same = by (node_at (tree_of image layout listings) path) refl
     where
       by : (n : Option Node) → node_at (tree_of image layout listings) path ≡ n → n ≡ Some (node_of image layout o)
       by None h = absurd (no_object path o h at same)
       by (Some node) h =
           let found = object_of_node path node h in
-          let one = same_object listings w path found.0 o found.1 at found.2 same in
+          let one = same_object layout listings sound path found.0 o found.1 at found.2 same in
           ap (λ (m : Node). let s : Option Node = Some m in s) (found.3 ∙ ap (node_of image layout) one)
