@@ -2,7 +2,7 @@
 use Rattle.std.proofs.Common.{◌≡◌, ◌≤◌, ◌⊎◌, inl, inr, ⊎_elim, ℕ, zero, suc, ◌+◌, Bool, true, cond, List, [], ◌∷◌, map, refl, sym, ap, subst, ◌∙◌, arith}
 use Rattle.std.specs.Prelude.{Contains, IsPermutation, sum_by, slice_get}
 use Rattle.std.specs.List.{flat_map}
-use Rattle.std.proofs.lemmas.List.Elements.{Contains-append_cases, Contains-append_left, Contains-append_right}
+use Rattle.std.proofs.lemmas.List.Elements.{Contains-append_cases}
 use Rattle.std.proofs.lemmas.List.Sorted.{sum_by-IsPermutation}
 use Rattle.std.proofs.lemmas.List.Sums.{sum_by-cons}
 use Rattle.fc_image.proofs.PathsLemmas.{many, only_one}
@@ -40,13 +40,6 @@ from_flat f [] y at = absurd (no_element y at)
 from_flat f (x ∷ xs) y at =
     ⊎_elim (λ here. (x, contains_here x xs, here)) (λ later. let r = from_flat f xs y later in (r.0, contains_later x r.0 xs r.1, r.2))
     (Contains-append_cases (f x) (flat_map f xs) y at)
-
-pub in_flat : {X Y : Type 0} (f : X → List Y) (xs : List X) (x : X) (y : Y) → Contains xs x → Contains (f x) y → Contains (flat_map f xs) y
-in_flat f [] x y at here = absurd (no_element x at)
-in_flat f (z ∷ xs) x y at here =
-    ⊎_elim (λ e. Contains-append_left (f z) (flat_map f xs) y (subst (λ v. Contains (f v) y) (sym e) here))
-    (λ later. Contains-append_right (f z) (flat_map f xs) y (in_flat f xs x y later here))
-    (contains_cases z x xs at)
 
 -- ---- how many pass
 

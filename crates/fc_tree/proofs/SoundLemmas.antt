@@ -1,25 +1,22 @@
 -- The objects of a sound walk: what their paths tell of each other.
-use Rattle.std.proofs.Common.{◌≡◌, ◌≤◌, ◌⊎◌, inl, inr, ⊎_elim, ℕ, ◌+◌, true, List, [], ◌∷◌, ◌++◌, map, length, refl, sym, ap, ap₂, subst, ◌∙◌, arith, None, is_eq}
+use Rattle.std.proofs.Common.{◌≡◌, ◌⊎◌, inl, inr, ⊎_elim, ℕ, true, List, [], ◌∷◌, ◌++◌, map, refl, ap, ap₂, subst, ◌∙◌, is_eq}
 use Rattle.std.specs.Prelude.{Contains, slice_get}
 use Rattle.std.specs.List.{flat_map}
 use Rattle.std.specs.Cmp.{IsTotalOrder, nat_cmp_total}
 use Rattle.std.specs.Cmp.Lexicographic.{lists_total}
 use Rattle.std.specs.FinMap.{IsAntisymmetric, slice_cmp-IsAntisymmetric, nat_cmp-IsAntisymmetric}
 use Rattle.std.proofs.lemmas.List.{map_push}
-use Rattle.fc_names.specs.Names.{Path, folded, folded_path, key_cmp, is_directory, is_same_name, is_same_path, name_cmp}
+use Rattle.fc_names.specs.Names.{Path, folded, folded_path, key_cmp, is_same_name, is_same_path, name_cmp}
 use Rattle.fc_dirs.specs.declared.Entry.{Entry}
-use Rattle.fc_dirs.specs.Entries.{first_twin}
-use Rattle.fc_dirs.specs.Directory.{Directory, entries_of}
+use Rattle.fc_dirs.specs.Directory.{entries_of}
 use Rattle.fc_image.specs.Layout.{Layout}
-use Rattle.fc_image.specs.Walk.{Object, Listing, Reader, is_directory_object}
+use Rattle.fc_image.specs.Walk.{Object, Listing}
 use Rattle.fc_image.specs.Objects.{objects_of}
-use Rattle.fc_image.specs.Edits.{AreChildren, Follows, IsListing}
-use Rattle.fc_image.proofs.EditLemmas.{walk_gives, root_first}
-use Rattle.fc_image.proofs.PathsLemmas.{many, many-append, is_at, NoTwins, once, listed_few, same_equal, itself}
-use Rattle.fc_tree.specs.Agree.{IsDirectory}
+use Rattle.fc_image.specs.Edits.{AreChildren}
+use Rattle.fc_image.proofs.PathsLemmas.{is_at, same_equal, itself}
 use Rattle.fc_tree.specs.Laws.{AreSound}
 use Rattle.fc_tree.proofs.WalkedLemmas.{same_place, place_of, contained, follows_each, given, root, root_and_held, first_is_root, few_objects, one_listing}
-use Rattle.fc_tree.proofs.MemberLemmas.{contains_here, contains_later, contains_cases, no_element, from_flat, in_flat, one_passes}
+use Rattle.fc_tree.proofs.MemberLemmas.{contains_cases, from_flat, one_passes}
 
 -- ---- paths by folding
 
