@@ -2,9 +2,10 @@ pub mod SlotLemmas
 pub mod ChangedSlotLemmas
 pub mod WalkedLemmas
 pub mod NumberLemmas
-mod MemberLemmas
-mod SoundLemmas
-mod TreeLemmas
-mod PlaceLemmas
-mod FindLemmas
-mod ChildrenLemmas
+pub mod MemberLemmas
+pub mod SoundLemmas
+pub mod TreeLemmas
+pub mod PlaceLemmas
+pub mod FindLemmas
+pub mod ChildrenLemmas
+pub mod SortedLemmas
