@@ -15,7 +15,7 @@ use Rattle.fc_tree.specs.declared.node.Node.{Node}
 use Rattle.fc_tree.specs.Nodes.{child, number_from, number_of}
 use Rattle.fc_tree.proofs.WalkedLemmas.{same_some}
 use Rattle.fc_tree.proofs.NumberLemmas.{number_from-push}
-use Rattle.fc_tree.proofs.MemberLemmas.{contains_here, contains_later, contains_cases, no_element, some_many}
+use Rattle.fc_tree.proofs.MemberLemmas.{contains_here, contains_later, contains_cases, no_element, found_passes, some_many}
 use Rattle.fc_tree.proofs.SoundLemmas.{name_folds_alike, fold_pushed}
 
 -- ---- by folding
@@ -70,15 +70,6 @@ module _ {K X : Type 0} {R : K → K → Ordering} (o : IsTotalOrder R) where
 
   pub entry_there : (m : FinMap R X) (e : K × X) → Contains (entries m) e → get m e.0 ≡ Some e.1
   entry_there m e at = get-entries m e.0 ∙ value_there (entries m) e (so (is_sorted R (entries m)) (entries_sorted m)) at
-
--- the first element that passes is one
-found_passes : {X : Type 0} (t : X → Bool) (xs : List X) (x : X) → find t xs ≡ Some x → Contains xs x × (t x ≡ true)
-found_passes t [] x h = absurd (cc)
-found_passes {X} t (y ∷ xs) x h = by (t y) refl h (found_passes t xs x)
-  where
-    by : (b : Bool) → t y ≡ b → cond b (Some y) (find t xs) ≡ Some x → (find t xs ≡ Some x → Contains xs x × (t x ≡ true)) → Contains (y ∷ xs) x × (t x ≡ true)
-    by true e g more = let is = same_some y x g in (subst (λ (z : X). Contains (y ∷ xs) z) is (contains_here y xs), subst (λ (z : X). t z ≡ true) is e)
-    by false e g more = let r = more g in (contains_later y x xs r.0, r.1)
 
 -- ---- a step to a node
 

@@ -1,5 +1,5 @@
 -- What is told of a directory's objects, sorted by folded names, stands in the order in which the tree lists them.
-use Rattle.std.proofs.Common.{◌≡◌, ◌<◌, ℕ, zero, suc, ◌+◌, true, false, Bool, List, [], ◌∷◌, map, length, set, get_or, refl, sym, ap, ap₂, subst, ◌∙◌, arith, Ordering, Less, Equal, Greater, is_lt, is_le, nat_cmp}
+use Rattle.std.proofs.Common.{◌≡◌, ℕ, zero, suc, ◌+◌, true, false, List, [], ◌∷◌, map, length, set, get_or, refl, sym, ap, ap₂, subst, ◌∙◌, arith, Ordering, Less, Equal, Greater, is_lt, is_le}
 use Rattle.std.specs.Prelude.{Contains, IsPermutation, IsSortedByKey, swap}
 use Rattle.std.specs.List.Sorted.{apply_swaps, SwapsInRange}
 use Rattle.std.specs.Ordering.{ordering_reverse}
@@ -36,12 +36,11 @@ module _ {X Y : Type 0} (f : X → Y) where
 
   -- is the map of a permutation
   pub lifted : (xs : List X) (ys : List Y) → IsPermutation (map f xs) ys → (zs : List X) × IsPermutation xs zs × (map f zs ≡ ys)
-  lifted xs ys p =
-      (
-        apply_swaps xs p.moves,
-        record { moves = p.moves; below = subst (λ (n : ℕ). SwapsInRange n p.moves) (length-map xs f) p.below; is = refl },
-        map_swaps xs p.moves ∙ sym p.is,
-      )
+  lifted xs ys p = (
+    apply_swaps xs p.moves,
+    record { moves = p.moves; below = subst (λ (n : ℕ). SwapsInRange n p.moves) (length-map xs f) p.below; is = refl },
+    map_swaps xs p.moves ∙ sym p.is,
+  )
 
 -- ---- sorted names rise
 
@@ -65,11 +64,10 @@ sorted_later name x xs s k d low high =
 names_rise : {X : Type 0} (name : X → List ℕ) (node : X → Node) (same : (x : X) → name x ≡ (node x).name) (xs : List X) → ByName name xs → Rise (map node xs)
 names_rise name node same [] s = tt
 names_rise name node same (x ∷ []) s = tt
-names_rise name node same (x ∷ y ∷ xs) s =
-    (
-      ap₂ (λ (a b : List ℕ). is_le (name_cmp a b)) (sym (same x)) (sym (same y)) ∙ rises (name x) (name y) (s 0 x (omega arith) (omega arith)),
-      names_rise name node same (y ∷ xs) (sorted_later name x (y ∷ xs) s),
-    )
+names_rise name node same (x ∷ y ∷ xs) s = (
+  ap₂ (λ (a b : List ℕ). is_le (name_cmp a b)) (sym (same x)) (sym (same y)) ∙ rises (name x) (name y) (s 0 x (omega arith) (omega arith)),
+  names_rise name node same (y ∷ xs) (sorted_later name x (y ∷ xs) s),
+)
 
 sorted_before : {X Y : Type 0} (f : X → Y) (name : Y → List ℕ) (xs : List X) → ByName name (map f xs) → ByName (λ x. name (f x)) xs
 sorted_before f name xs s k d low high =
@@ -83,11 +81,10 @@ pub listed_by : {X : Type 0} (tell : Object → X) (name : X → List ℕ) → (
     → (image : List ℕ) (layout : Layout) (listings : List Listing) (l : Listing) (path : Path) (told : List X)
     → AreSound layout listings → Contains listings l → is_same_path path l.object.path ≡ true → IsPermutation (map tell l.children) told → ByName name told
     → (objects : List Object) × IsPermutation l.children objects × (map tell objects ≡ told)
-        × (map (λ e. e.1) (children (tree_of image layout listings) path) ≡ map (node_of image layout) objects)
+    × (map (λ e. e.1) (children (tree_of image layout listings) path) ≡ map (node_of image layout) objects)
 listed_by tell name named image layout listings l path told sound at same all sorted =
     let objects = lifted tell l.children told all in
-    let by_name = sorted_before tell name objects.0 (subst (ByName name) (sym objects.2) sorted) in
-    (
+    let by_name = sorted_before tell name objects.0 (subst (ByName name) (sym objects.2) sorted) in (
       objects.0,
       objects.1,
       objects.2,
