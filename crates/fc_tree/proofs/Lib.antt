@@ -2,6 +2,7 @@ pub mod SlotLemmas
 pub mod ChangedSlotLemmas
 pub mod WalkedLemmas
 pub mod NumberLemmas
+pub mod HeldLemmas
 pub mod MemberLemmas
 pub mod SoundLemmas
 pub mod TreeLemmas
