@@ -23,11 +23,11 @@ use Rattle.fc_tree.proofs.PlaceLemmas.{same_number, child_stands, one_path, each
 
 -- ---- one step in the tree
 
-below_some : (t : Tree) (seen : Path) (name : List ℕ) (names : Path) (node : ModelNode) → node_at t seen ≡ Some node
+pub below_some : (t : Tree) (seen : Path) (name : List ℕ) (names : Path) (node : ModelNode) → node_at t seen ≡ Some node
     → found_below t seen (name ∷ names) ≡ (if is_directory_body node.body then found_below t (seen ++ name ∷ []) names else Err refusals.NotDirectory)
 below_some t seen name names node e = rw e refl
 
-below_none : (t : Tree) (seen names : Path) → node_at t seen ≡ None → found_below t seen names ≡ Err refusals.NotFound
+pub below_none : (t : Tree) (seen names : Path) → node_at t seen ≡ None → found_below t seen names ≡ Err refusals.NotFound
 below_none t seen [] e = ap node_or_absent e
 below_none t seen (name ∷ names) e = rw e refl
 
@@ -45,7 +45,7 @@ module _ (layout : Layout) (listings : List Listing) (nodes : FinMap nat_cmp Nod
       let h = held.each o at in
       ap (λ k. option_map (λ m. m.entry) (get nodes k)) (same_some n h.number (sym e ∙ h.at_path)) ∙ ap (option_map (λ m. m.entry)) h.is
 
-  directory_at : (o : Object) (n : ℕ) → Contains (objects_of listings) o → number_of nodes o.path ≡ Some n → is_directory_node nodes n ≡ is_directory_object o
+  pub directory_at : (o : Object) (n : ℕ) → Contains (objects_of listings) o → number_of nodes o.path ≡ Some n → is_directory_node nodes n ≡ is_directory_object o
   directory_at o n at e =
       let h = held.each o at in
       ap (is_directory_node nodes) (same_some n h.number (sym e ∙ h.at_path)) ∙ ap (λ r. option_map_or (λ m. is_directory m.entry.attrs) r false) h.is
@@ -69,7 +69,7 @@ module _ (layout : Layout) (listings : List Listing) (nodes : FinMap nat_cmp Nod
   next_number o seen name at same e =
       number_from-push nodes 0 seen name ∙ ap (option_and_then (λ dir. child nodes dir name)) (same_number nodes seen o.path (folds_alike seen o.path same) ∙ e)
 
-  stepped : (o : Object) (seen : Path) (name : List ℕ) (at n : ℕ) → is_same_path seen o.path ≡ true → number_of nodes o.path ≡ Some at → child nodes at name ≡ Some n
+  pub stepped : (o : Object) (seen : Path) (name : List ℕ) (at n : ℕ) → is_same_path seen o.path ≡ true → number_of nodes o.path ≡ Some at → child nodes at name ≡ Some n
       → (p : Object) × Contains (objects_of listings) p × (is_same_path (seen ++ name ∷ []) p.path ≡ true) × (number_of nodes p.path ≡ Some n)
   stepped o seen name at n same e h =
       let s = child_stands nodes at name n h in
@@ -80,7 +80,7 @@ module _ (image : List ℕ) (layout : Layout) (listings : List Listing) (nodes :
   abbrev tree : Tree
   tree = tree_of image layout listings
 
-  nothing_there : (o : Object) (seen : Path) (name : List ℕ) (at : ℕ) → is_same_path seen o.path ≡ true → number_of nodes o.path ≡ Some at → child nodes at name ≡ None
+  pub nothing_there : (o : Object) (seen : Path) (name : List ℕ) (at : ℕ) → is_same_path seen o.path ≡ true → number_of nodes o.path ≡ Some at → child nodes at name ≡ None
       → node_at tree (seen ++ name ∷ []) ≡ None
   nothing_there o seen name at same e h = by (node_at tree (seen ++ name ∷ [])) refl
     where

@@ -10,3 +10,4 @@ pub mod PlaceLemmas
 pub mod FindLemmas
 pub mod ChildrenLemmas
 pub mod SortedLemmas
+pub mod FoundLemmas
