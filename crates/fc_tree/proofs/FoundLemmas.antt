@@ -1,26 +1,29 @@
 -- What is found among the nodes tells of the tree of the image: the refusal of a path, and the object of a node.
-use Rattle.std.proofs.Common.{◌≡◌, ⊎_elim, ℕ, Bool, true, false, cond, List, [], ◌∷◌, ◌++◌, map, refl, sym, ap, subst, ◌∙◌, Option, Some, None, nat_cmp, if◌then◌else◌}
-use Rattle.std.specs.Prelude.{Contains, filter, Result, Ok, Err}
+use Rattle.std.proofs.Common.{◌≡◌, ℕ, Bool, true, false, List, [], ◌∷◌, ◌++◌, refl, sym, ap, subst, ◌∙◌, Option, Some, None, nat_cmp, if◌then◌else◌}
+use Rattle.std.specs.Prelude.{Contains, Result, Ok, Err}
 use Rattle.std.specs.Option.{option_map_or}
 use Rattle.std.specs.FinMap.{FinMap, get}
 use Rattle.fc_names.specs.declared.refusal.Refusal.{Refusal}
 use Rattle.fc_names.specs.declared.refusal.Refusal.TheVariants as refusals
 use Rattle.fc_names.specs.Names.{Path, is_same_path}
-use Rattle.fc_model.specs.Tree.{Tree, Node as ModelNode, Body as ModelBody, is_directory_body}
+use Rattle.fc_model.specs.Tree.{Node as ModelNode, Body as ModelBody, is_directory_body}
 use Rattle.fc_model.specs.Answer.{found, found_below, node_or_absent, path_refusal, refusal_of}
 use Rattle.fc_dirs.specs.declared.DirFault.{DirFault}
+use Rattle.fc_dirs.specs.declared.DirFault.TheVariants as dirs
 use Rattle.fc_dirs.specs.Directory.{Directory}
 use Rattle.fc_image.specs.Layout.{Layout}
 use Rattle.fc_image.specs.Walk.{Object, Listing, is_directory_object, object_bytes}
 use Rattle.fc_image.specs.Objects.{objects_of, listing_at, node_of, tree_of}
+use Rattle.fc_image.proofs.PathsLemmas.{unless}
+use Rattle.fc_tree.specs.declared.node.Body.TheVariants as bodies
 use Rattle.fc_tree.specs.declared.node.Node.{Node}
 use Rattle.fc_tree.specs.declared.node.Found.{Found}
 use Rattle.fc_tree.specs.declared.node.Found.TheVariants as founds
-use Rattle.fc_tree.specs.Nodes.{child, number_of, found_from, found_in, is_directory_node, body_in, body_of, HoldObjects}
+use Rattle.fc_tree.specs.Nodes.{child, number_of, found_from, found_in, body_in, body_of, HoldObjects}
 use Rattle.fc_tree.specs.Agree.{content_in}
 use Rattle.fc_tree.specs.Laws.{AreAlike, AreSound}
-use Rattle.fc_tree.proofs.WalkedLemmas.{same_some, root, root_path, directories_listed}
-use Rattle.fc_tree.proofs.MemberLemmas.{contains_here, contains_later, contains_cases, no_element, from_map}
+use Rattle.fc_tree.proofs.WalkedLemmas.{same_some, root, root_path, directories_listed, listing_found}
+use Rattle.fc_tree.proofs.MemberLemmas.{from_map, in_filter}
 use Rattle.fc_tree.proofs.SoundLemmas.{root_object, listing_of}
 use Rattle.fc_tree.proofs.TreeLemmas.{node_of_object}
 use Rattle.fc_tree.proofs.FindLemmas.{find_law, below_some, below_none, directory_at, stepped, nothing_there}
@@ -43,9 +46,9 @@ module _ (image : List ℕ) (layout : Layout) (listings : List Listing) (nodes :
     where
       by : (d : Bool) (next : Option ℕ) → child nodes at name ≡ next
           → ((p : Object) (n : ℕ) → Contains (objects_of listings) p → is_same_path (seen ++ name ∷ []) p.path ≡ true → number_of nodes p.path ≡ Some n
-              → refusal_of (found_below (tree_of image layout listings) (seen ++ name ∷ []) names) ≡ refusal_in (found_from nodes n names))
+          → refusal_of (found_below (tree_of image layout listings) (seen ++ name ∷ []) names) ≡ refusal_in (found_from nodes n names))
           → refusal_of (if is_directory_body (if d then ModelBody.Directory else ModelBody.File (object_bytes image layout o))
-              then found_below (tree_of image layout listings) (seen ++ name ∷ []) names else Err refusals.NotDirectory)
+          then found_below (tree_of image layout listings) (seen ++ name ∷ []) names else Err refusals.NotDirectory)
           ≡ refusal_in (if d then option_map_or (λ n. found_from nodes n names) next founds.Absent else founds.NotDirectory)
       by false next h more = refl
       by true None h more =
@@ -111,3 +114,13 @@ module _ (layout : Layout) (listings : List Listing) (sound : AreSound layout li
       by (Some l) e g =
           let there = listing_of layout listings sound o l among e in
           (l, there.0, there.1, same_ok l.content dir (sym (body_content l.content) ∙ ap content_in g ∙ body_content dir))
+
+  -- A node's body that is a file is that of a file.
+  pub file_of_body : body_of (listing_at listings o.path) ≡ bodies.File → is_directory_object o ≡ false
+  file_of_body h = unless (is_directory_object o) (λ dir.
+      let listed = from_map (λ (l : Listing). l.object) listings o
+      (subst (λ (os : List Object). Contains os o) (directories_listed layout listings sound) (in_filter is_directory_object (objects_of listings) o among dir)) in
+      let at : listing_at listings o.path ≡ Some listed.0 = ap (λ (p : Object). listing_at listings p.path) (sym listed.2) ∙ listing_found layout listings sound listed.0 listed.1 in
+      let content : body_in listed.0.content ≡ bodies.File = ap body_of (sym at) ∙ h in
+      let both : Ok listed.0.content ≡ Err dirs.Magic = sym (body_content listed.0.content) ∙ ap content_in content in
+      absurd (cc))

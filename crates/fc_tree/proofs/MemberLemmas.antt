@@ -1,6 +1,6 @@
 -- Elements of lists, of mapped lists and of flattened ones; how many pass a test.
 use Rattle.std.proofs.Common.{◌≡◌, ◌≤◌, ◌⊎◌, inl, inr, ⊎_elim, ℕ, zero, suc, ◌+◌, Bool, true, false, cond, List, [], ◌∷◌, map, refl, sym, ap, subst, ◌∙◌, arith, Some}
-use Rattle.std.specs.Prelude.{Contains, IsPermutation, sum_by, slice_get, find}
+use Rattle.std.specs.Prelude.{Contains, IsPermutation, sum_by, slice_get, find, filter}
 use Rattle.std.specs.List.{flat_map}
 use Rattle.std.proofs.lemmas.List.Elements.{Contains-append_cases}
 use Rattle.std.proofs.lemmas.List.Sorted.{sum_by-IsPermutation}
@@ -49,6 +49,17 @@ found_passes {X} t (y ∷ xs) x h = by (t y) refl h (found_passes t xs x)
     by : (b : Bool) → t y ≡ b → cond b (Some y) (find t xs) ≡ Some x → (find t xs ≡ Some x → Contains xs x × (t x ≡ true)) → Contains (y ∷ xs) x × (t x ≡ true)
     by true e g more = let is = same_some y x g in (subst (λ (z : X). Contains (y ∷ xs) z) is (contains_here y xs), subst (λ (z : X). t z ≡ true) is e)
     by false e g more = let r = more g in (contains_later y x xs r.0, r.1)
+
+-- what passes is kept
+pub in_filter : {X : Type 0} (t : X → Bool) (xs : List X) (x : X) → Contains xs x → t x ≡ true → Contains (filter t xs) x
+in_filter t [] x at h = absurd (no_element x at)
+in_filter t (y ∷ xs) x at h = by (t y) refl (contains_cases y x xs at) (λ later. in_filter t xs x later h)
+  where
+    by : (b : Bool) → t y ≡ b → (y ≡ x) ⊎ Contains xs x → (Contains xs x → Contains (filter t xs) x) → Contains (cond b (y ∷ filter t xs) (filter t xs)) x
+    by true e (inl same) more = subst (λ z. Contains (y ∷ filter t xs) z) same (contains_here y (filter t xs))
+    by true e (inr later) more = contains_later y x (filter t xs) (more later)
+    by false e (inl same) more = let two : true ≡ false = sym h ∙ sym (ap t same) ∙ e in absurd (cc)
+    by false e (inr later) more = more later
 
 -- ---- how many pass
 
