@@ -3,3 +3,11 @@ pub mod ChangedSlotLemmas
 pub mod WalkedLemmas
 pub mod NumberLemmas
 pub mod HeldLemmas
+pub mod MemberLemmas
+pub mod SoundLemmas
+pub mod TreeLemmas
+pub mod PlaceLemmas
+pub mod FindLemmas
+pub mod ChildrenLemmas
+pub mod SortedLemmas
+pub mod FoundLemmas

@@ -7,13 +7,14 @@ use Rattle.fc_dirs.specs.declared.Entry.{Entry}
 use Rattle.fc_dirs.specs.Entries.{first_twin}
 use Rattle.fc_dirs.specs.Directory.{Directory, entries_of}
 use Rattle.fc_image.specs.Layout.{Layout}
-use Rattle.fc_image.specs.Walk.{Object, Listing, Reader, is_directory_object}
+use Rattle.fc_image.specs.Opening.{reserved_in}
+use Rattle.fc_image.specs.Walk.{Object, Listing, Reader, reader_of, is_directory_object}
 use Rattle.fc_image.specs.Objects.{objects_of, listing_at}
 use Rattle.fc_image.specs.Edits.{AreChildren, IsListing, Follows, Apart, IsRoot}
 use Rattle.fc_image.proofs.EditLemmas.{walk_gives, root_first}
-use Rattle.fc_image.proofs.PathsLemmas.{many, many-append, NoTwins, is_at, itself, unless, only_one, listed_few, once, root_other}
+use Rattle.fc_image.proofs.PathsLemmas.{opened_walk, many, many-append, NoTwins, is_at, itself, unless, only_one, listed_few, once, root_other}
 use Rattle.fc_tree.specs.Agree.{IsDirectory}
-use Rattle.fc_tree.specs.Laws.{AreSound}
+use Rattle.fc_tree.specs.Laws.{AreSound, SoundLaw}
 
 -- ---- places in lists
 
@@ -99,7 +100,7 @@ each_filter P t (x ∷ xs) h = by (t x) refl (each_filter P t xs h.1)
 
 -- ---- listings that follow from what waits
 
-follows_each : (read : Reader) (layout : Layout) (waiting : List Object) (listings : List Listing) → Follows read layout waiting listings
+pub follows_each : (read : Reader) (layout : Layout) (waiting : List Object) (listings : List Listing) → Follows read layout waiting listings
     → (k : ℕ) (l : Listing) → slice_get listings k ≡ Some l → IsListing read layout l
 follows_each read layout [] [] f k l is = absurd (cc)
 follows_each read layout (o ∷ waiting) [] f k l is = absurd f
@@ -189,14 +190,26 @@ child_named layout path (e ∷ entries) (p ∷ objects) zero o c is =
     ∙ ap (λ (d : Entry). path ++ d.name ∷ []) (sym c.1 ∙ ap (λ (x : Object). x.entry) (same_some p o is))
 child_named layout path (e ∷ entries) (p ∷ objects) (suc i) o c is = child_named layout path entries objects i o c.3 is
 
-apart_names : (content : Directory) → IsDirectory content → first_twin (entries_of content) ≡ None
+pub apart_names : (content : Directory) → IsDirectory content → first_twin (entries_of content) ≡ None
 apart_names (Directory.Small dir) is = is.apart
 apart_names (Directory.Big dir) is = is.apart
+
+pub sound_law : SoundLaw
+sound_law image kind v opens =
+    let w = opened_walk image kind v opens in
+    record {
+      read = reader_of image v.layout;
+      reserved = reserved_in kind v.layout;
+      address = w.address;
+      size = w.size;
+      walked = w.walked;
+      apart = w.twins;
+    }
 
 -- ---- a sound walk
 
 module _ (layout : Layout) (listings : List Listing) (sound : AreSound layout listings) where
-  abbrev given : (root : Object) × IsRoot layout sound.address sound.size root × Follows sound.read layout (root ∷ []) listings × Apart sound.reserved (objects_of listings)
+  abbrev pub given : (root : Object) × IsRoot layout sound.address sound.size root × Follows sound.read layout (root ∷ []) listings × Apart sound.reserved (objects_of listings)
   given = walk_gives sound.read layout sound.reserved sound.address sound.size listings sound.walked
 
   abbrev pub root : Object
@@ -215,10 +228,10 @@ module _ (layout : Layout) (listings : List Listing) (sound : AreSound layout li
   pub first_is_root : slice_get (objects_of listings) 0 ≡ Some root
   first_is_root = ap (λ (os : List Object). slice_get os 0) root_and_held
 
-  twins : NoTwins listings
-  twins = λ l at. apart_names l.content (sound.bodies l at)
+  pub twins : NoTwins listings
+  twins = sound.apart
 
-  few_objects : (path : Path) → many (is_at path) (objects_of listings) ≤ 1
+  pub few_objects : (path : Path) → many (is_at path) (objects_of listings) ≤ 1
   few_objects path = once sound.read layout root listings root_path given.2 twins (length path) path refl
 
   -- of each path there is one object,
