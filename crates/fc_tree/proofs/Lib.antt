@@ -9,3 +9,4 @@ mod TreeLemmas
 mod PlaceLemmas
 mod FindLemmas
 mod ChildrenLemmas
+pub mod TallyLemmas
