@@ -1,5 +1,4 @@
 pub mod SlotLemmas
-pub mod ChangedSlotLemmas
 pub mod WalkedLemmas
 pub mod NumberLemmas
 pub mod HeldLemmas
