@@ -2,10 +2,11 @@ pub mod SlotLemmas
 pub mod WalkedLemmas
 pub mod NumberLemmas
 pub mod HeldLemmas
-mod MemberLemmas
-mod SoundLemmas
-mod TreeLemmas
-mod PlaceLemmas
-mod FindLemmas
-mod ChildrenLemmas
 pub mod TallyLemmas
+pub mod MemberLemmas
+pub mod SoundLemmas
+pub mod TreeLemmas
+pub mod PlaceLemmas
+pub mod FindLemmas
+pub mod ChildrenLemmas
+pub mod SortedLemmas
