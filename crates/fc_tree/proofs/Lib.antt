@@ -1,8 +1,8 @@
 pub mod SlotLemmas
-pub mod ChangedSlotLemmas
 pub mod WalkedLemmas
 pub mod NumberLemmas
 pub mod HeldLemmas
+pub mod TallyLemmas
 pub mod MemberLemmas
 pub mod SoundLemmas
 pub mod TreeLemmas
