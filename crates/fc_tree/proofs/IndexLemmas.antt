@@ -10,8 +10,10 @@ use Rattle.std.proofs.lemmas.List.{get_or_default}
 use Rattle.std.proofs.lemmas.List.Edits.{length-insert, get_or-insert_below, get_or-insert_at, get_or-insert_above, length-remove, get_or-remove_below, get_or-remove_above}
 use Rattle.fc_names.specs.Names.{folded, is_same_name}
 use Rattle.fc_tree.specs.declared.node.Node.{Node}
+use Rattle.fc_tree.specs.Nodes.{child, nodes_of}
 use Rattle.fc_tree.specs.Slots.{slot_at, is_child}
 use Rattle.fc_tree.specs.Index.{Key, key_cmp, key_of, is_before, IsIndex, IsRank}
+use Rattle.fc_tree.proofs.SlotLemmas.{child_is, no_child, is_child_true, is_child_false}
 use Rattle.fc_tree.proofs.KeyLemmas.{key_trans, key_irreflexive, key_flipped, key_squeezed, by_number, number_less, number_least, folds_from_same, same_from_folds, before_node, node_there, node_before, before_before}
 
 -- ---- searches
@@ -136,6 +138,38 @@ first_at_rank slots order rank dir j name m index ranked is passes =
           let same : slice_index order rank ≡ j = (let e : rank ≡ k = omega (arith, l, low) in ap (slice_index order) e ∙ here) in
           (within, (m, ap (slot_at slots) same ∙ is, ap (λ (i : ℕ). is_child dir name (i, m)) same ∙ passes), omega (arith, same))
     ]
+
+no_child_under : (slots : List (Option Node)) (order : List ℕ) (rank dir : ℕ) (name : List ℕ) → IsIndex slots order → IsRank slots order (first_key dir name) rank
+    → ((node : Node) → rank < length order → slot_at slots (slice_index order rank) ≡ Some node → is_child dir name (slice_index order rank, node) ≡ true → ⊥)
+    → None ≡ child (nodes_of (record { slots = slots; room = 0 })) dir name
+no_child_under slots order rank dir name index ranked never =
+    no_child (record { slots = slots; room = 0 }) dir name (λ j m here. false_from_ne_true (is_child dir name (j, m)) (λ passes.
+        let first = first_at_rank slots order rank dir j name m index ranked here passes in
+        never first.1.0 first.0 first.1.1 first.1.2))
+
+-- no number is left at the rank of the name
+pub child_past : (slots : List (Option Node)) (order : List ℕ) (rank dir : ℕ) (name : List ℕ) → IsIndex slots order → IsRank slots order (first_key dir name) rank → length order ≤ rank
+    → None ≡ child (nodes_of (record { slots = slots; room = 0 })) dir name
+child_past slots order rank dir name index ranked past =
+    no_child_under slots order rank dir name index ranked (λ node within here passes. omega (arith, within, past))
+
+-- the number at the rank of the name is another's
+pub child_other : (slots : List (Option Node)) (order : List ℕ) (rank dir n : ℕ) (name : List ℕ) → IsIndex slots order → IsRank slots order (first_key dir name) rank → slice_index order rank ≡ n
+    → option_map_or (λ node. is_child dir name (n, node)) (slot_at slots n) false ≡ false → None ≡ child (nodes_of (record { slots = slots; room = 0 })) dir name
+child_other slots order rank dir n name index ranked is other =
+    no_child_under slots order rank dir name index ranked (λ node within here passes.
+        both_ways (is_child dir name (n, node)) (ap (λ m. is_child dir name (m, node)) (sym is) ∙ passes)
+            (is_child_false slots dir n name node other (ap (slot_at slots) (sym is) ∙ here)))
+
+-- the number at the rank of the name is that of the first node of the name
+pub child_there : (slots : List (Option Node)) (order : List ℕ) (rank dir n : ℕ) (name : List ℕ) → IsIndex slots order → IsRank slots order (first_key dir name) rank → slice_index order rank ≡ n
+    → option_map_or (λ node. is_child dir name (n, node)) (slot_at slots n) false ≡ true → Some n ≡ child (nodes_of (record { slots = slots; room = 0 })) dir name
+child_there slots order rank dir n name index ranked is found =
+    let there = is_child_true slots dir n name found in
+    child_is (record { slots = slots; room = 0 }) dir n name there.0 there.1 there.2 (λ j m below here. false_from_ne_true (is_child dir name (j, m)) (λ passes.
+        let first = first_at_rank slots order rank dir j name m index ranked here passes in
+        let low : n ≤ j = omega (arith, is, first.2) in
+        omega (arith, low, below)))
 
 -- ---- one more node
 

@@ -1,3 +1,4 @@
 pub mod SlotLemmas
 pub mod KeyLemmas
 pub mod IndexLemmas
+pub mod SortLemmas
