@@ -2,3 +2,4 @@ pub mod SlotLemmas
 pub mod KeyLemmas
 pub mod IndexLemmas
 pub mod SortLemmas
+pub mod ChangeLemmas

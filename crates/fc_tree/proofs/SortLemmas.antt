@@ -123,36 +123,45 @@ unfolding IsKey
 index_sorted nodes keys order sorted is = (record { known = known; listed = listed; rising = rising; few = omega (arith, size, all_full nodes) }, size) where
   long : length keys ≡ length nodes
   long = length_permutation (keys_of nodes (length nodes)) keys sorted.places ∙ length-map-range_with_len (key_in nodes) 0 (length nodes)
+
   size : length order ≡ length nodes
   size = ap length is ∙ length-map keys (λ (k : Key). k.number) ∙ long
+
   at : (k : ℕ) → k < length nodes → slice_index order k ≡ (get_or keys k no_key).number
   at k within = ap (λ l. slice_index l k) is ∙ get_or-map (λ (k : Key). k.number) keys k no_key 0 (omega (arith, within, long))
+
   key : (k : ℕ) → k < length nodes → IsKey nodes (get_or keys k no_key)
   key k within = All-permutation (IsKey nodes) (keys_of nodes (length nodes)) keys sorted.places (all_keys nodes) k no_key (omega (arith, within, long))
+
   there : (k : ℕ) (within : k < length nodes) → slot_at (map Some nodes) (slice_index order k) ≡ Some (key k within).0
   there k within = ap (slot_at (map Some nodes)) (at k within) ∙ slot_of nodes (get_or keys k no_key).number ∙ (key k within).1
+
   known : (k : ℕ) → k < length order → is_some (slot_at (map Some nodes) (slice_index order k)) ≡ true
   known k within = ap is_some (there k (omega (arith, within, size)))
+
   listed : (n : ℕ) (node : Node) → slot_at (map Some nodes) n ≡ Some node → (k : ℕ) × (k < length order) × (slice_index order k ≡ n)
   listed n node here =
       let inside : n < length nodes = slice_get_within nodes n node (sym (slot_of nodes n) ∙ here) in
       let first : get_or (keys_of nodes (length nodes)) n (key_in nodes n) ≡ key_in nodes n =
-          get_or-map-range_with_len (key_in nodes) 0 (length nodes) n n (key_in nodes n) inside (omega arith) in
+      get_or-map-range_with_len (key_in nodes) 0 (length nodes) n n (key_in nodes n) inside (omega arith) in
       let found = Contains-permutation (keys_of nodes (length nodes)) keys (key_in nodes n) sorted.places
-          (n, omega (arith, inside, length-map-range_with_len (key_in nodes) 0 (length nodes)), first) in
+      (n, omega (arith, inside, length-map-range_with_len (key_in nodes) 0 (length nodes)), first) in
       let within : found.0 < length nodes = omega (arith, found.1, long) in
       (found.0, omega (arith, within, size), at found.0 within ∙ ap (λ (k : Key). k.number) (get_or_default keys found.0 no_key (key_in nodes n) found.1 ∙ found.2) ∙ number_in nodes n)
+
   distinct : IsDistinct eqb (map (λ (k : Key). k.number) keys)
   distinct = IsDistinct-IsPermutation eqb eqb_flips (map (λ (k : Key). k.number) (keys_of nodes (length nodes))) (map (λ (k : Key). k.number) keys)
       (IsPermutation-map (λ (k : Key). k.number) (keys_of nodes (length nodes)) keys sorted.places)
       (subst (IsDistinct eqb) (sym (numbers_in nodes 0 (length nodes))) (range_distinct 0 (length nodes)))
+
   apart : (i j : ℕ) → i < j → j < length nodes → (get_or keys j no_key).number ≡ (get_or keys i no_key).number → ⊥
   apart i j lt within same =
       let first : get_or (map (λ (k : Key). k.number) keys) i 0 ≡ (get_or keys i no_key).number = get_or-map (λ (k : Key). k.number) keys i no_key 0 (omega (arith, lt, within, long)) in
       let second : get_or (map (λ (k : Key). k.number) keys) j 0 ≡ (get_or keys j no_key).number = get_or-map (λ (k : Key). k.number) keys j no_key 0 (omega (arith, within, long)) in
       eqb-false (get_or (map (λ (k : Key). k.number) keys) i 0) (get_or (map (λ (k : Key). k.number) keys) j 0)
-          (apart_from_distinct eqb (map (λ (k : Key). k.number) keys) i j 0 distinct lt (omega (arith, within, long, length-map keys (λ (k : Key). k.number))))
-          (first ∙ sym same ∙ sym second)
+      (apart_from_distinct eqb (map (λ (k : Key). k.number) keys) i j 0 distinct lt (omega (arith, within, long, length-map keys (λ (k : Key). k.number))))
+      (first ∙ sym same ∙ sym second)
+
   rising : (i j : ℕ) (node : Node) → i < j → j < length order → slot_at (map Some nodes) (slice_index order j) ≡ Some node
       → is_before (map Some nodes) (key_of (slice_index order j) node) (slice_index order i) ≡ true
   rising i j node lt within here =

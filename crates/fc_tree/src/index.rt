@@ -1,6 +1,7 @@
 // The index of nodes: their numbers, in the order of the directories that hold them, then of their names by folding, then
 // of the numbers themselves.
-ghost use Rattle.std.specs.Prelude.{◌≡◌, ◌<◌, Some, length, map, slice_index, IsSome, IfOk};
+ghost use Rattle.std.specs.Prelude.{◌≡◌, ◌<◌, ◌≤◌, Some, length, map, slice_index, vec_capacity, IsSome, IfOk};
+ghost use Rattle.std.specs.List.{insert};
 ghost use Rattle.fc_tree.specs.Slots.{slot_at};
 ghost use Rattle.fc_tree.specs.Index.{IsIndex, IsRank, key_cmp, key_of};
 ghost use Rattle.fc_tree.specs.Index as index;
@@ -68,6 +69,16 @@ pub fn rank_of(slots: &[Option<Node>], order: &[u64], n: u64) -> usize
 {
     let node = node_at(slots, n).unwrap();
     rank(slots, order, &place_of(n, node))
+}
+
+// Puts a number into the index, which has room for it.
+pub fn put_number(order: &mut Vec<u64>, at: usize, n: u64)
+    requires within { at ≤ length order.old.items }
+    requires room { length order.old.items < vec_capacity order.old }
+    ensures items { order.new.items ≡ insert order.old.items at n }
+    ensures capacity { vec_capacity order.new ≡ vec_capacity order.old }
+{
+    let _ = order.insert(at, n);
 }
 
 // The number of the node of a name in a directory: the least, where several have the name.

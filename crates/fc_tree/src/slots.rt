@@ -1,5 +1,5 @@
 // Slots, of which each has the node of its number, or none.
-ghost use Rattle.std.specs.Prelude.{◌≡◌, ◌<◌, false, Some, None, length, map, slice_set, vec_capacity, IsSome, IfOk};
+ghost use Rattle.std.specs.Prelude.{◌≡◌, ◌<◌, ◌≤◌, false, [], ◌∷◌, ◌++◌, Some, None, length, map, slice_set, vec_capacity, IsSome, IfOk};
 ghost use Rattle.std.specs.Option.{option_map, option_map_or};
 ghost use Rattle.fc_tree.specs.Slots.{is_child, slot_at};
 
@@ -48,4 +48,13 @@ pub fn put_slot(slots: &mut Vec<Option<Node>>, n: u64, node: Node)
     ensures capacity { vec_capacity slots.new ≡ vec_capacity slots.old }
 {
     slots[n as usize] = Some(node);
+}
+
+// Adds a slot with a node. There is room for it.
+pub fn push_slot(slots: &mut Vec<Option<Node>>, node: Node)
+    requires { length slots.old.items < vec_capacity slots.old }
+    ensures items { slots.new.items ≡ slots.old.items ++ Some node ∷ [] }
+    ensures capacity { vec_capacity slots.old ≤ vec_capacity slots.new }
+{
+    let _ = slots.push(Some(node));
 }

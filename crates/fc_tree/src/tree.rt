@@ -4,9 +4,9 @@ ghost use Rattle.std.specs.Option.{option_map};
 ghost use Rattle.std.specs.FinMap.{get, insert, remove};
 ghost use Rattle.fc_tree.specs.Nodes.{bound_of, child, found_in, is_directory_node, nodes_of};
 
-use crate::index::{first_child, index_of, place_of, rank, rank_of};
+use crate::index::{first_child, index_of, place_of, put_number, rank, rank_of};
 use crate::node::{Found, Node};
-use crate::slots::{node_at, put_slot, slots_of, take_slot};
+use crate::slots::{node_at, push_slot, put_slot, slots_of, take_slot};
 use fc_device::NoMemory;
 use fc_names::{Name, Path};
 use std::alloc::Global;
@@ -124,8 +124,38 @@ impl Tree {
         ensures room { self.new.room ≡ self.old.room }
     {
         let at = rank(&self.slots, &self.order, &place_of(n, &node));
-        // There is room.
-        let _ = self.order.insert(at, n);
+        put_number(&mut self.order, at, n);
         put_slot(&mut self.slots, n, node);
+    }
+
+    /// Adds a node under a number that no node has, which is the result. It takes no memory.
+    pub fn add(&mut self, node: Node) -> u64
+        requires { 0 < self.old.room }
+        ensures free { get (nodes_of self.old) result ≡ None }
+        ensures nodes { nodes_of self.new ≡ insert (nodes_of self.old) result node }
+        ensures below { result < bound_of self.new }
+        ensures bound { bound_of self.old ≤ bound_of self.new }
+        ensures room { self.old.room ≤ self.new.room + 1 }
+    {
+        let n = self.slots.len() as u64;
+        let at = rank(&self.slots, &self.order, &place_of(n, &node));
+        put_number(&mut self.order, at, n);
+        push_slot(&mut self.slots, node);
+        self.room -= 1;
+        n
+    }
+
+    /// Makes room for one more node. After `NoMemory` all is as before.
+    pub fn reserve(&mut self) -> Result<(), NoMemory>
+        ensures slots { self.new.slots ≡ self.old.slots }
+        ensures ok { OnOk result (self.old.room + 1 ≤ self.new.room) }
+        ensures err { OnErr result (self.new ≡ self.old) }
+    {
+        let room = self.room + 1;
+        self.slots.reserve(room)?;
+        self.order
+            .reserve(self.slots.len() + room - self.order.len())?;
+        self.room = room;
+        Ok(())
     }
 }

@@ -9,9 +9,9 @@ returns-in_err-n c =
 pub returns-then-is_child : goal.returns-then-is_child
 returns-then-is_child c =
     child_there c.args.slots.now c.args.order.now c.rank.result c.args.dir c.in_ok-n.field-0.now c.args.name.now c.requires c.rank.ensures (sym (c.in_ok-n.ensures.lookup.3.1 0))
-        (sym c.is_child.ensures ∙ c.if-is_child.true)
+    (sym c.is_child.ensures ∙ c.if-is_child.true)
 
 pub returns-else-is_child : goal.returns-else-is_child
 returns-else-is_child c =
     child_other c.args.slots.now c.args.order.now c.rank.result c.args.dir c.in_ok-n.field-0.now c.args.name.now c.requires c.rank.ensures (sym (c.in_ok-n.ensures.lookup.3.1 0))
-        (sym c.is_child.ensures ∙ c.if-is_child.false)
+    (sym c.is_child.ensures ∙ c.if-is_child.false)
