@@ -1,5 +1,5 @@
 // Trees of numbered nodes.
-ghost use Rattle.std.specs.Prelude.{◌≡◌, ◌+◌, ◌<◌, ◌≤◌, ℕ, Some, None, map, slice_set, IsSome, IfOk, OnOk, OnErr};
+ghost use Rattle.std.specs.Prelude.{◌≡◌, ◌+◌, ◌<◌, ◌≤◌, ℕ, Some, None, map, slice_set, IsSome, IfSome, IfOk, OnOk, OnErr};
 ghost use Rattle.std.specs.Option.{option_map};
 ghost use Rattle.std.specs.FinMap.{get, insert, remove};
 ghost use Rattle.fc_tree.specs.Nodes.{bound_of, child, found_in, is_directory_node, nodes_of};
@@ -20,6 +20,8 @@ pub struct Tree {
     slots: Vec<Option<Node>>,
     // The numbers of the nodes, in the order of the directories that hold them, and then of their names.
     order: Vec<u64>,
+    // Numbers of nodes that were taken out, for other nodes. Some may have been given since.
+    free: Vec<u64>,
     // How many more nodes can be added with no more memory.
     room: usize,
 }
@@ -37,6 +39,13 @@ impl Model for Tree {
     ghost invariant = { λ t. IsHeld t.slots.items t.order.items t.room (vec_capacity t.slots) (vec_capacity t.order) };
 }
 
+// Drops a number from the end.
+fn drop_last(free: &mut Vec<u64>, n: u64) {
+    if free.last() == Some(&n) {
+        free.pop();
+    }
+}
+
 impl Tree {
     /// The tree of these nodes, numbered in their order.
     pub(crate) fn from_nodes(alloc: Global, nodes: Vec<Node>) -> Result<Tree, NoMemory>
@@ -47,6 +56,7 @@ impl Tree {
         Ok(Tree {
             slots,
             order,
+            free: Vec::new(alloc),
             room: 0,
         })
     }
@@ -100,7 +110,7 @@ impl Tree {
         Found::Node(at)
     }
 
-    /// Takes the node of a number out, to be put back. The number is its own until then.
+    /// Takes the node of a number out.
     pub fn take_out(&mut self, n: u64) -> Node
         requires { IsSome (get (nodes_of self.old) n) }
         ensures node { get (nodes_of self.old) n ≡ Some result }
@@ -111,6 +121,8 @@ impl Tree {
     {
         let at = rank_of(&self.slots, &self.order, n);
         self.order.remove(at);
+        // Where there is no memory for it, no other node gets the number.
+        let _ = self.free.push(n);
         take_slot(&mut self.slots, n)
     }
 
@@ -125,10 +137,55 @@ impl Tree {
     {
         let at = rank(&self.slots, &self.order, &place_of(n, &node));
         put_number(&mut self.order, at, n);
+        drop_last(&mut self.free, n);
         put_slot(&mut self.slots, n, node);
     }
 
-    /// Adds a node under a number that no node has, which is the result. It takes no memory.
+    // A number that another node had.
+    fn vacant(&mut self) -> Option<u64>
+        ensures below { IfSome result (λ n. n < bound_of self.old) }
+        ensures free { IfSome result (λ n. get (nodes_of self.old) n ≡ None) }
+        ensures same { self.new ≡ self.old }
+    {
+        let n = self.free.pop()?;
+        if n < self.bound() && self.node(n).is_none() {
+            Some(n)
+        } else {
+            None
+        }
+    }
+
+    // Puts a node under a number below the bound.
+    fn reuse(&mut self, n: u64, node: Node)
+        requires below { n < bound_of self.old }
+        requires free { get (nodes_of self.old) n ≡ None }
+        requires room { 0 < self.old.room }
+        ensures nodes { nodes_of self.new ≡ insert (nodes_of self.old) n node }
+        ensures bound { bound_of self.new ≡ bound_of self.old }
+        ensures room { self.new.room + 1 ≡ self.old.room }
+    {
+        self.put_back(n, node);
+        self.room -= 1;
+    }
+
+    // Adds a node under the bound.
+    fn append(&mut self, node: Node) -> u64
+        requires { 0 < self.old.room }
+        ensures number { result ≡ bound_of self.old }
+        ensures nodes { nodes_of self.new ≡ insert (nodes_of self.old) result node }
+        ensures bound { bound_of self.new ≡ bound_of self.old + 1 }
+        ensures room { self.new.room + 1 ≡ self.old.room }
+    {
+        let n = self.slots.len() as u64;
+        let at = rank(&self.slots, &self.order, &place_of(n, &node));
+        put_number(&mut self.order, at, n);
+        push_slot(&mut self.slots, node);
+        self.room -= 1;
+        n
+    }
+
+    /// Adds a node under a number that no node has, which is the result. It takes no memory. The number may be that of a
+    /// node that was taken out and not put back.
     pub fn add(&mut self, node: Node) -> u64
         requires { 0 < self.old.room }
         ensures free { get (nodes_of self.old) result ≡ None }
@@ -137,12 +194,13 @@ impl Tree {
         ensures bound { bound_of self.old ≤ bound_of self.new }
         ensures room { self.old.room ≤ self.new.room + 1 }
     {
-        let n = self.slots.len() as u64;
-        let at = rank(&self.slots, &self.order, &place_of(n, &node));
-        put_number(&mut self.order, at, n);
-        push_slot(&mut self.slots, node);
-        self.room -= 1;
-        n
+        match self.vacant() {
+            Some(n) => {
+                self.reuse(n, node);
+                n
+            }
+            None => self.append(node),
+        }
     }
 
     /// Makes room for one more node. After `NoMemory` all is as before.
