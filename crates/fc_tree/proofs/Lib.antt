@@ -11,3 +11,7 @@ pub mod FindLemmas
 pub mod ChildrenLemmas
 pub mod SortedLemmas
 pub mod FoundLemmas
+pub mod KeyLemmas
+pub mod IndexLemmas
+pub mod SortLemmas
+pub mod ChangeLemmas
