@@ -10,3 +10,7 @@ pub mod PlaceLemmas
 pub mod FindLemmas
 pub mod ChildrenLemmas
 pub mod SortedLemmas
+pub mod KeyLemmas
+pub mod IndexLemmas
+pub mod SortLemmas
+pub mod ChangeLemmas

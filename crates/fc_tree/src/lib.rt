@@ -2,6 +2,7 @@
 //! one, stand for a disk.
 #![tactic(auto)]
 
+mod index;
 mod node;
 mod slots;
 mod tree;
