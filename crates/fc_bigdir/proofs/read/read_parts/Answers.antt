@@ -5,6 +5,7 @@ use Rattle.fc_smalldir.specs.Faults.{IsFaultOf}
 use Rattle.fc_dirs.specs.declared.DirFault.TheVariants.{BadEntry, Twin}
 use Rattle.fc_dirs.specs.Entries.{first_twin}
 use Rattle.fc_dirs.specs.Big.{IsBig, big_entries, first_bad_entry, has_second_form}
+use Rattle.fc_bigdir.specs.Fields.{packed_size}
 use Rattle.fc_bigdir.proofs.FaultLemmas.{IsFramed, framed, entry_next, twin_last, no_fault}
 use Rattle.fc_bigdir.proofs.ReadLemmas.{says_big, same_parts, entries_count}
 use Rattle.fc_bigdir.proofs.read.read_parts.Goals as goal
@@ -21,6 +22,14 @@ check_twins-requires c =
     let b = c.args.b.now in
     let form = c.args.second_form in
     let len : length c.deref.result.now ≡ length (big_entries form b) = ap length (c.deref.ensures.value ∙ c.in_ok-entries.ensures.ok) in
+    let is : IsFramed b (has_second_form b) = framed b c.requires.frame in
+    omega (arith, len, entries_count form b, is.parts, is.most)
+
+pub packed_size-packed-requires : goal.packed_size-packed-requires
+packed_size-packed-requires c =
+    let b = c.args.b.now in
+    let form = c.args.second_form in
+    let len : length c.deref-2.result.now ≡ length (big_entries form b) = ap length (c.deref-2.ensures.value ∙ c.in_ok-entries.ensures.ok) in
     let is : IsFramed b (has_second_form b) = framed b c.requires.frame in
     omega (arith, len, entries_count form b, is.parts, is.most)
 
@@ -41,7 +50,10 @@ invariant_of-result c =
     let apart : first_twin (big_entries (has_second_form b) b) ≡ None = ap first_twin (sym entries) ∙ c.in_ok-check_twins.ensures.ok in
     let says = same_parts b _ _ _ _ _ _ _ _ _ refl refl c.word_at.ensures (c.in-Ok-Ok.ensures ∙ c.head_name.ensures) c.requires.form c.reserved.ensures (c.in-Ok-Ok.ensures' ∙ c.heap_of-heap.ensures)
     c.in_ok-places.ensures.ok c.in_ok-entries.ensures.ok in
-    subst IsBig (sym says) (says_big b (λ i. omega (arith, c.type_inv.b i)) c.requires.frame right apart)
+    record {
+      big = subst IsBig (sym says) (says_big b (λ i. omega (arith, c.type_inv.b i)) c.requires.frame right apart);
+      packed_is = c.packed_size-packed.ensures.size ∙ ap packed_size c.deref-2.ensures.value;
+    }
 
 pub returns-clause-ok : goal.returns-clause-ok
 returns-clause-ok c =
