@@ -6,7 +6,6 @@ ghost use Rattle.std.specs.Vec.{vec_capacity};
 ghost use Rattle.fc_names.specs.Names.{IsName};
 ghost use Rattle.fc_dirs.specs.Entries.{entry_place, padded_name, with_entry};
 ghost use Rattle.fc_dirs.specs.Big.{name_space, packed_heap, packed_places, size_limit};
-ghost use Rattle.fc_bigdir.specs.Fields.{packed_size};
 ghost use Rattle.fc_bigdir.specs.Entered.{IsRoomFor, entered_heap, entered_places, needed_for};
 
 use crate::put::put_name;
@@ -51,19 +50,6 @@ pub fn name_space(name: &Name) -> usize
     ensures name { IsName name.now }
 {
     (name.bytes().len() + 4) / 4 * 4
-}
-
-// The size of a heap of exactly the names of entries.
-pub fn packed_size(entries: &[Entry]) -> usize
-    requires { length entries.now < 2 ^ 32 }
-    ensures size { result ≡ packed_size entries.now }
-    ensures small { result ≤ 256 * length entries.now }
-{
-    let mut heap = 0;
-    for e in entries {
-        heap += name_space(&e.name);
-    }
-    heap
 }
 
 // Puts a name behind a heap.

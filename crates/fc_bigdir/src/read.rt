@@ -9,7 +9,6 @@ ghost use Rattle.fc_smalldir.specs.Faults.{IsFaultOf};
 
 use crate::BigDir;
 use crate::bytes::{copied, word_at};
-use crate::enter::packed_size;
 use crate::entries::{read_entries, read_places};
 use crate::frame::{entries_start, read_frame};
 use crate::twins::first_twin;
@@ -68,10 +67,9 @@ fn read_parts(alloc: Global, b: &[u8], second_form: bool) -> Result<BigDir, DirE
     ensures err { IfErr result (IsFaultOf (big_fault b.now)) }
 {
     let heap = heap_of(b, second_form);
-    let entries = read_entries(alloc, b, second_form, heap)?;
+    let (entries, packed) = read_entries(alloc, b, second_form, heap)?;
     check_twins(alloc, &entries)?;
     let places = read_places(alloc, b, second_form)?;
-    let packed = packed_size(&entries);
     let (Ok(name), Ok(heap)) = (
         copied(alloc, head_name(b, second_form)),
         copied(alloc, heap),

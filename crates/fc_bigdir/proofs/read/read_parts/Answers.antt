@@ -5,7 +5,6 @@ use Rattle.fc_smalldir.specs.Faults.{IsFaultOf}
 use Rattle.fc_dirs.specs.declared.DirFault.TheVariants.{BadEntry, Twin}
 use Rattle.fc_dirs.specs.Entries.{first_twin}
 use Rattle.fc_dirs.specs.Big.{IsBig, big_entries, first_bad_entry, has_second_form}
-use Rattle.fc_bigdir.specs.Fields.{packed_size}
 use Rattle.fc_bigdir.proofs.FaultLemmas.{IsFramed, framed, entry_next, twin_last, no_fault}
 use Rattle.fc_bigdir.proofs.ReadLemmas.{says_big, same_parts, entries_count}
 use Rattle.fc_bigdir.proofs.read.read_parts.Goals as goal
@@ -22,14 +21,6 @@ check_twins-requires c =
     let b = c.args.b.now in
     let form = c.args.second_form in
     let len : length c.deref.result.now ≡ length (big_entries form b) = ap length (c.deref.ensures.value ∙ c.in_ok-entries.ensures.ok) in
-    let is : IsFramed b (has_second_form b) = framed b c.requires.frame in
-    omega (arith, len, entries_count form b, is.parts, is.most)
-
-pub packed_size-packed-requires : goal.packed_size-packed-requires
-packed_size-packed-requires c =
-    let b = c.args.b.now in
-    let form = c.args.second_form in
-    let len : length c.deref-2.result.now ≡ length (big_entries form b) = ap length (c.deref-2.ensures.value ∙ c.in_ok-entries.ensures.ok) in
     let is : IsFramed b (has_second_form b) = framed b c.requires.frame in
     omega (arith, len, entries_count form b, is.parts, is.most)
 
@@ -52,7 +43,7 @@ invariant_of-result c =
     c.in_ok-places.ensures.ok c.in_ok-entries.ensures.ok in
     record {
       big = subst IsBig (sym says) (says_big b (λ i. omega (arith, c.type_inv.b i)) c.requires.frame right apart);
-      packed_is = c.packed_size-packed.ensures.size ∙ ap packed_size c.deref-2.ensures.value;
+      packed_is = c.in_ok-entries.ensures.packed;
     }
 
 pub returns-clause-ok : goal.returns-clause-ok
