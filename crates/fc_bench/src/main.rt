@@ -9,6 +9,7 @@ mod dirs;
 mod maps;
 mod record;
 mod timing;
+mod visits;
 mod zones;
 
 use std::env;
