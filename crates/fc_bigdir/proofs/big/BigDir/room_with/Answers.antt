@@ -1,5 +1,4 @@
-use Rattle.std.proofs.Common.{◌≡◌, ◌<◌, ◌+◌, MatchOption, length, sum_by, subst, sym, ap, ap₂, ◌∙◌, arith}
-use Rattle.fc_dirs.specs.declared.Entry.{Entry}
+use Rattle.std.proofs.Common.{◌≡◌, ◌<◌, ◌+◌, MatchOption, length, subst, sym, ap, ap₂, ◌∙◌, arith}
 use Rattle.fc_dirs.specs.Big.{BigDir, name_space, size_limit, size_with, head_space_of}
 use Rattle.fc_bigdir.specs.Entered.{HasRoomFor}
 use Rattle.fc_bigdir.specs.Fields.{dir_of}
