@@ -3,8 +3,9 @@
 // All directories of a size stand in memory at once, which is more than caches hold, and each step goes over all of them
 // before the next begins: one name is put into all before another, too. So each call finds its directory as cold as any
 // other, and a small one isn't at an advantage. The look for a name before it is put in is the caller's: it goes over all
-// directories in a step of its own, and is in no time but its own. Among the names that are put in is one for which the
-// lists have to grow. All sizes do the same work, so that their times are compared as they stand. Rounds go over all
+// directories in a step of its own, and is in no time but its own. The name for which the lists have to grow, which
+// happens once in as many names as they hold, is a step of its own, too: whether the allocator then moves what they hold
+// depends on the size. All sizes do the same work, so that their times are compared as they stand. Rounds go over all
 // sizes, and the least time of each is told, since other work slows some of them down.
 use crate::timing::{micros_since, rate};
 use crate::visits::{enter_all, look};
@@ -19,8 +20,8 @@ use std::time::Instant;
 
 const ENTRIES: u32 = 500_000;
 
-// How many names are put into each directory: more than those for which its lists have room as they are read.
-const NAMES: u32 = 20;
+// The names for which the lists of a directory have room as it is read.
+const NAMES: u32 = 16;
 
 const ROUNDS: u32 = 5;
 
@@ -38,6 +39,7 @@ struct Times {
     read: u64,
     looked: u64,
     put: u64,
+    grown: u64,
     written: u64,
 }
 
@@ -45,6 +47,7 @@ const LONGEST: Times = Times {
     read: u64::MAX,
     looked: u64::MAX,
     put: u64::MAX,
+    grown: u64::MAX,
     written: u64::MAX,
 };
 
@@ -55,6 +58,7 @@ impl Times {
             read: self.read.min(other.read),
             looked: self.looked.min(other.looked),
             put: self.put.min(other.put),
+            grown: self.grown.min(other.grown),
             written: self.written.min(other.written),
         }
     }
@@ -137,6 +141,27 @@ fn write_all(dirs: &[BigDir], buffer: &mut [u8]) -> u64 {
     written
 }
 
+// Puts a name into each directory. The time of the looks for it is added to `looked`, and that of the calls to `put`.
+fn put_name<R: Clock>(
+    rt: &R,
+    alloc: Global,
+    dirs: Vec<BigDir>,
+    number: u32,
+    looked: &mut u64,
+    put: &mut u64,
+) -> io::Result<Vec<BigDir>> {
+    let Some(name) = new_name(number) else {
+        return Ok(dirs);
+    };
+    let start = Instant::now(rt)?;
+    let visits = look(alloc, dirs, name)?;
+    *looked = looked.saturating_add(micros_since(rt, start)?);
+    let start = Instant::now(rt)?;
+    let dirs = enter_all(alloc, visits)?;
+    *put = put.saturating_add(micros_since(rt, start)?);
+    Ok(dirs)
+}
+
 // Puts names into each directory, one into all before the next. In the order of names they are `apart` from one another.
 fn put_names<R: Clock>(
     rt: &R,
@@ -146,17 +171,24 @@ fn put_names<R: Clock>(
     times: &mut Times,
 ) -> io::Result<Vec<BigDir>> {
     let mut dirs = dirs;
+    let mut looked = 0;
+    let mut put = 0;
     for i in 0..NAMES {
-        let Some(name) = new_name(i.wrapping_mul(apart)) else {
-            break;
-        };
-        let start = Instant::now(rt)?;
-        let visits = look(alloc, dirs, name)?;
-        times.looked = times.looked.saturating_add(micros_since(rt, start)?);
-        let start = Instant::now(rt)?;
-        dirs = enter_all(alloc, visits)?;
-        times.put = times.put.saturating_add(micros_since(rt, start)?);
+        dirs = put_name(
+            rt,
+            alloc,
+            dirs,
+            i.wrapping_mul(apart),
+            &mut looked,
+            &mut put,
+        )?;
     }
+    let mut grown = 0;
+    let last = NAMES.wrapping_mul(apart);
+    let dirs = put_name(rt, alloc, dirs, last, &mut looked, &mut grown)?;
+    times.looked = looked;
+    times.put = put;
+    times.grown = grown;
     Ok(dirs)
 }
 
@@ -170,6 +202,7 @@ fn time<R: Clock>(rt: &R, alloc: Global, entries: u16, order: u32) -> io::Result
         read: micros_since(rt, start)?,
         looked: 0,
         put: 0,
+        grown: 0,
         written: 0,
     };
     let apart = (u32::from(entries) / NAMES).wrapping_mul(order);
@@ -207,12 +240,14 @@ fn print_step<R: Print>(rt: &R, what: &str, entries: u32, now: u64, first: u64) 
 // Prints the times of all sizes.
 fn print_times<R: Print>(rt: &R, times: &[Times; 4]) -> io::Result<()> {
     let first = times[0];
-    let visited = ENTRIES.saturating_mul(NAMES);
+    let put = ENTRIES.saturating_mul(NAMES);
+    let looked = put.saturating_add(ENTRIES);
     for (now, (entries, most)) in times.iter().zip(&SIZES) {
         println!(rt; "directories of {entries} entries: n log n is {most} % of the first")?;
         print_step(rt, "read", ENTRIES, now.read, first.read)?;
-        print_step(rt, "looked through", visited, now.looked, first.looked)?;
-        print_step(rt, "put into", visited, now.put, first.put)?;
+        print_step(rt, "looked through", looked, now.looked, first.looked)?;
+        print_step(rt, "put into", put, now.put, first.put)?;
+        print_step(rt, "put into and grown", ENTRIES, now.grown, first.grown)?;
         print_step(rt, "written", ENTRIES, now.written, first.written)?;
     }
     Ok(())
