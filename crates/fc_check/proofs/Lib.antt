@@ -1,1 +1,2 @@
 mod LostLemmas
+mod SumLemmas
