@@ -2,7 +2,7 @@
 use Rattle.std.proofs.Common.{◌≡◌, ◌<◌, ◌≤◌, ℕ, zero, suc, ◌+◌, Bool, true, false, cond, List, [], ◌∷◌, ◌++◌, length, refl, sym, ap, ap₂, subst, ◌∙◌, arith, Some, None, Option, take}
 use Rattle.std.specs.Prelude.{Result, Ok, Contains, filter, find, is_some, slice_get, ◌&&◌}
 use Rattle.std.specs.List.{flat_map, range_with_len}
-use Rattle.std.specs.Option.{option_map, option_map_or}
+use Rattle.std.specs.Option.{option_map, option_map_or, unwrap_or}
 use Rattle.std.specs.declared.cmp.Ordering.{Ordering}
 use Rattle.std.specs.declared.cmp.Ordering.TheVariants.{Less, Equal, Greater}
 use Rattle.std.specs.Ordering.{is_eq, ordering_then, ordering_reverse}
@@ -42,6 +42,35 @@ pub many-append : {X : Type 0} (t : X → Bool) (xs ys : List X) → many t (xs 
 unfolding many
 many-append t [] ys = omega arith
 many-append t (x ∷ xs) ys = let rest = many-append t xs ys in omega arith
+
+same_some : {X : Type 0} (x y : X) → Some x ≡ Some y → x ≡ y
+same_some x y e = ap (λ o. unwrap_or o x) e
+
+one_more : (b : Bool) (n : ℕ) → b ≡ true → cond b 1 0 + n ≡ 1 + n
+one_more true n e = refl
+one_more false n e = absurd (cc)
+
+some_pass : {X : Type 0} (t : X → Bool) (xs : List X) (i : ℕ) (x : X) → slice_get xs i ≡ Some x → t x ≡ true → 1 ≤ many t xs
+unfolding many
+some_pass t [] i x is e = absurd (cc)
+some_pass t (z ∷ xs) zero x is e = let here = one_more (t z) (many t xs) (ap t (same_some z x is) ∙ e) in omega arith
+some_pass t (z ∷ xs) (suc i) x is e = let later = some_pass t xs i x is e in omega arith
+
+-- where one element passes, it has one place
+pub only_one : {X : Type 0} (t : X → Bool) (xs : List X) (i j : ℕ) (x y : X) → many t xs ≤ 1 → slice_get xs i ≡ Some x → slice_get xs j ≡ Some y
+    → t x ≡ true → t y ≡ true → i ≡ j
+unfolding many
+only_one t [] i j x y low is is' e e' = absurd (cc)
+only_one t (z ∷ xs) zero zero x y low is is' e e' = refl
+only_one t (z ∷ xs) zero (suc j) x y low is is' e e' =
+    let here = one_more (t z) (many t xs) (ap t (same_some z x is) ∙ e) in
+    let later = some_pass t xs j y is' e' in
+    absurd (omega arith)
+only_one t (z ∷ xs) (suc i) zero x y low is is' e e' =
+    let here = one_more (t z) (many t xs) (ap t (same_some z y is') ∙ e') in
+    let later = some_pass t xs i x is e in
+    absurd (omega arith)
+only_one t (z ∷ xs) (suc i) (suc j) x y low is is' e e' = let same = only_one t xs i j x y (omega arith) is is' e e' in omega arith
 
 many_fewer : {X : Type 0} (t s : X → Bool) (xs : List X) → many t (filter s xs) ≤ many t xs
 unfolding many

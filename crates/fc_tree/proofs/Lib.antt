@@ -1,1 +1,4 @@
 pub mod SlotLemmas
+pub mod ChangedSlotLemmas
+pub mod WalkedLemmas
+pub mod NumberLemmas

@@ -1,5 +1,5 @@
 -- Laws of the nodes that stand for a walk's objects.
-use Rattle.std.specs.Prelude.{◌≡◌, ℕ, true, List, ◌∷◌, [], map, option_map, Option, Some, None, Result, Ok, Err, Contains, IsPermutation}
+use Rattle.std.specs.Prelude.{◌≡◌, ℕ, true, List, ◌∷◌, [], map, option_map, Some, Result, Ok, Err, Contains, IsPermutation}
 use Rattle.std.specs.Ordering.{nat_cmp, is_le}
 use Rattle.std.specs.FinMap.{FinMap, get}
 use Rattle.fc_names.specs.declared.refusal.Refusal.{Refusal}
@@ -13,7 +13,7 @@ use Rattle.fc_image.specs.Objects.{objects_of, node_of, tree_of}
 use Rattle.fc_tree.specs.declared.node.Node.{Node}
 use Rattle.fc_tree.specs.declared.node.Found.{Found}
 use Rattle.fc_tree.specs.declared.node.Found.TheVariants as founds
-use Rattle.fc_tree.specs.Nodes.{Numbers, nodes_of, found_in, number_of, HoldObjects}
+use Rattle.fc_tree.specs.Nodes.{nodes_of, found_in, number_of, HoldObjects}
 use Rattle.fc_tree.specs.Agree.{InOrder, IsDirectory}
 use Rattle.fc_tree.specs.Numbered.{AreNumbered}
 

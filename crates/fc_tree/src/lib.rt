@@ -3,12 +3,21 @@
 #![tactic(auto)]
 
 mod node;
+mod slots;
+mod tree;
 
 ghost use Rattle.fc_tree.specs.Agree.{NodesLaw};
+ghost use Rattle.fc_tree.specs.Laws.{NumbersLaw};
 
 pub use node::{Body, Found, Node, TreeError};
+pub use tree::Tree;
 
 /// The nodes of a tree tell what the listings say from which they were made.
 pub fn nodes_tell()
     ensures { NodesLaw }
+{}
+
+/// Nodes numbered in the order of a walk's objects hold them.
+pub fn numbered()
+    ensures { NumbersLaw }
 {}

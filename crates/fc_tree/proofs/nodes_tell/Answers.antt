@@ -1,8 +1,7 @@
-use Rattle.std.specs.Prelude.{◌≡◌, refl, Result, Ok}
+use Rattle.std.specs.Prelude.{◌≡◌, refl, Ok}
 use Rattle.std.proofs.Common.{ap, ◌∙◌}
 use Rattle.std.specs.Option.{option_and_then}
 use Rattle.std.specs.FinMap.{get}
-use Rattle.fc_dirs.specs.declared.DirFault.{DirFault}
 use Rattle.fc_dirs.specs.Directory.{Directory}
 use Rattle.fc_tree.specs.Nodes.{body_in, body_of}
 use Rattle.fc_tree.specs.Agree.{content_in, said_by}
