@@ -1,6 +1,6 @@
 // The space of a disc: its holes, and what is lost.
 
-ghost use Rattle.std.specs.Prelude.{◌≡◌, ◌+◌, ◌-◌, ◌*◌, ◌/◌, ◌<◌, ◌≤◌, ◌^◌};
+ghost use Rattle.std.specs.Prelude.{◌≡◌, ◌+◌, ◌-◌, ◌*◌, ◌/◌, ◌<◌, ◌^◌};
 ghost use Rattle.fc_oldmap.specs.Holes.{hole_sum};
 ghost use Rattle.fc_image.specs.Layout.{Layout};
 ghost use Rattle.fc_image.specs.Report.{free_bytes, hole_count};
@@ -94,8 +94,7 @@ fn new_counts(map: &NewMap, owners: &Owners) -> SpaceCounts
 
 // How many sectors are left of some when those of the owners are taken away.
 fn left_by(sectors: u64, owners: &[Owner]) -> u64
-    ensures value { result ≡ left_by sectors owners.now }
-    ensures few { result ≤ sectors }
+    ensures { result ≡ left_by sectors owners.now }
 {
     owners
         .iter()

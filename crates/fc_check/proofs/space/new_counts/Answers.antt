@@ -50,12 +50,14 @@ loop-run-preserved c =
 pub overflow_mul-result : goal.overflow_mul-result
 overflow_mul-result c =
     let room = c.loop-run.invariant.room in
-    rw c.geometry-g.ensures.value (bytes_fit c.args.map.now.geometry c.loop-run.sums.free c.geometry-g.ensures.map.of_record (omega (arith, room)))
+    let fits = bytes_fit c.args.map.now.geometry c.loop-run.sums.free c.geometry-g.ensures.map.of_record (omega (arith, room)) in
+    rw c.geometry-g.ensures.value (omega (arith, fits))
 
 pub overflow_mul-result-2 : goal.overflow_mul-result-2
 overflow_mul-result-2 c =
     let room = c.loop-run.invariant.room in
-    rw c.geometry-g.ensures.value (bytes_fit c.args.map.now.geometry c.loop-run.sums.lost c.geometry-g.ensures.map.of_record (omega (arith, room)))
+    let fits = bytes_fit c.args.map.now.geometry c.loop-run.sums.lost c.geometry-g.ensures.map.of_record (omega (arith, room)) in
+    rw c.geometry-g.ensures.value (omega (arith, fits))
 
 pub returns-clause-holes : goal.returns-clause-holes
 returns-clause-holes c =
