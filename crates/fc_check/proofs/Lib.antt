@@ -1,2 +1,4 @@
 mod LostLemmas
 mod SumLemmas
+mod SortedLemmas
+mod NodeLemmas

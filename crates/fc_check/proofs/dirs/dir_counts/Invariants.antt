@@ -1,0 +1,5 @@
+use Rattle.fc_check.proofs.NodeLemmas.{Count}
+use Rattle.fc_check.proofs.dirs.dir_counts.Given as goal
+
+abbrev pub invariant-loop-n : goal.invariant-loop-n
+invariant-loop-n l = Count l.tree l.counts l.n
