@@ -1,8 +1,8 @@
 -- Nodes numbered in the order of a walk's objects: each object is found at its path, under its number.
-use Rattle.std.proofs.Common.{◌≡◌, ◌<◌, ℕ, zero, suc, ◌+◌, ◌-◌, Bool, true, false, not, ◌&&◌, ◌==◌, List, [], ◌∷◌, ◌++◌, map, length, take, refl, sym, ap, subst, ◌∙◌, arith, length-append, Some, None, Option, Contains, find, slice_get, eq-eqb, ne_eqb, eqb-true, inl, inr}
+use Rattle.std.proofs.Common.{◌≡◌, ℕ, zero, suc, ◌+◌, Bool, true, false, not, ◌&&◌, ◌==◌, List, [], ◌∷◌, ◌++◌, map, length, refl, sym, ap, subst, ◌∙◌, arith, length-append, Some, None, Option, Contains, slice_get, eq-eqb, ne_eqb, eqb-true, inl, inr}
 use Rattle.std.specs.Option.{option_map, option_and_then}
 use Rattle.std.specs.Ordering.{nat_cmp}
-use Rattle.std.specs.FinMap.{FinMap, get, len-entries}
+use Rattle.std.specs.FinMap.{FinMap, len-entries}
 use Rattle.std.proofs.lemmas.Option.{slice_get-map, slice_get_within}
 use Rattle.fc_names.specs.Names.{Path, is_same_name, is_same_path}
 use Rattle.fc_names.proofs.FoldOrder.{fold_law}
@@ -19,7 +19,7 @@ use Rattle.fc_tree.specs.Numbered.{HasBody, HasHolder, IsNodeOf, AreNumbered}
 use Rattle.fc_tree.specs.Laws.{AreSound, NumbersLaw}
 use Rattle.fc_tree.specs.Slots.{slot_at, is_child}
 use Rattle.fc_tree.proofs.SlotLemmas.{get-nodes_of, entries-nodes_of, child_is}
-use Rattle.fc_tree.proofs.WalkedLemmas.{same_place, place_of, element_at, same_some, root, root_path, first_is_root, one_object, child_path, listing_found, no_listing, not_first}
+use Rattle.fc_tree.proofs.WalkedLemmas.{same_place, place_of, element_at, root, root_path, first_is_root, one_object, child_path, listing_found, no_listing, not_first, holder-push}
 
 -- ---- names one by one
 
@@ -38,21 +38,6 @@ number_from-push nodes at (x ∷ path) name = by (child nodes at x) (λ next. nu
         ≡ option_and_then (λ dir. child nodes dir name) (option_and_then (λ next. number_from nodes next path) o)
     by None more = refl
     by (Some next) more = more next
-
-pub holder-push : (path : Path) (name : List ℕ) → holder (path ++ name ∷ []) ≡ path
-holder-push path name = ap (λ (n : ℕ). take n (path ++ name ∷ [])) (short path) ∙ front path
-  where
-    short : (p : Path) → length (p ++ name ∷ []) - 1 ≡ length p
-    short [] = omega arith
-    short (x ∷ p) = let rest = short p in let some = long p in omega arith
-      where
-        long : (q : Path) → 0 < length (q ++ name ∷ [])
-        long [] = omega arith
-        long (y ∷ q) = omega arith
-
-    front : (p : Path) → take (length p) (p ++ name ∷ []) ≡ p
-    front [] = refl
-    front (x ∷ p) = let e : length (x ∷ p) ≡ suc (length p) = omega arith in ap (λ (n : ℕ). take n ((x ∷ p) ++ name ∷ [])) e ∙ ap (λ (q : Path). x ∷ q) (front p)
 
 pub own_name : (name : List ℕ) → is_same_name name name ≡ true
 own_name name = fold_law.same.refl name

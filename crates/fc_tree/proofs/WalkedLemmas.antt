@@ -1,18 +1,20 @@
 -- What the listings of a sound walk are: of each path there is one object and one listing.
-use Rattle.std.proofs.Common.{◌≡◌, ◌<◌, ◌≤◌, ℕ, zero, suc, Bool, true, false, cond, List, [], ◌∷◌, ◌++◌, length, refl, sym, ap, subst, ◌∙◌, arith, Some, None, Contains, find, filter, flat_map, slice_get, unwrap_or}
+use Rattle.std.proofs.Common.{◌≡◌, ◌<◌, ◌≤◌, ℕ, zero, suc, ◌-◌, Bool, true, false, cond, List, [], ◌∷◌, ◌++◌, length, map, take, refl, sym, ap, subst, ◌∙◌, arith, Some, None, Contains, find, filter, flat_map, slice_get, unwrap_or, inl, inr, ◌⊎◌, append_assoc}
 use Rattle.std.proofs.lemmas.Option.{slice_get-get_or, slice_get_within, get_or_from_slice_get}
 use Rattle.fc_names.specs.Names.{Path, is_same_path}
+use Rattle.fc_model.specs.Tree.{holder}
 use Rattle.fc_dirs.specs.declared.Entry.{Entry}
 use Rattle.fc_dirs.specs.Entries.{first_twin}
 use Rattle.fc_dirs.specs.Directory.{Directory, entries_of}
 use Rattle.fc_image.specs.Layout.{Layout}
-use Rattle.fc_image.specs.Walk.{Object, Listing, Reader, is_directory_object}
+use Rattle.fc_image.specs.Opening.{reserved_in}
+use Rattle.fc_image.specs.Walk.{Object, Listing, Reader, reader_of, is_directory_object}
 use Rattle.fc_image.specs.Objects.{objects_of, listing_at}
 use Rattle.fc_image.specs.Edits.{AreChildren, IsListing, Follows, Apart, IsRoot}
 use Rattle.fc_image.proofs.EditLemmas.{walk_gives, root_first}
-use Rattle.fc_image.proofs.PathsLemmas.{many, many-append, NoTwins, is_at, itself, unless, only_one, listed_few, once, root_other}
+use Rattle.fc_image.proofs.PathsLemmas.{opened_walk, many, many-append, NoTwins, is_at, itself, unless, only_one, listed_few, once, root_other}
 use Rattle.fc_tree.specs.Agree.{IsDirectory}
-use Rattle.fc_tree.specs.Laws.{AreSound}
+use Rattle.fc_tree.specs.Laws.{AreSound, SoundLaw}
 
 -- ---- places in lists
 
@@ -58,6 +60,22 @@ pub find_nothing : {X : Type 0} (t : X → Bool) (xs : List X) → ((j : ℕ) (y
 find_nothing t [] never = refl
 find_nothing t (z ∷ xs) never = rw (never zero z refl) (find_nothing t xs (λ j. never (suc j)))
 
+-- what stands before the last name
+pub holder-push : (path : Path) (name : List ℕ) → holder (path ++ name ∷ []) ≡ path
+holder-push path name = ap (λ (n : ℕ). take n (path ++ name ∷ [])) (short path) ∙ front path
+  where
+    short : (p : Path) → length (p ++ name ∷ []) - 1 ≡ length p
+    short [] = omega arith
+    short (x ∷ p) = let rest = short p in let some = long p in omega arith
+      where
+        long : (q : Path) → 0 < length (q ++ name ∷ [])
+        long [] = omega arith
+        long (y ∷ q) = omega arith
+
+    front : (p : Path) → take (length p) (p ++ name ∷ []) ≡ p
+    front [] = refl
+    front (x ∷ p) = let e : length (x ∷ p) ≡ suc (length p) = omega arith in ap (λ (n : ℕ). take n ((x ∷ p) ++ name ∷ [])) e ∙ ap (λ (q : Path). x ∷ q) (front p)
+
 -- ---- what holds of each element
 
 abbrev Each : {X : Type 0} → (X → Type 0) → List X → Type 0
@@ -82,7 +100,7 @@ each_filter P t (x ∷ xs) h = by (t x) refl (each_filter P t xs h.1)
 
 -- ---- listings that follow from what waits
 
-follows_each : (read : Reader) (layout : Layout) (waiting : List Object) (listings : List Listing) → Follows read layout waiting listings
+pub follows_each : (read : Reader) (layout : Layout) (waiting : List Object) (listings : List Listing) → Follows read layout waiting listings
     → (k : ℕ) (l : Listing) → slice_get listings k ≡ Some l → IsListing read layout l
 follows_each read layout [] [] f k l is = absurd (cc)
 follows_each read layout (o ∷ waiting) [] f k l is = absurd f
@@ -112,6 +130,55 @@ held_somewhere (l ∷ listings) (suc j) i m o at is =
     let later = held_somewhere listings j i m o at is in
     behind l.children (flat_map (λ (k : Listing). k.children) listings) later.0 o later.1
 
+either_part : {X : Type 0} (xs ys : List X) (n : ℕ) (x : X) → slice_get (xs ++ ys) n ≡ Some x → (slice_get xs n ≡ Some x) ⊎ ((j : ℕ) × (slice_get ys j ≡ Some x))
+either_part [] ys n x is = inr (n, is)
+either_part (z ∷ xs) ys zero x is = inl is
+either_part (z ∷ xs) ys (suc n) x is = either_part xs ys n x is
+
+held_by_some : (listings : List Listing) (n : ℕ) (o : Object) → slice_get (flat_map (λ l. l.children) listings) n ≡ Some o
+    → (m : Listing) × Contains listings m × Contains m.children o
+held_by_some [] n o is = absurd (cc)
+held_by_some (l ∷ listings) n o is =
+    by (either_part l.children (flat_map (λ (k : Listing). k.children) listings) n o is) (held_by_some listings)
+  where
+    by : (slice_get l.children n ≡ Some o) ⊎ ((j : ℕ) × (slice_get (flat_map (λ k. k.children) listings) j ≡ Some o))
+        → ((j : ℕ) (p : Object) → slice_get (flat_map (λ k. k.children) listings) j ≡ Some p → (m : Listing) × Contains listings m × Contains m.children p)
+        → (m : Listing) × Contains (l ∷ listings) m × Contains m.children o
+    by (inl here) more = (l, contained (l ∷ listings) 0 l refl, contained l.children n o here)
+    by (inr later) more =
+        let found = more later.0 o later.1 in
+        let at = place_of listings found.0 found.1 in
+        (found.0, contained (l ∷ listings) (suc at.0) found.0 at.1, found.2)
+
+-- the walk lists directories in the order in which it finds them
+filter-append : (t : Object → Bool) (xs ys : List Object) → filter t (xs ++ ys) ≡ filter t xs ++ filter t ys
+filter-append t [] ys = refl
+filter-append t (x ∷ xs) ys = by (t x) (filter-append t xs ys)
+  where
+    by : (b : Bool) → filter t (xs ++ ys) ≡ filter t xs ++ filter t ys
+        → cond b (x ∷ filter t (xs ++ ys)) (filter t (xs ++ ys)) ≡ cond b (x ∷ filter t xs) (filter t xs) ++ filter t ys
+    by true e = ap (λ (os : List Object). x ∷ os) e
+    by false e = e
+
+listed_in_order : (read : Reader) (layout : Layout) (waiting : List Object) (listings : List Listing) → Follows read layout waiting listings
+    → map (λ l. l.object) listings ≡ waiting ++ filter is_directory_object (flat_map (λ l. l.children) listings)
+listed_in_order read layout [] [] f = refl
+listed_in_order read layout (o ∷ waiting) [] f = absurd f
+listed_in_order read layout [] (m ∷ listings) f = absurd f
+listed_in_order read layout (o ∷ waiting) (m ∷ listings) f =
+    let kids = filter is_directory_object m.children in
+    let rest = flat_map (λ (l : Listing). l.children) listings in
+    ap (λ (p : Object). p ∷ map (λ (l : Listing). l.object) listings) f.0
+    ∙ ap (λ (os : List Object). o ∷ os)
+    (listed_in_order read layout (waiting ++ kids) listings f.2
+    ∙ append_assoc waiting kids (filter is_directory_object rest)
+    ∙ ap (λ (os : List Object). waiting ++ os) (sym (filter-append is_directory_object m.children rest)))
+
+first_listed : (read : Reader) (layout : Layout) (root : Object) (listings : List Listing) → Follows read layout (root ∷ []) listings
+    → (l : Listing) × Contains listings l × (l.object ≡ root)
+first_listed read layout root [] f = absurd f
+first_listed read layout root (l ∷ listings) f = (l, contained (l ∷ listings) 0 l refl, f.0)
+
 child_named : (layout : Layout) (path : Path) (entries : List Entry) (objects : List Object) (i : ℕ) (o : Object) → AreChildren layout path entries objects
     → slice_get objects i ≡ Some o → o.path ≡ path ++ o.entry.name ∷ []
 child_named layout path [] [] i o c is = absurd (cc)
@@ -123,14 +190,26 @@ child_named layout path (e ∷ entries) (p ∷ objects) zero o c is =
     ∙ ap (λ (d : Entry). path ++ d.name ∷ []) (sym c.1 ∙ ap (λ (x : Object). x.entry) (same_some p o is))
 child_named layout path (e ∷ entries) (p ∷ objects) (suc i) o c is = child_named layout path entries objects i o c.3 is
 
-apart_names : (content : Directory) → IsDirectory content → first_twin (entries_of content) ≡ None
+pub apart_names : (content : Directory) → IsDirectory content → first_twin (entries_of content) ≡ None
 apart_names (Directory.Small dir) is = is.apart
 apart_names (Directory.Big dir) is = is.apart
+
+pub sound_law : SoundLaw
+sound_law image kind v opens =
+    let w = opened_walk image kind v opens in
+    record {
+      read = reader_of image v.layout;
+      reserved = reserved_in kind v.layout;
+      address = w.address;
+      size = w.size;
+      walked = w.walked;
+      apart = w.twins;
+    }
 
 -- ---- a sound walk
 
 module _ (layout : Layout) (listings : List Listing) (sound : AreSound layout listings) where
-  abbrev given : (root : Object) × IsRoot layout sound.address sound.size root × Follows sound.read layout (root ∷ []) listings × Apart sound.reserved (objects_of listings)
+  abbrev pub given : (root : Object) × IsRoot layout sound.address sound.size root × Follows sound.read layout (root ∷ []) listings × Apart sound.reserved (objects_of listings)
   given = walk_gives sound.read layout sound.reserved sound.address sound.size listings sound.walked
 
   abbrev pub root : Object
@@ -149,10 +228,10 @@ module _ (layout : Layout) (listings : List Listing) (sound : AreSound layout li
   pub first_is_root : slice_get (objects_of listings) 0 ≡ Some root
   first_is_root = ap (λ (os : List Object). slice_get os 0) root_and_held
 
-  twins : NoTwins listings
-  twins = λ l at. apart_names l.content (sound.bodies l at)
+  pub twins : NoTwins listings
+  twins = sound.apart
 
-  few_objects : (path : Path) → many (is_at path) (objects_of listings) ≤ 1
+  pub few_objects : (path : Path) → many (is_at path) (objects_of listings) ≤ 1
   few_objects path = once sound.read layout root listings root_path given.2 twins (length path) path refl
 
   -- of each path there is one object,
@@ -221,3 +300,27 @@ module _ (layout : Layout) (listings : List Listing) (sound : AreSound layout li
       let no' = root_other l.object.path o.entry.name in
       let yes' = ap (λ (p : Path). is_same_path [] p) path in
       cc
+
+  -- each object is the root or a directory's
+  pub held_by : (i : ℕ) (o : Object) → slice_get (objects_of listings) i ≡ Some o
+      → ((i ≡ 0) × (o ≡ root)) ⊎ ((l : Listing) × Contains listings l × Contains l.children o)
+  held_by zero o is = inl (refl, same_place (objects_of listings) 0 o root is first_is_root)
+  held_by (suc n) o is = inr (held_by_some listings n o (ap (λ (os : List Object). slice_get os (suc n)) (sym root_and_held) ∙ is))
+
+  -- its holder is listed, and the root's is the root
+  pub holder_listed : (i : ℕ) (o : Object) → slice_get (objects_of listings) i ≡ Some o → (l : Listing) × Contains listings l × (holder o.path ≡ l.object.path)
+  holder_listed i o is = by (held_by i o is)
+    where
+      by : ((i ≡ 0) × (o ≡ root)) ⊎ ((l : Listing) × Contains listings l × Contains l.children o)
+          → (l : Listing) × Contains listings l × (holder o.path ≡ l.object.path)
+      by (inl first) =
+          let l = first_listed sound.read layout root listings given.2 in
+          (l.0, l.1, ap (λ (x : Object). holder x.path) first.1 ∙ ap holder root_path ∙ sym root_path ∙ ap (λ (x : Object). x.path) (sym l.2))
+      by (inr other) = (other.0, other.1, ap holder (child_path other.0 o other.1 other.2) ∙ holder-push other.0.object.path o.entry.name)
+
+  -- the directories among the objects are those that are listed
+  pub directories_listed : filter is_directory_object (objects_of listings) ≡ map (λ l. l.object) listings
+  directories_listed =
+      ap (filter is_directory_object) root_and_held
+      ∙ rw root_is_directory refl
+      ∙ sym (listed_in_order sound.read layout (root ∷ []) listings given.2)
