@@ -2,3 +2,4 @@ mod LostLemmas
 mod SumLemmas
 mod SortedLemmas
 mod NodeLemmas
+mod SpaceLemmas

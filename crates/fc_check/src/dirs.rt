@@ -1,9 +1,10 @@
 // The files and directories of a disc, and what is wrong with its directories.
 
-ghost use Rattle.std.specs.Prelude.{◌≡◌, ◌+◌, ◌<◌, ◌^◌, not};
+ghost use Rattle.std.specs.Prelude.{◌≡◌, ◌+◌, ◌<◌, ◌^◌};
 ghost use Rattle.fc_dirs.specs.Entries.{is_sorted_by_name};
-ghost use Rattle.fc_tree.specs.Nodes.{nodes_of};
-ghost use Rattle.fc_check.specs.Dirs.{address_in, has_other_parent, is_file, is_unsorted, node_count, with_body, with_dir};
+ghost use Rattle.fc_tree.specs.Nodes.{bound_of, nodes_of};
+ghost use Rattle.fc_tree.specs.Counts.{address_in, is_directory_said, is_file_said, is_unsorted_said, is_wrong_parent_said, tally};
+ghost use Rattle.fc_check.specs.Dirs.{with_dir, with_said};
 
 use fc_dirs::Entry;
 use fc_names::fold_less;
@@ -59,7 +60,7 @@ fn with_node(counts: DirCounts, tree: &Tree, node: &Node) -> DirCounts
     requires dirs { counts.dirs + 1 < 2 ^ 64 }
     requires unsorted { counts.unsorted + 1 < 2 ^ 64 }
     requires parents { counts.parents + 1 < 2 ^ 64 }
-    ensures { result ≡ with_body counts (address_in (nodes_of tree.now) node.now.holder) node.now.body }
+    ensures { result ≡ with_said counts (node.now.entry, node.now.body, address_in (nodes_of tree.now) node.now.holder) }
 {
     let address = address_of(tree, node.holder);
     match &node.body {
@@ -76,10 +77,10 @@ fn with_node(counts: DirCounts, tree: &Tree, node: &Node) -> DirCounts
 
 /// The files and directories of a tree.
 pub fn dir_counts(tree: &Tree) -> DirCounts
-    ensures files { result.files ≡ node_count (nodes_of tree.now) (λ address body. is_file body) }
-    ensures dirs { result.dirs ≡ node_count (nodes_of tree.now) (λ address body. not (is_file body)) }
-    ensures unsorted { result.unsorted ≡ node_count (nodes_of tree.now) (λ address body. is_unsorted body) }
-    ensures parents { result.parents ≡ node_count (nodes_of tree.now) has_other_parent }
+    ensures files { result.files ≡ tally (nodes_of tree.now) is_file_said (bound_of tree.now) }
+    ensures dirs { result.dirs ≡ tally (nodes_of tree.now) is_directory_said (bound_of tree.now) }
+    ensures unsorted { result.unsorted ≡ tally (nodes_of tree.now) is_unsorted_said (bound_of tree.now) }
+    ensures parents { result.parents ≡ tally (nodes_of tree.now) is_wrong_parent_said (bound_of tree.now) }
 {
     let mut counts = DirCounts {
         files: 0,
