@@ -15,7 +15,7 @@ use Rattle.fc_tree.specs.declared.node.Node.{Node}
 use Rattle.fc_tree.specs.declared.node.Found.TheVariants as founds
 use Rattle.fc_tree.specs.Nodes.{child, number_of, found_from, is_directory_node, HoldObjects}
 use Rattle.fc_tree.specs.Laws.{AreAlike, AreSound, FindLaw}
-use Rattle.fc_tree.proofs.WalkedLemmas.{root, root_path, few_objects}
+use Rattle.fc_tree.proofs.WalkedLemmas.{same_some, root, root_path, few_objects}
 use Rattle.fc_tree.proofs.SoundLemmas.{folds_alike, same_by_folds, root_object}
 use Rattle.fc_tree.proofs.TreeLemmas.{object_of_node, node_of_object}
 use Rattle.fc_tree.proofs.NumberLemmas.{number_from-push}
@@ -31,9 +31,6 @@ below_none : (t : Tree) (seen names : Path) → node_at t seen ≡ None → foun
 below_none t seen [] e = ap node_or_absent e
 below_none t seen (name ∷ names) e = rw e refl
 
-some_same : (a b : ℕ) → Some a ≡ Some b → a ≡ b
-some_same a b e = cc
-
 -- ---- nodes and objects
 
 module _ (layout : Layout) (listings : List Listing) (nodes : FinMap nat_cmp Node) (sound : AreSound layout listings) (held : HoldObjects nodes listings) where
@@ -46,12 +43,12 @@ module _ (layout : Layout) (listings : List Listing) (nodes : FinMap nat_cmp Nod
   entry_at : (o : Object) (n : ℕ) → Contains (objects_of listings) o → number_of nodes o.path ≡ Some n → option_map (λ m. m.entry) (get nodes n) ≡ Some o.entry
   entry_at o n at e =
       let h = held.each o at in
-      ap (λ k. option_map (λ m. m.entry) (get nodes k)) (some_same n h.number (sym e ∙ h.at_path)) ∙ ap (option_map (λ m. m.entry)) h.is
+      ap (λ k. option_map (λ m. m.entry) (get nodes k)) (same_some n h.number (sym e ∙ h.at_path)) ∙ ap (option_map (λ m. m.entry)) h.is
 
   directory_at : (o : Object) (n : ℕ) → Contains (objects_of listings) o → number_of nodes o.path ≡ Some n → is_directory_node nodes n ≡ is_directory_object o
   directory_at o n at e =
       let h = held.each o at in
-      ap (is_directory_node nodes) (some_same n h.number (sym e ∙ h.at_path)) ∙ ap (λ r. option_map_or (λ m. is_directory m.entry.attrs) r false) h.is
+      ap (is_directory_node nodes) (same_some n h.number (sym e ∙ h.at_path)) ∙ ap (λ r. option_map_or (λ m. is_directory m.entry.attrs) r false) h.is
 
   -- each node is an object's
   pub object_of_number : (n : ℕ) (node : Node) → get nodes n ≡ Some node → (o : Object) × Contains (objects_of listings) o × (number_of nodes o.path ≡ Some n)
@@ -60,7 +57,7 @@ module _ (layout : Layout) (listings : List Listing) (nodes : FinMap nat_cmp Nod
       (taken.0, taken.1, num_is taken.0 taken.1 ∙ ap (λ (k : ℕ). let r : Option ℕ = Some k in r) taken.2)
     where
       has : (o : Object) → Contains (objects_of listings) o → is_some (get nodes (num o)) ≡ true
-      has o at = let h = held.each o at in ap (λ k. is_some (get nodes k)) (some_same (num o) h.number (sym (num_is o at) ∙ h.at_path)) ∙ ap is_some h.is
+      has o at = let h = held.each o at in ap (λ k. is_some (get nodes k)) (same_some (num o) h.number (sym (num_is o at) ∙ h.at_path)) ∙ ap is_some h.is
 
       own : (o p : Object) → Contains (objects_of listings) o → Contains (objects_of listings) p → num o ≡ num p → is_same_path o.path p.path ≡ true
       own o p at bt e =

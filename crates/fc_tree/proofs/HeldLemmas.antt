@@ -1,13 +1,12 @@
 -- Nodes that hold the objects of a sound walk: each node stands for one object, so either can be counted.
-use Rattle.std.proofs.Common.{◌≡◌, ℕ, zero, suc, ◌+◌, Bool, true, false, not, ◌&&◌, ◌==◌, List, [], ◌∷◌, ◌++◌, map, length, refl, sym, ap, subst, ◌∙◌, arith, length-append, Some, None, Option, Ok, Contains, find, slice_get, unwrap_or, cond, remove, IsPermutation, eq-eqb, eqb-true, inl, inr, ◌⊎◌}
-use Rattle.std.specs.Option.{option_map, option_map_or, option_and_then}
+use Rattle.std.proofs.Common.{◌≡◌, ℕ, zero, suc, ◌+◌, Bool, true, false, ◌==◌, List, [], ◌∷◌, map, length, refl, sym, ap, subst, ◌∙◌, arith, Some, Option, Ok, Contains, slice_get, unwrap_or, cond, remove, IsPermutation, eqb-true}
+use Rattle.std.specs.Option.{option_map_or, option_and_then}
 use Rattle.std.specs.Ordering.{nat_cmp, eq_by_cmp}
 use Rattle.std.specs.Cmp.{unsigned_tied}
 use Rattle.std.specs.FinMap.{FinMap, entries, get, get-entries, len-entries}
 use Rattle.std.specs.FinMap.Entries.{find as seek}
 use Rattle.std.proofs.lemmas.Option.{slice_get_within, get_or_from_slice_get}
 use Rattle.std.proofs.lemmas.List.Sorted.{IsPermutation-refl, IsPermutation-cons, IsPermutation-trans, IsPermutation-map, IsPermutation-remove}
-use Rattle.fc_names.specs.Names.{is_same_path}
 use Rattle.fc_model.specs.Tree.{holder}
 use Rattle.fc_dirs.specs.Directory.{Directory}
 use Rattle.fc_image.specs.Layout.{Layout}
@@ -16,12 +15,11 @@ use Rattle.fc_image.specs.Objects.{objects_of, listing_at}
 use Rattle.fc_image.specs.Report.{holder_address}
 use Rattle.fc_image.proofs.PathsLemmas.{itself}
 use Rattle.fc_tree.specs.declared.node.Node.{Node}
-use Rattle.fc_tree.specs.Nodes.{child, number_of, body_in, body_of, HasNode, HoldObjects}
+use Rattle.fc_tree.specs.Nodes.{number_of, body_in, body_of, HasNode, HoldObjects}
 use Rattle.fc_tree.specs.Agree.{reader_of_nodes, content_in, said_by, NodesLaw}
-use Rattle.fc_tree.specs.Slots.{is_child}
 use Rattle.fc_tree.specs.Laws.{AreSound}
 use Rattle.fc_tree.specs.Counts.{address_in, node_says, object_says, HaveCounts, CountsLaw, HolderLaw}
-use Rattle.fc_tree.proofs.WalkedLemmas.{same_some, same_place, place_of, contained, holder-push, root, root_path, one_object, child_path, listed_directory, listing_found, no_listing, held_by, holder_listed, directories_listed}
+use Rattle.fc_tree.proofs.WalkedLemmas.{same_some, same_place, place_of, contained, one_object, listed_directory, listing_found, no_listing, holder_listed, directories_listed}
 use Rattle.fc_tree.proofs.SoundLemmas.{same_by_folds}
 use Rattle.fc_tree.proofs.PlaceLemmas.{one_path}
 

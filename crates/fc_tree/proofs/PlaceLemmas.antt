@@ -13,8 +13,9 @@ use Rattle.fc_image.specs.Walk.{Object}
 use Rattle.fc_image.proofs.PathsLemmas.{many, is_at, same_equal, cut, itself, unless}
 use Rattle.fc_tree.specs.declared.node.Node.{Node}
 use Rattle.fc_tree.specs.Nodes.{child, number_from, number_of}
+use Rattle.fc_tree.proofs.WalkedLemmas.{same_some}
 use Rattle.fc_tree.proofs.NumberLemmas.{number_from-push}
-use Rattle.fc_tree.proofs.MemberLemmas.{contains_here, contains_later, contains_cases, no_element, some_many}
+use Rattle.fc_tree.proofs.MemberLemmas.{contains_here, contains_later, contains_cases, no_element, found_passes, some_many}
 use Rattle.fc_tree.proofs.SoundLemmas.{name_folds_alike, fold_pushed}
 
 -- ---- by folding
@@ -40,9 +41,6 @@ number_folds nodes at (name ∷ names) =
 -- each spelling of a path leads to the same node
 pub same_number : (nodes : FinMap nat_cmp Node) (p q : Path) → folded_path p ≡ folded_path q → number_of nodes p ≡ number_of nodes q
 same_number nodes p q e = number_folds nodes 0 p ∙ ap (number_by nodes 0) e ∙ sym (number_folds nodes 0 q)
-
-pub same_child : (nodes : FinMap nat_cmp Node) (dir : ℕ) (a b : List ℕ) → folded a ≡ folded b → child nodes dir a ≡ child nodes dir b
-same_child nodes dir a b e = ap (child_by nodes dir) e
 
 -- ---- what a map holds
 
@@ -73,18 +71,6 @@ module _ {K X : Type 0} {R : K → K → Ordering} (o : IsTotalOrder R) where
   pub entry_there : (m : FinMap R X) (e : K × X) → Contains (entries m) e → get m e.0 ≡ Some e.1
   entry_there m e at = get-entries m e.0 ∙ value_there (entries m) e (so (is_sorted R (entries m)) (entries_sorted m)) at
 
--- the first element that passes is one
-found_passes : {X : Type 0} (t : X → Bool) (xs : List X) (x : X) → find t xs ≡ Some x → Contains xs x × (t x ≡ true)
-found_passes t [] x h = absurd (cc)
-found_passes {X} t (y ∷ xs) x h = by (t y) refl h (found_passes t xs x)
-  where
-    same : (a b : X) → Some a ≡ Some b → a ≡ b
-    same a b i = cc
-
-    by : (b : Bool) → t y ≡ b → cond b (Some y) (find t xs) ≡ Some x → (find t xs ≡ Some x → Contains xs x × (t x ≡ true)) → Contains (y ∷ xs) x × (t x ≡ true)
-    by true e g more = let is = same y x g in (subst (λ (z : X). Contains (y ∷ xs) z) is (contains_here y xs), subst (λ (z : X). t z ≡ true) is e)
-    by false e g more = let r = more g in (contains_later y x xs r.0, r.1)
-
 -- ---- a step to a node
 
 -- the node of this number stands in that directory, under that name
@@ -105,7 +91,7 @@ child_stands nodes dir name n h = by (find t (entries nodes)) refl h
     by None f g = absurd (cc)
     by (Some e) f g =
         let at = found_passes t (entries nodes) e f in
-        let number : e.0 ≡ n = same e.0 n g in
+        let number : e.0 ≡ n = same_some e.0 n g in
         let placed = first_so ((e.1.holder == dir) && not (e.0 == 0)) (is_same_name name e.1.entry.name) at.1 in
         record {
           node = e.1;
@@ -115,9 +101,6 @@ child_stands nodes dir name n h = by (find t (entries nodes)) refl h
           named = name_folds_alike name e.1.entry.name (second_so ((e.1.holder == dir) && not (e.0 == 0)) (is_same_name name e.1.entry.name) at.1);
         }
       where
-        same : (a b : ℕ) → Some a ≡ Some b → a ≡ b
-        same a b i = cc
-
         never : (b : Bool) → b ≡ true → not b ≡ true → ⊥
         never true p q = cc
         never false p q = cc
@@ -136,12 +119,6 @@ last_step nodes path name n h = by (number_of nodes path) refl (sym (number_from
     by (Some dir) f g = record { dir = dir; above = f; step = g }
 
 -- ---- one path to each node
-
-same_some : (a b : ℕ) → Some a ≡ Some b → a ≡ b
-same_some a b e = cc
-
-same_node : (a b : Node) → Some a ≡ Some b → a ≡ b
-same_node a b e = cc
 
 pub one_path : (nodes : FinMap nat_cmp Node) (n : ℕ) (long : ℕ) (p q : Path) → length p ≡ long → number_of nodes p ≡ Some n → number_of nodes q ≡ Some n
     → folded_path p ≡ folded_path q
@@ -162,7 +139,7 @@ one_path nodes n (suc long) (x ∷ p) (y ∷ q) e f g =
     let t = last_step nodes d.front d.last n (ap (number_of nodes) (sym d.is) ∙ g) in
     let u = child_stands nodes s.dir c.last n s.step in
     let v = child_stands nodes t.dir d.last n t.step in
-    let node = same_node u.node v.node (sym u.is ∙ v.is) in
+    let node = same_some u.node v.node (sym u.is ∙ v.is) in
     let dir : s.dir ≡ t.dir = sym u.holder ∙ ap (λ (m : Node). m.holder) node ∙ v.holder in
     let shorter = c.shorter in
     let front = one_path nodes s.dir long c.front d.front (omega (arith, e, shorter)) s.above (t.above ∙ ap (λ (k : ℕ). let r : Option ℕ = Some k in r) (sym dir)) in

@@ -15,10 +15,10 @@ use Rattle.fc_tree.specs.Slots.{slot_at, is_child}
 
 -- ---- the node of a number
 
-other : (q k : ℕ) → (q ≡ k → ⊥) → eq_by_cmp nat_cmp q k ≡ false
+pub other : (q k : ℕ) → (q ≡ k → ⊥) → eq_by_cmp nat_cmp q k ≡ false
 other q k apart = unsigned_tied q k ∙ ne_eqb q k apart
 
-level : (q k : ℕ) → q ≡ k → eq_by_cmp nat_cmp q k ≡ true
+pub level : (q k : ℕ) → q ≡ k → eq_by_cmp nat_cmp q k ≡ true
 level q k same = ap is_eq (sym (nat_cmp_is q k Equal same))
 
 find_under : (slots : List (Option Node)) (start q : ℕ) → q < start → find nat_cmp q (numbered_from start slots) ≡ None

@@ -1,5 +1,5 @@
 -- The objects of a sound walk: what their paths tell of each other.
-use Rattle.std.proofs.Common.{◌≡◌, ◌⊎◌, inl, inr, ⊎_elim, ℕ, true, List, [], ◌∷◌, ◌++◌, map, refl, ap, ap₂, subst, ◌∙◌, is_eq}
+use Rattle.std.proofs.Common.{◌≡◌, ◌⊎◌, inl, inr, ⊎_elim, ℕ, true, List, [], ◌∷◌, ◌++◌, map, refl, ap, ap₂, subst, ◌∙◌, is_eq, Some}
 use Rattle.std.specs.Prelude.{Contains, slice_get}
 use Rattle.std.specs.List.{flat_map}
 use Rattle.std.specs.Cmp.{IsTotalOrder, nat_cmp_total}
@@ -11,12 +11,12 @@ use Rattle.fc_dirs.specs.declared.Entry.{Entry}
 use Rattle.fc_dirs.specs.Directory.{entries_of}
 use Rattle.fc_image.specs.Layout.{Layout}
 use Rattle.fc_image.specs.Walk.{Object, Listing}
-use Rattle.fc_image.specs.Objects.{objects_of}
+use Rattle.fc_image.specs.Objects.{objects_of, listing_at}
 use Rattle.fc_image.specs.Edits.{AreChildren}
 use Rattle.fc_image.proofs.PathsLemmas.{is_at, same_equal, itself}
 use Rattle.fc_tree.specs.Laws.{AreSound}
-use Rattle.fc_tree.proofs.WalkedLemmas.{same_place, place_of, contained, follows_each, given, root, root_and_held, first_is_root, few_objects, one_listing}
-use Rattle.fc_tree.proofs.MemberLemmas.{contains_cases, from_flat, one_passes}
+use Rattle.fc_tree.proofs.WalkedLemmas.{same_place, place_of, contained, follows_each, given, root, root_and_held, first_is_root, few_objects, one_listing, listed_directory}
+use Rattle.fc_tree.proofs.MemberLemmas.{contains_cases, from_flat, found_passes, one_passes}
 
 -- ---- paths by folding
 
@@ -75,3 +75,10 @@ module _ (layout : Layout) (listings : List Listing) (sound : AreSound layout li
       let i = place_of listings l at in
       let j = place_of listings k bt in
       same_place listings i.0 l k i.1 (ap (slice_get listings) (one_listing layout listings sound path i.0 j.0 l k i.1 j.1 e f) ∙ j.1)
+
+  -- what is listed at an object's path is the object
+  pub listing_of : (o : Object) (l : Listing) → Contains (objects_of listings) o → listing_at listings o.path ≡ Some l → Contains listings l × (l.object ≡ o)
+  listing_of o l at h =
+      let found = found_passes (λ (k : Listing). is_same_path o.path k.object.path) listings l h in
+      let there = listed_directory layout listings sound l found.0 in
+      (found.0, same_object o.path l.object o there.0 at found.1 (itself o.path))

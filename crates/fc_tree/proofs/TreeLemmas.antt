@@ -11,6 +11,7 @@ use Rattle.fc_image.specs.Objects.{objects_of, node_of, tree_entry, tree_of}
 use Rattle.fc_image.proofs.PathsLemmas.{same_equal}
 use Rattle.fc_tree.specs.Laws.{AreSound}
 use Rattle.fc_tree.proofs.MemberLemmas.{contains_here, contains_later, contains_cases, no_element, from_map, in_map}
+use Rattle.fc_tree.proofs.WalkedLemmas.{same_some}
 use Rattle.fc_tree.proofs.SoundLemmas.{key_total, same_object}
 
 -- ---- entries under an order
@@ -24,10 +25,7 @@ module _ {K X : Type 0} (R : K → K → Ordering) where
       by : (b : Bool) → eq_by_cmp R q e.0 ≡ b → cond b (Some e.1) (value_at R q es) ≡ Some v
           → (value_at R q es ≡ Some v → (d : K × X) × Contains es d × (R q d.0 ≡ Equal) × (d.1 ≡ v))
           → (d : K × X) × Contains (e ∷ es) d × (R q d.0 ≡ Equal) × (d.1 ≡ v)
-      by true t g more = (e, contains_here e es, same_equal (R q e.0) t, same e.1 v g)
-        where
-          same : (x y : X) → Some x ≡ Some y → x ≡ y
-          same x y i = cc
+      by true t g more = (e, contains_here e es, same_equal (R q e.0) t, same_some e.1 v g)
       by false t g more = let r = more g in (r.0, contains_later e r.0 es r.1, r.2, r.3)
 
   -- where nothing is found no entry ties

@@ -2,12 +2,13 @@
 //! one, stand for a disk.
 #![tactic(auto)]
 
+mod index;
 mod node;
 mod slots;
 mod tree;
 
 ghost use Rattle.fc_tree.specs.Agree.{NodesLaw};
-ghost use Rattle.fc_tree.specs.Counts.{CountsLaw, HolderLaw};
+ghost use Rattle.fc_tree.specs.Counts.{CountsLaw, HolderLaw, TallyLaw};
 ghost use Rattle.fc_tree.specs.Laws.{ChildrenLaw, EntriesLaw, FindLaw, NodeLaw, NumbersLaw, SoundLaw};
 
 pub use node::{Body, Found, Node, TreeError};
@@ -31,6 +32,11 @@ pub fn numbered()
 /// Nodes that hold the objects of a walk can be counted in place of them.
 pub fn counted()
     ensures { CountsLaw }
+{}
+
+/// Numbered nodes that hold the objects of a walk have its counts.
+pub fn tallied()
+    ensures { TallyLaw }
 {}
 
 /// A directory's node says what the directory says, and the node above it has its holder's address.
