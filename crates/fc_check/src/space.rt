@@ -37,6 +37,7 @@ pub struct RunSums {
 
 // The identifier of the defects, and the map's.
 const DEFECTS_ID: u32 = 1;
+
 const MAP_ID: u32 = 2;
 
 // Whether an identifier is lost.
