@@ -83,6 +83,7 @@ fn new_counts(map: &NewMap, owners: &Owners) -> SpaceCounts
         free: 0,
         lost: 0,
     };
+    // All runs; a zone has at most 8192 bits, so the sums fit in bytes too.
     let mut walk = Walk::from_zone(map, 0, g.zones - 1);
     while let Some((_, run)) = walk.next(map) {
         sums = with_run(sums, run, owners);
