@@ -40,3 +40,6 @@ pub fn report(tree: &Tree, space: &Space, owners: &Owners) -> Report
         parents: nodes.parents,
     }
 }
+
+#[cfg(test)]
+mod tests;

@@ -1,7 +1,6 @@
-use Rattle.std.proofs.Common.{◌≡◌, ◌∙◌, ap}
+use Rattle.std.proofs.Common.{◌∙◌, ap}
 use Rattle.fc_image.specs.Layout.{Layout}
-use Rattle.fc_image.specs.Objects.{objects_of}
-use Rattle.fc_image.specs.Report.{Counts, free_bytes, hole_count, lost_bytes}
+use Rattle.fc_image.specs.Report.{Counts, free_bytes, hole_count}
 use Rattle.fc_tree.specs.Nodes.{nodes_of}
 use Rattle.fc_tree.proofs.TallyLemmas.{tally_law}
 use Rattle.fc_tree.proofs.WalkedLemmas.{sound_law}
