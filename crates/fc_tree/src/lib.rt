@@ -2,7 +2,11 @@
 //! one, stand for a disk.
 #![tactic(auto)]
 
+mod children;
+mod claim;
 mod node;
+mod paths;
+mod taken;
 
 ghost use Rattle.fc_tree.specs.Agree.{NodesLaw};
 

@@ -1,0 +1,4 @@
+pub mod PathLemmas
+pub mod TakenLemmas
+pub mod ChildLemmas
+pub mod ClaimLemmas

@@ -1,0 +1,52 @@
+-- A walk over directories, as far as it has come.
+use Rattle.std.specs.Prelude.{◌≡◌, ◌<◌, ℕ, false, List, [], ◌∷◌, reverse, slice_get, Option, Some, None, Result, Ok, Err}
+use Rattle.fc_names.specs.Names.{Path, is_directory}
+use Rattle.fc_dirs.specs.declared.DirError.{DirError}
+use Rattle.fc_dirs.specs.declared.DirError.TheVariants as errors
+use Rattle.fc_dirs.specs.declared.DirFault.{DirFault}
+use Rattle.fc_dirs.specs.Directory.{Directory}
+use Rattle.fc_image.specs.declared.ImageFault.{ImageFault}
+use Rattle.fc_image.specs.Layout.{Layout}
+use Rattle.fc_image.specs.Walk.{Object}
+use Rattle.fc_image.specs.Edits.{IsAt}
+use Rattle.fc_tree.specs.declared.node.Body.TheVariants as bodies
+use Rattle.fc_tree.specs.declared.node.Node.{Node}
+use Rattle.fc_tree.specs.declared.node.TreeError.{TreeError}
+
+-- ---- nodes and the objects that they stand for
+
+-- names lead from the node of a number up to the root, its own name first
+abbrev pub Leads : List Node → ℕ → Path → Type 0
+Leads nodes at [] = at ≡ 0
+Leads nodes at (name ∷ names) = (n : Node) × (slice_get nodes at ≡ Some n) × (n.entry.name ≡ name) × (n.holder < at) × Leads nodes n.holder names
+
+-- the node of a number has the object's entry, its names lead to the object's path, and the object has its place
+pub record StandsFor (layout : Layout) (nodes : List Node) (at : ℕ) (o : Object) : Type 0 where
+  pub node : Node
+  pub is : slice_get nodes at ≡ Some node
+  pub entry : node.entry ≡ o.entry
+  pub names : Path
+  pub leads : Leads nodes at names
+  pub path : o.path ≡ reverse names
+  pub placed : IsAt layout o
+
+-- the node of an object that a directory holds, before it is read
+abbrev pub new_node : ℕ → Object → Node
+new_node at o = record { holder = at; entry = o.entry; body = bodies.File }
+
+-- the node of this number is a file's
+abbrev pub IsFileAt : List Node → ℕ → Type 0
+IsFileAt nodes i = (n : Node) → slice_get nodes i ≡ Some n → is_directory n.entry.attrs ≡ false
+
+-- ---- errors
+
+-- The error is this fault. A disk's fault and want of memory say nothing.
+abbrev pub FailsAs : {A : Type 0} → Result A ImageFault → TreeError → Type 0
+FailsAs result (TreeError.Image fault) = result ≡ Err fault
+FailsAs result TreeError.DiskFault = Unit {0}
+FailsAs result TreeError.NoMemory = Unit {0}
+
+-- The error is the fault of a directory's bytes. Want of memory says nothing.
+abbrev pub IsSaidBy : Result Directory DirFault → DirError → Type 0
+IsSaidBy said (errors.Fault fault) = said ≡ Err fault
+IsSaidBy said errors.NoMemory = Unit {0}
