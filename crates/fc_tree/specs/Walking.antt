@@ -1,17 +1,21 @@
 -- A walk over directories, as far as it has come.
-use Rattle.std.specs.Prelude.{◌≡◌, ◌<◌, ℕ, false, List, [], ◌∷◌, reverse, slice_get, Option, Some, None, Result, Ok, Err}
+use Rattle.std.specs.Prelude.{◌≡◌, ◌<◌, ℕ, false, List, [], ◌∷◌, ◌++◌, map, reverse, slice_get, slice_set, Option, Some, None, Result, Ok, Err}
+use Rattle.std.specs.Option.{ForSome}
 use Rattle.fc_names.specs.Names.{Path, is_directory}
 use Rattle.fc_dirs.specs.declared.DirError.{DirError}
 use Rattle.fc_dirs.specs.declared.DirError.TheVariants as errors
 use Rattle.fc_dirs.specs.declared.DirFault.{DirFault}
-use Rattle.fc_dirs.specs.Directory.{Directory}
+use Rattle.fc_dirs.specs.Directory.{Directory, entries_of}
 use Rattle.fc_image.specs.declared.ImageFault.{ImageFault}
-use Rattle.fc_image.specs.Layout.{Layout}
-use Rattle.fc_image.specs.Walk.{Object}
+use Rattle.fc_image.specs.Layout.{Layout, dir_form}
+use Rattle.fc_image.specs.Walk.{◌>>=◌, Object, at_path, children_of, reader_of}
 use Rattle.fc_image.specs.Edits.{IsAt}
 use Rattle.fc_tree.specs.declared.node.Body.TheVariants as bodies
 use Rattle.fc_tree.specs.declared.node.Node.{Node}
 use Rattle.fc_tree.specs.declared.node.TreeError.{TreeError}
+use Rattle.fc_tree.specs.Agree.{HasForm, IsDirectory}
+use Rattle.fc_tree.specs.Nodes.{body_in}
+use Rattle.fc_tree.specs.Taken.{AreTaken, Marks}
 
 -- ---- nodes and the objects that they stand for
 
@@ -50,3 +54,28 @@ FailsAs result TreeError.NoMemory = Unit {0}
 abbrev pub IsSaidBy : Result Directory DirFault → DirError → Type 0
 IsSaidBy said (errors.Fault fault) = said ≡ Err fault
 IsSaidBy said errors.NoMemory = Unit {0}
+
+-- ---- a directory that is visited
+
+-- the node, where its directory says this
+abbrev pub with_body : Node → Directory → Node
+with_body n dir = record { holder = n.holder; entry = n.entry; body = body_in dir }
+
+-- the objects of what a directory at this path says, and then the sectors that are taken
+abbrev pub said_children : Layout → List ℕ → Path → Result Directory DirFault → Result (List Object × List ℕ) ImageFault
+said_children layout before path said = at_path path said >>= λ dir. children_of layout before path (entries_of dir)
+
+-- The directory of the object of node `at` was read. Its node has what it says, and the nodes of the objects that it holds
+-- stand behind the others.
+pub record IsVisited (layout : Layout) (told : Option (List ℕ)) (was nodes : List Node) (at : ℕ) (o : Object) (before : List ℕ) (marks : Marks) : Type 0 where
+  pub node : Node
+  pub node_is : slice_get was at ≡ Some node
+  pub dir : Directory
+  pub form : HasForm (dir_form layout) o.entry.len dir
+  pub sound : IsDirectory dir
+  pub tells : ForSome told (λ image. reader_of image layout o ≡ Ok dir)
+  pub children : List Object
+  pub after : List ℕ
+  pub held : children_of layout before o.path (entries_of dir) ≡ Ok (children, after)
+  pub taken : AreTaken marks after
+  pub nodes_are : nodes ≡ slice_set (was ++ map (new_node at) children) at (with_body node dir)

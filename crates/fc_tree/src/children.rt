@@ -1,5 +1,5 @@
 // The nodes of the objects that a directory holds.
-ghost use Rattle.std.specs.Prelude.{◌≡◌, ◌++◌, ◌∷◌, [], IfErr, List, ℕ, Ok, OnOk, map};
+ghost use Rattle.std.specs.Prelude.{◌≡◌, ◌++◌, ◌∷◌, [], Err, IfErr, List, ℕ, Ok, OnOk, map};
 ghost use Rattle.fc_image.specs.Layout.{disc_sectors};
 ghost use Rattle.fc_image.specs.Walk.{Object, children_of, object_of};
 ghost use Rattle.fc_space.specs.Space.{layout_of};
@@ -57,6 +57,7 @@ fn add_child(
         → (o : Object) × (object_of (layout_of space.now) before (dir.path ++ entry.now.name ∷ []) entry.now ≡ Ok o)
         × AreTaken taken.new (o.sectors ++ before) × (nodes.new.items ≡ nodes.old.items ++ new_node at o ∷ [])) }
     ensures more { OnOk result ((node : Node) × (nodes.new.items ≡ nodes.old.items ++ node ∷ [])) }
+    ensures no_fault { result ≡ Err TreeError.DiskFault → ⊥ }
     ensures err { IfErr result (λ e. (dir : Object) (before : List ℕ) → StandsFor (layout_of space.now) nodes.old.items at dir → AreTaken taken.old before
         → FailsAs (object_of (layout_of space.now) before (dir.path ++ entry.now.name ∷ []) entry.now) e) }
 {
@@ -96,6 +97,8 @@ pub fn add_children(
     ensures ok { OnOk result ((dir : Object) (before : List ℕ) → StandsFor (layout_of space.now) nodes.old.items at dir → AreTaken taken.old before
         → (objects : List Object) × (after : List ℕ) × (children_of (layout_of space.now) before dir.path entries.now ≡ Ok (objects, after))
         × AreTaken taken.new after × (nodes.new.items ≡ nodes.old.items ++ map (new_node at) objects)) }
+    ensures more { OnOk result ((more : List Node) × (nodes.new.items ≡ nodes.old.items ++ more)) }
+    ensures no_fault { result ≡ Err TreeError.DiskFault → ⊥ }
     ensures err { IfErr result (λ e. (dir : Object) (before : List ℕ) → StandsFor (layout_of space.now) nodes.old.items at dir → AreTaken taken.old before
         → FailsAs (children_of (layout_of space.now) before dir.path entries.now) e) }
 {

@@ -4,8 +4,10 @@
 
 mod children;
 mod claim;
+mod directory;
 mod node;
 mod paths;
+mod reading;
 mod taken;
 
 ghost use Rattle.fc_tree.specs.Agree.{NodesLaw};

@@ -1,4 +1,4 @@
-use Rattle.std.proofs.Common.{◌∙◌, ◌≡◌, ◌++◌, ◌∷◌, [], ◌+◌, ap, sym, subst, arith, drop, List}
+use Rattle.std.proofs.Common.{◌∙◌, ◌≡◌, ◌++◌, ◌∷◌, [], ◌+◌, ap, sym, subst, arith, drop, append-nil, append_assoc, List}
 use Rattle.std.proofs.lemmas.Result.{err_from_is_err_and}
 use Rattle.std.proofs.lemmas.List.{drop_more}
 use Rattle.std.proofs.Math.ListN.{drop_of_length-le}
@@ -14,6 +14,7 @@ loop-entry-init c =
     record {
       sectors = λ i. c.args.taken.now.sectors;
       done = λ dir before stands taken. so_far_none layout before dir c.args.at c.args.entries.now c.args.nodes.now.items c.args.taken.now taken;
+      more = ([], sym (append-nil c.args.nodes.now.items));
       held = c.requires.held;
     }
 
@@ -41,6 +42,9 @@ loop-entry-preserved c =
       so_far_more layout before dir c.args.at c.args.entries.now left rest c.entry-item.result c.args.nodes.now.items c.loop-entry.nodes.items c.add_child.new.nodes.items c.loop-entry.taken c.add_child.new.taken s
       (drop_more c.args.entries.now c.loop-entry.entry-index _ c.loop-entry-test.true ∙ ap (λ e. e ∷ rest) (sym c.entry-item.is))
       (c.in_ok-add_child.ensures.ok dir s.after (so_far_stands layout before dir c.args.at c.args.entries.now left c.args.nodes.now.items c.loop-entry.nodes.items c.loop-entry.taken s stands) s.taken));
+      more = (c.loop-entry.invariant.more.0 ++ c.in_ok-add_child.ensures.more.0 ∷ [],
+      c.in_ok-add_child.ensures.more.1 ∙ ap (λ (ns : List Node). ns ++ c.in_ok-add_child.ensures.more.0 ∷ []) c.loop-entry.invariant.more.1
+      ∙ append_assoc c.args.nodes.now.items c.loop-entry.invariant.more.0 (c.in_ok-add_child.ensures.more.0 ∷ []));
       held = (c.loop-entry.invariant.held.0,
       subst (λ (ns : List Node). StandsFor layout ns c.args.at c.loop-entry.invariant.held.0) (sym c.in_ok-add_child.ensures.more.1)
       (stands_more layout c.loop-entry.nodes.items (c.in_ok-add_child.ensures.more.0 ∷ []) c.args.at c.loop-entry.invariant.held.0 c.loop-entry.invariant.held.1));
