@@ -12,7 +12,7 @@ ghost use Rattle.fc_tree.specs.Nodes.{body_in};
 ghost use Rattle.fc_tree.specs.Taken.{AreTaken};
 ghost use Rattle.fc_tree.specs.Walking.{FailsAs, IsSaidBy, IsVisited, StandsFor, said_children};
 
-use crate::children::add_children;
+use crate::contents::add_children;
 use crate::node::{Body, Node, TreeError};
 use crate::paths::path_of;
 use crate::reading::{ReadError, read_object};

@@ -6,7 +6,7 @@ use Rattle.fc_space.specs.Space.{layout_of}
 use Rattle.fc_tree.specs.declared.node.Node.{Node}
 use Rattle.fc_tree.specs.Walking.{StandsFor}
 use Rattle.fc_tree.proofs.ChildLemmas.{so_far_all, so_far_fails, so_far_more, so_far_none, so_far_stands, stands_more}
-use Rattle.fc_tree.proofs.children.add_children.Goals as goal
+use Rattle.fc_tree.proofs.contents.add_children.Goals as goal
 
 pub loop-entry-init : goal.loop-entry-init
 loop-entry-init c =

@@ -5,7 +5,7 @@ use Rattle.fc_tree.specs.declared.node.Node.{Node}
 use Rattle.fc_tree.specs.Taken.{AreTaken}
 use Rattle.fc_tree.specs.Walking.{StandsFor}
 use Rattle.fc_tree.proofs.ChildLemmas.{SoFar}
-use Rattle.fc_tree.proofs.children.add_children.Given as goal
+use Rattle.fc_tree.proofs.contents.add_children.Given as goal
 
 abbrev pub invariant-loop-entry : goal.invariant-loop-entry
 invariant-loop-entry l = record {

@@ -7,7 +7,7 @@ use Rattle.fc_tree.specs.declared.node.Node.{Node}
 use Rattle.fc_tree.specs.Taken.{AreTaken}
 use Rattle.fc_tree.specs.Walking.{StandsFor, new_node}
 use Rattle.fc_tree.proofs.ClaimLemmas.{object_is}
-use Rattle.fc_tree.proofs.children.add_child.Goals as goal
+use Rattle.fc_tree.proofs.contents.add_child.Goals as goal
 
 pub returns-in-Ok-clause-ok : goal.returns-in-Ok-clause-ok
 returns-in-Ok-clause-ok c = IfOk-weaker c.push_node.result _ _ (λ x h. λ dir before stands taken.
