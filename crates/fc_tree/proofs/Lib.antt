@@ -20,3 +20,7 @@ pub mod KeyLemmas
 pub mod IndexLemmas
 pub mod SortLemmas
 pub mod ChangeLemmas
+pub mod PlaceInLists
+pub mod WalkingLemmas
+pub mod StepLemmas
+pub mod EndLemmas

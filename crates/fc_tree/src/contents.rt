@@ -30,8 +30,8 @@ fn copy_of(entry: &Entry) -> Entry
     }
 }
 
-// Adds a node behind the others.
-fn push_node(nodes: &mut Vec<Node>, node: Node) -> Result<(), TreeError>
+/// Adds a node behind the others.
+pub fn push_node(nodes: &mut Vec<Node>, node: Node) -> Result<(), TreeError>
     ensures ok { OnOk result (nodes.new.items ≡ nodes.old.items ++ node ∷ []) }
     ensures err { IfErr result (λ e. e ≡ TreeError.NoMemory) }
 {

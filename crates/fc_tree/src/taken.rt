@@ -82,8 +82,8 @@ impl Taken {
         true
     }
 
-    // Takes an extent's sectors, as far as they are on the disc.
-    fn take_extent(&mut self, extent: &Extent)
+    /// Takes an extent's sectors, as far as they are on the disc.
+    pub fn take_extent(&mut self, extent: &Extent)
         ensures sectors { self.new.sectors ≡ self.old.sectors }
         ensures taken { (taken : List ℕ) → AreTaken self.old taken → AreTaken self.new (extent_sectors extent.now ++ taken) }
     {
