@@ -16,7 +16,6 @@ use Rattle.fc_dirs.specs.declared.DirFault.{DirFault}
 use Rattle.fc_dirs.specs.declared.DirFault.TheVariants as dirs
 use Rattle.fc_dirs.specs.Entries.{first_twin}
 use Rattle.fc_dirs.specs.Directory.{Directory, directory_size, entries_of}
-use Rattle.fc_dirs.specs.Big.{is_big_size}
 use Rattle.fc_oldmap.specs.OldMap.{FreeSpace}
 use Rattle.fc_newmap.specs.Map.{Map}
 use Rattle.fc_image.specs.Layout.{Layout, dir_form, first_part, id_of, id_sectors, is_among, is_apart, is_object_id, low_of, low_start, sectors_at, some_sectors}
@@ -62,11 +61,13 @@ told_tells (x ∷ listings) taken a some l (suc k, h, e) =
 
 Apart-filter : (taken : List ℕ) (objects : List Object) → Apart taken objects → Apart taken (filter is_directory_object objects)
 Apart-filter taken [] a = tt
-Apart-filter taken (o ∷ objects) a = by (is_directory_object o)
+Apart-filter taken (o ∷ objects) a =
+    by (is_directory_object o) (Apart-filter (o.sectors ++ taken) objects a.1) (Apart-filter taken objects ((apart_law.removed taken [] objects o a).0))
   where
-    by : (b : Bool) → Apart taken (cond b (o ∷ filter is_directory_object objects) (filter is_directory_object objects))
-    by true = (a.0, Apart-filter (o.sectors ++ taken) objects a.1)
-    by false = Apart-filter taken objects ((apart_law.removed taken [] objects o a).0)
+    by : (b : Bool) → Apart (o.sectors ++ taken) (filter is_directory_object objects) → Apart taken (filter is_directory_object objects)
+        → Apart taken (cond b (o ∷ filter is_directory_object objects) (filter is_directory_object objects))
+    by true kept without = (a.0, kept)
+    by false kept without = without
 
 -- ---- directories have sectors
 
@@ -114,16 +115,13 @@ not_apart [] some = absurd (omega arith)
 not_apart (x ∷ xs) some =
     ap (λ (b : Bool). cond ((b || list_any (λ t. t == x) xs) || list_any (is_among (x ∷ xs)) xs) false true) (eq-eqb x x refl)
 
-big_enough : (n : ℕ) → IsTrue (is_big_size n) → 0 < n
-big_enough n h = ?
-
 some_bytes : (form : NameForm) (len : ℕ) (dir : Directory) → HasForm form len dir → IsDirectory dir → 0 < directory_size form len
 some_bytes Seven len (Directory.Small dir) h d = omega arith
 some_bytes Seven len (Directory.Big dir) h d = absurd h
 some_bytes Ten len (Directory.Small dir) h d = omega arith
 some_bytes Ten len (Directory.Big dir) h d = absurd h
 some_bytes Long len (Directory.Small dir) h d = absurd h
-some_bytes Long len (Directory.Big dir) h d = (let big = big_enough dir.size d.size in omega (arith, h, big))
+some_bytes Long len (Directory.Big dir) h d = (let big = d.fits in omega (arith, h, big))
 
 no_twin : (dir : Directory) → IsDirectory dir → first_twin (entries_of dir) ≡ None
 no_twin (Directory.Small dir) d = d.apart
@@ -140,25 +138,29 @@ objects_are (l ∷ done) root e dir =
     let first : l.object ≡ root = two_first l done root _ (sym (append-nil (objects_listed (l ∷ done))) ∙ (rw dir at e)) in
     ap (λ (o : Object). o ∷ flat_map (λ (k : Listing). k.children) (l ∷ done)) first
 
+-- listings of these directories are directories'
+abbrev AreDirs : List Object → Listing → Type 0
+AreDirs objects l = (ls : List Listing) → objects_listed ls ≡ filter is_directory_object objects → Contains ls l → is_directory_object l.object ≡ true
+
 is_dir_listed : (listings : List Listing) (objects : List Object) → objects_listed listings ≡ filter is_directory_object objects → (l : Listing) → Contains listings l → is_directory_object l.object ≡ true
 is_dir_listed listings [] e l c = none listings e c
   where
     none : (ls : List Listing) → objects_listed ls ≡ [] → Contains ls l → is_directory_object l.object ≡ true
     none [] f (k, h, g) = absurd (omega arith)
     none (x ∷ ls) f c = absurd (cc)
-is_dir_listed listings (o ∷ objects) e l c = by (is_directory_object o) refl e
+is_dir_listed listings (o ∷ objects) e l c = by (is_directory_object o) refl e (λ ls f k. is_dir_listed ls objects f l k)
   where
     cons_same : (x : Listing) (ls : List Listing) (os : List Object) → objects_listed (x ∷ ls) ≡ o ∷ os → (x.object ≡ o) × (objects_listed ls ≡ os)
     cons_same x ls os f = (cc, cc)
 
-    on : (ls : List Listing) → is_directory_object o ≡ true → objects_listed ls ≡ o ∷ filter is_directory_object objects → Contains ls l → is_directory_object l.object ≡ true
-    on [] d f (k, h, g) = absurd (omega arith)
-    on (x ∷ ls) d f (zero, h, g) = subst (λ (y : Listing). is_directory_object y.object ≡ true) g (ap is_directory_object ((cons_same x ls _ f).0) ∙ d)
-    on (x ∷ ls) d f (suc k, h, g) = is_dir_listed ls objects ((cons_same x ls _ f).1) l (k, omega arith, g)
+    on : (ls : List Listing) → is_directory_object o ≡ true → objects_listed ls ≡ o ∷ filter is_directory_object objects → Contains ls l → AreDirs objects l → is_directory_object l.object ≡ true
+    on [] d f (k, h, g) more = absurd (omega arith)
+    on (x ∷ ls) d f (zero, h, g) more = subst (λ (y : Listing). is_directory_object y.object ≡ true) g (ap is_directory_object ((cons_same x ls (filter is_directory_object objects) f).0) ∙ d)
+    on (x ∷ ls) d f (suc k, h, g) more = more ls ((cons_same x ls (filter is_directory_object objects) f).1) (k, omega arith, g)
 
-    by : (b : Bool) → is_directory_object o ≡ b → objects_listed listings ≡ cond b (o ∷ filter is_directory_object objects) (filter is_directory_object objects) → is_directory_object l.object ≡ true
-    by true d f = on listings d f c
-    by false d f = is_dir_listed listings objects f l c
+    by : (b : Bool) → is_directory_object o ≡ b → objects_listed listings ≡ cond b (o ∷ filter is_directory_object objects) (filter is_directory_object objects) → AreDirs objects l → is_directory_object l.object ≡ true
+    by true d f more = on listings d f c more
+    by false d f more = more listings f c
 
 abbrev HeldIn : List Object → List Listing → ℕ → Object → Node → Type 0
 HeldIn objects done i o n = ((i ≡ 0) × (n.holder ≡ 0)) ⊎ ((l : Listing) × Contains done l × (slice_get objects n.holder ≡ Some l.object) × Contains l.children o)

@@ -24,3 +24,4 @@ pub mod PlaceInLists
 pub mod WalkingLemmas
 pub mod StepLemmas
 pub mod EndLemmas
+pub mod LoadedLemmas

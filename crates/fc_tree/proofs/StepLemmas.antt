@@ -1,6 +1,6 @@
 -- Steps of a walk over directories, and its end.
-use Rattle.std.proofs.Common.{◌≡◌, ◌<◌, ◌≤◌, ℕ, zero, suc, ◌+◌, ◌⊎◌, inl, inr, Bool, true, false, cond, List, [], ◌∷◌, ◌++◌, length, map, drop, length-append, append_assoc, append-nil, refl, sym, ap, ap₂, subst, ◌∙◌, arith, Some, None, Option}
-use Rattle.std.specs.Prelude.{Contains, Result, Ok, Err, filter, slice_get, slice_set}
+use Rattle.std.proofs.Common.{◌≡◌, ◌<◌, ◌≤◌, ℕ, zero, suc, ◌+◌, ◌-◌, ◌⊎◌, inl, inr, Bool, true, false, cond, List, [], ◌∷◌, ◌++◌, length, map, drop, length-append, append_assoc, append-nil, refl, sym, ap, ap₂, subst, ◌∙◌, arith, Some, None, Option}
+use Rattle.std.specs.Prelude.{Contains, Result, Ok, Err, filter, reverse, slice_get, slice_set}
 use Rattle.std.specs.List.{flat_map}
 use Rattle.std.specs.Option.{ForSome}
 use Rattle.std.proofs.lemmas.Bool.{cases_eq, cases_lt}
@@ -324,8 +324,8 @@ walk_starts layout reserved address size told nodes node left marks nodes_are no
       low = omega arith;
       root_is = dir;
       all = ap length nodes_are;
-      stand = λ i o e. subst (λ (ns : List Node). StandsFor layout ns i o) (sym nodes_are) (only i o e is.0 is.1 is.2);
-      counted = λ i o n e g. one i o n e (ap (λ (ns : List Node). slice_get ns i) (sym nodes_are) ∙ g);
+      stand = λ i p e. subst (λ (ns : List Node). StandsFor layout ns i p) (sym nodes_are) (only i p e is.0 is.1 is.2);
+      counted = λ i p n e g. one i p n e (ap (λ (ns : List Node). slice_get ns i) (sym nodes_are) ∙ g);
       queue = refl;
       apart = (is.3, tt);
       taken_is = refl;
@@ -340,11 +340,60 @@ walk_starts layout reserved address size told nodes node left marks nodes_are no
 
     only : (i : ℕ) (o : Object) → slice_get (found.0 ∷ []) i ≡ Some o → found.0.path ≡ [] → found.0.entry ≡ root_entry address (directory_size (dir_form layout) size) → IsAt layout found.0
         → StandsFor layout (node ∷ []) i o
-    only zero o e path entry placed = subst (StandsFor layout (node ∷ []) zero) (some_same found.0 o e)
+    only zero p e path entry placed = subst (StandsFor layout (node ∷ []) zero) (some_same found.0 p e)
         (record { node = node; is = refl; entry = ap (λ (n : Node). n.entry) node_is ∙ sym entry; names = []; leads = refl; path = path; placed = placed })
-    only (suc i) o e path entry placed = absurd (cc)
+    only (suc i) p e path entry placed = absurd (cc)
 
     one : (i : ℕ) (o : Object) (n : Node) → slice_get (found.0 ∷ []) i ≡ Some o → slice_get (node ∷ []) i ≡ Some n → IsCounted found.0 [] 0 i o n
-    one zero o n e g = subst (λ (x : Node). IsCounted found.0 [] 0 zero o x) (sym node_is ∙ some_same node n g)
+    one zero p n e g = subst (λ (x : Node). IsCounted found.0 [] 0 zero p x) (sym node_is ∙ some_same node n g)
         (record { fresh = λ le. refl; read = λ lt. absurd (omega (arith, lt)); held = inl (refl, refl) })
-    one (suc i) o n e g = absurd (cc)
+    one (suc i) p n e g = absurd (cc)
+
+-- ---- what the loop over directories does
+
+module _ (layout : Layout) (reserved : List ℕ) (address size : ℕ) (told : Option (List ℕ)) (nodes seen : List Node) (from at left : ℕ) (marks : Marks)
+    (before : IsWalking layout reserved address size told nodes from left marks) (same : seen ≡ nodes)
+    (some : (from ≤ at) × (at < length seen) × IsDirectoryAt seen at) (files : (i : ℕ) → from ≤ i → i < at → IsFileAt seen i) where
+  -- the walk has come to the next directory
+  pub come_to : (w : IsWalking layout reserved address size told nodes at left marks) × IsNext layout nodes w.root w.done at
+  come_to =
+      let low : at < length nodes = subst (λ (ns : List Node). at < length ns) same some.1 in
+      let le = some.0 in
+      let w = past_files layout reserved address size told nodes from left (at - from) marks before (omega (arith, low, le))
+      (λ i from_le lt. subst (λ (ns : List Node). IsFileAt ns i) same (files i from_le (omega (arith, lt, le)))) at (omega (arith, le)) in
+      (w, next_is layout reserved address size told nodes at left marks w low (subst (λ (ns : List Node). IsDirectoryAt ns at) same some.2))
+
+  pub there_is : (o : Object) × StandsFor layout nodes at o × (is_directory_object o ≡ true)
+  there_is = let next = come_to.1 in (next.object, next.stands, next.dir)
+
+  pub on_visited : (nodes' : List Node) (marks' : Marks) (left' to : ℕ) → left ≡ suc left' → to ≡ at + 1
+      → ((o : Object) (taken : List ℕ) → StandsFor layout nodes at o → AreTaken marks taken → IsVisited layout told nodes nodes' at o taken marks')
+      → IsWalking layout reserved address size told nodes' to left' marks'
+  on_visited nodes' marks' left' to is to_is visit =
+      let w : IsWalking layout reserved address size told nodes at (suc left') marks = subst (λ (n : ℕ). IsWalking layout reserved address size told nodes at n marks) is come_to.0 in
+      let low : at < length nodes = subst (λ (ns : List Node). at < length ns) same some.1 in
+      let next = next_is layout reserved address size told nodes at (suc left') marks w low (subst (λ (ns : List Node). IsDirectoryAt ns at) same some.2) in
+      subst (λ (n : ℕ). IsWalking layout reserved address size told nodes' n left' marks') (let e : suc at ≡ to = omega (arith, to_is) in e)
+      (visited_on layout reserved address size told nodes nodes' at left' marks marks' w next (visit next.object w.taken next.stands w.marked))
+
+  pub on_failed : (fuel : ℕ) (e : TreeError) → left ≡ suc fuel
+      → ((o : Object) (taken : List ℕ) → StandsFor layout nodes at o → AreTaken marks taken → ForSome told (λ image. FailsAs (said_children layout taken o.path (reader_of image layout o)) e))
+      → ForSome told (λ image. FailsAs (walk (reader_of image layout) layout reserved address size) e)
+  on_failed fuel e is fails = λ image t.
+      (let w = come_to.0 in
+      let next = come_to.1 in
+      visit_fails layout reserved address size told nodes at left marks w next image t fuel is e (fails next.object w.taken next.stands w.marked image t))
+
+  pub on_too_many : (e : TreeError) → left ≡ 0 → ((names : Path) → Leads nodes at names → IsOverlap (reverse names) e)
+      → ForSome told (λ image. FailsAs (walk (reader_of image layout) layout reserved address size) e)
+  on_too_many e none overlap = λ image t.
+      (let w = come_to.0 in
+      let next = come_to.1 in
+      too_many layout reserved address size told nodes at left marks w next image t none e
+      (subst (λ (p : Path). IsOverlap p e) (sym next.stands.path) (overlap next.stands.names next.stands.leads)))
+
+-- an overlap is no fault of a disk
+pub no_disk_fault : {A : Type 0} (path : Path) (e : TreeError) → IsOverlap path e → (let r : Result A TreeError = Err e in r) ≡ Err TreeError.DiskFault → ⊥
+no_disk_fault path (TreeError.Image f) o h = cc
+no_disk_fault path TreeError.DiskFault o h = o
+no_disk_fault path TreeError.NoMemory o h = cc
