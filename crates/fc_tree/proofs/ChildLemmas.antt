@@ -110,9 +110,13 @@ no_more layout after path = refl
 -- all objects
 pub so_far_all : (layout : Layout) (before : List ℕ) (dir : Object) (at : ℕ) (entries left : List Entry) (was nodes : List Node) (marks : Marks) → SoFar layout before dir at entries left was nodes marks → left ≡ []
     → (objects : List Object) × (after : List ℕ) × (children_of layout before dir.path entries ≡ Ok (objects, after)) × AreTaken marks after × (nodes ≡ was ++ map (new_node at) objects)
-so_far_all layout before dir at entries left was nodes marks s none =
-    (s.objects, s.after, s.same ∙ ap (λ (l : List Entry). with_front s.objects (children_of layout s.after dir.path l)) none ∙ ap (with_front s.objects) (no_more layout s.after dir.path) ∙ with_all s.objects s.after,
-    s.taken, s.nodes_are)
+so_far_all layout before dir at entries left was nodes marks s none = (
+  s.objects,
+  s.after,
+  s.same ∙ ap (λ (l : List Entry). with_front s.objects (children_of layout s.after dir.path l)) none ∙ ap (with_front s.objects) (no_more layout s.after dir.path) ∙ with_all s.objects s.after,
+  s.taken,
+  s.nodes_are,
+)
 
 with_fault : (front : List Object) (f : ImageFault) → with_front front (Err f) ≡ Err f
 unfolding with_front

@@ -38,10 +38,11 @@ module _ (layout : Layout) (m : Marks) (before : List ℕ) (path : Path) (e : En
 
   pub claimed : (m' : Marks) (free : Bool) → free ≡ is_free m xs → free ≡ true → ((t : List ℕ) → AreTaken m t → AreTaken m' (xs ++ t))
       → (o : Object) × (object_of layout before path e ≡ Ok o) × AreTaken m' (o.sectors ++ before)
-  claimed m' free is right takes =
-      (record { path = path; entry = e; sectors = xs },
-      judged free is ∙ ap (λ (b : Bool). let r : Result Object ImageFault = cond b (Ok (record { path = path; entry = e; sectors = xs })) (Err (faults.Overlap path)) in r) right,
-      takes before taken)
+  claimed m' free is right takes = (
+    record { path = path; entry = e; sectors = xs },
+    judged free is ∙ ap (λ (b : Bool). let r : Result Object ImageFault = cond b (Ok (record { path = path; entry = e; sectors = xs })) (Err (faults.Overlap path)) in r) right,
+    takes before taken,
+  )
 
   pub refused : (free : Bool) → free ≡ is_free m xs → free ≡ false → object_of layout before path e ≡ Err (faults.Overlap path)
   refused free is wrong =
@@ -63,7 +64,10 @@ object_is layout before path e o h = by (sectors_at layout e.address (object_siz
         on : (b : Bool) → is_apart xs before ≡ b → cond b (Ok (record { path = path; entry = e; sectors = xs })) (Err (faults.Overlap path)) ≡ Ok o
             → (o.path ≡ path) × (o.entry ≡ e) × IsAt layout o × (is_apart o.sectors before ≡ true)
         on true free g =
-            let same : record { path = path; entry = e; sectors = xs } ≡ o = ok_same _ o g in
-            (sym (ap (λ (x : Object). x.path) same), sym (ap (λ (x : Object). x.entry) same),
-            subst (λ (x : Object). IsAt layout x) same is, subst (λ (x : Object). is_apart x.sectors before ≡ true) same free)
+            let same : record { path = path; entry = e; sectors = xs } ≡ o = ok_same _ o g in (
+              sym (ap (λ (x : Object). x.path) same),
+              sym (ap (λ (x : Object). x.entry) same),
+              subst (λ (x : Object). IsAt layout x) same is,
+              subst (λ (x : Object). is_apart x.sectors before ≡ true) same free,
+            )
         on false free g = absurd (cc)

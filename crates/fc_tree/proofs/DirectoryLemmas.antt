@@ -38,26 +38,34 @@ said : (fault : Option DirFault) (a b : Directory) → fault ≡ None → a ≡ 
 said fault a b none same = ap (λ (f : Option DirFault). read_or f a) none ∙ ap (λ (d : Directory). let r : Result Directory DirFault = Ok d in r) same
 
 pub seven_says : (form : NameForm) (bytes : List ℕ) (dir : SmallDir) → form ≡ Seven → IsSmallDir bytes dir → dir.form ≡ Bytes1280 → Says form bytes (bodies.Small dir)
-seven_says form bytes dir is d f = subst (λ (x : NameForm). Says x bytes (bodies.Small dir)) (sym is)
-    (Directory.Small dir, refl,
-    said (small_fault Bytes1280 bytes) (Directory.Small (small_dir Bytes1280 bytes)) (Directory.Small dir) (ap (λ x. small_fault x bytes) (sym f) ∙ d.right)
-    (ap (λ x. Directory.Small (small_dir x bytes)) (sym f) ∙ ap (λ (x : SmallDir). Directory.Small x) d.says), f)
+seven_says form bytes dir is d f = subst (λ (x : NameForm). Says x bytes (bodies.Small dir)) (sym is) (
+  Directory.Small dir,
+  refl,
+  said (small_fault Bytes1280 bytes) (Directory.Small (small_dir Bytes1280 bytes)) (Directory.Small dir) (ap (λ x. small_fault x bytes) (sym f) ∙ d.right)
+      (ap (λ x. Directory.Small (small_dir x bytes)) (sym f) ∙ ap (λ (x : SmallDir). Directory.Small x) d.says),
+  f,
+)
 
 pub ten_says : (form : NameForm) (bytes : List ℕ) (dir : SmallDir) → form ≡ Ten → IsSmallDir bytes dir → dir.form ≡ Bytes2048 → Says form bytes (bodies.Small dir)
-ten_says form bytes dir is d f = subst (λ (x : NameForm). Says x bytes (bodies.Small dir)) (sym is)
-    (Directory.Small dir, refl,
-    said (small_fault Bytes2048 bytes) (Directory.Small (small_dir Bytes2048 bytes)) (Directory.Small dir) (ap (λ x. small_fault x bytes) (sym f) ∙ d.right)
-    (ap (λ x. Directory.Small (small_dir x bytes)) (sym f) ∙ ap (λ (x : SmallDir). Directory.Small x) d.says), f)
+ten_says form bytes dir is d f = subst (λ (x : NameForm). Says x bytes (bodies.Small dir)) (sym is) (
+  Directory.Small dir,
+  refl,
+  said (small_fault Bytes2048 bytes) (Directory.Small (small_dir Bytes2048 bytes)) (Directory.Small dir) (ap (λ x. small_fault x bytes) (sym f) ∙ d.right)
+      (ap (λ x. Directory.Small (small_dir x bytes)) (sym f) ∙ ap (λ (x : SmallDir). Directory.Small x) d.says),
+  f,
+)
 
 big_long : (bytes : List ℕ) → (big_dir bytes).size ≡ length bytes
 unfolding big_dir
 big_long bytes = refl
 
 pub long_says : (form : NameForm) (bytes : List ℕ) (dir : BigDir) → form ≡ Long → IsBigDir bytes dir → Says form bytes (bodies.Big dir)
-long_says form bytes dir is d = subst (λ (x : NameForm). Says x bytes (bodies.Big dir)) (sym is)
-    (Directory.Big dir, refl,
-    said (big_fault bytes) (Directory.Big (big_dir bytes)) (Directory.Big dir) d.right (ap (λ (x : BigDir). Directory.Big x) d.says),
-    sym (ap (λ (x : BigDir). x.size) d.says) ∙ big_long bytes)
+long_says form bytes dir is d = subst (λ (x : NameForm). Says x bytes (bodies.Big dir)) (sym is) (
+  Directory.Big dir,
+  refl,
+  said (big_fault bytes) (Directory.Big (big_dir bytes)) (Directory.Big dir) d.right (ap (λ (x : BigDir). Directory.Big x) d.says),
+  sym (ap (λ (x : BigDir). x.size) d.says) ∙ big_long bytes,
+)
 
 -- ---- sizes
 
@@ -97,11 +105,13 @@ module _ (layout : Layout) (nodes : List Node) (at : ℕ) (o : Object) (stands :
 
     pub node_says : (body : Body) → Says form bytes body
         → (dir : Directory) × (body ≡ body_in dir) × HasForm (dir_form layout) o.entry.len dir × ForSome told (λ image. reader_of image layout o ≡ Ok dir)
-    node_says body s =
-        (s.0, s.1,
-        form_same (dir_form layout) o.entry.len (length bytes) s.0 (size ∙ ap (λ (e : Entry). directory_size (dir_form layout) e.len) node_entry)
-        (subst (λ (f : NameForm). HasForm f (length bytes) s.0) form_is s.3),
-        λ image t. sym (told_is image t) ∙ s.2)
+    node_says body s = (
+      s.0,
+      s.1,
+      form_same (dir_form layout) o.entry.len (length bytes) s.0 (size ∙ ap (λ (e : Entry). directory_size (dir_form layout) e.len) node_entry)
+          (subst (λ (f : NameForm). HasForm f (length bytes) s.0) form_is s.3),
+      λ image t. sym (told_is image t) ∙ s.2,
+    )
 
     pub node_fails : (path : Path) (fault : DirFault) → directory_of form bytes ≡ Err fault → path ≡ o.path
         → ForSome told (λ image. at_path o.path (reader_of image layout o) ≡ Err (faults.Directory path fault))

@@ -191,15 +191,15 @@ walk_ends layout reserved address size told nodes from left marks before files =
       numbered = record {
         all = all ∙ ap length (sym are);
         each = λ i n o node is.
-        (let here : slice_get objects i ≡ Some o = ap (λ (os : List Object). slice_get os i) (sym are) ∙ is in
-        let c = w.counted i o n here node in
-        let s = w.stand i o here in
-        let i_low = slice_get_within nodes i n node in
-        record {
-          entry = ap (λ (x : Node). x.entry) (same_node nodes i n s.node node s.is) ∙ s.entry;
-          body = c.read i_low;
-          held = subst (λ (os : List Object). HeldIn os w.done i o n) (sym are) c.held;
-        });
+            (let here : slice_get objects i ≡ Some o = ap (λ (os : List Object). slice_get os i) (sym are) ∙ is in
+            let c = w.counted i o n here node in
+            let s = w.stand i o here in
+            let i_low = slice_get_within nodes i n node in
+            record {
+              entry = ap (λ (x : Node). x.entry) (same_node nodes i n s.node node s.is) ∙ s.entry;
+              body = c.read i_low;
+              held = subst (λ (os : List Object). HeldIn os w.done i o n) (sym are) c.held;
+            });
       };
       sound = record { read = told_by w.done; reserved = reserved; address = address; size = size; walked = walks (told_by w.done) tells; apart = λ l c. no_twin l.content (w.listed l c).sound };
       forms = λ l c. (w.listed l c).form;

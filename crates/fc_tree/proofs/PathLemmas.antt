@@ -42,9 +42,11 @@ pub way_on : (nodes : List Node) (from at : ℕ) (found found' : Path) (n : Node
 way_on nodes from at found found' n ([], l, all) high e grown = absurd (omega (arith, l))
 way_on nodes from at found found' n (x ∷ rest, l, all) high e grown =
     let same : n ≡ l.0 = same_node nodes at n l.0 e l.1 in
-    let name : n.entry.name ≡ x = ap (λ (m : Node). m.entry.name) same ∙ l.2 in
-    (rest, subst (λ (m : Node). Leads nodes m.holder rest) (sym same) l.4,
-    λ names k. all names k ∙ sym (append_assoc found (x ∷ []) rest) ∙ ap (λ (f : Path). f ++ rest) (ap (λ (y : List ℕ). found ++ y ∷ []) (sym name) ∙ sym grown))
+    let name : n.entry.name ≡ x = ap (λ (m : Node). m.entry.name) same ∙ l.2 in (
+      rest,
+      subst (λ (m : Node). Leads nodes m.holder rest) (sym same) l.4,
+      λ names k. all names k ∙ sym (append_assoc found (x ∷ []) rest) ∙ ap (λ (f : Path). f ++ rest) (ap (λ (y : List ℕ). found ++ y ∷ []) (sym name) ∙ sym grown),
+    )
 
 pub way_ends : (nodes : List Node) (from at : ℕ) (found : Path) → IsOnTheWay nodes from at found → at ≡ 0 → (names : Path) → Leads nodes from names → found ≡ names
 way_ends nodes from at found ([], l, all) none names k = sym (all names k ∙ append-nil found)

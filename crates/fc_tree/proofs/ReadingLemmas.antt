@@ -29,8 +29,8 @@ sectors_fit {d = d} law s n low =
 pub appends_then : (told : Option (List ℕ)) (size : ℕ) (a b c xs ys : List ℕ) → Appends told size a b xs → Appends told size b c ys → Appends told size a c (xs ++ ys)
 appends_then told size a b c xs ys first second = record {
   long = (let l = length-append xs ys in
-    let m : length (xs ++ ys) * size ≡ length xs * size + length ys * size = ap (λ (n : ℕ). n * size) l ∙ mul_add (length xs) (length ys) size in
-    omega (arith, first.long, second.long, m));
+      let m : length (xs ++ ys) * size ≡ length xs * size + length ys * size = ap (λ (n : ℕ). n * size) l ∙ mul_add (length xs) (length ys) size in
+      omega (arith, first.long, second.long, m));
   bytes = λ image is. second.bytes image is ∙ ap (λ (l : List ℕ). l ++ flat_map (sector_at size image) ys) (first.bytes image is)
       ∙ append_assoc a (flat_map (sector_at size image) xs) (flat_map (sector_at size image) ys)
       ∙ ap (λ (l : List ℕ). a ++ l) (sym (flat_map-append (sector_at size image) xs ys));

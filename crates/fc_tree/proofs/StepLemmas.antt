@@ -25,8 +25,38 @@ use Rattle.fc_tree.specs.Walking.{FailsAs, IsDirectoryAt, IsFileAt, IsOverlap, I
 use Rattle.fc_tree.proofs.ChildLemmas.{get_front, stands_more}
 use Rattle.fc_tree.proofs.ClaimLemmas.{object_is}
 use Rattle.fc_tree.proofs.PlaceInLists.{contains_front, contains_last, contains_more, contains_at, get_cases, get_back, get_set, some_same}
-use Rattle.fc_tree.proofs.WalkingLemmas.{IsCounted, IsHeld, IsListed, IsWalking, after, found_by, waiting_from, stands_set, new_stands, child_at, map_get, length-nodes, length-set_node, filter-append, drop_within, waits_past, waits_here, none_waits,
-  Apart-append, taken_by-append, found_more, map_last, step_ok, step_fault, step_none_left, step_end, after_more, after_fault, after_none, root_step}
+use Rattle.fc_tree.proofs.WalkingLemmas.{
+  IsCounted,
+  IsHeld,
+  IsListed,
+  IsWalking,
+  after,
+  found_by,
+  waiting_from,
+  stands_set,
+  new_stands,
+  child_at,
+  map_get,
+  length-nodes,
+  length-set_node,
+  filter-append,
+  drop_within,
+  waits_past,
+  waits_here,
+  none_waits,
+  Apart-append,
+  taken_by-append,
+  found_more,
+  map_last,
+  step_ok,
+  step_fault,
+  step_none_left,
+  step_end,
+  after_more,
+  after_fault,
+  after_none,
+  root_step,
+}
 
 -- ---- files are passed over
 
@@ -54,18 +84,18 @@ past_file layout reserved address size told nodes from left marks w low file =
       all = w.all;
       stand = w.stand;
       counted = λ i o n is node.
-      (let c = w.counted i o n is node in
-      record {
-        fresh = λ le. c.fresh (omega (arith, le));
-        read = λ lt. elim (cases_lt i from) [
-          | inl before ↦ c.read before
-          | inr at ↦ (
-              let i_is : i ≡ from = omega (arith, lt, at) in
-              let o_is : here.0 ≡ o = some_same here.0 o (sym here.1 ∙ ap (slice_get objects) (sym i_is) ∙ is) in
-              inl (ap is_directory_object (sym o_is) ∙ no_dir, c.fresh at))
-        ];
-        held = c.held;
-      });
+          (let c = w.counted i o n is node in
+          record {
+            fresh = λ le. c.fresh (omega (arith, le));
+            read = λ lt. elim (cases_lt i from) [
+              | inl before ↦ c.read before
+              | inr at ↦ (
+                  let i_is : i ≡ from = omega (arith, lt, at) in
+                  let o_is : here.0 ≡ o = some_same here.0 o (sym here.1 ∙ ap (slice_get objects) (sym i_is) ∙ is) in
+                  inl (ap is_directory_object (sym o_is) ∙ no_dir, c.fresh at))
+            ];
+            held = c.held;
+          });
       queue = ap (λ (os : List Object). map (λ (l : Listing). l.object) w.done ++ os) (sym same) ∙ w.queue;
       apart = w.apart;
       taken_is = w.taken_is;
@@ -110,8 +140,12 @@ more_body done l p n (inr (k, c, a, b)) = inr (k, contains_front done (l ∷ [])
 more_held : (root : Object) (done : List Listing) (l : Listing) (i : ℕ) (p : Object) (n : Node) → IsHeld root done i p n → IsHeld root (done ++ l ∷ []) i p n
 more_held root done l i p n (inl top) = inl top
 more_held root done l i p n (inr (k, c, a, b)) =
-    inr (k, contains_front done (l ∷ []) k c,
-    ap (λ (os : List Object). slice_get os n.holder) (found_more root done l) ∙ get_front (found_by root done) l.children n.holder k.object a, b)
+    inr (
+      k,
+      contains_front done (l ∷ []) k c,
+      ap (λ (os : List Object). slice_get os n.holder) (found_more root done l) ∙ get_front (found_by root done) l.children n.holder k.object a,
+      b,
+    )
 
 module _ (layout : Layout) (reserved : List ℕ) (address size : ℕ) (told : Option (List ℕ)) (nodes nodes' : List Node) (at left : ℕ) (marks marks' : Marks)
     (w : IsWalking layout reserved address size told nodes at (suc left) marks) (next : IsNext layout nodes w.root w.done at)
@@ -188,9 +222,12 @@ module _ (layout : Layout) (reserved : List ℕ) (address size : ℕ) (told : Op
       subst (λ (x : Node). IsCounted w.root done' (suc at) i p x) same (record {
         fresh = λ le. refl;
         read = λ lt. absurd (omega (arith, lt, i_is, all, low));
-        held = inr (l, contains_last w.done l,
-        ap (λ (os : List Object). slice_get os at) (found_more w.root w.done l) ∙ get_front objects v.children at o next.is,
-        contains_at v.children j p kid);
+        held = inr (
+          l,
+          contains_last w.done l,
+          ap (λ (os : List Object). slice_get os at) (found_more w.root w.done l) ∙ get_front objects v.children at o next.is,
+          contains_at v.children j p kid,
+        );
       })
 
   here_counted : (p : Object) (n : Node) → slice_get (found_by w.root done') at ≡ Some p → m ≡ n → IsCounted w.root done' (suc at) at p n
@@ -273,7 +310,7 @@ module _ (layout : Layout) (reserved : List ℕ) (address size : ℕ) (told : Op
         counted = step_counted;
         queue = step_queue;
         apart = subst (Apart reserved) (sym (found_more w.root w.done l))
-        (Apart-append reserved objects v.children w.apart (subst (λ (t : List ℕ). Apart t v.children) w.taken_is have.1));
+            (Apart-append reserved objects v.children w.apart (subst (λ (t : List ℕ). Apart t v.children) w.taken_is have.1));
         taken_is = sym have.2 ∙ ap (λ (t : List ℕ). taken_by t v.children) w.taken_is ∙ sym (taken_by-append reserved objects v.children) ∙ ap (taken_by reserved) (sym (found_more w.root w.done l));
         walks = step_walks;
         listed = step_listed;

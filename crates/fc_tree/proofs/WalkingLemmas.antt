@@ -87,9 +87,13 @@ leads_set nodes at n m is entry holder i [] l = l
 leads_set nodes at n m is entry holder i (x ∷ names) l = elim (get_set nodes at i n m is) [
   | inl here ↦ (
       let same : l.0 ≡ n = some_same l.0 n (sym l.1 ∙ ap (slice_get nodes) here.0 ∙ is) in
-      let up : m.holder ≡ l.0.holder = holder ∙ sym (ap (λ (k : Node). k.holder) same) in
-      (m, here.1, ap (λ (e : Entry). e.name) (entry ∙ sym (ap (λ (k : Node). k.entry) same)) ∙ l.2, subst (λ (h : ℕ). h < i) (sym up) l.3,
-      subst (λ (h : ℕ). Leads (slice_set nodes at m) h names) (sym up) (leads_set nodes at n m is entry holder l.0.holder names l.4)))
+      let up : m.holder ≡ l.0.holder = holder ∙ sym (ap (λ (k : Node). k.holder) same) in (
+        m,
+        here.1,
+        ap (λ (e : Entry). e.name) (entry ∙ sym (ap (λ (k : Node). k.entry) same)) ∙ l.2,
+        subst (λ (h : ℕ). h < i) (sym up) l.3,
+        subst (λ (h : ℕ). Leads (slice_set nodes at m) h names) (sym up) (leads_set nodes at n m is entry holder l.0.holder names l.4),
+      ))
   | inr other ↦ (l.0, other.1 ∙ l.1, l.2, l.3, leads_set nodes at n m is entry holder l.0.holder names l.4)
 ]
 

@@ -33,16 +33,8 @@ fn body_of(alloc: Global, form: NameForm, bytes: &[u8]) -> Result<Body, DirError
     ensures err { IfErr result (IsSaidBy (directory_of form bytes.now)) }
 {
     match form {
-        NameForm::Seven => Ok(Body::Small(SmallDir::read(
-            alloc,
-            bytes,
-            SmallForm::Bytes1280,
-        )?)),
-        NameForm::Ten => Ok(Body::Small(SmallDir::read(
-            alloc,
-            bytes,
-            SmallForm::Bytes2048,
-        )?)),
+        NameForm::Seven => Ok(Body::Small(SmallDir::read(alloc, bytes, SmallForm::Bytes1280)?)),
+        NameForm::Ten => Ok(Body::Small(SmallDir::read(alloc, bytes, SmallForm::Bytes2048)?)),
         NameForm::Long => Ok(Body::Big(BigDir::read(alloc, bytes)?)),
     }
 }

@@ -55,7 +55,10 @@ impl Taken {
         ensures disc { result ≤ self.now.sectors }
         ensures last { (s : ℕ) → s < self.now.sectors → extent.now.first ≤ s → (s < result ↔ s < extent.now.first + extent.now.sectors) }
     {
-        extent.first.saturating_add(extent.sectors).min(self.sectors)
+        extent
+            .first
+            .saturating_add(extent.sectors)
+            .min(self.sectors)
     }
 
     // Whether none of an extent's sectors is taken.

@@ -157,9 +157,7 @@ pub fn walk_disk<D: Disk>(
             return Err(overlap_at(alloc, &nodes, at));
         }
         left -= 1;
-        visit(
-            alloc, disk, space, &mut nodes, &mut taken, at, &mut bytes,
-        )?;
+        visit(alloc, disk, space, &mut nodes, &mut taken, at, &mut bytes)?;
         from = at + 1;
     }
     Ok(nodes)

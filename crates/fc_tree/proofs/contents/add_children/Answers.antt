@@ -38,16 +38,20 @@ loop-entry-preserved c =
     record {
       sectors = c.add_child.ensures.sectors ∙ c.loop-entry.invariant.sectors;
       done = λ dir before stands taken.
-      (let s = c.loop-entry.invariant.done dir before stands taken in
-      so_far_more layout before dir c.args.at c.args.entries.now left rest c.entry-item.result c.args.nodes.now.items c.loop-entry.nodes.items c.add_child.new.nodes.items c.loop-entry.taken c.add_child.new.taken s
-      (drop_more c.args.entries.now c.loop-entry.entry-index _ c.loop-entry-test.true ∙ ap (λ e. e ∷ rest) (sym c.entry-item.is))
-      (c.in_ok-add_child.ensures.ok dir s.after (so_far_stands layout before dir c.args.at c.args.entries.now left c.args.nodes.now.items c.loop-entry.nodes.items c.loop-entry.taken s stands) s.taken));
-      more = (c.loop-entry.invariant.more.0 ++ c.in_ok-add_child.ensures.more.0 ∷ [],
-      c.in_ok-add_child.ensures.more.1 ∙ ap (λ (ns : List Node). ns ++ c.in_ok-add_child.ensures.more.0 ∷ []) c.loop-entry.invariant.more.1
-      ∙ append_assoc c.args.nodes.now.items c.loop-entry.invariant.more.0 (c.in_ok-add_child.ensures.more.0 ∷ []));
-      held = (c.loop-entry.invariant.held.0,
-      subst (λ (ns : List Node). StandsFor layout ns c.args.at c.loop-entry.invariant.held.0) (sym c.in_ok-add_child.ensures.more.1)
-      (stands_more layout c.loop-entry.nodes.items (c.in_ok-add_child.ensures.more.0 ∷ []) c.args.at c.loop-entry.invariant.held.0 c.loop-entry.invariant.held.1));
+          (let s = c.loop-entry.invariant.done dir before stands taken in
+          so_far_more layout before dir c.args.at c.args.entries.now left rest c.entry-item.result c.args.nodes.now.items c.loop-entry.nodes.items c.add_child.new.nodes.items c.loop-entry.taken c.add_child.new.taken s
+          (drop_more c.args.entries.now c.loop-entry.entry-index _ c.loop-entry-test.true ∙ ap (λ e. e ∷ rest) (sym c.entry-item.is))
+          (c.in_ok-add_child.ensures.ok dir s.after (so_far_stands layout before dir c.args.at c.args.entries.now left c.args.nodes.now.items c.loop-entry.nodes.items c.loop-entry.taken s stands) s.taken));
+      more = (
+        c.loop-entry.invariant.more.0 ++ c.in_ok-add_child.ensures.more.0 ∷ [],
+        c.in_ok-add_child.ensures.more.1 ∙ ap (λ (ns : List Node). ns ++ c.in_ok-add_child.ensures.more.0 ∷ []) c.loop-entry.invariant.more.1
+            ∙ append_assoc c.args.nodes.now.items c.loop-entry.invariant.more.0 (c.in_ok-add_child.ensures.more.0 ∷ []),
+      );
+      held = (
+        c.loop-entry.invariant.held.0,
+        subst (λ (ns : List Node). StandsFor layout ns c.args.at c.loop-entry.invariant.held.0) (sym c.in_ok-add_child.ensures.more.1)
+            (stands_more layout c.loop-entry.nodes.items (c.in_ok-add_child.ensures.more.0 ∷ []) c.args.at c.loop-entry.invariant.held.0 c.loop-entry.invariant.held.1),
+      );
     }
 
 pub returns-clause-ok : goal.returns-clause-ok
