@@ -2,5 +2,6 @@
 #![tactic(auto)]
 
 mod lines;
+mod maps;
 
 pub use lines::{CommandError, FileRef, Line, Listed, MountError};
