@@ -5,8 +5,9 @@ use Rattle.std.specs.FinMap.{FinMap, get}
 use Rattle.fc_names.specs.declared.refusal.Refusal.{Refusal}
 use Rattle.fc_names.specs.declared.refusal.Refusal.TheVariants as refusals
 use Rattle.fc_names.specs.Names.{Path, is_same_path, name_cmp}
-use Rattle.fc_model.specs.Tree.{Node as ModelNode, children}
+use Rattle.fc_model.specs.Tree.{Node as ModelNode, node_at, children}
 use Rattle.fc_model.specs.Answer.{found}
+use Rattle.fc_dirs.specs.Directory.{entries_of}
 use Rattle.fc_image.specs.Layout.{Layout}
 use Rattle.fc_image.specs.Walk.{Object, Listing, Reader, walk}
 use Rattle.fc_image.specs.Objects.{objects_of, node_of, tree_of}
@@ -59,3 +60,14 @@ ChildrenLaw = (image : List ℕ) (layout : Layout) (listings : List Listing) (l 
     → AreSound layout listings → Contains listings l → is_same_path path l.object.path ≡ true
     → IsPermutation (map (node_of image layout) l.children) nodes → Rise nodes
     → map (λ e. e.1) (children (tree_of image layout listings) path) ≡ nodes
+
+-- In the tree of the image an object's node stands at each spelling of its path.
+abbrev pub NodeLaw : Type 0
+NodeLaw = (image : List ℕ) (layout : Layout) (listings : List Listing) (o : Object) (path : Path)
+    → AreSound layout listings → Contains (objects_of listings) o → is_same_path path o.path ≡ true
+    → node_at (tree_of image layout listings) path ≡ Some (node_of image layout o)
+
+-- The objects of a directory have its entries, in stored order.
+abbrev pub EntriesLaw : Type 0
+EntriesLaw = (layout : Layout) (listings : List Listing) (l : Listing)
+    → AreSound layout listings → Contains listings l → map (λ o. o.entry) l.children ≡ entries_of l.content
