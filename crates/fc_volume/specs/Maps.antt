@@ -4,9 +4,12 @@ use Rattle.std.specs.List.{zip}
 use Rattle.fc_record.specs.declared.DiscRecord.{DiscRecord}
 use Rattle.fc_record.specs.Record.{geometry}
 use Rattle.fc_record.specs.Kinds.{map_record}
+use Rattle.fc_newmap.specs.declared.MapError.{MapError}
+use Rattle.fc_newmap.specs.declared.MapError.TheVariants.{Zone}
 use Rattle.fc_newmap.specs.Map.{first_fault, zone_numbers}
 use Rattle.fc_oldmap.specs.OldMap.{free_space, hole_fault}
 use Rattle.fc_image.specs.declared.ImageFault.{ImageFault}
+use Rattle.fc_image.specs.declared.ImageFault.TheVariants as faults
 use Rattle.fc_image.specs.Layout.{Layout}
 use Rattle.fc_image.specs.Walk.{◌>>=◌}
 use Rattle.fc_image.specs.Opening.{MapAndRoot, agreement, difference, zones_or}
@@ -23,6 +26,10 @@ zones_layout r zones = do
   own ← agreement r (map_record (slice_index_or zones 0 [])) (difference r (map_record (slice_index_or zones 0 [])))
   m ← zones_or (geometry r) zones (first_fault (geometry r) (zip (zone_numbers (geometry r)) zones))
   Ok (Layout.New m, own.root, own.root_size)
+
+-- a zone's fault as the image's
+abbrev pub zone_fault : MapError → ImageFault
+zone_fault (Zone fault) = faults.Zone fault.zone fault.bit
 
 -- the map that was found, or the first fault
 abbrev pub Finds : Result MapAndRoot ImageFault → Result MapFound ImageFault → Type 0

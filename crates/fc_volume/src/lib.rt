@@ -3,5 +3,7 @@
 
 mod lines;
 mod maps;
+mod volume;
 
 pub use lines::{CommandError, FileRef, Line, Listed, MountError};
+pub use volume::Volume;

@@ -1,5 +1,5 @@
 // The map of a disk, and where its root is.
-ghost use Rattle.std.specs.Prelude.{◌≡◌, ◌≤◌, ◌<◌, ◌+◌, ◌*◌, Ok, Err, length, IsTrue, IfOk, IfErr};
+ghost use Rattle.std.specs.Prelude.{◌≡◌, ◌≤◌, ◌<◌, ◌+◌, ◌*◌, ◌/◌, Ok, Err, length, IsTrue, IfOk, IfErr};
 ghost use Rattle.std.specs.Option.{ForSome};
 ghost use Rattle.fc_device.specs.Faults.{Rose};
 ghost use Rattle.fc_record.specs.Record.{IsRecord, geometry};
@@ -13,7 +13,7 @@ ghost use Rattle.fc_image.specs.Layout.{disc_sectors, sector_bytes};
 ghost use Rattle.fc_image.specs.Opening.{agreement, byte_compared, copy_or, difference, map_and_root, new_layout, old_layout};
 ghost use Rattle.fc_space.specs.Space.{layout_of};
 ghost use Rattle.fc_volume.specs.Answers.{IsFaultOf};
-ghost use Rattle.fc_volume.specs.Maps.{Finds, found_of, zones_layout};
+ghost use Rattle.fc_volume.specs.Maps.{Finds, found_of, zone_fault, zones_layout};
 
 use crate::MountError;
 use fc_copies::{CopyError, choose, fetch};
@@ -78,6 +78,17 @@ fn own_record(r: &DiscRecord, sector: &[u8]) -> Result<DiscRecord, ImageFault>
     Ok(own)
 }
 
+// A zone's fault as the image's.
+fn zone_fault(fault: MapError) -> ImageFault
+    ensures { result ≡ zone_fault fault }
+{
+    let MapError::Zone(fault) = fault;
+    ImageFault::Zone {
+        zone: fault.zone,
+        bit: fault.bit,
+    }
+}
+
 // The map in the bytes of the copy that counts.
 fn map_in(bytes: Vec<u8>, r: &DiscRecord) -> Result<MapFound, ImageFault>
     requires record { IsRecord r.now }
@@ -93,10 +104,7 @@ fn map_in(bytes: Vec<u8>, r: &DiscRecord) -> Result<MapFound, ImageFault>
             root: own.root,
             root_size: own.root_size,
         }),
-        Err(MapError::Zone(fault)) => Err(ImageFault::Zone {
-            zone: fault.zone,
-            bit: fault.bit,
-        }),
+        Err(fault) => Err(zone_fault(fault)),
     }
 }
 
