@@ -2,7 +2,7 @@
 use Rattle.std.proofs.Common.{◌≡◌, ◌<◌, ◌≤◌, ℕ, zero, suc, ◌+◌, Bool, true, false, cond, List, [], ◌∷◌, ◌++◌, length, refl, sym, ap, ap₂, subst, ◌∙◌, arith, Some, None, Option, take}
 use Rattle.std.specs.Prelude.{Result, Ok, Contains, filter, find, is_some, slice_get, ◌&&◌}
 use Rattle.std.specs.List.{flat_map, range_with_len}
-use Rattle.std.specs.Option.{option_map, option_map_or}
+use Rattle.std.specs.Option.{option_map, option_map_or, unwrap_or}
 use Rattle.std.specs.declared.cmp.Ordering.{Ordering}
 use Rattle.std.specs.declared.cmp.Ordering.TheVariants.{Less, Equal, Greater}
 use Rattle.std.specs.Ordering.{is_eq, ordering_then, ordering_reverse}
@@ -20,9 +20,11 @@ use Rattle.fc_dirs.specs.Small.{small_fault, small_dir, small_entries, first_nam
 use Rattle.fc_dirs.specs.Big.{big_fault, big_dir, big_entries, frame_fault, has_second_form, first_bad_entry}
 use Rattle.fc_dirs.specs.Directory.{Directory, directory_of, entries_of, read_or}
 use Rattle.fc_image.specs.Layout.{Layout, dir_form}
-use Rattle.fc_image.specs.Walk.{Object, Listing, Reader, reader_of, object_bytes, is_directory_object}
+use Rattle.fc_image.specs.Walk.{Object, Listing, Reader, reader_of, object_bytes, is_directory_object, walk}
 use Rattle.fc_image.specs.Objects.{objects_of}
-use Rattle.fc_image.specs.Opening.{reserved_in}
+use Rattle.fc_record.specs.declared.Kind.{Kind}
+use Rattle.fc_image.specs.Opening.{Opened, reserved_in}
+use Rattle.fc_image.specs.Stays.{OpensAs}
 use Rattle.fc_image.specs.Edits.{AreChildren, Follows, PathsLaw}
 use Rattle.fc_image.proofs.WalkLemmas.{walk-Tells}
 use Rattle.fc_image.proofs.FreeLemmas.{parts_of}
@@ -42,6 +44,35 @@ pub many-append : {X : Type 0} (t : X → Bool) (xs ys : List X) → many t (xs 
 unfolding many
 many-append t [] ys = omega arith
 many-append t (x ∷ xs) ys = let rest = many-append t xs ys in omega arith
+
+same_some : {X : Type 0} (x y : X) → Some x ≡ Some y → x ≡ y
+same_some x y e = ap (λ o. unwrap_or o x) e
+
+one_more : (b : Bool) (n : ℕ) → b ≡ true → cond b 1 0 + n ≡ 1 + n
+one_more true n e = refl
+one_more false n e = absurd (cc)
+
+some_pass : {X : Type 0} (t : X → Bool) (xs : List X) (i : ℕ) (x : X) → slice_get xs i ≡ Some x → t x ≡ true → 1 ≤ many t xs
+unfolding many
+some_pass t [] i x is e = absurd (cc)
+some_pass t (z ∷ xs) zero x is e = let here = one_more (t z) (many t xs) (ap t (same_some z x is) ∙ e) in omega arith
+some_pass t (z ∷ xs) (suc i) x is e = let later = some_pass t xs i x is e in omega arith
+
+-- where one element passes, it has one place
+pub only_one : {X : Type 0} (t : X → Bool) (xs : List X) (i j : ℕ) (x y : X) → many t xs ≤ 1 → slice_get xs i ≡ Some x → slice_get xs j ≡ Some y
+    → t x ≡ true → t y ≡ true → i ≡ j
+unfolding many
+only_one t [] i j x y low is is' e e' = absurd (cc)
+only_one t (z ∷ xs) zero zero x y low is is' e e' = refl
+only_one t (z ∷ xs) zero (suc j) x y low is is' e e' =
+    let here = one_more (t z) (many t xs) (ap t (same_some z x is) ∙ e) in
+    let later = some_pass t xs j y is' e' in
+    absurd (omega arith)
+only_one t (z ∷ xs) (suc i) zero x y low is is' e e' =
+    let here = one_more (t z) (many t xs) (ap t (same_some z y is') ∙ e') in
+    let later = some_pass t xs i x is e in
+    absurd (omega arith)
+only_one t (z ∷ xs) (suc i) (suc j) x y low is is' e e' = let same = only_one t xs i j x y (omega arith) is is' e e' in omega arith
 
 many_fewer : {X : Type 0} (t s : X → Bool) (xs : List X) → many t (filter s xs) ≤ many t xs
 unfolding many
@@ -384,13 +415,30 @@ two_is_many path front middle rest o p h g low =
     let inner = many-append (is_at path) middle (p ∷ rest) in
     omega (arith, one, other, outer, inner, low)
 
-pub paths_law : PathsLaw
-paths_law image kind v front middle rest o p opens e =
+-- the walk of an opened image, whose directories have no twins
+pub record OpenedWalk (image : List ℕ) (kind : Kind) (v : Opened) : Type 0 where
+  pub address : ℕ
+  pub size : ℕ
+  pub walked : walk (reader_of image v.layout) v.layout (reserved_in kind v.layout) address size ≡ Ok v.listings
+  pub twins : NoTwins v.listings
+
+pub opened_walk : (image : List ℕ) (kind : Kind) (v : Opened) → OpensAs image kind v → OpenedWalk image kind v
+opened_walk image kind v opens =
     let parts = parts_of image kind v opens.opened in
     let found = parts.0 in
-    let had = walk_gives (reader_of image found.0) found.0 (reserved_in kind found.0) found.1 found.2 v.listings parts.1.2 in
+    let layout : found.0 ≡ v.layout = ap (λ (w : Opened). w.layout) parts.1.4 in
     let told = walk-Tells (reader_of image found.0) found.0 (reserved_in kind found.0) found.1 found.2 v.listings parts.1.2 in
-    let twins : NoTwins v.listings = λ l at. content_once (dir_form found.0) (object_bytes image found.0 l.object) l.content (told l at) in
-    let most = once (reader_of image found.0) found.0 had.0 v.listings had.1.path had.2 twins (length o.path) o.path refl in
+    record {
+      address = found.1;
+      size = found.2;
+      walked = subst (λ (m : Layout). walk (reader_of image m) m (reserved_in kind m) found.1 found.2 ≡ Ok v.listings) layout parts.1.2;
+      twins = λ l at. content_once (dir_form found.0) (object_bytes image found.0 l.object) l.content (told l at);
+    }
+
+pub paths_law : PathsLaw
+paths_law image kind v front middle rest o p opens e =
+    let w = opened_walk image kind v opens in
+    let had = walk_gives (reader_of image v.layout) v.layout (reserved_in kind v.layout) w.address w.size v.listings w.walked in
+    let most = once (reader_of image v.layout) v.layout had.0 v.listings had.1.path had.2 w.twins (length o.path) o.path refl in
     unless (is_same_path o.path p.path) (λ same.
     two_is_many o.path front middle rest o p (itself o.path) same (subst (λ (os : List Object). many (is_at o.path) os ≤ 1) e most))

@@ -1,8 +1,7 @@
 -- What a directory holds, in the order of folded names, is what the tree lists there.
 use Rattle.std.proofs.Common.{◌≡◌, ◌≤◌, ⊎_elim, ℕ, ◌+◌, Bool, true, false, cond, T, List, [], ◌∷◌, ◌++◌, map, length, take, refl, sym, ap, ap₂, subst, ◌∙◌, arith, Option, Some, None, Ordering, Less, Equal, Greater, is_eq, is_lt, is_le, eqb-true, eq-eqb, nat_cmp}
-use Rattle.std.specs.Prelude.{Contains, IsPermutation, ◌&&◌, ◌==◌, bytes_eq}
-use Rattle.std.specs.List.{starts_with}
-use Rattle.std.specs.Ordering.{eq_by_cmp, ordering_then}
+use Rattle.std.specs.Prelude.{Contains, IsPermutation, ◌&&◌, ◌==◌}
+use Rattle.std.specs.Ordering.{ordering_then}
 use Rattle.std.specs.Cmp.{nat_cmp_total, tied_itself, first_so, second_so}
 use Rattle.std.specs.Cmp.Lexicographic.{slice_cmp, lists_total, pointwise_decides, bytes_decides}
 use Rattle.std.specs.FinMap.{get-entries, entries, entries_sorted, find as value_at, is_sorted}
@@ -11,15 +10,15 @@ use Rattle.std.proofs.lemmas.List.{length-map, length_push, take_at}
 use Rattle.std.proofs.lemmas.List.Sorted.{Contains-permutation, IsPermutation-sym}
 use Rattle.fc_names.specs.Names.{Path, folded, folded_path, key_cmp, name_cmp, is_same_name, is_same_path}
 use Rattle.fc_model.specs.Tree.{Node, children, is_prefix}
-use Rattle.fc_dirs.specs.declared.Entry.{Entry}
 use Rattle.fc_dirs.specs.Directory.{entries_of}
 use Rattle.fc_image.specs.Layout.{Layout}
 use Rattle.fc_image.specs.Walk.{Object, Listing}
 use Rattle.fc_image.specs.Objects.{objects_of, node_of, tree_entry, tree_of}
-use Rattle.fc_image.proofs.PathsLemmas.{many, has_that, names_once, same_equal}
-use Rattle.fc_tree.specs.Laws.{Rise, ChildrenLaw}
-use Rattle.fc_tree.proofs.MemberLemmas.{contains_here, contains_later, from_map, in_map, some_many, many_permuted, many_mapped}
-use Rattle.fc_tree.proofs.SoundLemmas.{key_total, key_exact, folds_alike, same_by_folds, fold_pushed, Walked, walked_of, child_path, children_stored, child_object, root_or_child, same_object, same_listing}
+use Rattle.fc_image.proofs.PathsLemmas.{many, has_that, names_once}
+use Rattle.fc_tree.specs.Laws.{AreSound, Rise, ChildrenLaw}
+use Rattle.fc_tree.proofs.MemberLemmas.{from_map, in_map, many_permuted, many_mapped}
+use Rattle.fc_tree.proofs.WalkedLemmas.{root, root_path, twins, child_path, child_is_object}
+use Rattle.fc_tree.proofs.SoundLemmas.{key_total, key_exact, folds_alike, same_by_folds, fold_pushed, children_stored, root_or_child, same_object, same_listing}
 use Rattle.fc_tree.proofs.TreeLemmas.{value_is, no_value, tree_get}
 
 -- ---- keys below a directory
@@ -161,19 +160,19 @@ unkeyed : (front : Path) (nodes : List Node) → map (λ e. e.1) (map (keyed fro
 unkeyed front [] = refl
 unkeyed front (n ∷ nodes) = ap (λ (ns : List Node). n ∷ ns) (unkeyed front nodes)
 
-module _ (image : List ℕ) (layout : Layout) (listings : List Listing) (w : Walked listings) (l : Listing) (at : Contains listings l) (path : Path)
+module _ (image : List ℕ) (layout : Layout) (listings : List Listing) (sound : AreSound layout listings) (l : Listing) (at : Contains listings l) (path : Path)
     (same : is_same_path path l.object.path ≡ true) (nodes : List Node) (all : IsPermutation (map (node_of image layout) l.children) nodes) where
   -- a child's entry in the tree is its node's
   child_entry : (o : Object) → Contains l.children o → tree_entry image layout o ≡ keyed (folded_path path) (node_of image layout o)
   child_entry o in' =
-      ap (λ (k : Path). let e : Path × Node = (k, node_of image layout o) in e) (ap folded_path (child_path listings w l o at in') ∙ fold_pushed l.object.path o.entry.name
+      ap (λ (k : Path). let e : Path × Node = (k, node_of image layout o) in e) (ap folded_path (child_path layout listings sound l o at in') ∙ fold_pushed l.object.path o.entry.name
       ∙ ap (λ (k : Path). k ++ folded o.entry.name ∷ []) (sym (folds_alike path l.object.path same)))
 
   few_names : (name : List ℕ) → many (named name) nodes ≤ 1
   few_names name =
-      let once = names_once (entries_of l.content) name (w.twins l at) in
+      let once = names_once (entries_of l.content) name (twins layout listings sound l at) in
       let stored : many (has_that name) (entries_of l.content) ≡ many (λ (o : Object). has_that name o.entry) l.children =
-      ap (many (has_that name)) (sym (children_stored listings w l at)) ∙ many_mapped (has_that name) (λ (o : Object). o.entry) l.children in
+      ap (many (has_that name)) (sym (children_stored layout listings sound l at)) ∙ many_mapped (has_that name) (λ (o : Object). o.entry) l.children in
       let moved : many (named name) nodes ≡ many (λ (o : Object). has_that name o.entry) l.children =
       many_permuted (named name) (map (node_of image layout) l.children) nodes all ∙ many_mapped (named name) (node_of image layout) l.children in
       omega (arith, once, stored, moved)
@@ -185,38 +184,43 @@ module _ (image : List ℕ) (layout : Layout) (listings : List Listing) (w : Wal
       let o = from_map (node_of image layout) l.children n.0 (Contains-permutation nodes (map (node_of image layout) l.children) n.0 (IsPermutation-sym (map (node_of image layout) l.children) nodes all) n.1) in
       let is : tree_entry image layout o.0 ≡ e = child_entry o.0 o.1 ∙ ap (keyed (folded_path path)) o.2 ∙ n.2 in (
         subst (λ (d : Path × Node). Contains (map (tree_entry image layout) (objects_of listings)) d) is
-            (in_map (tree_entry image layout) (objects_of listings) o.0 (child_object listings w l o.0 at o.1)),
+            (in_map (tree_entry image layout) (objects_of listings) o.0 (child_is_object layout listings sound l o.0 at o.1)),
         subst (λ (d : Path × Node). is_below path d.0 ≡ true) n.2 (front_below path (folded n.0.name)),
       )
+
+  -- an object whose key is one longer than the path and begins with it is the directory's
+  own_child : (o : Object) (k : Listing) → Contains listings k → Contains k.children o → is_below path (folded_path o.path) ≡ true → Contains l.children o
+  own_child o k in' child below =
+      let key : folded_path o.path ≡ folded_path k.object.path ++ folded o.entry.name ∷ [] =
+      ap folded_path (child_path layout listings sound k o in' child) ∙ fold_pushed k.object.path o.entry.name in
+      let front : folded_path k.object.path ≡ folded_path path = below_front path (folded_path k.object.path) (folded o.entry.name) (ap (is_below path) (sym key) ∙ below) in
+      let one : l ≡ k = same_listing layout listings sound path l k at in' same (same_by_folds path k.object.path (sym front)) in
+      subst (λ (m : Listing). Contains m.children o) (sym one) child
+
+  not_root : (o : Object) → root layout listings sound ≡ o → is_below path (folded_path o.path) ≡ true → ⊥
+  not_root o is below =
+      let none : folded_path o.path ≡ [] = ap folded_path (ap (λ (p : Object). p.path) (sym is) ∙ root_path layout listings sound) in
+      let long : 0 ≡ length path + 1 = eqb-true 0 (length path + 1) (first_so (0 == length path + 1) (is_prefix (folded_path path) []) (ap (is_below path) (sym none) ∙ below)) in
+      absurd (omega (arith, long))
+
+  below_object : (o : Object) → Contains (objects_of listings) o → is_below path (folded_path o.path) ≡ true → Contains l.children o
+  below_object o in' below =
+      ⊎_elim (λ is. absurd (not_root o is below)) (λ child. own_child o child.0 child.1 child.2 below) (root_or_child layout listings sound o in')
 
   below_entry : (e : Path × Node) → Contains (map (tree_entry image layout) (objects_of listings)) e → is_below path e.0 ≡ true → Contains (map (keyed (folded_path path)) nodes) e
   below_entry e in' below =
       let o = from_map (tree_entry image layout) (objects_of listings) e in' in
-      let key : folded_path o.0.path ≡ e.0 = ap (λ (d : Path × Node). d.0) o.2 in
-      ⊎_elim (λ is. absurd (not_root (folded_path o.0.path) (ap folded_path (ap (λ (p : Object). p.path) (sym is) ∙ w.top)) (ap (is_below path) key ∙ below)))
-      (λ child.
-      let whole = child_path listings w child.0 o.0 child.1 child.2 in
-      let pushed = ap folded_path whole ∙ fold_pushed child.0.object.path o.0.entry.name in
-      let front = below_front path (folded_path child.0.object.path) (folded o.0.entry.name) (ap (is_below path) (sym pushed ∙ key) ∙ below) in
-      let one = same_listing listings w path l child.0 at child.1 same (same_by_folds path child.0.object.path (sym front)) in
-      let held = subst (λ (k : Listing). Contains k.children o.0) (sym one) child.2 in
+      let held = below_object o.0 o.1 (ap (λ (d : Path × Node). is_below path d.0) o.2 ∙ below) in
       let node = Contains-permutation (map (node_of image layout) l.children) nodes (node_of image layout o.0) all (in_map (node_of image layout) l.children o.0 held) in
       subst (λ (d : Path × Node). Contains (map (keyed (folded_path path)) nodes) d) (sym (child_entry o.0 held) ∙ o.2)
-      (in_map (keyed (folded_path path)) nodes (node_of image layout o.0) node))
-      (root_or_child listings w o.0 o.1)
-    where
-      not_root : (k : Path) → k ≡ [] → is_below path k ≡ true → ⊥
-      not_root k e h =
-          let long : length k ≡ length path + 1 = eqb-true (length k) (length path + 1) (first_so (length k == length path + 1) (is_prefix (folded_path path) k) h) in
-          let none : length k ≡ 0 = ap length e in
-          absurd (omega (arith, long, none))
+      (in_map (keyed (folded_path path)) nodes (node_of image layout o.0) node)
 
   one_entry : (d e : Path × Node) → Contains (map (tree_entry image layout) (objects_of listings)) d → Contains (map (tree_entry image layout) (objects_of listings)) e → d.0 ≡ e.0 → d ≡ e
   one_entry d e a b tie =
       let o = from_map (tree_entry image layout) (objects_of listings) d a in
       let p = from_map (tree_entry image layout) (objects_of listings) e b in
       let keys : folded_path o.0.path ≡ folded_path p.0.path = ap (λ (x : Path × Node). x.0) o.2 ∙ tie ∙ sym (ap (λ (x : Path × Node). x.0) p.2) in
-      sym o.2 ∙ ap (tree_entry image layout) (same_object listings w o.0.path o.0 p.0 o.1 p.1 (same_by_folds o.0.path o.0.path refl) (same_by_folds o.0.path p.0.path keys)) ∙ p.2
+      sym o.2 ∙ ap (tree_entry image layout) (same_object layout listings sound o.0.path o.0 p.0 o.1 p.1 (same_by_folds o.0.path o.0.path refl) (same_by_folds o.0.path p.0.path keys)) ∙ p.2
 
   children_are : Rise nodes → children (tree_of image layout listings) path ≡ map (keyed (folded_path path)) nodes
   children_are rise =
@@ -229,4 +233,4 @@ module _ (image : List ℕ) (layout : Layout) (listings : List Listing) (w : Wal
 
 pub children_law : ChildrenLaw
 children_law image layout listings l path nodes sound at same all rise =
-    ap (map (λ e. e.1)) (children_are image layout listings (walked_of layout listings sound) l at path same nodes all rise) ∙ unkeyed (folded_path path) nodes
+    ap (map (λ e. e.1)) (children_are image layout listings sound l at path same nodes all rise) ∙ unkeyed (folded_path path) nodes

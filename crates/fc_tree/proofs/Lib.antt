@@ -1,9 +1,14 @@
 pub mod SlotLemmas
 pub mod KeyLemmas
 pub mod IndexLemmas
-mod MemberLemmas
-mod SoundLemmas
-mod TreeLemmas
-mod PlaceLemmas
-mod FindLemmas
-mod ChildrenLemmas
+pub mod ChangedSlotLemmas
+pub mod WalkedLemmas
+pub mod NumberLemmas
+pub mod HeldLemmas
+pub mod MemberLemmas
+pub mod SoundLemmas
+pub mod TreeLemmas
+pub mod PlaceLemmas
+pub mod FindLemmas
+pub mod ChildrenLemmas
+pub mod SortedLemmas

@@ -1,11 +1,12 @@
 -- Elements of lists, of mapped lists and of flattened ones; how many pass a test.
-use Rattle.std.proofs.Common.{◌≡◌, ◌≤◌, ◌⊎◌, inl, inr, ⊎_elim, ℕ, zero, suc, ◌+◌, Bool, true, cond, List, [], ◌∷◌, map, refl, sym, ap, subst, ◌∙◌, arith}
-use Rattle.std.specs.Prelude.{Contains, IsPermutation, sum_by}
+use Rattle.std.proofs.Common.{◌≡◌, ◌≤◌, ◌⊎◌, inl, inr, ⊎_elim, ℕ, zero, suc, ◌+◌, Bool, true, false, cond, List, [], ◌∷◌, map, refl, sym, ap, subst, ◌∙◌, arith, Some}
+use Rattle.std.specs.Prelude.{Contains, IsPermutation, sum_by, slice_get, find}
 use Rattle.std.specs.List.{flat_map}
-use Rattle.std.proofs.lemmas.List.Elements.{Contains-append_cases, Contains-append_left, Contains-append_right}
+use Rattle.std.proofs.lemmas.List.Elements.{Contains-append_cases}
 use Rattle.std.proofs.lemmas.List.Sorted.{sum_by-IsPermutation}
 use Rattle.std.proofs.lemmas.List.Sums.{sum_by-cons}
-use Rattle.fc_image.proofs.PathsLemmas.{many}
+use Rattle.fc_image.proofs.PathsLemmas.{many, only_one}
+use Rattle.fc_tree.proofs.WalkedLemmas.{same_some, same_place, place_of}
 
 pub contains_here : {X : Type 0} (x : X) (xs : List X) → Contains (x ∷ xs) x
 contains_here x xs = (0, omega arith, refl)
@@ -40,12 +41,14 @@ from_flat f (x ∷ xs) y at =
     ⊎_elim (λ here. (x, contains_here x xs, here)) (λ later. let r = from_flat f xs y later in (r.0, contains_later x r.0 xs r.1, r.2))
     (Contains-append_cases (f x) (flat_map f xs) y at)
 
-pub in_flat : {X Y : Type 0} (f : X → List Y) (xs : List X) (x : X) (y : Y) → Contains xs x → Contains (f x) y → Contains (flat_map f xs) y
-in_flat f [] x y at here = absurd (no_element x at)
-in_flat f (z ∷ xs) x y at here =
-    ⊎_elim (λ e. Contains-append_left (f z) (flat_map f xs) y (subst (λ v. Contains (f v) y) (sym e) here))
-    (λ later. Contains-append_right (f z) (flat_map f xs) y (in_flat f xs x y later here))
-    (contains_cases z x xs at)
+-- the first element that passes is one
+pub found_passes : {X : Type 0} (t : X → Bool) (xs : List X) (x : X) → find t xs ≡ Some x → Contains xs x × (t x ≡ true)
+found_passes t [] x h = absurd (cc)
+found_passes {X} t (y ∷ xs) x h = by (t y) refl h (found_passes t xs x)
+  where
+    by : (b : Bool) → t y ≡ b → cond b (Some y) (find t xs) ≡ Some x → (find t xs ≡ Some x → Contains xs x × (t x ≡ true)) → Contains (y ∷ xs) x × (t x ≡ true)
+    by true e g more = let is = same_some y x g in (subst (λ (z : X). Contains (y ∷ xs) z) is (contains_here y xs), subst (λ (z : X). t z ≡ true) is e)
+    by false e g more = let r = more g in (contains_later y x xs r.0, r.1)
 
 -- ---- how many pass
 
@@ -58,22 +61,10 @@ some_many t (y ∷ xs) x at h =
 
 -- of a list where one passes there are no two that pass
 pub one_passes : {X : Type 0} (t : X → Bool) (xs : List X) (x y : X) → many t xs ≤ 1 → Contains xs x → Contains xs y → t x ≡ true → t y ≡ true → x ≡ y
-unfolding many
-one_passes t [] x y low at bt h g = absurd (no_element x at)
-one_passes t (z ∷ xs) x y low at bt h g = by (contains_cases z x xs at) (contains_cases z y xs bt) (one_passes t xs x y)
-  where
-    two : (v w : _) → z ≡ v → t v ≡ true → Contains xs w → t w ≡ true → ⊥
-    two v w e p later q =
-        let one : ◌≡◌ {A = ℕ} (cond (t z) 1 0) 1 = ap (λ (b : Bool). let n : ℕ = cond b 1 0 in n) (ap t e ∙ p) in
-        let more = some_many t xs w later q in
-        omega (arith, one, more, low)
-
-    by : (z ≡ x) ⊎ Contains xs x → (z ≡ y) ⊎ Contains xs y
-        → (many t xs ≤ 1 → Contains xs x → Contains xs y → t x ≡ true → t y ≡ true → x ≡ y) → x ≡ y
-    by (inl e) (inl f) more = sym e ∙ f
-    by (inl e) (inr b) more = absurd (two x y e h b g)
-    by (inr a) (inl f) more = absurd (two y x f g a h)
-    by (inr a) (inr b) more = more (omega (arith, low)) a b h g
+one_passes t xs x y low at bt h g =
+    let i = place_of xs x at in
+    let j = place_of xs y bt in
+    same_place xs i.0 x y i.1 (ap (slice_get xs) (only_one t xs i.0 j.0 x y low i.1 j.1 h g) ∙ j.1)
 
 many_sum : {X : Type 0} (t : X → Bool) (xs : List X) → many t xs ≡ sum_by (λ x. cond (t x) 1 0) xs
 unfolding many

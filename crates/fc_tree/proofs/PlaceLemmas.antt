@@ -1,20 +1,22 @@
 -- Where paths lead among numbered nodes, and that each node is an object's.
-use Rattle.std.proofs.Common.{◌≡◌, ◌≤◌, ◌<◌, ◌⊎◌, inl, inr, ⊎_elim, ℕ, zero, suc, ◌+◌, ◌-◌, Bool, true, false, cond, not, T, List, [], ◌∷◌, ◌++◌, map, length, refl, sym, ap, ap₂, subst, ◌∙◌, arith, Option, Some, None, Ordering, Less, Equal, Greater, is_eq, is_lt, eqb-true, eq-eqb, nat_cmp}
+use Rattle.std.proofs.Common.{◌≡◌, ◌≤◌, ◌⊎◌, inl, inr, ⊎_elim, ℕ, zero, suc, ◌+◌, ◌-◌, Bool, true, false, cond, not, T, List, [], ◌∷◌, ◌++◌, length, refl, sym, ap, ap₂, subst, ◌∙◌, arith, Option, Some, None, Ordering, Less, Equal, Greater, is_eq, is_lt, eqb-true, eq-eqb, nat_cmp}
 use Rattle.std.specs.Prelude.{Contains, ◌&&◌, ◌==◌, is_some, find}
 use Rattle.std.specs.Option.{option_map, option_and_then}
 use Rattle.std.specs.Ordering.{eq_by_cmp, ordering_reverse}
 use Rattle.std.specs.Cmp.{IsTotalOrder, nat_cmp_total, tied_itself, first_so, second_so}
 use Rattle.std.specs.Cmp.Lexicographic.{slice_cmp}
-use Rattle.std.specs.FinMap.{FinMap, get, get-entries, get-empty, get-remove, len, len-remove, empty, empty_of_len, remove, entries, entries_sorted, find as value_at, is_sorted, nat_cmp-IsAntisymmetric}
+use Rattle.std.specs.FinMap.{FinMap, get, get-entries, get-empty, get-remove, len, len-remove, empty_of_len, remove, entries, entries_sorted, find as value_at, is_sorted, nat_cmp-IsAntisymmetric}
 use Rattle.std.specs.FinMap.Entries.{below_all}
 use Rattle.std.proofs.lemmas.Bool.{cases_eq}
 use Rattle.fc_names.specs.Names.{Path, folded, folded_path, is_same_name, is_same_path}
 use Rattle.fc_image.specs.Walk.{Object}
-use Rattle.fc_image.proofs.PathsLemmas.{many, is_at, same_equal, Cut, cut, itself, unless}
+use Rattle.fc_image.proofs.PathsLemmas.{many, is_at, same_equal, cut, itself, unless}
 use Rattle.fc_tree.specs.declared.node.Node.{Node}
 use Rattle.fc_tree.specs.Nodes.{child, number_from, number_of}
-use Rattle.fc_tree.proofs.MemberLemmas.{contains_here, contains_later, contains_cases, no_element, some_many}
-use Rattle.fc_tree.proofs.SoundLemmas.{name_folds_alike, folds_alike, same_by_folds, fold_pushed}
+use Rattle.fc_tree.proofs.WalkedLemmas.{same_some}
+use Rattle.fc_tree.proofs.NumberLemmas.{number_from-push}
+use Rattle.fc_tree.proofs.MemberLemmas.{contains_here, contains_later, contains_cases, no_element, found_passes, some_many}
+use Rattle.fc_tree.proofs.SoundLemmas.{name_folds_alike, fold_pushed}
 
 -- ---- by folding
 
@@ -39,26 +41,6 @@ number_folds nodes at (name ∷ names) =
 -- each spelling of a path leads to the same node
 pub same_number : (nodes : FinMap nat_cmp Node) (p q : Path) → folded_path p ≡ folded_path q → number_of nodes p ≡ number_of nodes q
 same_number nodes p q e = number_folds nodes 0 p ∙ ap (number_by nodes 0) e ∙ sym (number_folds nodes 0 q)
-
-pub same_child : (nodes : FinMap nat_cmp Node) (dir : ℕ) (a b : List ℕ) → folded a ≡ folded b → child nodes dir a ≡ child nodes dir b
-same_child nodes dir a b e = ap (child_by nodes dir) e
-
--- ---- the last step of a path
-
-and_then_some : (o : Option ℕ) → o ≡ option_and_then (λ n. Some n) o
-and_then_some None = refl
-and_then_some (Some n) = refl
-
-pub number_pushed : (nodes : FinMap nat_cmp Node) (at : ℕ) (path : Path) (name : List ℕ)
-    → number_from nodes at (path ++ name ∷ []) ≡ option_and_then (λ dir. child nodes dir name) (number_from nodes at path)
-number_pushed nodes at [] name = sym (and_then_some (child nodes at name))
-number_pushed nodes at (first ∷ path) name = by (child nodes at first) (λ next. number_pushed nodes next path name)
-  where
-    by : (o : Option ℕ) → ((next : ℕ) → number_from nodes next (path ++ name ∷ []) ≡ option_and_then (λ dir. child nodes dir name) (number_from nodes next path))
-        → option_and_then (λ next. number_from nodes next (path ++ name ∷ [])) o
-            ≡ option_and_then (λ dir. child nodes dir name) (option_and_then (λ next. number_from nodes next path) o)
-    by None more = refl
-    by (Some next) more = more next
 
 -- ---- what a map holds
 
@@ -89,18 +71,6 @@ module _ {K X : Type 0} {R : K → K → Ordering} (o : IsTotalOrder R) where
   pub entry_there : (m : FinMap R X) (e : K × X) → Contains (entries m) e → get m e.0 ≡ Some e.1
   entry_there m e at = get-entries m e.0 ∙ value_there (entries m) e (so (is_sorted R (entries m)) (entries_sorted m)) at
 
--- the first element that passes is one
-found_passes : {X : Type 0} (t : X → Bool) (xs : List X) (x : X) → find t xs ≡ Some x → Contains xs x × (t x ≡ true)
-found_passes t [] x h = absurd (cc)
-found_passes {X} t (y ∷ xs) x h = by (t y) refl h (found_passes t xs x)
-  where
-    same : (a b : X) → Some a ≡ Some b → a ≡ b
-    same a b i = cc
-
-    by : (b : Bool) → t y ≡ b → cond b (Some y) (find t xs) ≡ Some x → (find t xs ≡ Some x → Contains xs x × (t x ≡ true)) → Contains (y ∷ xs) x × (t x ≡ true)
-    by true e g more = let is = same y x g in (subst (λ (z : X). Contains (y ∷ xs) z) is (contains_here y xs), subst (λ (z : X). t z ≡ true) is e)
-    by false e g more = let r = more g in (contains_later y x xs r.0, r.1)
-
 -- ---- a step to a node
 
 -- the node of this number stands in that directory, under that name
@@ -121,7 +91,7 @@ child_stands nodes dir name n h = by (find t (entries nodes)) refl h
     by None f g = absurd (cc)
     by (Some e) f g =
         let at = found_passes t (entries nodes) e f in
-        let number : e.0 ≡ n = same e.0 n g in
+        let number : e.0 ≡ n = same_some e.0 n g in
         let placed = first_so ((e.1.holder == dir) && not (e.0 == 0)) (is_same_name name e.1.entry.name) at.1 in
         record {
           node = e.1;
@@ -131,9 +101,6 @@ child_stands nodes dir name n h = by (find t (entries nodes)) refl h
           named = name_folds_alike name e.1.entry.name (second_so ((e.1.holder == dir) && not (e.0 == 0)) (is_same_name name e.1.entry.name) at.1);
         }
       where
-        same : (a b : ℕ) → Some a ≡ Some b → a ≡ b
-        same a b i = cc
-
         never : (b : Bool) → b ≡ true → not b ≡ true → ⊥
         never true p q = cc
         never false p q = cc
@@ -145,19 +112,13 @@ pub record LastStep (nodes : FinMap nat_cmp Node) (path : Path) (name : List ℕ
   pub step : child nodes dir name ≡ Some n
 
 pub last_step : (nodes : FinMap nat_cmp Node) (path : Path) (name : List ℕ) (n : ℕ) → number_of nodes (path ++ name ∷ []) ≡ Some n → LastStep nodes path name n
-last_step nodes path name n h = by (number_of nodes path) refl (sym (number_pushed nodes 0 path name) ∙ h)
+last_step nodes path name n h = by (number_of nodes path) refl (sym (number_from-push nodes 0 path name) ∙ h)
   where
     by : (o : Option ℕ) → number_of nodes path ≡ o → option_and_then (λ dir. child nodes dir name) o ≡ Some n → LastStep nodes path name n
     by None f g = absurd (cc)
     by (Some dir) f g = record { dir = dir; above = f; step = g }
 
 -- ---- one path to each node
-
-same_some : (a b : ℕ) → Some a ≡ Some b → a ≡ b
-same_some a b e = cc
-
-same_node : (a b : Node) → Some a ≡ Some b → a ≡ b
-same_node a b e = cc
 
 pub one_path : (nodes : FinMap nat_cmp Node) (n : ℕ) (long : ℕ) (p q : Path) → length p ≡ long → number_of nodes p ≡ Some n → number_of nodes q ≡ Some n
     → folded_path p ≡ folded_path q
@@ -178,7 +139,7 @@ one_path nodes n (suc long) (x ∷ p) (y ∷ q) e f g =
     let t = last_step nodes d.front d.last n (ap (number_of nodes) (sym d.is) ∙ g) in
     let u = child_stands nodes s.dir c.last n s.step in
     let v = child_stands nodes t.dir d.last n t.step in
-    let node = same_node u.node v.node (sym u.is ∙ v.is) in
+    let node = same_some u.node v.node (sym u.is ∙ v.is) in
     let dir : s.dir ≡ t.dir = sym u.holder ∙ ap (λ (m : Node). m.holder) node ∙ v.holder in
     let shorter = c.shorter in
     let front = one_path nodes s.dir long c.front d.front (omega (arith, e, shorter)) s.above (t.above ∙ ap (λ (k : ℕ). let r : Option ℕ = Some k in r) (sym dir)) in

@@ -1,17 +1,18 @@
 -- What stands in the tree of an image: at the path of each object its node, and nothing else.
-use Rattle.std.proofs.Common.{◌≡◌, ◌⊎◌, ⊎_elim, Bool, true, false, cond, T, List, [], ◌∷◌, map, refl, sym, ap, subst, ◌∙◌, Option, Some, None, Ordering, Equal, is_eq, is_lt, ℕ}
-use Rattle.std.specs.Prelude.{Contains, ◌&&◌}
+use Rattle.std.proofs.Common.{◌≡◌, ⊎_elim, Bool, true, false, cond, List, [], ◌∷◌, map, refl, sym, ap, ◌∙◌, Option, Some, None, Ordering, Equal, is_eq, ℕ}
+use Rattle.std.specs.Prelude.{Contains}
 use Rattle.std.specs.Ordering.{eq_by_cmp}
-use Rattle.std.specs.Cmp.{IsTotalOrder}
-use Rattle.std.specs.FinMap.{get, get-from_entries, find as value_at, is_sorted}
+use Rattle.std.specs.FinMap.{get, get-from_entries, find as value_at}
 use Rattle.fc_names.specs.Names.{Path, folded_path, key_cmp, is_same_path}
 use Rattle.fc_model.specs.Tree.{Node, node_at}
 use Rattle.fc_image.specs.Layout.{Layout}
 use Rattle.fc_image.specs.Walk.{Object, Listing}
 use Rattle.fc_image.specs.Objects.{objects_of, node_of, tree_entry, tree_of}
 use Rattle.fc_image.proofs.PathsLemmas.{same_equal}
+use Rattle.fc_tree.specs.Laws.{AreSound}
 use Rattle.fc_tree.proofs.MemberLemmas.{contains_here, contains_later, contains_cases, no_element, from_map, in_map}
-use Rattle.fc_tree.proofs.SoundLemmas.{key_total, folds_alike, same_by_folds, Walked, same_object}
+use Rattle.fc_tree.proofs.WalkedLemmas.{same_some}
+use Rattle.fc_tree.proofs.SoundLemmas.{key_total, same_object}
 
 -- ---- entries under an order
 
@@ -24,10 +25,7 @@ module _ {K X : Type 0} (R : K → K → Ordering) where
       by : (b : Bool) → eq_by_cmp R q e.0 ≡ b → cond b (Some e.1) (value_at R q es) ≡ Some v
           → (value_at R q es ≡ Some v → (d : K × X) × Contains es d × (R q d.0 ≡ Equal) × (d.1 ≡ v))
           → (d : K × X) × Contains (e ∷ es) d × (R q d.0 ≡ Equal) × (d.1 ≡ v)
-      by true t g more = (e, contains_here e es, same_equal (R q e.0) t, same e.1 v g)
-        where
-          same : (x y : X) → Some x ≡ Some y → x ≡ y
-          same x y i = cc
+      by true t g more = (e, contains_here e es, same_equal (R q e.0) t, same_some e.1 v g)
       by false t g more = let r = more g in (r.0, contains_later e r.0 es r.1, r.2, r.3)
 
   -- where nothing is found no entry ties
@@ -66,13 +64,13 @@ module _ (image : List ℕ) (layout : Layout) (listings : List Listing) where
       (in_map (tree_entry image layout) (objects_of listings) o at) (same_equal (key_cmp (folded_path path) (folded_path o.path)) same)
 
   -- at each object's path stands its node
-  pub node_of_object : Walked listings → (path : Path) (o : Object) → Contains (objects_of listings) o → is_same_path path o.path ≡ true
+  pub node_of_object : AreSound layout listings → (path : Path) (o : Object) → Contains (objects_of listings) o → is_same_path path o.path ≡ true
       → node_at (tree_of image layout listings) path ≡ Some (node_of image layout o)
-  node_of_object w path o at same = by (node_at (tree_of image layout listings) path) refl
+  node_of_object sound path o at same = by (node_at (tree_of image layout listings) path) refl
     where
       by : (n : Option Node) → node_at (tree_of image layout listings) path ≡ n → n ≡ Some (node_of image layout o)
       by None h = absurd (no_object path o h at same)
       by (Some node) h =
           let found = object_of_node path node h in
-          let one = same_object listings w path found.0 o found.1 at found.2 same in
+          let one = same_object layout listings sound path found.0 o found.1 at found.2 same in
           ap (λ (m : Node). let s : Option Node = Some m in s) (found.3 ∙ ap (node_of image layout) one)

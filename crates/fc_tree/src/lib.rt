@@ -7,7 +7,8 @@ mod slots;
 mod tree;
 
 ghost use Rattle.fc_tree.specs.Agree.{NodesLaw};
-ghost use Rattle.fc_tree.specs.Laws.{ChildrenLaw, EntriesLaw, FindLaw, NodeLaw};
+ghost use Rattle.fc_tree.specs.Counts.{CountsLaw, HolderLaw};
+ghost use Rattle.fc_tree.specs.Laws.{ChildrenLaw, EntriesLaw, FindLaw, NodeLaw, NumbersLaw, SoundLaw};
 
 pub use node::{Body, Found, Node, TreeError};
 pub use tree::Tree;
@@ -15,6 +16,26 @@ pub use tree::Tree;
 /// The nodes of a tree tell what the listings say from which they were made.
 pub fn nodes_tell()
     ensures { NodesLaw }
+{}
+
+/// The listings of an opened image are sound.
+pub fn opened()
+    ensures { SoundLaw }
+{}
+
+/// Nodes numbered in the order of a walk's objects hold them.
+pub fn numbered()
+    ensures { NumbersLaw }
+{}
+
+/// Nodes that hold the objects of a walk can be counted in place of them.
+pub fn counted()
+    ensures { CountsLaw }
+{}
+
+/// A directory's node says what the directory says, and the node above it has its holder's address.
+pub fn holders()
+    ensures { HolderLaw }
 {}
 
 /// Paths lead among nodes as in the tree of the image that they stand for.

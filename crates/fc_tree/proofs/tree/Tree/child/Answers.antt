@@ -1,10 +1,8 @@
-use Rattle.std.proofs.Common.{◌≡◌, ◌<◌, length, ℕ, Some, false, sym, ap, ◌∙◌, arith}
+use Rattle.std.proofs.Common.{length, false, sym, ap, ◌∙◌, arith}
 use Rattle.std.specs.Option.{option_map_or}
-use Rattle.std.proofs.lemmas.Option.{slice_get_within}
-use Rattle.fc_tree.specs.declared.node.Node.{Node}
 use Rattle.fc_tree.specs.Nodes.{Numbers}
 use Rattle.fc_tree.specs.Slots.{slot_at, is_child}
-use Rattle.fc_tree.proofs.SlotLemmas.{child_is, no_child, is_child_true, is_child_false, slot_within}
+use Rattle.fc_tree.proofs.SlotLemmas.{child_is, no_child, is_child_true, slot_within}
 use Rattle.fc_tree.proofs.tree.Tree.child.Goals as goal
 
 pub returns-then-is_child : goal.returns-then-is_child
