@@ -51,7 +51,7 @@ nth_range a count n within =
     slice_get-get_or (range_with_len a count) n 0 (omega (arith, within, length-range_with_len a count))
     ∙ ap (λ (x : ℕ). let o : Option ℕ = Some x in o) (get_or-range_with_len a count n 0 within)
 
-nth_among : (n s : ℕ) (xs : List ℕ) → slice_get xs n ≡ Some s → is_among xs s ≡ true
+pub nth_among : (n s : ℕ) (xs : List ℕ) → slice_get xs n ≡ Some s → is_among xs s ≡ true
 nth_among n s [] e = absurd (cc)
 nth_among zero s (x ∷ xs) e = ap (λ (b : Bool). b || is_among xs s) (eq-eqb x s (let f : x ≡ s = cc in f))
 nth_among (suc n) s (x ∷ xs) e = by (x == s) (is_among xs s) (nth_among n s xs e)
@@ -60,7 +60,7 @@ nth_among (suc n) s (x ∷ xs) e = by (x == s) (is_among xs s) (nth_among n s xs
     by true c f = refl
     by false c f = f
 
-nth_cases : (o : Option (List ℕ)) (n s : ℕ) → option_and_then (λ sectors. slice_get sectors n) o ≡ Some s → (xs : List ℕ) × (o ≡ Some xs) × (slice_get xs n ≡ Some s)
+pub nth_cases : (o : Option (List ℕ)) (n s : ℕ) → option_and_then (λ sectors. slice_get sectors n) o ≡ Some s → (xs : List ℕ) × (o ≡ Some xs) × (slice_get xs n ≡ Some s)
 nth_cases None n s e = absurd (cc)
 nth_cases (Some xs) n s e = (xs, refl, e)
 

@@ -1,2 +1,5 @@
 mod MapsLemmas
 mod ReadingLemmas
+mod BlockLemmas
+mod CatLemmas
+mod FreeLemmas

@@ -136,7 +136,7 @@ each_at layout listings sound o at =
     (follows_each sound.read layout (root layout listings sound ∷ []) listings had.2 place.0 held.0 place.1).1 held.2))
     (root_or_child layout listings sound o at)
 
-size_of : (layout : Layout) (o : Object) → is_directory_object o ≡ false → object_size (dir_form layout) o.entry ≡ o.entry.len
+pub size_of : (layout : Layout) (o : Object) → is_directory_object o ≡ false → object_size (dir_form layout) o.entry ≡ o.entry.len
 size_of layout o file = ap (λ (b : Bool). if b then directory_size (dir_form layout) o.entry.len else o.entry.len) file
 
 -- the sectors of a file, by its entry
@@ -239,7 +239,7 @@ module _ (image : List ℕ) (layout : Layout) (listings : List Listing) (nodes :
   -- ---- directories
 
   -- the directory at the path has these entries, and the model lists it; or else the model refuses
-  abbrev CatIs : Result (List Entry) CommandError → Type 0
+  abbrev pub CatIs : Result (List Entry) CommandError → Type 0
   CatIs result = MatchResult result
       (λ (entries : List Entry). (l : Listing) × Contains listings l × (is_same_path path l.object.path ≡ true) × (entries_of l.content ≡ entries) × (cat_answer ≡ Ok tree))
       (IsRefusalOf cat_answer)

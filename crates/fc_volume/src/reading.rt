@@ -1,14 +1,17 @@
 // Commands that change nothing.
-ghost use Rattle.std.specs.Prelude.{◌≡◌, ◌≢◌, ◌⊎◌, ℕ, List, Ok, Err, IfOk, IfErr, IsTrue, MatchResult, map};
+ghost use Rattle.std.specs.Prelude.{◌≡◌, ◌≢◌, ◌⊎◌, ◌<◌, ◌*◌, ◌^◌, max, ℕ, List, Ok, Err, IfOk, IfErr, IsTrue, MatchResult, map};
 ghost use Rattle.std.specs.FinMap.{get};
+ghost use Rattle.std.specs.List.{fold};
 ghost use Rattle.fc_names.specs.declared.refusal.Refusal.{Refusal};
 ghost use Rattle.fc_names.specs.Names.{is_directory};
+ghost use Rattle.fc_oldmap.specs.Holes.{hole_sum};
 ghost use Rattle.fc_record.specs.declared.Kind.{Kind};
 ghost use Rattle.fc_dirs.specs.declared.Entry.{Entry};
 ghost use Rattle.fc_model.specs.Command.{Command};
 ghost use Rattle.fc_model.specs.Answer.{answer};
 ghost use Rattle.fc_model.specs.Tree.{node_at};
-ghost use Rattle.fc_image.specs.Layout.{dir_form};
+ghost use Rattle.fc_image.specs.Layout.{Layout, dir_form};
+ghost use Rattle.fc_image.specs.Report.{free_bytes, largest_hole};
 ghost use Rattle.fc_image.specs.Objects.{tree_of};
 ghost use Rattle.fc_image.specs.Opening.{Opened};
 ghost use Rattle.fc_image.specs.Stays.{OpensAs};
@@ -22,6 +25,9 @@ use crate::{CommandError, FileRef, Line, Listed, Volume};
 use fc_device::{Disk, NoMemory};
 use fc_dirs::Entry;
 use fc_names::{Path, Refusal, fold_cmp};
+use fc_newmap::NewMap;
+use fc_oldmap::Hole;
+use fc_space::Space;
 use fc_tree::{Body, Found, Tree};
 use std::alloc::Global;
 
@@ -147,6 +153,47 @@ fn lines_at(alloc: Global, tree: &Tree, p: &Path) -> Result<Vec<Line>, CommandEr
     }
 }
 
+// ---- free space
+
+// The bytes of a unit of an old map.
+const UNIT: u64 = 256;
+
+// The units of all holes.
+fn units_of(holes: &[Hole]) -> u32
+    requires { hole_sum holes.now < 2 ^ 32 }
+    ensures { result ≡ hole_sum holes.now }
+{
+    holes.iter().map(|hole| hole.len).sum()
+}
+
+// The units of the largest hole.
+fn most_units(holes: &[Hole]) -> u32
+    ensures { result ≡ fold (λ n h. max n h.len) 0 holes.now }
+{
+    holes.iter().fold(0, |most, hole| most.max(hole.len))
+}
+
+// The bytes of all holes of an old map, and of the largest.
+fn old_free(holes: &[Hole]) -> (u64, u64)
+    requires { hole_sum holes.now < 2 ^ 32 }
+    ensures all { result.0 ≡ 256 * hole_sum holes.now }
+    ensures largest { result.1 ≡ 256 * fold (λ n h. max n h.len) 0 holes.now }
+{
+    (
+        UNIT * u64::from(units_of(holes)),
+        UNIT * u64::from(most_units(holes)),
+    )
+}
+
+// The bytes of all holes of a new map, and of the largest.
+fn new_free(map: &NewMap) -> (u64, u64)
+    ensures all { result.0 ≡ free_bytes (Layout.New map.now) }
+    ensures largest { result.1 ≡ largest_hole (Layout.New map.now) }
+{
+    let bit = map.geometry().bit_bytes;
+    (map.free_bits() * bit, map.largest_hole() * bit)
+}
+
 impl Volume {
     /// The entries of a directory, rising by folded name.
     pub fn cat<D: Disk>(
@@ -165,6 +212,7 @@ impl Volume {
         ensures no_fault { IfErr result (λ error. error ≢ CommandError.DiskFault) }
         ensures disk { disk.new ≡ disk.old }
     {
+        self.space.places_suffice();
         lines_at(alloc, &self.tree, p)
     }
 
@@ -182,5 +230,16 @@ impl Volume {
         ensures disk { disk.new ≡ disk.old }
     {
         file_at(&self.tree, p)
+    }
+
+    /// The bytes of all holes, and of the largest.
+    pub fn free(&self) -> (u64, u64)
+        ensures all { result.0 ≡ free_bytes (parts_of self.now).layout }
+        ensures largest { result.1 ≡ largest_hole (parts_of self.now).layout }
+    {
+        match &self.space {
+            Space::OldMapped(map) => old_free(map.holes()),
+            Space::NewMapped(map) => new_free(map),
+        }
     }
 }
