@@ -3,6 +3,7 @@
 
 mod lines;
 mod maps;
+mod pieces;
 mod reading;
 mod volume;
 
