@@ -30,7 +30,7 @@ use Rattle.fc_space.specs.Space.{PlacesSuffice}
 
 -- ---- rows of blocks of one length
 
-first_among : (x : ℕ) (xs : List ℕ) → is_among (x ∷ xs) x ≡ true
+pub first_among : (x : ℕ) (xs : List ℕ) → is_among (x ∷ xs) x ≡ true
 first_among x xs = ap (λ (b : Bool). b || is_among xs x) (eq-eqb x x refl)
 
 module _ (f : ℕ → List ℕ) (size : ℕ) where

@@ -3,3 +3,4 @@ mod ReadingLemmas
 mod BlockLemmas
 mod CatLemmas
 mod FreeLemmas
+mod PieceLemmas

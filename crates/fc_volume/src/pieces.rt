@@ -12,6 +12,7 @@ ghost use Rattle.fc_volume.specs.Volume.{StandsFor, parts_of};
 
 use crate::{FileRef, Volume};
 use fc_device::{Disk, DiskFault, Extent, NoMemory};
+use fc_space::PlaceError;
 use std::alloc::Global;
 
 /// The bytes of the largest sectors.
@@ -56,10 +57,14 @@ impl Volume {
         ensures { IfOk result (λ place. IsPlace self.now f.now place.items) }
     {
         let node = self.tree.node(f.node).unwrap();
-        // Each file of the volume has a place, so that only memory can be wanting.
         match self.space.place_of(alloc, node.entry.address, f.len) {
             Ok(place) => Ok(place),
-            Err(_) => Err(NoMemory),
+            Err(PlaceError::NoMemory) => Err(NoMemory),
+            Err(PlaceError::Outside) => {
+                // Each file of the volume has a place.
+                prove!(false);
+                Err(NoMemory)
+            }
         }
     }
 
