@@ -1,5 +1,5 @@
 -- Where files lie, and their bytes, piece by piece.
-use Rattle.std.proofs.Common.{◌≡◌, ◌<◌, ◌≤◌, ℕ, ◌+◌, ◌-◌, ◌*◌, ◌/◌, ◌%◌, min, Bool, true, false, List, [], ◌∷◌, length, take, drop, Option, Some, None, nat_cmp, refl, sym, ap, ap₂, subst, ◌∙◌, arith, inl, inr, ◌⊎◌}
+use Rattle.std.proofs.Common.{◌≡◌, ◌<◌, ◌≤◌, ℕ, ◌+◌, ◌-◌, ◌*◌, ◌/◌, ◌%◌, min, Bool, true, false, List, [], ◌∷◌, ◌++◌, length, take, drop, Option, Some, None, nat_cmp, refl, sym, ap, ap₂, subst, ◌∙◌, arith, inl, inr, ◌⊎◌}
 use Rattle.std.specs.Prelude.{All, Contains, slice_get, is_some, option_map}
 use Rattle.std.specs.List.{flat_map}
 use Rattle.std.specs.Option.{IsSome, option_and_then, option_map_or, unwrap_or}
@@ -7,6 +7,7 @@ use Rattle.std.specs.FinMap.{FinMap, get}
 use Rattle.std.proofs.Math.Nat.{div-mul-le_self}
 use Rattle.std.proofs.lemmas.Bool.{cases_lt}
 use Rattle.std.proofs.lemmas.Nat.{div-add-mod', mul-le}
+use Rattle.std.proofs.lemmas.List.{take_at}
 use Rattle.std.proofs.lemmas.List.Elements.{All-cons, All-nil}
 use Rattle.std.proofs.lemmas.Option.{slice_get-get_or}
 use Rattle.std.specs.Prelude.{get_or}
@@ -127,3 +128,15 @@ not_outside v f node agree named g layout is none =
     let p = file_placed v f node agree named g in
     let both : Some p.0 ≡ None = sym p.1 ∙ ap (λ (l : Layout). sectors_at l node.entry.address f.len) (sym is) ∙ none in
     cc
+
+-- a disk has the sectors of its disc
+pub disk_long : (disc sectors own size long : ℕ) (image : List ℕ) → disc ≤ sectors → sectors ≡ long / own → length image ≡ long → own ≡ size → disc * size ≤ length image
+disk_long disc sectors own size long image room whole told same =
+    let part : disc * size ≤ long / own * own = mul-le disc size (long / own) own (omega (arith, room, whole)) (omega (arith, same)) in
+    let all = div-mul-le_self long own in
+    omega (arith, part, all, told)
+
+-- a part that was filled, before what stays
+pub filled_is : (n r : ℕ) (new part rest sector want : List ℕ) → new ≡ take (length part) (drop r sector) → length new ≡ length part → length new ≡ n → want ≡ take n (drop r sector) → take n (new ++ rest) ≡ want
+filled_is n r new part rest sector want is same long w =
+    take_at new rest n long ∙ is ∙ ap (λ (k : ℕ). take k (drop r sector)) (sym same ∙ long) ∙ sym w
