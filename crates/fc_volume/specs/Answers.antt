@@ -23,7 +23,7 @@ use Rattle.fc_volume.specs.Volume.{Volume, parts_of}
 -- ---- mounting
 
 -- The error is the first fault of the image. A disk's fault and want of memory say nothing.
-abbrev pub IsFaultOf : Result Opened ImageFault → MountError → Type 0
+abbrev pub IsFaultOf : {T : Type 0} → Result T ImageFault → MountError → Type 0
 IsFaultOf opened (MountError.Image fault) = opened ≡ Err fault
 IsFaultOf opened MountError.DiskFault = Unit {0}
 IsFaultOf opened MountError.NoMemory = Unit {0}
@@ -48,6 +48,16 @@ line_in n = record { name = n.name; attrs = n.attrs; load = n.load; exec = n.exe
 -- what a directory lists
 abbrev pub lines_in : Tree → Path → List Line
 lines_in t path = map (λ e. line_in e.1) (children t path)
+
+-- the bytes of a file's node; a directory has none
+abbrev pub bytes_in_body : Body → List ℕ
+bytes_in_body (Body.File bytes) = bytes
+bytes_in_body Body.Directory = []
+
+-- the bytes of the file there
+abbrev pub bytes_in_node : Option ModelNode → List ℕ
+bytes_in_node None = []
+bytes_in_node (Some n) = bytes_in_body n.body
 
 -- ---- files
 

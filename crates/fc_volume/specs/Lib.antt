@@ -1,2 +1,4 @@
 pub mod Volume
 pub mod Answers
+pub mod Maps
+pub mod Reading

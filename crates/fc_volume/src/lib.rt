@@ -2,5 +2,10 @@
 #![tactic(auto)]
 
 mod lines;
+mod maps;
+mod pieces;
+mod reading;
+mod volume;
 
 pub use lines::{CommandError, FileRef, Line, Listed, MountError};
+pub use volume::Volume;

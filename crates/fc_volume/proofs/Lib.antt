@@ -1,0 +1,6 @@
+mod MapsLemmas
+mod ReadingLemmas
+mod BlockLemmas
+mod CatLemmas
+mod FreeLemmas
+mod PieceLemmas
