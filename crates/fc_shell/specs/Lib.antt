@@ -2,4 +2,5 @@ pub mod Ends
 pub mod Lines
 pub mod Reading
 pub mod Replies
+pub mod Script
 pub mod Writing

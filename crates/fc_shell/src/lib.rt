@@ -5,6 +5,7 @@
 #![tactic(auto)]
 
 mod ending;
+mod script;
 mod sink;
 mod texts;
 
