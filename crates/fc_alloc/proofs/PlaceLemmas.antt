@@ -1,7 +1,7 @@
 -- Where the owner of a node stands.
-use Rattle.std.proofs.Common.{◌≡◌, ◌≢◌, ◌<◌, ◌≤◌, ℕ, suc, ◌+◌, ◌-◌, inl, inr, Bool, true, false, List, [], ◌∷◌, ◌++◌, length, map, replicate, refl, sym, ap, subst, ◌∙◌, get_or, set, eqb, arith, length-append, Contains, IsPermutation, if◌then◌else◌}
-use Rattle.std.specs.List.{list_any, HoldsAt, Any, swap_remove}
-use Rattle.std.proofs.lemmas.Bool.{cases_eq, eqb-true, eq-eqb, ne_eqb, false_from_ne_true}
+use Rattle.std.proofs.Common.{◌≡◌, ◌≢◌, ◌<◌, ◌≤◌, ℕ, ◌+◌, ◌-◌, inl, inr, true, false, List, [], ◌∷◌, ◌++◌, length, map, refl, sym, ap, subst, ◌∙◌, get_or, set, eqb, arith, length-append, Contains, IsPermutation, if◌then◌else◌}
+use Rattle.std.specs.List.{HoldsAt, swap_remove}
+use Rattle.std.proofs.lemmas.Bool.{cases_eq, eqb-true, eq-eqb, ne_eqb}
 use Rattle.std.proofs.lemmas.List.{get_or-set_same, get_or-set_other, length-set, length-map, get_or_default, get_or-map, ext_get_or, get_or_append_left}
 use Rattle.std.proofs.Math.Seq.{get_or-append_seam}
 use Rattle.std.proofs.lemmas.List.Folds.{Any-from_list_any, list_any_at}
@@ -111,7 +111,7 @@ pub place_unique : (owners : List Owner) (places : List ℕ) (i j : ℕ) (d e : 
 place_unique owners places i j d e placed first second same =
     sym (placed i d first).1 ∙ (ap (λ n. get_or places n 0) same ∙ (placed j e second).1)
 
--- no two owners are one node
+-- no two owners are of one node
 pub own_nodes : (owners : List Owner) (places : List ℕ) → ArePlaces owners places → HaveOwnNodes owners
 own_nodes owners places placed =
     IsDistinct-from_apart eqb (map (λ (o : Owner). o.node) owners) (λ i j d order within.

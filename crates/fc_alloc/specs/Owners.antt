@@ -3,7 +3,7 @@ use Rattle.std.specs.Prelude.{ℕ, Bool, ◌==◌, nat_eq, if◌then◌else◌, 
 use Rattle.std.specs.List.{list_any, IsDistinct}
 use Rattle.fc_alloc.specs.declared.owner.Owner.{Owner}
 
--- whether an owner is this node
+-- whether an owner is that of this node
 abbrev pub is_node : ℕ → Owner → Bool
 is_node node o = o.node == node
 
@@ -11,7 +11,7 @@ is_node node o = o.node == node
 abbrev pub owns : ℕ → Owner → Bool
 owns id o = o.id == id
 
--- whether an owner of the list is this node
+-- whether this node has an owner in the list
 abbrev pub has_node : List Owner → ℕ → Bool
 has_node owners node = list_any (is_node node) owners
 
@@ -19,10 +19,10 @@ has_node owners node = list_any (is_node node) owners
 abbrev pub is_id_owned : List Owner → ℕ → Bool
 is_id_owned owners id = list_any (owns id) owners
 
--- the list with an owner in the place of the one that is its node
+-- the list with an owner in the place of the one of its node
 abbrev pub with_changed : Owner → List Owner → List Owner
 with_changed o owners = map (λ p. if is_node o.node p then o else p) owners
 
--- no two owners are one node
+-- no two owners are of one node
 abbrev pub HaveOwnNodes : List Owner → Type 0
 HaveOwnNodes owners = IsDistinct nat_eq (map (λ o. o.node) owners)

@@ -46,7 +46,7 @@ impl Owners {
         }
     }
 
-    /// Puts an owner behind the others. None of them may be its node. After `NoMemory` the list is as before.
+    /// Puts an owner behind the others, of which none may have its node. After `NoMemory` the list is as before.
     pub fn add(&mut self, o: Owner) -> Result<(), NoMemory>
         requires { IsFalse (has_node self.old o.node) }
         ensures ok { OnOk result (self.new ≡ self.old ++ o ∷ []) }
@@ -63,7 +63,7 @@ impl Owners {
         Ok(())
     }
 
-    /// Takes the owner that is a node out, if there is one. The others may change places.
+    /// Takes a node's owner out, if there is one. The others may change places.
     pub fn remove(&mut self, node: u64)
         ensures found { (o : Owner) → Contains self.old o → o.node ≡ node → IsPermutation self.old (o ∷ self.new) }
         ensures absent { IsFalse (has_node self.old node) → self.new ≡ self.old }
@@ -79,7 +79,7 @@ impl Owners {
         }
     }
 
-    /// Puts an owner in the place of the one that is its node, which must be there.
+    /// Puts an owner in the place of the present one of its node, which must be there.
     pub fn change(&mut self, o: Owner)
         requires { IsTrue (has_node self.old o.node) }
         ensures { self.new ≡ with_changed o self.old }
@@ -91,7 +91,7 @@ impl Owners {
         self.top = self.top.max(o.id);
     }
 
-    /// The owners: in the order in which they were added, but for those that `remove` moved.
+    /// The owners, in the order in which they were added, but for those that `remove` moved.
     pub fn list(&self) -> &[Owner]
         ensures same { result.now ≡ self.now }
         ensures nodes { HaveOwnNodes self.now }

@@ -7,6 +7,7 @@ mod bits;
 mod checks;
 mod dirs;
 mod maps;
+mod owners;
 mod record;
 mod timing;
 mod zones;
@@ -17,7 +18,7 @@ fn main(rt: HostRuntime) -> std::io::Result<()> {
     let alloc = rt.alloc();
     let words: Vec<String> = env::args(&rt)?.skip(1).collect(alloc)?;
     if words.is_empty() {
-        println!(rt; "benches: bigdirs bits checks dirs maps record zones")?;
+        println!(rt; "benches: bigdirs bits checks dirs maps owners record zones")?;
     }
     for word in &words {
         match word.as_str() {
@@ -26,6 +27,7 @@ fn main(rt: HostRuntime) -> std::io::Result<()> {
             "checks" => checks::run(&rt, alloc)?,
             "dirs" => dirs::run(&rt, alloc)?,
             "maps" => maps::run(&rt, alloc)?,
+            "owners" => owners::run(&rt, alloc)?,
             "record" => record::run(&rt, alloc)?,
             "zones" => zones::run(&rt, alloc)?,
             _ => println!(rt; "no such bench: {word}")?,

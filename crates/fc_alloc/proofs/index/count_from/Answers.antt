@@ -1,7 +1,7 @@
-use Rattle.std.proofs.Common.{◌≡◌, ◌<◌, ◌≤◌, ◌∙◌, ℕ, ◌+◌, refl, get_or, set, length, arith, length-take-le, take}
+use Rattle.std.proofs.Common.{◌≡◌, ◌∙◌, ◌+◌, refl, get_or, set, length, arith, length-take-le, take}
 use Rattle.std.proofs.lemmas.List.{length-set, get_or-set_other}
 use Rattle.fc_alloc.proofs.PlaceLemmas.{blank}
-use Rattle.fc_alloc.proofs.CountLemmas.{count, count_few, count_more, one, one_there, risen}
+use Rattle.fc_alloc.proofs.CountLemmas.{count, count_few, count_more, one_there, risen}
 use Rattle.fc_alloc.proofs.index.count_from.Goals as goal
 use Rattle.fc_alloc.proofs.index.count_from.Goals.{then-from-owner, else-from-owner}
 

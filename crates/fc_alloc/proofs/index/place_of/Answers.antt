@@ -1,7 +1,7 @@
 use Rattle.std.proofs.Common.{◌≡◌, true, arith}
 use Rattle.std.proofs.lemmas.Bool.{false_from_ne_true}
 use Rattle.fc_alloc.specs.Owners.{has_node}
-use Rattle.fc_alloc.proofs.PlaceLemmas.{found_place, blank}
+use Rattle.fc_alloc.proofs.PlaceLemmas.{found_place}
 use Rattle.fc_alloc.proofs.index.place_of.Goals as goal
 use Rattle.fc_alloc.proofs.index.place_of.Goals.{else-place-list-via-then-place-list+else-list-place, else-place-list-via-else-place-list}
 

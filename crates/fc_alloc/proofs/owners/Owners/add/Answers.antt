@@ -1,6 +1,5 @@
-use Rattle.std.proofs.Common.{◌≡◌, ◌<◌, ◌≤◌, ◌+◌, ◌-◌, ◌++◌, ◌∷◌, [], refl, length, length-append, arith}
+use Rattle.std.proofs.Common.{◌≡◌, ◌+◌, ◌-◌, ◌++◌, ◌∷◌, [], refl, length, length-append, arith}
 use Rattle.std.proofs.lemmas.Grind.{common_steps}
-use Rattle.fc_alloc.specs.Owners.{has_node}
 use Rattle.fc_alloc.specs.Index.{ArePlaces, AreCounts}
 use Rattle.fc_alloc.proofs.PlaceLemmas.{places_push, places_grown}
 use Rattle.fc_alloc.proofs.CountLemmas.{counts_push, top_push}

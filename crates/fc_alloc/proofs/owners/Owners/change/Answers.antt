@@ -1,7 +1,7 @@
-use Rattle.std.proofs.Common.{◌≡◌, ◌<◌, ◌≤◌, ◌∙◌, ap, arith}
-use Rattle.fc_alloc.specs.Owners.{has_node, with_changed}
+use Rattle.std.proofs.Common.{◌∙◌, ap, arith}
+use Rattle.fc_alloc.specs.Owners.{with_changed}
 use Rattle.fc_alloc.proofs.PlaceLemmas.{found_place, at_place, places_changed, changed}
-use Rattle.fc_alloc.proofs.CountLemmas.{count_some, count_fits, counts_changed, top_changed}
+use Rattle.fc_alloc.proofs.CountLemmas.{count_some, counts_changed, top_changed}
 use Rattle.fc_alloc.proofs.owners.Owners.change.Goals as goal
 
 pub index-place-requires : goal.index-place-requires

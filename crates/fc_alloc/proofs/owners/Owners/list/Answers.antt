@@ -1,4 +1,4 @@
-use Rattle.std.proofs.Common.{◌≡◌, subst}
+use Rattle.std.proofs.Common.{subst}
 use Rattle.fc_alloc.specs.Owners.{HaveOwnNodes}
 use Rattle.fc_alloc.proofs.PlaceLemmas.{own_nodes}
 use Rattle.fc_alloc.proofs.owners.Owners.list.Goals as goal

@@ -1,4 +1,4 @@
-use Rattle.std.proofs.Common.{◌≡◌, ◌<◌, ◌≤◌, ◌+◌, ◌-◌, ◌≢◌, ◌∙◌, ℕ, ◌∷◌, ap, sym, subst, length, get_or, arith, vec_len, List, Contains, IsPermutation}
+use Rattle.std.proofs.Common.{◌≡◌, ◌<◌, ◌≤◌, ◌+◌, ◌-◌, ◌≢◌, ◌∙◌, ℕ, ◌∷◌, ap, sym, subst, length, get_or, arith, vec_len, List, IsPermutation}
 use Rattle.fc_alloc.specs.declared.owner.Owner.{Owner}
 use Rattle.fc_alloc.proofs.PlaceLemmas.{places_moved, places_cut, taken_out}
 use Rattle.fc_alloc.proofs.CountLemmas.{count_some, counts_removed, top_removed}

@@ -1,0 +1,219 @@
+// Trees of numbered nodes.
+ghost use Rattle.std.specs.Prelude.{◌≡◌, ◌+◌, ◌<◌, ◌≤◌, ℕ, Some, None, map, slice_set, IsSome, IfSome, IfOk, OnOk, OnErr};
+ghost use Rattle.std.specs.Option.{option_map};
+ghost use Rattle.std.specs.FinMap.{get, insert, remove};
+ghost use Rattle.fc_tree.specs.Nodes.{bound_of, child, found_in, is_directory_node, nodes_of};
+
+use crate::index::{first_child, index_of, place_of, put_number, rank, rank_of};
+use crate::node::{Found, Node};
+use crate::slots::{node_at, push_slot, put_slot, slots_of, take_slot};
+use fc_device::NoMemory;
+use fc_names::{Name, Path};
+use std::alloc::Global;
+use std::marker::Model;
+
+/// The objects of a disc as nodes with numbers. Contracts see for each number below the bound the node that
+/// has it, if one has, and how many more numbers there is room for; `nodes_of` is the finite map of these.
+#[derive(Drop)]
+pub struct Tree {
+    // For each number its node.
+    slots: Vec<Option<Node>>,
+    // The numbers of the nodes, in the order of the directories that hold them, and then of their names.
+    order: Vec<u64>,
+    // Numbers of nodes that were taken out, for other nodes. Some may have been given since.
+    free: Vec<u64>,
+    // How many more nodes can be added with no more memory.
+    room: usize,
+}
+
+impl Model for Tree {
+    ghost use Rattle.fc_tree.specs.Nodes.{Numbers};
+
+    ghost Value = { Numbers };
+
+    ghost use Rattle.std.specs.Prelude.{vec_capacity};
+    ghost use Rattle.fc_tree.specs.Index.{IsHeld};
+
+    ghost view = { λ t. record { slots = t.slots.items; room = t.room } };
+
+    ghost invariant = { λ t. IsHeld t.slots.items t.order.items t.room (vec_capacity t.slots) (vec_capacity t.order) };
+}
+
+// Drops a number from the end.
+fn drop_last(free: &mut Vec<u64>, n: u64) {
+    if free.last() == Some(&n) {
+        free.pop();
+    }
+}
+
+impl Tree {
+    /// The tree of these nodes, numbered in their order.
+    pub(crate) fn from_nodes(alloc: Global, nodes: Vec<Node>) -> Result<Tree, NoMemory>
+        ensures { IfOk result (λ tree. tree.slots ≡ map Some nodes.items) }
+    {
+        let order = index_of(alloc, &nodes)?;
+        let slots = slots_of(alloc, nodes)?;
+        Ok(Tree {
+            slots,
+            order,
+            free: Vec::new(alloc),
+            room: 0,
+        })
+    }
+
+    /// A number above those of all nodes.
+    pub fn bound(&self) -> u64
+        ensures bound { result ≡ bound_of self.now }
+        ensures above { (n : ℕ) → bound_of self.now ≤ n → get (nodes_of self.now) n ≡ None }
+    {
+        self.slots.len() as u64
+    }
+
+    /// The node of a number, if one has it.
+    pub fn node(&self, n: u64) -> Option<&Node>
+        ensures { option_map (λ node. node.now) result ≡ get (nodes_of self.now) n }
+    {
+        node_at(&self.slots, n)
+    }
+
+    // Whether a directory has this number.
+    fn is_directory(&self, n: u64) -> bool
+        ensures { result ≡ is_directory_node (nodes_of self.now) n }
+    {
+        match self.node(n) {
+            Some(node) => (node.entry.attrs >> 3) % 2 == 1,
+            None => false,
+        }
+    }
+
+    // The number of the node of a name in a directory.
+    fn child(&self, dir: u64, name: &Name) -> Option<u64>
+        ensures { result ≡ child (nodes_of self.now) dir name.now }
+    {
+        first_child(&self.slots, &self.order, dir, name)
+    }
+
+    /// Where a path leads. Names are compared by folding.
+    pub fn find(&self, p: &Path) -> Found
+        ensures { result ≡ found_in (nodes_of self.now) p.now }
+    {
+        let mut at = 0;
+        for name in p.names() {
+            if !self.is_directory(at) {
+                return Found::NotDirectory;
+            }
+            match self.child(at, name) {
+                Some(next) => at = next,
+                None => return Found::Absent,
+            }
+        }
+        Found::Node(at)
+    }
+
+    /// Takes the node of a number out.
+    pub fn take_out(&mut self, n: u64) -> Node
+        requires { IsSome (get (nodes_of self.old) n) }
+        ensures node { get (nodes_of self.old) n ≡ Some result }
+        ensures nodes { nodes_of self.new ≡ remove (nodes_of self.old) n }
+        ensures slots { self.new.slots ≡ slice_set self.old.slots n None }
+        ensures bound { bound_of self.new ≡ bound_of self.old }
+        ensures room { self.new.room ≡ self.old.room }
+    {
+        let at = rank_of(&self.slots, &self.order, n);
+        self.order.remove(at);
+        // Where there is no memory for it, no other node gets the number.
+        let _ = self.free.push(n);
+        take_slot(&mut self.slots, n)
+    }
+
+    /// Puts a node under a number below the bound that no node has. It takes no memory.
+    pub fn put_back(&mut self, n: u64, node: Node)
+        requires below { n < bound_of self.old }
+        requires free { get (nodes_of self.old) n ≡ None }
+        ensures nodes { nodes_of self.new ≡ insert (nodes_of self.old) n node }
+        ensures slots { self.new.slots ≡ slice_set self.old.slots n (Some node) }
+        ensures bound { bound_of self.new ≡ bound_of self.old }
+        ensures room { self.new.room ≡ self.old.room }
+    {
+        let at = rank(&self.slots, &self.order, &place_of(n, &node));
+        put_number(&mut self.order, at, n);
+        drop_last(&mut self.free, n);
+        put_slot(&mut self.slots, n, node);
+    }
+
+    // A number that another node had.
+    fn vacant(&mut self) -> Option<u64>
+        ensures below { IfSome result (λ n. n < bound_of self.old) }
+        ensures free { IfSome result (λ n. get (nodes_of self.old) n ≡ None) }
+        ensures same { self.new ≡ self.old }
+    {
+        let n = self.free.pop()?;
+        if n < self.bound() && self.node(n).is_none() {
+            Some(n)
+        } else {
+            None
+        }
+    }
+
+    // Puts a node under a number below the bound.
+    fn reuse(&mut self, n: u64, node: Node)
+        requires below { n < bound_of self.old }
+        requires free { get (nodes_of self.old) n ≡ None }
+        requires room { 0 < self.old.room }
+        ensures nodes { nodes_of self.new ≡ insert (nodes_of self.old) n node }
+        ensures bound { bound_of self.new ≡ bound_of self.old }
+        ensures room { self.new.room + 1 ≡ self.old.room }
+    {
+        self.put_back(n, node);
+        self.room -= 1;
+    }
+
+    // Adds a node under the bound.
+    fn append(&mut self, node: Node) -> u64
+        requires { 0 < self.old.room }
+        ensures number { result ≡ bound_of self.old }
+        ensures nodes { nodes_of self.new ≡ insert (nodes_of self.old) result node }
+        ensures bound { bound_of self.new ≡ bound_of self.old + 1 }
+        ensures room { self.new.room + 1 ≡ self.old.room }
+    {
+        let n = self.slots.len() as u64;
+        let at = rank(&self.slots, &self.order, &place_of(n, &node));
+        put_number(&mut self.order, at, n);
+        push_slot(&mut self.slots, node);
+        self.room -= 1;
+        n
+    }
+
+    /// Adds a node under a number that no node has, which is the result. It takes no memory. The number may be that of a
+    /// node that was taken out and not put back.
+    pub fn add(&mut self, node: Node) -> u64
+        requires { 0 < self.old.room }
+        ensures free { get (nodes_of self.old) result ≡ None }
+        ensures nodes { nodes_of self.new ≡ insert (nodes_of self.old) result node }
+        ensures below { result < bound_of self.new }
+        ensures bound { bound_of self.old ≤ bound_of self.new }
+        ensures room { self.old.room ≤ self.new.room + 1 }
+    {
+        match self.vacant() {
+            Some(n) => {
+                self.reuse(n, node);
+                n
+            }
+            None => self.append(node),
+        }
+    }
+
+    /// Makes room for one more node. After `NoMemory` all is as before.
+    pub fn reserve(&mut self) -> Result<(), NoMemory>
+        ensures slots { self.new.slots ≡ self.old.slots }
+        ensures ok { OnOk result (self.old.room + 1 ≤ self.new.room) }
+        ensures err { OnErr result (self.new ≡ self.old) }
+    {
+        let room = self.room + 1;
+        self.slots.reserve(room)?;
+        self.order
+            .reserve(self.slots.len() + room - self.order.len())?;
+        self.room = room;
+        Ok(())
+    }
+}
