@@ -1,8 +1,9 @@
 // Places on discs with new maps.
 
 ghost use Rattle.std.specs.Prelude.{◌≡◌, ◌<◌, ◌≤◌, ◌^◌, ◌+◌, None, Some, IfOk, IsErrOf, take, drop, length};
-ghost use Rattle.fc_image.specs.Layout.{first_part, id_sectors, is_object_id, low_start, new_sectors};
+ghost use Rattle.fc_image.specs.Layout.{Layout, first_part, id_sectors, is_object_id, low_start, new_sectors};
 ghost use Rattle.fc_objects.specs.Extents.{extent_sectors, sectors_in};
+ghost use Rattle.fc_space.specs.Space.{Suffice};
 
 use crate::PlaceError;
 use fc_device::Extent;
@@ -82,6 +83,7 @@ pub fn new_place(
     bytes: u64,
 ) -> Result<Vec<Extent>, PlaceError>
     ensures place { IfOk result (λ place. new_sectors map.now address bytes ≡ Some (sectors_in place.items)) }
+    ensures suffice { IfOk result (λ place. Suffice (Layout.New map.now) bytes (sectors_in place.items)) }
     ensures outside { IsErrOf result PlaceError.Outside → new_sectors map.now address bytes ≡ None }
 {
     let id = address / 256;
