@@ -1,1 +1,4 @@
+mod LineLemmas
+mod RunningLemmas
+mod ServingLemmas
 pub mod WritingLemmas

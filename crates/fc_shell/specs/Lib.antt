@@ -1,6 +1,9 @@
 pub mod Ends
+pub mod Left
 pub mod Lines
+pub mod Modes
 pub mod Reading
 pub mod Replies
 pub mod Script
+pub mod Serving
 pub mod Writing
