@@ -3,6 +3,7 @@ pub mod Left
 pub mod Lines
 pub mod Modes
 pub mod Reading
+pub mod ReadsLaw
 pub mod Replies
 pub mod Script
 pub mod Serving

@@ -20,6 +20,7 @@ ghost use Rattle.fc_device.specs.Form.{IsUntouched};
 ghost use Rattle.fc_words.specs.CommandLine.{Request, request_of};
 ghost use Rattle.fc_words.specs.Request.{request_in};
 ghost use Rattle.fc_shell.specs.Reading.{IsUnwritten};
+ghost use Rattle.fc_shell.specs.ReadsLaw.{ReadsLaw};
 ghost use Rattle.fc_shell.specs.Replies.{EndsAs, has_unbuilt, image_for, is_unbuilt, request_reply, run_reply, script_limit};
 ghost use Rattle.fc_shell.specs.Serving.{is_late, read_reply};
 
@@ -145,3 +146,15 @@ pub fn run<D: Disk, S: Source, K: Sink>(
         Ok(asked) => run_request(alloc, &asked, disk, script, out),
     }
 }
+
+/// A law: where every command of a script is built, its replies are those of a run that leaves everything; and a fresh
+/// image is accepted.
+pub fn reads()
+    ensures { ReadsLaw }
+{
+    fc_runs::reading();
+    fc_format::opens();
+}
+
+#[cfg(test)]
+mod tests;

@@ -1,4 +1,4 @@
-use Rattle.std.proofs.Common.{◌≡◌, true, Ok, Some, refl, rules, subst, option_map}
+use Rattle.std.proofs.Common.{◌≡◌, refl, rules, subst, option_map}
 use Rattle.fc_format.specs.Fresh.{zeros}
 use Rattle.fc_shell.proofs.RunningLemmas.{fresh_bytes}
 use Rattle.fc_shell.proofs.running.make_image.Goals as goal
@@ -6,7 +6,6 @@ use Rattle.fc_shell.proofs.running.make_image.Goals as goal
 pub returns-in-Ok-clause-bytes : goal.returns-in-Ok-clause-bytes
 returns-in-Ok-clause-bytes g c is =
     let bytes = g.D.Disk.bytes in
-    let given : c.attach.result ≡ Ok true = search rules in
-    let blank : bytes c.attach.new.self ≡ option_map (λ image. zeros c.size.result) (bytes c.args.disk.now) = c.in_ok-attach.ensures.blank_bytes given c.size.result refl in
+    let blank : bytes c.attach.new.self ≡ option_map (λ image. zeros c.size.result) (bytes c.args.disk.now) = c.in_ok-attach.ensures.blank_bytes (search rules) c.size.result refl in
     fresh_bytes c.args.format (bytes c.args.disk.now) (bytes c.attach.new.self) (bytes c.make.new.disk)
     (subst (λ n. bytes c.attach.new.self ≡ option_map (λ image. zeros n) (bytes c.args.disk.now)) c.size.ensures blank) c.in-Ok.ensures.fresh
