@@ -27,8 +27,10 @@ line_found text end found = by (nat_lt (position_or_len is_end text) (length tex
   where
     is_end : ℕ → Bool
     is_end c = c == 10
+
     whole : (n : ℕ) → take (length text - n) (drop n text) ≡ drop n text
     whole n = take_all (length text - n) (drop n text) (omega (arith, length-drop n text))
+
     by : (b : Bool) → nat_lt (position_or_len is_end text) (length text) ≡ b
         → slice_split is_end text ≡ take end text ∷ slice_split is_end (take (length text - (end + 1)) (drop (end + 1) text))
     by true lt =
@@ -44,6 +46,7 @@ no_line_found text found = by (nat_lt (position_or_len is_end text) (length text
   where
     is_end : ℕ → Bool
     is_end c = c == 10
+
     by : (b : Bool) → nat_lt (position_or_len is_end text) (length text) ≡ b → slice_split is_end text ≡ text ∷ []
     by true lt = absurd (cc)
     by false ge =

@@ -1,5 +1,5 @@
 -- Scripts of commands that read, as runs.
-use Rattle.std.proofs.Common.{◌≡◌, ◌⊎◌, inl, inr, ℕ, Bool, true, false, List, [], ◌∷◌, map, Some, None, Result, Ok, Err, refl, sym, subst}
+use Rattle.std.proofs.Common.{◌≡◌, ◌⊎◌, inl, inr, ℕ, Bool, true, false, List, [], ◌∷◌, map, Some, None, Result, Ok, Err, refl, sym, ap, ap₂, subst, ◌∙◌}
 use Rattle.std.specs.Prelude.{not, if◌then◌else◌, replicate}
 use Rattle.std.specs.List.{list_any}
 use Rattle.fc_names.specs.declared.refusal.Refusal.{Refusal}
@@ -10,7 +10,7 @@ use Rattle.fc_format.specs.Fresh.{format_size}
 use Rattle.fc_format.specs.Opens.{FreshLaw}
 use Rattle.fc_script.specs.Lines.{command_of}
 use Rattle.fc_runs.specs.ReadLaw.{ReadLaw, reading_reply}
-use Rattle.fc_runs.specs.Run.{Mode, Step, Steps, Takes, commands_in, is_error}
+use Rattle.fc_runs.specs.Run.{Mode, Step, Steps, Takes, commands_in, is_error, text_of}
 use Rattle.fc_words.specs.declared.Format.{Format as Word}
 use Rattle.fc_shell.specs.declared.ending.End.{End}
 use Rattle.fc_shell.specs.declared.ending.End.TheVariants.{Done, Refused}
@@ -38,6 +38,27 @@ steps law May mode s may (line ∷ lines) built =
     let both = neither (is_unbuilt_command (command_of line)) (list_any (λ line. is_unbuilt_command (command_of line)) lines) built in
     (s, may, step law mode s line both.0, steps law May mode s may lines both.1)
 
+-- a line has no other step
+one_step : ReadLaw → (mode : Mode) (s s' : State) (line reply : List ℕ) → is_unbuilt_command (command_of line) ≡ false → Step mode s line reply s'
+    → (reply ≡ line_reply mode s line) × (s' ≡ s)
+one_step law mode s s' line reply built taken = by (command_of line) refl built taken
+  where
+    by : (r : Result Command Refusal) → command_of line ≡ r → is_unbuilt_command r ≡ false → Takes mode s r reply s' → (reply ≡ command_reply mode s r) × (s' ≡ s)
+    by (Err refusal) is h takes = takes
+    by (Ok c) is h takes = law.one mode s s' line reply c is (not_false _ h) (subst (λ r. Takes mode s r reply s') (sym is) takes)
+
+-- and all of them have no others
+one_row : ReadLaw → (mode : Mode) (s s' : State) (lines replies : List (List ℕ)) → list_any (λ line. is_unbuilt_command (command_of line)) lines ≡ false
+    → Steps (λ between. Unit {0}) mode s lines replies s' → (replies ≡ map (line_reply mode s) lines) × (s' ≡ s)
+one_row law mode s s' [] [] built same = (refl, same)
+one_row law mode s s' [] (reply ∷ replies) built row = absurd row
+one_row law mode s s' (line ∷ lines) [] built row = absurd row
+one_row law mode s s' (line ∷ lines) (reply ∷ replies) built row =
+    let both = neither (is_unbuilt_command (command_of line)) (list_any (λ line. is_unbuilt_command (command_of line)) lines) built in
+    let first = one_step law mode s row.0 line reply both.0 row.2 in
+    let rest = one_row law mode s s' lines replies both.1 (subst (λ (mid : State). Steps (λ between. Unit {0}) mode mid lines replies s') first.1 row.3) in
+    (ap₂ ◌∷◌ first.0 rest.0, rest.1)
+
 either : (refused : Bool) → ((if refused then Refused else Done) ≡ Done) ⊎ ((if refused then Refused else Done) ≡ Refused)
 either true = inr refl
 either false = inl refl
@@ -57,5 +78,8 @@ pub reads_law : ReadLaw → FreshLaw → ReadsLaw
 reads_law law fresh = record {
   runs = λ mode s script built.
       record { start = refl; replies = replies_of mode s script; steps = steps law (λ image. image ≡ s.image) mode s refl (commands_in script) built; told = refl };
+  only = λ mode s s' script text built run.
+      let same = one_row law mode s s' (commands_in script) run.replies built run.steps in
+      (run.told ∙ ap text_of same.0, same.1);
   fresh = fresh_ends fresh;
 }

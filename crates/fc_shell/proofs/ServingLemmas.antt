@@ -51,6 +51,7 @@ module _ (mode : Mode) (s : State) (script : List ℕ) where
       or_nothing : (b : Bool) → (b || false) ≡ b
       or_nothing true = refl
       or_nothing false = refl
+
       one_more : (done : List (List ℕ)) (line : List ℕ) → text_of (map reply done) ++ reply line ≡ text_of (map reply (done ++ line ∷ []))
       one_more done line =
           ap (λ text. text_of (map reply done) ++ text) (sym (append-nil (reply line)))

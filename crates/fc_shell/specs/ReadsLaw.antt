@@ -11,6 +11,9 @@ pub record ReadsLaw : Type 0 where
   -- all along.
   pub runs : (mode : Mode) (s : State) (script : List ℕ) → has_unbuilt script ≡ false
       → Run (λ image. image ≡ s.image) mode None s script (text_of (replies_of mode s script)) s
+  -- No other run has its lines: whatever may stand between, it writes this text and leaves everything.
+  pub only : (mode : Mode) (s s' : State) (script text : List ℕ) → has_unbuilt script ≡ false → Run (λ between. Unit {0}) mode None s script text s'
+      → (text ≡ text_of (replies_of mode s script)) × (s' ≡ s)
   -- A fresh image is never a bad one.
   pub fresh : (read_only : Bool) (script image : List ℕ) (f : Word)
       → ((image_reply read_only script (image_for (Some f) image)).end ≡ Done) ⊎ ((image_reply read_only script (image_for (Some f) image)).end ≡ Refused)

@@ -20,10 +20,7 @@ pub enum ScriptError {
 }
 
 /// Reads the script to its end. None where it is longer than 16,777,216 bytes; then some of it may be left.
-pub fn read_script<S: Source>(
-    alloc: Global,
-    script: &mut S,
-) -> Result<Option<Vec<u8>>, ScriptError>
+pub fn read_script<S: Source>(alloc: Global, script: &mut S) -> Result<Option<Vec<u8>>, ScriptError>
     ensures script { IfOk result (λ read. IsScript (S.left script.old) (S.left script.new) (option_map (λ bytes. bytes.items) read)) }
     ensures later { S.faults script.old ≤ S.faults script.new }
     ensures cause { result ≡ Err ScriptError.Source → Rose (S.faults script.old) (S.faults script.new) }

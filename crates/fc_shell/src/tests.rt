@@ -83,18 +83,46 @@ fn outcome(
 fn fresh_volumes(rt: HostRuntime) -> Result<(), Fail> {
     let alloc = rt.alloc();
     let cases: [(&[&str], &[u8], &[u8]); 8] = [
-        (&["--new", "E", "disc"], b"free\n", b"free 815104 815104\nok\n"),
-        (&["disc", "--new=F"], b"free\n", b"free 1624064 421888\nok\n"),
-        (&["--new", "D", "disc"], b"free\n", b"free 816128 816128\nok\n"),
-        (&["--new", "L", "disc"], b"free", b"free 653568 653568\nok\n"),
-        (&["--new", "E+", "disc"], b"free", b"free 815104 815104\nok\n"),
-        (&["--new", "F+", "disc"], b"free", b"free 1624064 421888\nok\n"),
+        (
+            &["--new", "E", "disc"],
+            b"free\n",
+            b"free 815104 815104\nok\n",
+        ),
+        (
+            &["disc", "--new=F"],
+            b"free\n",
+            b"free 1624064 421888\nok\n",
+        ),
+        (
+            &["--new", "D", "disc"],
+            b"free\n",
+            b"free 816128 816128\nok\n",
+        ),
+        (
+            &["--new", "L", "disc"],
+            b"free",
+            b"free 653568 653568\nok\n",
+        ),
+        (
+            &["--new", "E+", "disc"],
+            b"free",
+            b"free 815104 815104\nok\n",
+        ),
+        (
+            &["--new", "F+", "disc"],
+            b"free",
+            b"free 1624064 421888\nok\n",
+        ),
         (
             &["--new", "E", "disc"],
             b"check\n",
             b"files 0 dirs 1 lost 0 holes 1 free 815104 unsorted 0 parents 0\nok\n",
         ),
-        (&["--read-only", "--new", "D", "disc"], b"cat $\n\n# end", b"ok\n"),
+        (
+            &["--read-only", "--new", "D", "disc"],
+            b"cat $\n\n# end",
+            b"ok\n",
+        ),
     ];
     for (words, script, text) in cases {
         let (status, written, _) = outcome(alloc, words, Vec::new(alloc), script)?;
@@ -157,7 +185,13 @@ fn other_images(rt: HostRuntime) -> Result<(), Fail> {
     let alloc = rt.alloc();
     let cases: [(&[(usize, u8)], &[u8], u8, &[u8]); 12] = [
         (
-            &[(2071, 0), (2075, 255), (2076, 255), (2077, 255), (4095, 0x89)],
+            &[
+                (2071, 0),
+                (2075, 255),
+                (2076, 255),
+                (2077, 255),
+                (4095, 0x89),
+            ],
             b"load $.hello\n",
             0,
             b"\nok\n",
@@ -169,11 +203,31 @@ fn other_images(rt: HostRuntime) -> Result<(), Fail> {
             b"He%20lo 00000003 00000000 00000000 5\nok\n48656c6c6f\nok\nerror 4 NotDirectory\n",
         ),
         (&[(0, 0xa2)], b"free\n", 3, b"bad-image NoKind\n"),
-        (&[(69, 0), (863, 0)], b"free\n", 3, b"bad-image Zone 0 544\n"),
+        (
+            &[(69, 0), (863, 0)],
+            b"free\n",
+            3,
+            b"bad-image Zone 0 544\n",
+        ),
         (&[(0, 0xae), (1, 0x29)], b"", 3, b"bad-image Zone 0 561\n"),
-        (&[(2049, 88)], b"free\n", 3, b"bad-image Directory $ Magic\n"),
-        (&[(4095, 0xf3)], b"free\n", 3, b"bad-image Directory $ Check\n"),
-        (&[(2076, 1), (4095, 0xf6)], b"", 3, b"bad-image Place $.Hello\n"),
+        (
+            &[(2049, 88)],
+            b"free\n",
+            3,
+            b"bad-image Directory $ Magic\n",
+        ),
+        (
+            &[(4095, 0xf3)],
+            b"free\n",
+            3,
+            b"bad-image Directory $ Check\n",
+        ),
+        (
+            &[(2076, 1), (4095, 0xf6)],
+            b"",
+            3,
+            b"bad-image Place $.Hello\n",
+        ),
         (
             &[(2071, 1), (2072, 8), (4095, 0x70)],
             b"",
@@ -223,7 +277,12 @@ fn fresh_volumes_damaged(rt: HostRuntime) -> Result<(), Fail> {
         ("E", &[], 0, b"bad-image NoKind\n"),
         ("F", &[], 1_000_000, b"bad-image Short 1638400 1000000\n"),
         ("D", &[], 800_000, b"bad-image Short 819200 800000\n"),
-        ("E", &[(0, 0xf0), (1024, 0xf0)], FRESH, b"bad-image NoKind\n"),
+        (
+            "E",
+            &[(0, 0xf0), (1024, 0xf0)],
+            FRESH,
+            b"bad-image NoKind\n",
+        ),
         (
             "F",
             &[(814_080, 0x4d), (820_224, 0x4d)],
@@ -269,6 +328,7 @@ fn long_scripts(rt: HostRuntime) -> Result<(), Fail> {
 }
 
 // The calls that fail: at most one read of the disk, one of the script, and one write.
+#[derive(Clone, Copy)]
 struct Faults {
     disk: u64,
     script: u64,
