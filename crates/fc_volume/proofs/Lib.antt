@@ -1,1 +1,2 @@
 mod MapsLemmas
+mod MapsOldLemmas
