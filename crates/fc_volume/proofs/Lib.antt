@@ -1,2 +1,3 @@
 mod MapsLemmas
 mod MapsOldLemmas
+mod MisplacedLemmas
