@@ -1,8 +1,8 @@
 -- The paths of an opened image are distinct under folding: of no path are there two objects.
 use Rattle.std.proofs.Common.{◌≡◌, ◌<◌, ◌≤◌, ℕ, zero, suc, ◌+◌, Bool, true, false, cond, List, [], ◌∷◌, ◌++◌, length, refl, sym, ap, ap₂, subst, ◌∙◌, arith, Some, None, Option, take}
-use Rattle.std.specs.Prelude.{Result, Ok, filter, find, is_some, slice_get, ◌&&◌}
+use Rattle.std.specs.Prelude.{Result, Ok, Contains, filter, find, is_some, slice_get, ◌&&◌}
 use Rattle.std.specs.List.{flat_map, range_with_len}
-use Rattle.std.specs.Option.{option_map, option_map_or}
+use Rattle.std.specs.Option.{option_map, option_map_or, unwrap_or}
 use Rattle.std.specs.declared.cmp.Ordering.{Ordering}
 use Rattle.std.specs.declared.cmp.Ordering.TheVariants.{Less, Equal, Greater}
 use Rattle.std.specs.Ordering.{is_eq, ordering_then, ordering_reverse}
@@ -20,10 +20,13 @@ use Rattle.fc_dirs.specs.Small.{small_fault, small_dir, small_entries, first_nam
 use Rattle.fc_dirs.specs.Big.{big_fault, big_dir, big_entries, frame_fault, has_second_form, first_bad_entry}
 use Rattle.fc_dirs.specs.Directory.{Directory, directory_of, entries_of, read_or}
 use Rattle.fc_image.specs.Layout.{Layout, dir_form}
-use Rattle.fc_image.specs.Walk.{Object, Listing, reader_of, object_bytes, is_directory_object}
+use Rattle.fc_image.specs.Walk.{Object, Listing, Reader, reader_of, object_bytes, is_directory_object, walk}
 use Rattle.fc_image.specs.Objects.{objects_of}
-use Rattle.fc_image.specs.Opening.{reserved_in}
+use Rattle.fc_record.specs.declared.Kind.{Kind}
+use Rattle.fc_image.specs.Opening.{Opened, reserved_in}
+use Rattle.fc_image.specs.Stays.{OpensAs}
 use Rattle.fc_image.specs.Edits.{AreChildren, Follows, PathsLaw}
+use Rattle.fc_image.proofs.WalkLemmas.{walk-Tells}
 use Rattle.fc_image.proofs.FreeLemmas.{parts_of}
 use Rattle.fc_image.proofs.EditLemmas.{walk_gives, root_first}
 
@@ -33,14 +36,43 @@ one_if : Bool → ℕ
 one_if true = 1
 one_if false = 0
 
-many : {X : Type 0} → (X → Bool) → List X → ℕ
+unfoldable pub many : {X : Type 0} → (X → Bool) → List X → ℕ
 many t [] = 0
 many t (x ∷ xs) = cond (t x) 1 0 + many t xs
 
-many-append : {X : Type 0} (t : X → Bool) (xs ys : List X) → many t (xs ++ ys) ≡ many t xs + many t ys
+pub many-append : {X : Type 0} (t : X → Bool) (xs ys : List X) → many t (xs ++ ys) ≡ many t xs + many t ys
 unfolding many
 many-append t [] ys = omega arith
 many-append t (x ∷ xs) ys = let rest = many-append t xs ys in omega arith
+
+same_some : {X : Type 0} (x y : X) → Some x ≡ Some y → x ≡ y
+same_some x y e = ap (λ o. unwrap_or o x) e
+
+one_more : (b : Bool) (n : ℕ) → b ≡ true → cond b 1 0 + n ≡ 1 + n
+one_more true n e = refl
+one_more false n e = absurd (cc)
+
+some_pass : {X : Type 0} (t : X → Bool) (xs : List X) (i : ℕ) (x : X) → slice_get xs i ≡ Some x → t x ≡ true → 1 ≤ many t xs
+unfolding many
+some_pass t [] i x is e = absurd (cc)
+some_pass t (z ∷ xs) zero x is e = let here = one_more (t z) (many t xs) (ap t (same_some z x is) ∙ e) in omega arith
+some_pass t (z ∷ xs) (suc i) x is e = let later = some_pass t xs i x is e in omega arith
+
+-- where one element passes, it has one place
+pub only_one : {X : Type 0} (t : X → Bool) (xs : List X) (i j : ℕ) (x y : X) → many t xs ≤ 1 → slice_get xs i ≡ Some x → slice_get xs j ≡ Some y
+    → t x ≡ true → t y ≡ true → i ≡ j
+unfolding many
+only_one t [] i j x y low is is' e e' = absurd (cc)
+only_one t (z ∷ xs) zero zero x y low is is' e e' = refl
+only_one t (z ∷ xs) zero (suc j) x y low is is' e e' =
+    let here = one_more (t z) (many t xs) (ap t (same_some z x is) ∙ e) in
+    let later = some_pass t xs j y is' e' in
+    absurd (omega arith)
+only_one t (z ∷ xs) (suc i) zero x y low is is' e e' =
+    let here = one_more (t z) (many t xs) (ap t (same_some z y is') ∙ e') in
+    let later = some_pass t xs i x is e in
+    absurd (omega arith)
+only_one t (z ∷ xs) (suc i) (suc j) x y low is is' e e' = let same = only_one t xs i j x y (omega arith) is is' e e' in omega arith
 
 many_fewer : {X : Type 0} (t s : X → Bool) (xs : List X) → many t (filter s xs) ≤ many t xs
 unfolding many
@@ -82,7 +114,7 @@ and_assoc true b c = refl
 and_assoc false b c = refl
 
 -- two paths are the same where what stands before their last names is, and these are
-same_last : (init path : Path) (last name : List ℕ) → is_same_path (init ++ last ∷ []) (path ++ name ∷ []) ≡ (is_same_path init path && is_same_name last name)
+pub same_last : (init path : Path) (last name : List ℕ) → is_same_path (init ++ last ∷ []) (path ++ name ∷ []) ≡ (is_same_path init path && is_same_name last name)
 same_last [] [] last name = then_equal (name_cmp last name)
 same_last [] (q ∷ []) last name = then_less (name_cmp last q)
 same_last [] (q ∷ r ∷ path) last name = then_less (name_cmp last q)
@@ -95,22 +127,22 @@ same_last (x ∷ init) (q ∷ path) last name =
     ∙ ap (λ b. b && is_same_name last name) (sym (then_both (name_cmp x q) _))
 
 -- the root is no other path
-root_other : (path : Path) (name : List ℕ) → is_same_path [] (path ++ name ∷ []) ≡ false
+pub root_other : (path : Path) (name : List ℕ) → is_same_path [] (path ++ name ∷ []) ≡ false
 root_other [] name = refl
 root_other (q ∷ path) name = refl
 
-other_root : (init : Path) (last : List ℕ) → is_same_path (init ++ last ∷ []) [] ≡ false
+pub other_root : (init : Path) (last : List ℕ) → is_same_path (init ++ last ∷ []) [] ≡ false
 other_root [] last = refl
 other_root (x ∷ init) last = refl
 
 -- a path that isn't the root has a last name
-record Cut (path : Path) : Type 0 where
+pub record Cut (path : Path) : Type 0 where
   pub front : Path
   pub last : List ℕ
   pub is : path ≡ front ++ last ∷ []
   pub shorter : length path ≡ length front + 1
 
-cut : (x : List ℕ) (path : Path) → Cut (x ∷ path)
+pub cut : (x : List ℕ) (path : Path) → Cut (x ∷ path)
 cut x [] = record { front = []; last = x; is = refl; shorter = omega arith }
 cut x (y ∷ path) =
     let c = cut y path in
@@ -119,7 +151,7 @@ cut x (y ∷ path) =
 
 -- ---- names of a directory
 
-same_equal : (r : Ordering) → is_eq r ≡ true → r ≡ Equal
+pub same_equal : (r : Ordering) → is_eq r ≡ true → r ≡ Equal
 same_equal Less e = absurd (cc)
 same_equal Equal e = refl
 same_equal Greater e = absurd (cc)
@@ -149,7 +181,7 @@ assoc : (xs ys zs : List Entry) → (xs ++ ys) ++ zs ≡ xs ++ (ys ++ zs)
 assoc [] ys zs = refl
 assoc (x ∷ xs) ys zs = ap (λ (es : List Entry). x ∷ es) (assoc xs ys zs)
 
-abbrev has_that : List ℕ → Entry → Bool
+abbrev pub has_that : List ℕ → Entry → Bool
 has_that last e = is_same_name last e.name
 
 none_before : (before : List Entry) (last name : List ℕ) → has_name before name ≡ false → is_same_name last name ≡ true → many (has_that last) before ≡ 0
@@ -192,7 +224,7 @@ pass before (e ∷ rest) last apart low =
     by true h new = let none = none_before before last e.name new h in omega arith
     by false h new = omega arith
 
-names_once : (entries : List Entry) (last : List ℕ) → first_twin entries ≡ None → many (has_that last) entries ≤ 1
+pub names_once : (entries : List Entry) (last : List ℕ) → first_twin entries ≡ None → many (has_that last) entries ≤ 1
 unfolding many
 names_once entries last e =
     let all = pass [] entries last (λ i l. ap (is_twin entries) (let k : i ≡ 0 + i = omega arith in k) ∙ find_none (is_twin entries) 0 (length entries) e i l) (omega arith) in
@@ -251,7 +283,7 @@ content_once Long bytes content h =
 
 -- ---- the objects of a walk
 
-abbrev is_at : Path → Object → Bool
+abbrev pub is_at : Path → Object → Bool
 is_at path o = is_same_path path o.path
 
 kids_named : (layout : Layout) (path init : Path) (last : List ℕ) (entries : List Entry) (objects : List Object) → AreChildren layout path entries objects
@@ -283,23 +315,30 @@ named_or_none false last entries e = let n = none entries in omega arith
     none [] = refl
     none (d ∷ es) = let r = none es in omega arith
 
-module _ (image : List ℕ) (layout : Layout) where
+-- no directory has two names that fold to one
+abbrev pub NoTwins : List Listing → Type 0
+NoTwins listings = (l : Listing) → Contains listings l → first_twin (entries_of l.content) ≡ None
+
+no_twins_later : (l : Listing) (listings : List Listing) → NoTwins (l ∷ listings) → NoTwins listings
+no_twins_later l listings none k at = none k (suc at.0, omega (arith, at.1), at.2)
+
+module _ (read : Reader) (layout : Layout) where
   -- each object of that last name is held by a directory of that path
-  kids_held : (init : Path) (last : List ℕ) (waiting : List Object) (listings : List Listing) → Follows (reader_of image layout) layout waiting listings
-      → many (is_at (init ++ last ∷ [])) (flat_map (λ l. l.children) listings) ≤ many (λ (l : Listing). is_at init l.object) listings
+  kids_held : (init : Path) (last : List ℕ) (waiting : List Object) (listings : List Listing) → Follows read layout waiting listings
+      → NoTwins listings → many (is_at (init ++ last ∷ [])) (flat_map (λ l. l.children) listings) ≤ many (λ (l : Listing). is_at init l.object) listings
   unfolding many
-  kids_held init last [] [] f = omega arith
-  kids_held init last (o ∷ waiting) [] f = absurd f
-  kids_held init last [] (l ∷ listings) f = absurd f
-  kids_held init last (o ∷ waiting) (l ∷ listings) f =
-      let rest = kids_held init last (waiting ++ filter is_directory_object l.children) listings f.2 in
+  kids_held init last [] [] f none = omega arith
+  kids_held init last (o ∷ waiting) [] f none = absurd f
+  kids_held init last [] (l ∷ listings) f none = absurd f
+  kids_held init last (o ∷ waiting) (l ∷ listings) f none =
+      let rest = kids_held init last (waiting ++ filter is_directory_object l.children) listings f.2 (no_twins_later l listings none) in
       let here = kids_named layout l.object.path init last (entries_of l.content) l.children f.1.1 in
-      let once = content_once (dir_form layout) (object_bytes image layout l.object) l.content f.1.0 in
+      let once = none l (0, omega arith, refl) in
       let most = named_or_none (is_same_path init l.object.path) last (entries_of l.content) once in
       let both = many-append (is_at (init ++ last ∷ [])) l.children (flat_map (λ (k : Listing). k.children) listings) in
       omega arith
 
-  kids_no_root : (waiting : List Object) (listings : List Listing) → Follows (reader_of image layout) layout waiting listings
+  kids_no_root : (waiting : List Object) (listings : List Listing) → Follows read layout waiting listings
       → many (is_at []) (flat_map (λ l. l.children) listings) ≡ 0
   unfolding many
   kids_no_root [] [] f = refl
@@ -312,7 +351,7 @@ module _ (image : List ℕ) (layout : Layout) where
       omega arith
 
   -- the directories that wait are listed, and of the others those that they hold
-  listed_few : (t : Object → Bool) (waiting : List Object) (listings : List Listing) → Follows (reader_of image layout) layout waiting listings
+  pub listed_few : (t : Object → Bool) (waiting : List Object) (listings : List Listing) → Follows read layout waiting listings
       → many (λ (l : Listing). t l.object) listings ≤ many t waiting + many t (flat_map (λ l. l.children) listings)
   unfolding many
   listed_few t [] [] f = omega arith
@@ -327,21 +366,21 @@ module _ (image : List ℕ) (layout : Layout) where
       omega (arith, rest, first, queue, fewer, both)
 
   -- of each path there is one object at most
-  once : (root : Object) (listings : List Listing) → root.path ≡ [] → Follows (reader_of image layout) layout (root ∷ []) listings
+  pub once : (root : Object) (listings : List Listing) → root.path ≡ [] → Follows read layout (root ∷ []) listings → NoTwins listings
       → (n : ℕ) (path : Path) → length path ≡ n → many (is_at path) (objects_of listings) ≤ 1
   unfolding many
-  once root listings top f n [] e =
+  once root listings top f twins n [] e =
       let none = kids_no_root (root ∷ []) listings f in
       let low = low_one (is_at [] root) in
-      subst (λ (os : List Object). many (is_at []) os ≤ 1) (sym (root_first (reader_of image layout) layout root [] listings f)) (omega arith)
-  once root listings top f zero (x ∷ path) e = absurd (omega arith)
-  once root listings top f (suc n) (x ∷ path) e =
+      subst (λ (os : List Object). many (is_at []) os ≤ 1) (sym (root_first read layout root [] listings f)) (omega arith)
+  once root listings top f twins zero (x ∷ path) e = absurd (omega arith)
+  once root listings top f twins (suc n) (x ∷ path) e =
       let c = cut x path in
       let shorter = c.shorter in
-      let before = once root listings top f n c.front (omega arith) in
-      let whole = root_first (reader_of image layout) layout root [] listings f in
+      let before = once root listings top f twins n c.front (omega arith) in
+      let whole = root_first read layout root [] listings f in
       let before' = subst (λ (os : List Object). many (is_at c.front) os ≤ 1) whole before in
-      let held = kids_held c.front c.last (root ∷ []) listings f in
+      let held = kids_held c.front c.last (root ∷ []) listings f twins in
       let few = listed_few (is_at c.front) (root ∷ []) listings f in
       let other : is_at (c.front ++ c.last ∷ []) root ≡ false = ap (λ (p : Path). is_same_path (c.front ++ c.last ∷ []) p) top ∙ other_root c.front c.last in
       let none : ◌≡◌ {A = ℕ} (cond (is_at (c.front ++ c.last ∷ []) root) 1 0) 0 = ap (λ (b : Bool). let n : ℕ = cond b 1 0 in n) other in
@@ -350,7 +389,7 @@ module _ (image : List ℕ) (layout : Layout) where
 
 -- ---- the law
 
-itself : (path : Path) → is_same_path path path ≡ true
+pub itself : (path : Path) → is_same_path path path ≡ true
 itself [] = refl
 itself (x ∷ path) = then_both (name_cmp x x) _ ∙ ap₂ (λ (a b : Bool). a && b) (own x) (itself path)
   where
@@ -362,7 +401,7 @@ itself (x ∷ path) = then_both (name_cmp x x) _ ∙ ap₂ (λ (a b : Bool). a &
         own_equal Equal h = refl
         own_equal Greater h = absurd (cc)
 
-unless : (b : Bool) → (b ≡ true → ⊥) → b ≡ false
+pub unless : (b : Bool) → (b ≡ true → ⊥) → b ≡ false
 unless true never = absurd (never refl)
 unless false never = refl
 
@@ -376,11 +415,30 @@ two_is_many path front middle rest o p h g low =
     let inner = many-append (is_at path) middle (p ∷ rest) in
     omega (arith, one, other, outer, inner, low)
 
-pub paths_law : PathsLaw
-paths_law image kind v front middle rest o p opens e =
+-- the walk of an opened image, whose directories have no twins
+pub record OpenedWalk (image : List ℕ) (kind : Kind) (v : Opened) : Type 0 where
+  pub address : ℕ
+  pub size : ℕ
+  pub walked : walk (reader_of image v.layout) v.layout (reserved_in kind v.layout) address size ≡ Ok v.listings
+  pub twins : NoTwins v.listings
+
+pub opened_walk : (image : List ℕ) (kind : Kind) (v : Opened) → OpensAs image kind v → OpenedWalk image kind v
+opened_walk image kind v opens =
     let parts = parts_of image kind v opens.opened in
     let found = parts.0 in
-    let had = walk_gives (reader_of image found.0) found.0 (reserved_in kind found.0) found.1 found.2 v.listings parts.1.2 in
-    let most = once image found.0 had.0 v.listings had.1.path had.2 (length o.path) o.path refl in
+    let layout : found.0 ≡ v.layout = ap (λ (w : Opened). w.layout) parts.1.4 in
+    let told = walk-Tells (reader_of image found.0) found.0 (reserved_in kind found.0) found.1 found.2 v.listings parts.1.2 in
+    record {
+      address = found.1;
+      size = found.2;
+      walked = subst (λ (m : Layout). walk (reader_of image m) m (reserved_in kind m) found.1 found.2 ≡ Ok v.listings) layout parts.1.2;
+      twins = λ l at. content_once (dir_form found.0) (object_bytes image found.0 l.object) l.content (told l at);
+    }
+
+pub paths_law : PathsLaw
+paths_law image kind v front middle rest o p opens e =
+    let w = opened_walk image kind v opens in
+    let had = walk_gives (reader_of image v.layout) v.layout (reserved_in kind v.layout) w.address w.size v.listings w.walked in
+    let most = once (reader_of image v.layout) v.layout had.0 v.listings had.1.path had.2 w.twins (length o.path) o.path refl in
     unless (is_same_path o.path p.path) (λ same.
     two_is_many o.path front middle rest o p (itself o.path) same (subst (λ (os : List Object). many (is_at o.path) os ≤ 1) e most))

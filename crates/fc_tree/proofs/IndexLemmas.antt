@@ -10,8 +10,10 @@ use Rattle.std.proofs.lemmas.List.{get_or_default}
 use Rattle.std.proofs.lemmas.List.Edits.{length-insert, get_or-insert_below, get_or-insert_at, get_or-insert_above, length-remove, get_or-remove_below, get_or-remove_above}
 use Rattle.fc_names.specs.Names.{folded, is_same_name}
 use Rattle.fc_tree.specs.declared.node.Node.{Node}
+use Rattle.fc_tree.specs.Nodes.{child, nodes_of}
 use Rattle.fc_tree.specs.Slots.{slot_at, is_child}
 use Rattle.fc_tree.specs.Index.{Key, key_cmp, key_of, is_before, IsIndex, IsRank}
+use Rattle.fc_tree.proofs.SlotLemmas.{child_is, no_child, is_child_true, is_child_false}
 use Rattle.fc_tree.proofs.KeyLemmas.{key_trans, key_irreflexive, key_flipped, key_squeezed, by_number, number_less, number_least, folds_from_same, same_from_folds, before_node, node_there, node_before, before_before}
 
 -- ---- searches
@@ -56,12 +58,12 @@ rank_exact slots order rank n node index is ranked =
     let here : slice_index order k ≡ n = place.2 in
     let there : slot_at slots (slice_index order k) ≡ Some node = ap (slot_at slots) here ∙ is in
     let itself : is_before slots (key_of n node) (slice_index order k) ≡ false =
-        ap (is_before slots (key_of n node)) here ∙ before_node slots (key_of n node) n node is ∙ key_irreflexive (key_of n node) in
+    ap (is_before slots (key_of n node)) here ∙ before_node slots (key_of n node) n node is ∙ key_irreflexive (key_of n node) in
     let low : rank ≤ k = not_below_rank slots order (key_of n node) rank k ranked itself in
     elim (cases_lt rank k) [
       | inl l ↦
           let early : is_before slots (key_of n node) (slice_index order rank) ≡ true =
-              ap (λ (m : ℕ). is_before slots (key_of m node) (slice_index order rank)) (sym here) ∙ index.rising rank k node l place.1 there in
+          ap (λ (m : ℕ). is_before slots (key_of m node) (slice_index order rank)) (sym here) ∙ index.rising rank k node l place.1 there in
           absurd (both_ways (is_before slots (key_of n node) (slice_index order rank)) early (ranked.above rank (omega arith) (omega (arith, l, place.1))))
       | inr l ↦ let same : rank ≡ k = omega (arith, l, low) in (omega (arith, same, place.1), ap (slice_index order) same ∙ here)
     ]
@@ -95,8 +97,8 @@ named_from dir n name node passes =
 named_passes : (dir n : ℕ) (name : List ℕ) (node : Node) → IsNamed dir name n node → is_child dir name (n, node) ≡ true
 named_passes dir n name node is =
     and_from ((node.holder == dir) && not (n == 0)) (is_same_name name node.entry.name)
-        (and_from (node.holder == dir) (not (n == 0)) (eq-eqb node.holder dir is.holder) (not_from_false (n == 0) (ne_eqb n 0 (λ e. omega (arith, e, is.later)))))
-        (same_from_folds name node.entry.name (sym is.folds))
+    (and_from (node.holder == dir) (not (n == 0)) (eq-eqb node.holder dir is.holder) (not_from_false (n == 0) (ne_eqb n 0 (λ e. omega (arith, e, is.later)))))
+    (same_from_folds name node.entry.name (sym is.folds))
 
 not_early : (n m : ℕ) → m ≤ n → is_lt (nat_cmp n m) ≡ false
 not_early n m is = false_from_ne_true (is_lt (nat_cmp n m)) (λ less. let lt : n < m = number_less n m less in omega (arith, lt, is))
@@ -125,10 +127,10 @@ first_at_rank slots order rank dir j name m index ranked is passes =
           let node : Node = there.0 in
           let n : ℕ = slice_index order rank in
           let late : is_lt (key_cmp (key_of n node) (key_of j m)) ≡ true =
-              sym (before_node slots (key_of j m) n node there.1) ∙ ap (λ (i : ℕ). is_before slots (key_of i m) n) (sym here)
-              ∙ index.rising rank k m l place.1 (ap (slot_at slots) here ∙ is) in
+          sym (before_node slots (key_of j m) n node there.1) ∙ ap (λ (i : ℕ). is_before slots (key_of i m) n) (sym here)
+          ∙ index.rising rank k m l place.1 (ap (slot_at slots) here ∙ is) in
           let early : is_lt (key_cmp (key_of n node) (first_key dir name)) ≡ false =
-              sym (before_node slots (first_key dir name) n node there.1) ∙ ranked.above rank (omega arith) within in
+          sym (before_node slots (first_key dir name) n node there.1) ∙ ranked.above rank (omega arith) within in
           let found = key_squeezed (first_key dir name) (key_of n node) (key_of j m) (sym named.holder) (sym named.folds) early late in
           let less : n < j = number_less n j (ap is_lt (sym (by_number (key_of n node) (key_of j m) (found.0 ∙ sym named.holder) (found.1 ∙ sym named.folds))) ∙ late) in
           (within, (node, there.1, named_passes dir n name node (record { holder = found.0; folds = found.1; later = found.2 })), omega (arith, less))
@@ -136,6 +138,38 @@ first_at_rank slots order rank dir j name m index ranked is passes =
           let same : slice_index order rank ≡ j = (let e : rank ≡ k = omega (arith, l, low) in ap (slice_index order) e ∙ here) in
           (within, (m, ap (slot_at slots) same ∙ is, ap (λ (i : ℕ). is_child dir name (i, m)) same ∙ passes), omega (arith, same))
     ]
+
+no_child_under : (slots : List (Option Node)) (order : List ℕ) (rank dir : ℕ) (name : List ℕ) → IsIndex slots order → IsRank slots order (first_key dir name) rank
+    → ((node : Node) → rank < length order → slot_at slots (slice_index order rank) ≡ Some node → is_child dir name (slice_index order rank, node) ≡ true → ⊥)
+    → None ≡ child (nodes_of (record { slots = slots; room = 0 })) dir name
+no_child_under slots order rank dir name index ranked never =
+    no_child (record { slots = slots; room = 0 }) dir name (λ j m here. false_from_ne_true (is_child dir name (j, m)) (λ passes.
+    let first = first_at_rank slots order rank dir j name m index ranked here passes in
+    never first.1.0 first.0 first.1.1 first.1.2))
+
+-- no number is left at the rank of the name
+pub child_past : (slots : List (Option Node)) (order : List ℕ) (rank dir : ℕ) (name : List ℕ) → IsIndex slots order → IsRank slots order (first_key dir name) rank → length order ≤ rank
+    → None ≡ child (nodes_of (record { slots = slots; room = 0 })) dir name
+child_past slots order rank dir name index ranked past =
+    no_child_under slots order rank dir name index ranked (λ node within here passes. omega (arith, within, past))
+
+-- the number at the rank of the name is another's
+pub child_other : (slots : List (Option Node)) (order : List ℕ) (rank dir n : ℕ) (name : List ℕ) → IsIndex slots order → IsRank slots order (first_key dir name) rank → slice_index order rank ≡ n
+    → option_map_or (λ node. is_child dir name (n, node)) (slot_at slots n) false ≡ false → None ≡ child (nodes_of (record { slots = slots; room = 0 })) dir name
+child_other slots order rank dir n name index ranked is other =
+    no_child_under slots order rank dir name index ranked (λ node within here passes.
+    both_ways (is_child dir name (n, node)) (ap (λ m. is_child dir name (m, node)) (sym is) ∙ passes)
+    (is_child_false slots dir n name node other (ap (slot_at slots) (sym is) ∙ here)))
+
+-- the number at the rank of the name is that of the first node of the name
+pub child_there : (slots : List (Option Node)) (order : List ℕ) (rank dir n : ℕ) (name : List ℕ) → IsIndex slots order → IsRank slots order (first_key dir name) rank → slice_index order rank ≡ n
+    → option_map_or (λ node. is_child dir name (n, node)) (slot_at slots n) false ≡ true → Some n ≡ child (nodes_of (record { slots = slots; room = 0 })) dir name
+child_there slots order rank dir n name index ranked is found =
+    let there = is_child_true slots dir n name found in
+    child_is (record { slots = slots; room = 0 }) dir n name there.0 there.1 there.2 (λ j m below here. false_from_ne_true (is_child dir name (j, m)) (λ passes.
+    let first = first_at_rank slots order rank dir j name m index ranked here passes in
+    let low : n ≤ j = omega (arith, is, first.2) in
+    omega (arith, low, below)))
 
 -- ---- one more node
 
@@ -163,12 +197,12 @@ was order rank n k within =
     elim (cases_lt k rank) [
       | inl l ↦ inl (l, get_or-insert_below order rank n 0 k l within)
       | inr l ↦ elim (cases_eq k rank) [
-          | inl e ↦ inr (inl (e, ap (slice_index (insert order rank n)) e ∙ get_or-insert_at order rank n 0 within))
-          | inr a ↦
-              let low : rank < k = omega (arith, l, a) in
-              let next : k ≡ k - 1 + 1 = omega (arith, low) in
-              inr (inr (low, ap (slice_index (insert order rank n)) next ∙ get_or-insert_above order rank n 0 (k - 1) (omega (arith, low)) within))
-        ]
+        | inl e ↦ inr (inl (e, ap (slice_index (insert order rank n)) e ∙ get_or-insert_at order rank n 0 within))
+        | inr a ↦
+            let low : rank < k = omega (arith, l, a) in
+            let next : k ≡ k - 1 + 1 = omega (arith, low) in
+            inr (inr (low, ap (slice_index (insert order rank n)) next ∙ get_or-insert_above order rank n 0 (k - 1) (omega (arith, low)) within))
+      ]
     ]
 
 -- the index with one more number, at the rank of its node
@@ -182,16 +216,21 @@ index_put slots new order rank n node index none is same counts ranked = record 
 } where
   longer : List ℕ
   longer = insert order rank n
+
   size : length longer ≡ length order + 1
   size = length-insert order rank n ranked.within
+
   apart : (k : ℕ) → k < length order → slice_index order k ≡ n → ⊥
   apart k within = unlisted slots order n k index none within
+
   known_old : (k : ℕ) → k < length order → is_some (slot_at new (slice_index order k)) ≡ true
   known_old k within = ap is_some (same (slice_index order k) (apart k within)) ∙ index.known k within
+
   known : (k : ℕ) → k < length order + 1 → Was order rank n k → is_some (slot_at new (slice_index longer k)) ≡ true
   known k lt (inl (below, at)) = ap (λ m. is_some (slot_at new m)) at ∙ known_old k (omega (arith, below, ranked.within))
   known k lt (inr (inl (e, at))) = ap (λ m. is_some (slot_at new m)) at ∙ ap is_some is
   known k lt (inr (inr (above, at))) = ap (λ m. is_some (slot_at new m)) at ∙ known_old (k - 1) (omega (arith, above, lt))
+
   listed : (m : ℕ) (x : Node) → slot_at new m ≡ Some x → (m ≡ n) ⊎ (m ≡ n → ⊥) → (k : ℕ) × (k < length longer) × (slice_index longer k ≡ m)
   listed m x here (inl e) = (rank, omega (arith, size, ranked.within), get_or-insert_at order rank n 0 ranked.within ∙ sym e)
   listed m x here (inr a) = from (index.listed m x (sym (same m a) ∙ here)) where
@@ -200,6 +239,7 @@ index_put slots new order rank n node index none is same counts ranked = record 
       | inl l ↦ (k, omega (arith, size, within), get_or-insert_below order rank n 0 k l ranked.within ∙ at)
       | inr l ↦ (k + 1, omega (arith, size, within), get_or-insert_above order rank n 0 k l ranked.within ∙ at)
     ]
+
   -- two old ones
   old : (i j a b : ℕ) (x : Node) → i < j → j < length order → a ≡ slice_index order i → b ≡ slice_index order j → slot_at new b ≡ Some x → is_before new (key_of b x) a ≡ true
   old i j a b x lt within first second here =
@@ -207,6 +247,7 @@ index_put slots new order rank n node index none is same counts ranked = record 
       ap₂ (λ (c d : ℕ). is_before new (key_of d x) c) first second
       ∙ same_before slots new (key_of (slice_index order j) x) n (slice_index order i) same (apart i (omega (arith, lt, within)))
       ∙ index.rising i j x lt within here_old
+
   -- an old one and the new one
   before_new : (i a b : ℕ) (x : Node) → i < rank → a ≡ slice_index order i → b ≡ n → slot_at new b ≡ Some x → is_before new (key_of b x) a ≡ true
   before_new i a b x lt first second here =
@@ -215,6 +256,7 @@ index_put slots new order rank n node index none is same counts ranked = record 
       ∙ ap (λ (y : Node). is_before new (key_of n y) (slice_index order i)) mine
       ∙ same_before slots new (key_of n node) n (slice_index order i) same (apart i (omega (arith, lt, ranked.within)))
       ∙ ranked.below i lt
+
   -- the new one and an old one
   new_before : (j a b : ℕ) (x : Node) → rank ≤ j → j < length order → a ≡ n → b ≡ slice_index order j → slot_at new b ≡ Some x → is_before new (key_of b x) a ≡ true
   new_before j a b x le within first second here =
@@ -225,6 +267,7 @@ index_put slots new order rank n node index none is same counts ranked = record 
       ap₂ (λ (c d : ℕ). is_before new (key_of d x) c) first second
       ∙ before_node new (key_of m x) n node is
       ∙ key_flipped (key_of m x) (key_of n node) later away
+
   rising : (i j : ℕ) (x : Node) → i < j → j < length order + 1 → slot_at new (slice_index longer j) ≡ Some x → Was order rank n i → Was order rank n j
       → is_before new (key_of (slice_index longer j) x) (slice_index longer i) ≡ true
   rising i j x lt within here (inl (below, at)) (inl (under, to)) = old i j (slice_index longer i) (slice_index longer j) x lt (omega (arith, under, ranked.within)) at to here
@@ -253,15 +296,20 @@ index_taken slots new order rank n node index is none same counts within at = re
 } where
   shorter : List ℕ
   shorter = remove order rank
+
   size : length shorter + 1 ≡ length order
   size = length-remove order rank within
+
   low : (k : ℕ) → k < rank → slice_index shorter k ≡ slice_index order k
   low k lt = get_or-remove_below order rank 0 k lt within
+
   high : (k : ℕ) → rank ≤ k → slice_index shorter k ≡ slice_index order (k + 1)
   high k le = get_or-remove_above order rank 0 k le within
+
   not_itself : (m : ℕ) → m ≡ n → is_before slots (key_of n node) m ≡ true → ⊥
   not_itself m e before = both_ways (is_lt (key_cmp (key_of n node) (key_of n node)))
       (sym (before_node slots (key_of n node) n node is) ∙ ap (is_before slots (key_of n node)) (sym e) ∙ before) (key_irreflexive (key_of n node))
+
   -- no other place has the number
   apart : (k : ℕ) → k < length order → (k ≡ rank → ⊥) → slice_index order k ≡ n → ⊥
   apart k lt other e = elim (cases_lt k rank) [
@@ -270,15 +318,19 @@ index_taken slots new order rank n node index is none same counts within at = re
     | inr l ↦ not_itself (slice_index order rank) at (ap (λ (m : ℕ). is_before slots (key_of m node) (slice_index order rank)) (sym e)
         ∙ index.rising rank k node (omega (arith, l, other)) lt (ap (slot_at slots) e ∙ is))
   ]
+
   known_old : (k : ℕ) → k < length order → (k ≡ rank → ⊥) → is_some (slot_at new (slice_index order k)) ≡ true
   known_old k lt other = ap is_some (same (slice_index order k) (apart k lt other)) ∙ index.known k lt
+
   known : (k : ℕ) → k + 1 < length order → (k < rank) ⊎ (rank ≤ k) → is_some (slot_at new (slice_index shorter k)) ≡ true
   known k lt (inl l) = ap (λ m. is_some (slot_at new m)) (low k l) ∙ known_old k (omega (arith, lt)) (λ e. omega (arith, e, l))
   known k lt (inr l) = ap (λ m. is_some (slot_at new m)) (high k l) ∙ known_old (k + 1) lt (λ e. omega (arith, e, l))
+
   listed : (m : ℕ) (x : Node) → slot_at new m ≡ Some x → (k : ℕ) × (k < length shorter) × (slice_index shorter k ≡ m)
   listed m x here = from (index.listed m x (sym (same m away) ∙ here)) where
     away : m ≡ n → ⊥
     away e = both_ways (is_some (slot_at new m)) (ap is_some here) (ap (λ k. is_some (slot_at new k)) e ∙ ap is_some none)
+
     from : (k : ℕ) × (k < length order) × (slice_index order k ≡ m) → (k : ℕ) × (k < length shorter) × (slice_index shorter k ≡ m)
     from (k, lt, to) = elim (cases_order k rank) [
       | inl e ↦ absurd (away (sym to ∙ ap (slice_index order) e ∙ at))
@@ -287,6 +339,7 @@ index_taken slots new order rank n node index is none same counts within at = re
           let next : k - 1 + 1 ≡ k = omega (arith, l) in
           (k - 1, omega (arith, size, l, lt), high (k - 1) (omega (arith, l)) ∙ ap (slice_index order) next ∙ to)
     ]
+
   old : (i j a b : ℕ) (x : Node) → i < j → j < length order → (i ≡ rank → ⊥) → (j ≡ rank → ⊥) → a ≡ slice_index order i → b ≡ slice_index order j → slot_at new b ≡ Some x
       → is_before new (key_of b x) a ≡ true
   old i j a b x lt inside other away first second here =
@@ -294,6 +347,7 @@ index_taken slots new order rank n node index is none same counts within at = re
       ap₂ (λ (c d : ℕ). is_before new (key_of d x) c) first second
       ∙ same_before slots new (key_of (slice_index order j) x) n (slice_index order i) same (apart i (omega (arith, lt, inside)) other)
       ∙ index.rising i j x lt inside here_old
+
   rising : (i j : ℕ) (x : Node) → i < j → j + 1 < length order → slot_at new (slice_index shorter j) ≡ Some x → (i < rank) ⊎ (rank ≤ i) → (j < rank) ⊎ (rank ≤ j)
       → is_before new (key_of (slice_index shorter j) x) (slice_index shorter i) ≡ true
   rising i j x lt inside here (inl l) (inl r) =

@@ -43,7 +43,7 @@ key_irreflexive a = same_rank (key_cmp a a) (key_total.antisymm a a)
 pub by_number : (a b : Key) → a.holder ≡ b.holder → folded a.name ≡ folded b.name → key_cmp a b ≡ nat_cmp a.number b.number
 by_number a b holders names =
     ap₂ (λ x y. ordering_then (ordering_then x y) (nat_cmp a.number b.number)) (level a.holder b.holder holders)
-        (ap (λ f. slice_cmp nat_cmp f (folded b.name)) names ∙ even (folded b.name))
+    (ap (λ f. slice_cmp nat_cmp f (folded b.name)) names ∙ even (folded b.name))
   where
     even : (f : List ℕ) → slice_cmp nat_cmp f f ≡ Equal
     even f = go (slice_cmp nat_cmp f f) (nat_list_cmp_total.antisymm f f) where
@@ -93,7 +93,7 @@ pub key_squeezed : (first key last : Key) → first.holder ≡ last.holder → f
     → (key.holder ≡ first.holder) × (folded key.name ≡ folded first.name) × (first.number ≤ key.number)
 key_squeezed first key last holders names early late =
     let same : is_lt (ordering_then (ordering_then (nat_cmp key.holder first.holder) (name_cmp key.name first.name)) (nat_cmp key.number last.number)) ≡ true =
-        ap₂ (λ h (f : List ℕ). is_lt (ordering_then (ordering_then (nat_cmp key.holder h) (slice_cmp nat_cmp (folded key.name) f)) (nat_cmp key.number last.number))) holders names ∙ late in
+    ap₂ (λ h (f : List ℕ). is_lt (ordering_then (ordering_then (nat_cmp key.holder h) (slice_cmp nat_cmp (folded key.name) f)) (nat_cmp key.number last.number))) holders names ∙ late in
     let both = squeezed (ordering_then (nat_cmp key.holder first.holder) (name_cmp key.name first.name)) key.number first.number last.number early same in
     let parts = both_equal (nat_cmp key.holder first.holder) (name_cmp key.name first.name) both.0 in
     (nat_cmp-IsAntisymmetric key.holder first.holder parts.0, slice_cmp-IsAntisymmetric nat_cmp-IsAntisymmetric (folded key.name) (folded first.name) parts.1, both.1)

@@ -1,3 +1,16 @@
 pub mod SlotLemmas
+pub mod WalkedLemmas
+pub mod NumberLemmas
+pub mod HeldLemmas
+pub mod TallyLemmas
+pub mod MemberLemmas
+pub mod SoundLemmas
+pub mod TreeLemmas
+pub mod PlaceLemmas
+pub mod FindLemmas
+pub mod ChildrenLemmas
+pub mod SortedLemmas
 pub mod KeyLemmas
 pub mod IndexLemmas
+pub mod SortLemmas
+pub mod ChangeLemmas

@@ -1,12 +1,11 @@
 -- The nodes of slots, by their numbers.
-use Rattle.std.proofs.Common.{◌≡◌, ◌<◌, ◌≤◌, ℕ, zero, suc, ◌+◌, Bool, true, false, cond, List, [], ◌∷◌, length, Option, Some, None, refl, sym, ap, ap₂, ◌∙◌, subst, arith, eqb}
-use Rattle.std.specs.List.{slice_get, find as first_of}
+use Rattle.std.proofs.Common.{◌≡◌, ◌<◌, ◌≤◌, ℕ, zero, suc, ◌+◌, Bool, true, false, cond, List, [], ◌∷◌, length, Option, Some, None, refl, sym, ap, ap₂, ◌∙◌, arith}
+use Rattle.std.specs.List.{find as first_of}
 use Rattle.std.specs.Option.{option_and_then, option_map, option_map_or, unwrap_or}
-use Rattle.std.specs.declared.cmp.Ordering.{Ordering}
-use Rattle.std.specs.declared.cmp.Ordering.TheVariants.{Less, Equal, Greater}
+use Rattle.std.specs.declared.cmp.Ordering.TheVariants.{Less, Equal}
 use Rattle.std.specs.Ordering.{nat_cmp, eq_by_cmp, is_eq}
 use Rattle.std.specs.Cmp.{nat_cmp_total, nat_cmp_is, unsigned_tied}
-use Rattle.std.specs.FinMap.{FinMap, from_entries, entries, get, find, empty, get-from_entries, entries-insert, len-empty, len-entries}
+use Rattle.std.specs.FinMap.{from_entries, entries, get, find, empty, get-from_entries, entries-insert, len-empty, len-entries}
 use Rattle.std.specs.FinMap.Entries.{put, by_order}
 use Rattle.std.proofs.lemmas.Bool.{ne_eqb, cond-true, cond-false}
 use Rattle.std.proofs.lemmas.Option.{slice_get_past}
@@ -16,10 +15,10 @@ use Rattle.fc_tree.specs.Slots.{slot_at, is_child}
 
 -- ---- the node of a number
 
-other : (q k : ℕ) → (q ≡ k → ⊥) → eq_by_cmp nat_cmp q k ≡ false
+pub other : (q k : ℕ) → (q ≡ k → ⊥) → eq_by_cmp nat_cmp q k ≡ false
 other q k apart = unsigned_tied q k ∙ ne_eqb q k apart
 
-level : (q k : ℕ) → q ≡ k → eq_by_cmp nat_cmp q k ≡ true
+pub level : (q k : ℕ) → q ≡ k → eq_by_cmp nat_cmp q k ≡ true
 level q k same = ap is_eq (sym (nat_cmp_is q k Equal same))
 
 find_under : (slots : List (Option Node)) (start q : ℕ) → q < start → find nat_cmp q (numbered_from start slots) ≡ None

@@ -1,5 +1,5 @@
 -- The index of nodes: their numbers, in the order of the directories that hold them, then of their names, then of the numbers.
-use Rattle.std.specs.Prelude.{◌≡◌, ◌<◌, ◌≤◌, ℕ, Bool, true, false, List, length, slice_index, count_by, Option, Some, is_some}
+use Rattle.std.specs.Prelude.{◌≡◌, ◌<◌, ◌≤◌, ℕ, ◌+◌, Bool, true, false, List, length, slice_index, count_by, Option, Some, is_some}
 use Rattle.std.specs.Option.{option_map_or}
 use Rattle.std.specs.declared.cmp.Ordering.{Ordering}
 use Rattle.std.specs.Ordering.{nat_cmp, is_lt, ordering_then}
@@ -36,3 +36,9 @@ pub record IsRank (slots : List (Option Node)) (order : List ℕ) (key : Key) (r
   pub within : rank ≤ length order
   pub below : (k : ℕ) → k < rank → is_before slots key (slice_index order k) ≡ true
   pub above : (k : ℕ) → rank ≤ k → k < length order → is_before slots key (slice_index order k) ≡ false
+
+-- The index is that of the slots, and both hold as many more numbers as there is room for, with no more memory.
+pub record IsHeld (slots : List (Option Node)) (order : List ℕ) (room slots_capacity order_capacity : ℕ) : Type 0 where
+  pub index : IsIndex slots order
+  pub slots_room : length slots + room ≤ slots_capacity
+  pub order_room : length slots + room ≤ order_capacity

@@ -1,30 +1,39 @@
 -- Laws of the nodes that stand for a walk's objects.
-use Rattle.std.specs.Prelude.{◌≡◌, ℕ, true, List, ◌∷◌, [], map, option_map, Option, Some, None, Result, Ok, Err, Contains, IsPermutation}
+use Rattle.std.specs.Prelude.{◌≡◌, ℕ, true, List, ◌∷◌, [], map, option_map, Some, None, Result, Ok, Err, Contains, IsPermutation}
 use Rattle.std.specs.Ordering.{nat_cmp, is_le}
 use Rattle.std.specs.FinMap.{FinMap, get}
 use Rattle.fc_names.specs.declared.refusal.Refusal.{Refusal}
 use Rattle.fc_names.specs.declared.refusal.Refusal.TheVariants as refusals
 use Rattle.fc_names.specs.Names.{Path, is_same_path, name_cmp}
-use Rattle.fc_model.specs.Tree.{Node as ModelNode, children}
+use Rattle.fc_model.specs.Tree.{Node as ModelNode, node_at, children}
 use Rattle.fc_model.specs.Answer.{found}
+use Rattle.fc_record.specs.declared.Kind.{Kind}
+use Rattle.fc_dirs.specs.Entries.{first_twin}
+use Rattle.fc_dirs.specs.Directory.{entries_of}
 use Rattle.fc_image.specs.Layout.{Layout}
 use Rattle.fc_image.specs.Walk.{Object, Listing, Reader, walk}
 use Rattle.fc_image.specs.Objects.{objects_of, node_of, tree_of}
+use Rattle.fc_image.specs.Opening.{Opened}
+use Rattle.fc_image.specs.Stays.{OpensAs}
 use Rattle.fc_tree.specs.declared.node.Node.{Node}
 use Rattle.fc_tree.specs.declared.node.Found.{Found}
 use Rattle.fc_tree.specs.declared.node.Found.TheVariants as founds
-use Rattle.fc_tree.specs.Nodes.{Numbers, nodes_of, found_in, number_of, HoldObjects}
-use Rattle.fc_tree.specs.Agree.{InOrder, IsDirectory}
+use Rattle.fc_tree.specs.Nodes.{nodes_of, found_in, number_of, HoldObjects}
+use Rattle.fc_tree.specs.Agree.{InOrder}
 use Rattle.fc_tree.specs.Numbered.{AreNumbered}
 
--- some reader's walk finds these listings, and bytes can say each directory
+-- some reader's walk finds these listings, and no directory has two names that fold to one
 pub record AreSound (layout : Layout) (listings : List Listing) : Type 0 where
   pub read : Reader
   pub reserved : List ℕ
   pub address : ℕ
   pub size : ℕ
   pub walked : walk read layout reserved address size ≡ Ok listings
-  pub bodies : (l : Listing) → Contains listings l → IsDirectory l.content
+  pub apart : (l : Listing) → Contains listings l → first_twin (entries_of l.content) ≡ None
+
+-- The listings of an opened image are.
+abbrev pub SoundLaw : Type 0
+SoundLaw = (image : List ℕ) (kind : Kind) (v : Opened) → OpensAs image kind v → AreSound v.layout v.listings
 
 -- Nodes that are numbered in the order of the objects hold them: each is found at its object's path, under its number.
 abbrev pub NumbersLaw : Type 0
@@ -59,3 +68,14 @@ ChildrenLaw = (image : List ℕ) (layout : Layout) (listings : List Listing) (l 
     → AreSound layout listings → Contains listings l → is_same_path path l.object.path ≡ true
     → IsPermutation (map (node_of image layout) l.children) nodes → Rise nodes
     → map (λ e. e.1) (children (tree_of image layout listings) path) ≡ nodes
+
+-- In the tree of the image an object's node stands at each spelling of its path.
+abbrev pub NodeLaw : Type 0
+NodeLaw = (image : List ℕ) (layout : Layout) (listings : List Listing) (o : Object) (path : Path)
+    → AreSound layout listings → Contains (objects_of listings) o → is_same_path path o.path ≡ true
+    → node_at (tree_of image layout listings) path ≡ Some (node_of image layout o)
+
+-- The objects of a directory have its entries, in stored order.
+abbrev pub EntriesLaw : Type 0
+EntriesLaw = (layout : Layout) (listings : List Listing) (l : Listing)
+    → AreSound layout listings → Contains listings l → map (λ o. o.entry) l.children ≡ entries_of l.content

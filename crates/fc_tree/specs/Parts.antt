@@ -1,5 +1,5 @@
 -- The parts of a volume, and the owners among its objects.
-use Rattle.std.specs.Prelude.{◌≡◌, ℕ, Bool, not, List, length, map, filter, IsPermutation}
+use Rattle.std.specs.Prelude.{◌≡◌, ℕ, not, List, length, map, filter, IsPermutation}
 use Rattle.std.specs.Option.{unwrap_or}
 use Rattle.std.specs.Ordering.{nat_cmp}
 use Rattle.std.specs.FinMap.{FinMap}

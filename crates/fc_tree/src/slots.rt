@@ -1,10 +1,11 @@
 // Slots, of which each has the node of its number, or none.
-ghost use Rattle.std.specs.Prelude.{◌≡◌, false};
+ghost use Rattle.std.specs.Prelude.{◌≡◌, ◌<◌, ◌≤◌, false, [], ◌∷◌, ◌++◌, Some, None, length, map, slice_set, vec_capacity, IsSome, IfOk};
 ghost use Rattle.std.specs.Option.{option_map, option_map_or};
 ghost use Rattle.fc_tree.specs.Slots.{is_child, slot_at};
 
 use crate::node::Node;
 use fc_names::{Name, fold_eq};
+use std::alloc::{AllocError, Global};
 
 // The node of a number.
 pub fn node_at(slots: &[Option<Node>], n: u64) -> Option<&Node>
@@ -21,4 +22,39 @@ pub fn is_child(slots: &[Option<Node>], n: u64, dir: u64, name: &Name) -> bool
         Some(node) => node.holder == dir && n != 0 && fold_eq(name, &node.entry.name),
         None => false,
     }
+}
+
+// The slots of nodes that are numbered in their order.
+pub fn slots_of(alloc: Global, nodes: Vec<Node>) -> Result<Vec<Option<Node>>, AllocError>
+    ensures { IfOk result (λ slots. slots.items ≡ map Some nodes.items) }
+{
+    nodes.into_iter().map(Some).collect(alloc)
+}
+
+// Takes a node out of its slot.
+pub fn take_slot(slots: &mut Vec<Option<Node>>, n: u64) -> Node
+    requires { IsSome (slot_at slots.old.items n) }
+    ensures node { slot_at slots.old.items n ≡ Some result }
+    ensures items { slots.new.items ≡ slice_set slots.old.items n None }
+    ensures capacity { vec_capacity slots.new ≡ vec_capacity slots.old }
+{
+    slots[n as usize].take().unwrap()
+}
+
+// Puts a node into a slot.
+pub fn put_slot(slots: &mut Vec<Option<Node>>, n: u64, node: Node)
+    requires { n < length slots.old.items }
+    ensures items { slots.new.items ≡ slice_set slots.old.items n (Some node) }
+    ensures capacity { vec_capacity slots.new ≡ vec_capacity slots.old }
+{
+    slots[n as usize] = Some(node);
+}
+
+// Adds a slot with a node. There is room for it.
+pub fn push_slot(slots: &mut Vec<Option<Node>>, node: Node)
+    requires { length slots.old.items < vec_capacity slots.old }
+    ensures items { slots.new.items ≡ slots.old.items ++ Some node ∷ [] }
+    ensures capacity { vec_capacity slots.old ≤ vec_capacity slots.new }
+{
+    let _ = slots.push(Some(node));
 }

@@ -1,12 +1,12 @@
 // Trees of numbered nodes.
-ghost use Rattle.std.specs.Prelude.{◌≡◌, ◌≤◌, ℕ, Some, None, map, IfOk};
-ghost use Rattle.std.specs.Option.{option_map, option_map_or};
-ghost use Rattle.std.specs.FinMap.{get};
-ghost use Rattle.fc_names.specs.Names.{is_directory};
+ghost use Rattle.std.specs.Prelude.{◌≡◌, ◌+◌, ◌<◌, ◌≤◌, ℕ, Some, None, map, slice_set, IsSome, IfOk, OnOk, OnErr};
+ghost use Rattle.std.specs.Option.{option_map};
+ghost use Rattle.std.specs.FinMap.{get, insert, remove};
 ghost use Rattle.fc_tree.specs.Nodes.{bound_of, child, found_in, is_directory_node, nodes_of};
 
+use crate::index::{first_child, index_of, place_of, put_number, rank, rank_of};
 use crate::node::{Found, Node};
-use crate::slots::{is_child, node_at};
+use crate::slots::{node_at, push_slot, put_slot, slots_of, take_slot};
 use fc_device::NoMemory;
 use fc_names::{Name, Path};
 use std::alloc::Global;
@@ -16,7 +16,12 @@ use std::marker::Model;
 /// has it, if one has, and how many more numbers there is room for; `nodes_of` is the finite map of these.
 #[derive(Drop)]
 pub struct Tree {
+    // For each number its node.
     slots: Vec<Option<Node>>,
+    // The numbers of the nodes, in the order of the directories that hold them, and then of their names.
+    order: Vec<u64>,
+    // How many more nodes can be added with no more memory.
+    room: usize,
 }
 
 impl Model for Tree {
@@ -24,15 +29,12 @@ impl Model for Tree {
 
     ghost Value = { Numbers };
 
-    ghost view = { λ t. record { slots = t.slots.items; room = 0 } };
-}
+    ghost use Rattle.std.specs.Prelude.{vec_capacity};
+    ghost use Rattle.fc_tree.specs.Index.{IsHeld};
 
-// The slots of nodes that are numbered in their order.
-fn slots_of(alloc: Global, nodes: Vec<Node>) -> Result<Vec<Option<Node>>, NoMemory>
-    ensures { IfOk result (λ slots. slots.items ≡ map Some nodes.items) }
-{
-    let slots = nodes.into_iter().map(Some).collect(alloc)?;
-    Ok(slots)
+    ghost view = { λ t. record { slots = t.slots.items; room = t.room } };
+
+    ghost invariant = { λ t. IsHeld t.slots.items t.order.items t.room (vec_capacity t.slots) (vec_capacity t.order) };
 }
 
 impl Tree {
@@ -40,8 +42,12 @@ impl Tree {
     pub(crate) fn from_nodes(alloc: Global, nodes: Vec<Node>) -> Result<Tree, NoMemory>
         ensures { IfOk result (λ tree. tree.slots ≡ map Some nodes.items) }
     {
+        let order = index_of(alloc, &nodes)?;
+        let slots = slots_of(alloc, nodes)?;
         Ok(Tree {
-            slots: slots_of(alloc, nodes)?,
+            slots,
+            order,
+            room: 0,
         })
     }
 
@@ -74,13 +80,7 @@ impl Tree {
     fn child(&self, dir: u64, name: &Name) -> Option<u64>
         ensures { result ≡ child (nodes_of self.now) dir name.now }
     {
-        let slots = self.slots.as_slice();
-        for n in 0..slots.len() {
-            if is_child(slots, n as u64, dir, name) {
-                return Some(n as u64);
-            }
-        }
-        None
+        first_child(&self.slots, &self.order, dir, name)
     }
 
     /// Where a path leads. Names are compared by folding.
@@ -98,5 +98,64 @@ impl Tree {
             }
         }
         Found::Node(at)
+    }
+
+    /// Takes the node of a number out, to be put back. The number is its own until then.
+    pub fn take_out(&mut self, n: u64) -> Node
+        requires { IsSome (get (nodes_of self.old) n) }
+        ensures node { get (nodes_of self.old) n ≡ Some result }
+        ensures nodes { nodes_of self.new ≡ remove (nodes_of self.old) n }
+        ensures slots { self.new.slots ≡ slice_set self.old.slots n None }
+        ensures bound { bound_of self.new ≡ bound_of self.old }
+        ensures room { self.new.room ≡ self.old.room }
+    {
+        let at = rank_of(&self.slots, &self.order, n);
+        self.order.remove(at);
+        take_slot(&mut self.slots, n)
+    }
+
+    /// Puts a node under a number below the bound that no node has. It takes no memory.
+    pub fn put_back(&mut self, n: u64, node: Node)
+        requires below { n < bound_of self.old }
+        requires free { get (nodes_of self.old) n ≡ None }
+        ensures nodes { nodes_of self.new ≡ insert (nodes_of self.old) n node }
+        ensures slots { self.new.slots ≡ slice_set self.old.slots n (Some node) }
+        ensures bound { bound_of self.new ≡ bound_of self.old }
+        ensures room { self.new.room ≡ self.old.room }
+    {
+        let at = rank(&self.slots, &self.order, &place_of(n, &node));
+        put_number(&mut self.order, at, n);
+        put_slot(&mut self.slots, n, node);
+    }
+
+    /// Adds a node under a number that no node has, which is the result. It takes no memory.
+    pub fn add(&mut self, node: Node) -> u64
+        requires { 0 < self.old.room }
+        ensures free { get (nodes_of self.old) result ≡ None }
+        ensures nodes { nodes_of self.new ≡ insert (nodes_of self.old) result node }
+        ensures below { result < bound_of self.new }
+        ensures bound { bound_of self.old ≤ bound_of self.new }
+        ensures room { self.old.room ≤ self.new.room + 1 }
+    {
+        let n = self.slots.len() as u64;
+        let at = rank(&self.slots, &self.order, &place_of(n, &node));
+        put_number(&mut self.order, at, n);
+        push_slot(&mut self.slots, node);
+        self.room -= 1;
+        n
+    }
+
+    /// Makes room for one more node. After `NoMemory` all is as before.
+    pub fn reserve(&mut self) -> Result<(), NoMemory>
+        ensures slots { self.new.slots ≡ self.old.slots }
+        ensures ok { OnOk result (self.old.room + 1 ≤ self.new.room) }
+        ensures err { OnErr result (self.new ≡ self.old) }
+    {
+        let room = self.room + 1;
+        self.slots.reserve(room)?;
+        self.order
+            .reserve(self.slots.len() + room - self.order.len())?;
+        self.room = room;
+        Ok(())
     }
 }

@@ -1,23 +1,10 @@
-use Rattle.std.proofs.Common.{◌≡◌, ◌<◌, length, ℕ, Some, false, sym, ap, ◌∙◌, arith}
-use Rattle.std.specs.Option.{option_map_or}
-use Rattle.std.proofs.lemmas.Option.{slice_get_within}
-use Rattle.fc_tree.specs.declared.node.Node.{Node}
-use Rattle.fc_tree.specs.Nodes.{Numbers}
-use Rattle.fc_tree.specs.Slots.{slot_at, is_child}
-use Rattle.fc_tree.proofs.SlotLemmas.{child_is, no_child, is_child_true, is_child_false, slot_within}
+use Rattle.std.proofs.Common.{ap, ◌∙◌}
+use Rattle.fc_tree.specs.Nodes.{Numbers, child}
+use Rattle.fc_tree.proofs.ChangeLemmas.{same_nodes}
 use Rattle.fc_tree.proofs.tree.Tree.child.Goals as goal
-
-pub returns-then-is_child : goal.returns-then-is_child
-returns-then-is_child c =
-    let tree = c.args.self.now in
-    let slots = c.as_slice-slots.ensures.value ∙ ap (λ (t : Numbers). t.slots) c.self.view_is in
-    let found = is_child_true tree.slots c.args.dir c.loop-n.n c.args.name.now
-    (sym (ap (λ s. option_map_or (λ node. is_child c.args.dir c.args.name.now (c.loop-n.n, node)) (slot_at s c.loop-n.n) false) slots) ∙ sym c.is_child.ensures ∙ c.if-is_child.true) in
-    child_is tree c.args.dir c.loop-n.n c.args.name.now found.0 found.1 found.2 c.loop-n.invariant
 
 pub returns : goal.returns
 returns c =
-    let tree = c.args.self.now in
-    let slots = ap length (c.as_slice-slots.ensures.value ∙ ap (λ (t : Numbers). t.slots) c.self.view_is) in
-    no_child tree c.args.dir c.args.name.now
-    (λ j m here. c.loop-n.invariant j m (omega (arith, slot_within tree.slots j m here, slots)) here)
+    c.first_child.ensures
+    ∙ ap (λ nodes. child nodes c.args.dir c.args.name.now)
+    (same_nodes (record { slots = c.deref.result.now; room = 0 }) c.args.self.now (c.deref.ensures.value ∙ ap (λ (t : Numbers). t.slots) c.self.view_is))

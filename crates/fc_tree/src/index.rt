@@ -1,0 +1,137 @@
+// The index of nodes: their numbers, in the order of the directories that hold them, then of their names by folding, then
+// of the numbers themselves.
+ghost use Rattle.std.specs.Prelude.{◌≡◌, ◌<◌, ◌≤◌, Some, length, map, slice_index, vec_capacity, IsSome, IfOk};
+ghost use Rattle.std.specs.List.{insert};
+ghost use Rattle.fc_tree.specs.Slots.{slot_at};
+ghost use Rattle.fc_tree.specs.Index.{IsIndex, IsRank, key_cmp, key_of};
+ghost use Rattle.fc_tree.specs.Index as index;
+ghost use Rattle.fc_tree.specs.Nodes.{child, nodes_of};
+ghost use Rattle.fc_tree.specs.Places.{AreSorted, keys_of, shown};
+
+use crate::node::Node;
+use crate::slots::{is_child, node_at};
+use fc_names::{Name, fold_cmp};
+use std::alloc::{AllocError, Global};
+use std::cmp::Ordering;
+
+// Where a number stands in the index: by the directory that holds its node, and the name there.
+#[derive(Clone, Copy)]
+pub struct Place<'a> {
+    pub holder: u64,
+    pub name: &'a Name,
+    pub number: u64,
+}
+
+// Where a node stands that has this number.
+pub fn place_of(n: u64, node: &Node) -> Place<'_>
+    ensures { shown result ≡ key_of n node.now }
+{
+    Place {
+        holder: node.holder,
+        name: &node.entry.name,
+        number: n,
+    }
+}
+
+fn cmp_places(a: &Place<'_>, b: &Place<'_>) -> Ordering
+    ensures { result ≡ key_cmp (shown a.now) (shown b.now) }
+{
+    a.holder
+        .cmp(&b.holder)
+        .then(fold_cmp(a.name, b.name))
+        .then(a.number.cmp(&b.number))
+}
+
+// Whether there is a node of this number, and it stands before the place.
+fn is_before(slots: &[Option<Node>], n: u64, place: &Place<'_>) -> bool
+    ensures { result ≡ index.is_before slots.now (shown place.now) n }
+{
+    match node_at(slots, n) {
+        Some(node) => cmp_places(&place_of(n, node), place).is_lt(),
+        None => false,
+    }
+}
+
+// How many numbers stand before the place.
+pub fn rank(slots: &[Option<Node>], order: &[u64], place: &Place<'_>) -> usize
+    requires { IsIndex slots.now order.now }
+    ensures { IsRank slots.now order.now (shown place.now) result }
+{
+    order.partition_point(|n| is_before(slots, *n, place))
+}
+
+// Where in the index a number stands that has a node.
+pub fn rank_of(slots: &[Option<Node>], order: &[u64], n: u64) -> usize
+    requires index { IsIndex slots.now order.now }
+    requires there { IsSome (slot_at slots.now n) }
+    ensures within { result < length order.now }
+    ensures number { slice_index order.now result ≡ n }
+{
+    let node = node_at(slots, n).unwrap();
+    rank(slots, order, &place_of(n, node))
+}
+
+// Puts a number into the index, which has room for it.
+pub fn put_number(order: &mut Vec<u64>, at: usize, n: u64)
+    requires within { at ≤ length order.old.items }
+    requires room { length order.old.items < vec_capacity order.old }
+    ensures items { order.new.items ≡ insert order.old.items at n }
+    ensures capacity { vec_capacity order.new ≡ vec_capacity order.old }
+{
+    let _ = order.insert(at, n);
+}
+
+// The number of the node of a name in a directory: the least, where several have the name.
+pub fn first_child(slots: &[Option<Node>], order: &[u64], dir: u64, name: &Name) -> Option<u64>
+    requires { IsIndex slots.now order.now }
+    ensures { result ≡ child (nodes_of (record { slots = slots.now; room = 0 })) dir name.now }
+{
+    // The root has the number 0, and is no child.
+    let first = Place {
+        holder: dir,
+        name,
+        number: 1,
+    };
+    let n = *order.get(rank(slots, order, &first))?;
+    if is_child(slots, n, dir, name) {
+        Some(n)
+    } else {
+        None
+    }
+}
+
+// The places of nodes that are numbered in their order.
+fn places_of(alloc: Global, nodes: &[Node]) -> Result<Vec<Place<'_>>, AllocError>
+    ensures { IfOk result (λ places. map shown places.items ≡ keys_of nodes.now (length nodes.now)) }
+{
+    let mut places = Vec::with_capacity(alloc, nodes.len())?;
+    for (i, node) in nodes.iter().enumerate() {
+        places.push(place_of(i as u64, node))?;
+    }
+    Ok(places)
+}
+
+// The places in order.
+fn sorted_places(alloc: Global, nodes: &[Node]) -> Result<Vec<Place<'_>>, AllocError>
+    ensures { IfOk result (λ places. AreSorted nodes.now (map shown places.items)) }
+{
+    let mut places = places_of(alloc, nodes)?;
+    places.sort_unstable_by(|a, b| cmp_places(a, b));
+    Ok(places)
+}
+
+fn numbers_of(alloc: Global, places: &[Place<'_>]) -> Result<Vec<u64>, AllocError>
+    ensures { IfOk result (λ numbers. numbers.items ≡ map (λ place. place.number) places.now) }
+{
+    places.iter().map(|place| place.number).collect(alloc)
+}
+
+// The index of nodes that are numbered in their order.
+pub fn index_of(alloc: Global, nodes: &[Node]) -> Result<Vec<u64>, AllocError>
+    ensures index { IfOk result (λ order. IsIndex (map Some nodes.now) order.items) }
+    ensures all { IfOk result (λ order. length order.items ≡ length nodes.now) }
+{
+    let places = sorted_places(alloc, nodes)?;
+    let order = numbers_of(alloc, &places)?;
+    Ok(order)
+}
