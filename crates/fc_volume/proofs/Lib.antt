@@ -1,3 +1,4 @@
 mod MapsLemmas
 mod MapsOldLemmas
 mod MisplacedLemmas
+mod OwnersLemmas

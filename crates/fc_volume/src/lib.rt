@@ -4,6 +4,8 @@
 mod lines;
 mod maps;
 mod misplaced;
+mod mount;
+mod owners;
 mod volume;
 
 pub use lines::{CommandError, FileRef, Line, Listed, MountError};
