@@ -2,3 +2,4 @@ mod MapsLemmas
 mod MapsOldLemmas
 mod MisplacedLemmas
 mod OwnersLemmas
+mod MountLemmas

@@ -2,7 +2,7 @@
 ghost use Rattle.std.specs.Prelude.{◌≡◌, ◌≤◌, ◌^◌, true, Ok, Err, Some, List, length, ℕ, IsTrue, IsFalse, IfOk, IfErr};
 ghost use Rattle.std.specs.Option.{ForSome};
 ghost use Rattle.fc_device.specs.Faults.{Rose};
-ghost use Rattle.fc_record.specs.Kinds.{IsKind, disc_size, kind_of, sector_size};
+ghost use Rattle.fc_record.specs.Kinds.{IsKind, disc_size, fits_kind, kind_of, sector_size};
 ghost use Rattle.fc_record.specs.Reads.{OnlyReads};
 ghost use Rattle.fc_image.specs.Layout.{disc_sectors, sector_bytes};
 ghost use Rattle.fc_image.specs.Opening.{Opened, open_image};
@@ -31,10 +31,12 @@ fn find_kind<D: Disk>(disk: &mut D) -> Result<Kind, MountError>
     ensures kind { IfOk result IsKind }
     ensures long { IfOk result (λ kind. disc_size kind ≤ D.image_length disk.old) }
     ensures found { IfOk result (λ kind. ForSome (D.bytes disk.old) (λ image. (kind_of image ≡ Some kind) × (disc_size kind ≤ length image))) }
+    ensures fits { IfOk result (λ kind. ForSome (D.bytes disk.old) (λ image. IsTrue (fits_kind image kind))) }
     ensures fault { IfErr result (λ e. ForSome (D.bytes disk.old) (λ image. IsFaultOf (open_image image) e)) }
     ensures reads { OnlyReads D.Disk disk.old disk.new }
     ensures cause { result ≡ Err MountError.DiskFault → Rose (D.faults disk.old) (D.faults disk.new) }
 {
+    fc_record::found_fits();
     match kind(disk) {
         Ok(kind) => Ok(kind),
         Err(KindError::NoKind) => Err(MountError::Image(ImageFault::NoKind)),
@@ -89,6 +91,7 @@ fn volume_of<D: Disk>(
     ensures reads { OnlyReads D.Disk disk.old disk.new }
     ensures cause { result ≡ Err MountError.DiskFault → Rose (D.faults disk.old) (D.faults disk.new) }
 {
+    fc_image::walking();
     let rows = reserved_rows(kind, &found.space);
     let tree = match load(
         alloc,
@@ -135,7 +138,6 @@ impl Volume {
         ensures shapes { OnlyShapes D.Disk disk.old disk.new }
         ensures cause { result ≡ Err MountError.DiskFault → Rose (D.faults disk.old) (D.faults disk.new) }
     {
-        fc_record::found_fits();
         fc_image::opens();
         let kind = match find_kind(disk) {
             Ok(kind) => kind,
