@@ -1,3 +1,9 @@
+pub mod PathLemmas
+pub mod TakenLemmas
+pub mod ChildLemmas
+pub mod ClaimLemmas
+pub mod ReadingLemmas
+pub mod DirectoryLemmas
 pub mod SlotLemmas
 pub mod WalkedLemmas
 pub mod NumberLemmas
@@ -14,3 +20,8 @@ pub mod KeyLemmas
 pub mod IndexLemmas
 pub mod SortLemmas
 pub mod ChangeLemmas
+pub mod PlaceInLists
+pub mod WalkingLemmas
+pub mod StepLemmas
+pub mod EndLemmas
+pub mod LoadedLemmas

@@ -2,15 +2,27 @@
 //! one, stand for a disk.
 #![tactic(auto)]
 
+mod claim;
+mod contents;
+mod directory;
 mod index;
+mod loading;
 mod node;
+mod paths;
+mod reading;
 mod slots;
+mod taken;
 mod tree;
+mod walk;
 
 ghost use Rattle.fc_tree.specs.Agree.{NodesLaw};
 ghost use Rattle.fc_tree.specs.Counts.{CountsLaw, HolderLaw, TallyLaw};
 ghost use Rattle.fc_tree.specs.Laws.{ChildrenLaw, EntriesLaw, FindLaw, NodeLaw, NumbersLaw, SoundLaw};
 
+#[cfg(test)]
+mod load_tests;
+
+pub use loading::load;
 pub use node::{Body, Found, Node, TreeError};
 pub use tree::Tree;
 

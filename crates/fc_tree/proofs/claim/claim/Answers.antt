@@ -1,0 +1,23 @@
+use Rattle.std.proofs.Common.{◌∙◌, ◌≡◌, ap, sym}
+use Rattle.fc_image.specs.Layout.{dir_form}
+use Rattle.fc_image.specs.Walk.{object_size}
+use Rattle.fc_objects.specs.Extents.{sectors_in}
+use Rattle.fc_space.specs.Space.{layout_of}
+use Rattle.fc_tree.specs.Taken.{AreTaken, is_free}
+use Rattle.fc_tree.proofs.ClaimLemmas.{claimed, refused}
+use Rattle.fc_tree.proofs.claim.claim.Goals as goal
+
+pub returns-in-Ok-clause-ok : goal.returns-in-Ok-clause-ok
+returns-in-Ok-clause-ok c = λ path before taken.
+    let layout = layout_of c.args.space.now in
+    let size : c.from-bytes.result ≡ object_size (dir_form layout) c.args.entry.now = c.from-bytes.ensures ∙ c.object_size.ensures ∙ ap (λ f. object_size f c.args.entry.now) c.dir_form.ensures in
+    claimed layout c.args.taken.now before path c.args.entry.now (sectors_in c.in-Ok.place.items) c.from-bytes.result c.requires.disc taken size c.in-Ok.ensures.place c.in-Ok.ensures.suffice
+    c.take.new.self c.are_free.result (c.are_free.ensures ∙ ap (λ es. is_free c.args.taken.now (sectors_in es)) c.deref.ensures.value) c.if-are_free.true
+    (λ t h. rw (← c.deref-in-Ok.ensures.value) (c.take.ensures.taken t h))
+
+pub returns-in-Ok-2-clause-overlap : goal.returns-in-Ok-2-clause-overlap
+returns-in-Ok-2-clause-overlap c = λ told path before taken.
+    let layout = layout_of c.args.space.now in
+    let size : c.from-bytes.result ≡ object_size (dir_form layout) c.args.entry.now = c.from-bytes.ensures ∙ c.object_size.ensures ∙ ap (λ f. object_size f c.args.entry.now) c.dir_form.ensures in
+    refused layout c.args.taken.now before path c.args.entry.now (sectors_in c.in-Ok.place.items) c.from-bytes.result c.requires.disc taken size c.in-Ok.ensures.place c.in-Ok.ensures.suffice
+    c.are_free.result (c.are_free.ensures ∙ ap (λ es. is_free c.args.taken.now (sectors_in es)) c.deref.ensures.value) c.if-are_free.false

@@ -1,0 +1,1 @@
+use Rattle.fc_tree.proofs.walk.next_directory.Goals as goal

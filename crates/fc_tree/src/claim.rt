@@ -1,0 +1,81 @@
+// The places of objects, each apart from those before it.
+ghost use Rattle.std.specs.Prelude.{◌≡◌, ◌++◌, Err, List, ℕ, Ok, OnOk};
+ghost use Rattle.fc_image.specs.declared.ImageFault.TheVariants as faults;
+ghost use Rattle.fc_image.specs.Layout.{dir_form, disc_sectors};
+ghost use Rattle.fc_image.specs.Walk.{Object, object_of, object_size};
+ghost use Rattle.fc_names.specs.Names.{Path, is_directory};
+ghost use Rattle.fc_dirs.specs.Directory.{directory_size};
+ghost use Rattle.fc_space.specs.Space.{layout_of};
+ghost use Rattle.fc_tree.specs.Taken.{AreTaken};
+
+use crate::taken::Taken;
+use fc_dirs::Entry;
+use fc_names::NameForm;
+use fc_space::{PlaceError, Space};
+use std::alloc::Global;
+
+/// Why an object has no sectors of its own.
+#[derive(Clone, Copy)]
+pub enum Unclaimed {
+    /// Its address leads nowhere.
+    Outside,
+    /// One of its sectors is taken.
+    Overlap,
+    NoMemory,
+}
+
+/// Whether an entry is a directory's.
+pub fn is_directory(entry: &Entry) -> bool
+    ensures { result ≡ is_directory entry.now.attrs }
+{
+    entry.attrs >> 3 & 1 == 1
+}
+
+/// The bytes of a directory whose entry gives this length.
+pub fn directory_size(form: NameForm, len: u32) -> u32
+    ensures { result ≡ directory_size form len }
+{
+    match form {
+        NameForm::Seven => 1280,
+        NameForm::Ten => 2048,
+        NameForm::Long => len,
+    }
+}
+
+/// The bytes of an object.
+pub fn object_size(form: NameForm, entry: &Entry) -> u32
+    ensures { result ≡ object_size form entry.now }
+{
+    if is_directory(entry) {
+        directory_size(form, entry.len)
+    } else {
+        entry.len
+    }
+}
+
+/// Takes the sectors of an object of this entry. Where it has none, or not all are free, none is taken.
+pub fn claim(
+    alloc: Global,
+    space: &Space,
+    taken: &mut Taken,
+    entry: &Entry,
+) -> Result<(), Unclaimed>
+    requires disc { taken.old.sectors ≡ disc_sectors (layout_of space.now) }
+    ensures sectors { taken.new.sectors ≡ taken.old.sectors }
+    ensures ok { OnOk result ((path : Path) (before : List ℕ) → AreTaken taken.old before
+        → (o : Object) × (object_of (layout_of space.now) before path entry.now ≡ Ok o) × AreTaken taken.new (o.sectors ++ before)) }
+    ensures outside { result ≡ Err Unclaimed.Outside → (path : Path) (before : List ℕ) → object_of (layout_of space.now) before path entry.now ≡ Err (faults.Place path) }
+    ensures overlap { result ≡ Err Unclaimed.Overlap → (path : Path) (before : List ℕ) → AreTaken taken.old before
+        → object_of (layout_of space.now) before path entry.now ≡ Err (faults.Overlap path) }
+{
+    let bytes = u64::from(object_size(space.dir_form(), entry));
+    match space.place_of(alloc, entry.address, bytes) {
+        Ok(place) if taken.are_free(&place) => {
+            taken.take(&place);
+            Ok(())
+        }
+        Ok(_) => Err(Unclaimed::Overlap),
+        Err(PlaceError::Outside) => Err(Unclaimed::Outside),
+        Err(PlaceError::NoMemory) => Err(Unclaimed::NoMemory),
+    }
+}

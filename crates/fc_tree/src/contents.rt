@@ -1,0 +1,109 @@
+// The nodes of the objects that a directory holds.
+ghost use Rattle.std.specs.Prelude.{◌≡◌, ◌++◌, ◌∷◌, [], Err, IfErr, List, ℕ, Ok, OnOk, map};
+ghost use Rattle.fc_image.specs.Layout.{disc_sectors};
+ghost use Rattle.fc_image.specs.Walk.{Object, children_of, object_of};
+ghost use Rattle.fc_space.specs.Space.{layout_of};
+ghost use Rattle.fc_tree.specs.Taken.{AreTaken};
+ghost use Rattle.fc_tree.specs.Walking.{FailsAs, StandsFor, new_node};
+
+use crate::claim::{Unclaimed, claim};
+use crate::node::{Body, Node, TreeError};
+use crate::paths::path_in;
+use crate::taken::Taken;
+use fc_dirs::Entry;
+use fc_image::ImageFault;
+use fc_space::Space;
+use std::alloc::Global;
+
+// The same entry.
+fn copy_of(entry: &Entry) -> Entry
+    ensures { result ≡ entry.now }
+{
+    Entry {
+        name: entry.name,
+        load: entry.load,
+        exec: entry.exec,
+        len: entry.len,
+        address: entry.address,
+        attrs: entry.attrs,
+        last: entry.last,
+    }
+}
+
+/// Adds a node behind the others.
+pub fn push_node(nodes: &mut Vec<Node>, node: Node) -> Result<(), TreeError>
+    ensures ok { OnOk result (nodes.new.items ≡ nodes.old.items ++ node ∷ []) }
+    ensures err { IfErr result (λ e. e ≡ TreeError.NoMemory) }
+{
+    if nodes.push(node).is_err() {
+        return Err(TreeError::NoMemory);
+    }
+    Ok(())
+}
+
+// Adds the node of an object that the directory of node `at` holds.
+fn add_child(
+    alloc: Global,
+    space: &Space,
+    nodes: &mut Vec<Node>,
+    taken: &mut Taken,
+    at: usize,
+    entry: &Entry,
+) -> Result<(), TreeError>
+    requires disc { taken.old.sectors ≡ disc_sectors (layout_of space.now) }
+    requires held { (dir : Object) × StandsFor (layout_of space.now) nodes.old.items at dir }
+    ensures sectors { taken.new.sectors ≡ taken.old.sectors }
+    ensures ok { OnOk result ((dir : Object) (before : List ℕ) → StandsFor (layout_of space.now) nodes.old.items at dir → AreTaken taken.old before
+        → (o : Object) × (object_of (layout_of space.now) before (dir.path ++ entry.now.name ∷ []) entry.now ≡ Ok o)
+        × AreTaken taken.new (o.sectors ++ before) × (nodes.new.items ≡ nodes.old.items ++ new_node at o ∷ [])) }
+    ensures more { OnOk result ((node : Node) × (nodes.new.items ≡ nodes.old.items ++ node ∷ [])) }
+    ensures no_fault { result ≡ Err TreeError.DiskFault → ⊥ }
+    ensures err { IfErr result (λ e. (dir : Object) (before : List ℕ) → StandsFor (layout_of space.now) nodes.old.items at dir → AreTaken taken.old before
+        → FailsAs (object_of (layout_of space.now) before (dir.path ++ entry.now.name ∷ []) entry.now) e) }
+{
+    let unclaimed = match claim(alloc, space, taken, entry) {
+        Ok(()) => {
+            let node = Node {
+                holder: at as u64,
+                entry: copy_of(entry),
+                body: Body::File,
+            };
+            return push_node(nodes, node);
+        }
+        Err(unclaimed) => unclaimed,
+    };
+    let Ok(path) = path_in(alloc, nodes, at, &entry.name) else {
+        return Err(TreeError::NoMemory);
+    };
+    match unclaimed {
+        Unclaimed::Outside => Err(TreeError::Image(ImageFault::Place { path })),
+        Unclaimed::Overlap => Err(TreeError::Image(ImageFault::Overlap { path })),
+        Unclaimed::NoMemory => Err(TreeError::NoMemory),
+    }
+}
+
+/// Adds the nodes of the objects of these entries, which the directory of node `at` has.
+pub fn add_children(
+    alloc: Global,
+    space: &Space,
+    nodes: &mut Vec<Node>,
+    taken: &mut Taken,
+    at: usize,
+    entries: &[Entry],
+) -> Result<(), TreeError>
+    requires disc { taken.old.sectors ≡ disc_sectors (layout_of space.now) }
+    requires held { (dir : Object) × StandsFor (layout_of space.now) nodes.old.items at dir }
+    ensures sectors { taken.new.sectors ≡ taken.old.sectors }
+    ensures ok { OnOk result ((dir : Object) (before : List ℕ) → StandsFor (layout_of space.now) nodes.old.items at dir → AreTaken taken.old before
+        → (objects : List Object) × (after : List ℕ) × (children_of (layout_of space.now) before dir.path entries.now ≡ Ok (objects, after))
+        × AreTaken taken.new after × (nodes.new.items ≡ nodes.old.items ++ map (new_node at) objects)) }
+    ensures more { OnOk result ((more : List Node) × (nodes.new.items ≡ nodes.old.items ++ more)) }
+    ensures no_fault { result ≡ Err TreeError.DiskFault → ⊥ }
+    ensures err { IfErr result (λ e. (dir : Object) (before : List ℕ) → StandsFor (layout_of space.now) nodes.old.items at dir → AreTaken taken.old before
+        → FailsAs (children_of (layout_of space.now) before dir.path entries.now) e) }
+{
+    for entry in entries {
+        add_child(alloc, space, nodes, taken, at, entry)?;
+    }
+    Ok(())
+}

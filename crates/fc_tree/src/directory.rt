@@ -1,0 +1,121 @@
+// One directory of a walk: its bytes, what they say, and the nodes of the objects that it holds.
+ghost use Rattle.std.specs.Prelude.{◌≡◌, ◌≤◌, Err, IfErr, IfOk, IsTrue, List, ℕ, Ok, OnOk, length};
+ghost use Rattle.std.specs.Option.{ForSome};
+ghost use Rattle.fc_device.specs.Faults.{Rose};
+ghost use Rattle.fc_record.specs.Reads.{OnlyReads};
+ghost use Rattle.fc_dirs.specs.Directory.{Directory, directory_of, directory_size, entries_of};
+ghost use Rattle.fc_image.specs.Layout.{dir_form, disc_sectors, sector_bytes};
+ghost use Rattle.fc_image.specs.Walk.{Object, at_path, is_directory_object, reader_of};
+ghost use Rattle.fc_space.specs.Space.{layout_of};
+ghost use Rattle.fc_tree.specs.Agree.{HasForm, IsDirectory};
+ghost use Rattle.fc_tree.specs.Nodes.{body_in};
+ghost use Rattle.fc_tree.specs.Taken.{AreTaken};
+ghost use Rattle.fc_tree.specs.Walking.{FailsAs, IsSaidBy, IsVisited, StandsFor, said_children};
+
+use crate::contents::add_children;
+use crate::node::{Body, Node, TreeError};
+use crate::paths::path_of;
+use crate::reading::{ReadError, read_object};
+use crate::taken::Taken;
+use fc_bigdir::BigDir;
+use fc_device::Disk;
+use fc_dirs::{DirError, Entry, SmallForm};
+use fc_image::ImageFault;
+use fc_names::NameForm;
+use fc_smalldir::SmallDir;
+use fc_space::Space;
+use std::alloc::Global;
+
+// What bytes say as a directory of the disc's form.
+fn body_of(alloc: Global, form: NameForm, bytes: &[u8]) -> Result<Body, DirError>
+    requires { length bytes.now ≡ directory_size form (length bytes.now) }
+    ensures ok { IfOk result (λ body. (dir : Directory) × (body ≡ body_in dir) × (directory_of form bytes.now ≡ Ok dir) × HasForm form (length bytes.now) dir) }
+    ensures err { IfErr result (IsSaidBy (directory_of form bytes.now)) }
+{
+    match form {
+        NameForm::Seven => Ok(Body::Small(SmallDir::read(alloc, bytes, SmallForm::Bytes1280)?)),
+        NameForm::Ten => Ok(Body::Small(SmallDir::read(alloc, bytes, SmallForm::Bytes2048)?)),
+        NameForm::Long => Ok(Body::Big(BigDir::read(alloc, bytes)?)),
+    }
+}
+
+// The entries of a directory in stored order; a file has none.
+fn entries_of(body: &Body) -> &[Entry]
+    ensures { (dir : Directory) → body.now ≡ body_in dir → (result.now ≡ entries_of dir) × IsDirectory dir }
+{
+    match body {
+        Body::File => &[],
+        Body::Small(dir) => dir.entries(),
+        Body::Big(dir) => dir.entries(),
+    }
+}
+
+// Reads the directory of a node.
+fn read_directory<D: Disk>(
+    alloc: Global,
+    disk: &mut D,
+    space: &Space,
+    nodes: &[Node],
+    at: usize,
+    bytes: &mut Vec<u8>,
+) -> Result<Body, TreeError>
+    requires attached { IsTrue (D.attached disk.old) }
+    requires size { D.sector_size disk.old ≡ sector_bytes (layout_of space.now) }
+    requires room { disc_sectors (layout_of space.now) ≤ D.sectors disk.old }
+    requires there { (o : Object) × StandsFor (layout_of space.now) nodes.now at o × IsTrue (is_directory_object o) }
+    ensures ok { IfOk result (λ body. (o : Object) → StandsFor (layout_of space.now) nodes.now at o
+        → (dir : Directory) × (body ≡ body_in dir) × HasForm (dir_form (layout_of space.now)) o.entry.len dir
+        × ForSome (D.bytes disk.old) (λ image. reader_of image (layout_of space.now) o ≡ Ok dir)) }
+    ensures err { IfErr result (λ e. (o : Object) → StandsFor (layout_of space.now) nodes.now at o
+        → ForSome (D.bytes disk.old) (λ image. FailsAs (at_path o.path (reader_of image (layout_of space.now) o)) e)) }
+    ensures reads { OnlyReads D.Disk disk.old disk.new }
+    ensures cause { result ≡ Err TreeError.DiskFault → Rose (D.faults disk.old) (D.faults disk.new) }
+{
+    let Some(node) = nodes.get(at) else {
+        unreachable!();
+    };
+    match read_object(alloc, disk, space, &node.entry, bytes) {
+        Ok(()) => {}
+        Err(ReadError::DiskFault) => return Err(TreeError::DiskFault),
+        Err(ReadError::NoMemory) => return Err(TreeError::NoMemory),
+    }
+    let fault = match body_of(alloc, space.dir_form(), bytes) {
+        Ok(body) => return Ok(body),
+        Err(DirError::Fault(fault)) => fault,
+        Err(DirError::NoMemory) => return Err(TreeError::NoMemory),
+    };
+    match path_of(alloc, nodes, at) {
+        Ok(path) => Err(TreeError::Image(ImageFault::Directory { path, fault })),
+        Err(_) => Err(TreeError::NoMemory),
+    }
+}
+
+/// Reads the directory of a node, gives it to the node, and adds the nodes of the objects that it holds. `bytes` is a
+/// buffer.
+pub fn visit<D: Disk>(
+    alloc: Global,
+    disk: &mut D,
+    space: &Space,
+    nodes: &mut Vec<Node>,
+    taken: &mut Taken,
+    at: usize,
+    bytes: &mut Vec<u8>,
+) -> Result<(), TreeError>
+    requires attached { IsTrue (D.attached disk.old) }
+    requires size { D.sector_size disk.old ≡ sector_bytes (layout_of space.now) }
+    requires room { disc_sectors (layout_of space.now) ≤ D.sectors disk.old }
+    requires disc { taken.old.sectors ≡ disc_sectors (layout_of space.now) }
+    requires there { (o : Object) × StandsFor (layout_of space.now) nodes.old.items at o × IsTrue (is_directory_object o) }
+    ensures sectors { taken.new.sectors ≡ taken.old.sectors }
+    ensures ok { OnOk result ((o : Object) (before : List ℕ) → StandsFor (layout_of space.now) nodes.old.items at o → AreTaken taken.old before
+        → IsVisited (layout_of space.now) (D.bytes disk.old) nodes.old.items nodes.new.items at o before taken.new) }
+    ensures err { IfErr result (λ e. (o : Object) (before : List ℕ) → StandsFor (layout_of space.now) nodes.old.items at o → AreTaken taken.old before
+        → ForSome (D.bytes disk.old) (λ image. FailsAs (said_children (layout_of space.now) before o.path (reader_of image (layout_of space.now) o)) e)) }
+    ensures reads { OnlyReads D.Disk disk.old disk.new }
+    ensures cause { result ≡ Err TreeError.DiskFault → Rose (D.faults disk.old) (D.faults disk.new) }
+{
+    let body = read_directory(alloc, disk, space, nodes, at, bytes)?;
+    add_children(alloc, space, nodes, taken, at, entries_of(&body))?;
+    nodes[at].body = body;
+    Ok(())
+}

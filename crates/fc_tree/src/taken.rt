@@ -1,0 +1,107 @@
+// Which sectors of a disc are taken.
+ghost use Rattle.std.specs.Prelude.{◌≡◌, ◌<◌, ◌≤◌, ◌↔◌, ◌+◌, ◌||◌, ◌==◌, true, [], ◌++◌, List, ℕ, IfOk};
+ghost use Rattle.fc_objects.specs.Extents.{extent_sectors, sectors_in};
+ghost use Rattle.fc_tree.specs.Taken.{AreTaken, has_mark, is_free};
+
+use fc_device::{Extent, NoMemory};
+use std::alloc::Global;
+use std::marker::Model;
+
+/// A mark for each sector of a disc that is taken.
+#[derive(Drop)]
+pub struct Taken {
+    // A bit for each sector, from the lowest of the first word on.
+    words: Vec<u64>,
+    sectors: u64,
+}
+
+impl Model for Taken {
+    ghost use Rattle.std.specs.Prelude.{◌≤◌, ◌*◌, length};
+    ghost use Rattle.fc_tree.specs.Taken.{Marks};
+
+    ghost Value = { Marks };
+
+    ghost view = { λ t. record { words = t.words.items; sectors = t.sectors } };
+
+    ghost invariant = { λ t. t.sectors ≤ 64 * length t.words.items };
+}
+
+impl Taken {
+    /// No sector of a disc of so many is taken.
+    pub fn new(alloc: Global, sectors: u64) -> Result<Taken, NoMemory>
+        ensures sectors { IfOk result (λ taken. taken.sectors ≡ sectors) }
+        ensures none { IfOk result (λ taken. AreTaken taken []) }
+    {
+        let words = vec![in alloc; 0; sectors.div_ceil(64) as usize]?;
+        Ok(Taken { words, sectors })
+    }
+
+    fn has(&self, sector: u64) -> bool
+        ensures { result ≡ has_mark self.now sector }
+    {
+        sector < self.sectors && self.words[(sector / 64) as usize] >> (sector % 64) & 1 == 1
+    }
+
+    fn mark(&mut self, sector: u64)
+        requires { sector < self.old.sectors }
+        ensures sectors { self.new.sectors ≡ self.old.sectors }
+        ensures marks { (s : ℕ) → has_mark self.new s ≡ ((s == sector) || has_mark self.old s) }
+    {
+        self.words[(sector / 64) as usize] |= 1 << (sector % 64);
+    }
+
+    // The sectors of the disc behind the last of an extent's, if those are on the disc.
+    fn end_of(&self, extent: &Extent) -> u64
+        ensures disc { result ≤ self.now.sectors }
+        ensures last { (s : ℕ) → s < self.now.sectors → extent.now.first ≤ s → (s < result ↔ s < extent.now.first + extent.now.sectors) }
+    {
+        extent
+            .first
+            .saturating_add(extent.sectors)
+            .min(self.sectors)
+    }
+
+    // Whether none of an extent's sectors is taken.
+    fn is_free(&self, extent: &Extent) -> bool
+        ensures { result ≡ is_free self.now (extent_sectors extent.now) }
+    {
+        for sector in extent.first..self.end_of(extent) {
+            if self.has(sector) {
+                return false;
+            }
+        }
+        true
+    }
+
+    /// Whether none of these sectors, all of which lie on the disc, is taken.
+    pub fn are_free(&self, place: &[Extent]) -> bool
+        ensures { result ≡ is_free self.now (sectors_in place.now) }
+    {
+        for extent in place {
+            if !self.is_free(extent) {
+                return false;
+            }
+        }
+        true
+    }
+
+    /// Takes an extent's sectors, as far as they are on the disc.
+    pub fn take_extent(&mut self, extent: &Extent)
+        ensures sectors { self.new.sectors ≡ self.old.sectors }
+        ensures taken { (taken : List ℕ) → AreTaken self.old taken → AreTaken self.new (extent_sectors extent.now ++ taken) }
+    {
+        for sector in extent.first..self.end_of(extent) {
+            self.mark(sector);
+        }
+    }
+
+    /// Takes sectors, as far as they are on the disc.
+    pub fn take(&mut self, place: &[Extent])
+        ensures sectors { self.new.sectors ≡ self.old.sectors }
+        ensures taken { (taken : List ℕ) → AreTaken self.old taken → AreTaken self.new (sectors_in place.now ++ taken) }
+    {
+        for extent in place {
+            self.take_extent(extent);
+        }
+    }
+}
