@@ -1,1 +1,5 @@
 mod MapsLemmas
+mod MapsOldLemmas
+mod MisplacedLemmas
+mod OwnersLemmas
+mod MountLemmas

@@ -1,3 +1,6 @@
 pub mod Volume
 pub mod Answers
 pub mod Maps
+pub mod Misplaced
+pub mod Owners
+pub mod Mounting

@@ -3,6 +3,9 @@
 
 mod lines;
 mod maps;
+mod misplaced;
+mod mount;
+mod owners;
 mod volume;
 
 pub use lines::{CommandError, FileRef, Line, Listed, MountError};
