@@ -10,6 +10,7 @@ mod maps;
 mod owners;
 mod record;
 mod timing;
+mod visits;
 mod zones;
 
 use std::env;

@@ -30,7 +30,7 @@ fits_set (x ∷ es) zero e all same last within = (record { name = subst IsName 
 fits_set (x ∷ es) (suc i) e all same last within = (all.0, fits_set es i e all.1 same last (omega arith))
 
 -- the name of the entry of that number
-named_at : (es : List Entry) (at : ℕ) (name : List ℕ) → option_map (λ (d : Entry). d.name) (slice_get es at) ≡ Some name → at < length es → (get_or es at blank).name ≡ name
+pub named_at : (es : List Entry) (at : ℕ) (name : List ℕ) → option_map (λ (d : Entry). d.name) (slice_get es at) ≡ Some name → at < length es → (get_or es at blank).name ≡ name
 named_at es at name same within =
     let found : Some (get_or es at blank).name ≡ Some name = sym (ap (option_map (λ (d : Entry). d.name)) (slice_get-get_or es at blank within)) ∙ same in
     cc

@@ -1,5 +1,5 @@
 -- What an entry that is put in, or taken out, makes of a directory.
-use Rattle.std.proofs.Common.{MatchOption, Option, Some, ◌≡◌, ◌≤◌, ◌<◌, ℕ, ◌+◌, ◌%◌, min, max, not, Bool, true, false, nat_le, List, ◌++◌, length, insert, remove, map, sum_by, None, refl, sym, ap, ap₂, ◌∙◌, subst, arith, length-append, le-leb}
+use Rattle.std.proofs.Common.{MatchOption, Option, Some, ◌≡◌, ◌≤◌, ◌<◌, ℕ, ◌+◌, ◌%◌, min, max, not, Bool, true, false, nat_le, List, ◌++◌, length, insert, remove, map, sum_by, None, refl, sym, ap, ap₂, ◌∙◌, subst, arith, length-append, le-leb, if◌then◌else◌}
 use Rattle.std.specs.List.{AllByRecursion}
 use Rattle.std.specs.Int.{next_multiple_of}
 use Rattle.std.proofs.lemmas.List.{length-map}
@@ -11,7 +11,7 @@ use Rattle.fc_names.specs.Names.{is_name_before}
 use Rattle.fc_smalldir.proofs.TwinLemmas.{apart_from, none_from, apart_insert, apart_remove}
 use Rattle.fc_dirs.specs.declared.Entry.{Entry}
 use Rattle.fc_dirs.specs.Entries.{entry_place, with_entry, without_entry, has_name, first_twin, padded_name}
-use Rattle.fc_dirs.specs.Big.{BigDir, IsBig, FitsBig, StandsInHeap, AllStand, bytes_for, size_for, head_space_of, name_space, packed_heap, packed_places, with_entry_at, size_with, size_limit, without_big_entry}
+use Rattle.fc_dirs.specs.Big.{BigDir, IsBig, FitsBig, StandsInHeap, AllStand, appended, bytes_for, bytes_taken, size_for, head_space_of, name_space, packed, packed_heap, packed_places, with_big_entry, with_entry_at, size_with, size_limit, without_big_entry}
 use Rattle.fc_bigdir.specs.declared.enter.Room.{Room}
 use Rattle.fc_bigdir.specs.Entered.{HasRoomFor, IsRoomFor, entered_heap, entered_places, needed_for}
 use Rattle.fc_smalldir.proofs.NameLemmas.{length-padded}
@@ -107,6 +107,28 @@ big_with dir size heap places es big right fits words all names apart = record {
   reserved = big.reserved;
 }
 
+-- It is the one that is wanted.
+pub entered_is : (dir : BigDir) (e : Entry) (is_loose : Bool) (size : ℕ) → size ≡ max (size_with e dir) dir.size
+    → is_loose ≡ nat_le (bytes_for (head_space_of dir) (length dir.entries + 1) (length dir.heap + name_space e.name)) size → entered is_loose size e dir ≡ with_big_entry e dir
+entered_is dir e is_loose size is test = by_test is_loose (fits ∙ sym test) where
+  padded : List ℕ
+  padded = padded_name (name_space e.name) e.name
+
+  new : BigDir
+  new = record (appended e dir) { size = max (size_with e dir) dir.size }
+
+  heap : length (dir.heap ++ padded) ≡ length dir.heap + name_space e.name
+  heap = length-append dir.heap padded ∙ ap (λ k. length dir.heap + k) (length-padded (name_space e.name) e.name)
+
+  fits : nat_le (bytes_taken new) new.size ≡ nat_le (bytes_for (head_space_of dir) (length dir.entries + 1) (length dir.heap + name_space e.name)) size
+  fits =
+      ap₂ (λ k h. nat_le (bytes_for (head_space_of dir) k h) new.size) (length-with_entry e dir.entries) heap
+      ∙ ap (λ n. nat_le (bytes_for (head_space_of dir) (length dir.entries + 1) (length dir.heap + name_space e.name)) n) (sym is)
+
+  by_test : (loose_fits : Bool) → nat_le (bytes_taken new) new.size ≡ loose_fits → entered loose_fits size e dir ≡ with_big_entry e dir
+  by_test true holds = ap (λ n. entered true n e dir) is ∙ sym (ap (λ t. if t then new else packed new) holds)
+  by_test false fails = ap (λ n. entered false n e dir) is ∙ sym (ap (λ t. if t then new else packed new) fails)
+
 -- A directory with an entry put in is one that bytes can say.
 pub big_entered : (dir : BigDir) (e : Entry) (is_loose : Bool) (size : ℕ) → IsBig dir → FitsBig e → has_name dir.entries e.name ≡ false → size_with e dir ≤ size_limit
     → size ≡ max (size_with e dir) dir.size → is_loose ≡ nat_le (bytes_for (head_space_of dir) (length dir.entries + 1) (length dir.heap + name_space e.name)) size
@@ -189,5 +211,6 @@ room_found dir e head n loose tight found hs count heap names room =
       by_found (Some r) needed room = record {
         least = omega (arith, needed, room.least);
         size_is = room.size_is ∙ ap (λ k. max k dir.size) (sym needed);
+        tight_is = room.tight_is ∙ names;
         is_loose = room.is_loose ∙ ap₂ (λ h k. nat_le (bytes_for h k loose) r.size) hs count ∙ ap (λ l. nat_le (bytes_for (head_space_of dir) (length dir.entries + 1) l) r.size) heap;
       }

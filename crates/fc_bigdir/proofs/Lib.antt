@@ -13,5 +13,6 @@ pub mod FaultLemmas
 pub mod ReadLemmas
 pub mod StandLemmas
 pub mod GrowLemmas
+pub mod KeptLemmas
 pub mod RenameLemmas
 pub mod ChangeLemmas

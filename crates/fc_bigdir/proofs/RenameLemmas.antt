@@ -21,7 +21,7 @@ put_back (x ∷ xs) zero d within = refl
 put_back (x ∷ xs) (suc i) d within = ap (λ l. x ∷ l) (put_back xs i d (omega arith))
 
 -- a name that is spelled the same
-spelled_name : (dir : BigDir) (at : ℕ) (e : Entry) → at < length dir.entries → is_spelled at e dir ≡ true → (get_or dir.entries at blank).name ≡ e.name
+pub spelled_name : (dir : BigDir) (at : ℕ) (e : Entry) → at < length dir.entries → is_spelled at e dir ≡ true → (get_or dir.entries at blank).name ≡ e.name
 spelled_name dir at e within spelled =
     let found = ap (λ o. option_map_or (λ (d : Entry). bytes_eq d.name e.name) o false) (slice_get-get_or dir.entries at blank within) in
     (bytes_eq-Decides (get_or dir.entries at blank).name e.name).0 (sym found ∙ spelled)

@@ -4,6 +4,7 @@ use Rattle.fc_dirs.specs.declared.Entry.{Entry}
 use Rattle.fc_dirs.specs.Entries.{entry_place, padded_name, with_entry}
 use Rattle.fc_dirs.specs.Big.{BigDir, bytes_for, head_space_of, name_space, packed_heap, packed_places, size_for, size_limit, size_with}
 use Rattle.fc_bigdir.specs.declared.enter.Room.{Room}
+use Rattle.fc_bigdir.specs.Fields.{packed_size}
 
 -- the heap: the present one with the new name behind it, or all names alone
 abbrev pub entered_heap : Bool → List ℕ → Entry → List Entry → List ℕ
@@ -24,9 +25,11 @@ pub record IsRoomFor (size head entries loose tight : ℕ) (room : Room) : Type 
   pub least : needed_for head entries loose tight ≤ size_limit
   pub size_is : room.size ≡ max (needed_for head entries loose tight) size
   pub is_loose : room.is_loose ≡ nat_le (bytes_for head entries loose) room.size
+  pub tight_is : room.tight ≡ tight
 
 -- the room that a directory has or gets for a new entry
 pub record HasRoomFor (e : Entry) (dir : BigDir) (room : Room) : Type 0 where
   pub least : size_with e dir ≤ size_limit
   pub size_is : room.size ≡ max (size_with e dir) dir.size
   pub is_loose : room.is_loose ≡ nat_le (bytes_for (head_space_of dir) (length dir.entries + 1) (length dir.heap + name_space e.name)) room.size
+  pub tight_is : room.tight ≡ packed_size dir.entries + name_space e.name

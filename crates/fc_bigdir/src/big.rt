@@ -22,6 +22,8 @@ pub struct BigDir {
     // Where the name of each entry begins in the heap.
     pub(crate) places: Vec<u32>,
     pub(crate) entries: Vec<Entry>,
+    // The size of a heap of exactly the names of the entries, so that no call has to add it up.
+    pub(crate) packed: usize,
 }
 
 impl Model for BigDir {
@@ -29,13 +31,12 @@ impl Model for BigDir {
 
     ghost Value = { big.BigDir };
 
-    ghost use Rattle.fc_dirs.specs.Big.{IsBig};
-    ghost use Rattle.fc_bigdir.specs.Fields.{dir_of};
+    ghost use Rattle.fc_bigdir.specs.Fields.{IsKept, dir_of};
 
     ghost view = { λ d. dir_of d.size d.sequence d.parent d.name.items d.second_form d.reserved d.heap.items d.places.items d.entries.items };
 
-    // The parts fit, each name stands in the heap, and no two names fold to one.
-    ghost invariant = { λ d. IsBig (dir_of d.size d.sequence d.parent d.name.items d.second_form d.reserved d.heap.items d.places.items d.entries.items) };
+    // The parts fit, each name stands in the heap, no two names fold to one, and the size of the names is right.
+    ghost invariant = { λ d. IsKept d.packed (dir_of d.size d.sequence d.parent d.name.items d.second_form d.reserved d.heap.items d.places.items d.entries.items) };
 }
 
 impl BigDir {

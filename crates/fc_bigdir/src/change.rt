@@ -5,6 +5,7 @@ ghost use Rattle.fc_dirs.specs.Big.{bytes_for, empty_big, form_of, with_big_chan
 
 use crate::BigDir;
 use crate::bytes::copied;
+use crate::enter::name_space;
 use crate::space::{bytes_for, head_space};
 use fc_device::NoMemory;
 use fc_dirs::Entry;
@@ -30,6 +31,7 @@ impl BigDir {
             heap: Vec::new(alloc),
             places: Vec::new(alloc),
             entries: Vec::new(alloc),
+            packed: 0,
         })
     }
 
@@ -38,8 +40,9 @@ impl BigDir {
         requires { at < length self.old.entries }
         ensures { self.new ≡ without_big_entry at self.old }
     {
-        self.entries.remove(at);
+        let gone = self.entries.remove(at);
         self.places.remove(at);
+        self.packed -= name_space(&gone.name);
     }
 
     /// Replaces the entry at a place by one of the same name, byte for byte.

@@ -52,19 +52,6 @@ pub fn name_space(name: &Name) -> usize
     (name.bytes().len() + 4) / 4 * 4
 }
 
-// The size of a heap of exactly the names of entries.
-pub fn tight_heap(entries: &[Entry]) -> usize
-    requires { length entries.now < 2 ^ 32 }
-    ensures heap { result ≡ sum_by (λ e. name_space e.name) entries.now }
-    ensures small { result ≤ 256 * length entries.now }
-{
-    let mut heap = 0;
-    for e in entries {
-        heap += name_space(&e.name);
-    }
-    heap
-}
-
 // Puts a name behind a heap.
 fn push_name(heap: &mut Vec<u8>, name: &Name) -> Result<(), AllocError>
     ensures ok { OnOk result (heap.new.items ≡ heap.old.items ++ padded_name (name_space name.now) name.now) }
@@ -113,18 +100,25 @@ pub fn place_of(entries: &[Entry], name: &Name) -> usize
         .unwrap_or(entries.len())
 }
 
-// Puts an entry in its place, for which there is room. Its name begins at byte `at` of the heap.
-pub fn place_entry(places: &mut Vec<u32>, entries: &mut Vec<Entry>, at: u32, e: Entry)
+// Puts an entry in its place, for which there is room: it becomes that number. Its name begins at byte `at` of the heap.
+pub fn place_entry(
+    places: &mut Vec<u32>,
+    entries: &mut Vec<Entry>,
+    number: usize,
+    at: u32,
+    e: Entry,
+)
+    requires number { number ≡ entry_place e.name entries.old.items }
+    requires within { number ≤ length entries.old.items }
     requires many { vec_len places.old ≡ vec_len entries.old }
     requires places { vec_len places.old < vec_capacity places.old }
     requires entries { vec_len entries.old < vec_capacity entries.old }
     ensures entries { entries.new.items ≡ with_entry e entries.old.items }
     ensures places { places.new.items ≡ insert places.old.items (entry_place e.name entries.old.items) at }
 {
-    let place = place_of(entries, &e.name);
-    let done = places.insert(place, at).is_ok();
+    let done = places.insert(number, at).is_ok();
     prove!(done);
-    let done = entries.insert(place, e).is_ok();
+    let done = entries.insert(number, e).is_ok();
     prove!(done);
 }
 
@@ -163,7 +157,8 @@ fn enter_loose(
     if push_name(heap, &e.name).is_err() {
         return false;
     }
-    place_entry(places, entries, at, e);
+    let number = place_of(entries, &e.name);
+    place_entry(places, entries, number, at, e);
     true
 }
 
@@ -187,11 +182,17 @@ fn enter_tight(
     ensures same_entries { OnFalse result (entries.new ≡ entries.old) }
 {
     let alloc = *heap.allocator();
-    let place = place_of(entries, &e.name);
-    let Ok(anew) = packed_heap(alloc, &entries[..place], &e.name, &entries[place..], tight) else {
+    let number = place_of(entries, &e.name);
+    let Ok(anew) = packed_heap(
+        alloc,
+        &entries[..number],
+        &e.name,
+        &entries[number..],
+        tight,
+    ) else {
         return false;
     };
-    place_entry(places, entries, 0, e);
+    place_entry(places, entries, number, 0, e);
     number_places(places, entries);
     *heap = anew;
     true

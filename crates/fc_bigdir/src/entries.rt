@@ -7,8 +7,10 @@ ghost use Rattle.fc_bytes.specs.Words.{bytes_at};
 ghost use Rattle.fc_dirs.specs.declared.DirFault.TheVariants as faults;
 ghost use Rattle.fc_dirs.specs.Big.{big_entries, big_entry, does_fit, entry_bytes, entry_count, first_bad_entry, heap_of, is_entry_right, name_place};
 ghost use Rattle.fc_smalldir.specs.Faults.{IsFaultOf};
+ghost use Rattle.fc_bigdir.specs.Fields.{packed_size};
 
 use crate::bytes::word_at;
+use crate::enter::name_space;
 use crate::frame::entries_start;
 use fc_dirs::{DirError, DirFault, Entry};
 use fc_names::Name;
@@ -55,19 +57,20 @@ fn read_entry(heap: &[u8], b: &[u8]) -> Option<Entry>
     })
 }
 
-// The entries that bytes say, or the first whose name is wrong.
+// The entries that bytes say, with the size of a heap of exactly their names, or the first whose name is wrong.
 pub fn read_entries(
     alloc: Global,
     b: &[u8],
     second_form: bool,
     heap: &[u8],
-) -> Result<Vec<Entry>, DirError>
+) -> Result<(Vec<Entry>, usize), DirError>
     requires size { 2048 ≤ length b.now }
     requires most { length b.now ≤ 4194304 }
     requires fits { IsTrue (does_fit second_form b.now) }
     requires heap { heap.now ≡ heap_of second_form b.now }
     ensures right { IfOk result (λ _. first_bad_entry second_form b.now ≡ None) }
-    ensures ok { IfOk result (λ entries. entries.items ≡ big_entries second_form b.now) }
+    ensures ok { IfOk result (λ found. found.0.items ≡ big_entries second_form b.now) }
+    ensures packed { IfOk result (λ found. found.1 ≡ packed_size found.0.items) }
     ensures err { IfErr result (IsFaultOf (option_map faults.BadEntry (first_bad_entry second_form b.now))) }
 {
     let start = entries_start(b, second_form);
@@ -75,10 +78,12 @@ pub fn read_entries(
     let Ok(mut entries) = Vec::with_capacity(alloc, count + SPARE) else {
         return Err(DirError::NoMemory);
     };
+    let mut packed = 0;
     for i in 0..count {
         let at = start + 28 * i;
         match read_entry(heap, &b[at..at + 28]) {
             Some(e) => {
+                packed += name_space(&e.name);
                 if entries.push(e).is_err() {
                     return Err(DirError::NoMemory);
                 }
@@ -86,7 +91,7 @@ pub fn read_entries(
             None => return Err(DirError::Fault(DirFault::BadEntry { at: i as u32 })),
         }
     }
-    Ok(entries)
+    Ok((entries, packed))
 }
 
 // Where the name of each entry begins in the heap.

@@ -5,7 +5,7 @@ ghost use Rattle.fc_dirs.specs.Entries.{has_name};
 ghost use Rattle.fc_dirs.specs.Big.{size_limit, size_with, with_big_entry};
 ghost use Rattle.fc_bigdir.specs.Entered.{HasRoomFor};
 
-use crate::enter::{Room, enter, name_space, room_for, tight_heap};
+use crate::enter::{Room, enter, name_space, room_for};
 use crate::{BigDir, InsertError};
 use fc_dirs::Entry;
 
@@ -21,7 +21,7 @@ impl BigDir {
             self.head_space(),
             self.entries.len() + 1,
             self.heap.len() + space,
-            tight_heap(&self.entries) + space,
+            self.packed + space,
         )
     }
 
@@ -47,6 +47,7 @@ impl BigDir {
             return Err(InsertError::NoMemory);
         }
         self.size = room.size;
+        self.packed = room.tight;
         Ok(())
     }
 }

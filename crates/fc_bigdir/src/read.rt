@@ -67,7 +67,7 @@ fn read_parts(alloc: Global, b: &[u8], second_form: bool) -> Result<BigDir, DirE
     ensures err { IfErr result (IsFaultOf (big_fault b.now)) }
 {
     let heap = heap_of(b, second_form);
-    let entries = read_entries(alloc, b, second_form, heap)?;
+    let (entries, packed) = read_entries(alloc, b, second_form, heap)?;
     check_twins(alloc, &entries)?;
     let places = read_places(alloc, b, second_form)?;
     let (Ok(name), Ok(heap)) = (
@@ -86,6 +86,7 @@ fn read_parts(alloc: Global, b: &[u8], second_form: bool) -> Result<BigDir, DirE
         heap,
         places,
         entries,
+        packed,
     })
 }
 

@@ -5,7 +5,7 @@ ghost use Rattle.fc_dirs.specs.Entries.{has_name, without_entry};
 ghost use Rattle.fc_dirs.specs.Big.{is_spelled, size_limit, size_with, with_big_entry, with_big_renamed, with_entry_at, without_big_entry};
 ghost use Rattle.fc_bigdir.specs.Entered.{HasRoomFor};
 
-use crate::enter::{Room, enter, name_space, place_entry, room_for, tight_heap};
+use crate::enter::{Room, enter, name_space, place_entry, place_of, room_for};
 use crate::{BigDir, InsertError};
 use fc_dirs::Entry;
 
@@ -31,7 +31,7 @@ impl BigDir {
             self.head_space(),
             self.entries.len(),
             self.heap.len() + space,
-            tight_heap(&self.entries) - gone + space,
+            self.packed - gone + space,
         )
     }
 
@@ -45,7 +45,8 @@ impl BigDir {
     {
         self.entries.remove(at);
         let place = self.places.remove(at);
-        place_entry(&mut self.places, &mut self.entries, place, e);
+        let number = place_of(&self.entries, &e.name);
+        place_entry(&mut self.places, &mut self.entries, number, place, e);
     }
 
     // Takes the entry at a place out, and puts another in whose name is spelled otherwise.
@@ -71,6 +72,7 @@ impl BigDir {
             return Err(InsertError::NoMemory);
         }
         self.size = room.size;
+        self.packed = room.tight;
         Ok(())
     }
 

@@ -1,5 +1,5 @@
 -- The sectors of places lie on the disc, and hold the bytes.
-use Rattle.std.proofs.Common.{◌≡◌, ◌<◌, ◌≤◌, ℕ, zero, suc, ◌+◌, ◌*◌, ◌/◌, ◌^◌, ◌⊎◌, inl, inr, Bool, true, false, cond, List, [], ◌∷◌, length, take, drop, Option, Some, None, refl, sym, ap, ◌∙◌, subst, arith}
+use Rattle.std.proofs.Common.{◌≡◌, ◌<◌, ◌≤◌, ℕ, zero, suc, ◌+◌, ◌*◌, ◌/◌, ◌^◌, Bool, true, false, cond, List, [], ◌∷◌, length, take, drop, Some, None, refl, sym, ap, ◌∙◌, subst, arith}
 use Rattle.std.specs.Prelude.{nat_le, ◌==◌, ◌||◌}
 use Rattle.std.specs.List.{range_with_len}
 use Rattle.std.specs.Int.{div_ceil}
@@ -10,16 +10,15 @@ use Rattle.std.proofs.lemmas.List.{length-take-le}
 use Rattle.std.proofs.lemmas.List.FromFn.{length-range_with_len}
 use Rattle.fc_device.specs.declared.disk.Extent.{Extent}
 use Rattle.fc_record.specs.declared.Geometry.{Geometry}
-use Rattle.fc_record.specs.Record.{base, geometry}
 use Rattle.fc_oldmap.specs.OldMap.{FreeSpace}
 use Rattle.fc_newmap.specs.Map.{Map, id_runs}
 use Rattle.fc_newmap.specs.NewMap.{IsNewMap}
 use Rattle.fc_newmap.specs.RunsLaw.{IsGeometry}
 use Rattle.fc_newmap.proofs.CoverLemmas.{run_on_disc}
 use Rattle.fc_newmap.proofs.GeometryLemmas.{geometry_of_valid}
-use Rattle.fc_newmap.proofs.HeldLemmas.{GeometryFacts, geometry_facts}
+use Rattle.fc_newmap.proofs.HeldLemmas.{geometry_facts}
 use Rattle.fc_newmap.proofs.PlaceLemmas.{holder_of, id_run_in, in_back, range_in}
-use Rattle.fc_image.specs.Layout.{Layout, disc_sectors, first_part, id_of, id_sectors, is_among, is_object_id, low_of, low_start, new_sectors, old_sectors, sector_bytes}
+use Rattle.fc_image.specs.Layout.{Layout, disc_sectors, first_part, id_sectors, is_among}
 use Rattle.fc_objects.specs.Extents.{sectors_in}
 use Rattle.fc_space.specs.Space.{Suffice}
 
@@ -43,7 +42,7 @@ none_suffice layout bytes place none empty =
     subst (λ (es : List Extent). Suffice layout bytes (sectors_in es)) (sym empty) (record { on_disc = λ s e. absurd (cc); room = omega (arith, none) })
 
 -- what the first part of a row is
-first_is : (n : ℕ) (xs sectors : List ℕ) → first_part n xs ≡ Some sectors → (n ≤ length xs) × (take n xs ≡ sectors)
+pub first_is : (n : ℕ) (xs sectors : List ℕ) → first_part n xs ≡ Some sectors → (n ≤ length xs) × (take n xs ≡ sectors)
 first_is n xs sectors e = by (nat_le n (length xs)) refl e
   where
     by : (b : Bool) → nat_le n (length xs) ≡ b → cond b (Some (take n xs)) None ≡ Some sectors → (n ≤ length xs) × (take n xs ≡ sectors)
@@ -51,10 +50,10 @@ first_is n xs sectors e = by (nat_le n (length xs)) refl e
     by false h f = absurd (cc)
 
 module _ (m : Map) (is : IsNewMap m) where
-  geometry_is : IsGeometry m.geometry
+  pub geometry_is : IsGeometry m.geometry
   geometry_is = subst (λ (g : Geometry). IsGeometry g) is.of_record.1.1 (geometry_of_valid is.of_record.0 is.of_record.1.0)
 
-  id_on_disc : (id s : ℕ) → is_among (id_sectors m id) s ≡ true → s < disc_sectors (Layout.New m)
+  pub id_on_disc : (id s : ℕ) → is_among (id_sectors m id) s ≡ true → s < disc_sectors (Layout.New m)
   id_on_disc id s e =
       let facts = geometry_facts m.geometry is.of_record in
       let p = holder_of m.geometry (id_runs m id) s e in

@@ -3,3 +3,4 @@ pub mod GeometryLemmas
 pub mod PartLemmas
 pub mod SearchLemmas
 pub mod DiscLemmas
+pub mod NthLemmas

@@ -1,12 +1,12 @@
 // A disc's map, and the place of the bytes at an address.
 
-ghost use Rattle.std.specs.Prelude.{◌≡◌, ◌≤◌, ◌↔◌, ◌^◌, None, Some, IfOk, IsErrOf};
+ghost use Rattle.std.specs.Prelude.{◌≡◌, ◌≤◌, ◌↔◌, ◌<◌, ◌^◌, None, Some, IfOk, IsErrOf, IsSome};
 ghost use Rattle.fc_image.specs.Layout.{dir_form, disc_sectors, sector_bytes, sectors_at};
 ghost use Rattle.fc_objects.specs.Extents.{sectors_in};
-ghost use Rattle.fc_space.specs.Space.{Suffice, layout_of};
+ghost use Rattle.fc_space.specs.Space.{PlacesSuffice, Suffice, layout_of, nth_sector};
 
 use crate::PlaceError;
-use crate::new::new_place;
+use crate::new::{low_start, new_place, sector_of_id};
 use crate::old::old_place;
 use fc_device::Extent;
 use fc_names::NameForm;
@@ -78,6 +78,36 @@ impl Space {
         match self {
             Space::OldMapped(map) => old_place(alloc, map, address, bytes),
             Space::NewMapped(map) => new_place(alloc, map, address, bytes),
+        }
+    }
+
+    /// A law: bytes that have a place lie on the disc.
+    pub fn places_suffice(&self)
+        ensures { PlacesSuffice (layout_of self.now) }
+    {
+        match self {
+            Space::OldMapped(map) => {
+                let _ = map.sector_units();
+            }
+            Space::NewMapped(map) => {
+                let _ = map.geometry();
+            }
+        }
+    }
+
+    /// The disc's number of a sector of the bytes at an address, which have a place, as `place_of` has it: sector `n` of
+    /// them, from 0, by walking over the runs before it. Takes no memory.
+    pub fn sector_of(&self, address: u32, bytes: u64, n: u64) -> u64
+        requires { IsSome (nth_sector (layout_of self.now) address bytes n) }
+        ensures sector { nth_sector (layout_of self.now) address bytes n ≡ Some result }
+        ensures on_disc { result < disc_sectors (layout_of self.now) }
+    {
+        match self {
+            Space::OldMapped(map) => u64::from(address / map.sector_units()) + n,
+            Space::NewMapped(map) => {
+                let skip = low_start(map, address % 256);
+                sector_of_id(map, address / 256, skip + n).unwrap()
+            }
         }
     }
 }

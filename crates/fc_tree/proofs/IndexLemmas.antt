@@ -1,6 +1,6 @@
 -- The index under searches and changes.
-use Rattle.std.proofs.Common.{◌≡◌, ◌⊎◌, ◌<◌, ◌≤◌, ℕ, zero, suc, ◌+◌, ◌-◌, Bool, true, false, not, ◌&&◌, ◌==◌, cond, List, [], ◌∷◌, length, get_or, Option, Some, None, refl, sym, ap, ap₂, ◌∙◌, subst, arith, inl, inr}
-use Rattle.std.specs.Prelude.{is_some, count_by, slice_index, slice_index_or}
+use Rattle.std.proofs.Common.{◌≡◌, ◌⊎◌, ◌<◌, ◌≤◌, ℕ, zero, suc, ◌+◌, ◌-◌, Bool, true, false, not, ◌&&◌, ◌==◌, List, length, get_or, Option, Some, None, sym, ap, ap₂, ◌∙◌, arith, inl, inr}
+use Rattle.std.specs.Prelude.{is_some, count_by, slice_index}
 use Rattle.std.specs.List.{insert, remove}
 use Rattle.std.specs.List.Sorted.{IsPartitionedBy, IsPartitionPoint}
 use Rattle.std.specs.Option.{option_map_or, unwrap_or}
@@ -14,7 +14,7 @@ use Rattle.fc_tree.specs.Nodes.{child, nodes_of}
 use Rattle.fc_tree.specs.Slots.{slot_at, is_child}
 use Rattle.fc_tree.specs.Index.{Key, key_cmp, key_of, is_before, IsIndex, IsRank}
 use Rattle.fc_tree.proofs.SlotLemmas.{child_is, no_child, is_child_true, is_child_false}
-use Rattle.fc_tree.proofs.KeyLemmas.{key_trans, key_irreflexive, key_flipped, key_squeezed, by_number, number_less, number_least, folds_from_same, same_from_folds, before_node, node_there, node_before, before_before}
+use Rattle.fc_tree.proofs.KeyLemmas.{key_irreflexive, key_flipped, key_squeezed, by_number, number_less, folds_from_same, same_from_folds, before_node, node_there, before_before}
 
 -- ---- searches
 

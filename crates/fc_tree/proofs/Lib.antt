@@ -5,6 +5,9 @@ pub mod ClaimLemmas
 pub mod ReadingLemmas
 pub mod DirectoryLemmas
 pub mod SlotLemmas
+pub mod KeyLemmas
+pub mod IndexLemmas
+pub mod ChangedSlotLemmas
 pub mod WalkedLemmas
 pub mod NumberLemmas
 pub mod HeldLemmas
@@ -17,8 +20,6 @@ pub mod FindLemmas
 pub mod ChildrenLemmas
 pub mod SortedLemmas
 pub mod FoundLemmas
-pub mod KeyLemmas
-pub mod IndexLemmas
 pub mod SortLemmas
 pub mod ChangeLemmas
 pub mod PlaceInLists

@@ -1,5 +1,5 @@
 -- The places of nodes while an index is made.
-use Rattle.std.specs.Prelude.{◌≡◌, ℕ, List, [], length, IsPermutation, map}
+use Rattle.std.specs.Prelude.{ℕ, List, [], length, IsPermutation, map}
 use Rattle.std.specs.List.{slice_get, range_with_len}
 use Rattle.std.specs.Option.{option_map_or}
 use Rattle.std.specs.List.Sorted.{IsSorted}

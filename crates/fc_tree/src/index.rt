@@ -36,10 +36,11 @@ pub fn place_of(n: u64, node: &Node) -> Place<'_>
 fn cmp_places(a: &Place<'_>, b: &Place<'_>) -> Ordering
     ensures { result ≡ key_cmp (shown a.now) (shown b.now) }
 {
-    a.holder
-        .cmp(&b.holder)
-        .then(fold_cmp(a.name, b.name))
-        .then(a.number.cmp(&b.number))
+    match a.holder.cmp(&b.holder) {
+        // Names count only in the same directory.
+        Ordering::Equal => fold_cmp(a.name, b.name).then(a.number.cmp(&b.number)),
+        order => order,
+    }
 }
 
 // Whether there is a node of this number, and it stands before the place.

@@ -3,3 +3,8 @@ mod MapsOldLemmas
 mod MisplacedLemmas
 mod OwnersLemmas
 mod MountLemmas
+mod ReadingLemmas
+mod BlockLemmas
+mod CatLemmas
+mod FreeLemmas
+mod PieceLemmas

@@ -4,3 +4,4 @@ pub mod Maps
 pub mod Misplaced
 pub mod Owners
 pub mod Mounting
+pub mod Reading

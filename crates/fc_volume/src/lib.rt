@@ -6,6 +6,8 @@ mod maps;
 mod misplaced;
 mod mount;
 mod owners;
+mod pieces;
+mod reading;
 mod volume;
 
 pub use lines::{CommandError, FileRef, Line, Listed, MountError};

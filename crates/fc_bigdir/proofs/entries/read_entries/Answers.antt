@@ -1,9 +1,12 @@
-use Rattle.std.proofs.Common.{◌≡◌, ◌++◌, ◌∷◌, [], is_ok, true, false, not, map, sym, ap, ◌∙◌, arith, below_more, subst}
+use Rattle.std.proofs.Common.{◌≡◌, ◌++◌, ◌∷◌, [], is_ok, true, false, not, map, sym, ap, ap₂, ◌∙◌, ◌+◌, arith, below_more, subst}
+use Rattle.std.proofs.lemmas.List.Sums.{sum_by_push}
 use Rattle.std.specs.List.{range_with_len}
 use Rattle.std.specs.Option.{option_map}
 use Rattle.std.proofs.lemmas.List.FromFn.{map-range_with_len_more}
+use Rattle.fc_dirs.specs.declared.Entry.{Entry}
 use Rattle.fc_dirs.specs.declared.DirFault.TheVariants.{BadEntry}
-use Rattle.fc_dirs.specs.Big.{big_entry, entry_bytes, entry_count, heap_of, is_entry_right}
+use Rattle.fc_dirs.specs.Big.{big_entry, entry_bytes, entry_count, heap_of, is_entry_right, name_space}
+use Rattle.fc_bigdir.specs.Fields.{packed_size}
 use Rattle.fc_bigdir.proofs.EntryLemmas.{entry_slice, bad_found, none_bad, AreRight}
 use Rattle.fc_bigdir.proofs.entries.read_entries.Goals as goal
 
@@ -31,6 +34,8 @@ loop-i-preserved c =
           ∙ ap (λ e. map (λ k. big_entry heap (entry_bytes form b k)) (range_with_len 0 i) ++ e ∷ []) here
           ∙ sym (map-range_with_len_more (λ k. big_entry heap (entry_bytes form b k)) 0 i i (omega arith)),
       below_more (λ k. is_entry_right heap (entry_bytes form b k) ≡ true) i c.loop-i.invariant.1 right,
+      ap₂ (λ x y. x + y) c.loop-i.invariant.2 c.name_space-packed.ensures.space ∙ sym (sum_by_push (λ (e : Entry). name_space e.name) c.loop-i.entries.items c.in-Some.e) ∙ ap packed_size (sym pushed),
+      omega (arith, c.loop-i.invariant.3, c.name_space-packed.ensures.small),
     )
 
 pub returns-clause-right : goal.returns-clause-right

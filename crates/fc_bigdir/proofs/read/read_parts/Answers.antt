@@ -41,7 +41,10 @@ invariant_of-result c =
     let apart : first_twin (big_entries (has_second_form b) b) ≡ None = ap first_twin (sym entries) ∙ c.in_ok-check_twins.ensures.ok in
     let says = same_parts b _ _ _ _ _ _ _ _ _ refl refl c.word_at.ensures (c.in-Ok-Ok.ensures ∙ c.head_name.ensures) c.requires.form c.reserved.ensures (c.in-Ok-Ok.ensures' ∙ c.heap_of-heap.ensures)
     c.in_ok-places.ensures.ok c.in_ok-entries.ensures.ok in
-    subst IsBig (sym says) (says_big b (λ i. omega (arith, c.type_inv.b i)) c.requires.frame right apart)
+    record {
+      big = subst IsBig (sym says) (says_big b (λ i. omega (arith, c.type_inv.b i)) c.requires.frame right apart);
+      packed_is = c.in_ok-entries.ensures.packed;
+    }
 
 pub returns-clause-ok : goal.returns-clause-ok
 returns-clause-ok c =

@@ -1,4 +1,4 @@
-use Rattle.std.proofs.Common.{refl, arith}
+use Rattle.std.proofs.Common.{arith}
 use Rattle.fc_tree.proofs.SortLemmas.{keys_pushed}
 use Rattle.fc_tree.proofs.index.places_of.Goals as goal
 

@@ -1,8 +1,8 @@
-use Rattle.std.proofs.Common.{Option, sym, ap, ◌∙◌, subst}
+use Rattle.std.proofs.Common.{sym, ap, ◌∙◌, subst}
 use Rattle.std.specs.Option.{option_map}
 use Rattle.std.specs.Borrow.{Bor}
 use Rattle.fc_tree.specs.declared.node.Node.{Node}
-use Rattle.fc_tree.specs.Index.{IsRank, key_of}
+use Rattle.fc_tree.specs.Index.{IsRank}
 use Rattle.fc_tree.proofs.IndexLemmas.{rank_exact}
 use Rattle.fc_tree.proofs.index.rank_of.Goals as goal
 

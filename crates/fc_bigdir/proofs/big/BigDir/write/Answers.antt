@@ -15,7 +15,7 @@ returns-then-is_check_right-clause-bytes c =
 pub returns-then-is_check_right-clause-written : goal.returns-then-is_check_right-clause-written
 returns-then-is_check_right-clause-written c =
     subst (λ b. IsWrittenBig b c.args.self.now) (sym (returns-then-is_check_right-clause-bytes c))
-    (read_back c.args.self.now (subst IsBig c.self.view_is c.self.invariant) c.put_checked-end.ensures.widths)
+    (read_back c.args.self.now (subst IsBig c.self.view_is c.self.invariant.big) c.put_checked-end.ensures.widths)
 
 pub returns-else-self-clause-bytes : goal.returns-else-self-clause-bytes
 returns-else-self-clause-bytes c =
@@ -30,4 +30,4 @@ returns-else-self-clause-bytes c =
 pub returns-else-self-clause-written : goal.returns-else-self-clause-written
 returns-else-self-clause-written c =
     subst (λ b. IsWrittenBig b c.args.self.now) (sym (returns-else-self-clause-bytes c))
-    (read_back c.args.self.now (subst IsBig c.self.view_is c.self.invariant) c.put_checked-end.ensures.widths)
+    (read_back c.args.self.now (subst IsBig c.self.view_is c.self.invariant.big) c.put_checked-end.ensures.widths)

@@ -1,4 +1,4 @@
-use Rattle.std.proofs.Common.{◌≡◌, ℕ, ap, ◌∙◌, arith, length}
+use Rattle.std.proofs.Common.{◌≡◌, ap, ◌∙◌, arith, length}
 use Rattle.fc_tree.specs.Nodes.{Numbers, bound_of}
 use Rattle.fc_tree.proofs.SlotLemmas.{get-past}
 use Rattle.fc_tree.proofs.tree.Tree.add.Goals as goal

@@ -1,10 +1,9 @@
-use Rattle.std.proofs.Common.{◌≡◌, ◌<◌, ◌+◌, ◌-◌, ℕ, [], ◌∷◌, ◌++◌, Some, None, sym, ap, ◌∙◌, subst, arith, length}
-use Rattle.fc_tree.specs.Nodes.{Numbers, bound_of}
+use Rattle.std.proofs.Common.{◌≡◌, ◌+◌, ◌-◌, [], ◌∷◌, ◌++◌, Some, sym, ap, ◌∙◌, arith, length}
+use Rattle.fc_tree.specs.Nodes.{Numbers}
 use Rattle.fc_tree.specs.Slots.{slot_at}
 use Rattle.fc_tree.specs.Index.{key_of}
 use Rattle.fc_tree.specs.Places.{shown}
-use Rattle.fc_tree.proofs.SlotLemmas.{get-nodes_of, get-past}
-use Rattle.fc_tree.proofs.ChangeLemmas.{held_pushed, index_long, nodes_put, rank_moved, slot_pushed, slot_pushed_other}
+use Rattle.fc_tree.proofs.ChangeLemmas.{held_pushed, nodes_put, rank_moved, slot_pushed, slot_pushed_other}
 use Rattle.fc_tree.proofs.tree.Tree.append.Goals as goal
 
 pub invariant_of-self : goal.invariant_of-self

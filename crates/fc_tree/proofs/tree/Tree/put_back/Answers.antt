@@ -1,7 +1,7 @@
-use Rattle.std.proofs.Common.{◌≡◌, ◌<◌, ℕ, Some, None, sym, ap, ap₂, ◌∙◌, arith, length}
+use Rattle.std.proofs.Common.{◌<◌, Some, sym, ap, ◌∙◌, arith, length}
 use Rattle.fc_tree.specs.Nodes.{Numbers}
 use Rattle.fc_tree.specs.Slots.{slot_at}
-use Rattle.fc_tree.specs.Index.{IsRank, key_of}
+use Rattle.fc_tree.specs.Index.{key_of}
 use Rattle.fc_tree.specs.Places.{shown}
 use Rattle.fc_tree.proofs.SlotLemmas.{get-nodes_of}
 use Rattle.fc_tree.proofs.ChangeLemmas.{held_set, index_short, nodes_put, rank_moved, slot_set, slot_set_other}

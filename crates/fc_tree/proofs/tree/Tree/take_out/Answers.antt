@@ -1,4 +1,4 @@
-use Rattle.std.proofs.Common.{◌≡◌, ◌<◌, ℕ, Some, None, sym, ap, ◌∙◌, subst, arith, length}
+use Rattle.std.proofs.Common.{None, sym, ap, ◌∙◌, subst, arith, length}
 use Rattle.std.specs.Prelude.{IsSome, slice_index}
 use Rattle.fc_tree.specs.Nodes.{Numbers}
 use Rattle.fc_tree.specs.Slots.{slot_at}

@@ -6,7 +6,7 @@ use borrow.Author.Tests.{tests}
 use Rattle.fc_names.specs.Names.{is_same_name}
 use Rattle.fc_dirs.specs.declared.Entry.{Entry}
 use Rattle.fc_smalldir.proofs.SearchLemmas.{is_some-find}
-use Rattle.fc_bench.proofs.bigdirs.has_name.Goals as goal
+use Rattle.fc_bench.proofs.visits.has_name.Goals as goal
 
 pub returns : goal.returns
 returns c =
