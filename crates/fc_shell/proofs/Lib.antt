@@ -1,1 +1,5 @@
+mod LineLemmas
+mod ReadsLemmas
+mod RunningLemmas
+mod ServingLemmas
 pub mod WritingLemmas

@@ -1,5 +1,10 @@
 pub mod Ends
+pub mod Left
 pub mod Lines
+pub mod Modes
 pub mod Reading
+pub mod ReadsLaw
 pub mod Replies
+pub mod Script
+pub mod Serving
 pub mod Writing

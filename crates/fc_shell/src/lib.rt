@@ -4,7 +4,12 @@
 //! `End::NotBuilt`.
 #![tactic(auto)]
 
+mod answering;
 mod ending;
+mod judging;
+mod lines;
+mod running;
+mod script;
 mod sink;
 mod texts;
 
@@ -15,13 +20,82 @@ ghost use Rattle.fc_device.specs.Form.{IsUntouched};
 ghost use Rattle.fc_words.specs.CommandLine.{Request, request_of};
 ghost use Rattle.fc_words.specs.Request.{request_in};
 ghost use Rattle.fc_shell.specs.Reading.{IsUnwritten};
+ghost use Rattle.fc_shell.specs.ReadsLaw.{ReadsLaw};
 ghost use Rattle.fc_shell.specs.Replies.{EndsAs, has_unbuilt, image_for, is_unbuilt, request_reply, run_reply, script_limit};
+ghost use Rattle.fc_shell.specs.Serving.{is_late, read_reply};
 
 pub use ending::End;
-use fc_device::{Disk, Sink, Source};
+use fc_device::{Disk, NoMemory, Sink, Source};
 pub use fc_image::ImageFault;
 use fc_words::{Words, WordsError, read_words};
+use judging::has_unbuilt;
+use running::answer_script;
+use script::{ScriptError, read_script};
 use std::alloc::Global;
+
+// Runs a script that was read.
+fn run_script<D: Disk, K: Sink>(
+    alloc: Global,
+    asked: &Words,
+    script: &[u8],
+    disk: &mut D,
+    out: &mut K,
+) -> End
+    ensures ends { ForSome (D.gives disk.old) (λ gives. ForSome (D.bytes disk.old) (λ image.
+        EndsAs (read_reply gives (request_in asked.now) script.now image) result (K.taken out.old) (K.taken out.new))) }
+    ensures unattached { has_unbuilt script.now ≡ true → disk.new ≡ disk.old }
+    ensures not_built { result ≡ End.NotBuilt → disk.new ≡ disk.old }
+    ensures disk_fault { result ≡ End.DiskFault → Rose (D.faults disk.old) (D.faults disk.new) }
+    ensures out_fault { result ≡ End.OutFault → Rose (K.faults out.old) (K.faults out.new) }
+    ensures no_image { result ≡ End.NoImage → IsUntouched D.attached D.pending D.tells_stops D.gives D.bytes D.sectors D.sector_size D.image_length D.moment D.faults disk.old disk.new }
+    ensures silent { (result ≡ End.NotBuilt) ⊎ (result ≡ End.NoImage) → out.new ≡ out.old }
+    ensures unwritten { asked.now.new ≡ None → IsUnwritten D.Disk disk.old disk.new }
+    ensures made { (result ≡ End.Done) ⊎ (result ≡ End.Refused) → D.bytes disk.new ≡ option_map (image_for asked.now.new) (D.bytes disk.old) }
+    ensures settled { (result ≡ End.Done) ⊎ (result ≡ End.Refused) → IsFalse (D.pending disk.new) }
+    ensures ended { (is_late result ≡ true) ⊎ ((result ≡ End.NoImage) ⊎ (result ≡ End.NotBuilt)) }
+{
+    match has_unbuilt(alloc, script) {
+        Err(NoMemory) => End::NoMemory,
+        Ok(true) => End::NotBuilt,
+        Ok(false) => answer_script(alloc, asked, script, disk, out),
+    }
+}
+
+// Runs what the words ask for.
+fn run_request<D: Disk, S: Source, K: Sink>(
+    alloc: Global,
+    asked: &Words,
+    disk: &mut D,
+    script: &mut S,
+    out: &mut K,
+) -> End
+    ensures ends { ForSome (D.gives disk.old) (λ gives. ForSome (S.left script.old) (λ text. ForSome (D.bytes disk.old) (λ image.
+        EndsAs (request_reply gives text image (Some (request_in asked.now))) result (K.taken out.old) (K.taken out.new)))) }
+    ensures unbuilt { is_unbuilt (request_in asked.now) ≡ true → (result ≡ End.NotBuilt) × (script.new ≡ script.old) × (disk.new ≡ disk.old) }
+    ensures unattached { ForSome (S.left script.old) (λ text. (script_limit < length text) ⊎ (has_unbuilt text ≡ true) → disk.new ≡ disk.old) }
+    ensures too_long { result ≡ End.ScriptTooLong → (disk.new ≡ disk.old) × ForSome (S.left script.old) (λ text. script_limit < length text) }
+    ensures not_built { result ≡ End.NotBuilt → disk.new ≡ disk.old }
+    ensures script_fault { result ≡ End.ScriptFault → Rose (S.faults script.old) (S.faults script.new) × (disk.new ≡ disk.old) }
+    ensures disk_fault { result ≡ End.DiskFault → Rose (D.faults disk.old) (D.faults disk.new) }
+    ensures out_fault { result ≡ End.OutFault → Rose (K.faults out.old) (K.faults out.new) }
+    ensures no_image { result ≡ End.NoImage → IsUntouched D.attached D.pending D.tells_stops D.gives D.bytes D.sectors D.sector_size D.image_length D.moment D.faults disk.old disk.new }
+    ensures silent { (result ≡ End.NotBuilt) ⊎ ((result ≡ End.NoImage) ⊎ ((result ≡ End.ScriptFault) ⊎ (result ≡ End.ScriptTooLong))) → out.new ≡ out.old }
+    ensures unwritten { asked.now.new ≡ None → IsUnwritten D.Disk disk.old disk.new }
+    ensures made { (result ≡ End.Done) ⊎ (result ≡ End.Refused) → D.bytes disk.new ≡ option_map (image_for asked.now.new) (D.bytes disk.old) }
+    ensures settled { (result ≡ End.Done) ⊎ (result ≡ End.Refused) → IsFalse (D.pending disk.new) }
+    ensures script_end { (result ≡ End.Done) ⊎ (result ≡ End.Refused) → ForSome (S.left script.new) (λ rest. rest ≡ []) }
+    ensures good_words { result ≢ End.BadWords }
+{
+    if asked.demo.is_some() || asked.safe {
+        return End::NotBuilt;
+    }
+    match read_script(alloc, script) {
+        Err(ScriptError::Source) => End::ScriptFault,
+        Err(ScriptError::NoMemory) => End::NoMemory,
+        Ok(None) => End::ScriptTooLong,
+        Ok(Some(text)) => run_script(alloc, asked, &text, disk, out),
+    }
+}
 
 /// Runs the script that the source gives over the image that the words name, or over a fresh one, and writes the replies.
 ///
@@ -69,6 +143,18 @@ pub fn run<D: Disk, S: Source, K: Sink>(
     match read_words(alloc, words) {
         Err(WordsError::BadWords) => End::BadWords,
         Err(WordsError::NoMemory) => End::NoMemory,
-        Ok(_) => End::NoMemory,
+        Ok(asked) => run_request(alloc, &asked, disk, script, out),
     }
 }
+
+/// A law: where every command of a script is built, its replies are those of a run that leaves everything; and a fresh
+/// image is accepted.
+pub fn reads()
+    ensures { ReadsLaw }
+{
+    fc_runs::reading();
+    fc_format::opens();
+}
+
+#[cfg(test)]
+mod tests;

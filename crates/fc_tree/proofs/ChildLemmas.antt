@@ -1,7 +1,6 @@
 -- The objects of a directory's entries, one after another.
-use Rattle.std.proofs.Common.{◌≡◌, ◌<◌, ℕ, zero, suc, ◌+◌, List, [], ◌∷◌, ◌++◌, length, map, drop, refl, sym, ap, ap₂, subst, ◌∙◌, arith, Some, None, Option, append_assoc, append-nil}
-use Rattle.std.specs.Prelude.{Result, Ok, Err, slice_get, reverse}
-use Rattle.std.proofs.lemmas.Option.{slice_get_within}
+use Rattle.std.proofs.Common.{◌≡◌, ℕ, zero, suc, List, [], ◌∷◌, ◌++◌, map, refl, sym, ap, subst, ◌∙◌, Some, append_assoc, append-nil}
+use Rattle.std.specs.Prelude.{Result, Ok, Err, slice_get}
 use Rattle.fc_names.specs.Names.{Path}
 use Rattle.fc_dirs.specs.declared.Entry.{Entry}
 use Rattle.fc_image.specs.declared.ImageFault.{ImageFault}

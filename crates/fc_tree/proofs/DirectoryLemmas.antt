@@ -1,6 +1,6 @@
 -- What the bytes of a directory say.
-use Rattle.std.proofs.Common.{◌≡◌, ◌<◌, ℕ, true, List, [], ◌∷◌, ◌++◌, length, map, set, get_or, refl, sym, ap, ap₂, subst, ◌∙◌, arith, Some, None, Option, IsTrue}
-use Rattle.std.specs.Prelude.{Result, Ok, Err, reverse, slice_get, slice_set}
+use Rattle.std.proofs.Common.{◌≡◌, ◌<◌, ℕ, true, List, ◌++◌, length, map, get_or, refl, sym, ap, ap₂, subst, ◌∙◌, Some, None, Option}
+use Rattle.std.specs.Prelude.{Result, Ok, Err, slice_get, slice_set}
 use Rattle.std.specs.Option.{ForSome}
 use Rattle.std.proofs.lemmas.Option.{get_or_from_slice_get, slice_get_within}
 use Rattle.fc_names.specs.declared.name.NameForm.{NameForm}
@@ -24,8 +24,8 @@ use Rattle.fc_tree.specs.declared.node.TreeError.{TreeError}
 use Rattle.fc_tree.specs.Agree.{HasForm, IsDirectory}
 use Rattle.fc_tree.specs.Nodes.{body_in}
 use Rattle.fc_tree.specs.Taken.{AreTaken, Marks}
-use Rattle.fc_tree.specs.Walking.{FailsAs, IsSaidBy, IsVisited, StandsFor, new_node, said_children, with_body}
-use Rattle.fc_tree.proofs.PathLemmas.{leads_one, same_node}
+use Rattle.fc_tree.specs.Walking.{FailsAs, IsVisited, StandsFor, new_node, said_children}
+use Rattle.fc_tree.proofs.PathLemmas.{same_node}
 use Rattle.fc_tree.proofs.ChildLemmas.{get_front}
 
 -- ---- bytes

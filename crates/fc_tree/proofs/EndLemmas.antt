@@ -1,9 +1,8 @@
 -- What a walk over directories has found in the end.
-use Rattle.std.proofs.Common.{◌≡◌, ◌<◌, ◌≤◌, ℕ, zero, suc, ◌+◌, ◌*◌, ◌/◌, ◌%◌, ◌-◌, min, ◌⊎◌, inl, inr, Bool, true, false, cond, List, [], ◌∷◌, ◌++◌, length, map, take, drop, append-nil, refl, sym, ap, ap₂, subst, ◌∙◌, arith, Some, None, Option, IsTrue}
-use Rattle.std.specs.Prelude.{Contains, Result, Ok, Err, filter, slice_get, nat_le, ◌==◌, ◌&&◌, ◌||◌}
+use Rattle.std.proofs.Common.{◌≡◌, ◌<◌, ◌≤◌, ℕ, zero, suc, ◌+◌, ◌*◌, ◌/◌, ◌%◌, ◌-◌, min, ◌⊎◌, Bool, true, false, cond, List, [], ◌∷◌, ◌++◌, length, map, take, drop, append-nil, refl, sym, ap, subst, ◌∙◌, arith, Some, None, Option}
+use Rattle.std.specs.Prelude.{Contains, Ok, Err, filter, slice_get, nat_le, ◌==◌, ◌&&◌, ◌||◌}
 use Rattle.std.specs.List.{flat_map, list_any, range_with_len}
 use Rattle.std.specs.Int.{div_ceil}
-use Rattle.std.specs.Option.{ForSome}
 use Rattle.std.proofs.Math.Nat.{mod-add-div}
 use Rattle.std.proofs.lemmas.Bool.{eq-eqb, leb-true, ne_eqb}
 use Rattle.std.proofs.lemmas.Option.{slice_get_within}
@@ -11,27 +10,21 @@ use Rattle.std.proofs.lemmas.List.{length-take-le}
 use Rattle.std.proofs.lemmas.List.FromFn.{length-range_with_len}
 use Rattle.fc_names.specs.declared.name.NameForm.{NameForm}
 use Rattle.fc_names.specs.declared.name.NameForm.TheVariants.{Seven, Ten, Long}
-use Rattle.fc_names.specs.Names.{is_directory}
-use Rattle.fc_dirs.specs.declared.DirFault.{DirFault}
 use Rattle.fc_dirs.specs.declared.DirFault.TheVariants as dirs
 use Rattle.fc_dirs.specs.Entries.{first_twin}
 use Rattle.fc_dirs.specs.Directory.{Directory, directory_size, entries_of}
-use Rattle.fc_oldmap.specs.OldMap.{FreeSpace}
-use Rattle.fc_newmap.specs.Map.{Map}
 use Rattle.fc_image.specs.Layout.{Layout, dir_form, first_part, id_of, id_sectors, is_among, is_apart, is_object_id, low_of, low_start, sectors_at, some_sectors}
-use Rattle.fc_image.specs.Walk.{Listing, Object, Reader, is_directory_object, listings_from, object_size, reader_of, walk}
+use Rattle.fc_image.specs.Walk.{Listing, Object, Reader, is_directory_object, listings_from, object_size, walk}
 use Rattle.fc_image.specs.Objects.{objects_of}
 use Rattle.fc_image.specs.Laws.{Tells}
-use Rattle.fc_image.specs.Edits.{Apart, IsApartFrom, IsAt}
+use Rattle.fc_image.specs.Edits.{Apart, IsApartFrom}
 use Rattle.fc_image.proofs.EditLemmas.{apart_law}
 use Rattle.fc_tree.specs.declared.node.Node.{Node}
 use Rattle.fc_tree.specs.Agree.{HasForm, IsDirectory}
-use Rattle.fc_tree.specs.Laws.{AreSound}
-use Rattle.fc_tree.specs.Numbered.{AreNumbered, IsNodeOf}
 use Rattle.fc_tree.specs.Taken.{Marks}
 use Rattle.fc_tree.specs.Walking.{IsFileAt, IsFound}
 use Rattle.fc_tree.proofs.PathLemmas.{same_node}
-use Rattle.fc_tree.proofs.WalkingLemmas.{IsListed, IsWalking, after, after_end, found_by, none_waits, step_end, waiting_from}
+use Rattle.fc_tree.proofs.WalkingLemmas.{IsWalking, after, after_end, found_by, none_waits, step_end, waiting_from}
 use Rattle.fc_tree.proofs.StepLemmas.{past_files}
 
 -- ---- a reader of listings whose objects are apart

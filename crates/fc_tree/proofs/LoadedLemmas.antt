@@ -1,6 +1,6 @@
 -- The tree of the nodes that a walk has found.
 use Rattle.std.proofs.Common.{◌≡◌, ℕ, List, map, sym, subst, Some, Option}
-use Rattle.std.specs.Prelude.{Contains, Result, Ok}
+use Rattle.std.specs.Prelude.{Result}
 use Rattle.std.specs.Ordering.{nat_cmp}
 use Rattle.std.specs.FinMap.{FinMap}
 use Rattle.fc_image.specs.declared.ImageFault.{ImageFault}

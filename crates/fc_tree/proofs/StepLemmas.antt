@@ -1,62 +1,28 @@
 -- Steps of a walk over directories, and its end.
-use Rattle.std.proofs.Common.{◌≡◌, ◌<◌, ◌≤◌, ℕ, zero, suc, ◌+◌, ◌-◌, ◌⊎◌, inl, inr, Bool, true, false, cond, List, [], ◌∷◌, ◌++◌, length, map, drop, length-append, append_assoc, append-nil, refl, sym, ap, ap₂, subst, ◌∙◌, arith, Some, None, Option}
+use Rattle.std.proofs.Common.{◌≡◌, ◌<◌, ◌≤◌, ℕ, zero, suc, ◌+◌, ◌-◌, inl, inr, true, false, List, [], ◌∷◌, ◌++◌, length, map, drop, length-append, append_assoc, refl, sym, ap, ap₂, subst, ◌∙◌, arith, Some, Option}
 use Rattle.std.specs.Prelude.{Contains, Result, Ok, Err, filter, reverse, slice_get, slice_set}
-use Rattle.std.specs.List.{flat_map}
 use Rattle.std.specs.Option.{ForSome}
-use Rattle.std.proofs.lemmas.Bool.{cases_eq, cases_lt}
+use Rattle.std.proofs.lemmas.Bool.{cases_lt}
 use Rattle.std.proofs.lemmas.Option.{slice_get_within}
 use Rattle.fc_names.specs.Names.{Path, is_directory}
 use Rattle.fc_dirs.specs.declared.Entry.{Entry}
-use Rattle.fc_dirs.specs.Directory.{Directory, directory_size, entries_of}
+use Rattle.fc_dirs.specs.Directory.{directory_size, entries_of}
 use Rattle.fc_image.specs.declared.ImageFault.{ImageFault}
-use Rattle.fc_image.specs.declared.ImageFault.TheVariants as faults
 use Rattle.fc_image.specs.Layout.{Layout, dir_form, disc_sectors}
-use Rattle.fc_image.specs.Walk.{Listing, Object, Reader, children_of, is_directory_object, listings_from, object_of, reader_of, root_entry, walk}
+use Rattle.fc_image.specs.Walk.{Listing, Object, Reader, is_directory_object, listings_from, object_of, reader_of, root_entry, walk}
 use Rattle.fc_image.specs.Laws.{Tells}
 use Rattle.fc_image.specs.Edits.{Apart, AreChildren, IsAt}
 use Rattle.fc_image.proofs.EditLemmas.{children_have, taken_by}
 use Rattle.fc_tree.specs.declared.node.Body.TheVariants as bodies
 use Rattle.fc_tree.specs.declared.node.Node.{Node}
 use Rattle.fc_tree.specs.declared.node.TreeError.{TreeError}
-use Rattle.fc_tree.specs.Nodes.{body_in}
 use Rattle.fc_tree.specs.Numbered.{HasBody}
 use Rattle.fc_tree.specs.Taken.{AreTaken, Marks}
 use Rattle.fc_tree.specs.Walking.{FailsAs, IsDirectoryAt, IsFileAt, IsOverlap, IsVisited, Leads, StandsFor, new_node, said_children, with_body}
 use Rattle.fc_tree.proofs.ChildLemmas.{get_front, stands_more}
 use Rattle.fc_tree.proofs.ClaimLemmas.{object_is}
 use Rattle.fc_tree.proofs.PlaceInLists.{contains_front, contains_last, contains_more, contains_at, get_cases, get_back, get_set, some_same}
-use Rattle.fc_tree.proofs.WalkingLemmas.{
-  IsCounted,
-  IsHeld,
-  IsListed,
-  IsWalking,
-  after,
-  found_by,
-  waiting_from,
-  stands_set,
-  new_stands,
-  child_at,
-  map_get,
-  length-nodes,
-  length-set_node,
-  filter-append,
-  drop_within,
-  waits_past,
-  waits_here,
-  none_waits,
-  Apart-append,
-  taken_by-append,
-  found_more,
-  map_last,
-  step_ok,
-  step_fault,
-  step_none_left,
-  step_end,
-  after_more,
-  after_fault,
-  after_none,
-  root_step,
-}
+use Rattle.fc_tree.proofs.WalkingLemmas.{IsCounted, IsHeld, IsListed, IsWalking, after, found_by, waiting_from, stands_set, new_stands, child_at, map_get, length-nodes, length-set_node, filter-append, drop_within, waits_past, waits_here, Apart-append, taken_by-append, found_more, map_last, step_ok, step_fault, step_none_left, after_more, after_fault, after_none, root_step}
 
 -- ---- files are passed over
 

@@ -1,6 +1,6 @@
 -- Marks of sectors, and the sectors that are taken.
-use Rattle.std.proofs.Common.{◌≡◌, ◌<◌, ◌≤◌, ◌↔◌, ℕ, ◌+◌, ◌-◌, ◌*◌, ◌/◌, ◌%◌, ◌^◌, ◌⊎◌, inl, inr, Bool, true, false, cond, List, [], ◌∷◌, ◌++◌, length, append-nil, get_or, Option, Some, set, not, refl, sym, ap, ap₂, subst, ◌∙◌, arith}
-use Rattle.std.specs.Prelude.{◌==◌, ◌||◌, ◌&&◌, nat_lt, Result, Ok, Err}
+use Rattle.std.proofs.Common.{◌≡◌, ◌<◌, ◌≤◌, ◌↔◌, ℕ, ◌+◌, ◌-◌, ◌*◌, ◌/◌, ◌%◌, ◌^◌, inl, inr, Bool, true, false, List, [], ◌∷◌, ◌++◌, length, append-nil, get_or, Option, Some, set, not, refl, sym, ap, ap₂, subst, ◌∙◌, arith}
+use Rattle.std.specs.Prelude.{◌==◌, ◌||◌, ◌&&◌, nat_lt, Ok, Err}
 use Rattle.std.specs.List.{list_any, range_with_len}
 use Rattle.std.specs.Int.{bit_at, w64}
 use Rattle.std.specs.Int.Bits.{bit_or}
@@ -12,7 +12,7 @@ use Rattle.std.proofs.lemmas.Nat.Bits.{bit_at_set_other, bit_at_set_same}
 use Rattle.fc_device.specs.declared.disk.Extent.{Extent}
 use Rattle.fc_newmap.proofs.CoverLemmas.{range_cut}
 use Rattle.fc_newmap.proofs.PlaceLemmas.{in_front, in_back, in_either, in_range, range_in}
-use Rattle.fc_image.specs.Layout.{is_among, is_apart}
+use Rattle.fc_image.specs.Layout.{is_among}
 use Rattle.fc_objects.specs.Extents.{extent_sectors, sectors_in}
 use Rattle.fc_tree.specs.Taken.{Marks, has_mark, is_free, AreTaken}
 

@@ -1,5 +1,5 @@
 -- A walk over directories, as far as it has come.
-use Rattle.std.specs.Prelude.{Contains, ◌≡◌, ◌<◌, ℕ, false, true, List, [], ◌∷◌, ◌++◌, map, reverse, slice_get, slice_set, Option, Some, None, Result, Ok, Err}
+use Rattle.std.specs.Prelude.{Contains, ◌≡◌, ◌<◌, ℕ, false, true, List, [], ◌∷◌, ◌++◌, map, reverse, slice_get, slice_set, Option, Some, Result, Ok, Err}
 use Rattle.std.specs.Option.{ForSome}
 use Rattle.fc_names.specs.Names.{Path, is_directory}
 use Rattle.fc_dirs.specs.declared.DirError.{DirError}

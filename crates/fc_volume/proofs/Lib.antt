@@ -1,4 +1,8 @@
 mod MapsLemmas
+mod MapsOldLemmas
+mod MisplacedLemmas
+mod OwnersLemmas
+mod MountLemmas
 mod ReadingLemmas
 mod BlockLemmas
 mod CatLemmas

@@ -3,6 +3,9 @@
 
 mod lines;
 mod maps;
+mod misplaced;
+mod mount;
+mod owners;
 mod pieces;
 mod reading;
 mod volume;

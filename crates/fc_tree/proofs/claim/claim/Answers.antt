@@ -1,9 +1,9 @@
-use Rattle.std.proofs.Common.{◌∙◌, ◌≡◌, ap, sym}
+use Rattle.std.proofs.Common.{◌∙◌, ◌≡◌, ap}
 use Rattle.fc_image.specs.Layout.{dir_form}
 use Rattle.fc_image.specs.Walk.{object_size}
 use Rattle.fc_objects.specs.Extents.{sectors_in}
 use Rattle.fc_space.specs.Space.{layout_of}
-use Rattle.fc_tree.specs.Taken.{AreTaken, is_free}
+use Rattle.fc_tree.specs.Taken.{is_free}
 use Rattle.fc_tree.proofs.ClaimLemmas.{claimed, refused}
 use Rattle.fc_tree.proofs.claim.claim.Goals as goal
 

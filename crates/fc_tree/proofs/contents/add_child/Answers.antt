@@ -1,11 +1,9 @@
-use Rattle.std.proofs.Common.{◌∙◌, ◌≡◌, ◌++◌, ◌∷◌, [], ap, sym, subst, OnOk, Ok, List, ℕ}
+use Rattle.std.proofs.Common.{◌∙◌, ◌≡◌, ◌++◌, ◌∷◌, [], ap, sym}
 use Rattle.std.proofs.lemmas.Result.{IfOk-weaker}
-use Rattle.fc_image.specs.Walk.{Object, object_of}
 use Rattle.fc_space.specs.Space.{layout_of}
 use Rattle.fc_tree.specs.declared.node.Body.TheVariants as bodies
 use Rattle.fc_tree.specs.declared.node.Node.{Node}
-use Rattle.fc_tree.specs.Taken.{AreTaken}
-use Rattle.fc_tree.specs.Walking.{StandsFor, new_node}
+use Rattle.fc_tree.specs.Walking.{new_node}
 use Rattle.fc_tree.proofs.ClaimLemmas.{object_is}
 use Rattle.fc_tree.proofs.contents.add_child.Goals as goal
 

@@ -5,7 +5,7 @@ use Rattle.fc_dirs.specs.Directory.{directory_of, directory_size}
 use Rattle.fc_image.specs.Layout.{dir_form}
 use Rattle.fc_space.specs.Space.{layout_of}
 use Rattle.fc_tree.specs.Walking.{IsSaidBy}
-use Rattle.fc_tree.proofs.DirectoryLemmas.{node_entry, node_fails, node_placed, node_says, node_size, size_again}
+use Rattle.fc_tree.proofs.DirectoryLemmas.{node_fails, node_placed, node_says, node_size, size_again}
 use Rattle.fc_tree.proofs.directory.read_directory.Goals as goal
 
 pub read_object-requires-clause-placed : goal.read_object-requires-clause-placed

@@ -1,4 +1,4 @@
-use Rattle.std.proofs.Common.{◌≡◌, ◌∙◌, ap, sym, subst, length, refl, Some, arith}
+use Rattle.std.proofs.Common.{sym, subst, refl, arith}
 use Rattle.std.proofs.lemmas.Result.{err_from_is_err_and}
 use Rattle.fc_image.specs.Walk.{reader_of}
 use Rattle.fc_space.specs.Space.{layout_of}

@@ -1,6 +1,6 @@
 use Rattle.fc_objects.specs.Extents.{sectors_in}
 use Rattle.fc_space.specs.Space.{layout_of}
-use Rattle.fc_tree.proofs.LoadedLemmas.{as_fault, loaded}
+use Rattle.fc_tree.proofs.LoadedLemmas.{loaded}
 use Rattle.fc_tree.proofs.loading.load.Goals as goal
 
 pub returns-in-Ok-clause-tree : goal.returns-in-Ok-clause-tree

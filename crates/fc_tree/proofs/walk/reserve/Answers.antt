@@ -1,4 +1,4 @@
-use Rattle.std.proofs.Common.{◌∙◌, ◌≡◌, ◌++◌, [], List, ℕ, sym, refl, ap, subst, append-nil}
+use Rattle.std.proofs.Common.{◌∙◌, ◌++◌, [], List, ℕ, sym, refl, ap, subst, append-nil}
 use Rattle.fc_objects.specs.Extents.{sectors_in}
 use Rattle.fc_image.specs.Layout.{Layout, hole_sectors}
 use Rattle.fc_space.specs.Space.{layout_of}

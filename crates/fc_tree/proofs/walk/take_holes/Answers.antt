@@ -1,4 +1,4 @@
-use Rattle.std.proofs.Common.{◌∙◌, ◌≡◌, ◌++◌, ◌+◌, ◌/◌, ◌∷◌, [], List, ℕ, sym, arith, refl, ap, ap₂, subst, take, get_or, append-nil}
+use Rattle.std.proofs.Common.{◌∙◌, ◌≡◌, ◌++◌, ◌+◌, ◌∷◌, [], List, ℕ, sym, arith, ap, ap₂, subst, take, get_or, append-nil}
 use Rattle.std.specs.List.{flat_map}
 use Rattle.std.proofs.lemmas.List.{take_all, take_more}
 use Rattle.std.proofs.lemmas.Grind.{flat_map-append}

@@ -1,10 +1,10 @@
-use Rattle.std.proofs.Common.{◌≡◌, ◌∙◌, ◌+◌, ◌-◌, ◌<◌, ◌++◌, ◌∷◌, [], suc, ap, sym, subst, refl, arith, ℕ, List, true}
+use Rattle.std.proofs.Common.{◌≡◌, ◌∙◌, ◌+◌, ◌-◌, ◌++◌, ◌∷◌, [], ap, sym, subst, refl, arith, List}
 use Rattle.std.proofs.lemmas.Result.{err_from_is_err_and}
 use Rattle.fc_device.proofs.DiskLaws.{laws}
 use Rattle.fc_record.proofs.ReadLemmas.{reads_start, reads_then}
 use Rattle.fc_dirs.specs.Directory.{directory_size}
 use Rattle.fc_objects.specs.Extents.{sectors_in}
-use Rattle.fc_image.specs.Layout.{dir_form, disc_sectors}
+use Rattle.fc_image.specs.Layout.{dir_form}
 use Rattle.fc_image.specs.Walk.{object_of, reader_of, root_entry}
 use Rattle.fc_space.specs.Space.{layout_of}
 use Rattle.fc_tree.specs.declared.node.Body.TheVariants as bodies

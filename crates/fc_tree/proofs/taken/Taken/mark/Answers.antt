@@ -1,4 +1,4 @@
-use Rattle.std.proofs.Common.{◌≡◌, ◌<◌, ◌≤◌, ◌*◌, length, ap, subst, sym, ◌∙◌, refl}
+use Rattle.std.proofs.Common.{◌<◌, ap, subst, sym, ◌∙◌, refl}
 use Rattle.std.specs.Prelude.{◌||◌, ◌==◌}
 use Rattle.fc_tree.specs.Taken.{has_mark}
 use Rattle.fc_tree.proofs.TakenLemmas.{marked}

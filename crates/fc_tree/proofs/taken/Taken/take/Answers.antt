@@ -1,4 +1,4 @@
-use Rattle.std.proofs.Common.{◌∙◌, sym, arith, refl, ap, subst, take, List, ◌++◌, ◌+◌, ◌≡◌, get_or}
+use Rattle.std.proofs.Common.{◌∙◌, arith, ap, subst, take, List, ◌++◌, ◌+◌, ◌≡◌, get_or}
 use Rattle.std.proofs.lemmas.List.{take_all, take_more}
 use Rattle.fc_device.specs.declared.disk.Extent.{Extent}
 use Rattle.fc_objects.specs.Extents.{extent_sectors, sectors_in}

@@ -1,4 +1,4 @@
-use Rattle.std.proofs.Common.{◌∙◌, sym, arith, refl, ◌+◌}
+use Rattle.std.proofs.Common.{◌∙◌, arith, refl, ◌+◌}
 use Rattle.fc_tree.proofs.TakenLemmas.{row_more, row_ends, row_last}
 use Rattle.fc_tree.proofs.taken.Taken.take_extent.Goals as goal
 

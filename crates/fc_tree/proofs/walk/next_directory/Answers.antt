@@ -1,1 +1,0 @@
-use Rattle.fc_tree.proofs.walk.next_directory.Goals as goal

@@ -1,0 +1,156 @@
+// Opening the image of a disk.
+ghost use Rattle.std.specs.Prelude.{◌≡◌, ◌≤◌, ◌^◌, true, Ok, Err, Some, List, length, ℕ, IsTrue, IsFalse, IfOk, IfErr};
+ghost use Rattle.std.specs.Option.{ForSome};
+ghost use Rattle.fc_device.specs.Faults.{Rose};
+ghost use Rattle.fc_record.specs.Kinds.{IsKind, disc_size, fits_kind, kind_of, sector_size};
+ghost use Rattle.fc_record.specs.Reads.{OnlyReads};
+ghost use Rattle.fc_image.specs.Layout.{disc_sectors, sector_bytes};
+ghost use Rattle.fc_image.specs.Opening.{Opened, open_image};
+ghost use Rattle.fc_space.specs.Space.{layout_of};
+ghost use Rattle.fc_tree.specs.Parts.{ArePartsOf};
+ghost use Rattle.fc_volume.specs.Answers.{IsFaultOf};
+ghost use Rattle.fc_volume.specs.Maps.{found_of};
+ghost use Rattle.fc_volume.specs.Mounting.{AreMounted, mount_error, opened_with};
+ghost use Rattle.fc_volume.specs.Volume.{OnlyShapes, StandsFor, parts_of};
+
+use crate::maps::{MapFound, read_map};
+use crate::misplaced::{misplaced_sector, reserved_rows};
+use crate::owners::owners_of;
+use crate::{MountError, Volume};
+use fc_device::Disk;
+use fc_image::ImageFault;
+use fc_record::kinds::kind;
+use fc_record::{Kind, KindError};
+use fc_tree::{TreeError, load};
+use std::alloc::Global;
+
+// The kind of the disk's image.
+fn find_kind<D: Disk>(disk: &mut D) -> Result<Kind, MountError>
+    requires attached { IsTrue (D.attached disk.old) }
+    requires size { D.sector_size disk.old ≡ 256 }
+    ensures kind { IfOk result IsKind }
+    ensures long { IfOk result (λ kind. disc_size kind ≤ D.image_length disk.old) }
+    ensures found { IfOk result (λ kind. ForSome (D.bytes disk.old) (λ image. (kind_of image ≡ Some kind) × (disc_size kind ≤ length image))) }
+    ensures fits { IfOk result (λ kind. ForSome (D.bytes disk.old) (λ image. IsTrue (fits_kind image kind))) }
+    ensures fault { IfErr result (λ e. ForSome (D.bytes disk.old) (λ image. IsFaultOf (open_image image) e)) }
+    ensures reads { OnlyReads D.Disk disk.old disk.new }
+    ensures cause { result ≡ Err MountError.DiskFault → Rose (D.faults disk.old) (D.faults disk.new) }
+{
+    fc_record::found_fits();
+    match kind(disk) {
+        Ok(kind) => Ok(kind),
+        Err(KindError::NoKind) => Err(MountError::Image(ImageFault::NoKind)),
+        Err(KindError::Short { need, have }) => {
+            Err(MountError::Image(ImageFault::Short { need, have }))
+        }
+        Err(KindError::DiskFault) => Err(MountError::DiskFault),
+    }
+}
+
+// The bytes in a sector of a kind's discs are 2 to this power.
+fn log2_sector(kind: &Kind) -> u8
+    requires { IsKind kind.now }
+    ensures size { 2 ^ result ≡ sector_size kind.now }
+    ensures least { 8 ≤ result }
+    ensures most { result ≤ 10 }
+{
+    match kind {
+        Kind::Boot(r) => r.log2_sector,
+        Kind::OneZone(r) => r.log2_sector,
+        Kind::DiscD => 10,
+        Kind::DiscL { .. } => 8,
+    }
+}
+
+// A tree's error as a mount's.
+fn mount_error(error: TreeError) -> MountError
+    ensures { result ≡ mount_error error }
+{
+    match error {
+        TreeError::Image(fault) => MountError::Image(fault),
+        TreeError::DiskFault => MountError::DiskFault,
+        TreeError::NoMemory => MountError::NoMemory,
+    }
+}
+
+// The volume of a disk whose map was found.
+fn volume_of<D: Disk>(
+    alloc: Global,
+    disk: &mut D,
+    kind: &Kind,
+    found: MapFound,
+    read_only: bool,
+) -> Result<Volume, MountError>
+    requires attached { IsTrue (D.attached disk.old) }
+    requires size { sector_bytes (layout_of found.space) ≡ D.sector_size disk.old }
+    requires room { disc_sectors (layout_of found.space) ≤ D.sectors disk.old }
+    ensures space { IfOk result (λ v. v.space ≡ found.space) }
+    ensures parts { IfOk result (λ v. AreMounted kind.now found.root found.root_size (parts_of v) (D.bytes disk.old)) }
+    ensures ready { IfOk result (λ v. (v.fit ≡ true) × (v.read_only ≡ read_only)) }
+    ensures fault { IfErr result (λ e. ForSome (D.bytes disk.old) (λ image. IsFaultOf (opened_with image kind.now (found_of found)) e)) }
+    ensures reads { OnlyReads D.Disk disk.old disk.new }
+    ensures cause { result ≡ Err MountError.DiskFault → Rose (D.faults disk.old) (D.faults disk.new) }
+{
+    fc_image::walking();
+    let rows = reserved_rows(kind, &found.space);
+    let tree = match load(
+        alloc,
+        disk,
+        &found.space,
+        found.root,
+        found.root_size,
+        &rows,
+    ) {
+        Ok(tree) => tree,
+        Err(error) => return Err(mount_error(error)),
+    };
+    let Ok(owners) = owners_of(alloc, &tree, &found.space) else {
+        return Err(MountError::NoMemory);
+    };
+    match misplaced_sector(kind, &found.space, &owners) {
+        None => Ok(Volume {
+            space: found.space,
+            tree,
+            owners,
+            read_only,
+            fit: true,
+        }),
+        Some(sector) => Err(MountError::Image(ImageFault::MapPlace { sector })),
+    }
+}
+
+impl Volume {
+    /// Opens the image of a disk that has sectors of 256 bytes and nothing pending; afterwards the disk has the volume's
+    /// sectors. Nothing is written. `Image` exactly where the image isn't accepted, with its first fault; `DiskFault` only
+    /// where the disk's count of faults rose.
+    pub fn mount<D: Disk>(
+        alloc: Global,
+        disk: &mut D,
+        read_only: bool,
+    ) -> Result<Volume, MountError>
+        requires attached { IsTrue (D.attached disk.old) }
+        requires settled { IsFalse (D.pending disk.old) }
+        requires size { D.sector_size disk.old ≡ 256 }
+        ensures opened { ForSome (D.bytes disk.old) (λ image. IfOk result (λ v. (view : Opened) × (open_image image ≡ Ok view) × ArePartsOf (parts_of v) view)) }
+        ensures stands { IfOk result (λ v. StandsFor D.Disk v disk.new) }
+        ensures ready { IfOk result (λ v. (v.fit ≡ true) × (v.read_only ≡ read_only)) }
+        ensures fault { ForSome (D.bytes disk.old) (λ image. IfErr result (IsFaultOf (open_image image))) }
+        ensures shapes { OnlyShapes D.Disk disk.old disk.new }
+        ensures cause { result ≡ Err MountError.DiskFault → Rose (D.faults disk.old) (D.faults disk.new) }
+    {
+        fc_image::opens();
+        let kind = match find_kind(disk) {
+            Ok(kind) => kind,
+            Err(error) => return Err(error),
+        };
+        disk.shape(log2_sector(&kind));
+        let found = match read_map(alloc, disk, &kind) {
+            Ok(found) => found,
+            Err(error) => return Err(error),
+        };
+        match volume_of(alloc, disk, &kind, found, read_only) {
+            Ok(volume) => Ok(volume),
+            Err(error) => Err(error),
+        }
+    }
+}
