@@ -9,7 +9,11 @@ if [ $# -lt 1 ] || [ $# -gt 2 ] || [ ! -d "$1" ]; then
   sed -n '5s/^# //p' "$0" >&2
   exit 2
 fi
-folder=$1
+folder=${1%/}
+case $folder in
+  '') folder=/ ;;
+  -*) folder=./$folder ;;
+esac
 program=$(realpath "${2:-$(dirname "$0")/../crates/fcore/out/fcore}")
 [ -x "$program" ] || { echo "no program at $program" >&2; exit 2; }
 
