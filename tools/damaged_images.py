@@ -247,6 +247,10 @@ def small_directories():
     yield "d-empty-name", damage({5 + 26 * 2: b"\r"}).checked(inner).data, fault + "BadEntry 2"
     yield "d-twin", damage({5 + 26 * 3: b"bB"}).checked(inner).data, fault + "Twin 3"
     yield "d-entry-before-twin", damage({5 + 26: b"aA", 5 + 26 * 3: b"\1"}).checked(inner).data, fault + "BadEntry 3"
+    twins = fresh_e()
+    twins.root.append(File(b"Ab", b""))
+    twins.root.append(File(b"aB", b""))
+    yield "e-root-twin", twins.image(), "Directory $ Twin 1"
     yield "d-root", Damage(volume).patch(1025, b"X").data, "Directory $ Magic"
     yield "d-root-first", damage({1: b"X"}).patch(1025, b"X").data, "Directory $ Magic"
 
@@ -422,6 +426,14 @@ def map_places():
     volume.runs[0] = [(64, 5), (volume.shape.end(0) - 512 - 64, None)]
     volume.root.insert(File(b"F", b"short", 0x500))
     yield "boot-block-in-identifier", volume.image(), "MapPlace 3"
+    yield "boot-block-in-map", boot_block_in_map(), "MapPlace 12"
+
+
+def boot_block_in_map():
+    """The boot block stands where the first copy of the map does: to make the copies equal would be its end."""
+    volume = NewVolume(record_bytes(8, 11, 5, 2, 1472, 0x205, 672 * 32), True)
+    volume.take(2, 1, 96)
+    return Damage(volume).patch(BOOT_BLOCK, boot_block(volume.raw)).data
 
 
 # ---- which comes first

@@ -389,7 +389,8 @@ def check_table():
             status, answer = read_image.answer(bytes(files[case.image()]), case.script)
             if (status, answer) != (case.status, case.answer):
                 differing += 1
-                print("%s: the reader says %d\n%s\nthe table %d\n%s" % (case.name, status, answer[:500], case.status, case.answer[:500]))
+                print("%s: the reader says %d\n%s\nthe table %d\n%s" % (
+                    case.name, status, answer[:500], case.status, case.answer[:500]))
     print("%d images, %d cases, %d compared, %d differ" % (len(files), len(cases), compared, differing))
     return differing == 0
 

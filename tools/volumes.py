@@ -183,7 +183,8 @@ class Volume:
 
     def cat_lines(self, directory):
         entries = sorted(directory.entries, key=lambda entry: folded(entry.name))
-        return "".join(entry_line(e.name, e.attributes, e.load, e.execution, None if e.is_directory else len(e.data)) for e in entries)
+        return "".join(entry_line(e.name, e.attributes, e.load, e.execution, None if e.is_directory else len(e.data))
+                       for e in entries)
 
     def directory_cases(self, directory):
         """Lines over a directory and the files in it, each with its reply."""
@@ -307,6 +308,7 @@ class NewVolume(Volume):
         self.runs = [[(shape.end(zone) - shape.first(zone), None)] for zone in range(shape.zones)]
         self.cross_checks = cross_checks or [0xFF] + [0] * (shape.zones - 1)
         self.next_identifier = 3
+        self.extents = {}  # of all identifiers, found anew for each image
         self.past_end = 0  # the bits that stand behind the last map bit of each zone
         self.high_bits = 0  # what holes have in the bits of their fields above the distance
 
@@ -388,22 +390,23 @@ class NewVolume(Volume):
         sector[0] = zone_check(sector)
         return sector
 
-    def extents(self, identifier):
-        """The bytes of an identifier's runs, from its home zone round: places and lengths."""
-        shape = self.shape
-        for turn in range(shape.zones):
-            zone = (shape.home(identifier) + turn) % shape.zones
+    def find_extents(self):
+        """The bytes of every identifier's runs, from its home zone round: places and lengths."""
+        shape, found = self.shape, {}
+        for zone, runs in enumerate(self.runs):
             bit = shape.base(zone)
-            for length, owner in self.runs[zone]:
-                if owner == identifier:
-                    yield bit * shape.bit_bytes, length * shape.bit_bytes
+            for length, owner in runs:
+                if owner is not None:
+                    turn = (zone - shape.home(owner)) % shape.zones
+                    found.setdefault(owner, []).append((turn, bit * shape.bit_bytes, length * shape.bit_bytes))
                 bit += length
+        self.extents = {owner: [run[1:] for run in sorted(runs)] for owner, runs in found.items()}
 
     def pieces_of(self, address, length):
         """Where the bytes of an object lie: places and lengths."""
         identifier, low = divmod(address, 256)
         skipped = (low - 1) * self.shape.share if low else 0
-        for start, room in self.extents(identifier):
+        for start, room in self.extents[identifier]:
             passed = min(skipped, room)
             skipped -= passed
             count = min(length, room - passed)
@@ -420,8 +423,12 @@ class NewVolume(Volume):
             done += count
 
     def image(self):
+        return self.write(bytearray(self.shape.record.size))
+
+    def write(self, disc):
+        """Fills a disc of bytes 0, which takes bytes in slices."""
         shape = self.shape
-        disc = bytearray(shape.record.size)
+        self.find_extents()
         if self.has_boot:
             disc[BOOT_BLOCK:BOOT_BLOCK + BOOT_SIZE] = boot_block(self.raw)
         copy = b"".join(self.zone_sector(zone) for zone in range(shape.zones))
