@@ -9,6 +9,7 @@ tools=$(realpath "$(dirname "$0")")
 folder=$(mktemp -d)
 trap 'rm -rf "$folder"' EXIT
 cd "$folder" || exit 1
+python3 "$tools/images.py" --check || exit 1
 python3 "$tools/images.py" "$folder" || exit 1
 mkdir run bin
 ln -s "$program" bin/fcore
@@ -56,13 +57,37 @@ run_case() {
   fi
 }
 
+# What no file of a case can say: streams that fail, a folder in the place of an image, a name that isn't text.
+outside_fails() {
+  printf 'load $.hello\n' > run/script
+  "$program" hello.adf < run/script > /dev/full
+  expect 'standard output is full' 6 $?
+  "$program" hello.adf < . > run/answer
+  expect 'standard input is a folder' 5 $?
+  "$program" 'a folder' < run/script > run/answer
+  expect 'the image is a folder' 4 $?
+  "$program" $'h\xffllo.adf' < run/script > run/answer
+  expect 'the name is not text' 2 $?
+  # Whatever the answer, the image must not be taken for the standard output: the sums show it.
+  "$program" hello.adf < run/script >&-
+}
+
+expect() {
+  if [ "$2" = "$3" ]; then
+    passed=$((passed + 1))
+  else
+    fail "$1: wanted status $2, got $3"
+  fi
+}
+
 for embedded in "$tools"/../crates/fcore/data/*.adf; do
   cmp -s "$embedded" "$(basename "$embedded")" || fail "$embedded isn't the image of the table"
 done
-sha256sum ./*.adf > run/sums
+sha256sum ./*.adf ./*/*.adf > run/sums
 for case in cases/*; do
   run_case "$case"
 done
+outside_fails
 sha256sum --quiet --check run/sums || fail "images were changed"
 examples=$(PATH="$folder/bin:$PATH" python3 "$tools/readme_examples.py" "$tools/../README.md") || failed=$((failed + 1))
 printf '%s\n' "$examples"

@@ -100,7 +100,8 @@ def mutant(chance, volumes):
     return bytes(damage.data)
 
 
-def differs(program, path, data):
+def both_answers(program, path, data):
+    """What the reader says, and what the program says: status and text."""
     images.write_image(path, data)
     run = subprocess.run([program, path], input=SCRIPT, capture_output=True, timeout=60)
     wanted = read_image.answer(data, SCRIPT)
@@ -114,7 +115,7 @@ def main(program, count=300, seed=1):
     with tempfile.TemporaryDirectory() as folder:
         for number in range(count):
             data = mutant(chance, volumes)
-            wanted, got = differs(program, os.path.join(folder, "mutant.adf"), data)
+            wanted, got = both_answers(program, os.path.join(folder, "mutant.adf"), data)
             seen["accepted" if wanted[0] < 2 else " ".join(wanted[1].split()[:2])] += 1
             if wanted != got:
                 wrong += 1

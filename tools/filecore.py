@@ -7,7 +7,6 @@ BOOT_BLOCK = 0xC00
 BOOT_SIZE = 512
 RECORD_SIZE = 60
 UNIT = 256  # old maps count bytes by 256
-MOST_OLD_UNITS = {"D": 3200, "L": 2560}
 SMALL_SIZE = {"D": 2048, "L": 1280}
 BIG_LIMIT = 4194304
 # the bytes in which the record of a boot block and that of the map have to agree; of byte 40 the low four bits

@@ -3,7 +3,8 @@
 
 usage: tools/images.py FOLDER    fills an empty folder with the images and, in FOLDER/cases, a folder for each case:
                                  words, script, status, answer, and `made` where a fresh image has to equal another file
-       tools/images.py --check   builds all in memory, and compares the table with the reader of tools/read_image.py
+       tools/images.py --check   builds all in memory, compares the table with the reader of tools/read_image.py, and fresh volumes
+                                 with bytes that are known
        tools/images.py --hello IMAGE   writes the image that the repository embeds
 """
 import os
@@ -12,7 +13,6 @@ import sys
 import damaged_images
 import read_image
 import script_cases
-
 from volumes import FRESH, Directory, File, NewVolume, OldVolume, fresh_e, fresh_f, record_bytes
 
 HARD_DISC = dict(log2_sector=9, idlen=13, log2_bit=7, zones=20, spare=32, root=0x300, size=79200 * 128, share=1)
@@ -339,7 +339,8 @@ def table():
         cases.append(script_cases.Case(name, [name + ".adf"], "check\n", 3, "bad-image %s\n" % line))
     for form, make in FRESH.items():
         files["fresh-%s.adf" % form] = make().image()
-    files["locked.adf"] = files["hello.adf"]
+    for name in ("locked.adf", "a folder/hello.adf", "h\u00e9llo.adf"):
+        files[name] = files["hello.adf"]
     cases += named_cases()
     cases += script_cases.all_cases()
     return files, cases
@@ -373,10 +374,35 @@ def write_case(folder, case):
 def write_table(folder):
     files, cases = table()
     for name, data in files.items():
-        write_image(os.path.join(folder, name), data)
+        path = os.path.join(folder, name)
+        os.makedirs(os.path.dirname(path), exist_ok=True)
+        write_image(path, data)
     os.chmod(os.path.join(folder, "locked.adf"), 0o444)
     for at, case in enumerate(cases):
         write_case(os.path.join(folder, "cases", "%03d-%s" % (at, case.name)), case)
+
+
+# bytes of fresh volumes that were worked out by hand
+KNOWN_BYTES = {
+    "E": {0: "0F1882FF 0A050202 0F070100 00012005 03020000 00800C00", 64: "02000080", 863: "80", 2048: "004E69636B00", 4095: "6A"},
+    "F": {0xC6800: "BC3882FF", 0xC6C00: "18188000", 0xC7000: "3BB880000200", 0xC7400: "18188000", 0xDFF: "9E"},
+    "D": {255: "98", 511: "83"},
+    "L": {255: "11", 511: "05"},
+    "E+": {0: "9D1882FF 0A050202 0F070100 00012005 01030000 00800C00", 48: "0100000000080000", 64: "02800380", 863: "80",
+           2048: "00000000 53425072 01000000 00080000 00000000 00000000 01030000 240D0000", 4088: "6F76656E 0000007B"},
+}
+
+
+def check_fresh():
+    wrong = 0
+    for form, known in KNOWN_BYTES.items():
+        image = FRESH[form]().image()
+        for at, text in known.items():
+            content = bytes.fromhex(text)
+            if image[at:at + len(content)] != content:
+                wrong += 1
+                print("fresh %s: other bytes at %d" % (form, at))
+    return wrong == 0
 
 
 def check_table():
@@ -397,7 +423,7 @@ def check_table():
 
 def main(words):
     if words == ["--check"]:
-        sys.exit(0 if check_table() else 1)
+        sys.exit(0 if check_fresh() and check_table() else 1)
     if len(words) == 2 and words[0] == "--hello":
         write_image(words[1], hello().image())
     elif len(words) == 1:

@@ -199,8 +199,7 @@ class Volume:
     @staticmethod
     def file_cases(path, entry):
         yield "digest " + path, hashlib.sha256(entry.data).hexdigest() + "\nok\n"
-        if len(entry.data) <= 4096:
-            yield "load " + path.lower(), entry.data.hex() + "\nok\n"
+        yield "load " + path.lower(), entry.data.hex() + "\nok\n"
         if len(entry.data) < 2:
             yield "cat " + path, NOT_DIRECTORY
             yield "load " + path + ".X", NOT_DIRECTORY
