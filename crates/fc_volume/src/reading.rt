@@ -226,6 +226,7 @@ impl Volume {
                 × (bytes_in_node (node_at (tree_of image view.layout view.listings) p.now) ≡ ref_bytes image self.now f))
             (IsRefusalOf (answer (tree_of image view.layout view.listings) (dir_form view.layout) self.now.read_only (Command.Load p.now))) }
         ensures named { IfOk result (λ f. IsRef self.now f) }
+        ensures exact { result ≡ file_at (nodes_of self.now.tree) p.now }
         ensures refused { IfErr result (λ error. (refusal : Refusal) × (error ≡ CommandError.Refused refusal)) }
         ensures disk { disk.new ≡ disk.old }
     {
