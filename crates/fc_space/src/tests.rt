@@ -3,6 +3,7 @@ ghost use Rattle.std.specs.Prelude.{◌≡◌, length};
 
 use crate::{PlaceError, Space};
 use fc_device::Extent;
+use fc_names::NameForm;
 use fc_newmap::NewMap;
 use fc_oldmap::OldMap;
 use fc_record::measures::geometry;
@@ -167,5 +168,9 @@ fn finds_places(rt: HostRuntime) -> Result<(), Fail> {
     };
     assert_eq!(rt; wrong_row(alloc, &d, ROWS_D), None);
     assert_eq!(rt; wrong_outside(alloc, &d, OUTSIDE_D), None);
+    for (space, sectors) in [(&e, 800), (&f, 1600), (&d, 800)] {
+        assert!(rt; space.disc_sectors() == sectors && space.sector_bytes() == 1024);
+        assert!(rt; space.dir_form() == NameForm::Ten);
+    }
     Ok(())
 }
