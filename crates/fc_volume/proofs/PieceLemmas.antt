@@ -83,21 +83,6 @@ file_placed v f node agree named g =
 
 -- ---- pieces
 
--- a place in a file lies in one of its sectors
-pub sector_there : (layout : Layout) (address len size at : ℕ) (sectors : List ℕ) → sectors_at layout address len ≡ Some sectors → PlacesSuffice layout → size ≡ sector_bytes layout → at < len
-    → IsSome (nth_sector layout address len (at / size))
-sector_there layout address len size at sectors e suffice is within =
-    let s = suffice address len sectors e in
-    let room : len ≤ length sectors * size = subst (λ (n : ℕ). len ≤ length sectors * n) (sym is) s.room in
-    let below = div-mul-le_self at size in
-    let less : at / size < length sectors = elim (cases_lt (at / size) (length sectors)) [
-      | inl low ↦ low
-      | inr high ↦ absurd (let more = mul-le (length sectors) size (at / size) size (omega (arith, high)) (omega arith) in omega (arith, more, below, room, within))
-    ] in
-    let there : nth_sector layout address len (at / size) ≡ Some (get_or sectors (at / size) 0) =
-    ap (option_and_then (λ (xs : List ℕ). slice_get xs (at / size))) e ∙ slice_get-get_or sectors (at / size) 0 less in
-    ap is_some there
-
 -- the bytes of a file from a place in it on, up to the end of a sector, are those of that sector
 pub piece_bytes : (image : List ℕ) (v : Volume) (f : FileRef) (node : Node) (size at n s : ℕ) → get (nodes_of v.tree) f.node ≡ Some node → f.len ≡ node.entry.len → PlacesSuffice (parts_of v).layout
     → size ≡ sector_bytes (parts_of v).layout → disc_sectors (parts_of v).layout * size ≤ length image → nth_sector (parts_of v).layout node.entry.address f.len (at / size) ≡ Some s
