@@ -14,10 +14,11 @@ build:
 install: build
 	install -D $(PROGRAM) $(DESTDIR)$(PREFIX)/bin/fcore
 
-# One file from the embedded image, by the program as `rt try` interprets it: this proves nothing.
+# A fresh disc that --new makes, and the embedded image: each file of demo/ is a script, and the words of its run stand beside it.
+# The program is built unproved, with checks at run time; the proofs are the business of make test.
 demo:
-	@echo 'fcore hello.adf, with the script: load $$.hello (interpreted; the proofs are the business of make test)'
-	cd crates/fcore && rt try -- data/hello.adf < stdin
+	@head -n 20 demo/*
+	cd crates/fcore && rt try --data hello.adf=data/hello.adf --cases ../../demo
 
 # The gate: every proof, must-fail edit, test and program; then the built program over real files.
 test:

@@ -1,5 +1,6 @@
 #!/usr/bin/env bash
-# Runs the built program over real files, and compares output and status with what README.md says.
+# Runs the built program over the images of tools/images.py, and compares output and status with that table; then the examples
+# of README.md. No image may be changed.
 #
 # usage: tools/check_program.sh PROGRAM
 set -u
@@ -8,59 +9,88 @@ tools=$(realpath "$(dirname "$0")")
 folder=$(mktemp -d)
 trap 'rm -rf "$folder"' EXIT
 cd "$folder" || exit 1
-python3 "$tools/hello_image.py" hello.adf
+python3 "$tools/images.py" --check || exit 1
+python3 "$tools/images.py" "$folder" || exit 1
+mkdir run bin
+ln -s "$program" bin/fcore
 passed=0
 failed=0
 
-# case: NAME, STATUS, OUTPUT, SCRIPT, WORDS ..
-case_of() {
-  local name=$1 status=$2 output=$3 script=$4
-  shift 4
-  local got answer
-  got=$(printf "$script" | "$program" "$@"; echo "status $?")
-  answer=$(printf "$output"; echo "status $status")
-  if [ "$got" = "$answer" ]; then
-    passed=$((passed + 1))
-  else
-    failed=$((failed + 1))
-    printf '%s: wanted\n%s\ngot\n%s\n' "$name" "$answer" "$got"
+fail() {
+  failed=$((failed + 1))
+  printf '%s\n' "$@"
+}
+
+# What differs, shortened: replies may be long.
+tell() {
+  printf 'wanted status %s, got %s\n' "$2" "$3"
+  diff <(fold -w 160 "$1/answer") <(fold -w 160 run/answer) | head -n 20
+}
+
+# The files that the case speaks of: a fresh image equals the one of the table; where nothing is attached, none is made.
+files_are_right() {
+  local made reference
+  if [ -e "$1/made" ]; then
+    read -r made reference < "$1/made"
+    cmp "$made" "$reference" || return 1
+  fi
+  if [ -e "$1/absent" ]; then
+    read -r made < "$1/absent"
+    [ ! -e "$made" ] || return 1
   fi
 }
 
-# a copy of the image with one byte changed
-changed() {
-  cp hello.adf "$1"
-  printf "$3" | dd of="$1" bs=1 seek="$2" conv=notrunc status=none
+run_case() {
+  local case=$1 wanted status words
+  read -r wanted < "$case/status"
+  mapfile -t words < "$case/words"
+  timeout 60 "$program" "${words[@]}" < "$case/script" > run/answer 2> run/errors
+  status=$?
+  if [ "$status" != "$wanted" ] || ! cmp -s run/answer "$case/answer"; then
+    fail "$case: $(tell "$case" "$wanted" "$status")"
+  elif [ -s run/errors ]; then
+    fail "$case: something was written to standard error"
+  elif ! files_are_right "$case"; then
+    fail "$case: a file isn't what it has to be"
+  else
+    passed=$((passed + 1))
+  fi
 }
 
-cmp -s hello.adf "$tools/../crates/fcore/data/hello.adf" || { echo "the embedded image differs"; failed=$((failed + 1)); }
-changed no_run.adf 69 '\0'
-dd if=/dev/zero of=no_run.adf bs=1 seek=863 count=1 conv=notrunc status=none
-changed no_magic.adf 2049 'X'
-changed far.adf 2072 '\377'
-changed other.adf 8 '\014'
-head -c 800000 hello.adf > short.adf
-cp hello.adf locked.adf
-chmod 444 locked.adf
+# What no file of a case can say: streams that fail, a folder in the place of an image, a name that isn't text.
+outside_fails() {
+  printf 'load $.hello\n' > run/script
+  "$program" hello.adf < run/script > /dev/full
+  expect 'standard output is full' 6 $?
+  "$program" hello.adf < . > run/answer
+  expect 'standard input is a folder' 5 $?
+  "$program" 'a folder' < run/script > run/answer
+  expect 'the image is a folder' 4 $?
+  "$program" $'h\xffllo.adf' < run/script > run/answer
+  expect 'the name is not text' 2 $?
+  # Whatever the answer, the image must not be taken for the standard output: the sums show it.
+  "$program" hello.adf < run/script >&-
+}
 
-case_of 'a file' 0 '48656c6c6f\nok\n' 'load $.hello\n' hello.adf
-case_of 'its name in another case' 0 '48656c6c6f\nok\n' 'load $.HELLO\n' hello.adf
-case_of 'read-only' 0 '48656c6c6f\nok\n' 'load $.hello\n' --read-only hello.adf
-case_of 'a file that may not be written' 0 '48656c6c6f\nok\n' 'load $.hello\n' locked.adf
-case_of 'no such name' 1 'error 3 NotFound\n' 'load $.None\n' hello.adf
-case_of 'another script' 9 '' 'free\n' hello.adf
-case_of 'an empty script' 9 '' '' hello.adf
-case_of 'a name that is too long' 9 '' 'load $.elevenbytes\n' hello.adf
-case_of 'an option that is not built' 9 '' 'load $.hello\n' --safe hello.adf
-case_of 'no words' 2 '' 'load $.hello\n'
-case_of 'no such option' 2 '' 'load $.hello\n' --help hello.adf
-case_of 'no such image' 12 '' 'load $.hello\n' nothing.adf
-case_of 'a zone without an end' 3 'bad-image Zone 0 544\n' 'load $.hello\n' no_run.adf
-case_of 'a root without its word' 3 'bad-image Directory $ Magic\n' 'load $.hello\n' no_magic.adf
-case_of 'a file past its identifier' 3 'bad-image Place $.Hello\n' 'load $.hello\n' far.adf
-case_of 'another geometry' 9 '' 'load $.hello\n' other.adf
-case_of 'a short image' 9 '' 'load $.hello\n' short.adf
-cmp -s hello.adf "$tools/../crates/fcore/data/hello.adf" || { echo "the image was changed"; failed=$((failed + 1)); }
+expect() {
+  if [ "$2" = "$3" ]; then
+    passed=$((passed + 1))
+  else
+    fail "$1: wanted status $2, got $3"
+  fi
+}
+
+for embedded in "$tools"/../crates/fcore/data/*.adf; do
+  cmp -s "$embedded" "$(basename "$embedded")" || fail "$embedded isn't the image of the table"
+done
+sha256sum ./*.adf ./*/*.adf > run/sums
+for case in cases/*; do
+  run_case "$case"
+done
+outside_fails
+sha256sum --quiet --check run/sums || fail "images were changed"
+examples=$(PATH="$folder/bin:$PATH" python3 "$tools/readme_examples.py" "$tools/../README.md") || failed=$((failed + 1))
+printf '%s\n' "$examples"
 
 echo "$passed passed, $failed failed"
 [ "$failed" = 0 ]

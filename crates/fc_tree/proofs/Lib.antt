@@ -7,7 +7,6 @@ pub mod DirectoryLemmas
 pub mod SlotLemmas
 pub mod KeyLemmas
 pub mod IndexLemmas
-pub mod ChangedSlotLemmas
 pub mod WalkedLemmas
 pub mod NumberLemmas
 pub mod HeldLemmas

@@ -101,10 +101,11 @@ module _ (r : DiscRecord) (zones : List (List ℕ)) (sector : List ℕ) (first :
       → unless_fault (record { geometry = geometry r; zones = zones }) (first_fault (geometry r) (zip (zone_numbers (geometry r)) zones)) ≡ Ok m
       → (zones_layout r zones ≡ Ok (Layout.New m, own.root, own.root_size)) × (m.geometry ≡ geometry r)
   map_right own m e l =
-      let is = loaded_as m (first_fault (geometry r) (zip (zone_numbers (geometry r)) zones)) (record { geometry = geometry r; zones = zones }) l in
-      (own_right own e ∙ ap (λ (f : Option ZoneFault). then_zones own (zones_or (geometry r) zones f)) is.0
-      ∙ ap (λ (n : Map). let x : Result MapAndRoot ImageFault = Ok (Layout.New n, own.root, own.root_size) in x) is.1,
-      sym (ap (λ (n : Map). n.geometry) is.1))
+      let is = loaded_as m (first_fault (geometry r) (zip (zone_numbers (geometry r)) zones)) (record { geometry = geometry r; zones = zones }) l in (
+        own_right own e ∙ ap (λ (f : Option ZoneFault). then_zones own (zones_or (geometry r) zones f)) is.0
+            ∙ ap (λ (n : Map). let x : Result MapAndRoot ImageFault = Ok (Layout.New n, own.root, own.root_size) in x) is.1,
+        sym (ap (λ (n : Map). n.geometry) is.1),
+      )
 
   pub zone_wrong : (own : DiscRecord) (wrong : MapError) → agreement r (map_record sector) (difference r (map_record sector)) ≡ Ok own
       → unless_fault (record { geometry = geometry r; zones = zones }) (first_fault (geometry r) (zip (zone_numbers (geometry r)) zones)) ≡ Err wrong

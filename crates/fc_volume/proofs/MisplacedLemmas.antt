@@ -78,18 +78,26 @@ least_is xs o is = unique (least_of xs) o (found xs) is
     unique None (Some n) p q = absurd (let h = p n in let i = q.0 in cc)
     unique (Some m) None p q = absurd (let h = q m in let i = p.0 in cc)
     unique (Some m) (Some n) p q = ap (λ k. let o : Option ℕ = Some k in o) (let a = p.1 n q.0 in let b = q.1 m p.0 in let e : m ≡ n = omega arith in e)
+
     more : (x : ℕ) (ys : List ℕ) (o : Option ℕ) → IsLeast (is_among ys) o → IsLeast (is_among (x ∷ ys)) (Some (least_or x o))
-    more x ys None is = (or_left (x == x) _ (eq-eqb x x refl), λ s e. elim (or_cases (x == s) (is_among ys s) e) [
-      | inl here ↦ (let same = eqb-true x s here in omega arith)
-      | inr later ↦ absurd (let none = is s in cc)
-    ])
-    more x ys (Some n) is = (elim (cases_lt x n) [
-      | inl less ↦ (let e : min x n ≡ x = omega arith in or_left (x == min x n) _ (eq-eqb x (min x n) (sym e)))
-      | inr other ↦ (let e : min x n ≡ n = omega arith in or_right (x == min x n) _ (subst (λ k. is_among ys k ≡ true) (sym e) is.0))
-    ], λ s e. elim (or_cases (x == s) (is_among ys s) e) [
-      | inl here ↦ (let same = eqb-true x s here in omega arith)
-      | inr later ↦ (let low = is.1 s later in omega arith)
-    ])
+    more x ys None is = (
+      or_left (x == x) _ (eq-eqb x x refl),
+      λ s e. elim (or_cases (x == s) (is_among ys s) e) [
+        | inl here ↦ (let same = eqb-true x s here in omega arith)
+        | inr later ↦ absurd (let none = is s in cc)
+      ],
+    )
+    more x ys (Some n) is = (
+      elim (cases_lt x n) [
+        | inl less ↦ (let e : min x n ≡ x = omega arith in or_left (x == min x n) _ (eq-eqb x (min x n) (sym e)))
+        | inr other ↦ (let e : min x n ≡ n = omega arith in or_right (x == min x n) _ (subst (λ k. is_among ys k ≡ true) (sym e) is.0))
+      ],
+      λ s e. elim (or_cases (x == s) (is_among ys s) e) [
+        | inl here ↦ (let same = eqb-true x s here in omega arith)
+        | inr later ↦ (let low = is.1 s later in omega arith)
+      ],
+    )
+
     found : (ys : List ℕ) → IsLeast (is_among ys) (least_of ys)
     found [] = λ s. refl
     found (y ∷ ys) = more y ys (least_of ys) (found ys)
@@ -135,6 +143,7 @@ among_filter t (x ∷ xs) s = by (t x) (x == s) refl refl (among_filter t xs s)
     never : (b : Bool) → (b && false) ≡ false
     never true = refl
     never false = refl
+
     by : (b c : Bool) → t x ≡ b → (x == s) ≡ c → is_among (filter t xs) s ≡ (is_among xs s && t s) → is_among (filter t (x ∷ xs)) s ≡ (is_among (x ∷ xs) s && t s)
     by true true e f rest = let same = eqb-true x s f in let here : t s ≡ true = sym (ap t same) ∙ e in rw (e, f, here) refl
     by true false e f rest = rw (e, f) rest
@@ -188,6 +197,7 @@ module _ (owners : List Owner) (nodes : FinMap nat_cmp Node) (layout : Layout) (
       never : (b : Bool) → (b && false) ≡ false
       never true = refl
       never false = refl
+
       by : (b : Bool) → nat_le 3 id ≡ b → (is_id_owned owners id && nat_le 3 id) ≡ (is_owned objects id && nat_le 3 id)
       by true e =
           let high = leb-true 3 id e in
@@ -218,15 +228,15 @@ module _ (owners : List Owner) (nodes : FinMap nat_cmp Node) (layout : Layout) (
       let regroup : (x y z : Bool) → (x && (y && z)) ≡ ((x && y) && z) = grouped in
       let in_runs : (s : ℕ) → is_in_some_loose owners g a b (all_runs m) s ≡ (is_among loose s && (lies_in a s || lies_in b s)) =
       λ s. any_same _ (λ (p : ZoneRun). (test p.1.kind && lies_in (extent_of g p) s) && (lies_in a s || lies_in b s)) (all_runs m)
-          (λ p. regroup (is_loose owners p.1.kind) (lies_in (extent_of g p) s) (lies_in a s || lies_in b s) ∙ ap (λ t. (t && lies_in (extent_of g p) s) && (lies_in a s || lies_in b s)) (loose_same p.1.kind))
-          ∙ any_and (λ (p : ZoneRun). test p.1.kind && lies_in (extent_of g p) s) (lies_in a s || lies_in b s) (all_runs m)
-          ∙ ap (λ t. t && (lies_in a s || lies_in b s)) (sym (among_runs g test (all_runs m) s)) in
+      (λ p. regroup (is_loose owners p.1.kind) (lies_in (extent_of g p) s) (lies_in a s || lies_in b s) ∙ ap (λ t. (t && lies_in (extent_of g p) s) && (lies_in a s || lies_in b s)) (loose_same p.1.kind))
+      ∙ any_and (λ (p : ZoneRun). test p.1.kind && lies_in (extent_of g p) s) (lies_in a s || lies_in b s) (all_runs m)
+      ∙ ap (λ t. t && (lies_in a s || lies_in b s)) (sym (among_runs g test (all_runs m) s)) in
       let there : (s : ℕ) → ((lies_in a s && lies_in b s) || is_in_some_loose owners g a b (all_runs m) s) ≡ is_among (filter (is_among loose) rows ++ filter (is_among (map_sectors g)) (boot_place kind g.sector)) s =
       λ s. ap (λ t. (lies_in a s && lies_in b s) || t) (in_runs s)
-          ∙ in_two (lies_in a s) (lies_in b s) (is_among loose s)
-          ∙ sym (list_any-append (λ k. k == s) (filter (is_among loose) rows) (filter (is_among (map_sectors g)) (boot_place kind g.sector))
-              ∙ ap₂ (λ x y. x || y) (among_filter (is_among loose) rows s ∙ ap (λ t. t && is_among loose s) (in_rows s))
-              (among_filter (is_among (map_sectors g)) (boot_place kind g.sector) s ∙ ap₂ (λ x y. x && y) (in_b s) (in_a s))) in
+      ∙ in_two (lies_in a s) (lies_in b s) (is_among loose s)
+      ∙ sym (list_any-append (λ k. k == s) (filter (is_among loose) rows) (filter (is_among (map_sectors g)) (boot_place kind g.sector))
+      ∙ ap₂ (λ x y. x || y) (among_filter (is_among loose) rows s ∙ ap (λ t. t && is_among loose s) (in_rows s))
+      (among_filter (is_among (map_sectors g)) (boot_place kind g.sector) s ∙ ap₂ (λ x y. x && y) (in_b s) (in_a s))) in
       sym (least_is (filter (is_among loose) rows ++ filter (is_among (map_sectors g)) (boot_place kind g.sector)) o (IsLeast-same _ _ o there is))
     where
       grouped : (x y z : Bool) → (x && (y && z)) ≡ ((x && y) && z)

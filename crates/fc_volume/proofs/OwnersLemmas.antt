@@ -128,10 +128,13 @@ module _ (tree : Numbers) (layout : Layout) (listings : List Listing) (held : Ho
       let long = sectors_long layout o.entry.address (object_size (dir_form layout) o.entry) o.sectors (all_get (IsAt layout) (objects_of listings) i o at is) in
       let dir : has.holder_number ≡ unwrap_or (number_of (nodes_of tree) (holder o.path)) 0 = sym (ap (λ n. unwrap_or n 0) has.at_holder) in
       let own : i ≡ unwrap_or (number_of (nodes_of tree) o.path) 0 = sym (ap (λ n. unwrap_or n 0) number) in
-      let first : Owner = owner_of (nodes_of tree) layout o in
-      (_, ap (get (nodes_of tree)) (sym same) ∙ has.is,
-      ap₂ (λ (a b : ℕ). record first { dir = a; node = b; sectors = div_ceil (object_size (dir_form layout) o.entry) (sector_bytes layout) }) dir own
-      ∙ ap (λ (n : ℕ). record first { sectors = n }) (sym long), sym long)
+      let first : Owner = owner_of (nodes_of tree) layout o in (
+        _,
+        ap (get (nodes_of tree)) (sym same) ∙ has.is,
+        ap₂ (λ (a b : ℕ). record first { dir = a; node = b; sectors = div_ceil (object_size (dir_form layout) o.entry) (sector_bytes layout) }) dir own
+            ∙ ap (λ (n : ℕ). record first { sectors = n }) (sym long),
+        sym long,
+      )
 
   abbrev object_owner : Object → List Owner
   object_owner o = cond (has_sectors o) (owner_of (nodes_of tree) layout o ∷ []) []

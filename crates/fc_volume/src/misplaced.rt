@@ -23,6 +23,7 @@ use fc_zone::{Run, RunKind};
 
 /// The byte at which a boot block begins, and its bytes.
 const BOOT_BLOCK: u64 = 0xC00;
+
 const BOOT_BYTES: u64 = 512;
 
 /// No sectors.
@@ -55,7 +56,10 @@ pub fn reserved_rows(kind: &Kind, space: &Space) -> [Extent; 2]
             let sectors = if map.sector_units() == 4 { 1 } else { 2 };
             [Extent { first: 0, sectors }, NONE]
         }
-        Space::NewMapped(map) => [map_row(map), boot_row(kind, u64::from(map.geometry().sector))],
+        Space::NewMapped(map) => [
+            map_row(map),
+            boot_row(kind, u64::from(map.geometry().sector)),
+        ],
     }
 }
 

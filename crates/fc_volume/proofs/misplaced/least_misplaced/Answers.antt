@@ -14,8 +14,7 @@ loop-z-preserved c =
     let before = c.loop-z.invariant in
     let p : ZoneRun = (c.in-Some.z, c.in-Some.run') in
     let r = c.in-Some.ensures.value before.1 before.3 in
-    let g = c.args.map.now.geometry in
-    (
+    let g = c.args.map.now.geometry in (
       before.0 ++ p ∷ [],
       r.0,
       before.2 ∙ ap (λ (l : List ZoneRun). before.0 ++ l) r.1.0 ∙ sym (append_assoc before.0 (p ∷ []) r.0),

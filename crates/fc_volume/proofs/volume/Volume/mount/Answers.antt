@@ -74,8 +74,7 @@ returns-in-Ok-volume_of-clause-stands g c =
           let found = c.in-Ok.ensures.found image before in
           let map = c.in-Ok-read_map.ensures.found image shaped in
           let here = map ∙ ap (λ (s : Space). let r : Result MapAndRoot ImageFault = Ok (layout_of s, c.in-Ok-read_map.found.root, c.in-Ok-read_map.found.root_size) in r) (sym space) in
-          let read = c.read_map.ensures.reads.bytes ∙ shaped in
-          (
+          let read = c.read_map.ensures.reads.bytes ∙ shaped in (
             kind,
             view kind _ _ (parts_of v) _ m,
             record { kind_right = c.in-Ok.ensures.kind; opened = opens_as kind _ _ (parts_of v) _ m c.opens.ensures image read (c.in-Ok.ensures.fits image before) found.1 here },

@@ -1,0 +1,141 @@
+"""Runs of fcore beside the answers over single images: words, scripts, lines that are refused, fresh volumes, what isn't built."""
+from filecore import BAD_COMMAND, BAD_NAME, IS_DIRECTORY, NOT_DIRECTORY, NOT_FOUND
+from volumes import FRESH
+
+SCRIPT_LIMIT = 1 << 24
+ZEROS = "00000000 00000000"
+
+
+class Case:
+    """A run: its words, the script, and what has to come. `made`: the new image and the file that it has to equal."""
+
+    def __init__(self, name, words, script, status, answer="", made=None, absent=None):
+        self.name, self.words, self.status, self.answer = name, words, status, answer
+        self.script = script if isinstance(script, bytes) else script.encode()
+        self.made, self.absent = made, absent
+
+    def image(self):
+        """The image, where the words name one alone or with --read-only."""
+        rest = [word for word in self.words if word not in ("--read-only", "--")]
+        return rest[0] if len(rest) == 1 and not rest[0].startswith("-") else None
+
+
+def lines_case(name, image, pairs, words=()):
+    """Lines with their replies, in one script."""
+    pairs = list(pairs)
+    status = int(any(reply.startswith("error ") and reply.count("\n") == 1 for line, reply in pairs))
+    script = "".join(line + "\n" for line, reply in pairs)
+    return Case(name, [*words, image], script, status, "".join(reply for line, reply in pairs))
+
+
+# ---- lines
+
+WRONG_LINES = [
+    "lod $", "LOAD $", "cat", "cat ", " cat $", "cat  $", "cat $ ", "cat $ $", "cat\t$", "cat $\r", "free $", "check all", "load",
+    "digest", "\x7f", "caf\u00e9", "save $.A 0 0 -", f"save $.A {ZEROS}", f"save $.A {ZEROS} 123", f"save $.A {ZEROS} 0g",
+    f"save $.A {ZEROS} --", f"create $.A {ZEROS} 01", f"create $.A {ZEROS} 4294967296", f"create $.A {ZEROS} -1",
+    f"set $.A {ZEROS} WR", f"set $.A {ZEROS} RR", f"set $.A {ZEROS} r", f"set $.A {ZEROS}", "rename $.A", "delete", "cdir $.A $.B",
+    "compact $", "reclaim $", "load x $", "lod x",
+]
+WRONG_PATHS = [
+    "Hello", "$Hello", "$.", "$..A", "$.A.", "$.A%", "$.A%2", "$.A%zz", "$.%1F", "$.%00", "$.a:b", "$.a*", "$.&", "@", "$.$",
+    "$." + "n" * 256, "$.a|b", '$."',
+]
+
+
+def grammar():
+    hello = "48656c6c6f\nok\n"
+    yield lines_case("wrong-lines", "hello.adf", [(line, BAD_COMMAND) for line in WRONG_LINES])
+    yield lines_case("wrong-paths", "hello.adf", [("load " + path, BAD_NAME) for path in WRONG_PATHS])
+    yield lines_case("wrong-paths-of-changes", "hello.adf", [
+        ("delete $.", BAD_NAME), ("cdir A", BAD_NAME), ("rename $.A B", BAD_NAME), ("rename A $.B", BAD_NAME),
+        (f"save $. {ZEROS} -", BAD_NAME), (f"create % {ZEROS} 1", BAD_NAME), (f"set x {ZEROS} RWL", BAD_NAME)])
+    yield lines_case("spelled-paths", "hello.adf", [
+        ("load $.hello", hello), ("load $.%48%65LLO", hello), ("load $.%48%65%6c%6C%6f", hello), ("load $.%20", NOT_FOUND),
+        ("load $." + "n" * 255, NOT_FOUND), ("load $.None.Deeper", NOT_FOUND), ("load $.Hello.X.Y", NOT_DIRECTORY),
+        ("cat $.Hello", NOT_DIRECTORY), ("load $", IS_DIRECTORY), ("digest $", IS_DIRECTORY), ("load $.%7F", NOT_FOUND)])
+    yield Case("comments", ["hello.adf"], b"\n# a line \xff\r\n\n#compact\nload $.hello\n\n#", 0, hello)
+    yield Case("last-line-without-end", ["hello.adf"], "load $.hello", 0, hello)
+    yield Case("byte-0", ["hello.adf"], b"free\0\n", 1, BAD_COMMAND)
+    yield Case("empty-script", ["hello.adf"], "", 0)
+    yield lines_case("read-only", "hello.adf", [("load $.hello", hello)], ["--read-only"])
+    yield Case("may-not-be-written", ["locked.adf"], "load $.hello\n", 0, hello)
+
+
+def long_scripts():
+    yield Case("longest-script", ["hello.adf"], b"\n" * SCRIPT_LIMIT, 0)
+    yield Case("script-too-long", ["hello.adf"], b"\n" * (SCRIPT_LIMIT + 1), 8)
+    yield Case("script-too-long-no-image", ["nothing.adf"], b"compact\n".ljust(SCRIPT_LIMIT + 1, b"\n"), 8)
+
+
+# ---- what isn't built yet: status 9 before anything is attached
+
+CHANGES = [
+    f"save $.A {ZEROS} -", f"save $.A {ZEROS} 4142", f"save $.A%20B fffff000 FFFFF000 aA", f"create $.A {ZEROS} 0",
+    f"create $.A {ZEROS} 4294967295", "cdir $.D", "delete $.Hello", "delete $", "rename $.Hello $.B", "rename $ $",
+    f"set $.Hello {ZEROS} -", f"set $.Hello {ZEROS} RWL", f"set $.Hello {ZEROS} L", "compact", "reclaim",
+]
+
+
+def unbuilt():
+    for at, line in enumerate(CHANGES):
+        yield Case("change-%d" % at, ["hello.adf"], "load $.hello\n" + line + "\n", 9)
+    yield Case("change-without-end", ["hello.adf"], "lod\ncompact", 9)
+    yield Case("change-no-image", ["nothing.adf"], "delete $.A\n", 9)
+    yield Case("change-bad-image", ["zeros.adf"], "compact\n", 9)
+    yield Case("change-read-only", ["--read-only", "hello.adf"], "compact\n", 9)
+    for at, words in enumerate((["--demo", "5"], ["--demo=10000"], ["--safe"], ["--safe", "--demo", "1"])):
+        yield Case("option-%d" % at, [*words, "hello.adf"], "load $.hello\n", 9)
+        yield Case("option-%d-no-image" % at, ["nothing.adf", *words], "", 9)
+    yield Case("new-and-change", ["--new", "E", "unmade.adf"], "free\ncompact\n", 9, absent="unmade.adf")
+    yield Case("new-and-safe", ["--new", "E+", "--safe", "unmade.adf"], "free\n", 9, absent="unmade.adf")
+    yield Case("new-and-demo", ["--new", "F", "--demo", "3", "unmade.adf"], "", 9, absent="unmade.adf")
+
+
+# ---- words
+
+BAD_WORDS = [
+    [], [""], ["--help", "hello.adf"], ["-h", "hello.adf"], ["--version"], ["hello.adf", "other.adf"], ["--new"], ["--new", "E"],
+    ["--new", "G", "x.adf"], ["--new", "e", "x.adf"], ["--new=", "x.adf"], ["--new", "E", "--new", "E", "x.adf"],
+    ["--demo", "0", "hello.adf"], ["--demo", "01", "hello.adf"], ["--demo", "10001", "hello.adf"], ["--demo", "x", "hello.adf"],
+    ["--demo", "-1", "hello.adf"], ["--read-only", "--read-only", "hello.adf"], ["--read-only=1", "hello.adf"],
+    ["--read", "hello.adf"], ["-r", "hello.adf"], ["--safe", "--safe", "hello.adf"], ["--"],
+]
+
+
+def words():
+    for at, one in enumerate(BAD_WORDS):
+        yield Case("words-%d" % at, one, "load $.hello\n", 2)
+    found = "48656c6c6f\nok\n"
+    yield Case("option-behind", ["hello.adf", "--read-only"], "load $.hello\n", 0, found)
+    yield Case("behind-dashes", ["--", "hello.adf"], "load $.hello\n", 0, found)
+    yield Case("option-and-dashes", ["--read-only", "--", "hello.adf"], "load $.hello\n", 0, found)
+    yield Case("in-a-folder", ["a folder/hello.adf"], "load $.hello\n", 0, found)
+    yield Case("another-letter", ["h\u00e9llo.adf"], "load $.hello\n", 0, found)
+    yield Case("no-such-folder", ["nowhere/hello.adf"], "load $.hello\n", 12)
+    yield Case("no-such-image", ["nothing.adf"], "load $.hello\n", 12)
+    yield Case("image-of-a-dash", ["-"], "load $.hello\n", 12)
+    yield Case("option-behind-dashes", ["--", "--safe"], "load $.hello\n", 12)
+
+
+# ---- fresh volumes
+
+
+def fresh():
+    for form, make in FRESH.items():
+        volume = make()
+        reference = "fresh-%s.adf" % form
+        script = "free\ncheck\ncat $\nload $\ncat $.None\n"
+        answer = volume.free_line() + "ok\n" + volume.check_line() + "ok\nok\n" + IS_DIRECTORY + NOT_FOUND
+        made = "new-%s.adf" % form
+        yield Case("new-" + form, ["--new", form, made], script, 1, answer, made=(made, reference))
+        yield Case("again-" + form, [made], "free\n", 0, volume.free_line() + "ok\n")
+        yield Case("there-already-" + form, ["--new", form, made], "free\n", 12, made=(made, reference))
+        made = "silent-%s.adf" % form
+        yield Case("new-silent-" + form, ["--read-only", made, "--new=" + form], "", 0, made=(made, reference))
+    yield Case("new-script-too-long", ["--new", "E", "unmade.adf"], b"\n" * (SCRIPT_LIMIT + 1), 8, absent="unmade.adf")
+
+
+def all_cases():
+    for group in (grammar, long_scripts, unbuilt, words, fresh):
+        yield from group()
