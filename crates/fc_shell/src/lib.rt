@@ -52,6 +52,8 @@ fn run_script<D: Disk, K: Sink>(
     ensures unwritten { asked.now.new ≡ None → IsUnwritten D.Disk disk.old disk.new }
     ensures made { (result ≡ End.Done) ⊎ (result ≡ End.Refused) → D.bytes disk.new ≡ option_map (image_for asked.now.new) (D.bytes disk.old) }
     ensures settled { (result ≡ End.Done) ⊎ (result ≡ End.Refused) → IsFalse (D.pending disk.new) }
+    ensures no_memory { result ≡ End.NoMemory
+        → (disk.new ≡ disk.old) ⊎ ((D.bytes disk.new ≡ option_map (image_for asked.now.new) (D.bytes disk.old)) × IsFalse (D.pending disk.new)) }
     ensures ended { (is_late result ≡ true) ⊎ ((result ≡ End.NoImage) ⊎ (result ≡ End.NotBuilt)) }
 {
     match has_unbuilt(alloc, script) {
@@ -83,6 +85,8 @@ fn run_request<D: Disk, S: Source, K: Sink>(
     ensures unwritten { asked.now.new ≡ None → IsUnwritten D.Disk disk.old disk.new }
     ensures made { (result ≡ End.Done) ⊎ (result ≡ End.Refused) → D.bytes disk.new ≡ option_map (image_for asked.now.new) (D.bytes disk.old) }
     ensures settled { (result ≡ End.Done) ⊎ (result ≡ End.Refused) → IsFalse (D.pending disk.new) }
+    ensures no_memory { result ≡ End.NoMemory
+        → (disk.new ≡ disk.old) ⊎ ((D.bytes disk.new ≡ option_map (image_for asked.now.new) (D.bytes disk.old)) × IsFalse (D.pending disk.new)) }
     ensures script_end { (result ≡ End.Done) ⊎ (result ≡ End.Refused) → ForSome (S.left script.new) (λ rest. rest ≡ []) }
     ensures good_words { result ≢ End.BadWords }
 {
@@ -138,6 +142,8 @@ pub fn run<D: Disk, S: Source, K: Sink>(
     ensures made { (r : Request) → request_of (map string_bytes words.now.items) ≡ Some r → (result ≡ End.Done) ⊎ (result ≡ End.Refused)
         → D.bytes disk.new ≡ option_map (image_for r.new) (D.bytes disk.old) }
     ensures settled { (result ≡ End.Done) ⊎ (result ≡ End.Refused) → IsFalse (D.pending disk.new) }
+    ensures no_memory { (r : Request) → request_of (map string_bytes words.now.items) ≡ Some r → result ≡ End.NoMemory
+        → (disk.new ≡ disk.old) ⊎ ((D.bytes disk.new ≡ option_map (image_for r.new) (D.bytes disk.old)) × IsFalse (D.pending disk.new)) }
     ensures script_end { (result ≡ End.Done) ⊎ (result ≡ End.Refused) → ForSome (S.left script.new) (λ rest. rest ≡ []) }
 {
     match read_words(alloc, words) {

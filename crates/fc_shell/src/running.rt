@@ -104,6 +104,7 @@ fn answer_image<D: Disk, K: Sink>(
     ensures out_cause { result ≡ End.OutFault → Rose (K.faults out.old) (K.faults out.new) }
     ensures late { is_late result ≡ true }
 {
+    // A law, for the proof alone: an image that is accepted opens as its own kind.
     fc_image::accepted();
     match Volume::mount(alloc, disk, read_only) {
         Ok(volume) => end_of(serve(alloc, &volume, disk, out, script)),
@@ -179,6 +180,7 @@ pub fn answer_script<D: Disk, K: Sink>(
     ensures unwritten { asked.now.new ≡ None → IsUnwritten D.Disk disk.old disk.new }
     ensures made { (result ≡ End.Done) ⊎ (result ≡ End.Refused) → D.bytes disk.new ≡ option_map (image_for asked.now.new) (D.bytes disk.old) }
     ensures settled { (result ≡ End.Done) ⊎ (result ≡ End.Refused) → IsFalse (D.pending disk.new) }
+    ensures no_memory { result ≡ End.NoMemory → (D.bytes disk.new ≡ option_map (image_for asked.now.new) (D.bytes disk.old)) × IsFalse (D.pending disk.new) }
     ensures disk_cause { result ≡ End.DiskFault → Rose (D.faults disk.old) (D.faults disk.new) }
     ensures out_cause { result ≡ End.OutFault → Rose (K.faults out.old) (K.faults out.new) }
     ensures no_image { result ≡ End.NoImage → IsUntouched D.attached D.pending D.tells_stops D.gives D.bytes D.sectors D.sector_size D.image_length D.moment D.faults disk.old disk.new }
