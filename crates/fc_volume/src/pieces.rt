@@ -15,6 +15,9 @@ use fc_device::{Disk, DiskFault, Extent, NoMemory};
 use fc_space::PlaceError;
 use std::alloc::Global;
 
+#[cfg(test)]
+mod tests;
+
 // The bytes of the largest sectors.
 const LARGEST: usize = 1024;
 
