@@ -1,4 +1,4 @@
-use Rattle.std.proofs.Common.{◌<◌, ℕ, sym, ap, subst, arith}
+use Rattle.std.proofs.Common.{sym, ap, subst, arith}
 use Rattle.fc_image.specs.Layout.{Layout}
 use Rattle.fc_space.specs.Space.{PlacesSuffice, layout_of}
 use Rattle.fc_space.proofs.NthLemmas.{new_places, old_places}
