@@ -1,10 +1,11 @@
 -- The sectors of places, one by one.
 use Rattle.std.proofs.Common.{◌≡◌, ◌<◌, ◌≤◌, ℕ, zero, suc, ◌+◌, ◌-◌, ◌*◌, ◌/◌, ◌%◌, ◌^◌, ◌⊎◌, inl, inr, Bool, true, false, List, [], ◌∷◌, ◌++◌, length, take, drop, Option, Some, None, refl, sym, ap, ◌∙◌, subst, arith}
-use Rattle.std.specs.Prelude.{nat_le, ◌==◌, ◌&&◌, ◌||◌, if◌then◌else◌, slice_get, is_some}
+use Rattle.std.specs.Prelude.{nat_le, ◌==◌, ◌&&◌, ◌||◌, if◌then◌else◌, get_or, slice_get, is_some}
 use Rattle.std.specs.List.{range_with_len}
 use Rattle.std.specs.Option.{IsSome, option_and_then}
 use Rattle.std.specs.Int.{div_ceil}
-use Rattle.std.proofs.lemmas.Bool.{eq-eqb, eqb-true, leb-true}
+use Rattle.std.proofs.Math.Nat.{div-mul-le_self}
+use Rattle.std.proofs.lemmas.Bool.{cases_lt, eq-eqb, eqb-true, leb-true}
 use Rattle.std.proofs.lemmas.Grind.{div_ceil_times}
 use Rattle.std.proofs.lemmas.Nat.{mul-le}
 use Rattle.std.proofs.lemmas.List.{length-take-le}
@@ -17,7 +18,7 @@ use Rattle.fc_newmap.specs.Map.{Map, ZoneRun, extent_of, run_sectors, sectors_of
 use Rattle.fc_newmap.specs.NewMap.{IsNewMap}
 use Rattle.fc_newmap.specs.Walk.{StandsAt}
 use Rattle.fc_newmap.proofs.HeldLemmas.{geometry_facts}
-use Rattle.fc_image.specs.Layout.{Layout, disc_sectors, first_part, id_of, id_sectors, is_among, is_object_id, low_of, low_start, new_sectors, old_sectors, sectors_at, some_sectors}
+use Rattle.fc_image.specs.Layout.{Layout, disc_sectors, first_part, id_of, id_sectors, is_among, is_object_id, low_of, low_start, new_sectors, old_sectors, sector_bytes, sectors_at, some_sectors}
 use Rattle.fc_space.specs.Space.{PlacesSuffice, Suffice, nth_sector}
 use Rattle.fc_space.proofs.DiscLemmas.{first_is, id_on_disc, old_suffice, part_suffices}
 use Rattle.fc_space.proofs.SearchLemmas.{IsNextOf}
@@ -258,3 +259,18 @@ old_places space units address bytes sectors e = elim (either_way (Layout.Old sp
       let part = old_part space address bytes sectors some in
       old_suffice space bytes (address / space.sector_units) (div_ceil bytes (256 * space.sector_units)) sectors units part.1 refl part.0)
 ]
+
+-- a place in bytes that have one lies in one of their sectors
+pub sector_there : (layout : Layout) (address len size at : ℕ) (sectors : List ℕ) → sectors_at layout address len ≡ Some sectors → PlacesSuffice layout → size ≡ sector_bytes layout → at < len
+    → IsSome (nth_sector layout address len (at / size))
+sector_there layout address len size at sectors e suffice is within =
+    let s = suffice address len sectors e in
+    let room : len ≤ length sectors * size = subst (λ (n : ℕ). len ≤ length sectors * n) (sym is) s.room in
+    let below = div-mul-le_self at size in
+    let less : at / size < length sectors = elim (cases_lt (at / size) (length sectors)) [
+      | inl low ↦ low
+      | inr high ↦ absurd (let more = mul-le (length sectors) size (at / size) size (omega (arith, high)) (omega arith) in omega (arith, more, below, room, within))
+    ] in
+    let there : nth_sector layout address len (at / size) ≡ Some (get_or sectors (at / size) 0) =
+    ap (option_and_then (λ (xs : List ℕ). slice_get xs (at / size))) e ∙ slice_get-get_or sectors (at / size) 0 less in
+    ap is_some there

@@ -3,6 +3,7 @@ ghost use Rattle.std.specs.Prelude.{◌≡◌, length};
 
 use crate::{PlaceError, Space};
 use fc_device::Extent;
+use fc_names::NameForm;
 use fc_newmap::NewMap;
 use fc_oldmap::OldMap;
 use fc_record::measures::geometry;
@@ -146,6 +147,45 @@ fn wrong_outside(alloc: Global, space: &Space, rows: &[(u32, u64)]) -> Option<us
     })
 }
 
+// The disc's number of the sector in which byte `at` of the bytes at an address lies, if they have a place and that byte.
+fn sector_at(alloc: Global, space: &Space, address: u32, bytes: u64, at: u64) -> Option<u64> {
+    let Ok(_) = space.place_of(alloc, address, bytes) else {
+        return None;
+    };
+    if at >= bytes || space.sector_bytes() != 1024 {
+        return None;
+    }
+    space.places_suffice();
+    Some(space.sector_of(address, bytes, at / 1024))
+}
+
+#[test]
+fn finds_sectors(rt: HostRuntime) -> Result<(), Fail> {
+    let alloc = rt.alloc();
+    let Some(f) = new_space(alloc, FRESH_F, 4) else {
+        return Err("an F".into());
+    };
+    let Some(d) = old_space(FRESH_D) else {
+        return Err("a D".into());
+    };
+    for (at, sector) in [
+        (0, Some(794)),
+        (1023, Some(794)),
+        (1024, Some(795)),
+        (10239, Some(803)),
+        (10240, Some(0)),
+        (14335, Some(3)),
+        (14336, None),
+    ] {
+        assert_eq!(rt; sector_at(alloc, &f, 0x200, 14336, at), sector);
+    }
+    assert_eq!(rt; sector_at(alloc, &f, 0x20a, 2049, 0), Some(803));
+    assert_eq!(rt; sector_at(alloc, &f, 0x20a, 2049, 2048), Some(1));
+    assert_eq!(rt; sector_at(alloc, &d, 4, 2048, 1024), Some(2));
+    assert_eq!(rt; sector_at(alloc, &d, 5, 0, 0), None);
+    Ok(())
+}
+
 #[test]
 fn finds_places(rt: HostRuntime) -> Result<(), Fail> {
     let alloc = rt.alloc();
@@ -167,5 +207,9 @@ fn finds_places(rt: HostRuntime) -> Result<(), Fail> {
     };
     assert_eq!(rt; wrong_row(alloc, &d, ROWS_D), None);
     assert_eq!(rt; wrong_outside(alloc, &d, OUTSIDE_D), None);
+    for (space, sectors) in [(&e, 800), (&f, 1600), (&d, 800)] {
+        assert!(rt; space.disc_sectors() == sectors && space.sector_bytes() == 1024);
+        assert!(rt; space.dir_form() == NameForm::Ten);
+    }
     Ok(())
 }

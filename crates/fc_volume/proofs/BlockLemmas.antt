@@ -1,6 +1,6 @@
 -- Bytes of objects: as many as their entries say, and those of one sector.
-use Rattle.std.proofs.Common.{◌≡◌, ◌<◌, ◌≤◌, ℕ, zero, suc, ◌+◌, ◌-◌, ◌*◌, ◌/◌, ◌%◌, Bool, true, false, List, [], ◌∷◌, ◌++◌, length, take, drop, Option, Some, None, refl, sym, ap, ap₂, subst, ◌∙◌, arith, eqb-true, length-append, length-drop}
-use Rattle.std.specs.Prelude.{◌&&◌, ◌||◌, ◌==◌, slice_get, Result, Ok, Err}
+use Rattle.std.proofs.Common.{◌≡◌, ◌<◌, ◌≤◌, ℕ, zero, suc, ◌+◌, ◌-◌, ◌*◌, ◌/◌, Bool, true, false, List, [], ◌∷◌, ◌++◌, length, take, drop, Option, Some, None, refl, sym, ap, subst, ◌∙◌, arith, eqb-true, length-append, length-drop}
+use Rattle.std.specs.Prelude.{◌&&◌, ◌||◌, ◌==◌, slice_get, Result, Ok}
 use Rattle.std.specs.List.{flat_map}
 use Rattle.std.proofs.Math.Nat.{div-mul-le_self}
 use Rattle.std.proofs.Math.Seq.{drop-append-add}
@@ -14,7 +14,6 @@ use Rattle.fc_record.specs.declared.Kind.TheVariants.{Boot, OneZone, DiscD, Disc
 use Rattle.fc_record.specs.declared.DiscRecord.{DiscRecord}
 use Rattle.fc_record.specs.Record.{geometry}
 use Rattle.fc_record.specs.Kinds.{disc_size, fits_kind, is_old_map, old_units}
-use Rattle.fc_record.specs.Kinds.{is_one_zone}
 use Rattle.std.specs.Int.{is_in_range}
 use Rattle.fc_oldmap.specs.OldMap.{free_space, hole_fault}
 use Rattle.fc_newmap.proofs.PlaceLemmas.{in_back}

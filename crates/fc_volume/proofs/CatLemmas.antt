@@ -6,13 +6,12 @@ use Rattle.fc_names.specs.declared.refusal.Refusal.{Refusal}
 use Rattle.fc_names.specs.Names.{Path}
 use Rattle.fc_record.specs.declared.Kind.{Kind}
 use Rattle.fc_dirs.specs.declared.Entry.{Entry}
-use Rattle.fc_dirs.specs.Directory.{entries_of}
 use Rattle.fc_model.specs.Command.{Command}
 use Rattle.fc_model.specs.Answer.{answer}
 use Rattle.fc_model.specs.Tree.{Tree, Node as ModelNode, Body as ModelBody, children}
 use Rattle.fc_image.specs.Layout.{Layout, dir_form}
-use Rattle.fc_image.specs.Walk.{Object, Listing, is_directory_object, object_bytes}
-use Rattle.fc_image.specs.Objects.{objects_of, node_of, tree_of}
+use Rattle.fc_image.specs.Walk.{Object, is_directory_object, object_bytes}
+use Rattle.fc_image.specs.Objects.{node_of, tree_of}
 use Rattle.fc_image.specs.Opening.{Opened}
 use Rattle.fc_image.specs.Stays.{OpensAs}
 use Rattle.fc_space.specs.Space.{PlacesSuffice}
@@ -28,7 +27,7 @@ use Rattle.fc_volume.specs.declared.lines.CommandError.TheVariants.{Refused, NoM
 use Rattle.fc_volume.specs.declared.lines.Line.{Line}
 use Rattle.fc_volume.specs.declared.lines.Listed.TheVariants as lists
 use Rattle.fc_volume.specs.Answers.{IsRefusalOf, line_in, lines_in, listed_in}
-use Rattle.fc_volume.specs.Reading.{AreLines, entries_at, line_of, listed_of}
+use Rattle.fc_volume.specs.Reading.{AreLines, entries_at, line_of}
 use Rattle.fc_volume.specs.Volume.{Volume, parts_of}
 use Rattle.fc_volume.proofs.BlockLemmas.{image_long, object_long}
 use Rattle.fc_volume.proofs.ReadingLemmas.{CatIs, IsRefused, cat_is, cat_refuses, each_at, size_of}
@@ -78,9 +77,9 @@ module _ (image : List ℕ) (kind : Kind) (view : Opened) (opens : OpensAs image
       let listed = listed_by (λ o. line_of o.entry) (λ l. l.name) (λ o. refl) image view.layout view.listings d.0 path lines sound d.1 d.2
       (subst (λ (ls : List Line). IsPermutation ls lines) told are.all) are.sorted in
       let same = map_same (λ (o : Object). line_in (node_of image view.layout o)) (λ (o : Object). line_of o.entry) listed.0 (λ o at. (
-          let child = child_is_object view.layout view.listings sound d.0 o d.1 (Contains-permutation listed.0 d.0.children o (IsPermutation-sym d.0.children listed.0 listed.1) at) in
-          let placed = each_at view.layout view.listings sound o child in
-          line_same image view.layout o (λ file. object_long image view.layout o suffice placed (image_long image kind view opens) ∙ size_of view.layout o file))) in (
+      let child = child_is_object view.layout view.listings sound d.0 o d.1 (Contains-permutation listed.0 d.0.children o (IsPermutation-sym d.0.children listed.0 listed.1) at) in
+      let placed = each_at view.layout view.listings sound o child in
+      line_same image view.layout o (λ file. object_long image view.layout o suffice placed (image_long image kind view opens) ∙ size_of view.layout o file))) in (
         d.4,
         sym (sym (map_twice line_in (λ (e : Path × ModelNode). e.1) (children tree path)) ∙ ap (map line_in) listed.3 ∙ map_twice line_in (node_of image view.layout) listed.0 ∙ same ∙ listed.2),
       )
@@ -101,9 +100,9 @@ module _ {X : Type 0} (items : X → List Line) (result : Result X CommandError)
     (failed : IfErr result (λ (error : CommandError). (error ≡ NoMemory) ⊎ (entries_at (nodes_of t) path ≡ Err error))) where
   pub cat_answers : (image : List ℕ) (kind : Kind) (view : Opened) → OpensAs image kind view → ArePartsOf (parts_of v) view → (layout : Layout) → layout ≡ (parts_of v).layout → PlacesSuffice layout
       → MatchResult result
-          (λ (lines : X). (answer (tree_of image view.layout view.listings) (dir_form view.layout) v.read_only (Command.Cat path) ≡ Ok (tree_of image view.layout view.listings))
-              × (items lines ≡ lines_in (tree_of image view.layout view.listings) path))
-          (IsRefusalOf (answer (tree_of image view.layout view.listings) (dir_form view.layout) v.read_only (Command.Cat path)))
+      (λ (lines : X). (answer (tree_of image view.layout view.listings) (dir_form view.layout) v.read_only (Command.Cat path) ≡ Ok (tree_of image view.layout view.listings))
+      × (items lines ≡ lines_in (tree_of image view.layout view.listings) path))
+      (IsRefusalOf (answer (tree_of image view.layout view.listings) (dir_form view.layout) v.read_only (Command.Cat path)))
   cat_answers image kind view opens parts layout is suffice =
       matched result _ _ _ _ listed failed
       (λ lines a. cat_lists image kind view opens v path parts (subst (λ (l : Layout). PlacesSuffice l) (is ∙ parts.layout) suffice) a.0 (items lines)

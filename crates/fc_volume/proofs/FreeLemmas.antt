@@ -1,5 +1,5 @@
 -- Free space: sums over the holes of a map, which numbers of 64 bits hold.
-use Rattle.std.proofs.Common.{◌≡◌, ◌<◌, ◌≤◌, ℕ, zero, suc, ◌+◌, ◌-◌, ◌*◌, ◌^◌, ◌==◌, max, Bool, true, false, cond, List, [], ◌∷◌, ◌++◌, refl, sym, ap, subst, ◌∙◌, arith, inl, inr, sum_by}
+use Rattle.std.proofs.Common.{◌≡◌, ◌<◌, ◌≤◌, ℕ, zero, suc, ◌+◌, ◌-◌, ◌*◌, ◌^◌, ◌==◌, max, Bool, true, false, cond, List, [], ◌∷◌, refl, sym, subst, arith}
 use Rattle.std.specs.Prelude.{filter}
 use Rattle.std.specs.List.{fold, range_with_len}
 use Rattle.std.proofs.lemmas.Bool.{eqb-true}
@@ -8,14 +8,14 @@ use Rattle.std.proofs.lemmas.List.Sums.{sum_by-cons, sum_by-append}
 use native.Mathlib.Nat.{mul_assoc}
 use Rattle.fc_bytes.specs.Bits.{bits}
 use Rattle.fc_record.specs.declared.Geometry.{Geometry}
-use Rattle.fc_record.specs.Record.{base, end_bit, first_bit, zone_start}
+use Rattle.fc_record.specs.Record.{end_bit, first_bit, zone_start}
 use Rattle.fc_oldmap.specs.declared.Hole.{Hole}
 use Rattle.fc_oldmap.specs.Holes.{AreHoles, hole_end, hole_sum}
 use Rattle.fc_zone.specs.declared.Run.{Run}
 use Rattle.fc_zone.specs.Zone.{Spells}
 use Rattle.fc_newmap.specs.Map.{Map, ZoneRun, all_runs, bits_in, hole_runs, is_hole, longest, runs_in, runs_of, sector_of, shape}
 use Rattle.fc_newmap.specs.NewMap.{IsNewMap, IsOfRecord}
-use Rattle.fc_newmap.specs.RunsLaw.{HasZones, placed}
+use Rattle.fc_newmap.specs.RunsLaw.{placed}
 use Rattle.fc_newmap.proofs.GeometryLemmas.{facts_of_valid, zone_within}
 use Rattle.fc_newmap.proofs.HeldLemmas.{geometry_facts}
 

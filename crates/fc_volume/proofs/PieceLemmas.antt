@@ -1,9 +1,9 @@
 -- Where files lie, and their bytes, piece by piece.
-use Rattle.std.proofs.Common.{◌≡◌, ◌<◌, ◌≤◌, ℕ, ◌+◌, ◌-◌, ◌*◌, ◌/◌, ◌%◌, min, Bool, true, false, List, [], ◌∷◌, ◌++◌, length, take, drop, Option, Some, None, nat_cmp, refl, sym, ap, ap₂, subst, ◌∙◌, arith, inl, inr, ◌⊎◌}
-use Rattle.std.specs.Prelude.{All, Contains, slice_get, is_some, option_map}
+use Rattle.std.proofs.Common.{◌≡◌, ◌<◌, ◌≤◌, ℕ, ◌+◌, ◌*◌, ◌/◌, ◌%◌, true, false, List, [], ◌∷◌, ◌++◌, length, take, drop, Option, Some, None, sym, ap, subst, ◌∙◌, arith, inl, inr}
+use Rattle.std.specs.Prelude.{All, slice_get, is_some, option_map}
 use Rattle.std.specs.List.{flat_map}
 use Rattle.std.specs.Option.{IsSome, option_and_then, option_map_or, unwrap_or}
-use Rattle.std.specs.FinMap.{FinMap, get}
+use Rattle.std.specs.FinMap.{get}
 use Rattle.std.proofs.Math.Nat.{div-mul-le_self}
 use Rattle.std.proofs.lemmas.Bool.{cases_lt}
 use Rattle.std.proofs.lemmas.Nat.{div-add-mod', mul-le}
@@ -19,13 +19,12 @@ use Rattle.fc_names.specs.Names.{is_directory}
 use Rattle.fc_dirs.specs.declared.Entry.{Entry}
 use Rattle.fc_newmap.proofs.PlaceLemmas.{in_back}
 use Rattle.fc_image.specs.Layout.{Layout, bytes_in, disc_sectors, is_among, sector_bytes, sectors_at}
-use Rattle.fc_image.specs.Walk.{Object, is_directory_object}
-use Rattle.fc_image.specs.Objects.{objects_of}
+use Rattle.fc_image.specs.Walk.{is_directory_object}
 use Rattle.fc_image.specs.Opening.{reserved_in}
 use Rattle.fc_space.specs.Space.{PlacesSuffice, Suffice, nth_sector}
 use Rattle.fc_space.proofs.NthLemmas.{nth_among, nth_cases}
 use Rattle.fc_tree.specs.declared.node.Node.{Node}
-use Rattle.fc_tree.specs.Nodes.{nodes_of, number_of}
+use Rattle.fc_tree.specs.Nodes.{nodes_of}
 use Rattle.fc_tree.specs.Agree.{Agree, reader_of_nodes}
 use Rattle.fc_tree.specs.Laws.{AreSound}
 use Rattle.fc_tree.proofs.FindLemmas.{object_of_number}
@@ -83,21 +82,6 @@ file_placed v f node agree named g =
     )
 
 -- ---- pieces
-
--- a place in a file lies in one of its sectors
-pub sector_there : (layout : Layout) (address len size at : ℕ) (sectors : List ℕ) → sectors_at layout address len ≡ Some sectors → PlacesSuffice layout → size ≡ sector_bytes layout → at < len
-    → IsSome (nth_sector layout address len (at / size))
-sector_there layout address len size at sectors e suffice is within =
-    let s = suffice address len sectors e in
-    let room : len ≤ length sectors * size = subst (λ (n : ℕ). len ≤ length sectors * n) (sym is) s.room in
-    let below = div-mul-le_self at size in
-    let less : at / size < length sectors = elim (cases_lt (at / size) (length sectors)) [
-      | inl low ↦ low
-      | inr high ↦ absurd (let more = mul-le (length sectors) size (at / size) size (omega (arith, high)) (omega arith) in omega (arith, more, below, room, within))
-    ] in
-    let there : nth_sector layout address len (at / size) ≡ Some (get_or sectors (at / size) 0) =
-    ap (option_and_then (λ (xs : List ℕ). slice_get xs (at / size))) e ∙ slice_get-get_or sectors (at / size) 0 less in
-    ap is_some there
 
 -- the bytes of a file from a place in it on, up to the end of a sector, are those of that sector
 pub piece_bytes : (image : List ℕ) (v : Volume) (f : FileRef) (node : Node) (size at n s : ℕ) → get (nodes_of v.tree) f.node ≡ Some node → f.len ≡ node.entry.len → PlacesSuffice (parts_of v).layout

@@ -1,5 +1,5 @@
 -- What the nodes answer to commands that read is what the model answers.
-use Rattle.std.proofs.Common.{◌≡◌, ◌⊎◌, inl, inr, ⊎_elim, ℕ, Bool, true, false, List, [], ◌∷◌, map, refl, sym, ap, ap₂, subst, ◌∙◌, Option, Some, None, nat_cmp}
+use Rattle.std.proofs.Common.{◌≡◌, ◌⊎◌, inl, inr, ⊎_elim, ℕ, Bool, true, false, List, [], ◌∷◌, refl, sym, ap, ap₂, subst, ◌∙◌, Option, Some, None, nat_cmp}
 use Rattle.std.specs.Prelude.{Contains, not, MatchResult, IfErr, filter, if◌then◌else◌, option_map, Result, Ok, Err}
 use Rattle.std.specs.Option.{option_map_or, unwrap_or}
 use Rattle.std.specs.FinMap.{FinMap, get}
@@ -31,9 +31,9 @@ use Rattle.fc_tree.proofs.FindLemmas.{find_law}
 use Rattle.fc_tree.proofs.MemberLemmas.{contains_cases, contains_here, contains_later, from_map, no_element}
 use Rattle.fc_tree.proofs.SoundLemmas.{listing_of, root_or_child}
 use Rattle.fc_tree.proofs.TreeLemmas.{node_of_object}
-use Rattle.fc_tree.proofs.WalkedLemmas.{contained, directories_listed, follows_each, given, listed_directory, listing_found, place_of, root, same_some, sound_law}
+use Rattle.fc_tree.proofs.WalkedLemmas.{directories_listed, follows_each, given, listed_directory, listing_found, place_of, root, same_some, sound_law}
 use Rattle.fc_volume.specs.declared.lines.CommandError.{CommandError}
-use Rattle.fc_volume.specs.declared.lines.CommandError.TheVariants.{Refused, NoMemory, DiskFault}
+use Rattle.fc_volume.specs.declared.lines.CommandError.TheVariants.{Refused}
 use Rattle.fc_volume.specs.declared.lines.FileRef.{FileRef}
 use Rattle.fc_volume.specs.Answers.{IsRefusalOf, bytes_in_body, bytes_in_node, file_bytes, ref_bytes}
 use Rattle.fc_volume.specs.Volume.{Volume, parts_of}
@@ -261,9 +261,13 @@ module _ (image : List ℕ) (layout : Layout) (listings : List Listing) (nodes :
   cat_body o (Some l) node h at same f =
       let is = listing_of layout listings sound o l at h in
       let dir = listed_directory layout listings sound l is.0 in
-      subst CatIs (sym (entries_body l.content))
-      (l, is.0, subst (λ (p : Object). is_same_path path p.path ≡ true) (sym is.1) same, refl,
-        cat_found tree form read_only path node false f (file_there o true at same (ap is_directory_object (sym is.1) ∙ dir.1)))
+      subst CatIs (sym (entries_body l.content)) (
+        l,
+        is.0,
+        subst (λ (p : Object). is_same_path path p.path ≡ true) (sym is.1) same,
+        refl,
+        cat_found tree form read_only path node false f (file_there o true at same (ap is_directory_object (sym is.1) ∙ dir.1)),
+      )
 
   cat_node : (n : ℕ) (o : Object) (m : Option Node) (node : ModelNode) → get nodes n ≡ m → Contains (objects_of listings) o → is_same_path path o.path ≡ true → number_of nodes o.path ≡ Some n
       → found tree path ≡ Ok node → CatIs (entries_in m)
@@ -330,16 +334,16 @@ cat_refuses nodes path = by (found_in nodes path)
 pub load_answers : (image : List ℕ) (kind : Kind) (view : Opened) → OpensAs image kind view → (v : Volume) (path : Path) (result : Result FileRef CommandError) → ArePartsOf (parts_of v) view
     → result ≡ file_at (nodes_of v.tree) path
     → MatchResult result
-        (λ (f : FileRef). (answer (tree_of image view.layout view.listings) (dir_form view.layout) v.read_only (Command.Load path) ≡ Ok (tree_of image view.layout view.listings))
-            × (bytes_in_node (node_at (tree_of image view.layout view.listings) path) ≡ ref_bytes image v f))
-        (IsRefusalOf (answer (tree_of image view.layout view.listings) (dir_form view.layout) v.read_only (Command.Load path)))
+    (λ (f : FileRef). (answer (tree_of image view.layout view.listings) (dir_form view.layout) v.read_only (Command.Load path) ≡ Ok (tree_of image view.layout view.listings))
+    × (bytes_in_node (node_at (tree_of image view.layout view.listings) path) ≡ ref_bytes image v f))
+    (IsRefusalOf (answer (tree_of image view.layout view.listings) (dir_form view.layout) v.read_only (Command.Load path)))
 load_answers image kind view opens v path result parts e =
     let is = load_is image view.layout view.listings (nodes_of v.tree) (sound_law image kind view opens) parts.nodes (dir_form view.layout) v.read_only path in
     subst (λ (layout : Layout). MatchResult result
-        (λ (f : FileRef). (answer (tree_of image view.layout view.listings) (dir_form view.layout) v.read_only (Command.Load path) ≡ Ok (tree_of image view.layout view.listings))
-            × (bytes_in_node (node_at (tree_of image view.layout view.listings) path) ≡ option_map_or (λ (node : Node). file_bytes image layout node.entry) (get (nodes_of v.tree) f.node) []))
-        (IsRefusalOf (answer (tree_of image view.layout view.listings) (dir_form view.layout) v.read_only (Command.Load path)))) (sym parts.layout)
+    (λ (f : FileRef). (answer (tree_of image view.layout view.listings) (dir_form view.layout) v.read_only (Command.Load path) ≡ Ok (tree_of image view.layout view.listings))
+    × (bytes_in_node (node_at (tree_of image view.layout view.listings) path) ≡ option_map_or (λ (node : Node). file_bytes image layout node.entry) (get (nodes_of v.tree) f.node) []))
+    (IsRefusalOf (answer (tree_of image view.layout view.listings) (dir_form view.layout) v.read_only (Command.Load path)))) (sym parts.layout)
     (subst (λ (r : Result FileRef CommandError). MatchResult r
-        (λ (f : FileRef). (answer (tree_of image view.layout view.listings) (dir_form view.layout) v.read_only (Command.Load path) ≡ Ok (tree_of image view.layout view.listings))
-            × (bytes_in_node (node_at (tree_of image view.layout view.listings) path) ≡ option_map_or (λ (node : Node). file_bytes image view.layout node.entry) (get (nodes_of v.tree) f.node) []))
-        (IsRefusalOf (answer (tree_of image view.layout view.listings) (dir_form view.layout) v.read_only (Command.Load path)))) (sym e) is)
+    (λ (f : FileRef). (answer (tree_of image view.layout view.listings) (dir_form view.layout) v.read_only (Command.Load path) ≡ Ok (tree_of image view.layout view.listings))
+    × (bytes_in_node (node_at (tree_of image view.layout view.listings) path) ≡ option_map_or (λ (node : Node). file_bytes image view.layout node.entry) (get (nodes_of v.tree) f.node) []))
+    (IsRefusalOf (answer (tree_of image view.layout view.listings) (dir_form view.layout) v.read_only (Command.Load path)))) (sym e) is)

@@ -10,7 +10,6 @@ use Rattle.fc_dirs.specs.declared.Entry.{Entry}
 use Rattle.fc_model.specs.Tree.{Tree, Body, Node as ModelNode, children}
 use Rattle.fc_image.specs.declared.ImageFault.{ImageFault}
 use Rattle.fc_image.specs.Layout.{Layout, sector_bytes, disc_sectors, bytes_in, sectors_at}
-use Rattle.fc_image.specs.Opening.{Opened}
 use Rattle.fc_tree.specs.declared.node.Node.{Node}
 use Rattle.fc_tree.specs.Nodes.{nodes_of}
 use Rattle.fc_volume.specs.declared.lines.CommandError.{CommandError}

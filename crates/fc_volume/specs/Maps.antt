@@ -7,7 +7,6 @@ use Rattle.fc_record.specs.Kinds.{map_record}
 use Rattle.fc_newmap.specs.declared.MapError.{MapError}
 use Rattle.fc_newmap.specs.declared.MapError.TheVariants.{Zone}
 use Rattle.fc_newmap.specs.Map.{first_fault, zone_numbers}
-use Rattle.fc_oldmap.specs.OldMap.{free_space, hole_fault}
 use Rattle.fc_image.specs.declared.ImageFault.{ImageFault}
 use Rattle.fc_image.specs.declared.ImageFault.TheVariants as faults
 use Rattle.fc_image.specs.Layout.{Layout}

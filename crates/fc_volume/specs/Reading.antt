@@ -1,5 +1,5 @@
 -- What the nodes of a volume answer to commands that read.
-use Rattle.std.specs.Prelude.{◌≡◌, ℕ, Bool, List, map, if◌then◌else◌, Option, Some, None, Result, Ok, Err, IsPermutation, IsSortedByKey}
+use Rattle.std.specs.Prelude.{ℕ, List, map, if◌then◌else◌, Option, Some, None, Result, Ok, Err, IsPermutation, IsSortedByKey}
 use Rattle.std.specs.Ordering.{nat_cmp}
 use Rattle.std.specs.FinMap.{FinMap, get}
 use Rattle.fc_names.specs.declared.refusal.Refusal.TheVariants as refusals

@@ -1,5 +1,5 @@
 -- Volumes, and when one stands for a disk.
-use Rattle.std.specs.Prelude.{◌≡◌, ◌≤◌, ℕ, Bool, true, List}
+use Rattle.std.specs.Prelude.{◌≡◌, ◌≤◌, Bool, List}
 use Rattle.fc_device.specs.declared.disk.Disk.{Ghosts}
 use Rattle.fc_device.specs.Calls.{StopsAsBefore}
 use Rattle.fc_device.specs.Stops.{StillLeaves}

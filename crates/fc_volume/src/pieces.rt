@@ -15,7 +15,10 @@ use fc_device::{Disk, DiskFault, Extent, NoMemory};
 use fc_space::PlaceError;
 use std::alloc::Global;
 
-/// The bytes of the largest sectors.
+#[cfg(test)]
+mod tests;
+
+// The bytes of the largest sectors.
 const LARGEST: usize = 1024;
 
 // How many bytes of a file one call gives from a place on.

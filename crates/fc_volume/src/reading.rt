@@ -31,6 +31,9 @@ use fc_space::Space;
 use fc_tree::{Body, Found, Tree};
 use std::alloc::Global;
 
+#[cfg(test)]
+mod tests;
+
 // Whether attributes are those of a directory.
 fn is_directory(attrs: u32) -> bool
     ensures { result ≡ is_directory attrs }
@@ -207,7 +210,7 @@ impl Volume {
         ensures answer { (image : List ℕ) (kind : Kind) (view : Opened) → OpensAs image kind view → ArePartsOf (parts_of self.now) view
             → MatchResult result
             (λ lines. (answer (tree_of image view.layout view.listings) (dir_form view.layout) self.now.read_only (Command.Cat p.now) ≡ Ok (tree_of image view.layout view.listings))
-                × (lines.items ≡ lines_in (tree_of image view.layout view.listings) p.now))
+            × (lines.items ≡ lines_in (tree_of image view.layout view.listings) p.now))
             (IsRefusalOf (answer (tree_of image view.layout view.listings) (dir_form view.layout) self.now.read_only (Command.Cat p.now))) }
         ensures no_fault { IfErr result (λ error. error ≢ CommandError.DiskFault) }
         ensures disk { disk.new ≡ disk.old }
@@ -223,9 +226,10 @@ impl Volume {
         ensures answer { (image : List ℕ) (kind : Kind) (view : Opened) → OpensAs image kind view → ArePartsOf (parts_of self.now) view
             → MatchResult result
             (λ f. (answer (tree_of image view.layout view.listings) (dir_form view.layout) self.now.read_only (Command.Load p.now) ≡ Ok (tree_of image view.layout view.listings))
-                × (bytes_in_node (node_at (tree_of image view.layout view.listings) p.now) ≡ ref_bytes image self.now f))
+            × (bytes_in_node (node_at (tree_of image view.layout view.listings) p.now) ≡ ref_bytes image self.now f))
             (IsRefusalOf (answer (tree_of image view.layout view.listings) (dir_form view.layout) self.now.read_only (Command.Load p.now))) }
         ensures named { IfOk result (λ f. IsRef self.now f) }
+        ensures exact { result ≡ file_at (nodes_of self.now.tree) p.now }
         ensures refused { IfErr result (λ error. (refusal : Refusal) × (error ≡ CommandError.Refused refusal)) }
         ensures disk { disk.new ≡ disk.old }
     {

@@ -1,14 +1,14 @@
-use Rattle.std.proofs.Common.{◌≡◌, ◌<◌, ◌≤◌, ℕ, ◌+◌, ◌*◌, ◌/◌, ◌%◌, length, drop, Some, ap, subst, sym, ◌∙◌, arith, length-take}
+use Rattle.std.proofs.Common.{◌≡◌, ◌≤◌, ◌*◌, ◌/◌, ◌%◌, length, drop, ap, subst, sym, ◌∙◌, arith, length-take}
 use Rattle.std.specs.Option.{option_map}
 use Rattle.std.specs.FinMap.{get}
 use Rattle.fc_device.specs.Sectors.{sector_at}
 use Rattle.fc_device.proofs.DiskLaws.{laws}
 use Rattle.fc_image.specs.Layout.{Layout, disc_sectors, sector_bytes, sectors_at}
 use Rattle.fc_space.specs.Space.{PlacesSuffice, layout_of, nth_sector}
+use Rattle.fc_space.proofs.NthLemmas.{sector_there}
 use Rattle.fc_tree.specs.Nodes.{nodes_of}
-use Rattle.fc_volume.specs.Answers.{ref_bytes}
 use Rattle.fc_volume.specs.Volume.{parts_of}
-use Rattle.fc_volume.proofs.PieceLemmas.{disk_long, file_placed, filled_is, named_node, piece_bytes, sector_there, small_size}
+use Rattle.fc_volume.proofs.PieceLemmas.{disk_long, file_placed, filled_is, named_node, piece_bytes, small_size}
 use Rattle.fc_volume.proofs.volume.Volume.piece.Goals as goal
 
 pub sector_of-sector-requires : goal.sector_of-sector-requires
