@@ -1,12 +1,12 @@
 -- The command lines of a script.
-use Rattle.std.proofs.Common.{◌≡◌, ◌<◌, ◌≤◌, ℕ, ◌+◌, ◌-◌, ◌==◌, nat_lt, Bool, true, false, Option, Some, None, List, [], ◌∷◌, length, take, drop, refl, sym, ap, ◌∙◌, arith, length-drop}
+use Rattle.std.proofs.Common.{◌≡◌, ◌≤◌, ℕ, ◌+◌, ◌-◌, ◌==◌, nat_lt, Bool, true, false, Some, None, List, [], ◌∷◌, length, take, drop, refl, sym, ap, ◌∙◌, arith, length-drop}
 use Rattle.std.specs.Prelude.{filter, if◌then◌else◌}
 use Rattle.std.specs.List.{position, position_or_len, slice_split}
 use lib.Seq.{take_all}
 use borrow.Author.Tests.{ltb-true, ltb-false}
 use Rattle.std.proofs.lemmas.List.Sums.{fails_before_first}
 use Rattle.std.proofs.lemmas.List.Splits.{slice_split_first, slice_split_none}
-use Rattle.fc_script.specs.Lines.{is_command_line, lines_of, without_empty_last}
+use Rattle.fc_script.specs.Lines.{is_command_line, without_empty_last}
 use Rattle.fc_runs.specs.Run.{commands_in}
 
 -- an empty line is no command line, the last one or not
@@ -52,10 +52,3 @@ no_line_found text found = by (nat_lt (position_or_len is_end text) (length text
     by false ge =
         let past : length text ≤ position_or_len is_end text = ltb-false (position_or_len is_end text) (length text) ge in
         slice_split_none is_end text (λ k d l. fails_before_first is_end text k d (omega (arith, past, l)))
-
--- one line less, which is a command line or not
-pub first_is_command : (lines rest : List (List ℕ)) (line : List ℕ) → lines ≡ line ∷ rest → is_command_line line ≡ true → filter is_command_line lines ≡ line ∷ filter is_command_line rest
-first_is_command lines rest line cut is = ap (filter is_command_line) cut ∙ ap (λ b. if b then line ∷ filter is_command_line rest else filter is_command_line rest) is
-
-pub first_is_none : (lines rest : List (List ℕ)) (line : List ℕ) → lines ≡ line ∷ rest → is_command_line line ≡ false → filter is_command_line lines ≡ filter is_command_line rest
-first_is_none lines rest line cut is = ap (filter is_command_line) cut ∙ ap (λ b. if b then line ∷ filter is_command_line rest else filter is_command_line rest) is

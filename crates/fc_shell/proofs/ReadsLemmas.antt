@@ -1,10 +1,9 @@
 -- Scripts of commands that read, as runs.
-use Rattle.std.proofs.Common.{◌≡◌, ◌⊎◌, inl, inr, ℕ, Bool, true, false, List, [], ◌∷◌, map, Some, None, Result, Ok, Err, refl, sym, ap, ap₂, subst, ◌∙◌}
+use Rattle.std.proofs.Common.{◌≡◌, ◌⊎◌, inl, inr, ℕ, Bool, true, false, List, [], ◌∷◌, map, Some, Result, Ok, Err, refl, sym, ap, ap₂, subst, ◌∙◌}
 use Rattle.std.specs.Prelude.{not, if◌then◌else◌, replicate}
 use Rattle.std.specs.List.{list_any}
 use Rattle.fc_names.specs.declared.refusal.Refusal.{Refusal}
 use Rattle.fc_model.specs.Command.{Command}
-use Rattle.fc_image.specs.Opening.{open_image}
 use Rattle.fc_effects.specs.Effect.{State}
 use Rattle.fc_format.specs.Fresh.{format_size}
 use Rattle.fc_format.specs.Opens.{FreshLaw}
@@ -12,7 +11,6 @@ use Rattle.fc_script.specs.Lines.{command_of}
 use Rattle.fc_runs.specs.ReadLaw.{ReadLaw, reading_reply}
 use Rattle.fc_runs.specs.Run.{Mode, Step, Steps, Takes, commands_in, is_error, text_of}
 use Rattle.fc_words.specs.declared.Format.{Format as Word}
-use Rattle.fc_shell.specs.declared.ending.End.{End}
 use Rattle.fc_shell.specs.declared.ending.End.TheVariants.{Done, Refused}
 use Rattle.fc_shell.specs.ReadsLaw.{ReadsLaw}
 use Rattle.fc_shell.specs.Replies.{command_reply, format_in, image_for, image_reply, is_unbuilt_command, line_reply, opened_reply, replies_of}

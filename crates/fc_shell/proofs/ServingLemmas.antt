@@ -5,13 +5,10 @@ use Rattle.std.specs.List.{list_any}
 use Rattle.std.proofs.lemmas.List.{append-nil, map-append}
 use Rattle.std.proofs.lemmas.List.Folds.{list_any-append}
 use Rattle.std.proofs.lemmas.Grind.{flat_map-append}
-use Rattle.fc_image.specs.declared.ImageFault.{ImageFault}
 use Rattle.fc_image.specs.Opening.{Opened, open_image}
 use Rattle.fc_effects.specs.Effect.{State}
-use Rattle.fc_runs.specs.Replies.{bad_image_line}
 use Rattle.fc_runs.specs.Run.{Mode, commands_in, is_error, text_of}
-use Rattle.fc_shell.specs.declared.ending.End.{End}
-use Rattle.fc_shell.specs.declared.ending.End.TheVariants.{BadImage, Done, Refused}
+use Rattle.fc_shell.specs.declared.ending.End.TheVariants.{Done, Refused}
 use Rattle.fc_shell.specs.declared.answering.LineFault.{LineFault}
 use Rattle.fc_shell.specs.declared.answering.LineFault.TheVariants as lines
 use Rattle.fc_shell.specs.Replies.{EndsAs, image_reply, line_reply, opened_reply, replies_of, served}
@@ -92,9 +89,3 @@ ends_opened read_only script image v result before after opened serves =
     let s : State = record { image = image; view = v } in
     subst (λ o. EndsAs (opened_reply read_only script image o) (end_of result) before after) (sym opened)
     (ends_served (replies_of mode s script) result before after serves)
-
--- over one that isn't
-pub ends_refused : (read_only : Bool) (script image : List ℕ) (fault : ImageFault) (end : End) (before after : Option (List ℕ)) → open_image image ≡ Err fault
-    → EndsAs (record { end = BadImage fault; text = bad_image_line fault }) end before after → EndsAs (image_reply read_only script image) end before after
-ends_refused read_only script image fault end before after opened ends =
-    subst (λ o. EndsAs (opened_reply read_only script image o) end before after) (sym opened) ends

@@ -4,7 +4,7 @@ use Rattle.std.specs.List.{list_any}
 use Rattle.fc_effects.specs.Effect.{State}
 use Rattle.fc_runs.specs.Run.{Mode, commands_in, is_error, text_of}
 use Rattle.fc_shell.specs.declared.ending.End.{End}
-use Rattle.fc_shell.specs.declared.ending.End.TheVariants.{Done, Refused, BadWords, BadImage, DiskFault, ScriptFault, OutFault, NoMemory, ScriptTooLong, NotBuilt, NoImage}
+use Rattle.fc_shell.specs.declared.ending.End.TheVariants.{Done, Refused, BadWords, DiskFault, ScriptFault, OutFault, NoMemory, ScriptTooLong, NotBuilt, NoImage}
 use Rattle.fc_shell.specs.declared.answering.LineFault.{LineFault}
 use Rattle.fc_shell.specs.declared.answering.LineFault.TheVariants as lines
 use Rattle.fc_shell.specs.Replies.{Reply, attached_reply, blank_size, has_unbuilt, line_reply, silent}

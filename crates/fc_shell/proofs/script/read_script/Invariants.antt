@@ -1,4 +1,4 @@
-use Rattle.std.proofs.Common.{◌≡◌, ◌≤◌, ℕ, ◌+◌, ◌-◌, length}
+use Rattle.std.proofs.Common.{◌≤◌, ◌-◌, length}
 use Rattle.fc_shell.specs.Script.{Gave}
 use Rattle.fc_shell.proofs.script.read_script.Given as goal
 
