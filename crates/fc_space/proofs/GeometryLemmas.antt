@@ -31,7 +31,7 @@ share_low : (g : Geometry) → IsOfRecord g → g.share ≤ 2 ^ 25
 share_low g of_record = subst (λ (h : Geometry). h.share ≤ 2 ^ 25) of_record.1.1 (share_of of_record.0 of_record.1.0 of_record.1.2)
 
 -- a low byte's place is a number of 64 bits
-pub start_fits : (m : Map) (g : Geometry) (low sector : ℕ) → IsNewMap m → g ≡ m.geometry → low < 256 → (low - 1) * (g.share / sector) < 2 ^ 64
+pub start_fits : (m : Map) (g : Geometry) (low sector : ℕ) → IsNewMap m → g ≡ m.geometry → low < 256 → (low - 1) * (g.share / sector) < 2 ^ 34
 start_fits m g low sector is e few =
     let share : g.share ≤ 2 ^ 25 = subst (λ (h : Geometry). h.share ≤ 2 ^ 25) (sym e) (share_low m.geometry is.of_record) in
     let part : g.share / sector ≤ 2 ^ 25 = (let d = div-le_self g.share sector in omega arith) in

@@ -2,3 +2,5 @@ pub mod PlaceLemmas
 pub mod GeometryLemmas
 pub mod PartLemmas
 pub mod SearchLemmas
+pub mod DiscLemmas
+mod NthLemmas

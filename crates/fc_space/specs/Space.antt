@@ -1,5 +1,7 @@
--- A map as a disc's layout.
-use Rattle.fc_image.specs.Layout.{Layout}
+-- A map as a disc's layout, and what places on the disc have.
+use Rattle.std.specs.Prelude.{◌≡◌, ◌<◌, ◌≤◌, ℕ, ◌*◌, true, List, length, slice_get, Option}
+use Rattle.std.specs.Option.{option_and_then}
+use Rattle.fc_image.specs.Layout.{Layout, disc_sectors, is_among, sector_bytes, sectors_at}
 use Rattle.fc_space.specs.declared.space.Space.{Space}
 use Rattle.fc_space.specs.declared.space.Space.TheVariants.{OldMapped, NewMapped}
 
@@ -7,3 +9,12 @@ use Rattle.fc_space.specs.declared.space.Space.TheVariants.{OldMapped, NewMapped
 abbrev pub layout_of : Space → Layout
 layout_of (OldMapped map) = Layout.Old map
 layout_of (NewMapped map) = Layout.New map
+
+-- The sectors lie on the disc, and have room for so many bytes.
+pub record Suffice (layout : Layout) (bytes : ℕ) (sectors : List ℕ) : Type 0 where
+  pub on_disc : (s : ℕ) → is_among sectors s ≡ true → s < disc_sectors layout
+  pub room : bytes ≤ length sectors * sector_bytes layout
+
+-- the sector of this number, from 0, among those of the bytes at an address
+abbrev pub nth_sector : Layout → ℕ → ℕ → ℕ → Option ℕ
+nth_sector layout address bytes n = option_and_then (λ sectors. slice_get sectors n) (sectors_at layout address bytes)

@@ -1,8 +1,10 @@
 // Places on discs with new maps.
 
-ghost use Rattle.std.specs.Prelude.{◌≡◌, ◌<◌, ◌≤◌, ◌^◌, ◌+◌, None, Some, IfOk, IsErrOf, take, drop, length};
-ghost use Rattle.fc_image.specs.Layout.{first_part, id_sectors, is_object_id, low_start, new_sectors};
+ghost use Rattle.std.specs.Prelude.{◌≡◌, ◌<◌, ◌≤◌, ◌^◌, ◌+◌, None, Some, IfOk, IsErrOf, take, drop, length, slice_get};
+ghost use Rattle.fc_image.specs.Layout.{Layout, first_part, id_sectors, is_object_id, low_start, new_sectors};
+ghost use Rattle.fc_newmap.specs.NewMap.{IsNewMap};
 ghost use Rattle.fc_objects.specs.Extents.{extent_sectors, sectors_in};
+ghost use Rattle.fc_space.specs.Space.{Suffice};
 
 use crate::PlaceError;
 use fc_device::Extent;
@@ -32,9 +34,11 @@ fn is_object_id(map: &NewMap, id: u32) -> bool
 }
 
 // How many sectors into its identifier an object of this low byte begins.
-fn low_start(map: &NewMap, low: u32) -> u64
+pub fn low_start(map: &NewMap, low: u32) -> u64
     requires { low < 256 }
-    ensures { result ≡ low_start map.now low }
+    ensures value { result ≡ low_start map.now low }
+    ensures few { result < 2 ^ 34 }
+    ensures map { IsNewMap map.now }
 {
     let g = map.geometry();
     u64::from(low).saturating_sub(1) * (g.share / u64::from(g.sector))
@@ -82,6 +86,7 @@ pub fn new_place(
     bytes: u64,
 ) -> Result<Vec<Extent>, PlaceError>
     ensures place { IfOk result (λ place. new_sectors map.now address bytes ≡ Some (sectors_in place.items)) }
+    ensures suffice { IfOk result (λ place. Suffice (Layout.New map.now) bytes (sectors_in place.items)) }
     ensures outside { IsErrOf result PlaceError.Outside → new_sectors map.now address bytes ≡ None }
 {
     let id = address / 256;
@@ -91,4 +96,20 @@ pub fn new_place(
     let skip = low_start(map, address % 256);
     let need = bytes.div_ceil(u64::from(map.geometry().sector));
     sectors_of_id(alloc, map, id, skip, need)
+}
+
+// The sector of a number among those of an identifier, in the order of its runs, if it has so many.
+pub fn sector_of_id(map: &NewMap, id: u32, number: u64) -> Option<u64>
+    ensures { result ≡ slice_get (id_sectors map.now id) number }
+{
+    let mut left = number;
+    let mut cursor = RunCursor::start(map, id);
+    while let Some((z, run)) = cursor.next(map) {
+        let extent = extent_of(map.geometry(), z, run);
+        if left < extent.sectors {
+            return Some(extent.first + left);
+        }
+        left -= extent.sectors;
+    }
+    None
 }

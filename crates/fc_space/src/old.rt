@@ -1,8 +1,9 @@
 // Places on discs with old maps.
 
 ghost use Rattle.std.specs.Prelude.{◌≡◌, None, Some, IfOk, IsErrOf};
-ghost use Rattle.fc_image.specs.Layout.{old_sectors};
+ghost use Rattle.fc_image.specs.Layout.{Layout, old_sectors};
 ghost use Rattle.fc_objects.specs.Extents.{sectors_in};
+ghost use Rattle.fc_space.specs.Space.{Suffice};
 
 use crate::PlaceError;
 use fc_device::Extent;
@@ -17,6 +18,7 @@ pub fn old_place(
     bytes: u64,
 ) -> Result<Vec<Extent>, PlaceError>
     ensures place { IfOk result (λ place. old_sectors map.now address bytes ≡ Some (sectors_in place.items)) }
+    ensures suffice { IfOk result (λ place. Suffice (Layout.Old map.now) bytes (sectors_in place.items)) }
     ensures outside { IsErrOf result PlaceError.Outside → old_sectors map.now address bytes ≡ None }
 {
     let units = map.sector_units();

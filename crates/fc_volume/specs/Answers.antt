@@ -23,7 +23,7 @@ use Rattle.fc_volume.specs.Volume.{Volume, parts_of}
 -- ---- mounting
 
 -- The error is the first fault of the image. A disk's fault and want of memory say nothing.
-abbrev pub IsFaultOf : Result Opened ImageFault → MountError → Type 0
+abbrev pub IsFaultOf : {T : Type 0} → Result T ImageFault → MountError → Type 0
 IsFaultOf opened (MountError.Image fault) = opened ≡ Err fault
 IsFaultOf opened MountError.DiskFault = Unit {0}
 IsFaultOf opened MountError.NoMemory = Unit {0}

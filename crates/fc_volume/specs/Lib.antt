@@ -1,2 +1,3 @@
 pub mod Volume
 pub mod Answers
+pub mod Maps

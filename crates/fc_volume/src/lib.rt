@@ -2,5 +2,8 @@
 #![tactic(auto)]
 
 mod lines;
+mod maps;
+mod volume;
 
 pub use lines::{CommandError, FileRef, Line, Listed, MountError};
+pub use volume::Volume;

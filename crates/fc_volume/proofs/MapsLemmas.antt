@@ -1,0 +1,107 @@
+-- Maps as they are read: the bytes in which two records differ, the zones of the copy that counts, and old maps.
+use Rattle.std.proofs.Common.{◌≡◌, ◌<◌, ◌≤◌, ◌∷◌, ◌+◌, ◌*◌, ◌⊎◌, inl, inr, ℕ, Bool, true, false, List, [], length, take, drop, drop_of_length-le, get_or, refl, sym, ap, subst, ◌∙◌, arith}
+use Rattle.std.specs.Prelude.{Option, Some, None, Result, Ok, Err, is_none, not, ◌==◌, slice_index_or}
+use Rattle.std.specs.List.{find, zip}
+use Rattle.std.proofs.lemmas.List.{drop_more}
+use Rattle.std.proofs.lemmas.Bool.{eq-eqb, ne_eqb}
+use Rattle.fc_device.specs.Sectors.{sector_at}
+use Rattle.fc_record.specs.declared.DiscRecord.{DiscRecord}
+use Rattle.fc_record.specs.declared.Geometry.{Geometry}
+use Rattle.fc_record.specs.Record.{geometry, IsRecord}
+use Rattle.fc_record.specs.Kinds.{map_record}
+use Rattle.fc_record.proofs.MeasureLemmas.{share_valid}
+use Rattle.fc_zone.specs.declared.ZoneFault.{ZoneFault}
+use Rattle.fc_newmap.specs.declared.MapError.{MapError}
+use Rattle.fc_newmap.specs.declared.MapError.TheVariants.{Zone}
+use Rattle.fc_newmap.specs.Map.{Map, first_fault, zone_numbers, zones_in}
+use Rattle.fc_newmap.specs.NewMap.{IsOfRecord}
+use Rattle.fc_newmap.specs.Loaded.{unless_fault}
+use Rattle.fc_newmap.proofs.HeldLemmas.{geometry_facts, place_fits, sector_is}
+use Rattle.fc_image.specs.declared.ImageFault.{ImageFault}
+use Rattle.fc_image.specs.declared.ImageFault.TheVariants as faults
+use Rattle.fc_image.specs.Layout.{Layout}
+use Rattle.fc_image.specs.Walk.{◌>>=◌}
+use Rattle.fc_image.specs.Opening.{MapAndRoot, agreement, difference, zones_or}
+use Rattle.fc_volume.specs.Maps.{zone_fault, zones_layout}
+
+-- a search stands at a place
+pub found_at : (p : ℕ → Bool) (xs : List ℕ) (i x : ℕ) → i < length xs → find p xs ≡ find p (drop i xs) → x ≡ get_or xs i 0 → p x ≡ true → find p xs ≡ Some x
+found_at p xs i x low so_far here passes =
+    let more : drop i xs ≡ get_or xs i 0 ∷ drop (i + 1) xs = drop_more xs i 0 low in
+    so_far ∙ rw (more, ← here, passes) refl
+
+pub not_at : (p : ℕ → Bool) (xs : List ℕ) (i x : ℕ) → i < length xs → find p xs ≡ find p (drop i xs) → x ≡ get_or xs i 0 → p x ≡ false → find p xs ≡ find p (drop (i + 1) xs)
+not_at p xs i x low so_far here fails =
+    let more : drop i xs ≡ get_or xs i 0 ∷ drop (i + 1) xs = drop_more xs i 0 low in
+    so_far ∙ rw (more, ← here, fails) refl
+
+pub nowhere : (p : ℕ → Bool) (xs : List ℕ) (i : ℕ) → length xs ≤ i → find p xs ≡ find p (drop i xs) → find p xs ≡ None
+nowhere p xs i high so_far = so_far ∙ ap (find p) (drop_of_length-le xs {i = i} high)
+
+-- ---- the zones of a copy
+
+pub of_record : (r : DiscRecord) → IsRecord r → IsOfRecord (geometry r)
+of_record r is = (r, (ap is_none is.valid, refl, share_valid r is))
+
+-- the first zone's sector stands at the front
+pub first_zone : (g : Geometry) (bytes : List ℕ) → IsOfRecord g → length bytes ≡ g.zones * g.sector → take g.sector bytes ≡ slice_index_or (zones_in g bytes) 0 []
+unfolding sector_at
+first_zone g bytes of_g whole =
+    let f = geometry_facts g of_g in
+    let e : 0 * g.sector ≡ 0 = omega arith in
+    sym (sector_is g bytes 0 whole (let z = f.zones in omega arith) ∙ ap (λ (n : ℕ). take g.sector (drop n bytes)) e)
+
+pub first_zone_fits : (g : Geometry) (bytes : List ℕ) → IsOfRecord g → length bytes ≡ g.zones * g.sector → (g.sector ≤ length bytes) × (256 ≤ g.sector)
+first_zone_fits g bytes of_g whole =
+    let f = geometry_facts g of_g in
+    let z = f.zones in
+    let low = place_fits 0 g.zones g.sector (omega arith) in
+    (omega arith, least f.size)
+  where
+    least : (g.sector ≡ 256) ⊎ ((g.sector ≡ 512) ⊎ (g.sector ≡ 1024)) → 256 ≤ g.sector
+    least (inl a) = omega arith
+    least (inr (inl b)) = omega arith
+    least (inr (inr d)) = omega arith
+
+module _ (r : DiscRecord) (zones : List (List ℕ)) (sector : List ℕ) (first : sector ≡ slice_index_or zones 0 []) where
+  pub own_fault : (fault : ImageFault) → agreement r (map_record sector) (difference r (map_record sector)) ≡ Err fault → zones_layout r zones ≡ Err fault
+  own_fault fault e =
+      let here : agreement r (map_record (slice_index_or zones 0 [])) (difference r (map_record (slice_index_or zones 0 []))) ≡ Err fault =
+      subst (λ (s : List ℕ). agreement r (map_record s) (difference r (map_record s)) ≡ Err fault) first e in
+      rw here refl
+
+  abbrev then_zones : DiscRecord → Result Map ImageFault → Result MapAndRoot ImageFault
+  then_zones own there = there >>= (λ m. let x : MapAndRoot = (Layout.New m, own.root, own.root_size) in Ok x)
+
+  own_right : (own : DiscRecord) → agreement r (map_record sector) (difference r (map_record sector)) ≡ Ok own
+      → zones_layout r zones ≡ then_zones own (zones_or (geometry r) zones (first_fault (geometry r) (zip (zone_numbers (geometry r)) zones)))
+  own_right own e =
+      let here : agreement r (map_record (slice_index_or zones 0 [])) (difference r (map_record (slice_index_or zones 0 []))) ≡ Ok own =
+      subst (λ (s : List ℕ). agreement r (map_record s) (difference r (map_record s)) ≡ Ok own) first e in
+      rw here refl
+
+  loaded_as : (m : Map) (fault : Option ZoneFault) (held : Map) → unless_fault held fault ≡ Ok m → (fault ≡ None) × (held ≡ m)
+  loaded_as m None held e = (refl, cc)
+  loaded_as m (Some f) held e = absurd (cc)
+
+  loaded_not : (own : DiscRecord) (wrong : MapError) (fault : Option ZoneFault) (held : Map) → unless_fault held fault ≡ Err wrong
+      → then_zones own (zones_or held.geometry held.zones fault) ≡ Err (zone_fault wrong)
+  loaded_not own wrong None held e = absurd (cc)
+  loaded_not own wrong (Some f) held e =
+      let same : Zone f ≡ wrong = cc in
+      ap (λ (w : MapError). let x : Result MapAndRoot ImageFault = Err (zone_fault w) in x) same
+
+  pub map_right : (own : DiscRecord) (m : Map) → agreement r (map_record sector) (difference r (map_record sector)) ≡ Ok own
+      → unless_fault (record { geometry = geometry r; zones = zones }) (first_fault (geometry r) (zip (zone_numbers (geometry r)) zones)) ≡ Ok m
+      → (zones_layout r zones ≡ Ok (Layout.New m, own.root, own.root_size)) × (m.geometry ≡ geometry r)
+  map_right own m e l =
+      let is = loaded_as m (first_fault (geometry r) (zip (zone_numbers (geometry r)) zones)) (record { geometry = geometry r; zones = zones }) l in
+      (own_right own e ∙ ap (λ (f : Option ZoneFault). then_zones own (zones_or (geometry r) zones f)) is.0
+      ∙ ap (λ (n : Map). let x : Result MapAndRoot ImageFault = Ok (Layout.New n, own.root, own.root_size) in x) is.1,
+      sym (ap (λ (n : Map). n.geometry) is.1))
+
+  pub zone_wrong : (own : DiscRecord) (wrong : MapError) → agreement r (map_record sector) (difference r (map_record sector)) ≡ Ok own
+      → unless_fault (record { geometry = geometry r; zones = zones }) (first_fault (geometry r) (zip (zone_numbers (geometry r)) zones)) ≡ Err wrong
+      → zones_layout r zones ≡ Err (zone_fault wrong)
+  zone_wrong own wrong e l =
+      own_right own e ∙ loaded_not own wrong (first_fault (geometry r) (zip (zone_numbers (geometry r)) zones)) (record { geometry = geometry r; zones = zones }) l

@@ -1,0 +1,37 @@
+-- Maps of images, as they are read.
+use Rattle.std.specs.Prelude.{◌≡◌, ℕ, List, [], slice_index_or, Result, Ok, Err}
+use Rattle.std.specs.List.{zip}
+use Rattle.fc_record.specs.declared.DiscRecord.{DiscRecord}
+use Rattle.fc_record.specs.Record.{geometry}
+use Rattle.fc_record.specs.Kinds.{map_record}
+use Rattle.fc_newmap.specs.declared.MapError.{MapError}
+use Rattle.fc_newmap.specs.declared.MapError.TheVariants.{Zone}
+use Rattle.fc_newmap.specs.Map.{first_fault, zone_numbers}
+use Rattle.fc_oldmap.specs.OldMap.{free_space, hole_fault}
+use Rattle.fc_image.specs.declared.ImageFault.{ImageFault}
+use Rattle.fc_image.specs.declared.ImageFault.TheVariants as faults
+use Rattle.fc_image.specs.Layout.{Layout}
+use Rattle.fc_image.specs.Walk.{◌>>=◌}
+use Rattle.fc_image.specs.Opening.{MapAndRoot, agreement, difference, zones_or}
+use Rattle.fc_space.specs.Space.{layout_of}
+use Rattle.fc_volume.specs.declared.maps.MapFound.{MapFound}
+
+-- what was found
+abbrev pub found_of : MapFound → MapAndRoot
+found_of f = (layout_of f.space, f.root, f.root_size)
+
+-- what the zones of the copy that counts give
+abbrev pub zones_layout : DiscRecord → List (List ℕ) → Result MapAndRoot ImageFault
+zones_layout r zones = do
+  own ← agreement r (map_record (slice_index_or zones 0 [])) (difference r (map_record (slice_index_or zones 0 [])))
+  m ← zones_or (geometry r) zones (first_fault (geometry r) (zip (zone_numbers (geometry r)) zones))
+  Ok (Layout.New m, own.root, own.root_size)
+
+-- a zone's fault as the image's
+abbrev pub zone_fault : MapError → ImageFault
+zone_fault (Zone fault) = faults.Zone fault.zone fault.bit
+
+-- the map that was found, or the first fault
+abbrev pub Finds : Result MapAndRoot ImageFault → Result MapFound ImageFault → Type 0
+Finds there (Ok found) = there ≡ Ok (found_of found)
+Finds there (Err fault) = there ≡ Err fault

@@ -1,0 +1,137 @@
+// The map of a disk, and where its root is.
+ghost use Rattle.std.specs.Prelude.{◌≡◌, ◌≤◌, ◌<◌, ◌+◌, ◌*◌, ◌/◌, Ok, Err, length, IsTrue, IfOk, IfErr};
+ghost use Rattle.std.specs.Option.{ForSome};
+ghost use Rattle.fc_device.specs.Faults.{Rose};
+ghost use Rattle.fc_record.specs.Record.{IsRecord, geometry};
+ghost use Rattle.fc_record.specs.Kinds.{IsKind, disc_size, fits_kind, map_record, sector_size};
+ghost use Rattle.fc_record.specs.Reads.{OnlyReads};
+ghost use Rattle.fc_newmap.specs.Map.{zones_in};
+ghost use Rattle.fc_newmap.specs.NewMap.{IsOfRecord};
+ghost use Rattle.fc_copies.specs.Copies.{chosen, copy_of};
+ghost use Rattle.fc_copies.specs.declared.Which.{Which};
+ghost use Rattle.fc_image.specs.Layout.{disc_sectors, sector_bytes};
+ghost use Rattle.fc_image.specs.Opening.{agreement, byte_compared, copy_or, difference, map_and_root, new_layout, old_layout};
+ghost use Rattle.fc_space.specs.Space.{layout_of};
+ghost use Rattle.fc_volume.specs.Answers.{IsFaultOf};
+ghost use Rattle.fc_volume.specs.Maps.{Finds, found_of, zone_fault, zones_layout};
+
+use crate::MountError;
+use fc_copies::{CopyError, choose, fetch};
+use fc_device::{Disk, DiskFault};
+use fc_image::ImageFault;
+use fc_newmap::{MapError, NewMap};
+use fc_oldmap::{OldMap, OldMapFault};
+use fc_record::measures::geometry;
+use fc_record::{DiscRecord, Geometry, Kind, is_root_right, is_root_size_right, parse_record};
+use fc_space::Space;
+use std::alloc::Global;
+
+/// A map, the root's address, and the size in bytes of a big root.
+#[derive(Drop)]
+pub struct MapFound {
+    pub space: Space,
+    pub root: u32,
+    pub root_size: u32,
+}
+
+/// The bytes in which a map's record and the kind's have to agree.
+const COMPARED: [u8; 20] = [
+    0, 4, 5, 9, 10, 11, 16, 17, 18, 19, 36, 37, 38, 39, 40, 42, 44, 45, 46, 47,
+];
+
+// A byte of a record as it is compared. Of byte 40 the low four bits count.
+fn byte_compared(r: &DiscRecord, at: u8) -> u8
+    requires { at < 60 }
+    ensures { result ≡ byte_compared r.now at }
+{
+    let byte = r.raw[usize::from(at)];
+    if at == 40 { byte % 16 } else { byte }
+}
+
+// The first byte in which two records differ.
+fn difference(r: &DiscRecord, s: &DiscRecord) -> Option<u8>
+    ensures { result ≡ difference r.now s.now }
+{
+    for at in COMPARED {
+        if byte_compared(r, at) != byte_compared(s, at) {
+            return Some(at);
+        }
+    }
+    None
+}
+
+// The record in a map's first sector, where it agrees with the kind's and has a right root.
+fn own_record(r: &DiscRecord, sector: &[u8]) -> Result<DiscRecord, ImageFault>
+    requires { 64 ≤ length sector.now }
+    ensures { result ≡ agreement r.now (map_record sector.now) (difference r.now (map_record sector.now)) }
+{
+    let own = parse_record(&sector[4..64]);
+    if let Some(offset) = difference(r, &own) {
+        return Err(ImageFault::Differs { offset });
+    }
+    if !is_root_right(&own) {
+        return Err(ImageFault::Bad { offset: 12 });
+    }
+    if !is_root_size_right(&own) {
+        return Err(ImageFault::Bad { offset: 48 });
+    }
+    Ok(own)
+}
+
+// A zone's fault as the image's.
+fn zone_fault(fault: MapError) -> ImageFault
+    ensures { result ≡ zone_fault fault }
+{
+    let MapError::Zone(fault) = fault;
+    ImageFault::Zone {
+        zone: fault.zone,
+        bit: fault.bit,
+    }
+}
+
+// The map in the bytes of the copy that counts.
+fn map_in(bytes: Vec<u8>, r: &DiscRecord) -> Result<MapFound, ImageFault>
+    requires record { IsRecord r.now }
+    requires whole { length bytes.items ≡ (geometry r.now).zones * (geometry r.now).sector }
+    ensures found { Finds (zones_layout r.now (zones_in (geometry r.now) bytes.items)) result }
+    ensures geometry { IfOk result (λ found. (sector_bytes (layout_of found.space) ≡ (geometry r.now).sector) × (disc_sectors (layout_of found.space) ≡ (geometry r.now).disc_bits * (geometry r.now).bit_bytes / (geometry r.now).sector)) }
+{
+    let g = geometry(r);
+    let own = own_record(r, &bytes[..g.sector as usize])?;
+    match NewMap::load(bytes, g) {
+        Ok(map) => Ok(MapFound {
+            space: Space::NewMapped(map),
+            root: own.root,
+            root_size: own.root_size,
+        }),
+        Err(fault) => Err(zone_fault(fault)),
+    }
+}
+
+// The bytes of the copy that counts.
+fn read_copy<D: Disk>(alloc: Global, disk: &mut D, g: &Geometry) -> Result<Vec<u8>, MountError>
+    requires attached { IsTrue (D.attached disk.old) }
+    requires geometry { IsOfRecord g.now }
+    requires size { D.sector_size disk.old ≡ g.now.sector }
+    requires on_disk { g.now.map_sector + 2 * g.now.zones ≤ D.sectors disk.old }
+    ensures whole { IfOk result (λ bytes. length bytes.items ≡ g.now.zones * g.now.sector) }
+    ensures copy { IfOk result (λ bytes. ForSome (D.bytes disk.old) (λ image. (which : Which) × (chosen g.now image ≡ Ok which) × (zones_in g.now bytes.items ≡ copy_of g.now which image))) }
+    ensures fault { IfErr result (λ e. ForSome (D.bytes disk.old) (λ image. IsFaultOf (copy_or (chosen g.now image)) e)) }
+    ensures reads { OnlyReads D.Disk disk.old disk.new }
+    ensures cause { result ≡ Err MountError.DiskFault → Rose (D.faults disk.old) (D.faults disk.new) }
+{
+    let which = match choose(disk, g) {
+        Ok(which) => which,
+        Err(CopyError::BothBad { c1, c2 }) => {
+            return Err(MountError::Image(ImageFault::Copies { c1, c2 }));
+        }
+        Err(CopyError::DiskFault) => return Err(MountError::DiskFault),
+    };
+    let Ok(mut bytes) = vec![in alloc; 0u8; usize::from(g.zones) * g.sector as usize] else {
+        return Err(MountError::NoMemory);
+    };
+    match fetch(disk, g, which, &mut bytes) {
+        Ok(()) => Ok(bytes),
+        Err(DiskFault) => Err(MountError::DiskFault),
+    }
+}

@@ -1,0 +1,63 @@
+// Volumes and their parts.
+ghost use Rattle.std.specs.Prelude.{◌≡◌};
+
+use fc_alloc::Owners;
+use fc_space::Space;
+use fc_tree::Tree;
+use std::marker::Model;
+
+/// The filing system over one disk: its map, its objects as a tree, and who owns which identifier. A volume doesn't hold the
+/// disk; each call is given it.
+#[derive(Drop)]
+pub struct Volume {
+    pub(crate) space: Space,
+    pub(crate) tree: Tree,
+    pub(crate) owners: Owners,
+    pub(crate) read_only: bool,
+    pub(crate) fit: bool,
+}
+
+impl Model for Volume {
+    ghost use Rattle.fc_volume.specs.Volume as volume;
+
+    ghost Value = { volume.Volume };
+
+    ghost view = { λ v. record { space = v.space; tree = v.tree; owners = v.owners; read_only = v.read_only; fit = v.fit } };
+}
+
+impl Volume {
+    /// The objects.
+    pub fn tree(&self) -> &Tree
+        ensures { result.now ≡ self.now.tree }
+    {
+        &self.tree
+    }
+
+    /// The map.
+    pub fn space(&self) -> &Space
+        ensures { result.now ≡ self.now.space }
+    {
+        &self.space
+    }
+
+    /// The owners of identifiers.
+    pub fn owners(&self) -> &Owners
+        ensures { result.now ≡ self.now.owners }
+    {
+        &self.owners
+    }
+
+    /// Whether commands may be done. A volume stays unfit once a change of it ended in a fault of the disk.
+    pub fn fit(&self) -> bool
+        ensures { result ≡ self.now.fit }
+    {
+        self.fit
+    }
+
+    /// Whether it may not be changed.
+    pub fn read_only(&self) -> bool
+        ensures { result ≡ self.now.read_only }
+    {
+        self.read_only
+    }
+}
