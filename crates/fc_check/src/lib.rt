@@ -1,6 +1,9 @@
 //! The counts of a disc: its files and directories, and the space that nothing owns.
 #![tactic(auto)]
 
+mod dirs;
+mod space;
+
 /// What a checker tells of a disc.
 #[derive(Clone, Copy, Debug, PartialEq, Eq)]
 pub struct Report {

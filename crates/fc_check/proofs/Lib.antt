@@ -1,0 +1,5 @@
+mod LostLemmas
+mod SumLemmas
+mod SortedLemmas
+mod NodeLemmas
+mod SpaceLemmas
