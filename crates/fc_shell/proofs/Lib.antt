@@ -1,1 +1,5 @@
+pub mod HashLemmas
+pub mod PieceLemmas
+pub mod ReadingLemmas
+pub mod ToldLemmas
 pub mod WritingLemmas

@@ -1,5 +1,9 @@
+pub mod Answered
 pub mod Ends
 pub mod Lines
+pub mod Modes
+pub mod Readable
 pub mod Reading
 pub mod Replies
+pub mod Told
 pub mod Writing

@@ -4,7 +4,10 @@
 //! `End::NotBuilt`.
 #![tactic(auto)]
 
+mod answering;
 mod ending;
+mod files;
+mod replies;
 mod sink;
 mod texts;
 
