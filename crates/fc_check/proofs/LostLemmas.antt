@@ -1,6 +1,6 @@
 -- How many sectors of a disc with an old map are in no hole and no object and not the map's, all of which are apart.
-use Rattle.std.proofs.Common.{◌≡◌, ◌<◌, ◌≤◌, ℕ, zero, suc, ◌+◌, ◌-◌, ◌*◌, ◌/◌, ◌%◌, ◌==◌, ◌||◌, ◌&&◌, not, ◌⊎◌, inl, inr, Bool, true, false, cond, List, [], ◌∷◌, ◌++◌, length, refl, sym, ap, ap₂, subst, ◌∙◌, arith, Some, None, Option, Ok, Err, Result, count_by, sum_by, nat_le, leb-true}
-use Rattle.std.specs.List.{flat_map, range_with_len, list_any}
+use Rattle.std.proofs.Common.{◌≡◌, ◌<◌, ◌≤◌, ℕ, zero, suc, ◌+◌, ◌*◌, ◌/◌, ◌%◌, ◌==◌, ◌||◌, ◌&&◌, not, ◌⊎◌, inl, inr, Bool, true, false, cond, List, [], ◌∷◌, ◌++◌, length, refl, sym, ap, subst, ◌∙◌, arith, Some, None, Ok, Err, count_by, sum_by, nat_le, leb-true}
+use Rattle.std.specs.List.{flat_map, range_with_len}
 use Rattle.std.specs.Int.{div_ceil}
 use Rattle.std.proofs.lemmas.Bool.{eqb-true, eqb-false, ne_eqb, cases_lt}
 use Rattle.std.proofs.lemmas.List.Folds.{list_any-append}
@@ -10,7 +10,7 @@ use Rattle.fc_newmap.proofs.PlaceLemmas.{in_either}
 use Rattle.fc_oldmap.specs.declared.Hole.{Hole}
 use Rattle.fc_oldmap.specs.Holes.{AreHoles, hole_end, hole_sum}
 use Rattle.fc_oldmap.specs.OldMap.{FreeSpace, map_units}
-use Rattle.fc_image.specs.Layout.{Layout, disc_sectors, hole_sectors, hole_sectors_in, is_among, is_apart, map_place, old_sectors, sectors_at}
+use Rattle.fc_image.specs.Layout.{Layout, disc_sectors, hole_sectors, hole_sectors_in, is_among, map_place, sectors_at}
 use Rattle.fc_image.specs.Walk.{Object}
 use Rattle.fc_image.specs.Edits.{Apart}
 use Rattle.fc_image.specs.Report.{is_lost_sector}
@@ -79,7 +79,7 @@ count_one x from (suc n) low high = by (x == from) refl (λ above. count_one x (
         omega (arith, here, rest, this)
     by false e more =
         let here = count_first (λ s. x == s) from (range_with_len (from + 1) n) in
-        let rest = more (let other = eqb-false x from e in elim (cases_lt from x) [ | inl less ↦ omega arith | inr back ↦ absurd (other (omega arith)) ]) in
+        let rest = more (let other = eqb-false x from e in elim (cases_lt from x) [ inl less ↦ omega arith | inr back ↦ absurd (other (omega arith)) ]) in
         let this : ◌≡◌ {A = ℕ} (cond (x == from) 1 0) 0 = ap (λ (b : Bool). let m : ℕ = cond b 1 0 in m) e in
         omega (arith, here, rest, this)
 

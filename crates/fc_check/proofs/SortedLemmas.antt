@@ -1,5 +1,5 @@
 -- Entries whose names rise.
-use Rattle.std.proofs.Common.{◌≡◌, ◌<◌, ℕ, zero, suc, ◌+◌, ◌&&◌, Bool, true, false, List, [], ◌∷◌, length, get_or, refl, sym, ap, subst, ◌∙◌, arith}
+use Rattle.std.proofs.Common.{◌≡◌, ◌<◌, ℕ, zero, suc, ◌+◌, ◌&&◌, Bool, true, false, List, [], ◌∷◌, length, get_or, refl, sym, ap, ◌∙◌, arith}
 use Rattle.std.specs.List.{IsAllAdjacentAnswer}
 use Rattle.fc_names.specs.Names.{is_name_before}
 use Rattle.fc_dirs.specs.declared.Entry.{Entry}

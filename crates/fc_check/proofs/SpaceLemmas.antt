@@ -1,5 +1,5 @@
 -- What a map and its owners tell of lost space is what the objects of an opened image tell.
-use Rattle.std.proofs.Common.{◌≡◌, ◌≤◌, ◌⊎◌, ℕ, ◌+◌, ◌-◌, ◌*◌, ◌/◌, ◌==◌, ◌&&◌, ◌||◌, not, inl, inr, Bool, true, false, cond, List, [], ◌∷◌, ◌++◌, length, map, refl, sym, ap, subst, ◌∙◌, arith, Some, None, Option, Ok, Err, Result, IsPermutation, sum_by, count_by, filter}
+use Rattle.std.proofs.Common.{◌≡◌, ◌≤◌, ◌⊎◌, ℕ, ◌+◌, ◌-◌, ◌*◌, ◌/◌, ◌==◌, ◌&&◌, ◌||◌, not, inl, inr, Bool, true, false, cond, List, [], ◌∷◌, ◌++◌, length, map, refl, sym, ap, subst, ◌∙◌, arith, Some, None, Option, Ok, Result, sum_by, count_by, filter}
 use Rattle.std.specs.List.{list_any, range_with_len}
 use Rattle.std.specs.Ordering.{nat_cmp}
 use Rattle.std.specs.FinMap.{FinMap}
@@ -20,17 +20,17 @@ use Rattle.fc_alloc.specs.Owners.{is_id_owned, owns}
 use Rattle.fc_image.specs.declared.ImageFault.{ImageFault}
 use Rattle.fc_image.specs.Layout.{Layout, disc_sectors, hole_sectors, id_of, map_place, sector_bytes}
 use Rattle.fc_image.specs.Walk.{Object, reader_of}
-use Rattle.fc_image.specs.Objects.{has_sectors, is_lost, is_owner_of, objects_of}
+use Rattle.fc_image.specs.Objects.{has_sectors, is_owner_of, objects_of}
 use Rattle.fc_image.specs.Opening.{MapAndRoot, Opened, holes_or, map_and_root, reserved_in}
 use Rattle.fc_image.specs.Report.{is_lost_run, is_lost_sector, lost_bytes}
 use Rattle.fc_image.specs.Stays.{OpensAs}
 use Rattle.fc_image.specs.Edits.{Apart}
 use Rattle.fc_image.proofs.FreeLemmas.{parts_of}
-use Rattle.fc_image.proofs.HolesLemmas.{Each, EachListed, Each-objects, IsPlaced, Lies, found_map, walk_lies}
+use Rattle.fc_image.proofs.HolesLemmas.{Each, Each-objects, IsPlaced, Lies, found_map, walk_lies}
 use Rattle.fc_image.proofs.EditLemmas.{walk_gives}
 use Rattle.fc_tree.specs.declared.node.Node.{Node}
 use Rattle.fc_tree.specs.Parts.{AreOwners, owner_of}
-use Rattle.fc_check.specs.Space.{bytes_lost_to, is_lost_id, is_lost_kind, left_by, left_sectors}
+use Rattle.fc_check.specs.Space.{bytes_lost_to, is_lost_kind, left_sectors}
 use Rattle.fc_check.proofs.LostLemmas.{lost_left}
 use Rattle.fc_check.proofs.SumLemmas.{left_sum}
 
@@ -166,7 +166,7 @@ lost_of_opened image kind v nodes owners opens are = by v.layout refl are
         let walked = parts.1.2 in
         let reserved = reserved_in kind found.0 in
         let lies = each_placed found.0 reserved (objects_of v.listings)
-            (Each-objects (Lies found.0 reserved) v.listings (walk_lies (reader_of image found.0) found.0 reserved found.1 found.2 v.listings walked)) in
+        (Each-objects (Lies found.0 reserved) v.listings (walk_lies (reader_of image found.0) found.0 reserved found.1 found.2 v.listings walked)) in
         let had = walk_gives (reader_of image found.0) found.0 reserved found.1 found.2 v.listings walked in
         old_lost space nodes owners (objects_of v.listings) of (old_disc image kind found space opens.kind_right parts.1.5 parts.1.1 layout)
         (subst (λ (l : Layout). Each (IsPlaced l) (objects_of v.listings)) layout lies)

@@ -1,12 +1,12 @@
 -- Sums over the runs of a new map and over the holes of an old one.
-use Rattle.std.proofs.Common.{◌≡◌, ◌<◌, ◌≤◌, ℕ, zero, suc, ◌+◌, ◌-◌, ◌*◌, ◌/◌, ◌^◌, ◌==◌, Bool, true, false, cond, List, [], ◌∷◌, length, refl, sym, ap, subst, ◌∙◌, arith, sum_by, nat_eq}
+use Rattle.std.proofs.Common.{◌≡◌, ◌<◌, ◌≤◌, ℕ, ◌+◌, ◌-◌, ◌*◌, ◌^◌, ◌==◌, Bool, true, false, cond, List, [], ◌∷◌, length, refl, sym, subst, arith, sum_by}
 use Rattle.std.specs.Prelude.{filter}
 use Rattle.std.proofs.lemmas.Bool.{eqb-true}
 use Rattle.std.proofs.lemmas.Nat.{mul-le}
 use native.Mathlib.Nat.{mul_assoc}
 use Rattle.std.proofs.lemmas.List.Sums.{sum_by-cons}
 use Rattle.fc_record.specs.declared.Geometry.{Geometry}
-use Rattle.fc_record.specs.Record.{base, zone_start}
+use Rattle.fc_record.specs.Record.{zone_start}
 use Rattle.fc_oldmap.specs.declared.Hole.{Hole}
 use Rattle.fc_oldmap.specs.Holes.{AreHoles, hole_end, hole_sum}
 use Rattle.fc_newmap.specs.Map.{ZoneRun, bits_in, is_hole}

@@ -1,5 +1,5 @@
 -- Counts over nodes, one more at a time.
-use Rattle.std.specs.Prelude.{ℕ, ◌+◌, Bool, not, List, if◌then◌else◌}
+use Rattle.std.specs.Prelude.{◌+◌, Bool, not, List, if◌then◌else◌}
 use Rattle.fc_dirs.specs.declared.Entry.{Entry}
 use Rattle.fc_dirs.specs.Entries.{is_sorted_by_name}
 use Rattle.fc_tree.specs.Counts.{Said, is_directory_said, is_file_said, is_unsorted_said, is_wrong_parent_said}

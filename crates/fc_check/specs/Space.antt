@@ -8,7 +8,7 @@ use Rattle.fc_oldmap.specs.OldMap.{FreeSpace, map_units}
 use Rattle.fc_newmap.specs.Map.{all_runs, bits_in, is_hole}
 use Rattle.fc_alloc.specs.declared.owner.Owner.{Owner}
 use Rattle.fc_alloc.specs.Owners.{is_id_owned}
-use Rattle.fc_image.specs.Layout.{Layout, disc_sectors, sector_bytes}
+use Rattle.fc_image.specs.Layout.{Layout, sector_bytes}
 use Rattle.fc_check.specs.declared.space.RunSums.{RunSums}
 
 -- An identifier that no owner has is lost, other than 1, the defects, and 2, the map's.

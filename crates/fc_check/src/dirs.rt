@@ -22,8 +22,8 @@ pub struct DirCounts {
     pub parents: u64,
 }
 
-// Whether the folded names of entries rise.
-fn is_sorted(entries: &[Entry]) -> bool
+/// Whether the folded names of entries rise.
+pub fn is_sorted(entries: &[Entry]) -> bool
     ensures { result ≡ is_sorted_by_name entries.now }
 {
     entries.is_sorted_by(|e, f| fold_less(&e.name, &f.name))

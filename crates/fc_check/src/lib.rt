@@ -1,23 +1,45 @@
 //! The counts of a disc: its files and directories, and the space that nothing owns.
 #![tactic(auto)]
 
+pub mod counts;
 mod dirs;
 mod space;
 
-/// What a checker tells of a disc.
-#[derive(Clone, Copy, Debug, PartialEq, Eq)]
-pub struct Report {
-    pub files: u64,
-    /// The root counts.
-    pub dirs: u64,
-    /// Bytes that no object owns and that lie in no hole.
-    pub lost: u64,
-    /// The number of holes.
-    pub holes: u64,
-    /// The bytes of all holes.
-    pub free: u64,
-    /// Directories whose folded names don't rise.
-    pub unsorted: u64,
-    /// Directories whose parent field isn't their parent's address.
-    pub parents: u64,
+ghost use Rattle.std.specs.Prelude.{◌≡◌, ℕ, List};
+ghost use Rattle.fc_record.specs.declared.Kind.{Kind};
+ghost use Rattle.fc_image.specs.Opening.{Opened};
+ghost use Rattle.fc_image.specs.Report.{counts};
+ghost use Rattle.fc_image.specs.Stays.{OpensAs};
+ghost use Rattle.fc_space.specs.Space.{layout_of};
+ghost use Rattle.fc_tree.specs.Nodes.{nodes_of};
+ghost use Rattle.fc_tree.specs.Parts.{ArePartsOf};
+ghost use Rattle.fc_check.specs.Counted.{counts_in};
+
+use counts::Report;
+use dirs::dir_counts;
+use fc_alloc::Owners;
+use fc_space::Space;
+use fc_tree::Tree;
+use space::space_counts;
+
+/// What a checker tells of the disc of a volume whose parts these are: its tree, its map, and the owners of identifiers.
+/// No memory is taken.
+pub fn report(tree: &Tree, space: &Space, owners: &Owners) -> Report
+    ensures { (image : List ℕ) (kind : Kind) (view : Opened) → OpensAs image kind view
+        → ArePartsOf (record { layout = layout_of space.now; nodes = nodes_of tree.now; owners = owners.now }) view → counts_in result ≡ counts view }
+{
+    let nodes = dir_counts(tree);
+    let sectors = space_counts(space, owners);
+    Report {
+        files: nodes.files,
+        dirs: nodes.dirs,
+        lost: sectors.lost,
+        holes: sectors.holes,
+        free: sectors.free,
+        unsorted: nodes.unsorted,
+        parents: nodes.parents,
+    }
 }
+
+#[cfg(test)]
+mod tests;

@@ -35,8 +35,10 @@ pub struct RunSums {
     pub lost: u64,
 }
 
-// The identifier of the defects, and the map's.
+// The identifier of the disc's defects.
 const DEFECTS_ID: u32 = 1;
+
+// The map's identifier.
 const MAP_ID: u32 = 2;
 
 // Whether an identifier is lost.
@@ -117,6 +119,7 @@ fn old_counts(map: &OldMap, owners: &[Owner]) -> SpaceCounts
 {
     let units = map.sector_units();
     let free = free_units(map.holes());
+    // The map takes one sector of four units, or two of one.
     let map_sectors = if units == 4 { 1 } else { 2 };
     let unfree = (map.disc_units() / units)
         .saturating_sub(map_sectors)

@@ -1,4 +1,4 @@
-use Rattle.std.proofs.Common.{◌+◌, sym, subst, arith}
+use Rattle.std.proofs.Common.{◌+◌, sym, subst}
 use Rattle.fc_tree.specs.Nodes.{nodes_of}
 use Rattle.fc_check.specs.declared.dirs.DirCounts.{DirCounts}
 use Rattle.fc_check.proofs.NodeLemmas.{Count, count_more, count_other}

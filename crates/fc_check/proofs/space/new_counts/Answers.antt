@@ -1,4 +1,4 @@
-use Rattle.std.proofs.Common.{◌≡◌, ◌≤◌, ◌-◌, ◌*◌, List, ap, subst, refl, arith}
+use Rattle.std.proofs.Common.{◌-◌, ◌*◌, List, ap, subst, arith}
 use Rattle.fc_record.specs.declared.Geometry.{Geometry}
 use Rattle.fc_newmap.specs.Map.{ZoneRun, all_runs}
 use Rattle.fc_newmap.specs.Walk.{StandsBefore}

@@ -1,4 +1,4 @@
-use Rattle.std.proofs.Common.{◌≤◌, ◌*◌, ◌^◌, inl, inr, arith}
+use Rattle.std.proofs.Common.{◌≤◌, ◌^◌, inl, inr, arith}
 use Rattle.std.proofs.lemmas.Nat.{mul-le}
 use Rattle.fc_check.proofs.SumLemmas.{holes_low, left_low}
 use Rattle.fc_check.proofs.space.old_counts.Goals as goal
@@ -14,6 +14,6 @@ overflow_mul-result-2 c =
     let low = left_low c.from-2.result c.args.owners.now in
     let few : c.left_by.result ≤ 2 ^ 32 = omega (arith, low, c.left_by.ensures, c.from-2.ensures, c.saturating_sub-unfree.type_inv) in
     let bytes : c.from-3.result ≤ 1024 =
-    elim c.sector_units-units.ensures.units [ | inl one ↦ omega (arith, c.from-3.ensures, one) | inr four ↦ omega (arith, c.from-3.ensures, four) ] in
+    elim c.sector_units-units.ensures.units [ inl one ↦ omega (arith, c.from-3.ensures, one) | inr four ↦ omega (arith, c.from-3.ensures, four) ] in
     let product = mul-le c.left_by.result c.from-3.result (2 ^ 32) 1024 few bytes in
     omega (arith, product)
