@@ -1,1 +1,3 @@
 mod MapsLemmas
+mod MapsOldLemmas
+mod MisplacedLemmas

@@ -1,5 +1,5 @@
 -- Maps as they are read: the bytes in which two records differ, the zones of the copy that counts, and old maps.
-use Rattle.std.proofs.Common.{◌≡◌, ◌<◌, ◌≤◌, ◌∷◌, ◌+◌, ◌*◌, ◌⊎◌, inl, inr, ℕ, Bool, true, false, List, [], length, take, drop, drop_of_length-le, get_or, refl, sym, ap, subst, ◌∙◌, arith}
+use Rattle.std.proofs.Common.{◌≡◌, ◌<◌, ◌≤◌, ◌∷◌, ◌+◌, ◌*◌, ◌/◌, ◌⊎◌, inl, inr, ℕ, Bool, true, false, List, [], length, take, drop, drop_of_length-le, get_or, refl, sym, ap, subst, ◌∙◌, arith}
 use Rattle.std.specs.Prelude.{Option, Some, None, Result, Ok, Err, is_none, not, ◌==◌, slice_index_or}
 use Rattle.std.specs.List.{find, zip}
 use Rattle.std.proofs.lemmas.List.{drop_more}
@@ -16,12 +16,18 @@ use Rattle.fc_newmap.specs.declared.MapError.TheVariants.{Zone}
 use Rattle.fc_newmap.specs.Map.{Map, first_fault, zone_numbers, zones_in}
 use Rattle.fc_newmap.specs.NewMap.{IsOfRecord}
 use Rattle.fc_newmap.specs.Loaded.{unless_fault}
+use Rattle.std.proofs.Math.Nat.{le-div_iff_mul-le, div-mul-le_self}
+use Rattle.fc_newmap.proofs.GeometryLemmas.{facts_of_valid, geometry_of_valid}
 use Rattle.fc_newmap.proofs.HeldLemmas.{geometry_facts, place_fits, sector_is}
 use Rattle.fc_image.specs.declared.ImageFault.{ImageFault}
 use Rattle.fc_image.specs.declared.ImageFault.TheVariants as faults
 use Rattle.fc_image.specs.Layout.{Layout}
 use Rattle.fc_image.specs.Walk.{◌>>=◌}
-use Rattle.fc_image.specs.Opening.{MapAndRoot, agreement, difference, zones_or}
+use Rattle.fc_image.specs.Opening.{MapAndRoot, agreement, copy_or, difference, new_layout, zones_or}
+use Rattle.fc_copies.specs.declared.Which.{Which}
+use Rattle.fc_copies.specs.Copies.{chosen, copy_of}
+use Rattle.fc_volume.specs.declared.lines.MountError.{MountError}
+use Rattle.fc_volume.specs.Answers.{IsFaultOf}
 use Rattle.fc_volume.specs.Maps.{zone_fault, zones_layout}
 
 -- a search stands at a place
@@ -105,3 +111,30 @@ module _ (r : DiscRecord) (zones : List (List ℕ)) (sector : List ℕ) (first :
       → zones_layout r zones ≡ Err (zone_fault wrong)
   zone_wrong own wrong e l =
       own_right own e ∙ loaded_not own wrong (first_fault (geometry r) (zip (zone_numbers (geometry r)) zones)) (record { geometry = geometry r; zones = zones }) l
+
+-- ---- on the disk
+
+pub new_room : (r : DiscRecord) (long size sectors : ℕ) → IsRecord r → size ≡ (geometry r).sector → sectors ≡ long / size → r.size ≤ long
+    → ((geometry r).map_sector + 2 * (geometry r).zones ≤ sectors) × ((geometry r).disc_bits * (geometry r).bit_bytes / (geometry r).sector ≤ sectors)
+new_room r long size sectors is wide whole fits =
+    let g = geometry r in
+    let facts = facts_of_valid r (ap is_none is.valid) in
+    let of : sectors ≡ long / g.sector = whole ∙ ap (λ (n : ℕ). long / n) wide in
+    let some = (geometry_of_valid r (ap is_none is.valid)).some in
+    let ends = facts.fits in
+    let copies : g.map_sector + 2 * g.zones ≤ long / g.sector = (le-div_iff_mul-le some).1 (omega (arith, ends, fits)) in
+    let bits = div-mul-le_self r.size g.bit_bytes in
+    let bytes = div-mul-le_self (g.disc_bits * g.bit_bytes) g.sector in
+    let disc : g.disc_bits * g.bit_bytes / g.sector ≤ long / g.sector = (le-div_iff_mul-le some).1 (omega (arith, bits, bytes, fits)) in
+    (omega (arith, copies, of), omega (arith, disc, of))
+
+-- ---- new maps
+
+pub new_is : (image : List ℕ) (r : DiscRecord) (which : Which) (zones : List (List ℕ)) → chosen (geometry r) image ≡ Ok which → zones ≡ copy_of (geometry r) which image
+    → new_layout image r ≡ zones_layout r zones
+new_is image r which zones choice same = rw (choice, same) refl
+
+pub no_copy : (image : List ℕ) (r : DiscRecord) (e : MountError) → IsFaultOf (copy_or (chosen (geometry r) image)) e → IsFaultOf (new_layout image r) e
+no_copy image r (MountError.Image fault) is = rw is refl
+no_copy image r MountError.DiskFault is = tt
+no_copy image r MountError.NoMemory is = tt

@@ -1,3 +1,4 @@
 pub mod Volume
 pub mod Answers
 pub mod Maps
+pub mod Misplaced

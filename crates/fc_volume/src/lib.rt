@@ -3,6 +3,7 @@
 
 mod lines;
 mod maps;
+mod misplaced;
 mod volume;
 
 pub use lines::{CommandError, FileRef, Line, Listed, MountError};

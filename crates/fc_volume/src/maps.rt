@@ -1,9 +1,11 @@
 // The map of a disk, and where its root is.
-ghost use Rattle.std.specs.Prelude.{◌≡◌, ◌≤◌, ◌<◌, ◌+◌, ◌*◌, ◌/◌, Ok, Err, length, IsTrue, IfOk, IfErr};
+ghost use Rattle.std.specs.Prelude.{◌≡◌, ◌≤◌, ◌<◌, ◌+◌, ◌*◌, ◌/◌, ◌⊎◌, ◌&&◌, ◌==◌, ℕ, Ok, Err, Some, None, length, take, IsTrue, IfOk, IfErr, OnOk, MatchResult};
 ghost use Rattle.std.specs.Option.{ForSome};
 ghost use Rattle.fc_device.specs.Faults.{Rose};
 ghost use Rattle.fc_record.specs.Record.{IsRecord, geometry};
-ghost use Rattle.fc_record.specs.Kinds.{IsKind, disc_size, fits_kind, map_record, sector_size};
+ghost use Rattle.fc_device.specs.Calls.{FailsByFault};
+ghost use Rattle.fc_oldmap.specs.OldMap.{free_space, hole_fault};
+ghost use Rattle.fc_record.specs.Kinds.{IsKind, disc_size, fits_kind, is_old_map, map_record, old_units, sector_size};
 ghost use Rattle.fc_record.specs.Reads.{OnlyReads};
 ghost use Rattle.fc_newmap.specs.Map.{zones_in};
 ghost use Rattle.fc_newmap.specs.NewMap.{IsOfRecord};
@@ -133,5 +135,132 @@ fn read_copy<D: Disk>(alloc: Global, disk: &mut D, g: &Geometry) -> Result<Vec<u
     match fetch(disk, g, which, &mut bytes) {
         Ok(()) => Ok(bytes),
         Err(DiskFault) => Err(MountError::DiskFault),
+    }
+}
+
+// The map of a disc with a new map, whose kind has this record.
+fn read_new<D: Disk>(alloc: Global, disk: &mut D, r: &DiscRecord) -> Result<MapFound, MountError>
+    requires attached { IsTrue (D.attached disk.old) }
+    requires record { IsRecord r.now }
+    requires size { D.sector_size disk.old ≡ (geometry r.now).sector }
+    requires long { r.now.size ≤ D.image_length disk.old }
+    ensures found { IfOk result (λ found. ForSome (D.bytes disk.old) (λ image. new_layout image r.now ≡ Ok (found_of found))) }
+    ensures size { IfOk result (λ found. sector_bytes (layout_of found.space) ≡ D.sector_size disk.old) }
+    ensures room { IfOk result (λ found. disc_sectors (layout_of found.space) ≤ D.sectors disk.old) }
+    ensures fault { IfErr result (λ e. ForSome (D.bytes disk.old) (λ image. IsFaultOf (new_layout image r.now) e)) }
+    ensures reads { OnlyReads D.Disk disk.old disk.new }
+    ensures cause { result ≡ Err MountError.DiskFault → Rose (D.faults disk.old) (D.faults disk.new) }
+{
+    let g = geometry(r);
+    let bytes = match read_copy(alloc, disk, &g) {
+        Ok(bytes) => bytes,
+        Err(error) => return Err(error),
+    };
+    match map_in(bytes, r) {
+        Ok(found) => Ok(found),
+        Err(fault) => Err(MountError::Image(fault)),
+    }
+}
+
+// Reads the 512 bytes of an old map, in the one sector or in the first two.
+fn read_front<D: Disk>(
+    disk: &mut D,
+    sector_units: u32,
+    into: &mut [u8; 1024],
+) -> Result<(), DiskFault>
+    requires attached { IsTrue (D.attached disk.old) }
+    requires size { D.sector_size disk.old ≡ 256 * sector_units }
+    requires units { (sector_units ≡ 1) ⊎ (sector_units ≡ 4) }
+    requires on_disk { 2 ≤ D.sectors disk.old }
+    ensures filled { OnOk result (ForSome (D.bytes disk.old) (λ image. take 512 into.new ≡ take 512 image)) }
+    ensures reads { OnlyReads D.Disk disk.old disk.new }
+    ensures cause { FailsByFault D.Disk disk.old disk.new result }
+{
+    if sector_units == 4 {
+        disk.read(0, into)?;
+        return Ok(());
+    }
+    disk.read(0, &mut into[..256])?;
+    disk.read(1, &mut into[256..512])?;
+    Ok(())
+}
+
+// The old map at the front of a disc of so many units. Its checks, and its units, gave the kind.
+fn old_map_in(front: &[u8], units: u32, sector_units: u32) -> Result<OldMap, ImageFault>
+    requires size { length front.now ≡ 1024 }
+    requires units { (sector_units ≡ 1) ⊎ (sector_units ≡ 4) }
+    ensures map { IfOk result (λ map. (map ≡ free_space (take 512 front.now) sector_units) × (map.disc_units ≡ units)) }
+    ensures holes { IsTrue (is_old_map (take 512 front.now) && (old_units (take 512 front.now) == units)) → MatchResult result (λ _. hole_fault (take 512 front.now) sector_units ≡ None) (λ fault. (index : ℕ) × (hole_fault (take 512 front.now) sector_units ≡ Some index) × (fault ≡ ImageFault.Hole index)) }
+{
+    match OldMap::read(&front[..512], sector_units) {
+        Ok(map) => {
+            if map.disc_units() == units {
+                Ok(map)
+            } else {
+                Err(ImageFault::NoKind)
+            }
+        }
+        Err(OldMapFault::Check { .. }) => Err(ImageFault::NoKind),
+        Err(OldMapFault::Bad { index }) => Err(ImageFault::Hole { index }),
+    }
+}
+
+// The map of a disc with an old map, of so many units, whose root is at a fixed address.
+fn read_old<D: Disk>(
+    disk: &mut D,
+    units: u32,
+    sector_units: u32,
+    root: u32,
+) -> Result<MapFound, MountError>
+    requires attached { IsTrue (D.attached disk.old) }
+    requires size { D.sector_size disk.old ≡ 256 * sector_units }
+    requires units { (sector_units ≡ 1) ⊎ (sector_units ≡ 4) }
+    requires two { 2 * sector_units ≤ units }
+    requires long { 256 * units ≤ D.image_length disk.old }
+    requires fits { ForSome (D.bytes disk.old) (λ image. IsTrue (is_old_map image && (old_units image == units))) }
+    ensures found { IfOk result (λ found. ForSome (D.bytes disk.old) (λ image. old_layout image sector_units root ≡ Ok (found_of found))) }
+    ensures size { IfOk result (λ found. sector_bytes (layout_of found.space) ≡ D.sector_size disk.old) }
+    ensures room { IfOk result (λ found. disc_sectors (layout_of found.space) ≤ D.sectors disk.old) }
+    ensures fault { IfErr result (λ e. ForSome (D.bytes disk.old) (λ image. IsFaultOf (old_layout image sector_units root) e)) }
+    ensures reads { OnlyReads D.Disk disk.old disk.new }
+    ensures cause { result ≡ Err MountError.DiskFault → Rose (D.faults disk.old) (D.faults disk.new) }
+{
+    let mut front = [0u8; 1024];
+    let Ok(()) = read_front(disk, sector_units, &mut front) else {
+        return Err(MountError::DiskFault);
+    };
+    match old_map_in(&front, units, sector_units) {
+        Ok(map) => Ok(MapFound {
+            space: Space::OldMapped(map),
+            root,
+            root_size: 0,
+        }),
+        Err(fault) => Err(MountError::Image(fault)),
+    }
+}
+
+/// The map of a disk and where its root is, as a disc of a kind whose test the image passes. The disk is attached, has
+/// the kind's sectors and is as long as the disc.
+///
+/// The answer is `Image` exactly where the copies of a new map, its record or its zones are wrong, or a hole of an
+/// old map, with the first fault; and `DiskFault` only where the disk's count of faults rose.
+pub fn read_map<D: Disk>(alloc: Global, disk: &mut D, kind: &Kind) -> Result<MapFound, MountError>
+    requires attached { IsTrue (D.attached disk.old) }
+    requires kind { IsKind kind.now }
+    requires size { D.sector_size disk.old ≡ sector_size kind.now }
+    requires long { disc_size kind.now ≤ D.image_length disk.old }
+    requires fits { ForSome (D.bytes disk.old) (λ image. IsTrue (fits_kind image kind.now)) }
+    ensures found { IfOk result (λ found. ForSome (D.bytes disk.old) (λ image. map_and_root image kind.now ≡ Ok (found_of found))) }
+    ensures size { IfOk result (λ found. sector_bytes (layout_of found.space) ≡ D.sector_size disk.old) }
+    ensures room { IfOk result (λ found. disc_sectors (layout_of found.space) ≤ D.sectors disk.old) }
+    ensures fault { IfErr result (λ e. ForSome (D.bytes disk.old) (λ image. IsFaultOf (map_and_root image kind.now) e)) }
+    ensures reads { OnlyReads D.Disk disk.old disk.new }
+    ensures cause { result ≡ Err MountError.DiskFault → Rose (D.faults disk.old) (D.faults disk.new) }
+{
+    match kind {
+        Kind::Boot(r) => read_new(alloc, disk, r),
+        Kind::OneZone(r) => read_new(alloc, disk, r),
+        Kind::DiscD => read_old(disk, 3200, 4, 4),
+        Kind::DiscL { units } => read_old(disk, *units, 1, 2),
     }
 }

@@ -1,0 +1,202 @@
+-- Old maps as they are read from the front of an image.
+use Rattle.std.proofs.Common.{◌≡◌, ◌<◌, ◌≤◌, ◌∷◌, ◌+◌, ◌-◌, ◌*◌, ◌/◌, ◌%◌, ◌⊎◌, inl, inr, ℕ, zero, suc, Bool, true, false, List, [], map, length, take, drop, get_or, refl, sym, ap, ap₂, subst, ◌∙◌, arith, cond}
+use Rattle.std.specs.Prelude.{nat_le, Option, Some, None, Result, Ok, Err, MatchResult, IsTrue, if◌then◌else◌, not, ◌==◌, ◌&&◌, slice_index, slice_index_or, ◌++◌}
+use Rattle.std.specs.List.{range_with_len}
+use Rattle.byteorder.specs.Endian.{little_number}
+use Rattle.std.proofs.lemmas.List.{get_or-take, drop-take, take-take, length-append, length-take-le}
+use Rattle.std.proofs.lemmas.List.FromFn.{map-range_with_len_more}
+use Rattle.std.proofs.lemmas.Bool.{and_from, leb-true}
+use Rattle.std.proofs.Math.Seq.{take-add, take-append_seam}
+use Rattle.std.proofs.lemmas.Slice.{take-put_mid, take-put_mid_below}
+use borrow.Rule.Slice.PartMut.{put_mid}
+use Rattle.fc_bytes.specs.Words.{bytes_at, u24_at}
+use Rattle.fc_checks.specs.Checks.{is_half_right}
+use Rattle.fc_device.specs.Sectors.{sector_at}
+use Rattle.fc_record.specs.Kinds.{is_old_map, old_units}
+use Rattle.fc_oldmap.specs.declared.Hole.{Hole}
+use Rattle.fc_oldmap.specs.declared.OldMapFault.{OldMapFault}
+use Rattle.fc_oldmap.specs.declared.OldMapFault.TheVariants.{Check, Bad}
+use Rattle.fc_oldmap.specs.OldMap.{FreeSpace, free_end, free_space, hole_fault, holes_of, is_free_end, map_units, old_map, stored_hole, stored_holes, wrong_hole}
+use Rattle.fc_oldmap.specs.Holes.{hole}
+use Rattle.fc_image.specs.declared.ImageFault.{ImageFault}
+use Rattle.fc_image.specs.declared.ImageFault.TheVariants as faults
+use Rattle.fc_image.specs.Layout.{Layout}
+use Rattle.fc_image.specs.Opening.{MapAndRoot, holes_or, old_layout}
+
+pub and_parts : (a b : Bool) → (a && b) ≡ true → (a ≡ true) × (b ≡ true)
+and_parts true b e = (refl, e)
+and_parts false b e = absurd (cc)
+
+-- ---- what reading answers
+
+module _ (bytes : List ℕ) (units : ℕ) where
+  first_wrong : is_half_right (bytes_at bytes 0 256) ≡ false → old_map bytes units ≡ Err (Check 0)
+  unfolding old_map
+  first_wrong first = rw first refl
+
+  second_wrong : is_half_right (bytes_at bytes 0 256) ≡ true → is_half_right (bytes_at bytes 256 256) ≡ false → old_map bytes units ≡ Err (Check 1)
+  unfolding old_map
+  second_wrong first second = rw (first, second) refl
+
+  hole_wrong : is_half_right (bytes_at bytes 0 256) ≡ true → is_half_right (bytes_at bytes 256 256) ≡ true → (i : ℕ) → hole_fault bytes units ≡ Some i → old_map bytes units ≡ Err (Bad i)
+  unfolding old_map
+  hole_wrong first second i wrong = rw (first, second, wrong) refl
+
+  all_right : is_half_right (bytes_at bytes 0 256) ≡ true → is_half_right (bytes_at bytes 256 256) ≡ true → hole_fault bytes units ≡ None → old_map bytes units ≡ Ok (free_space bytes units)
+  unfolding old_map
+  all_right first second none = rw (first, second, none) refl
+
+  pub map_read : (m : FreeSpace) → old_map bytes units ≡ Ok m → (m ≡ free_space bytes units) × (hole_fault bytes units ≡ None)
+  map_read m e = go (is_half_right (bytes_at bytes 0 256)) (is_half_right (bytes_at bytes 256 256)) (hole_fault bytes units) refl refl refl
+    where
+      go : (first second : Bool) (fault : Option ℕ) → is_half_right (bytes_at bytes 0 256) ≡ first → is_half_right (bytes_at bytes 256 256) ≡ second → hole_fault bytes units ≡ fault
+          → (m ≡ free_space bytes units) × (hole_fault bytes units ≡ None)
+      go false second fault f s h = absurd (let is = first_wrong f in cc)
+      go true false fault f s h = absurd (let is = second_wrong f s in cc)
+      go true true (Some i) f s h = absurd (let is = hole_wrong f s i h in cc)
+      go true true None f s h = (let is = all_right f s h in cc, h)
+
+  pub hole_read : (index : ℕ) → old_map bytes units ≡ Err (Bad index) → hole_fault bytes units ≡ Some index
+  hole_read index e = go (is_half_right (bytes_at bytes 0 256)) (is_half_right (bytes_at bytes 256 256)) (hole_fault bytes units) refl refl refl
+    where
+      go : (first second : Bool) (fault : Option ℕ) → is_half_right (bytes_at bytes 0 256) ≡ first → is_half_right (bytes_at bytes 256 256) ≡ second → hole_fault bytes units ≡ fault
+          → hole_fault bytes units ≡ Some index
+      go false second fault f s h = absurd (let is = first_wrong f in cc)
+      go true false fault f s h = absurd (let is = second_wrong f s in cc)
+      go true true (Some i) f s h = (let is = hole_wrong f s i h in h ∙ cc)
+      go true true None f s h = absurd (let is = all_right f s h in cc)
+
+  -- the checks are right where they gave the kind
+  pub no_check : (half : ℕ) → is_old_map bytes ≡ true → old_map bytes units ≡ Err (Check half) → ⊥
+  no_check half old e =
+      let right = and_parts (nat_le 512 (length bytes) && is_half_right (bytes_at bytes 0 256)) (is_half_right (bytes_at bytes 256 256)) old in
+      let first = and_parts (nat_le 512 (length bytes)) (is_half_right (bytes_at bytes 0 256)) right.0 in
+      go (hole_fault bytes units) first.1 right.1 refl
+    where
+      go : (fault : Option ℕ) → is_half_right (bytes_at bytes 0 256) ≡ true → is_half_right (bytes_at bytes 256 256) ≡ true → hole_fault bytes units ≡ fault → ⊥
+      go (Some i) f s h = (let is = hole_wrong f s i h in cc)
+      go None f s h = (let is = all_right f s h in cc)
+
+-- ---- the front of an image
+
+pub front_wide : (size : ℕ) (image into : List ℕ) → size ≡ 1024 → into ≡ sector_at size image 0 → take 512 into ≡ take 512 image
+unfolding sector_at
+front_wide size image into wide is =
+    let none : 0 * size ≡ 0 = omega arith in
+    ap (take 512) (is ∙ ap (λ n. take size (drop n image)) none ∙ ap (λ n. take n image) wide) ∙ take-take 512 1024 image (omega arith)
+
+pub front_narrow : (size : ℕ) (image first second rest : List ℕ) → size ≡ 256 → first ≡ sector_at size image 0 → second ≡ sector_at size image 1 → length first ≡ 256 → length second ≡ 256
+    → take 512 (put_mid 256 256 (first ++ rest) second) ≡ take 512 image
+unfolding sector_at
+front_narrow size image first second rest narrow one two long_one long_two =
+    let none : 0 * size ≡ 0 = omega arith in
+    let whole : 1 * size ≡ 256 = omega arith in
+    let a : first ≡ take 256 image = one ∙ ap (λ n. take size (drop n image)) none ∙ ap (λ n. take n image) narrow in
+    let b : second ≡ take 256 (drop 256 image) = two ∙ ap (λ n. take size (drop n image)) whole ∙ ap (λ n. take n (drop 256 image)) narrow in
+    let front : take 256 (first ++ rest) ≡ first = ap (λ n. take n (first ++ rest)) (sym long_one) ∙ take-append_seam first rest in
+    take-put_mid 256 256 (first ++ rest) second 512 (omega arith) (omega (arith, length-append first rest))
+    ∙ ap₂ (λ xs ys. xs ++ ys) (front ∙ a) b ∙ sym (take-add 256 256 image)
+
+little_front : (k : ℕ) (l : List ℕ) → 3 ≤ k → little_number 3 (take k l) ≡ little_number 3 l
+little_front k l high =
+    let a = get_or-take k l 0 0 (omega arith) in
+    let b = get_or-take k l 1 0 (omega arith) in
+    let c = get_or-take k l 2 0 (omega arith) in
+    omega (arith, a, b, c)
+
+u24_front : (image : List ℕ) (i : ℕ) → i + 3 ≤ 512 → u24_at (take 512 image) i ≡ u24_at image i
+u24_front image i low =
+    let k : ℕ = 512 - i in
+    let e : 512 ≡ i + k = omega arith in
+    ap (λ n. little_number 3 (drop i (take n image))) e ∙ ap (little_number 3) (drop-take i k image) ∙ little_front k (drop i image) (omega arith)
+
+end_front : (image : List ℕ) → free_end (take 512 image) ≡ free_end image
+end_front image = get_or-take 512 image 510 0 (omega arith)
+
+hole_front : (image : List ℕ) (i : ℕ) → i < 82 → stored_hole (take 512 image) i ≡ stored_hole image i
+hole_front image i low = ap₂ (λ a b. hole a b) (u24_front image (3 * i) (omega arith)) (u24_front image (256 + 3 * i) (omega arith))
+
+holes_step : (bytes : List ℕ) (n : ℕ) → holes_of bytes (n + 1) ≡ holes_of bytes n ++ stored_hole bytes n ∷ []
+unfolding holes_of
+holes_step bytes n = map-range_with_len_more (stored_hole bytes) 0 n n (omega arith)
+
+holes_front : (image : List ℕ) (n : ℕ) → n ≤ 82 → holes_of (take 512 image) n ≡ holes_of image n
+unfolding holes_of
+holes_front image zero low = refl
+holes_front image (suc n) low =
+    let e : suc n ≡ n + 1 = omega arith in
+    ap (holes_of (take 512 image)) e ∙ holes_step (take 512 image) n
+    ∙ ap₂ (λ hs h. hs ++ h ∷ []) (holes_front image n (omega arith)) (hole_front image n (omega arith))
+    ∙ sym (ap (holes_of image) e ∙ holes_step image n)
+
+few : (n : ℕ) → is_free_end n ≡ true → n / 3 ≤ 82
+few n right = let fits = leb-true n 246 (and_parts (n % 3 == 0) (nat_le n 246) right).1 in omega arith
+
+space_front : (image : List ℕ) (units : ℕ) → is_free_end (free_end image) ≡ true → free_space (take 512 image) units ≡ free_space image units
+space_front image units right =
+    let ends = end_front image in
+    let holes : stored_holes (take 512 image) ≡ stored_holes image = ap (λ n. holes_of (take 512 image) (n / 3)) ends ∙ holes_front image (free_end image / 3) (few (free_end image) right) in
+    ap₂ (λ hs n. let s : FreeSpace = record { holes = hs; disc_units = n; sector_units = units } in s) holes (u24_front image 252 (omega arith))
+
+abbrev fault_by : Bool → ℕ → ℕ → List Hole → ℕ → Option ℕ
+fault_by right disc units holes last = if right then wrong_hole disc units 0 (map_units units) holes else Some (last / 3)
+
+fault_front : (image : List ℕ) (units : ℕ) → hole_fault (take 512 image) units ≡ hole_fault image units
+fault_front image units = go (is_free_end (free_end image)) refl
+  where
+    go : (right : Bool) → is_free_end (free_end image) ≡ right → hole_fault (take 512 image) units ≡ hole_fault image units
+    go true right =
+        let ends = end_front image in
+        let s = space_front image units right in
+        let there : is_free_end (free_end (take 512 image)) ≡ true = ap is_free_end ends ∙ right in
+        ap (λ b. fault_by b (u24_at (take 512 image) 252) units (stored_holes (take 512 image)) (free_end (take 512 image))) there
+        ∙ ap (λ (x : FreeSpace). wrong_hole x.disc_units units 0 (map_units units) x.holes) s
+        ∙ sym (ap (λ b. fault_by b (u24_at image 252) units (stored_holes image) (free_end image)) right)
+    go false wrong =
+        let ends = end_front image in
+        let there : is_free_end (free_end (take 512 image)) ≡ false = ap is_free_end ends ∙ wrong in
+        ap (λ b. fault_by b (u24_at (take 512 image) 252) units (stored_holes (take 512 image)) (free_end (take 512 image))) there
+        ∙ ap (λ n. let o : Option ℕ = Some (n / 3) in o) ends
+        ∙ sym (ap (λ b. fault_by b (u24_at image 252) units (stored_holes image) (free_end image)) wrong)
+
+right_end : (bytes : List ℕ) (units : ℕ) → hole_fault bytes units ≡ None → is_free_end (free_end bytes) ≡ true
+right_end bytes units none = go (is_free_end (free_end bytes)) refl
+  where
+    go : (right : Bool) → is_free_end (free_end bytes) ≡ right → is_free_end (free_end bytes) ≡ true
+    go true right = right
+    go false wrong = absurd (let e = sym (ap (λ b. fault_by b (u24_at bytes 252) units (stored_holes bytes) (free_end bytes)) wrong) ∙ none in cc)
+
+module _ (image front : List ℕ) (units root : ℕ) (same : front ≡ take 512 image) where
+  there : hole_fault front units ≡ hole_fault image units
+  there = ap (λ bs. hole_fault bs units) same ∙ fault_front image units
+
+  pub old_found : (m : FreeSpace) → m ≡ free_space front units → hole_fault front units ≡ None → old_layout image units root ≡ Ok (Layout.Old m, root, 0)
+  old_found m is none =
+      let right = sym there ∙ none in
+      ap (λ o. holes_or (Layout.Old (free_space image units), root, 0) o) right
+      ∙ ap (λ s. let r : Result MapAndRoot ImageFault = Ok (Layout.Old s, root, 0) in r) (sym (is ∙ ap (λ bs. free_space bs units) same ∙ space_front image units (right_end image units right)))
+
+  pub old_wrong : (index : ℕ) → hole_fault front units ≡ Some index → old_layout image units root ≡ Err (faults.Hole index)
+  old_wrong index is = ap (λ o. holes_or (Layout.Old (free_space image units), root, 0) o) (sym there ∙ is)
+
+  -- what gave the kind is true of the front
+  pub old_front : (disc : ℕ) → (is_old_map image && (old_units image == disc)) ≡ true → (is_old_map front && (old_units front == disc)) ≡ true
+  old_front disc fits =
+      let parts = and_parts (is_old_map image) (old_units image == disc) fits in
+      let halves = and_parts (nat_le 512 (length image) && is_half_right (bytes_at image 0 256)) (is_half_right (bytes_at image 256 256)) parts.0 in
+      let first = and_parts (nat_le 512 (length image)) (is_half_right (bytes_at image 0 256)) halves.0 in
+      let long = length-take-le 512 image (leb-true 512 (length image) first.0) in
+      let one : bytes_at (take 512 image) 0 256 ≡ bytes_at image 0 256 = take-take 256 512 image (omega arith) in
+      let two : bytes_at (take 512 image) 256 256 ≡ bytes_at image 256 256 = ap (take 256) (drop-take 256 256 image) ∙ take-take 256 256 (drop 256 image) (omega arith) in
+      ap (λ bs. is_old_map bs && (old_units bs == disc)) same
+      ∙ and_from _ _ (and_from _ _ (and_from _ _ (ap (nat_le 512) long) (ap is_half_right one ∙ first.1)) (ap is_half_right two ∙ halves.1)) (ap (λ n. n == disc) (u24_front image 252 (omega arith)) ∙ parts.1)
+
+pub old_room : (disc units long size sectors : ℕ) → (units ≡ 1) ⊎ (units ≡ 4) → size ≡ 256 * units → sectors ≡ long / size → 256 * disc ≤ long → disc / units ≤ sectors
+old_room disc units long size sectors (inl one) wide whole fits =
+    let s : sectors ≡ long / 256 = whole ∙ ap (λ n. long / n) (let e : size ≡ 256 = omega arith in e) in
+    let d : disc / units ≡ disc / 1 = ap (λ n. disc / n) one in
+    omega arith
+old_room disc units long size sectors (inr four) wide whole fits =
+    let s : sectors ≡ long / 1024 = whole ∙ ap (λ n. long / n) (let e : size ≡ 1024 = omega arith in e) in
+    let d : disc / units ≡ disc / 4 = ap (λ n. disc / n) four in
+    omega arith
