@@ -5,7 +5,7 @@ ghost use Rattle.fc_runs.specs.Replies.{counts_line};
 ghost use Rattle.fc_script.specs.Texts.{free_line, ok_line, refusal_line};
 ghost use Rattle.fc_shell.specs.Told.{told_length, told_lines};
 
-use fc_check::Report;
+use fc_check::counts::Report;
 use fc_device::NoMemory;
 use fc_names::Refusal;
 use fc_script::{check_text, entry_text, error_text, free_text};
