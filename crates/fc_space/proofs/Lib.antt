@@ -3,4 +3,4 @@ pub mod GeometryLemmas
 pub mod PartLemmas
 pub mod SearchLemmas
 pub mod DiscLemmas
-mod NthLemmas
+pub mod NthLemmas

@@ -4,7 +4,7 @@ use Rattle.std.specs.Prelude.{nat_le, ◌==◌, ◌&&◌, ◌||◌, if◌then◌
 use Rattle.std.specs.List.{range_with_len}
 use Rattle.std.specs.Option.{IsSome, option_and_then}
 use Rattle.std.specs.Int.{div_ceil}
-use Rattle.std.proofs.lemmas.Bool.{leb-true, eq-eqb}
+use Rattle.std.proofs.lemmas.Bool.{eq-eqb, eqb-true, leb-true}
 use Rattle.std.proofs.lemmas.Grind.{div_ceil_times}
 use Rattle.std.proofs.lemmas.Nat.{mul-le}
 use Rattle.std.proofs.lemmas.List.{length-take-le}
@@ -18,8 +18,8 @@ use Rattle.fc_newmap.specs.NewMap.{IsNewMap}
 use Rattle.fc_newmap.specs.Walk.{StandsAt}
 use Rattle.fc_newmap.proofs.HeldLemmas.{geometry_facts}
 use Rattle.fc_image.specs.Layout.{Layout, disc_sectors, first_part, id_of, id_sectors, is_among, is_object_id, low_of, low_start, new_sectors, old_sectors, sectors_at, some_sectors}
-use Rattle.fc_space.specs.Space.{nth_sector}
-use Rattle.fc_space.proofs.DiscLemmas.{first_is, id_on_disc}
+use Rattle.fc_space.specs.Space.{PlacesSuffice, Suffice, nth_sector}
+use Rattle.fc_space.proofs.DiscLemmas.{first_is, id_on_disc, old_suffice, part_suffices}
 use Rattle.fc_space.proofs.SearchLemmas.{IsNextOf}
 
 -- ---- lists
@@ -51,7 +51,7 @@ nth_range a count n within =
     slice_get-get_or (range_with_len a count) n 0 (omega (arith, within, length-range_with_len a count))
     ∙ ap (λ (x : ℕ). let o : Option ℕ = Some x in o) (get_or-range_with_len a count n 0 within)
 
-nth_among : (n s : ℕ) (xs : List ℕ) → slice_get xs n ≡ Some s → is_among xs s ≡ true
+pub nth_among : (n s : ℕ) (xs : List ℕ) → slice_get xs n ≡ Some s → is_among xs s ≡ true
 nth_among n s [] e = absurd (cc)
 nth_among zero s (x ∷ xs) e = ap (λ (b : Bool). b || is_among xs s) (eq-eqb x s (let f : x ≡ s = cc in f))
 nth_among (suc n) s (x ∷ xs) e = by (x == s) (is_among xs s) (nth_among n s xs e)
@@ -60,7 +60,7 @@ nth_among (suc n) s (x ∷ xs) e = by (x == s) (is_among xs s) (nth_among n s xs
     by true c f = refl
     by false c f = f
 
-nth_cases : (o : Option (List ℕ)) (n s : ℕ) → option_and_then (λ sectors. slice_get sectors n) o ≡ Some s → (xs : List ℕ) × (o ≡ Some xs) × (slice_get xs n ≡ Some s)
+pub nth_cases : (o : Option (List ℕ)) (n s : ℕ) → option_and_then (λ sectors. slice_get sectors n) o ≡ Some s → (xs : List ℕ) × (o ≡ Some xs) × (slice_get xs n ≡ Some s)
 nth_cases None n s e = absurd (cc)
 nth_cases (Some xs) n s e = (xs, refl, e)
 
@@ -229,3 +229,32 @@ old_few layout space address bytes n units is u either low some =
 
 pub same_sector : (o : Option ℕ) (s t : ℕ) → o ≡ Some s → o ≡ Some t → s ≡ t
 same_sector o s t e f = cc
+
+-- ---- places lie on the disc
+
+empty_suffices : (layout : Layout) (bytes : ℕ) (xs : List ℕ) → bytes ≡ 0 → xs ≡ [] → Suffice layout bytes xs
+empty_suffices layout bytes xs none empty =
+    subst (λ (ys : List ℕ). Suffice layout bytes ys) (sym empty) (record { on_disc = λ s e. absurd (cc); room = omega (arith, none) })
+
+-- no bytes, or some
+either_way : (layout : Layout) (address bytes : ℕ) (xs : List ℕ) → sectors_at layout address bytes ≡ Some xs → ((bytes ≡ 0) × (xs ≡ [])) ⊎ (some_sectors layout address bytes ≡ Some xs)
+unfolding sectors_at
+either_way layout address bytes xs e = by (bytes == 0) refl e
+  where
+    by : (b : Bool) → (bytes == 0) ≡ b → (if b then Some [] else some_sectors layout address bytes) ≡ Some xs → ((bytes ≡ 0) × (xs ≡ [])) ⊎ (some_sectors layout address bytes ≡ Some xs)
+    by true h f = inl (eqb-true bytes 0 h, (let g : xs ≡ [] = cc in g))
+    by false h f = inr f
+
+pub new_places : (m : Map) → IsNewMap m → PlacesSuffice (Layout.New m)
+new_places m is address bytes sectors e = elim (either_way (Layout.New m) address bytes sectors e) [
+  | inl none ↦ empty_suffices (Layout.New m) bytes sectors none.0 none.1
+  | inr some ↦ part_suffices m is (id_of address) (low_start m (low_of address)) (div_ceil bytes m.geometry.sector) m.geometry.sector bytes sectors refl refl (new_part m address bytes sectors some)
+]
+
+pub old_places : (space : FreeSpace) → 0 < space.sector_units → PlacesSuffice (Layout.Old space)
+old_places space units address bytes sectors e = elim (either_way (Layout.Old space) address bytes sectors e) [
+  | inl none ↦ empty_suffices (Layout.Old space) bytes sectors none.0 none.1
+  | inr some ↦ (
+      let part = old_part space address bytes sectors some in
+      old_suffice space bytes (address / space.sector_units) (div_ceil bytes (256 * space.sector_units)) sectors units part.1 refl part.0)
+]

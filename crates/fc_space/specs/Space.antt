@@ -1,5 +1,5 @@
 -- A map as a disc's layout, and what places on the disc have.
-use Rattle.std.specs.Prelude.{◌≡◌, ◌<◌, ◌≤◌, ℕ, ◌*◌, true, List, length, slice_get, Option}
+use Rattle.std.specs.Prelude.{◌≡◌, ◌<◌, ◌≤◌, ℕ, ◌*◌, true, List, length, slice_get, Option, Some}
 use Rattle.std.specs.Option.{option_and_then}
 use Rattle.fc_image.specs.Layout.{Layout, disc_sectors, is_among, sector_bytes, sectors_at}
 use Rattle.fc_space.specs.declared.space.Space.{Space}
@@ -18,3 +18,7 @@ pub record Suffice (layout : Layout) (bytes : ℕ) (sectors : List ℕ) : Type 0
 -- the sector of this number, from 0, among those of the bytes at an address
 abbrev pub nth_sector : Layout → ℕ → ℕ → ℕ → Option ℕ
 nth_sector layout address bytes n = option_and_then (λ sectors. slice_get sectors n) (sectors_at layout address bytes)
+
+-- Bytes that have a place lie on the disc, with room for all of them.
+abbrev pub PlacesSuffice : Layout → Type 0
+PlacesSuffice layout = (address bytes : ℕ) (sectors : List ℕ) → sectors_at layout address bytes ≡ Some sectors → Suffice layout bytes sectors

@@ -3,7 +3,7 @@
 ghost use Rattle.std.specs.Prelude.{◌≡◌, ◌≤◌, ◌↔◌, ◌<◌, ◌^◌, None, Some, IfOk, IsErrOf, IsSome};
 ghost use Rattle.fc_image.specs.Layout.{dir_form, disc_sectors, sector_bytes, sectors_at};
 ghost use Rattle.fc_objects.specs.Extents.{sectors_in};
-ghost use Rattle.fc_space.specs.Space.{Suffice, layout_of, nth_sector};
+ghost use Rattle.fc_space.specs.Space.{PlacesSuffice, Suffice, layout_of, nth_sector};
 
 use crate::PlaceError;
 use crate::new::{low_start, new_place, sector_of_id};
@@ -78,6 +78,20 @@ impl Space {
         match self {
             Space::OldMapped(map) => old_place(alloc, map, address, bytes),
             Space::NewMapped(map) => new_place(alloc, map, address, bytes),
+        }
+    }
+
+    /// A law: bytes that have a place lie on the disc.
+    pub fn places_suffice(&self)
+        ensures { PlacesSuffice (layout_of self.now) }
+    {
+        match self {
+            Space::OldMapped(map) => {
+                let _ = map.sector_units();
+            }
+            Space::NewMapped(map) => {
+                let _ = map.geometry();
+            }
         }
     }
 

@@ -4,6 +4,8 @@
 mod lines;
 mod maps;
 mod misplaced;
+mod pieces;
+mod reading;
 mod volume;
 
 pub use lines::{CommandError, FileRef, Line, Listed, MountError};
