@@ -2,7 +2,5 @@ pub mod ErrorLemmas
 pub mod HashLemmas
 pub mod PieceLemmas
 pub mod ReadingLemmas
-pub mod ReplyLemmas
-pub mod ShortageLemmas
 pub mod ToldLemmas
 pub mod WritingLemmas

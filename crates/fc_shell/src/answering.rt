@@ -26,7 +26,6 @@ ghost use Rattle.fc_shell.specs.Writing.{Wrote, WrotePart};
 use crate::files::{write_digest, write_file};
 use crate::replies::{cat_reply, check_reply, free_reply, refusal_reply};
 use crate::sink::write_all;
-use crate::stubs::{cat, free, load, place};
 use fc_check::report;
 use fc_device::{Disk, NoMemory, Sink};
 use fc_names::{Path, Refusal};
@@ -99,7 +98,7 @@ fn answer_free<K: Sink>(alloc: Global, volume: &Volume, out: &mut K) -> Result<b
     ensures disk_cause { IfErr result (λ fault. fault ≢ LineFault.Disk) }
     ensures out_cause { result ≡ Err LineFault.Out → Rose (K.faults out.old) (K.faults out.new) }
 {
-    let (total, largest) = free(volume);
+    let (total, largest) = volume.free();
     write_text(out, free_reply(alloc, total, largest))?;
     Ok(false)
 }
@@ -133,7 +132,7 @@ fn answer_cat<D: Disk, K: Sink>(
     ensures disk_cause { IfErr result (λ fault. fault ≢ LineFault.Disk) }
     ensures out_cause { result ≡ Err LineFault.Out → Rose (K.faults out.old) (K.faults out.new) }
 {
-    match cat(volume, alloc, disk, path) {
+    match volume.cat(alloc, disk, path) {
         Ok(lines) => answer_lines(alloc, out, &lines),
         Err(CommandError::Refused(refusal)) => answer_refusal(alloc, out, refusal),
         Err(CommandError::NoMemory) => Err(LineFault::NoMemory),
@@ -160,7 +159,7 @@ fn answer_file<D: Disk, K: Sink>(
     ensures disk_cause { result ≡ Err LineFault.Disk → Rose (D.faults disk.old) (D.faults disk.new) }
     ensures out_cause { result ≡ Err LineFault.Out → Rose (K.faults out.old) (K.faults out.new) }
 {
-    let Ok(place) = place(volume, alloc, file) else {
+    let Ok(place) = volume.place(alloc, file) else {
         return Err(LineFault::NoMemory);
     };
     let size = volume.space().sector_bytes() as usize;
@@ -185,7 +184,7 @@ fn answer_sum<D: Disk, K: Sink>(
     ensures disk_cause { result ≡ Err LineFault.Disk → Rose (D.faults disk.old) (D.faults disk.new) }
     ensures out_cause { result ≡ Err LineFault.Out → Rose (K.faults out.old) (K.faults out.new) }
 {
-    let Ok(place) = place(volume, alloc, file) else {
+    let Ok(place) = volume.place(alloc, file) else {
         return Err(LineFault::NoMemory);
     };
     let size = volume.space().sector_bytes() as usize;
@@ -210,7 +209,7 @@ fn answer_load<D: Disk, K: Sink>(
     ensures disk_cause { result ≡ Err LineFault.Disk → Rose (D.faults disk.old) (D.faults disk.new) }
     ensures out_cause { result ≡ Err LineFault.Out → Rose (K.faults out.old) (K.faults out.new) }
 {
-    match load(volume, disk, path) {
+    match volume.load(disk, path) {
         Ok(file) => answer_file(alloc, volume, disk, out, &file),
         Err(CommandError::Refused(refusal)) => answer_refusal(alloc, out, refusal),
         Err(CommandError::NoMemory | CommandError::DiskFault) => unreachable!(),
@@ -234,7 +233,7 @@ fn answer_digest<D: Disk, K: Sink>(
     ensures disk_cause { result ≡ Err LineFault.Disk → Rose (D.faults disk.old) (D.faults disk.new) }
     ensures out_cause { result ≡ Err LineFault.Out → Rose (K.faults out.old) (K.faults out.new) }
 {
-    match load(volume, disk, path) {
+    match volume.load(disk, path) {
         Ok(file) => answer_sum(alloc, volume, disk, out, &file),
         Err(CommandError::Refused(refusal)) => answer_refusal(alloc, out, refusal),
         Err(CommandError::NoMemory | CommandError::DiskFault) => unreachable!(),

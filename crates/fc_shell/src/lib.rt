@@ -9,7 +9,6 @@ mod ending;
 mod files;
 mod replies;
 mod sink;
-mod stubs;
 mod texts;
 
 ghost use Rattle.std.specs.Prelude.{◌≡◌, ◌≢◌, ◌⊎◌, ◌<◌, [], length, map, true, None, Some, IsFalse, option_map, string_bytes};
