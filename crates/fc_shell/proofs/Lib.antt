@@ -1,6 +1,9 @@
+pub mod AnsweredLemmas
 pub mod ErrorLemmas
 pub mod HashLemmas
 pub mod PieceLemmas
 pub mod ReadingLemmas
+pub mod ReplyLemmas
+pub mod ShortageLemmas
 pub mod ToldLemmas
 pub mod WritingLemmas
