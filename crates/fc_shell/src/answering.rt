@@ -8,7 +8,7 @@ ghost use Rattle.fc_model.specs.Command.{Command as Model};
 ghost use Rattle.fc_image.specs.Opening.{Opened};
 ghost use Rattle.fc_image.specs.Report.{counts, free_bytes, largest_hole};
 ghost use Rattle.fc_image.specs.Stays.{OpensAs};
-ghost use Rattle.fc_runs.specs.ReadLaw.{is_reading, reading_reply};
+ghost use Rattle.fc_runs.specs.ReadLaw.{is_reading};
 ghost use Rattle.fc_runs.specs.Replies.{counts_line};
 ghost use Rattle.fc_runs.specs.Run.{is_error};
 ghost use Rattle.fc_script.specs.Lines.{command_of};
@@ -17,7 +17,7 @@ ghost use Rattle.fc_script.specs.Texts.{digest_reply, free_line, load_reply, ok_
 ghost use Rattle.fc_tree.specs.Parts.{ArePartsOf};
 ghost use Rattle.fc_volume.specs.Answers.{IsRef, ref_bytes};
 ghost use Rattle.fc_volume.specs.Volume.{StandsFor, parts_of};
-ghost use Rattle.fc_shell.specs.Answered.{Answered, ForState, Told};
+ghost use Rattle.fc_shell.specs.Answered.{Answered, ForState, Told, volume_line_reply, volume_reply};
 ghost use Rattle.fc_shell.specs.Modes.{reading_mode};
 ghost use Rattle.fc_shell.specs.Replies.{is_unbuilt_command, line_reply};
 ghost use Rattle.fc_shell.specs.Told.{told_lines};
@@ -126,7 +126,7 @@ fn answer_cat<D: Disk, K: Sink>(
 ) -> Result<bool, LineFault>
     requires fit { IsTrue volume.now.fit }
     requires stands { StandsFor D.Disk volume.now disk.old }
-    ensures answered { ForState (D.bytes disk.old) volume.now (λ kind s. Answered (reading_reply (reading_mode kind volume.now) s (Model.Cat path.now)) (K.taken out.old) (K.taken out.new) result) }
+    ensures answered { ForState (D.bytes disk.old) volume.now (λ kind s. Answered (volume_reply kind volume.now s (Model.Cat path.now)) (K.taken out.old) (K.taken out.new) result) }
     ensures disk { disk.new ≡ disk.old }
     ensures out_faults { K.faults out.old ≤ K.faults out.new }
     ensures disk_cause { IfErr result (λ fault. fault ≢ LineFault.Disk) }
@@ -203,7 +203,7 @@ fn answer_load<D: Disk, K: Sink>(
     requires attached { IsTrue (D.attached disk.old) }
     requires fit { IsTrue volume.now.fit }
     requires stands { StandsFor D.Disk volume.now disk.old }
-    ensures answered { ForState (D.bytes disk.old) volume.now (λ kind s. Answered (reading_reply (reading_mode kind volume.now) s (Model.Load path.now)) (K.taken out.old) (K.taken out.new) result) }
+    ensures answered { ForState (D.bytes disk.old) volume.now (λ kind s. Answered (volume_reply kind volume.now s (Model.Load path.now)) (K.taken out.old) (K.taken out.new) result) }
     ensures reads { OnlyReads D.Disk disk.old disk.new }
     ensures out_faults { K.faults out.old ≤ K.faults out.new }
     ensures disk_cause { result ≡ Err LineFault.Disk → Rose (D.faults disk.old) (D.faults disk.new) }
@@ -227,7 +227,7 @@ fn answer_digest<D: Disk, K: Sink>(
     requires attached { IsTrue (D.attached disk.old) }
     requires fit { IsTrue volume.now.fit }
     requires stands { StandsFor D.Disk volume.now disk.old }
-    ensures answered { ForState (D.bytes disk.old) volume.now (λ kind s. Answered (reading_reply (reading_mode kind volume.now) s (Model.Digest path.now)) (K.taken out.old) (K.taken out.new) result) }
+    ensures answered { ForState (D.bytes disk.old) volume.now (λ kind s. Answered (volume_reply kind volume.now s (Model.Digest path.now)) (K.taken out.old) (K.taken out.new) result) }
     ensures reads { OnlyReads D.Disk disk.old disk.new }
     ensures out_faults { K.faults out.old ≤ K.faults out.new }
     ensures disk_cause { result ≡ Err LineFault.Disk → Rose (D.faults disk.old) (D.faults disk.new) }
@@ -254,7 +254,7 @@ fn answer_command<D: Disk, K: Sink>(
     requires fit { IsTrue volume.now.fit }
     requires stands { StandsFor D.Disk volume.now disk.old }
     requires reading { IsTrue (is_reading (command asked.now)) }
-    ensures answered { ForState (D.bytes disk.old) volume.now (λ kind s. Answered (reading_reply (reading_mode kind volume.now) s (command asked.now)) (K.taken out.old) (K.taken out.new) result) }
+    ensures answered { ForState (D.bytes disk.old) volume.now (λ kind s. Answered (volume_reply kind volume.now s (command asked.now)) (K.taken out.old) (K.taken out.new) result) }
     ensures reads { OnlyReads D.Disk disk.old disk.new }
     ensures out_faults { K.faults out.old ≤ K.faults out.new }
     ensures disk_cause { result ≡ Err LineFault.Disk → Rose (D.faults disk.old) (D.faults disk.new) }
@@ -289,7 +289,7 @@ fn answer<D: Disk, K: Sink>(
     requires fit { IsTrue volume.now.fit }
     requires stands { StandsFor D.Disk volume.now disk.old }
     requires built { IsFalse (is_unbuilt_command (command_of line.now)) }
-    ensures answered { ForState (D.bytes disk.old) volume.now (λ kind s. Answered (line_reply (reading_mode kind volume.now) s line.now) (K.taken out.old) (K.taken out.new) result) }
+    ensures answered { ForState (D.bytes disk.old) volume.now (λ kind s. Answered (volume_line_reply kind volume.now s line.now) (K.taken out.old) (K.taken out.new) result) }
     ensures reads { OnlyReads D.Disk disk.old disk.new }
     ensures out_faults { K.faults out.old ≤ K.faults out.new }
     ensures disk_cause { result ≡ Err LineFault.Disk → Rose (D.faults disk.old) (D.faults disk.new) }
