@@ -2,4 +2,12 @@ mod LineLemmas
 mod ReadsLemmas
 mod RunningLemmas
 mod ServingLemmas
+pub mod AnsweredLemmas
+pub mod ErrorLemmas
+pub mod HashLemmas
+pub mod PieceLemmas
+pub mod ReadingLemmas
+pub mod ReplyLemmas
+pub mod ShortageLemmas
+pub mod ToldLemmas
 pub mod WritingLemmas

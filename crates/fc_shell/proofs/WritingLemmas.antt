@@ -70,3 +70,25 @@ all_given text (Some rest) count into given end =
 pub ok_holds : {T E : Type 0} (result : Result T E) (P : Type 0) → false ≡ is_err result → OnOk result P → P
 ok_holds (Ok v) P none holds = holds
 ok_holds (Err e) P none holds = absurd (cc)
+
+-- nothing is a part of each text
+pub part_none : (told : Option (List ℕ)) (text : List ℕ) → WrotePart told told text
+part_none told text = (0, wrote_nothing told)
+
+-- ---- a text in pieces: some are done, and a piece stands before the rest
+
+-- a piece more
+pub one_more : (before mid after : Option (List ℕ)) (all done piece rest : List ℕ) → Wrote before mid done → all ≡ done ++ (piece ++ rest) → Wrote mid after piece
+    → (more : List ℕ) × Wrote before after more × (all ≡ more ++ rest)
+one_more before mid after all done piece rest first so_far second =
+    (done ++ piece, wrote_both before mid after done piece first second, so_far ∙ sym (append_assoc done piece rest))
+
+-- a part of a piece more
+pub part_more : (before mid after : Option (List ℕ)) (all done piece rest : List ℕ) → Wrote before mid done → all ≡ done ++ (piece ++ rest) → WrotePart mid after piece
+    → WrotePart before after all
+part_more before mid after all done piece rest first so_far part =
+    subst (WrotePart before after) (sym so_far) (part_of_second before mid after done (piece ++ rest) first (part_of_first mid after piece rest part))
+
+-- no piece is left
+pub all_done : (before after : Option (List ℕ)) (all done rest : List ℕ) → Wrote before after done → all ≡ done ++ rest → rest ≡ [] → Wrote before after all
+all_done before after all done rest first so_far none = subst (Wrote before after) (sym (so_far ∙ ap (λ xs. done ++ xs) none ∙ append-nil done)) first

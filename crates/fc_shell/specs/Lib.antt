@@ -1,10 +1,13 @@
+pub mod Answered
 pub mod Ends
 pub mod Left
 pub mod Lines
 pub mod Modes
+pub mod Readable
 pub mod Reading
 pub mod ReadsLaw
 pub mod Replies
 pub mod Script
 pub mod Serving
+pub mod Told
 pub mod Writing

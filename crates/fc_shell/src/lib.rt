@@ -6,8 +6,10 @@
 
 mod answering;
 mod ending;
+mod files;
 mod judging;
 mod lines;
+mod replies;
 mod running;
 mod script;
 mod sink;

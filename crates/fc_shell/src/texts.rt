@@ -1,25 +1,15 @@
-// The lines of refusals and of bad images.
-ghost use Rattle.std.specs.Prelude.{◌≡◌, ◌++◌, ◌∷◌, [], IfOk, OnOk, string_bytes, codes};
+// The line of an image that isn't accepted.
+ghost use Rattle.std.specs.Prelude.{◌≡◌, ◌++◌, ◌∷◌, [], IfOk, OnOk, codes};
 ghost use Rattle.std.specs.Fmt.{decimal};
 ghost use Rattle.fc_names.specs.Paths.{spelled_path};
-ghost use Rattle.fc_script.specs.Texts.{refusal_line};
 ghost use Rattle.fc_runs.specs.Replies.{bad_image_line, dir_fault_words, fault_words};
 ghost use Rattle.fc_shell.specs.Lines.{spaced};
 
 use fc_device::NoMemory;
 use fc_dirs::DirFault;
 use fc_image::ImageFault;
-use fc_names::{Path, Refusal, write_name};
+use fc_names::{Path, write_name};
 use std::alloc::Global;
-
-/// The line of a refusal.
-pub fn refusal_line(alloc: Global, refusal: Refusal) -> Result<String, NoMemory>
-    ensures { IfOk result (λ line. string_bytes line ≡ refusal_line refusal) }
-{
-    let number = refusal.number();
-    let word = refusal.word();
-    Ok(format!(in alloc; "error {number} {word}\n")?)
-}
 
 // Appends a space and a word.
 fn push_word(line: &mut Vec<u8>, word: &[u8]) -> Result<(), NoMemory>

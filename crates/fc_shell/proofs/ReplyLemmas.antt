@@ -1,0 +1,118 @@
+-- The reply of a command, by what a volume answers.
+use Rattle.std.proofs.Common.{◌≡◌, ℕ, Bool, true, false, List, [], ◌∷◌, ◌++◌, map, refl, sym, ap, ap₂, subst, ◌∙◌, Some, None, Option, Result, Ok, Err}
+use Rattle.std.specs.List.{flat_map}
+use Rattle.std.specs.FinMap.{get}
+use Rattle.std.specs.Option.{option_map_or, unwrap_or}
+use Rattle.std.proofs.lemmas.List.Folds.{flat_map-map}
+use Rattle.fc_device.specs.declared.disk.Extent.{Extent}
+use Rattle.fc_names.specs.declared.refusal.Refusal.{Refusal}
+use Rattle.fc_names.specs.declared.name.NameForm.{NameForm}
+use Rattle.fc_names.specs.Names.{Path}
+use Rattle.fc_record.specs.declared.Kind.{Kind}
+use Rattle.fc_model.specs.Tree.{Body, Node as ModelNode, Tree, children, node_at}
+use Rattle.fc_model.specs.Command.{Command}
+use Rattle.fc_model.specs.Answer.{answer}
+use Rattle.fc_image.specs.Layout.{bytes_in, dir_form, sector_bytes, sectors_at}
+use Rattle.fc_image.specs.Opening.{Opened}
+use Rattle.fc_image.specs.Stays.{OpensAs}
+use Rattle.fc_objects.specs.Extents.{sectors_in}
+use Rattle.fc_effects.specs.Effect.{State, tree_in}
+use Rattle.fc_script.specs.Lines.{command_of}
+use Rattle.fc_script.specs.Texts.{cat_reply, node_line, ok_line, refusal_line}
+use Rattle.fc_runs.specs.ReadLaw.{answered_reply, is_reading, served_reply}
+use Rattle.fc_runs.specs.Replies.{bytes_of, reply_to}
+use Rattle.fc_runs.specs.Run.{Mode, shortage}
+use Rattle.fc_tree.specs.declared.node.Node.{Node}
+use Rattle.fc_tree.specs.Nodes.{nodes_of}
+use Rattle.fc_volume.specs.declared.lines.FileRef.{FileRef}
+use Rattle.fc_volume.specs.declared.lines.Line.{Line}
+use Rattle.fc_volume.specs.Answers.{IsPlace, IsRef, bytes_in_node, file_bytes, line_in, lines_in, ref_bytes}
+use Rattle.fc_volume.specs.Volume.{Volume, parts_of}
+use Rattle.fc_shell.specs.Answered.{volume_line_reply, volume_reply}
+use Rattle.fc_shell.specs.Modes.{reading_mode}
+use Rattle.fc_shell.specs.Replies.{command_reply, line_reply}
+use Rattle.fc_shell.specs.Told.{told_line, told_lines}
+use Rattle.fc_shell.proofs.ShortageLemmas.{shortage_none}
+
+-- ---- accepted and refused
+
+module _ (kind : Kind) (v : Volume) (image : List ℕ) (view : Opened) (c : Command) where
+  -- an accepted command's reply is what it tells
+  pub accepted : (t : Tree) → OpensAs image kind view → is_reading c ≡ true
+      → answer (tree_in (record { image = image; view = view })) (dir_form view.layout) v.read_only c ≡ Ok t
+      → volume_reply kind v (record { image = image; view = view }) c ≡ reply_to (tree_in (record { image = image; view = view })) view c
+  unfolding volume_reply
+  accepted t opens reads is =
+      let s : State = record { image = image; view = view } in
+      ap (answered_reply (reading_mode kind v) s c) is ∙ ap (served_reply s c) (shortage_none image kind view c opens reads)
+
+  -- a refused one's is the refusal's line
+  pub refused : (refusal : Refusal) → answer (tree_in (record { image = image; view = view })) (dir_form view.layout) v.read_only c ≡ Err refusal
+      → volume_reply kind v (record { image = image; view = view }) c ≡ refusal_line refusal
+  unfolding volume_reply
+  refused refusal is = let s : State = record { image = image; view = view } in ap (answered_reply (reading_mode kind v) s c) is
+
+-- `digest` is refused where `load` is
+pub same_answer : (t : Tree) (form : NameForm) (read_only : Bool) (path : Path) → answer t form read_only (Command.Digest path) ≡ answer t form read_only (Command.Load path)
+unfolding answer
+same_answer t form read_only path = refl
+
+-- ---- directories
+
+entry_same : (n : ModelNode) → told_line (line_in n) ≡ node_line n
+entry_same n = by n.body refl
+  where
+    by : (body : Body) → n.body ≡ body → told_line (line_in n) ≡ node_line n
+    by (Body.File bytes) is = rw is refl
+    by Body.Directory is = rw is refl
+
+-- what is told of a directory is the reply of `cat`
+pub cat_told : (t : Tree) (path : Path) (lines : List Line) → lines ≡ lines_in t path → told_lines lines ≡ cat_reply (map (λ e. e.1) (children t path))
+cat_told t path lines is = ap told_lines is ∙ ap (λ text. text ++ ok_line) (all (children t path))
+  where
+    all : (es : List (Path × ModelNode)) → flat_map told_line (map (λ e. line_in e.1) es) ≡ flat_map node_line (map (λ e. e.1) es)
+    all [] = refl
+    all (e ∷ es) = ap₂ (λ (a b : List ℕ). a ++ b) (entry_same e.1) (all es)
+
+-- ---- files
+
+-- the bytes of a node
+pub bytes_same : (node : Option ModelNode) → bytes_in_node node ≡ bytes_of node
+bytes_same None = refl
+bytes_same (Some n) = by n.body refl
+  where
+    by : (body : Body) → n.body ≡ body → bytes_in_node (Some n) ≡ bytes_of (Some n)
+    by (Body.File bytes) is = rw is refl
+    by Body.Directory is = rw is refl
+
+same_node : (x y : Node) → (let o : Option Node = Some x in o) ≡ Some y → x ≡ y
+same_node x y e = cc
+
+-- the bytes at a file's place
+pub place_bytes : (image : List ℕ) (v : Volume) (f : FileRef) (place : List Extent) → IsRef v f → IsPlace v f place
+    → ref_bytes image v f ≡ bytes_in (sector_bytes (parts_of v).layout) image (sectors_in place) f.len
+place_bytes image v f place named is =
+    let node = named.0 in
+    let layout = (parts_of v).layout in
+    let same : is.node ≡ node = same_node is.node node (sym is.named ∙ named.1) in
+    let at : sectors_at layout node.entry.address node.entry.len ≡ Some (sectors_in place) =
+    ap₂ (λ (n : Node) (len : ℕ). sectors_at layout n.entry.address len) (sym same) (sym named.3) ∙ is.sectors in
+    ap (λ (o : Option Node). option_map_or (λ n. file_bytes image layout n.entry) o []) named.1
+    ∙ ap₂ (λ (o : Option (List ℕ)) (len : ℕ). bytes_in (sector_bytes layout) image (unwrap_or o []) len) at (sym named.3)
+
+-- ---- lines
+
+-- a line that spells a command has that command's reply
+pub line_is : (kind : Kind) (v : Volume) (s : State) (line : List ℕ) (c : Command) → command_of line ≡ Ok c → volume_line_reply kind v s line ≡ volume_reply kind v s c
+unfolding volume_line_reply volume_reply
+line_is kind v s line c is = ap (command_reply (reading_mode kind v) s) is
+
+-- another line has its refusal's
+pub line_refused : (kind : Kind) (v : Volume) (s : State) (line : List ℕ) (refusal : Refusal) → command_of line ≡ Err refusal → volume_line_reply kind v s line ≡ refusal_line refusal
+unfolding volume_line_reply
+line_refused kind v s line refusal is = ap (command_reply (reading_mode kind v) s) is
+
+-- the reply as runs say it
+pub line_same : (kind : Kind) (v : Volume) (s : State) (line : List ℕ) → line_reply (reading_mode kind v) s line ≡ volume_line_reply kind v s line
+unfolding volume_line_reply
+line_same kind v s line = refl
