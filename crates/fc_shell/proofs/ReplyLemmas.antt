@@ -1,5 +1,5 @@
 -- The reply of a command, by what a volume answers.
-use Rattle.std.proofs.Common.{◌≡◌, ℕ, Bool, true, false, List, [], ◌∷◌, ◌++◌, map, refl, sym, ap, ap₂, subst, ◌∙◌, Some, None, Option, Result, Ok, Err}
+use Rattle.std.proofs.Common.{◌≡◌, ℕ, Bool, true, false, not, List, [], ◌∷◌, ◌++◌, map, refl, sym, ap, ap₂, subst, ◌∙◌, Some, None, Option, Result, Ok, Err}
 use Rattle.std.specs.List.{flat_map}
 use Rattle.std.specs.FinMap.{get}
 use Rattle.std.specs.Option.{option_map_or, unwrap_or}
@@ -18,6 +18,8 @@ use Rattle.fc_image.specs.Stays.{OpensAs}
 use Rattle.fc_objects.specs.Extents.{sectors_in}
 use Rattle.fc_effects.specs.Effect.{State, tree_in}
 use Rattle.fc_script.specs.Lines.{command_of}
+use Rattle.fc_script.specs.Reading.{command}
+use Rattle.fc_script.specs.declared.command.Command.{Command as Told}
 use Rattle.fc_script.specs.Texts.{cat_reply, node_line, ok_line, refusal_line}
 use Rattle.fc_runs.specs.ReadLaw.{answered_reply, is_reading, served_reply}
 use Rattle.fc_runs.specs.Replies.{bytes_of, reply_to}
@@ -56,6 +58,40 @@ module _ (kind : Kind) (v : Volume) (image : List ℕ) (view : Opened) (c : Comm
 pub same_answer : (t : Tree) (form : NameForm) (read_only : Bool) (path : Path) → answer t form read_only (Command.Digest path) ≡ answer t form read_only (Command.Load path)
 unfolding answer
 same_answer t form read_only path = refl
+
+-- `free` and `check` are never refused
+pub free_answer : (t : Tree) (form : NameForm) (read_only : Bool) → answer t form read_only Command.Free ≡ Ok t
+unfolding answer
+free_answer t form read_only = refl
+
+pub check_answer : (t : Tree) (form : NameForm) (read_only : Bool) → answer t form read_only Command.Check ≡ Ok t
+unfolding answer
+check_answer t form read_only = refl
+
+-- a command that is built reads
+pub not_false : (asked : Told) → not (is_reading (command asked)) ≡ false → is_reading (command asked) ≡ true
+not_false asked = by (is_reading (command asked))
+  where
+    by : (b : Bool) → not b ≡ false → b ≡ true
+    by true e = refl
+    by false e = absurd (cc)
+
+-- no other command reads
+pub no_other : (asked : Told) → is_reading (command asked) ≡ true → ((path : Path) → asked ≡ Told.Cat path → ⊥) → ((path : Path) → asked ≡ Told.Load path → ⊥)
+    → ((path : Path) → asked ≡ Told.Digest path → ⊥) → (asked ≡ Told.Free → ⊥) → (asked ≡ Told.Check → ⊥) → ⊥
+no_other (Told.Cat path) reads cat load digest free check = cat path refl
+no_other (Told.Load path) reads cat load digest free check = load path refl
+no_other (Told.Digest path) reads cat load digest free check = digest path refl
+no_other Told.Free reads cat load digest free check = free refl
+no_other Told.Check reads cat load digest free check = check refl
+no_other (Told.Cdir path) reads cat load digest free check = absurd (cc)
+no_other (Told.Delete path) reads cat load digest free check = absurd (cc)
+no_other (Told.Save path w x bytes) reads cat load digest free check = absurd (cc)
+no_other (Told.Create path w x len) reads cat load digest free check = absurd (cc)
+no_other (Told.Rename from to) reads cat load digest free check = absurd (cc)
+no_other (Told.Set path w x access) reads cat load digest free check = absurd (cc)
+no_other Told.Compact reads cat load digest free check = absurd (cc)
+no_other Told.Reclaim reads cat load digest free check = absurd (cc)
 
 -- ---- directories
 

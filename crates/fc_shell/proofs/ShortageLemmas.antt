@@ -97,12 +97,12 @@ new_enough ids bits some need none nought =
 
 old_enough : (space : FreeSpace) (need : ℕ) → need ≡ 0 → length space.holes ≤ hole_limit
     → first_of (when (nat_lt (hole_sum space.holes) need) refusals.DiscFull
-        ∷ when (nat_lt 0 need && is_none (first_fit_place need space.holes)) refusals.CompactionRequired
-        ∷ when (nat_lt hole_limit (length (with_space_of space None (holes_without need space.holes)))) refusals.MapFull ∷ []) ≡ None
+    ∷ when (nat_lt 0 need && is_none (first_fit_place need space.holes)) refusals.CompactionRequired
+    ∷ when (nat_lt hole_limit (length (with_space_of space None (holes_without need space.holes)))) refusals.MapFull ∷ []) ≡ None
 old_enough space need none few =
     subst (λ (n : ℕ). first_of (when (nat_lt (hole_sum space.holes) n) refusals.DiscFull
-        ∷ when (nat_lt 0 n && is_none (first_fit_place n space.holes)) refusals.CompactionRequired
-        ∷ when (nat_lt hole_limit (length (with_space_of space None (holes_without n space.holes)))) refusals.MapFull ∷ []) ≡ None) (sym none)
+    ∷ when (nat_lt 0 n && is_none (first_fit_place n space.holes)) refusals.CompactionRequired
+    ∷ when (nat_lt hole_limit (length (with_space_of space None (holes_without n space.holes)))) refusals.MapFull ∷ []) ≡ None) (sym none)
     (ap₂ (λ (a b : Bool). first_of (when a refusals.DiscFull ∷ when (false && is_none (first_fit_place 0 space.holes)) refusals.CompactionRequired ∷ when b refusals.MapFull ∷ [])) (none_below (hole_sum space.holes)) (not_less (length space.holes) few))
 
 reason_none : (layout : Layout) (c : Command) → is_reading c ≡ true → layout_reason layout c ≡ None

@@ -62,11 +62,7 @@ fn write_text<K: Sink>(out: &mut K, text: Result<Vec<u8>, NoMemory>) -> Result<(
 }
 
 // Answers that a command is refused.
-fn answer_refusal<K: Sink>(
-    alloc: Global,
-    out: &mut K,
-    refusal: Refusal,
-) -> Result<bool, LineFault>
+fn answer_refusal<K: Sink>(alloc: Global, out: &mut K, refusal: Refusal) -> Result<bool, LineFault>
     ensures answered { Answered (refusal_line refusal) (K.taken out.old) (K.taken out.new) result }
     ensures out_faults { K.faults out.old ≤ K.faults out.new }
     ensures disk_cause { IfErr result (λ fault. fault ≢ LineFault.Disk) }
@@ -77,11 +73,7 @@ fn answer_refusal<K: Sink>(
 }
 
 // Answers with the lines of a directory.
-fn answer_lines<K: Sink>(
-    alloc: Global,
-    out: &mut K,
-    lines: &Vec<Line>,
-) -> Result<bool, LineFault>
+fn answer_lines<K: Sink>(alloc: Global, out: &mut K, lines: &Vec<Line>) -> Result<bool, LineFault>
     ensures answered { Answered (told_lines lines.now.items) (K.taken out.old) (K.taken out.new) result }
     ensures out_faults { K.faults out.old ≤ K.faults out.new }
     ensures disk_cause { IfErr result (λ fault. fault ≢ LineFault.Disk) }
@@ -212,7 +204,8 @@ fn answer_load<D: Disk, K: Sink>(
     match volume.load(disk, path) {
         Ok(file) => answer_file(alloc, volume, disk, out, &file),
         Err(CommandError::Refused(refusal)) => answer_refusal(alloc, out, refusal),
-        Err(CommandError::NoMemory | CommandError::DiskFault) => unreachable!(),
+        Err(CommandError::NoMemory) => Err(LineFault::NoMemory),
+        Err(CommandError::DiskFault) => unreachable!(),
     }
 }
 
@@ -236,7 +229,8 @@ fn answer_digest<D: Disk, K: Sink>(
     match volume.load(disk, path) {
         Ok(file) => answer_sum(alloc, volume, disk, out, &file),
         Err(CommandError::Refused(refusal)) => answer_refusal(alloc, out, refusal),
-        Err(CommandError::NoMemory | CommandError::DiskFault) => unreachable!(),
+        Err(CommandError::NoMemory) => Err(LineFault::NoMemory),
+        Err(CommandError::DiskFault) => unreachable!(),
     }
 }
 
@@ -266,14 +260,7 @@ fn answer_command<D: Disk, K: Sink>(
         Command::Digest { path } => answer_digest(alloc, volume, disk, out, path),
         Command::Free => answer_free(alloc, volume, out),
         Command::Check => answer_check(alloc, volume, out),
-        Command::Cdir { .. }
-        | Command::Delete { .. }
-        | Command::Save { .. }
-        | Command::Create { .. }
-        | Command::Rename { .. }
-        | Command::Set { .. }
-        | Command::Compact
-        | Command::Reclaim => unreachable!(),
+        _ => unreachable!(),
     }
 }
 
@@ -318,7 +305,7 @@ pub fn answer_line<D: Disk, K: Sink>(
     requires built { IsFalse (is_unbuilt_command (command_of line.now)) }
     ensures written { ForSome (D.bytes disk.old) (λ image. (kind : Kind) (view : Opened) → OpensAs image kind view → ArePartsOf (parts_of volume.now) view
         → IfOk result (λ refused. Wrote (K.taken out.old) (K.taken out.new) (line_reply (reading_mode kind volume.now) (record { image = image; view = view }) line.now)
-            × (refused ≡ is_error (line_reply (reading_mode kind volume.now) (record { image = image; view = view }) line.now)))) }
+        × (refused ≡ is_error (line_reply (reading_mode kind volume.now) (record { image = image; view = view }) line.now)))) }
     ensures part { ForSome (D.bytes disk.old) (λ image. (kind : Kind) (view : Opened) → OpensAs image kind view → ArePartsOf (parts_of volume.now) view
         → WrotePart (K.taken out.old) (K.taken out.new) (line_reply (reading_mode kind volume.now) (record { image = image; view = view }) line.now)) }
     ensures reads { OnlyReads D.Disk disk.old disk.new }

@@ -30,7 +30,7 @@ returns-in-Err-Refused-clause-answered g c = λ image told kind view opens parts
     let path = c.args.path.now in
     let s : State = record { image = image; view = view } in
     let h = subst (IsRefusalOf (answer (tree_in s) (dir_form view.layout) v.read_only (Command.Cat path))) c.in-Err-Refused.field-0-is
-        (c.in-Err-Refused.ensures.answer image kind view opens parts) in
+    (c.in-Err-Refused.ensures.answer image kind view opens parts) in
     answered_same (refusal_line c.in-Err-Refused.refusal) (volume_reply kind v s (Command.Cat path)) (taken c.args.out.now) (taken c.answer_refusal.new.out) c.answer_refusal.result
     (refused kind v image view (Command.Cat path) c.in-Err-Refused.refusal h)
     c.answer_refusal.ensures.answered
