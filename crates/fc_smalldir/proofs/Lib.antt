@@ -10,4 +10,3 @@ pub mod ReadBack
 pub mod SmallLemmas
 pub mod FaultLemmas
 pub mod WriteLemmas
-pub mod UncheckedLemmas

@@ -9,13 +9,11 @@ mod entries;
 mod entry;
 mod head;
 mod small;
-mod unchecked;
 
 ghost use Rattle.fc_smalldir.specs.Laws.{ReadsBack};
 
 pub use fc_dirs::{DirError, DirFault, Entry, InsertError, SmallForm};
 pub use small::SmallDir;
-pub use unchecked::read_unchecked;
 
 /// A law: what is written reads as the same head and entries.
 pub fn reads_back()

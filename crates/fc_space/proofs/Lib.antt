@@ -4,3 +4,4 @@ pub mod PartLemmas
 pub mod SearchLemmas
 pub mod DiscLemmas
 pub mod NthLemmas
+pub mod SumLemmas

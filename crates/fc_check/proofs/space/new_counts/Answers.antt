@@ -4,7 +4,8 @@ use Rattle.fc_newmap.specs.Map.{ZoneRun, all_runs}
 use Rattle.fc_newmap.specs.Walk.{StandsBefore}
 use Rattle.fc_newmap.proofs.HeldLemmas.{geometry_facts}
 use Rattle.fc_newmap.proofs.WalkLemmas.{all_is}
-use Rattle.fc_check.proofs.SumLemmas.{bytes_fit, come_end, come_on, run_room}
+use Rattle.fc_check.proofs.SumLemmas.{come_end, come_on, run_room}
+use Rattle.fc_space.proofs.SumLemmas.{bytes_fit}
 use Rattle.fc_check.proofs.space.new_counts.Goals as goal
 
 pub overflow_sub-g : goal.overflow_sub-g

@@ -1,6 +1,7 @@
 use Rattle.std.proofs.Common.{◌≤◌, ◌^◌, inl, inr, arith}
 use Rattle.std.proofs.lemmas.Nat.{mul-le}
-use Rattle.fc_check.proofs.SumLemmas.{holes_low, left_low}
+use Rattle.fc_check.proofs.SumLemmas.{left_low}
+use Rattle.fc_space.proofs.SumLemmas.{holes_low}
 use Rattle.fc_check.proofs.space.old_counts.Goals as goal
 
 pub free_units-free-requires : goal.free_units-free-requires

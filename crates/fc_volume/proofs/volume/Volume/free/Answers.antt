@@ -1,5 +1,5 @@
 use Rattle.std.proofs.Common.{arith}
-use Rattle.fc_volume.proofs.FreeLemmas.{holes_low}
+use Rattle.fc_space.proofs.SumLemmas.{holes_low}
 use Rattle.fc_volume.proofs.volume.Volume.free.Goals as goal
 
 pub old_free-requires : goal.old_free-requires
