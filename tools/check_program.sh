@@ -66,6 +66,10 @@ outside_fails() {
   expect 'standard input is a folder' 5 $?
   "$program" 'a folder' < run/script > run/answer
   expect 'the image is a folder' 4 $?
+  "$program" hello.adf/image < run/script > run/answer
+  expect 'the image is sought in a file' 12 $?
+  "$program" --new E absent/fresh.adf < run/script > run/answer
+  expect 'the folder of a fresh image is absent' 4 $?
   "$program" $'h\xffllo.adf' < run/script > run/answer
   expect 'the name is not text' 2 $?
   # Whatever the answer, the image must not be taken for the standard output: the sums show it.

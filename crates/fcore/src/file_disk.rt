@@ -9,6 +9,20 @@ use std::fs::{OpenFile, OpenOptions};
 use std::io::{self, ErrorKind, Read, Seek, SeekFrom, Write};
 use std::rt::Files;
 
+// Whether a file may be read all the same.
+fn is_read_only(kind: ErrorKind) -> bool {
+    kind == ErrorKind::PermissionDenied || kind == ErrorKind::ReadOnlyFilesystem
+}
+
+// Whether the name isn't given: no file of that name is there, or one is where it is to be made.
+fn is_not_given(kind: ErrorKind, make: bool) -> bool {
+    if make {
+        kind == ErrorKind::AlreadyExists
+    } else {
+        kind == ErrorKind::NotFound || kind == ErrorKind::NotADirectory
+    }
+}
+
 // What reaches the file. Nothing is claimed of it.
 #[derive(Drop)]
 struct Edge<R: Files + Drop> {
@@ -24,7 +38,7 @@ impl<R: Files + Drop> Edge<R> {
         how.write(true);
         how.create_new(make);
         match how.open(&self.rt, name) {
-            Err(error) if error.kind() == ErrorKind::PermissionDenied && !make => {
+            Err(error) if is_read_only(error.kind()) && !make => {
                 let mut how = OpenOptions::new();
                 how.read(true);
                 how.open(&self.rt, name)
@@ -39,13 +53,8 @@ impl<R: Files + Drop> Edge<R> {
     {
         let file = match self.open_file(name, blank.is_some()) {
             Ok(file) => file,
-            Err(error) => {
-                let kind = error.kind();
-                if kind == ErrorKind::NotFound || kind == ErrorKind::AlreadyExists {
-                    return Ok(None);
-                }
-                return Err(error);
-            }
+            Err(error) if is_not_given(error.kind(), blank.is_some()) => return Ok(None),
+            Err(error) => return Err(error),
         };
         let length = match blank {
             None => file.metadata()?.len(),

@@ -37,6 +37,10 @@ fn a_file_is_a_disk(rt: HostRuntime) -> Result<(), Fail> {
     assert!(rt; !again);
     let sectors = disk.sectors();
     assert!(rt; sectors == 3);
+    let through = disk.attach("made-by-a-test.adf/image.adf", None)?;
+    assert!(rt; !through);
+    let nowhere = disk.attach("no-such-folder/image.adf", Some(1000));
+    assert!(rt; nowhere.is_err());
     let _ = fs::remove_file(&rt, MADE);
     Ok(())
 }
