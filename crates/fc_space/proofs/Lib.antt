@@ -5,3 +5,5 @@ pub mod SearchLemmas
 pub mod DiscLemmas
 pub mod NthLemmas
 pub mod SumLemmas
+pub mod IndexLemmas
+pub mod IndexedLemmas

@@ -3,10 +3,14 @@
 //! Source: the RISC OS PRM, chapter FileCore: "Old maps" and "New maps"; docs/FORMAT.md.
 #![tactic(auto)]
 
+mod index;
+mod indexed;
 mod new;
 mod old;
+mod places;
 mod space;
 
+pub use places::Places;
 pub use space::Space;
 
 #[cfg(test)]

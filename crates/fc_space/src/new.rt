@@ -12,7 +12,7 @@ use fc_newmap::{NewMap, RunCursor, extent_of};
 use std::alloc::Global;
 
 // The part of an extent that stands behind `skip` sectors and has at most `need`.
-fn part_of(extent: Extent, skip: u64, need: u64) -> Extent
+pub fn part_of(extent: Extent, skip: u64, need: u64) -> Extent
     requires { extent.first + extent.sectors < 2 ^ 64 }
     ensures sectors { extent_sectors result ≡ take need (drop skip (extent_sectors extent)) }
     ensures few { result.sectors ≤ need }
@@ -25,7 +25,7 @@ fn part_of(extent: Extent, skip: u64, need: u64) -> Extent
 }
 
 // Whether objects may have an identifier.
-fn is_object_id(map: &NewMap, id: u32) -> bool
+pub fn is_object_id(map: &NewMap, id: u32) -> bool
     ensures { result ≡ is_object_id map.now id }
 {
     let g = map.geometry();
