@@ -8,8 +8,8 @@ use crate::space::head_space;
 use fc_checks::big_dir_check;
 use fc_dirs::DirFault;
 
-// Whether a directory may have that size.
-fn is_big_size(size: usize) -> bool
+/// Whether a directory may have that size.
+pub fn is_big_size(size: usize) -> bool
     ensures { result ≡ is_big_size size }
 {
     (2048..=4_194_304).contains(&size) && size % 2048 == 0

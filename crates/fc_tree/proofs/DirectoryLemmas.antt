@@ -1,30 +1,36 @@
 -- What the bytes of a directory say.
-use Rattle.std.proofs.Common.{◌≡◌, ◌<◌, ℕ, true, List, ◌++◌, length, map, get_or, refl, sym, ap, ap₂, subst, ◌∙◌, Some, None, Option}
+use Rattle.std.proofs.Common.{◌≡◌, ◌<◌, ℕ, true, false, Bool, List, ◌∷◌, ◌++◌, ◌*◌, ◌≤◌, length, map, get_or, refl, sym, ap, ap₂, subst, ◌∙◌, Some, None, Option}
 use Rattle.std.specs.Prelude.{Result, Ok, Err, slice_get, slice_set}
 use Rattle.std.specs.Option.{ForSome}
 use Rattle.std.proofs.lemmas.Option.{get_or_from_slice_get, slice_get_within}
+use Rattle.fc_checks.specs.Checks.{is_big_size}
 use Rattle.fc_names.specs.declared.name.NameForm.{NameForm}
 use Rattle.fc_names.specs.declared.name.NameForm.TheVariants.{Seven, Ten, Long}
 use Rattle.fc_names.specs.Names.{Path, is_directory}
 use Rattle.fc_dirs.specs.declared.Entry.{Entry}
 use Rattle.fc_dirs.specs.declared.DirFault.{DirFault}
+use Rattle.fc_dirs.specs.declared.DirFault.TheVariants.{Size}
+use Rattle.fc_dirs.specs.Entries.{fault_unless, first_of}
 use Rattle.fc_dirs.specs.declared.SmallForm.TheVariants.{Bytes1280, Bytes2048}
 use Rattle.fc_dirs.specs.Small.{IsSmallDir, SmallDir, small_dir, small_fault}
 use Rattle.fc_dirs.specs.Big.{BigDir, IsBigDir, big_dir, big_fault}
 use Rattle.fc_dirs.specs.Directory.{Directory, directory_of, directory_size, entries_of, read_or}
 use Rattle.fc_image.specs.declared.ImageFault.{ImageFault}
 use Rattle.fc_image.specs.declared.ImageFault.TheVariants as faults
-use Rattle.fc_image.specs.Layout.{Layout, dir_form, sectors_at}
+use Rattle.fc_image.specs.Layout.{Layout, dir_form, disc_sectors, sector_bytes, sectors_at}
 use Rattle.fc_image.specs.Walk.{Object, at_path, children_of, is_directory_object, object_bytes, object_size, reader_of}
 use Rattle.fc_image.specs.Edits.{IsAt}
+use Rattle.fc_space.specs.Space.{PlacesSuffice}
 use Rattle.fc_tree.specs.declared.node.Body.{Body}
 use Rattle.fc_tree.specs.declared.node.Body.TheVariants as bodies
 use Rattle.fc_tree.specs.declared.node.Node.{Node}
 use Rattle.fc_tree.specs.declared.node.TreeError.{TreeError}
 use Rattle.fc_tree.specs.Agree.{HasForm, IsDirectory}
 use Rattle.fc_tree.specs.Nodes.{body_in}
+use Rattle.fc_tree.specs.Reading.{may_have_size}
 use Rattle.fc_tree.specs.Taken.{AreTaken, Marks}
-use Rattle.fc_tree.specs.Walking.{FailsAs, IsVisited, StandsFor, new_node, said_children}
+use Rattle.fc_tree.specs.Walking.{FailsAs, IsDamaged, IsVisited, StandsFor, new_node, said_children}
+use Rattle.fc_tree.proofs.LengthLemmas.{object_long}
 use Rattle.fc_tree.proofs.PathLemmas.{same_node}
 use Rattle.fc_tree.proofs.ChildLemmas.{get_front}
 
@@ -85,6 +91,27 @@ form_same Long len n (Directory.Big dir) e h = h ∙ e
 pub directory_bytes : (form : NameForm) (e : Entry) → is_directory e.attrs ≡ true → object_size form e ≡ directory_size form e.len
 directory_bytes form e is = rw is refl
 
+first_size : (right : Bool) (others more : List (Option DirFault)) → right ≡ false → first_of (first_of (fault_unless right Size ∷ others) ∷ more) ≡ Some Size
+first_size true others more e = absurd (cc)
+first_size false others more e = refl
+
+big_misfit : (bytes : List ℕ) → is_big_size (length bytes) ≡ false → big_fault bytes ≡ Some Size
+unfolding big_fault
+big_misfit bytes e = first_size (is_big_size (length bytes)) _ _ e
+
+-- bytes of a size that no directory has say no other fault
+misfit : (form : NameForm) (len : ℕ) (bytes : List ℕ) → may_have_size form len ≡ false → length bytes ≡ directory_size form len → directory_of form bytes ≡ Err Size
+misfit Seven len bytes e size = absurd (cc)
+misfit Ten len bytes e size = absurd (cc)
+misfit Long len bytes e size =
+    ap (λ (f : Option DirFault). read_or f (Directory.Big (big_dir bytes))) (big_misfit bytes (ap is_big_size size ∙ e))
+
+-- a fault of what a directory says, told with its path
+pub damaged : (path : Path) (said : Result Directory DirFault) (fault : DirFault) (error : TreeError) → said ≡ Err fault → IsDamaged path fault error → FailsAs (at_path path said) error
+damaged path said fault (TreeError.Image f) e is = ap (at_path path) e ∙ ap (λ (x : ImageFault). let r : Result Directory ImageFault = Err x in r) (sym is)
+damaged path said fault TreeError.DiskFault e is = tt
+damaged path said fault TreeError.NoMemory e is = tt
+
 -- ---- a node's directory
 
 module _ (layout : Layout) (nodes : List Node) (at : ℕ) (o : Object) (stands : StandsFor layout nodes at o) (node : Node) (is : slice_get nodes at ≡ Some node) where
@@ -94,8 +121,19 @@ module _ (layout : Layout) (nodes : List Node) (at : ℕ) (o : Object) (stands :
   pub node_placed : (sectors : List ℕ) × (sectors_at layout node.entry.address (object_size (dir_form layout) node.entry) ≡ Some sectors)
   node_placed = (o.sectors, subst (λ (e : Entry). sectors_at layout e.address (object_size (dir_form layout) e) ≡ Some o.sectors) (sym node_entry) stands.placed)
 
+  pub node_is_directory : is_directory_object o ≡ true → is_directory node.entry.attrs ≡ true
+  node_is_directory dir = ap (λ (e : Entry). is_directory e.attrs) node_entry ∙ dir
+
   pub node_size : is_directory_object o ≡ true → object_size (dir_form layout) node.entry ≡ directory_size (dir_form layout) node.entry.len
-  node_size dir = directory_bytes (dir_form layout) node.entry (ap (λ (e : Entry). is_directory e.attrs) node_entry ∙ dir)
+  node_size dir = directory_bytes (dir_form layout) node.entry (node_is_directory dir)
+
+  -- the bytes of a directory of a size that none has
+  pub node_misfits : (form : NameForm) (image : List ℕ) → form ≡ dir_form layout → is_directory node.entry.attrs ≡ true → may_have_size form node.entry.len ≡ false → PlacesSuffice layout
+      → disc_sectors layout * sector_bytes layout ≤ length image → reader_of image layout o ≡ Err Size
+  node_misfits form image form_is dir misfits suffice long =
+      let size : length (object_bytes image layout o) ≡ directory_size (dir_form layout) node.entry.len =
+      object_long image layout o suffice stands.placed long ∙ ap (object_size (dir_form layout)) (sym node_entry) ∙ directory_bytes (dir_form layout) node.entry dir in
+      misfit (dir_form layout) node.entry.len (object_bytes image layout o) (subst (λ (f : NameForm). may_have_size f node.entry.len ≡ false) form_is misfits) size
 
   module _ (told : Option (List ℕ)) (form : NameForm) (bytes : List ℕ) (form_is : form ≡ dir_form layout)
       (size : length bytes ≡ directory_size (dir_form layout) node.entry.len)
@@ -113,10 +151,9 @@ module _ (layout : Layout) (nodes : List Node) (at : ℕ) (o : Object) (stands :
       λ image t. sym (told_is image t) ∙ s.2,
     )
 
-    pub node_fails : (path : Path) (fault : DirFault) → directory_of form bytes ≡ Err fault → path ≡ o.path
-        → ForSome told (λ image. at_path o.path (reader_of image layout o) ≡ Err (faults.Directory path fault))
-    node_fails path fault e p = λ image t.
-        ap (at_path o.path) (sym (told_is image t) ∙ e) ∙ ap (λ (q : Path). let r : Result Directory ImageFault = Err (faults.Directory q fault) in r) (sym p)
+    pub node_fails : (fault : DirFault) (error : TreeError) → directory_of form bytes ≡ Err fault → IsDamaged o.path fault error
+        → ForSome told (λ image. FailsAs (at_path o.path (reader_of image layout o)) error)
+    node_fails fault error e damage = λ image t. damaged o.path (reader_of image layout o) fault error (sym (told_is image t) ∙ e) damage
 
 -- ---- a directory is visited
 

@@ -3,6 +3,7 @@ pub mod TakenLemmas
 pub mod ChildLemmas
 pub mod ClaimLemmas
 pub mod ReadingLemmas
+pub mod LengthLemmas
 pub mod DirectoryLemmas
 pub mod SlotLemmas
 pub mod KeyLemmas

@@ -64,6 +64,12 @@ IsOverlap path (TreeError.Image fault) = fault ≡ faults.Overlap path
 IsOverlap path TreeError.DiskFault = ⊥
 IsOverlap path TreeError.NoMemory = Unit {0}
 
+-- The error is that the directory at this path has this fault. Want of memory says nothing.
+abbrev pub IsDamaged : Path → DirFault → TreeError → Type 0
+IsDamaged path damage (TreeError.Image fault) = fault ≡ faults.Directory path damage
+IsDamaged path damage TreeError.DiskFault = ⊥
+IsDamaged path damage TreeError.NoMemory = Unit {0}
+
 -- The error is the fault of a directory's bytes. Want of memory says nothing.
 abbrev pub IsSaidBy : Result Directory DirFault → DirError → Type 0
 IsSaidBy said (errors.Fault fault) = said ≡ Err fault

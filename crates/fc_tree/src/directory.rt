@@ -1,25 +1,27 @@
 // One directory of a walk: its bytes, what they say, and the nodes of the objects that it holds.
-ghost use Rattle.std.specs.Prelude.{◌≡◌, ◌≤◌, Err, IfErr, IfOk, IsTrue, List, ℕ, Ok, OnOk, length};
+ghost use Rattle.std.specs.Prelude.{◌≡◌, ◌≤◌, Err, IfErr, IfOk, IsTrue, List, ℕ, Ok, OnOk, length, reverse};
 ghost use Rattle.std.specs.Option.{ForSome};
 ghost use Rattle.fc_device.specs.Faults.{Rose};
 ghost use Rattle.fc_record.specs.Reads.{OnlyReads};
+ghost use Rattle.fc_names.specs.Names.{Path};
 ghost use Rattle.fc_dirs.specs.Directory.{Directory, directory_of, directory_size, entries_of};
 ghost use Rattle.fc_image.specs.Layout.{dir_form, disc_sectors, sector_bytes};
 ghost use Rattle.fc_image.specs.Walk.{Object, at_path, is_directory_object, reader_of};
 ghost use Rattle.fc_space.specs.Space.{layout_of};
 ghost use Rattle.fc_tree.specs.Agree.{HasForm, IsDirectory};
 ghost use Rattle.fc_tree.specs.Nodes.{body_in};
+ghost use Rattle.fc_tree.specs.Reading.{may_have_size};
 ghost use Rattle.fc_tree.specs.Taken.{AreTaken};
-ghost use Rattle.fc_tree.specs.Walking.{FailsAs, IsSaidBy, IsVisited, StandsFor, said_children};
+ghost use Rattle.fc_tree.specs.Walking.{FailsAs, IsDamaged, IsSaidBy, IsVisited, Leads, StandsFor, said_children};
 
 use crate::contents::add_children;
 use crate::node::{Body, Node, TreeError};
 use crate::paths::path_of;
 use crate::reading::{ReadError, read_object};
 use crate::taken::Taken;
-use fc_bigdir::BigDir;
+use fc_bigdir::{BigDir, is_big_size};
 use fc_device::Disk;
-use fc_dirs::{DirError, Entry, SmallForm};
+use fc_dirs::{DirError, DirFault, Entry, SmallForm};
 use fc_image::ImageFault;
 use fc_names::NameForm;
 use fc_smalldir::SmallDir;
@@ -50,6 +52,28 @@ fn entries_of(body: &Body) -> &[Entry]
     }
 }
 
+// Whether a directory may have the size that its entry gives, which counts for a big one alone.
+fn may_have_size(form: NameForm, len: u32) -> bool
+    ensures { result ≡ may_have_size form len }
+{
+    match form {
+        NameForm::Seven => true,
+        NameForm::Ten => true,
+        NameForm::Long => is_big_size(len as usize),
+    }
+}
+
+// The fault of a node's directory.
+fn damage_at(alloc: Global, nodes: &[Node], at: usize, fault: DirFault) -> TreeError
+    requires { (names : Path) × Leads nodes.now at names }
+    ensures { (names : Path) → Leads nodes.now at names → IsDamaged (reverse names) fault result }
+{
+    match path_of(alloc, nodes, at) {
+        Ok(path) => TreeError::Image(ImageFault::Directory { path, fault }),
+        Err(_) => TreeError::NoMemory,
+    }
+}
+
 // Reads the directory of a node.
 fn read_directory<D: Disk>(
     alloc: Global,
@@ -74,19 +98,21 @@ fn read_directory<D: Disk>(
     let Some(node) = nodes.get(at) else {
         unreachable!();
     };
+    let form = space.dir_form();
+    if !may_have_size(form, node.entry.len) {
+        // An entry may give any length: what can't be a directory is not read.
+        space.places_suffice();
+        return Err(damage_at(alloc, nodes, at, DirFault::Size));
+    }
     match read_object(alloc, disk, space, &node.entry, bytes) {
         Ok(()) => {}
         Err(ReadError::DiskFault) => return Err(TreeError::DiskFault),
         Err(ReadError::NoMemory) => return Err(TreeError::NoMemory),
     }
-    let fault = match body_of(alloc, space.dir_form(), bytes) {
-        Ok(body) => return Ok(body),
-        Err(DirError::Fault(fault)) => fault,
-        Err(DirError::NoMemory) => return Err(TreeError::NoMemory),
-    };
-    match path_of(alloc, nodes, at) {
-        Ok(path) => Err(TreeError::Image(ImageFault::Directory { path, fault })),
-        Err(_) => Err(TreeError::NoMemory),
+    match body_of(alloc, form, bytes) {
+        Ok(body) => Ok(body),
+        Err(DirError::Fault(fault)) => Err(damage_at(alloc, nodes, at, fault)),
+        Err(DirError::NoMemory) => Err(TreeError::NoMemory),
     }
 }
 

@@ -1,4 +1,4 @@
-// Walks over discs of 40 sectors, whose bytes were worked out by hand.
+// Walks over discs of 40 sectors, and over one with long names, whose bytes were worked out by hand.
 ghost use Rattle.std.specs.Prelude.{◌≡◌, IsTrue, length};
 
 use crate::{Body, Node, Tree, TreeError, load};
@@ -6,7 +6,10 @@ use fc_device::{Disk, Extent, Failing, MemoryDisk};
 use fc_dirs::DirFault;
 use fc_image::ImageFault;
 use fc_names::Path;
+use fc_newmap::NewMap;
 use fc_oldmap::OldMap;
+use fc_record::measures::geometry;
+use fc_record::read_record;
 use fc_space::Space;
 use std::alloc::Global;
 use std::test::Fail;
@@ -47,6 +50,27 @@ const SOUND: &[Part] = &[
     ),
 ];
 
+// An E+'s one zone: identifier 2 has the map, 3 the root, and 4 five sectors.
+const LONG_MAP: &[Part] = &[
+    (1, b"\x40\x82\xff"),
+    (
+        4,
+        b"\x0a\x05\x02\x02\x0f\x07\x01\0\0\x01\x20\x05\x01\x03\0\0\0\x80\x0c",
+    ),
+    (48, b"\x01\0\0\0\0\x08"),
+    (64, b"\x02\x80\x03\x80\x04\0\0\0\x80"),
+    (863, b"\x80"),
+];
+
+// Its root, which holds a directory Sub, without the length of Sub and without the check.
+const LONG_ROOT: &[Part] = &[
+    (2052, b"SBPr\x01\0\0\0\0\x08\0\0\x01\0\0\0\x04"),
+    (2072, b"\x01\x03\0\0$\x0d"),
+    (2092, b"\x01\x04\0\0\x08\0\0\0\x03"),
+    (2108, b"Sub\x0d"),
+    (4088, b"oven"),
+];
+
 // Bytes put over others at places.
 fn filled(b: &mut [u8], parts: &[Part])
     ensures { length b.new ≡ length b.old }
@@ -66,6 +90,11 @@ fn disk_of(alloc: Global, parts: &[Part]) -> Result<MemoryDisk, Fail> {
     filled(&mut bytes, parts);
     let mut image = Vec::new(alloc);
     image.extend_from_slice(&bytes)?;
+    holding(alloc, image)
+}
+
+// A disk of these bytes.
+fn holding(alloc: Global, image: Vec<u8>) -> Result<MemoryDisk, Fail> {
     let failing = Failing {
         reads: Vec::new(alloc),
         writes: Vec::new(alloc),
@@ -82,20 +111,40 @@ fn map() -> Option<Space> {
     Some(Space::OldMapped(OldMap::read(&bytes, 1).ok()?))
 }
 
-// Walks the disk, if it may.
-fn walk<D: Disk>(alloc: Global, disk: &mut D, root: u32) -> Option<Result<Tree, TreeError>>
+// The map of the disc with long names.
+fn long_map(alloc: Global) -> Option<Space> {
+    let mut bytes = [0; 1024];
+    filled(&mut bytes, LONG_MAP);
+    let record = read_record(&bytes[4..64]).ok()?;
+    let g = geometry(&record);
+    if g.zones != 1 || g.sector != 1024 {
+        return None;
+    }
+    let mut zones = Vec::new(alloc);
+    zones.extend_from_slice(&bytes).ok()?;
+    Some(Space::NewMapped(NewMap::load(zones, g).ok()?))
+}
+
+// Walks a disk of sectors of this size, if it may.
+fn walk<D: Disk>(
+    alloc: Global,
+    disk: &mut D,
+    space: &Space,
+    size: u64,
+    root: u32,
+    root_size: u32,
+) -> Option<Result<Tree, TreeError>>
     requires attached { IsTrue (D.attached disk.old) }
-    requires size { D.sector_size disk.old ≡ 256 }
+    requires size { D.sector_size disk.old ≡ size }
 {
-    let space = map()?;
-    if space.sector_bytes() != 256 || space.disc_sectors() > disk.sectors() {
+    if space.sector_bytes() != size || space.disc_sectors() > disk.sectors() {
         return None;
     }
     let reserved = [Extent {
         first: 0,
         sectors: 2,
     }];
-    Some(load(alloc, disk, &space, root, 0, &reserved))
+    Some(load(alloc, disk, space, root, root_size, &reserved))
 }
 
 // Whether a node has this holder and name, and is read as a directory or not.
@@ -137,6 +186,12 @@ fn word_of(error: &TreeError, names: &[&'static [u8]]) -> &'static str {
                 fault: DirFault::Magic,
             },
         ) if is_path(path, names) => "magic",
+        TreeError::Image(
+            ImageFault::Directory {
+                path,
+                fault: DirFault::Size,
+            },
+        ) if is_path(path, names) => "size",
         _ => "other",
     }
 }
@@ -147,7 +202,10 @@ fn nodes_are_numbered_as_they_are_found(rt: HostRuntime) -> Result<(), Fail> {
     let mut disk = disk_of(alloc, &[])?;
     let given = disk.attach("disc", None)?;
     assert!(rt; given);
-    let Some(Ok(tree)) = walk(alloc, &mut disk, 2) else {
+    let Some(space) = map() else {
+        return Err("a map".into());
+    };
+    let Some(Ok(tree)) = walk(alloc, &mut disk, &space, 256, 2, 0) else {
         return Err("a tree".into());
     };
     assert!(rt; tree.bound() == 5);
@@ -185,14 +243,76 @@ const FAULTS: &[Row] = &[
 #[test]
 fn faults_have_their_paths(rt: HostRuntime) -> Result<(), Fail> {
     let alloc = rt.alloc();
+    let Some(space) = map() else {
+        return Err("a map".into());
+    };
     for (i, (parts, root, word, names)) in FAULTS.iter().enumerate() {
         let mut disk = disk_of(alloc, parts)?;
         let given = disk.attach("disc", None)?;
         assert!(rt; given);
-        match walk(alloc, &mut disk, *root) {
+        match walk(alloc, &mut disk, &space, 256, *root, 0) {
             Some(Err(error)) => assert!(rt; word_of(&error, names) == *word, "row {i}"),
             _ => return Err("a fault".into()),
         }
+    }
+    Ok(())
+}
+
+// The root's size, the bytes of the length of Sub and of the check, which another program worked out, the fault in words,
+// its path, and how many sectors are read.
+type LongRow = (
+    u32,
+    &'static [Part],
+    &'static str,
+    &'static [&'static [u8]],
+    u64,
+);
+
+const SIZES: &[LongRow] = &[
+    (1024, &[], "size", &[], 0),
+    (
+        2048,
+        &[(2089, b"\x04"), (4095, b"\xf7")],
+        "size",
+        &[b"Sub"],
+        2,
+    ),
+    (
+        2048,
+        &[(2089, b"\x14"), (4095, b"\x77")],
+        "size",
+        &[b"Sub"],
+        2,
+    ),
+    // Sub has a size that a directory may have, so it is read.
+    (
+        2048,
+        &[(2089, b"\x08"), (4095, b"\x97")],
+        "magic",
+        &[b"Sub"],
+        4,
+    ),
+];
+
+#[test]
+fn what_is_no_directory_by_its_size_is_not_read(rt: HostRuntime) -> Result<(), Fail> {
+    let alloc = rt.alloc();
+    let Some(space) = long_map(alloc) else {
+        return Err("a map".into());
+    };
+    for (i, (root_size, parts, word, names, reads)) in SIZES.iter().enumerate() {
+        let mut image = vec![in alloc; 0; 819_200]?;
+        filled(&mut image, LONG_ROOT);
+        filled(&mut image, parts);
+        let mut disk = holding(alloc, image)?;
+        let given = disk.attach("disc", None)?;
+        assert!(rt; given);
+        disk.shape(10);
+        match walk(alloc, &mut disk, &space, 1024, 0x301, *root_size) {
+            Some(Err(error)) => assert!(rt; word_of(&error, names) == *word, "row {i}"),
+            _ => return Err("a fault".into()),
+        }
+        assert!(rt; disk.read_calls() == *reads, "row {i}");
     }
     Ok(())
 }

@@ -1,4 +1,4 @@
--- Bytes of objects: as many as their entries say, and those of one sector.
+-- Bytes of one sector, and how long images are.
 use Rattle.std.proofs.Common.{◌≡◌, ◌<◌, ◌≤◌, ℕ, zero, suc, ◌+◌, ◌-◌, ◌*◌, ◌/◌, Bool, true, false, List, [], ◌∷◌, ◌++◌, length, take, drop, Option, Some, None, refl, sym, ap, subst, ◌∙◌, arith, eqb-true, length-append, length-drop}
 use Rattle.std.specs.Prelude.{◌&&◌, ◌||◌, ◌==◌, slice_get, Result, Ok}
 use Rattle.std.specs.List.{flat_map}
@@ -25,22 +25,11 @@ use Rattle.fc_image.specs.Stays.{OpensAs}
 use Rattle.fc_image.specs.declared.ImageFault.{ImageFault}
 use Rattle.fc_image.proofs.FreeLemmas.{parts_of as opened_parts}
 use Rattle.fc_image.proofs.HolesLemmas.{found_map}
-use Rattle.fc_space.specs.Space.{PlacesSuffice}
+use Rattle.fc_tree.proofs.LengthLemmas.{first_among}
 
 -- ---- rows of blocks of one length
 
-pub first_among : (x : ℕ) (xs : List ℕ) → is_among (x ∷ xs) x ≡ true
-first_among x xs = ap (λ (b : Bool). b || is_among xs x) (eq-eqb x x refl)
-
 module _ (f : ℕ → List ℕ) (size : ℕ) where
-  pub blocks_long : (xs : List ℕ) → ((s : ℕ) → is_among xs s ≡ true → length (f s) ≡ size) → length (flat_map f xs) ≡ length xs * size
-  blocks_long [] each = omega arith
-  blocks_long (x ∷ xs) each =
-      let rest = blocks_long xs (λ s e. each s (in_back (x ∷ []) xs s e)) in
-      let here = each x (first_among x xs) in
-      let more : (length xs + 1) * size ≡ length xs * size + size = omega arith in
-      omega (arith, length-append (f x) (flat_map f xs), rest, here, more)
-
   -- what stands from a place in one block on
   block_at : (q r : ℕ) (xs : List ℕ) (s : ℕ) → ((t : ℕ) → is_among xs t ≡ true → length (f t) ≡ size) → slice_get xs q ≡ Some s → r ≤ size
       → (rest : List ℕ) × (drop (q * size + r) (flat_map f xs) ≡ drop r (f s) ++ rest)
@@ -113,22 +102,3 @@ image_long image kind v opens =
     let p = opened_parts image kind v opens.opened in
     let size = layout_size image kind p.0 p.1.1 p.1.5 in
     subst (λ (l : Layout). disc_sectors l * sector_bytes l ≤ length image) (ap (λ (w : Opened). w.layout) p.1.4) (let long = p.1.0 in omega (arith, size, long))
-
--- ---- objects
-
-pub sector_long : (size count : ℕ) (image : List ℕ) (s : ℕ) → s < count → count * size ≤ length image → length (sector_at size image s) ≡ size
-sector_long size count image s low long =
-    let part : (s + 1) * size ≤ count * size = mul-le (s + 1) size count size (omega (arith, low)) (omega arith) in
-    let more : (s + 1) * size ≡ s * size + size = omega arith in
-    length-sector_at size image s (omega (arith, part, more, long))
-
--- an object has as many bytes as its entry says
-pub object_long : (image : List ℕ) (layout : Layout) (o : Object) → PlacesSuffice layout → IsAt layout o → disc_sectors layout * sector_bytes layout ≤ length image
-    → length (object_bytes image layout o) ≡ object_size (dir_form layout) o.entry
-unfolding bytes_in
-object_long image layout o suffice at long =
-    let n = object_size (dir_form layout) o.entry in
-    let size = sector_bytes layout in
-    let s = suffice o.entry.address n o.sectors at in
-    let blocks = blocks_long (sector_at size image) size o.sectors (λ t e. sector_long size (disc_sectors layout) image t (s.on_disc t e) long) in
-    length-take-le n (flat_map (sector_at size image) o.sectors) (omega (arith, blocks, s.room))

@@ -28,11 +28,12 @@ use Rattle.fc_tree.specs.Nodes.{nodes_of}
 use Rattle.fc_tree.specs.Agree.{Agree, reader_of_nodes}
 use Rattle.fc_tree.specs.Laws.{AreSound}
 use Rattle.fc_tree.proofs.FindLemmas.{object_of_number}
+use Rattle.fc_tree.proofs.LengthLemmas.{first_among, sector_long}
 use Rattle.fc_tree.proofs.WalkedLemmas.{apart_names, same_some}
 use Rattle.fc_volume.specs.declared.lines.FileRef.{FileRef}
 use Rattle.fc_volume.specs.Answers.{IsPlace, IsRef, file_bytes, ref_bytes}
 use Rattle.fc_volume.specs.Volume.{Volume, parts_of}
-use Rattle.fc_volume.proofs.BlockLemmas.{first_among, piece_of, sector_long}
+use Rattle.fc_volume.proofs.BlockLemmas.{piece_of}
 use Rattle.fc_volume.proofs.ReadingLemmas.{each_at, file_sectors}
 
 -- ---- places
