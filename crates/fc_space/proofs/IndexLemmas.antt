@@ -2,7 +2,7 @@
 use Rattle.std.proofs.Common.{◌≡◌, ◌<◌, ◌≤◌, ℕ, zero, suc, ◌+◌, ◌-◌, ◌==◌, Bool, true, false, cond, List, [], ◌∷◌, ◌++◌, length, map, take, drop, get_or, Option, Some, None, refl, sym, ap, ap₂, subst, ◌∙◌, arith, append-nil, append_assoc}
 use Rattle.std.specs.Prelude.{◌&&◌, not, nat_le, nat_lt, filter, if◌then◌else◌}
 use Rattle.std.specs.Prelude.{All, MatchOption}
-use Rattle.std.specs.List.{AllWithin, flat_map, range_with_len}
+use Rattle.std.specs.List.{AllWithin, range_with_len}
 use Rattle.std.specs.List.Sorted.{IsPartitionPoint, IsStableByKey, ties}
 use Rattle.std.specs.Ordering.{is_lt, nat_cmp}
 use Rattle.std.proofs.lemmas.Bool.{eqb-true, le-leb, lt-leb}

@@ -6,7 +6,7 @@ use Rattle.fc_device.specs.declared.disk.Extent.{Extent}
 use Rattle.fc_record.specs.declared.Geometry.{Geometry}
 use Rattle.fc_zone.specs.declared.RunKind.{RunKind}
 use Rattle.fc_zone.specs.declared.RunKind.TheVariants.{Hole, Id}
-use Rattle.fc_newmap.specs.Map.{Map, ZoneRun, all_runs, extent_of, home_zone, id_runs}
+use Rattle.fc_newmap.specs.Map.{Map, ZoneRun, extent_of, home_zone, id_runs}
 use Rattle.fc_space.specs.declared.index.IdRow.{IdRow}
 use Rattle.fc_space.specs.declared.space.Space.{Space}
 use Rattle.fc_space.specs.declared.space.Space.TheVariants.{OldMapped, NewMapped}

@@ -3,7 +3,7 @@
 ghost use Rattle.std.specs.Prelude.{◌≡◌, None, Some, IfOk, IsErrOf};
 ghost use Rattle.fc_image.specs.Layout.{dir_form, sector_bytes, sectors_at};
 ghost use Rattle.fc_objects.specs.Extents.{sectors_in};
-ghost use Rattle.fc_space.specs.Space.{Suffice, layout_of};
+ghost use Rattle.fc_space.specs.Space.{PlacesSuffice, Suffice, layout_of};
 
 use crate::index::{IdRow, index_of};
 use crate::indexed::indexed_place;
@@ -57,6 +57,13 @@ impl<'a> Places<'a> {
         ensures { result ≡ dir_form (layout_of self.now) }
     {
         self.space.dir_form()
+    }
+
+    /// A law: bytes that have a place lie on the disc.
+    pub fn places_suffice(&self)
+        ensures { PlacesSuffice (layout_of self.now) }
+    {
+        self.space.places_suffice();
     }
 
     /// What `Space::place_of` answers, by a search in the index.

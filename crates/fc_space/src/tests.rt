@@ -1,7 +1,7 @@
 // Places on fresh discs, whose maps and places were worked out by hand.
 ghost use Rattle.std.specs.Prelude.{◌≡◌, length};
 
-use crate::{PlaceError, Space};
+use crate::{PlaceError, Places, Space};
 use fc_device::Extent;
 use fc_names::NameForm;
 use fc_newmap::NewMap;
@@ -127,24 +127,46 @@ fn are_extents(place: &[Extent], want: &[(u64, u64)]) -> bool {
             .all(|(e, w)| e.first == w.0 && e.sectors == w.1)
 }
 
-// The number of the first row that isn't so.
-fn wrong_row(alloc: Global, space: &Space, rows: &[Row]) -> Option<usize> {
-    rows.iter().position(|(address, bytes, want)| {
-        match space.place_of(alloc, *address, *bytes) {
-            Ok(place) => !are_extents(&place, want),
-            Err(_) => true,
-        }
-    })
+// Whether a row's place is found, by the map and by its index.
+fn is_right(alloc: Global, space: &Space, places: &Places<'_>, row: &Row) -> bool {
+    let (address, bytes, want) = *row;
+    match (
+        space.place_of(alloc, address, bytes),
+        places.place_of(alloc, address, bytes),
+    ) {
+        (Ok(walked), Ok(found)) => are_extents(&walked, want) && are_extents(&found, want),
+        _ => false,
+    }
 }
 
-// The number of the first place that isn't outside.
-fn wrong_outside(alloc: Global, space: &Space, rows: &[(u32, u64)]) -> Option<usize> {
-    rows.iter().position(|(address, bytes)| {
-        !matches!(
-            space.place_of(alloc, *address, *bytes),
-            Err(PlaceError::Outside)
-        )
-    })
+// Whether bytes at an address have no place.
+fn is_outside(alloc: Global, space: &Space, places: &Places<'_>, address: u32, bytes: u64) -> bool {
+    matches!(
+        space.place_of(alloc, address, bytes),
+        Err(PlaceError::Outside)
+    ) && matches!(
+        places.place_of(alloc, address, bytes),
+        Err(PlaceError::Outside)
+    )
+}
+
+// The number of the first row that isn't right, and of the first place that isn't outside.
+fn wrong_rows(
+    alloc: Global,
+    space: &Space,
+    rows: &[Row],
+    outside: &[(u32, u64)],
+) -> (Option<usize>, Option<usize>) {
+    let Ok(places) = Places::new(alloc, space) else {
+        return (Some(0), Some(0));
+    };
+    (
+        rows.iter()
+            .position(|row| !is_right(alloc, space, &places, row)),
+        outside.iter().position(|(address, bytes)| !is_outside(
+            alloc, space, &places, *address, *bytes,
+        )),
+    )
 }
 
 // The disc's number of the sector in which byte `at` of the bytes at an address lies, if they have a place and that byte.
@@ -192,21 +214,18 @@ fn finds_places(rt: HostRuntime) -> Result<(), Fail> {
     let Some(e) = new_space(alloc, FRESH_E, 1) else {
         return Err("an E".into());
     };
-    assert_eq!(rt; wrong_row(alloc, &e, ROWS_E), None);
-    assert_eq!(rt; wrong_outside(alloc, &e, OUTSIDE_E), None);
+    assert_eq!(rt; wrong_rows(alloc, &e, ROWS_E, OUTSIDE_E), (None, None));
     let Some(f) = new_space(alloc, FRESH_F, 4) else {
         return Err("an F".into());
     };
-    assert_eq!(rt; wrong_row(alloc, &f, ROWS_F), None);
     assert_eq!(rt;
-        wrong_outside(alloc, &f, &[(0x200, 14337), (0x20f, 1)]),
-        None
+        wrong_rows(alloc, &f, ROWS_F, &[(0x200, 14337), (0x20f, 1)]),
+        (None, None)
     );
     let Some(d) = old_space(FRESH_D) else {
         return Err("a D".into());
     };
-    assert_eq!(rt; wrong_row(alloc, &d, ROWS_D), None);
-    assert_eq!(rt; wrong_outside(alloc, &d, OUTSIDE_D), None);
+    assert_eq!(rt; wrong_rows(alloc, &d, ROWS_D, OUTSIDE_D), (None, None));
     for (space, sectors) in [(&e, 800), (&f, 1600), (&d, 800)] {
         assert!(rt; space.disc_sectors() == sectors && space.sector_bytes() == 1024);
         assert!(rt; space.dir_form() == NameForm::Ten);

@@ -11,7 +11,7 @@ ghost use Rattle.fc_tree.specs.Taken.{AreTaken};
 use crate::taken::Taken;
 use fc_dirs::Entry;
 use fc_names::NameForm;
-use fc_space::{PlaceError, Space};
+use fc_space::{PlaceError, Places};
 use std::alloc::Global;
 
 /// Why an object has no sectors of its own.
@@ -56,20 +56,20 @@ pub fn object_size(form: NameForm, entry: &Entry) -> u32
 /// Takes the sectors of an object of this entry. Where it has none, or not all are free, none is taken.
 pub fn claim(
     alloc: Global,
-    space: &Space,
+    places: &Places<'_>,
     taken: &mut Taken,
     entry: &Entry,
 ) -> Result<(), Unclaimed>
-    requires disc { taken.old.sectors ≡ disc_sectors (layout_of space.now) }
+    requires disc { taken.old.sectors ≡ disc_sectors (layout_of places.now) }
     ensures sectors { taken.new.sectors ≡ taken.old.sectors }
     ensures ok { OnOk result ((path : Path) (before : List ℕ) → AreTaken taken.old before
-        → (o : Object) × (object_of (layout_of space.now) before path entry.now ≡ Ok o) × AreTaken taken.new (o.sectors ++ before)) }
-    ensures outside { result ≡ Err Unclaimed.Outside → (path : Path) (before : List ℕ) → object_of (layout_of space.now) before path entry.now ≡ Err (faults.Place path) }
+        → (o : Object) × (object_of (layout_of places.now) before path entry.now ≡ Ok o) × AreTaken taken.new (o.sectors ++ before)) }
+    ensures outside { result ≡ Err Unclaimed.Outside → (path : Path) (before : List ℕ) → object_of (layout_of places.now) before path entry.now ≡ Err (faults.Place path) }
     ensures overlap { result ≡ Err Unclaimed.Overlap → (path : Path) (before : List ℕ) → AreTaken taken.old before
-        → object_of (layout_of space.now) before path entry.now ≡ Err (faults.Overlap path) }
+        → object_of (layout_of places.now) before path entry.now ≡ Err (faults.Overlap path) }
 {
-    let bytes = u64::from(object_size(space.dir_form(), entry));
-    match space.place_of(alloc, entry.address, bytes) {
+    let bytes = u64::from(object_size(places.dir_form(), entry));
+    match places.place_of(alloc, entry.address, bytes) {
         Ok(place) if taken.are_free(&place) => {
             taken.take(&place);
             Ok(())

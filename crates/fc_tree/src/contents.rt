@@ -12,7 +12,7 @@ use crate::paths::path_in;
 use crate::taken::Taken;
 use fc_dirs::Entry;
 use fc_image::ImageFault;
-use fc_space::Space;
+use fc_space::Places;
 use std::alloc::Global;
 
 // The same entry.
@@ -44,24 +44,24 @@ pub fn push_node(nodes: &mut Vec<Node>, node: Node) -> Result<(), TreeError>
 // Adds the node of an object that the directory of node `at` holds.
 fn add_child(
     alloc: Global,
-    space: &Space,
+    places: &Places<'_>,
     nodes: &mut Vec<Node>,
     taken: &mut Taken,
     at: usize,
     entry: &Entry,
 ) -> Result<(), TreeError>
-    requires disc { taken.old.sectors ≡ disc_sectors (layout_of space.now) }
-    requires held { (dir : Object) × StandsFor (layout_of space.now) nodes.old.items at dir }
+    requires disc { taken.old.sectors ≡ disc_sectors (layout_of places.now) }
+    requires held { (dir : Object) × StandsFor (layout_of places.now) nodes.old.items at dir }
     ensures sectors { taken.new.sectors ≡ taken.old.sectors }
-    ensures ok { OnOk result ((dir : Object) (before : List ℕ) → StandsFor (layout_of space.now) nodes.old.items at dir → AreTaken taken.old before
-        → (o : Object) × (object_of (layout_of space.now) before (dir.path ++ entry.now.name ∷ []) entry.now ≡ Ok o)
+    ensures ok { OnOk result ((dir : Object) (before : List ℕ) → StandsFor (layout_of places.now) nodes.old.items at dir → AreTaken taken.old before
+        → (o : Object) × (object_of (layout_of places.now) before (dir.path ++ entry.now.name ∷ []) entry.now ≡ Ok o)
         × AreTaken taken.new (o.sectors ++ before) × (nodes.new.items ≡ nodes.old.items ++ new_node at o ∷ [])) }
     ensures more { OnOk result ((node : Node) × (nodes.new.items ≡ nodes.old.items ++ node ∷ [])) }
     ensures no_fault { result ≡ Err TreeError.DiskFault → ⊥ }
-    ensures err { IfErr result (λ e. (dir : Object) (before : List ℕ) → StandsFor (layout_of space.now) nodes.old.items at dir → AreTaken taken.old before
-        → FailsAs (object_of (layout_of space.now) before (dir.path ++ entry.now.name ∷ []) entry.now) e) }
+    ensures err { IfErr result (λ e. (dir : Object) (before : List ℕ) → StandsFor (layout_of places.now) nodes.old.items at dir → AreTaken taken.old before
+        → FailsAs (object_of (layout_of places.now) before (dir.path ++ entry.now.name ∷ []) entry.now) e) }
 {
-    let unclaimed = match claim(alloc, space, taken, entry) {
+    let unclaimed = match claim(alloc, places, taken, entry) {
         Ok(()) => {
             let node = Node {
                 holder: at as u64,
@@ -85,25 +85,25 @@ fn add_child(
 /// Adds the nodes of the objects of these entries, which the directory of node `at` has.
 pub fn add_children(
     alloc: Global,
-    space: &Space,
+    places: &Places<'_>,
     nodes: &mut Vec<Node>,
     taken: &mut Taken,
     at: usize,
     entries: &[Entry],
 ) -> Result<(), TreeError>
-    requires disc { taken.old.sectors ≡ disc_sectors (layout_of space.now) }
-    requires held { (dir : Object) × StandsFor (layout_of space.now) nodes.old.items at dir }
+    requires disc { taken.old.sectors ≡ disc_sectors (layout_of places.now) }
+    requires held { (dir : Object) × StandsFor (layout_of places.now) nodes.old.items at dir }
     ensures sectors { taken.new.sectors ≡ taken.old.sectors }
-    ensures ok { OnOk result ((dir : Object) (before : List ℕ) → StandsFor (layout_of space.now) nodes.old.items at dir → AreTaken taken.old before
-        → (objects : List Object) × (after : List ℕ) × (children_of (layout_of space.now) before dir.path entries.now ≡ Ok (objects, after))
+    ensures ok { OnOk result ((dir : Object) (before : List ℕ) → StandsFor (layout_of places.now) nodes.old.items at dir → AreTaken taken.old before
+        → (objects : List Object) × (after : List ℕ) × (children_of (layout_of places.now) before dir.path entries.now ≡ Ok (objects, after))
         × AreTaken taken.new after × (nodes.new.items ≡ nodes.old.items ++ map (new_node at) objects)) }
     ensures more { OnOk result ((more : List Node) × (nodes.new.items ≡ nodes.old.items ++ more)) }
     ensures no_fault { result ≡ Err TreeError.DiskFault → ⊥ }
-    ensures err { IfErr result (λ e. (dir : Object) (before : List ℕ) → StandsFor (layout_of space.now) nodes.old.items at dir → AreTaken taken.old before
-        → FailsAs (children_of (layout_of space.now) before dir.path entries.now) e) }
+    ensures err { IfErr result (λ e. (dir : Object) (before : List ℕ) → StandsFor (layout_of places.now) nodes.old.items at dir → AreTaken taken.old before
+        → FailsAs (children_of (layout_of places.now) before dir.path entries.now) e) }
 {
     for entry in entries {
-        add_child(alloc, space, nodes, taken, at, entry)?;
+        add_child(alloc, places, nodes, taken, at, entry)?;
     }
     Ok(())
 }

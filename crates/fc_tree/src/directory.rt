@@ -25,7 +25,7 @@ use fc_dirs::{DirError, DirFault, Entry, SmallForm};
 use fc_image::ImageFault;
 use fc_names::NameForm;
 use fc_smalldir::SmallDir;
-use fc_space::Space;
+use fc_space::Places;
 use std::alloc::Global;
 
 // What bytes say as a directory of the disc's form.
@@ -78,33 +78,33 @@ fn damage_at(alloc: Global, nodes: &[Node], at: usize, fault: DirFault) -> TreeE
 fn read_directory<D: Disk>(
     alloc: Global,
     disk: &mut D,
-    space: &Space,
+    places: &Places<'_>,
     nodes: &[Node],
     at: usize,
     bytes: &mut Vec<u8>,
 ) -> Result<Body, TreeError>
     requires attached { IsTrue (D.attached disk.old) }
-    requires size { D.sector_size disk.old ≡ sector_bytes (layout_of space.now) }
-    requires room { disc_sectors (layout_of space.now) ≤ D.sectors disk.old }
-    requires there { (o : Object) × StandsFor (layout_of space.now) nodes.now at o × IsTrue (is_directory_object o) }
-    ensures ok { IfOk result (λ body. (o : Object) → StandsFor (layout_of space.now) nodes.now at o
-        → (dir : Directory) × (body ≡ body_in dir) × HasForm (dir_form (layout_of space.now)) o.entry.len dir
-        × ForSome (D.bytes disk.old) (λ image. reader_of image (layout_of space.now) o ≡ Ok dir)) }
-    ensures err { IfErr result (λ e. (o : Object) → StandsFor (layout_of space.now) nodes.now at o
-        → ForSome (D.bytes disk.old) (λ image. FailsAs (at_path o.path (reader_of image (layout_of space.now) o)) e)) }
+    requires size { D.sector_size disk.old ≡ sector_bytes (layout_of places.now) }
+    requires room { disc_sectors (layout_of places.now) ≤ D.sectors disk.old }
+    requires there { (o : Object) × StandsFor (layout_of places.now) nodes.now at o × IsTrue (is_directory_object o) }
+    ensures ok { IfOk result (λ body. (o : Object) → StandsFor (layout_of places.now) nodes.now at o
+        → (dir : Directory) × (body ≡ body_in dir) × HasForm (dir_form (layout_of places.now)) o.entry.len dir
+        × ForSome (D.bytes disk.old) (λ image. reader_of image (layout_of places.now) o ≡ Ok dir)) }
+    ensures err { IfErr result (λ e. (o : Object) → StandsFor (layout_of places.now) nodes.now at o
+        → ForSome (D.bytes disk.old) (λ image. FailsAs (at_path o.path (reader_of image (layout_of places.now) o)) e)) }
     ensures reads { OnlyReads D.Disk disk.old disk.new }
     ensures cause { result ≡ Err TreeError.DiskFault → Rose (D.faults disk.old) (D.faults disk.new) }
 {
     let Some(node) = nodes.get(at) else {
         unreachable!();
     };
-    let form = space.dir_form();
+    let form = places.dir_form();
     if !may_have_size(form, node.entry.len) {
         // An entry may give any length: what can't be a directory is not read.
-        space.places_suffice();
+        places.places_suffice();
         return Err(damage_at(alloc, nodes, at, DirFault::Size));
     }
-    match read_object(alloc, disk, space, &node.entry, bytes) {
+    match read_object(alloc, disk, places, &node.entry, bytes) {
         Ok(()) => {}
         Err(ReadError::DiskFault) => return Err(TreeError::DiskFault),
         Err(ReadError::NoMemory) => return Err(TreeError::NoMemory),
@@ -121,27 +121,27 @@ fn read_directory<D: Disk>(
 pub fn visit<D: Disk>(
     alloc: Global,
     disk: &mut D,
-    space: &Space,
+    places: &Places<'_>,
     nodes: &mut Vec<Node>,
     taken: &mut Taken,
     at: usize,
     bytes: &mut Vec<u8>,
 ) -> Result<(), TreeError>
     requires attached { IsTrue (D.attached disk.old) }
-    requires size { D.sector_size disk.old ≡ sector_bytes (layout_of space.now) }
-    requires room { disc_sectors (layout_of space.now) ≤ D.sectors disk.old }
-    requires disc { taken.old.sectors ≡ disc_sectors (layout_of space.now) }
-    requires there { (o : Object) × StandsFor (layout_of space.now) nodes.old.items at o × IsTrue (is_directory_object o) }
+    requires size { D.sector_size disk.old ≡ sector_bytes (layout_of places.now) }
+    requires room { disc_sectors (layout_of places.now) ≤ D.sectors disk.old }
+    requires disc { taken.old.sectors ≡ disc_sectors (layout_of places.now) }
+    requires there { (o : Object) × StandsFor (layout_of places.now) nodes.old.items at o × IsTrue (is_directory_object o) }
     ensures sectors { taken.new.sectors ≡ taken.old.sectors }
-    ensures ok { OnOk result ((o : Object) (before : List ℕ) → StandsFor (layout_of space.now) nodes.old.items at o → AreTaken taken.old before
-        → IsVisited (layout_of space.now) (D.bytes disk.old) nodes.old.items nodes.new.items at o before taken.new) }
-    ensures err { IfErr result (λ e. (o : Object) (before : List ℕ) → StandsFor (layout_of space.now) nodes.old.items at o → AreTaken taken.old before
-        → ForSome (D.bytes disk.old) (λ image. FailsAs (said_children (layout_of space.now) before o.path (reader_of image (layout_of space.now) o)) e)) }
+    ensures ok { OnOk result ((o : Object) (before : List ℕ) → StandsFor (layout_of places.now) nodes.old.items at o → AreTaken taken.old before
+        → IsVisited (layout_of places.now) (D.bytes disk.old) nodes.old.items nodes.new.items at o before taken.new) }
+    ensures err { IfErr result (λ e. (o : Object) (before : List ℕ) → StandsFor (layout_of places.now) nodes.old.items at o → AreTaken taken.old before
+        → ForSome (D.bytes disk.old) (λ image. FailsAs (said_children (layout_of places.now) before o.path (reader_of image (layout_of places.now) o)) e)) }
     ensures reads { OnlyReads D.Disk disk.old disk.new }
     ensures cause { result ≡ Err TreeError.DiskFault → Rose (D.faults disk.old) (D.faults disk.new) }
 {
-    let body = read_directory(alloc, disk, space, nodes, at, bytes)?;
-    add_children(alloc, space, nodes, taken, at, entries_of(&body))?;
+    let body = read_directory(alloc, disk, places, nodes, at, bytes)?;
+    add_children(alloc, places, nodes, taken, at, entries_of(&body))?;
     nodes[at].body = body;
     Ok(())
 }

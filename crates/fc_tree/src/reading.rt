@@ -13,7 +13,7 @@ ghost use Rattle.fc_tree.specs.Reading.{Appends};
 use crate::claim::object_size;
 use fc_device::{Disk, Extent};
 use fc_dirs::Entry;
-use fc_space::{PlaceError, Space};
+use fc_space::{PlaceError, Places};
 use std::alloc::Global;
 
 /// Why bytes are not read.
@@ -91,28 +91,28 @@ fn read_place<D: Disk>(
 pub fn read_object<D: Disk>(
     alloc: Global,
     disk: &mut D,
-    space: &Space,
+    places: &Places<'_>,
     entry: &Entry,
     into: &mut Vec<u8>,
 ) -> Result<(), ReadError>
     requires attached { IsTrue (D.attached disk.old) }
-    requires size { D.sector_size disk.old ≡ sector_bytes (layout_of space.now) }
-    requires room { disc_sectors (layout_of space.now) ≤ D.sectors disk.old }
-    requires placed { (sectors : List ℕ) × (sectors_at (layout_of space.now) entry.now.address (object_size (dir_form (layout_of space.now)) entry.now) ≡ Some sectors) }
-    ensures long { OnOk result (length into.new.items ≡ object_size (dir_form (layout_of space.now)) entry.now) }
-    ensures bytes { OnOk result (ForSome (D.bytes disk.old) (λ image. (o : Object) → o.entry ≡ entry.now → IsAt (layout_of space.now) o
-        → into.new.items ≡ object_bytes image (layout_of space.now) o)) }
+    requires size { D.sector_size disk.old ≡ sector_bytes (layout_of places.now) }
+    requires room { disc_sectors (layout_of places.now) ≤ D.sectors disk.old }
+    requires placed { (sectors : List ℕ) × (sectors_at (layout_of places.now) entry.now.address (object_size (dir_form (layout_of places.now)) entry.now) ≡ Some sectors) }
+    ensures long { OnOk result (length into.new.items ≡ object_size (dir_form (layout_of places.now)) entry.now) }
+    ensures bytes { OnOk result (ForSome (D.bytes disk.old) (λ image. (o : Object) → o.entry ≡ entry.now → IsAt (layout_of places.now) o
+        → into.new.items ≡ object_bytes image (layout_of places.now) o)) }
     ensures reads { OnlyReads D.Disk disk.old disk.new }
     ensures cause { result ≡ Err ReadError.DiskFault → Rose (D.faults disk.old) (D.faults disk.new) }
 {
-    let bytes = object_size(space.dir_form(), entry);
-    let place = match space.place_of(alloc, entry.address, u64::from(bytes)) {
+    let bytes = object_size(places.dir_form(), entry);
+    let place = match places.place_of(alloc, entry.address, u64::from(bytes)) {
         Ok(place) => place,
         Err(PlaceError::Outside) => unreachable!(),
         Err(PlaceError::NoMemory) => return Err(ReadError::NoMemory),
     };
     into.clear();
-    read_place(disk, &place, space.sector_bytes() as usize, into)?;
+    read_place(disk, &place, places.sector_bytes() as usize, into)?;
     into.truncate(bytes as usize);
     Ok(())
 }

@@ -25,7 +25,7 @@ use fc_dirs::Entry;
 use fc_image::ImageFault;
 use fc_names::{Name, NameForm, Path};
 use fc_oldmap::OldMap;
-use fc_space::Space;
+use fc_space::{Places, Space};
 use std::alloc::Global;
 
 // Takes the sectors of an old map's holes.
@@ -78,19 +78,19 @@ fn root_node(form: NameForm, root: u32, root_size: u32) -> Node
 // Takes the root's sectors.
 fn claim_root(
     alloc: Global,
-    space: &Space,
+    places: &Places<'_>,
     taken: &mut Taken,
     entry: &Entry,
 ) -> Result<(), TreeError>
-    requires disc { taken.old.sectors ≡ disc_sectors (layout_of space.now) }
+    requires disc { taken.old.sectors ≡ disc_sectors (layout_of places.now) }
     ensures sectors { taken.new.sectors ≡ taken.old.sectors }
     ensures ok { OnOk result ((before : List ℕ) → AreTaken taken.old before
-        → (o : Object) × (object_of (layout_of space.now) before [] entry.now ≡ Ok o) × AreTaken taken.new (o.sectors ++ before)) }
+        → (o : Object) × (object_of (layout_of places.now) before [] entry.now ≡ Ok o) × AreTaken taken.new (o.sectors ++ before)) }
     ensures no_fault { result ≡ Err TreeError.DiskFault → ⊥ }
-    ensures err { IfErr result (λ e. (before : List ℕ) → AreTaken taken.old before → FailsAs (object_of (layout_of space.now) before [] entry.now) e) }
+    ensures err { IfErr result (λ e. (before : List ℕ) → AreTaken taken.old before → FailsAs (object_of (layout_of places.now) before [] entry.now) e) }
 {
     let path = Path::root(alloc);
-    match claim(alloc, space, taken, entry) {
+    match claim(alloc, places, taken, entry) {
         Ok(()) => Ok(()),
         Err(Unclaimed::Outside) => Err(TreeError::Image(ImageFault::Place { path })),
         Err(Unclaimed::Overlap) => Err(TreeError::Image(ImageFault::Overlap { path })),
@@ -144,8 +144,11 @@ pub fn walk_disk<D: Disk>(
     let Ok(mut taken) = reserve(alloc, space, reserved) else {
         return Err(TreeError::NoMemory);
     };
+    let Ok(places) = Places::new(alloc, space) else {
+        return Err(TreeError::NoMemory);
+    };
     let node = root_node(space.dir_form(), root, root_size);
-    claim_root(alloc, space, &mut taken, &node.entry)?;
+    claim_root(alloc, &places, &mut taken, &node.entry)?;
     let mut nodes = Vec::new(alloc);
     push_node(&mut nodes, node)?;
     // Each directory takes sectors of its own, so that there are never more.
@@ -157,7 +160,7 @@ pub fn walk_disk<D: Disk>(
             return Err(overlap_at(alloc, &nodes, at));
         }
         left -= 1;
-        visit(alloc, disk, space, &mut nodes, &mut taken, at, &mut bytes)?;
+        visit(alloc, disk, &places, &mut nodes, &mut taken, at, &mut bytes)?;
         from = at + 1;
     }
     Ok(nodes)

@@ -1,9 +1,8 @@
 use Rattle.std.proofs.Common.{◌≡◌, ◌/◌, List, ℕ, Some, drop, sym, ap, ◌∙◌}
 use Rattle.std.proofs.lemmas.Result.{IfOk-weaker}
 use Rattle.std.specs.Int.{div_ceil}
-use Rattle.fc_image.specs.Layout.{Layout, first_part, id_sectors, new_sectors}
+use Rattle.fc_image.specs.Layout.{Layout, first_part, new_sectors}
 use Rattle.fc_objects.specs.Extents.{sectors_in}
-use Rattle.fc_space.specs.Index.{places_in}
 use Rattle.fc_space.specs.Space.{Suffice}
 use Rattle.fc_space.proofs.DiscLemmas.{part_suffices}
 use Rattle.fc_space.proofs.IndexedLemmas.{id_sectors_by, rows_low, sectors_by}

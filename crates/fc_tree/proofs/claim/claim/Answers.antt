@@ -9,7 +9,7 @@ use Rattle.fc_tree.proofs.claim.claim.Goals as goal
 
 pub returns-in-Ok-clause-ok : goal.returns-in-Ok-clause-ok
 returns-in-Ok-clause-ok c = λ path before taken.
-    let layout = layout_of c.args.space.now in
+    let layout = layout_of c.args.places.now in
     let size : c.from-bytes.result ≡ object_size (dir_form layout) c.args.entry.now = c.from-bytes.ensures ∙ c.object_size.ensures ∙ ap (λ f. object_size f c.args.entry.now) c.dir_form.ensures in
     claimed layout c.args.taken.now before path c.args.entry.now (sectors_in c.in-Ok.place.items) c.from-bytes.result c.requires.disc taken size c.in-Ok.ensures.place c.in-Ok.ensures.suffice
     c.take.new.self c.are_free.result (c.are_free.ensures ∙ ap (λ es. is_free c.args.taken.now (sectors_in es)) c.deref.ensures.value) c.if-are_free.true
@@ -17,7 +17,7 @@ returns-in-Ok-clause-ok c = λ path before taken.
 
 pub returns-in-Ok-2-clause-overlap : goal.returns-in-Ok-2-clause-overlap
 returns-in-Ok-2-clause-overlap c = λ told path before taken.
-    let layout = layout_of c.args.space.now in
+    let layout = layout_of c.args.places.now in
     let size : c.from-bytes.result ≡ object_size (dir_form layout) c.args.entry.now = c.from-bytes.ensures ∙ c.object_size.ensures ∙ ap (λ f. object_size f c.args.entry.now) c.dir_form.ensures in
     refused layout c.args.taken.now before path c.args.entry.now (sectors_in c.in-Ok.place.items) c.from-bytes.result c.requires.disc taken size c.in-Ok.ensures.place c.in-Ok.ensures.suffice
     c.are_free.result (c.are_free.ensures ∙ ap (λ es. is_free c.args.taken.now (sectors_in es)) c.deref.ensures.value) c.if-are_free.false

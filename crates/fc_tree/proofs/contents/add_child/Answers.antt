@@ -9,7 +9,7 @@ use Rattle.fc_tree.proofs.contents.add_child.Goals as goal
 
 pub returns-in-Ok-clause-ok : goal.returns-in-Ok-clause-ok
 returns-in-Ok-clause-ok c = IfOk-weaker c.push_node.result _ _ (λ x h. λ dir before stands taken.
-    (let layout = layout_of c.args.space.now in
+    (let layout = layout_of c.args.places.now in
     let path = dir.path ++ c.args.entry.now.name ∷ [] in
     let found = c.in-Ok.ensures.ok path before taken in
     let entry : found.0.entry ≡ c.args.entry.now = (object_is layout before path c.args.entry.now found.0 found.1).1 in

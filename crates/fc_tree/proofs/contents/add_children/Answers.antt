@@ -10,7 +10,7 @@ use Rattle.fc_tree.proofs.contents.add_children.Goals as goal
 
 pub loop-entry-init : goal.loop-entry-init
 loop-entry-init c =
-    let layout = layout_of c.args.space.now in
+    let layout = layout_of c.args.places.now in
     record {
       sectors = λ i. c.args.taken.now.sectors;
       done = λ dir before stands taken. so_far_none layout before dir c.args.at c.args.entries.now c.args.nodes.now.items c.args.taken.now taken;
@@ -20,7 +20,7 @@ loop-entry-init c =
 
 pub returns-in_err-add_child-clause-err : goal.returns-in_err-add_child-clause-err
 returns-in_err-add_child-clause-err c =
-    let layout = layout_of c.args.space.now in
+    let layout = layout_of c.args.places.now in
     let left = drop c.loop-entry.entry-index c.args.entries.now in
     let p = err_from_is_err_and c.from_residual.result c.from_residual.ensures.1 in
     rw (p.1, p.2) (λ dir before stands taken.
@@ -32,7 +32,7 @@ returns-in_err-add_child-clause-err c =
 
 pub loop-entry-preserved : goal.loop-entry-preserved
 loop-entry-preserved c =
-    let layout = layout_of c.args.space.now in
+    let layout = layout_of c.args.places.now in
     let left = drop c.loop-entry.entry-index c.args.entries.now in
     let rest = drop (c.loop-entry.entry-index + 1) c.args.entries.now in
     record {
@@ -56,5 +56,5 @@ loop-entry-preserved c =
 
 pub returns-clause-ok : goal.returns-clause-ok
 returns-clause-ok c = λ dir before stands taken.
-    so_far_all (layout_of c.args.space.now) before dir c.args.at c.args.entries.now (drop c.loop-entry.entry-index c.args.entries.now) c.args.nodes.now.items c.loop-entry.nodes.items c.loop-entry.taken
+    so_far_all (layout_of c.args.places.now) before dir c.args.at c.args.entries.now (drop c.loop-entry.entry-index c.args.entries.now) c.args.nodes.now.items c.loop-entry.nodes.items c.loop-entry.taken
     (c.loop-entry.invariant.done dir before stands taken) (drop_of_length-le c.args.entries.now (omega (arith, c.loop-entry-test.false)))

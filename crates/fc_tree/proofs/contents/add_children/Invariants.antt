@@ -10,8 +10,8 @@ use Rattle.fc_tree.proofs.contents.add_children.Given as goal
 abbrev pub invariant-loop-entry : goal.invariant-loop-entry
 invariant-loop-entry l = record {
   sectors : l.taken.sectors ≡ l.fn.taken.sectors;
-  done : (dir : Object) (before : List ℕ) → StandsFor (layout_of l.space) l.fn.nodes.items l.at dir → AreTaken l.fn.taken before
-      → SoFar (layout_of l.space) before dir l.at l.entries (drop l.entry-index l.entries) l.fn.nodes.items l.nodes.items l.taken;
+  done : (dir : Object) (before : List ℕ) → StandsFor (layout_of l.places) l.fn.nodes.items l.at dir → AreTaken l.fn.taken before
+      → SoFar (layout_of l.places) before dir l.at l.entries (drop l.entry-index l.entries) l.fn.nodes.items l.nodes.items l.taken;
   more : (more : List Node) × (l.nodes.items ≡ l.fn.nodes.items ++ more);
-  held : (dir : Object) × StandsFor (layout_of l.space) l.nodes.items l.at dir;
+  held : (dir : Object) × StandsFor (layout_of l.places) l.nodes.items l.at dir;
 }

@@ -16,12 +16,12 @@ pub read_object-requires-clause-placed : goal.read_object-requires-clause-placed
 read_object-requires-clause-placed g c =
     let h = c.in-Some.ensures.lookup in
     let is : slice_get c.args.nodes.now c.args.at ≡ Some c.in-Some.node.now = slice_get_read c.args.nodes.now (length c.args.nodes.now) c.args.at c.in-Some.node.now refl h.3.0 h.1 in
-    node_placed (layout_of c.args.space.now) c.args.nodes.now c.args.at c.requires.there.0 c.requires.there.1 c.in-Some.node.now is
+    node_placed (layout_of c.args.places.now) c.args.nodes.now c.args.at c.requires.there.0 c.requires.there.1 c.in-Some.node.now is
 
 pub body_of-requires : goal.body_of-requires
 body_of-requires g c =
     let h = c.in-Some.ensures.lookup in
-    let layout = layout_of c.args.space.now in
+    let layout = layout_of c.args.places.now in
     let node = c.in-Some.node.now in
     let is : slice_get c.args.nodes.now c.args.at ≡ Some node = slice_get_read c.args.nodes.now (length c.args.nodes.now) c.args.at node refl h.3.0 h.1 in
     let size : length c.deref.result.now ≡ directory_size (dir_form layout) node.entry.len =
@@ -31,7 +31,7 @@ body_of-requires g c =
 pub returns-in-Ok-body_of-clause-ok : goal.returns-in-Ok-body_of-clause-ok
 returns-in-Ok-body_of-clause-ok g c = λ o stands.
     let h = c.in-Some.ensures.lookup in
-    let layout = layout_of c.args.space.now in
+    let layout = layout_of c.args.places.now in
     let node = c.in-Some.node.now in
     let is : slice_get c.args.nodes.now c.args.at ≡ Some node = slice_get_read c.args.nodes.now (length c.args.nodes.now) c.args.at node refl h.3.0 h.1 in
     let size : length c.deref.result.now ≡ directory_size (dir_form layout) node.entry.len =
@@ -42,7 +42,7 @@ returns-in-Ok-body_of-clause-ok g c = λ o stands.
 pub returns-in-Err-Fault-clause-err : goal.returns-in-Err-Fault-clause-err
 returns-in-Err-Fault-clause-err g c = λ o stands.
     let h = c.in-Some.ensures.lookup in
-    let layout = layout_of c.args.space.now in
+    let layout = layout_of c.args.places.now in
     let node = c.in-Some.node.now in
     let is : slice_get c.args.nodes.now c.args.at ≡ Some node = slice_get_read c.args.nodes.now (length c.args.nodes.now) c.args.at node refl h.3.0 h.1 in
     let size : length c.deref.result.now ≡ directory_size (dir_form layout) node.entry.len =
@@ -55,7 +55,7 @@ returns-in-Err-Fault-clause-err g c = λ o stands.
 pub returns-then-not-may_have_size-clause-err : goal.returns-then-not-may_have_size-clause-err
 returns-then-not-may_have_size-clause-err g c = λ o stands. λ image told.
     let h = c.in-Some.ensures.lookup in
-    let layout = layout_of c.args.space.now in
+    let layout = layout_of c.args.places.now in
     let node = c.in-Some.node.now in
     let is : slice_get c.args.nodes.now c.args.at ≡ Some node = slice_get_read c.args.nodes.now (length c.args.nodes.now) c.args.at node refl h.3.0 h.1 in
     let directory = node_is_directory layout c.args.nodes.now c.args.at c.requires.there.0 c.requires.there.1 node is c.requires.there.2 in

@@ -9,7 +9,7 @@ use Rattle.fc_tree.proofs.reading.read_object.Goals as goal
 
 pub returns-clause-bytes : goal.returns-clause-bytes
 returns-clause-bytes g c =
-    let layout = layout_of c.args.space.now in
+    let layout = layout_of c.args.places.now in
     let e = c.args.entry.now in
     let size : c.object_size-bytes.result ≡ object_size (dir_form layout) e = c.object_size-bytes.ensures ∙ ap (λ f. object_size f e) c.dir_form.ensures in
     let place : sectors_at layout e.address c.object_size-bytes.result ≡ Some (sectors_in c.in-Ok.place.items) =

@@ -18,15 +18,17 @@ use Rattle.fc_tree.proofs.walk.walk_disk.Goals as goal
 
 pub returns-in_err-claim_root-clause-err : goal.returns-in_err-claim_root-clause-err
 returns-in_err-claim_root-clause-err g c =
+    let same : c.in-Ok-new.places ≡ c.args.space.now = c.in-Ok-new.ensures in
     let p = err_from_is_err_and c.from_residual.result c.from_residual.ensures.1 in
     let layout = layout_of c.args.space.now in
     let reserved = not_free layout (sectors_in c.args.reserved.now) in
     rw (p.1, p.2) (λ image told. root_fails (reader_of image layout) layout reserved c.args.root c.args.root_size c.in_err-claim_root.field-0.0
     (subst (λ n. FailsAs (object_of layout reserved [] (root_entry c.args.root n)) c.in_err-claim_root.field-0.0) (ap (λ f. directory_size f c.args.root_size) c.dir_form.ensures)
-    (subst (λ e. FailsAs (object_of layout reserved [] e) c.in_err-claim_root.field-0.0) (ap (λ n. n.entry) c.root_node-node.ensures) (c.in_err-claim_root.ensures.err reserved c.in-Ok.ensures.taken))))
+    (subst (λ e. FailsAs (object_of layout reserved [] e) c.in_err-claim_root.field-0.0) (ap (λ n. n.entry) c.root_node-node.ensures) (rw same at (c.in_err-claim_root.ensures.err reserved c.in-Ok.ensures.taken)))))
 
 pub loop-at-init : goal.loop-at-init
 loop-at-init g c =
+    let same : c.in-Ok-new.places ≡ c.args.space.now = c.in-Ok-new.ensures in
     let layout = layout_of c.args.space.now in
     let reserved = not_free layout (sectors_in c.args.reserved.now) in
     let node : c.root_node-node.result ≡ record { holder = 0; entry = root_entry c.args.root (directory_size (dir_form layout) c.args.root_size); body = bodies.File } =
@@ -37,7 +39,7 @@ loop-at-init g c =
       sectors = c.claim_root.ensures.sectors ∙ c.in-Ok.ensures.sectors;
       walking = walk_starts layout reserved c.args.root c.args.root_size (g.D.Disk.bytes c.args.disk.now) c.push_node.new.nodes.items c.root_node-node.result (c.disc_sectors-left.result + 1) c.claim_root.new.taken nodes node
           (ap (λ n. n + 1) c.disc_sectors-left.ensures.value)
-          (rw (ap (λ n. n.entry) node) at (c.in_ok-claim_root.ensures.ok reserved c.in-Ok.ensures.taken));
+          (rw (same, ap (λ n. n.entry) node) at (c.in_ok-claim_root.ensures.ok reserved c.in-Ok.ensures.taken));
     }
 
 pub overlap_at-requires : goal.overlap_at-requires
@@ -60,22 +62,25 @@ returns-then-left-eq0-clause-cause g c = λ e.
 
 pub visit-requires-clause-there : goal.visit-requires-clause-there
 visit-requires-clause-there g c =
-    there_is (layout_of c.args.space.now) _ _ _ _ c.loop-at.nodes.items c.deref.result.now c.loop-at.from c.in-Some.at c.loop-at.left c.loop-at.taken c.loop-at.invariant.walking c.deref.ensures.value
-    c.in-Some.ensures.some c.in-Some.ensures.first
+    let same : c.in-Ok-new.places ≡ c.args.space.now = c.in-Ok-new.ensures in
+    rw (← same) at (there_is (layout_of c.args.space.now) _ _ _ _ c.loop-at.nodes.items c.deref.result.now c.loop-at.from c.in-Some.at c.loop-at.left c.loop-at.taken c.loop-at.invariant.walking
+    c.deref.ensures.value c.in-Some.ensures.some c.in-Some.ensures.first)
 
 pub returns-in_err-visit-clause-err : goal.returns-in_err-visit-clause-err
 returns-in_err-visit-clause-err g c =
+    let same : c.in-Ok-new.places ≡ c.args.space.now = c.in-Ok-new.ensures in
     let p = err_from_is_err_and c.from_residual-in_err-visit.result c.from_residual-in_err-visit.ensures.1 in
     rw (p.1, p.2)
     (on_failed (layout_of c.args.space.now) _ _ _ (g.D.Disk.bytes c.args.disk.now) c.loop-at.nodes.items c.deref.result.now c.loop-at.from c.in-Some.at c.loop-at.left c.loop-at.taken c.loop-at.invariant.walking c.deref.ensures.value
     c.in-Some.ensures.some c.in-Some.ensures.first (c.loop-at.left - 1) c.in_err-visit.field-0.0 (omega (arith, c.if-left-eq0.false))
-    (λ o before stands taken. λ image told. c.in_err-visit.ensures.err o before stands taken image (c.loop-at.invariant.reads.bytes ∙ told)))
+    (λ o before stands taken. λ image told. (rw same at c.in_err-visit.ensures.err) o before stands taken image (c.loop-at.invariant.reads.bytes ∙ told)))
 
 pub returns-in_err-visit-clause-reads : goal.returns-in_err-visit-clause-reads
 returns-in_err-visit-clause-reads g c = reads_then (laws g.met.D.Disk) c.loop-at.invariant.reads c.visit.ensures.reads
 
 pub loop-at-preserved : goal.loop-at-preserved
 loop-at-preserved g c =
+    let same : c.in-Ok-new.places ≡ c.args.space.now = c.in-Ok-new.ensures in
     let layout = layout_of c.args.space.now in
     record {
       reads = reads_then (laws g.met.D.Disk) c.loop-at.invariant.reads c.visit.ensures.reads;
@@ -83,7 +88,7 @@ loop-at-preserved g c =
       walking = on_visited layout _ _ _ (g.D.Disk.bytes c.args.disk.now) c.loop-at.nodes.items c.deref.result.now c.loop-at.from c.in-Some.at c.loop-at.left c.loop-at.taken c.loop-at.invariant.walking c.deref.ensures.value
           c.in-Some.ensures.some c.in-Some.ensures.first c.visit.new.nodes.items c.visit.new.taken (c.loop-at.left - 1) (c.in-Some.at + 1) (omega (arith, c.if-left-eq0.false)) refl
           (λ o before stands taken. subst (λ told. IsVisited layout told c.loop-at.nodes.items c.visit.new.nodes.items c.in-Some.at o before c.visit.new.taken) c.loop-at.invariant.reads.bytes
-          (c.in_ok-visit.ensures.ok o before stands taken));
+          ((rw same at c.in_ok-visit.ensures.ok) o before stands taken));
     }
 
 pub returns-clause-ok : goal.returns-clause-ok
