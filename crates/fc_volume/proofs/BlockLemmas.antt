@@ -1,14 +1,10 @@
 -- Bytes of one sector, and how long images are.
-use Rattle.std.proofs.Common.{◌≡◌, ◌<◌, ◌≤◌, ℕ, zero, suc, ◌+◌, ◌-◌, ◌*◌, ◌/◌, Bool, true, false, List, [], ◌∷◌, ◌++◌, length, take, drop, Option, Some, None, refl, sym, ap, subst, ◌∙◌, arith, eqb-true, length-append, length-drop}
-use Rattle.std.specs.Prelude.{◌&&◌, ◌||◌, ◌==◌, slice_get, Result, Ok}
+use Rattle.std.proofs.Common.{◌≡◌, ◌≤◌, ℕ, zero, suc, ◌+◌, ◌-◌, ◌*◌, ◌/◌, Bool, true, false, List, [], ◌∷◌, ◌++◌, length, take, drop, Option, Some, None, refl, sym, ap, subst, ◌∙◌, arith, eqb-true, length-drop}
+use Rattle.std.specs.Prelude.{◌&&◌, ◌==◌, slice_get, Result, Ok}
 use Rattle.std.specs.List.{flat_map}
 use Rattle.std.proofs.Math.Nat.{div-mul-le_self}
 use Rattle.std.proofs.Math.Seq.{drop-append-add}
-use Rattle.std.proofs.lemmas.Bool.{eq-eqb}
-use Rattle.std.proofs.lemmas.Nat.{mul-le}
-use Rattle.std.proofs.lemmas.List.{length-take-le, take-append-le, drop-append-le, drop-take, take-take}
-use Rattle.fc_device.specs.Sectors.{sector_at}
-use Rattle.fc_device.proofs.SectorLemmas.{length-sector_at}
+use Rattle.std.proofs.lemmas.List.{take-append-le, drop-append-le, drop-take, take-take}
 use Rattle.fc_record.specs.declared.Kind.{Kind}
 use Rattle.fc_record.specs.declared.Kind.TheVariants.{Boot, OneZone, DiscD, DiscL}
 use Rattle.fc_record.specs.declared.DiscRecord.{DiscRecord}
@@ -17,9 +13,7 @@ use Rattle.fc_record.specs.Kinds.{disc_size, fits_kind, is_old_map, old_units}
 use Rattle.std.specs.Int.{is_in_range}
 use Rattle.fc_oldmap.specs.OldMap.{free_space, hole_fault}
 use Rattle.fc_newmap.proofs.PlaceLemmas.{in_back}
-use Rattle.fc_image.specs.Layout.{Layout, bytes_in, dir_form, disc_sectors, is_among, sector_bytes}
-use Rattle.fc_image.specs.Walk.{Object, object_bytes, object_size}
-use Rattle.fc_image.specs.Edits.{IsAt}
+use Rattle.fc_image.specs.Layout.{Layout, disc_sectors, is_among, sector_bytes}
 use Rattle.fc_image.specs.Opening.{MapAndRoot, Opened, holes_or, map_and_root, old_layout}
 use Rattle.fc_image.specs.Stays.{OpensAs}
 use Rattle.fc_image.specs.declared.ImageFault.{ImageFault}

@@ -1,9 +1,8 @@
 -- Maps as they are read: the bytes in which two records differ, the zones of the copy that counts, and old maps.
 use Rattle.std.proofs.Common.{◌≡◌, ◌<◌, ◌≤◌, ◌∷◌, ◌+◌, ◌*◌, ◌/◌, ◌⊎◌, inl, inr, ℕ, Bool, true, false, List, [], length, take, drop, drop_of_length-le, get_or, refl, sym, ap, subst, ◌∙◌, arith}
-use Rattle.std.specs.Prelude.{Option, Some, None, Result, Ok, Err, is_none, not, ◌==◌, slice_index_or}
+use Rattle.std.specs.Prelude.{Option, Some, None, Result, Ok, Err, is_none, slice_index_or}
 use Rattle.std.specs.List.{find, zip}
 use Rattle.std.proofs.lemmas.List.{drop_more}
-use Rattle.std.proofs.lemmas.Bool.{eq-eqb, ne_eqb}
 use Rattle.fc_device.specs.Sectors.{sector_at}
 use Rattle.fc_record.specs.declared.DiscRecord.{DiscRecord}
 use Rattle.fc_record.specs.declared.Geometry.{Geometry}
@@ -20,7 +19,6 @@ use Rattle.std.proofs.Math.Nat.{le-div_iff_mul-le, div-mul-le_self}
 use Rattle.fc_newmap.proofs.GeometryLemmas.{facts_of_valid, geometry_of_valid}
 use Rattle.fc_newmap.proofs.HeldLemmas.{geometry_facts, place_fits, sector_is}
 use Rattle.fc_image.specs.declared.ImageFault.{ImageFault}
-use Rattle.fc_image.specs.declared.ImageFault.TheVariants as faults
 use Rattle.fc_image.specs.Layout.{Layout}
 use Rattle.fc_image.specs.Walk.{◌>>=◌}
 use Rattle.fc_image.specs.Opening.{MapAndRoot, agreement, copy_or, difference, new_layout, zones_or}

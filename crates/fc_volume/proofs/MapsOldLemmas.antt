@@ -1,20 +1,18 @@
 -- Old maps as they are read from the front of an image.
-use Rattle.std.proofs.Common.{◌≡◌, ◌<◌, ◌≤◌, ◌∷◌, ◌+◌, ◌-◌, ◌*◌, ◌/◌, ◌%◌, ◌⊎◌, inl, inr, ℕ, zero, suc, Bool, true, false, List, [], map, length, take, drop, get_or, refl, sym, ap, ap₂, subst, ◌∙◌, arith, cond}
-use Rattle.std.specs.Prelude.{nat_le, Option, Some, None, Result, Ok, Err, MatchResult, IsTrue, if◌then◌else◌, not, ◌==◌, ◌&&◌, slice_index, slice_index_or, ◌++◌}
-use Rattle.std.specs.List.{range_with_len}
+use Rattle.std.proofs.Common.{◌≡◌, ◌<◌, ◌≤◌, ◌∷◌, ◌+◌, ◌-◌, ◌*◌, ◌/◌, ◌%◌, ◌⊎◌, inl, inr, ℕ, zero, suc, Bool, true, false, List, [], length, take, drop, refl, sym, ap, ap₂, ◌∙◌, arith}
+use Rattle.std.specs.Prelude.{nat_le, Option, Some, None, Result, Ok, Err, if◌then◌else◌, ◌==◌, ◌&&◌, ◌++◌}
 use Rattle.byteorder.specs.Endian.{little_number}
 use Rattle.std.proofs.lemmas.List.{get_or-take, drop-take, take-take, length-append, length-take-le}
 use Rattle.std.proofs.lemmas.List.FromFn.{map-range_with_len_more}
 use Rattle.std.proofs.lemmas.Bool.{and_from, leb-true}
 use Rattle.std.proofs.Math.Seq.{take-add, take-append_seam}
-use Rattle.std.proofs.lemmas.Slice.{take-put_mid, take-put_mid_below}
+use Rattle.std.proofs.lemmas.Slice.{take-put_mid}
 use borrow.Rule.Slice.PartMut.{put_mid}
 use Rattle.fc_bytes.specs.Words.{bytes_at, u24_at}
 use Rattle.fc_checks.specs.Checks.{is_half_right}
 use Rattle.fc_device.specs.Sectors.{sector_at}
 use Rattle.fc_record.specs.Kinds.{is_old_map, old_units}
 use Rattle.fc_oldmap.specs.declared.Hole.{Hole}
-use Rattle.fc_oldmap.specs.declared.OldMapFault.{OldMapFault}
 use Rattle.fc_oldmap.specs.declared.OldMapFault.TheVariants.{Check, Bad}
 use Rattle.fc_oldmap.specs.OldMap.{FreeSpace, free_end, free_space, hole_fault, holes_of, is_free_end, map_units, old_map, stored_hole, stored_holes, wrong_hole}
 use Rattle.fc_oldmap.specs.Holes.{hole}

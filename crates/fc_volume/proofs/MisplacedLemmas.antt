@@ -1,7 +1,7 @@
 -- The least sector that passes a test, and which sectors of the map are misplaced.
-use Rattle.std.proofs.Common.{◌≡◌, ◌<◌, ◌≤◌, ◌∷◌, ◌+◌, ◌-◌, ◌*◌, ◌/◌, ◌^◌, ◌⊎◌, inl, inr, ℕ, zero, suc, Bool, true, false, List, [], ◌++◌, map, refl, sym, ap, ap₂, subst, ◌∙◌, arith, cond}
-use Rattle.std.specs.Prelude.{Option, Some, None, Contains, IsPermutation, filter, not, nat_le, nat_lt, min, ◌==◌, ◌&&◌, ◌||◌}
-use Rattle.std.specs.List.{flat_map, list_any, range_with_len}
+use Rattle.std.proofs.Common.{◌≡◌, ◌<◌, ◌≤◌, ◌∷◌, ◌+◌, ◌*◌, ◌^◌, ◌⊎◌, inl, inr, ℕ, zero, suc, Bool, true, false, List, [], ◌++◌, map, refl, sym, ap, ap₂, subst, ◌∙◌, arith}
+use Rattle.std.specs.Prelude.{Option, Some, None, filter, nat_le, nat_lt, min, ◌==◌, ◌&&◌, ◌||◌}
+use Rattle.std.specs.List.{list_any, range_with_len}
 use Rattle.std.specs.Ordering.{nat_cmp}
 use Rattle.std.specs.FinMap.{FinMap}
 use Rattle.std.proofs.lemmas.Bool.{eqb-true, eqb-false, eq-eqb, ne_eqb, leb-true, ltb-true, le-leb, lt-ltb, cases_lt}
@@ -24,8 +24,8 @@ use Rattle.fc_alloc.specs.declared.owner.Owner.{Owner}
 use Rattle.fc_alloc.specs.Owners.{is_id_owned, owns}
 use Rattle.fc_image.specs.Layout.{Layout, is_among, id_of}
 use Rattle.fc_image.specs.Walk.{Object}
-use Rattle.fc_image.specs.Objects.{has_sectors, is_movable, is_owned, is_owner_of}
-use Rattle.fc_image.specs.Opening.{boot_place, is_hole_or_movable, least_of, least_or, misplaced_sector, reserved_in}
+use Rattle.fc_image.specs.Objects.{has_sectors, is_owned, is_owner_of}
+use Rattle.fc_image.specs.Opening.{boot_place, is_hole_or_movable, least_of, least_or, misplaced_sector}
 use Rattle.fc_tree.specs.declared.node.Node.{Node}
 use Rattle.fc_tree.specs.Parts.{AreOwners, owner_of}
 use Rattle.fc_volume.specs.Misplaced.{IsLeast, is_in_loose, is_in_some_loose, is_loose, lies_in}

@@ -1,5 +1,5 @@
 -- What an image opens as, from the kind, the map and the walk that were found.
-use Rattle.std.proofs.Common.{◌≡◌, ◌<◌, ◌≤◌, ◌∷◌, ◌+◌, ◌^◌, ℕ, zero, suc, Bool, true, false, List, [], ◌++◌, length, refl, sym, ap, subst, ◌∙◌, arith, cond}
+use Rattle.std.proofs.Common.{◌≡◌, ◌<◌, ◌≤◌, ◌∷◌, ◌+◌, ℕ, Bool, true, false, List, [], ◌++◌, length, refl, sym, ap, subst, ◌∙◌, arith}
 use Rattle.std.specs.Prelude.{Option, Some, None, Result, Ok, Err, Contains, is_none, nat_lt}
 use Rattle.std.specs.FinMap.{get}
 use Rattle.std.specs.List.{flat_map}
@@ -27,10 +27,9 @@ use Rattle.fc_image.specs.Objects.{listing_at, objects_of}
 use Rattle.fc_image.specs.Opening.{MapAndRoot, Opened, map_and_root, misplaced_sector, open_as, open_image, open_parts, reserved_in, unless_misplaced}
 use Rattle.fc_image.specs.Laws.{OpensLaw, Tells, WalkLaw}
 use Rattle.fc_image.proofs.EditLemmas.{root_first, walk_gives}
-use Rattle.fc_tree.specs.declared.node.Node.{Node}
 use Rattle.fc_tree.specs.Agree.{Agree, AreWalked, reader_of_nodes}
 use Rattle.fc_tree.specs.Nodes.{HasNode, body_of, number_of}
-use Rattle.fc_tree.specs.Parts.{AreOwners, ArePartsOf, Parts}
+use Rattle.fc_tree.specs.Parts.{ArePartsOf, Parts}
 use Rattle.fc_tree.proofs.WalkedLemmas.{contained}
 use Rattle.fc_volume.specs.declared.lines.MountError.{MountError}
 use Rattle.fc_volume.specs.Answers.{IsFaultOf}

@@ -1,15 +1,15 @@
 -- The owners among the nodes are those among the objects.
-use Rattle.std.proofs.Common.{◌≡◌, ◌<◌, ◌≤◌, ◌∷◌, ◌+◌, ◌-◌, ◌*◌, ◌/◌, ◌%◌, ◌⊎◌, inl, inr, ℕ, zero, suc, Bool, true, false, List, [], ◌++◌, length, map, take, drop, refl, sym, ap, ap₂, subst, ◌∙◌, arith, cond}
-use Rattle.std.specs.Prelude.{Option, Some, None, Ok, Contains, IsPermutation, filter, not, nat_le, nat_lt, min, ◌==◌, ◌&&◌, ◌||◌, slice_get}
+use Rattle.std.proofs.Common.{◌≡◌, ◌<◌, ◌≤◌, ◌∷◌, ◌+◌, ◌-◌, ◌*◌, ◌/◌, ◌%◌, inl, inr, ℕ, zero, suc, Bool, true, false, List, [], ◌++◌, length, map, take, drop, refl, sym, ap, ap₂, subst, ◌∙◌, arith, cond}
+use Rattle.std.specs.Prelude.{Option, Some, None, Ok, IsPermutation, filter, nat_le, nat_lt, ◌==◌, ◌&&◌, ◌||◌, slice_get}
 use Rattle.std.specs.List.{AllByRecursion, flat_map, list_any, range_with_len}
 use Rattle.std.specs.Int.{div_ceil}
 use Rattle.std.specs.Option.{unwrap_or}
 use Rattle.std.specs.Ordering.{nat_cmp}
-use Rattle.std.specs.FinMap.{FinMap, entries, get, len, len-entries}
+use Rattle.std.specs.FinMap.{FinMap, get, len-entries}
 use Rattle.std.proofs.Math.Nat.{zero-div}
 use Rattle.std.proofs.lemmas.Nat.{mod-mul-add}
 use Rattle.std.proofs.lemmas.List.Sorted.{IsPermutation-refl}
-use Rattle.std.proofs.lemmas.List.{append_assoc, append-nil, length-append, length-take-le}
+use Rattle.std.proofs.lemmas.List.{append-nil, length-take-le}
 use Rattle.std.proofs.lemmas.List.Folds.{list_any-append}
 use Rattle.std.proofs.lemmas.List.FromFn.{length-range_with_len}
 use Rattle.std.proofs.lemmas.List.Concat.{flat_map-append}
@@ -20,19 +20,19 @@ use Rattle.fc_names.specs.Names.{Path}
 use Rattle.fc_model.specs.Tree.{holder}
 use Rattle.fc_alloc.specs.declared.owner.Owner.{Owner}
 use Rattle.fc_alloc.specs.Owners.{has_node, is_node}
-use Rattle.fc_image.specs.Layout.{Layout, dir_form, first_part, id_sectors, is_object_id, id_of, low_of, low_start, sector_bytes, sectors_at, some_sectors, new_sectors, old_sectors}
+use Rattle.fc_image.specs.Layout.{Layout, dir_form, first_part, id_sectors, is_object_id, id_of, low_of, low_start, sector_bytes, sectors_at, some_sectors}
 use Rattle.fc_image.specs.Walk.{Object, Listing, Reader, is_directory_object, object_size, walk}
 use Rattle.fc_image.specs.Objects.{has_sectors, objects_of}
 use Rattle.fc_image.specs.Edits.{IsAt, AreChildren, Follows}
 use Rattle.fc_image.proofs.EditLemmas.{root_first, walk_gives}
 use Rattle.fc_tree.specs.declared.node.Node.{Node}
 use Rattle.fc_tree.specs.Agree.{AreWalked, InOrder, reader_of_nodes}
-use Rattle.fc_tree.specs.Nodes.{Numbers, bound_of, nodes_of, number_of, numbered_from, HasNode, HoldObjects}
-use Rattle.fc_tree.specs.Parts.{AreOwners, owner_of, first_in}
+use Rattle.fc_tree.specs.Nodes.{Numbers, bound_of, nodes_of, number_of, numbered_from, HoldObjects}
+use Rattle.fc_tree.specs.Parts.{AreOwners, owner_of}
 use Rattle.fc_tree.specs.Slots.{slot_at}
 use Rattle.fc_tree.proofs.SlotLemmas.{entries-nodes_of, get-nodes_of}
 use Rattle.fc_tree.proofs.WalkedLemmas.{contained, element_at}
-use Rattle.fc_volume.specs.Owners.{node_owner, owner_at, owners_below, with_owner}
+use Rattle.fc_volume.specs.Owners.{node_owner, owner_at, owners_below}
 
 -- ---- sectors of objects
 

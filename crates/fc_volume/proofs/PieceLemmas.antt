@@ -1,16 +1,13 @@
 -- Where files lie, and their bytes, piece by piece.
 use Rattle.std.proofs.Common.{◌≡◌, ◌<◌, ◌≤◌, ℕ, ◌+◌, ◌*◌, ◌/◌, ◌%◌, true, false, List, [], ◌∷◌, ◌++◌, length, take, drop, Option, Some, None, sym, ap, subst, ◌∙◌, arith, inl, inr}
-use Rattle.std.specs.Prelude.{All, slice_get, is_some, option_map}
+use Rattle.std.specs.Prelude.{All, option_map}
 use Rattle.std.specs.List.{flat_map}
-use Rattle.std.specs.Option.{IsSome, option_and_then, option_map_or, unwrap_or}
+use Rattle.std.specs.Option.{option_map_or, unwrap_or}
 use Rattle.std.specs.FinMap.{get}
 use Rattle.std.proofs.Math.Nat.{div-mul-le_self}
-use Rattle.std.proofs.lemmas.Bool.{cases_lt}
 use Rattle.std.proofs.lemmas.Nat.{div-add-mod', mul-le}
 use Rattle.std.proofs.lemmas.List.{take_at}
 use Rattle.std.proofs.lemmas.List.Elements.{All-cons, All-nil}
-use Rattle.std.proofs.lemmas.Option.{slice_get-get_or}
-use Rattle.std.specs.Prelude.{get_or}
 use Rattle.fc_device.specs.declared.disk.Extent.{Extent}
 use Rattle.fc_device.specs.Sectors.{IsSectorSize, sector_at}
 use Rattle.fc_objects.specs.Extents.{sectors_in}

@@ -1,5 +1,5 @@
 -- The least sector that passes a test.
-use Rattle.std.specs.Prelude.{◌≡◌, ◌≤◌, ℕ, ◌+◌, Bool, true, false, ◌&&◌, ◌||◌, nat_le, nat_lt, List, map, Option, Some, None}
+use Rattle.std.specs.Prelude.{◌≡◌, ◌≤◌, ℕ, ◌+◌, Bool, true, false, ◌&&◌, ◌||◌, nat_le, nat_lt, List, Option, Some, None}
 use Rattle.fc_device.specs.declared.disk.Extent.{Extent}
 use Rattle.std.specs.List.{list_any}
 use Rattle.fc_record.specs.declared.Geometry.{Geometry}

@@ -1,5 +1,5 @@
 -- What is known of a volume while it is mounted.
-use Rattle.std.specs.Prelude.{◌≡◌, ℕ, List, None, Option, Result, Ok, Err}
+use Rattle.std.specs.Prelude.{◌≡◌, ℕ, List, None, Option, Result}
 use Rattle.std.specs.Option.{ForSome}
 use Rattle.fc_record.specs.declared.Kind.{Kind}
 use Rattle.fc_image.specs.declared.ImageFault.{ImageFault}

@@ -1,4 +1,4 @@
-use Rattle.std.proofs.Common.{◌≡◌, ℕ, Bool, not, true, false, refl, sym, ap, ◌∙◌, arith}
+use Rattle.std.proofs.Common.{not, refl, sym, ap, ◌∙◌, arith}
 use Rattle.std.specs.Prelude.{◌==◌}
 use Rattle.std.proofs.lemmas.Bool.{eq-eqb, ne_eqb}
 use Rattle.fc_image.specs.Opening.{byte_compared, compared_offsets}

@@ -1,5 +1,4 @@
-use Rattle.std.proofs.Common.{◌≡◌, ◌/◌, ◌*◌, take, length, sym, ap, ap₂, refl, ◌∙◌, arith}
-use Rattle.std.specs.Prelude.{slice_index_or, List, [], ℕ}
+use Rattle.std.proofs.Common.{◌/◌, ◌*◌, take, length, sym, ap, ap₂, ◌∙◌, arith}
 use Rattle.std.proofs.lemmas.Result.{err_from_is_err_and}
 use Rattle.std.proofs.lemmas.List.{length-take-le}
 use Rattle.fc_record.specs.declared.Geometry.{Geometry}

@@ -1,4 +1,4 @@
-use Rattle.std.proofs.Common.{◌≡◌, length, drop, length-take, refl, sym, ap, ◌∙◌, arith}
+use Rattle.std.proofs.Common.{ap, ◌∙◌, arith}
 use Rattle.fc_device.proofs.DiskLaws.{laws}
 use Rattle.fc_record.specs.Reads.{OnlyReads}
 use Rattle.fc_record.proofs.ReadLemmas.{reads_then}

@@ -1,5 +1,4 @@
-use Rattle.std.proofs.Common.{◌≡◌, refl, sym, ap, ◌+◌, ◌*◌, ◌≤◌, subst, ◌∙◌, arith}
-use Rattle.fc_record.specs.declared.Geometry.{Geometry}
+use Rattle.std.proofs.Common.{◌∙◌, arith}
 use Rattle.fc_record.specs.Record.{geometry}
 use Rattle.fc_newmap.specs.Map.{zones_in}
 use Rattle.fc_volume.proofs.MapsLemmas.{new_room, new_is, no_copy}

@@ -1,4 +1,4 @@
-use Rattle.std.proofs.Common.{◌≡◌, sym, ap, subst, ◌∙◌, arith}
+use Rattle.std.proofs.Common.{sym, ap, subst, ◌∙◌, arith}
 use Rattle.fc_record.specs.declared.Geometry.{Geometry}
 use Rattle.fc_image.specs.Layout.{Layout}
 use Rattle.fc_image.specs.Opening.{boot_place, misplaced_sector}

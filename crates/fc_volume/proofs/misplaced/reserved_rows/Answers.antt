@@ -1,4 +1,4 @@
-use Rattle.std.proofs.Common.{◌≡◌, ap, arith}
+use Rattle.std.proofs.Common.{ap, arith}
 use Rattle.fc_record.specs.declared.Geometry.{Geometry}
 use Rattle.fc_volume.proofs.MisplacedLemmas.{sector_least}
 use Rattle.fc_volume.proofs.misplaced.reserved_rows.Goals as goal

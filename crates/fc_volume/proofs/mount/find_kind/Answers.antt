@@ -1,4 +1,4 @@
-use Rattle.std.proofs.Common.{◌≡◌, subst, arith}
+use Rattle.std.proofs.Common.{subst}
 use Rattle.std.specs.Prelude.{Err}
 use Rattle.fc_record.specs.declared.KindError.{KindError}
 use Rattle.fc_record.specs.Kinds.{Answers}

@@ -1,4 +1,3 @@
-use Rattle.std.proofs.Common.{arith}
 use Rattle.fc_volume.proofs.MountLemmas.{sizes_of}
 use Rattle.fc_volume.proofs.mount.log2_sector.Goals as goal
 

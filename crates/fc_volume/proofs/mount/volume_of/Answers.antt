@@ -1,6 +1,5 @@
-use Rattle.std.proofs.Common.{◌≡◌, List, ℕ, subst, sym, ap, ◌∙◌, arith}
+use Rattle.std.proofs.Common.{List, ℕ, subst, sym, ◌∙◌}
 use Rattle.fc_image.specs.Objects.{objects_of}
-use Rattle.fc_image.specs.Opening.{reserved_in}
 use Rattle.fc_tree.specs.Agree.{AreWalked, reader_of_nodes}
 use Rattle.fc_tree.specs.Nodes.{nodes_of}
 use Rattle.fc_space.specs.Space.{layout_of}

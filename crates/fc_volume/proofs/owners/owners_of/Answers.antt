@@ -1,6 +1,6 @@
-use Rattle.std.proofs.Common.{◌≡◌, ◌++◌, refl, sym, ap, ◌∙◌, arith}
+use Rattle.std.proofs.Common.{◌≡◌, ◌++◌, ap, ◌∙◌, arith}
 use Rattle.fc_alloc.specs.declared.owner.Owner.{Owner}
-use Rattle.std.specs.Prelude.{List, ◌==◌}
+use Rattle.std.specs.Prelude.{List}
 use Rattle.std.specs.FinMap.{get}
 use Rattle.fc_tree.specs.Nodes.{bound_of, nodes_of}
 use Rattle.fc_space.specs.Space.{layout_of}
