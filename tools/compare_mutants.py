@@ -144,14 +144,12 @@ def mutant(chance, volumes):
     damage = damaged_images.Damage(chance.choice(volumes))
     for _ in range(chance.choice((1, 1, 2))):
         chance.choice((damage_map, damage_directory, damage_directory, damage_entry, damage_entry))(chance, damage)
-    if chance.randrange(40) == 0:
-        damage.cut(chance.choice((*ENDS, len(damage.data) - 1)))
-    if chance.randrange(40) == 0:
-        damage.data += bytes(chance.choice((1, 1023, 1024)))
-    if chance.randrange(40) == 0:
-        damage.cut(chance.randrange(len(damage.data)))
     if chance.randrange(20) == 0 and not isinstance(damage.volume, OldVolume) and damage.volume.has_boot:
         damage.boot({chance.randrange(60): chance.randrange(256)})
+    if chance.randrange(30) == 0:
+        damage.cut(chance.choice((*ENDS, len(damage.data) - 1, chance.randrange(len(damage.data)))))
+    if chance.randrange(40) == 0:
+        damage.data += bytes(chance.choice((1, 1023, 1024)))
     return bytes(damage.data)
 
 
