@@ -1,5 +1,5 @@
 #!/usr/bin/env python3
-"""Damages images at random, mostly with the checks put right again, and compares what fcore answers with the reader in Python.
+"""Damages images at random, also by addresses and lengths at bounds, mostly with right checks, and compares what fcore answers with the reader in Python.
 
 usage: tools/compare_mutants.py PROGRAM [COUNT [SEED]]
 It stands outside the gate. What differs is written to mutant-SEED-NUMBER.adf in the current folder.
@@ -14,8 +14,8 @@ import tempfile
 import damaged_images
 import images
 import read_image
-from filecore import zone_check
-from volumes import OldVolume, fresh_e, fresh_f, fresh_old, seal_old_map
+from filecore import put, zone_check
+from volumes import OldVolume, fresh_e, fresh_f, fresh_old, head_space, seal_old_map
 
 SCRIPT = b"check\nfree\ncat $\n"
 
@@ -35,6 +35,9 @@ def small_volumes():
         yield volume
     yield images.big_volume(damaged_images.e_plus)
     yield fresh_old("L")
+    for make in (images.hard_disc, images.scattered_directories, images.scattered_big_directory, images.small_sectors,
+                 images.large_sectors, images.grown_root, images.many_holes, images.two_holes, images.full_identifiers):
+        yield make()
 
 
 def changed_byte(chance, byte):
@@ -78,6 +81,8 @@ def damage_directory(chance, damage):
     """Bytes of a directory: its ends, its entries, its heap; mostly with the check put right."""
     volume = damage.volume
     directory = chance.choice(volume.directories())
+    if not volume.is_in_one_piece(directory):
+        return
     place = damage.place(directory)
     size = len(volume.directory_bytes(directory))
     inside = range(size) if chance.randrange(6) == 0 else range(8, size - 8)  # the ends decide all too soon
@@ -89,14 +94,62 @@ def damage_directory(chance, damage):
         damaged_images.big_rechecked(damage, directory)
 
 
+# lengths at the bounds of sectors, directories and numbers
+LENGTHS = (0, 1, 255, 256, 257, 511, 512, 1023, 1024, 1025, 2047, 2048, 2049, 4096, 1 << 16, (1 << 22) - 2048, 1 << 22,
+           (1 << 22) + 2048, (1 << 31) - 1, 1 << 31, (1 << 32) - 2048, (1 << 32) - 1)
+
+
+def address_elsewhere(chance, volume):
+    """The address of another object, of the map, or of nothing."""
+    known = [entry.address for entry in volume.objects() if entry.address]
+    if isinstance(volume, OldVolume):
+        near = chance.choice(known) + chance.choice((-4, -1, 0, 0, 1, 4))
+        return max(0, chance.choice((near, near, 0, 1, volume.units - 4, volume.units - 1, volume.units, 0xFFFFFF)))
+    bound = volume.shape.id_limit
+    identifier = chance.choice((*[address // 256 for address in known], 0, 1, 2, bound - 1, bound))
+    address = identifier * 256 + chance.choice((0, 0, 1, 2, 3, 4, 5, 8, 16, 254, 255))
+    return address % (1 << 32 if volume.form == "big" else 1 << 24)
+
+
+def damage_entry(chance, damage):
+    """Another address or length of an object, or a file for a directory, with the right check."""
+    volume = damage.volume
+    directory = chance.choice(volume.directories())
+    if not directory.entries or not volume.is_in_one_piece(directory):
+        return
+    place = damage.place(directory)
+    number = chance.randrange(len(directory.entries))
+    if volume.form == "big":
+        entry, length, address, size, attributes = place + 28 + head_space(directory) + 28 * number, 8, 12, 4, 16
+    else:
+        entry, length, address, size, attributes = place + 5 + 26 * number, 18, 22, 3, 25 if volume.form == "D" else 3
+    way = chance.randrange(5)
+    if way < 3:
+        put(damage.data, entry + address, size, address_elsewhere(chance, volume))
+    if way in (2, 3):
+        put(damage.data, entry + length, 4, chance.choice(LENGTHS))
+    if way == 4:
+        damage.data[entry + attributes] ^= 0x80 if volume.form == "L" else 8
+    if volume.form == "D":
+        damage.checked(directory)
+    elif volume.form == "big":
+        damaged_images.big_rechecked(damage, directory)
+
+
+# where an image may end
+ENDS = (0, 1, 255, 256, 511, 512, 1023, 1024, 2047, 2048, 0xDFF, 0xE00)
+
+
 def mutant(chance, volumes):
     damage = damaged_images.Damage(chance.choice(volumes))
     for _ in range(chance.choice((1, 1, 2))):
-        chance.choice((damage_map, damage_directory, damage_directory))(chance, damage)
-    if chance.randrange(40) == 0:
-        damage.cut(chance.randrange(len(damage.data)))
+        chance.choice((damage_map, damage_directory, damage_directory, damage_entry, damage_entry))(chance, damage)
     if chance.randrange(20) == 0 and not isinstance(damage.volume, OldVolume) and damage.volume.has_boot:
         damage.boot({chance.randrange(60): chance.randrange(256)})
+    if chance.randrange(30) == 0:
+        damage.cut(chance.choice((*ENDS, len(damage.data) - 1, chance.randrange(len(damage.data)))))
+    if chance.randrange(40) == 0:
+        damage.data += bytes(chance.choice((1, 1023, 1024)))
     return bytes(damage.data)
 
 

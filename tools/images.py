@@ -177,6 +177,51 @@ def wide_disc():
     return volume
 
 
+def scattered_directories():
+    """Directories in pieces: two that begin by share units inside an identifier, each over two of its runs."""
+    volume = NewVolume(record_bytes(**HARD_DISC), True)
+    volume.take(2, 10, 160)
+    volume.take(2, 0, 32)
+    volume.take(volume.new_identifier(), 10, 16)
+    identifier = volume.place(8192, [(3, 16), (7, 16), (1, 32)])
+    outer = volume.root.append(Directory(b"Outer", identifier * 256 + 2))
+    inner = outer.append(Directory(b"Inner", identifier * 256 + 4))
+    outer.holder, inner.holder = volume.root, outer
+    inner.append(volume.file(b"Deep", content(2000, 3), [(4, 16)]))
+    outer.append(volume.file(b"Far", content(30000, 3), [(19, 80), (18, 80), (0, 80)], identifier=12 * 290 + 5))
+    return volume
+
+
+def scattered_big_directory():
+    volume = fresh_f(big=True)
+    many = volume.root.insert(volume.directory(volume.root, b"Many", [(3, 48), (0, 64), (1, 48)], size=10240))
+    for at in range(120):
+        many.insert(volume.file(b"A_name_longer_than_ten_bytes_%03d" % at, content(at % 3, at)))
+    return volume
+
+
+def small_sectors():
+    """Four zones of sectors of 256 bytes."""
+    volume = NewVolume(record_bytes(8, 12, 6, 4, 32, 0x300, (4 * 2016 - 480) * 64), True)
+    volume.take(2, 2, 40)
+    volume.take(2, 0, 64)
+    volume.take(volume.new_identifier(), 2, 32)
+    add_tree(volume)
+    add_map_oddities(volume, 1)
+    return volume
+
+
+def large_sectors():
+    """A hard disc of five zones of sectors of 1024 bytes, of which a share unit has four."""
+    volume = NewVolume(record_bytes(10, 15, 9, 5, 64, 0x300, (5 * 8128 - 480) * 512, share=2), True)
+    volume.take(2, 2, 20)
+    volume.take(2, 0, 16)
+    volume.take(volume.new_identifier(), 2, 16)
+    add_tree(volume)
+    add_map_oddities(volume, 3)
+    return volume
+
+
 def two_holes():
     """One zone of sectors of 512 bytes with a boot block, and two holes of 18 bits."""
     raw = record_bytes(9, 15, 8, 1, 32, 0x208, 74 * 256)
@@ -245,7 +290,9 @@ VOLUMES = {
     "hello": hello, "e-files": lambda: new_volume(fresh_e), "f-files": files_f, "d-files": lambda: old_volume("D", 3200),
     "l-files": lambda: old_volume("L", 2560), "e-plus-files": lambda: big_volume(lambda: fresh_e(True)),
     "f-plus-files": lambda: big_volume(lambda: fresh_f(True)), "f-user": user_disc, "e-plus-grown": grown_root,
-    "hard-disc": hard_disc, "wide-disc": wide_disc, "two-holes": two_holes, "full-identifiers": full_identifiers,
+    "hard-disc": hard_disc, "scattered-directories": scattered_directories, "scattered-big": scattered_big_directory,
+    "small-sectors": small_sectors, "large-sectors": large_sectors, "wide-disc": wide_disc, "two-holes": two_holes,
+    "full-identifiers": full_identifiers,
     "l-7-units": lambda: small_disc(7), "l-8-units": lambda: small_disc(8), "l-640-units": lambda: small_disc(640),
     "l-82-holes": many_holes,
 }

@@ -431,7 +431,7 @@ WORD = "[0-9A-Fa-f]{8}"
 FORMS = {  # what follows the words that are paths
     "cat": (1, ""), "load": (1, ""), "digest": (1, ""), "cdir": (1, ""), "delete": (1, ""), "rename": (2, ""),
     "free": (0, ""), "check": (0, ""), "compact": (0, ""), "reclaim": (0, ""),
-    "save": (1, f" {WORD} {WORD} (-|([0-9A-Fa-f][0-9A-Fa-f])+)"), "create": (1, f" {WORD} {WORD} (0|[1-9][0-9]*)"),
+    "save": (1, f" {WORD} {WORD} (-|([0-9A-Fa-f][0-9A-Fa-f])+)"), "create": (1, f" {WORD} {WORD} (0|[1-9][0-9]{{0,9}})"),
     "set": (1, f" {WORD} {WORD} (-|(?=[RWL])R?W?L?)"),
 }
 READING = ("cat", "load", "digest", "free", "check")

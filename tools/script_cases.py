@@ -33,7 +33,8 @@ def lines_case(name, image, pairs, words=()):
 WRONG_LINES = [
     "lod $", "LOAD $", "cat", "cat ", " cat $", "cat  $", "cat $ ", "cat $ $", "cat\t$", "cat $\r", "free $", "check all", "load",
     "digest", "\x7f", "caf\u00e9", "save $.A 0 0 -", f"save $.A {ZEROS}", f"save $.A {ZEROS} 123", f"save $.A {ZEROS} 0g",
-    f"save $.A {ZEROS} --", f"create $.A {ZEROS} 01", f"create $.A {ZEROS} 4294967296", f"create $.A {ZEROS} -1",
+    f"save $.A {ZEROS} --", f"create $.A {ZEROS} 01", f"create $.A {ZEROS} 4294967296",
+    f"create $.A {ZEROS} " + "9" * 5000, f"create $.A {ZEROS} -1",
     f"set $.A {ZEROS} WR", f"set $.A {ZEROS} RR", f"set $.A {ZEROS} r", f"set $.A {ZEROS}", "rename $.A", "delete", "cdir $.A $.B",
     "compact $", "reclaim $", "load x $", "lod x",
 ]
@@ -57,6 +58,7 @@ def grammar():
     yield Case("comments", ["hello.adf"], b"\n# a line \xff\r\n\n#compact\nload $.hello\n\n#", 0, hello)
     yield Case("last-line-without-end", ["hello.adf"], "load $.hello", 0, hello)
     yield Case("byte-0", ["hello.adf"], b"free\0\n", 1, BAD_COMMAND)
+    yield Case("lines-of-two-ends", ["hello.adf"], b"free\r\n\r\n#\r\n", 1, BAD_COMMAND * 2)
     yield Case("empty-script", ["hello.adf"], "", 0)
     yield lines_case("read-only", "hello.adf", [("load $.hello", hello)], ["--read-only"])
     yield Case("may-not-be-written", ["locked.adf"], "load $.hello\n", 0, hello)
@@ -64,6 +66,7 @@ def grammar():
 
 def long_scripts():
     yield Case("longest-script", ["hello.adf"], b"\n" * SCRIPT_LIMIT, 0)
+    yield Case("long-line", ["hello.adf"], b"load $." + b"n" * 1000000, 1, BAD_NAME)
     yield Case("script-too-long", ["hello.adf"], b"\n" * (SCRIPT_LIMIT + 1), 8)
     yield Case("script-too-long-no-image", ["nothing.adf"], b"compact\n".ljust(SCRIPT_LIMIT + 1, b"\n"), 8)
 
@@ -98,7 +101,8 @@ BAD_WORDS = [
     [], [""], ["--help", "hello.adf"], ["-h", "hello.adf"], ["--version"], ["hello.adf", "other.adf"], ["--new"], ["--new", "E"],
     ["--new", "G", "x.adf"], ["--new", "e", "x.adf"], ["--new=", "x.adf"], ["--new", "E", "--new", "E", "x.adf"],
     ["--demo", "0", "hello.adf"], ["--demo", "01", "hello.adf"], ["--demo", "10001", "hello.adf"], ["--demo", "x", "hello.adf"],
-    ["--demo", "-1", "hello.adf"], ["--read-only", "--read-only", "hello.adf"], ["--read-only=1", "hello.adf"],
+    ["--demo", "-1", "hello.adf"], ["--demo=+5", "hello.adf"], ["--new", "--", "x.adf"], ["--new=E=", "x.adf"],
+    ["--", "hello.adf", "--"], ["hello.adf", ""], ["--read-only", "--read-only", "hello.adf"], ["--read-only=1", "hello.adf"],
     ["--read", "hello.adf"], ["-r", "hello.adf"], ["--safe", "--safe", "hello.adf"], ["--"],
 ]
 
@@ -110,6 +114,8 @@ def words():
     yield Case("option-behind", ["hello.adf", "--read-only"], "load $.hello\n", 0, found)
     yield Case("behind-dashes", ["--", "hello.adf"], "load $.hello\n", 0, found)
     yield Case("option-and-dashes", ["--read-only", "--", "hello.adf"], "load $.hello\n", 0, found)
+    yield Case("dashes-behind", ["hello.adf", "--"], "load $.hello\n", 0, found)
+    yield Case("image-of-dashes", ["--", "--"], "load $.hello\n", 12)
     yield Case("in-a-folder", ["a folder/hello.adf"], "load $.hello\n", 0, found)
     yield Case("another-letter", ["h\u00e9llo.adf"], "load $.hello\n", 0, found)
     yield Case("no-such-folder", ["nowhere/hello.adf"], "load $.hello\n", 12)

@@ -165,6 +165,10 @@ class Volume:
     def directory_bytes(self, directory):
         return big_directory(directory) if self.form == "big" else small_directory(directory, self.form)
 
+    def is_in_one_piece(self, entry):
+        """Whether an object's bytes lie one behind the other."""
+        return True
+
     def content(self, entry):
         return self.directory_bytes(entry) if entry.is_directory else entry.data
 
@@ -413,6 +417,9 @@ class NewVolume(Volume):
                 yield start + passed, count
             length -= count
         assert length == 0
+
+    def is_in_one_piece(self, entry):
+        return len(list(self.pieces_of(entry.address, len(self.content(entry))))) < 2
 
     def write_object(self, disc, entry):
         content = bytes(self.content(entry))
