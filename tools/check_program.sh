@@ -68,6 +68,8 @@ outside_fails() {
   expect 'the image is a folder' 4 $?
   "$program" hello.adf/image < run/script > run/answer
   expect 'the image is sought in a file' 12 $?
+  "$program" "$(printf '%300s' '' | tr ' ' n)" < run/script > run/answer
+  expect 'the name is too long for a file' 12 $?
   "$program" --new E absent/fresh.adf < run/script > run/answer
   expect 'the folder of a fresh image is absent' 4 $?
   "$program" $'h\xffllo.adf' < run/script > run/answer

@@ -16,10 +16,10 @@ fn is_read_only(kind: ErrorKind) -> bool {
 
 // Whether the name isn't given: no file of that name is there, or one is where it is to be made.
 fn is_not_given(kind: ErrorKind, make: bool) -> bool {
-    if make {
-        kind == ErrorKind::AlreadyExists
-    } else {
-        kind == ErrorKind::NotFound || kind == ErrorKind::NotADirectory
+    match kind {
+        ErrorKind::AlreadyExists => make,
+        ErrorKind::NotFound | ErrorKind::NotADirectory | ErrorKind::InvalidFilename => !make,
+        _ => false,
     }
 }
 
