@@ -116,9 +116,9 @@ fn run_request<D: Disk, S: Source, K: Sink>(
 /// where one is asked for, opening, and the commands in turn. The first that fails ends the run. An image that is there
 /// is never written.
 ///
-/// What a script is told as doesn't hang on what the disk tells. Where the words are of the grammar and ask for nothing that
-/// isn't built, a script that is too long ends as `ScriptTooLong`, another one with a command that isn't built as `NotBuilt`,
-/// and the rest as neither; but a call of the source may fail first, and memory may be short.
+/// Where the source tells its script, two ends are settled whatever the disk tells. With words of the grammar that ask for
+/// nothing that isn't built, a script that is too long ends as `ScriptTooLong`, any other with a command that isn't built as
+/// `NotBuilt`, and the rest as neither; only a call of the source may fail first, and memory may be short.
 pub fn run<D: Disk, S: Source, K: Sink>(
     alloc: Global,
     words: &Vec<String>,
