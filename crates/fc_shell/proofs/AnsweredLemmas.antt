@@ -1,5 +1,5 @@
 -- How answers come about.
-use Rattle.std.proofs.Common.{◌≡◌, ◌≤◌, ◌<◌, ℕ, Bool, true, List, All, Option, Some, Result, Ok, Err, IfOk, length, get_or, inl, inr, sym, subst, ap, ◌∙◌, arith}
+use Rattle.std.proofs.Common.{◌≡◌, ◌≤◌, ◌<◌, ℕ, Bool, true, List, All, Option, Result, Ok, Err, IfOk, inl, inr, sym, subst, arith}
 use Rattle.fc_device.specs.declared.disk.Disk.{Ghosts}
 use Rattle.fc_device.specs.Sectors.{IsSectorSize}
 use Rattle.fc_device.proofs.DiskLaws.{Laws}

@@ -1,6 +1,7 @@
 mod LineLemmas
 mod ReadsLemmas
 mod RunningLemmas
+mod ScriptLemmas
 mod ServingLemmas
 pub mod AnsweredLemmas
 pub mod ErrorLemmas

@@ -1,15 +1,13 @@
 -- The reply of a command, by what a volume answers.
-use Rattle.std.proofs.Common.{◌≡◌, ℕ, Bool, true, false, not, List, [], ◌∷◌, ◌++◌, map, refl, sym, ap, ap₂, subst, ◌∙◌, Some, None, Option, Result, Ok, Err}
+use Rattle.std.proofs.Common.{◌≡◌, ℕ, Bool, true, false, not, List, [], ◌∷◌, ◌++◌, map, refl, sym, ap, ap₂, ◌∙◌, Some, None, Option, Ok, Err}
 use Rattle.std.specs.List.{flat_map}
-use Rattle.std.specs.FinMap.{get}
 use Rattle.std.specs.Option.{option_map_or, unwrap_or}
-use Rattle.std.proofs.lemmas.List.Folds.{flat_map-map}
 use Rattle.fc_device.specs.declared.disk.Extent.{Extent}
 use Rattle.fc_names.specs.declared.refusal.Refusal.{Refusal}
 use Rattle.fc_names.specs.declared.name.NameForm.{NameForm}
 use Rattle.fc_names.specs.Names.{Path}
 use Rattle.fc_record.specs.declared.Kind.{Kind}
-use Rattle.fc_model.specs.Tree.{Body, Node as ModelNode, Tree, children, node_at}
+use Rattle.fc_model.specs.Tree.{Body, Node as ModelNode, Tree, children}
 use Rattle.fc_model.specs.Command.{Command}
 use Rattle.fc_model.specs.Answer.{answer}
 use Rattle.fc_image.specs.Layout.{bytes_in, dir_form, sector_bytes, sectors_at}
@@ -23,9 +21,7 @@ use Rattle.fc_script.specs.declared.command.Command.{Command as Told}
 use Rattle.fc_script.specs.Texts.{cat_reply, node_line, ok_line, refusal_line}
 use Rattle.fc_runs.specs.ReadLaw.{answered_reply, is_reading, served_reply}
 use Rattle.fc_runs.specs.Replies.{bytes_of, reply_to}
-use Rattle.fc_runs.specs.Run.{Mode, shortage}
 use Rattle.fc_tree.specs.declared.node.Node.{Node}
-use Rattle.fc_tree.specs.Nodes.{nodes_of}
 use Rattle.fc_volume.specs.declared.lines.FileRef.{FileRef}
 use Rattle.fc_volume.specs.declared.lines.Line.{Line}
 use Rattle.fc_volume.specs.Answers.{IsPlace, IsRef, bytes_in_node, file_bytes, line_in, lines_in, ref_bytes}

@@ -1,5 +1,5 @@
 -- Commands that change nothing are never short of space.
-use Rattle.std.proofs.Common.{◌≡◌, ◌≤◌, ℕ, ◌+◌, ◌*◌, ◌/◌, ◌%◌, ◌==◌, ◌&&◌, Bool, true, false, cond, min, List, [], ◌∷◌, length, nat_lt, is_none, refl, sym, ap, ap₂, subst, ◌∙◌, arith, Some, None, Option, Ok, Err, Result}
+use Rattle.std.proofs.Common.{◌≡◌, ◌≤◌, ℕ, ◌+◌, ◌*◌, ◌/◌, ◌%◌, ◌==◌, ◌&&◌, Bool, true, false, cond, min, List, [], ◌∷◌, length, nat_lt, is_none, refl, sym, ap, ap₂, subst, ◌∙◌, arith, Some, None, Option, Ok, Result}
 use Rattle.std.specs.Int.{div_ceil}
 use Rattle.std.specs.Option.{option_map}
 use Rattle.std.proofs.Math.Nat.{zero-div, zero-mod}

@@ -1,7 +1,7 @@
 -- What a run answers and writes, by words, script and image.
-use Rattle.std.specs.Prelude.{◌≡◌, ℕ, ◌^◌, Bool, true, false, not, ◌||◌, nat_lt, List, [], length, map, replicate, if◌then◌else◌, Option, Some, None, is_some, Result, Ok, Err}
+use Rattle.std.specs.Prelude.{◌≡◌, ◌⊎◌, ◌≤◌, ℕ, ◌^◌, Bool, true, false, not, ◌||◌, nat_lt, List, [], length, map, replicate, if◌then◌else◌, Option, Some, None, is_some, Result, Ok, Err}
 use Rattle.std.specs.List.{list_any}
-use Rattle.std.specs.Option.{option_map}
+use Rattle.std.specs.Option.{ForSome, option_map}
 use Rattle.fc_names.specs.declared.refusal.Refusal.{Refusal}
 use Rattle.fc_model.specs.Command.{Command}
 use Rattle.fc_image.specs.declared.ImageFault.{ImageFault}
@@ -102,6 +102,10 @@ attached_reply true r script image = image_reply r.read_only script (image_for r
 -- what the words ask for isn't built yet
 abbrev pub is_unbuilt : Request → Bool
 is_unbuilt r = is_some r.demo || r.safe
+
+-- What the words ask for isn't built yet, or, where the script is told, it isn't too long and has a command that isn't.
+abbrev pub AsksUnbuilt : Request → Option (List ℕ) → Type 0
+AsksUnbuilt r told = (is_unbuilt r ≡ true) ⊎ ForSome told (λ text. (length text ≤ script_limit) × (has_unbuilt text ≡ true))
 
 -- what the words ask for, over a script that was read
 abbrev pub script_reply : (List ℕ → Option ℕ → Bool) → Request → List ℕ → List ℕ → Reply

@@ -4,7 +4,7 @@ use Rattle.std.specs.List.{list_any}
 use Rattle.fc_effects.specs.Effect.{State}
 use Rattle.fc_runs.specs.Run.{Mode, commands_in, is_error, text_of}
 use Rattle.fc_shell.specs.declared.ending.End.{End}
-use Rattle.fc_shell.specs.declared.ending.End.TheVariants.{Done, Refused, BadWords, DiskFault, ScriptFault, OutFault, NoMemory, ScriptTooLong, NotBuilt, NoImage}
+use Rattle.fc_shell.specs.declared.ending.End.TheVariants.{Done, Refused, BadWords, BadImage, DiskFault, ScriptFault, OutFault, NoMemory, ScriptTooLong, NotBuilt, NoImage}
 use Rattle.fc_shell.specs.declared.answering.LineFault.{LineFault}
 use Rattle.fc_shell.specs.declared.answering.LineFault.TheVariants as lines
 use Rattle.fc_shell.specs.Replies.{Reply, attached_reply, blank_size, has_unbuilt, line_reply, silent}
@@ -39,6 +39,27 @@ is_late ScriptTooLong = false
 is_late NotBuilt = false
 is_late NoImage = false
 is_late end = true
+
+-- a run ends so only over an image that was taken or made
+abbrev pub is_over_image : End → Bool
+is_over_image Done = true
+is_over_image Refused = true
+is_over_image (BadImage fault) = true
+is_over_image OutFault = true
+is_over_image end = false
+
+-- Where the disk gives the name, the run doesn't end without an image; where it doesn't, the run doesn't end over one.
+abbrev pub FitsGiven : Bool → End → Type 0
+FitsGiven given end = (end ≡ NoImage → given ≡ false) × (is_over_image end ≡ true → given ≡ true)
+
+-- a run may end so before an image is asked for
+abbrev pub is_early : End → Bool
+is_early BadWords = true
+is_early ScriptFault = true
+is_early NoMemory = true
+is_early ScriptTooLong = true
+is_early NotBuilt = true
+is_early end = false
 
 -- what the words ask for, over a script that isn't too long
 abbrev pub read_reply : (List ℕ → Option ℕ → Bool) → Request → List ℕ → List ℕ → Reply

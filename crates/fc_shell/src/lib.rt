@@ -15,7 +15,7 @@ mod script;
 mod sink;
 mod texts;
 
-ghost use Rattle.std.specs.Prelude.{◌≡◌, ◌≢◌, ◌⊎◌, ◌<◌, [], length, map, true, None, Some, IsFalse, option_map, string_bytes};
+ghost use Rattle.std.specs.Prelude.{◌≡◌, ◌≢◌, ◌⊎◌, ◌<◌, [], length, map, true, false, None, Some, IsFalse, option_map, string_bytes};
 ghost use Rattle.std.specs.Option.{ForSome};
 ghost use Rattle.fc_device.specs.Faults.{Rose};
 ghost use Rattle.fc_device.specs.Form.{IsUntouched};
@@ -23,8 +23,9 @@ ghost use Rattle.fc_words.specs.CommandLine.{Request, request_of};
 ghost use Rattle.fc_words.specs.Request.{request_in};
 ghost use Rattle.fc_shell.specs.Reading.{IsUnwritten};
 ghost use Rattle.fc_shell.specs.ReadsLaw.{ReadsLaw};
-ghost use Rattle.fc_shell.specs.Replies.{EndsAs, has_unbuilt, image_for, is_unbuilt, request_reply, run_reply, script_limit};
-ghost use Rattle.fc_shell.specs.Serving.{is_late, read_reply};
+ghost use Rattle.fc_shell.specs.Replies.{AsksUnbuilt, EndsAs, blank_size, has_unbuilt, image_for, is_unbuilt, request_reply, run_reply, script_limit};
+ghost use Rattle.fc_shell.specs.Script.{behind_limit};
+ghost use Rattle.fc_shell.specs.Serving.{FitsGiven, is_early, is_late, is_over_image, read_reply};
 
 pub use ending::End;
 use fc_device::{Disk, NoMemory, Sink, Source};
@@ -45,15 +46,17 @@ fn run_script<D: Disk, K: Sink>(
 ) -> End
     ensures ends { ForSome (D.gives disk.old) (λ gives. ForSome (D.bytes disk.old) (λ image.
         EndsAs (read_reply gives (request_in asked.now) script.now image) result (K.taken out.old) (K.taken out.new))) }
-    ensures unattached { has_unbuilt script.now ≡ true → disk.new ≡ disk.old }
-    ensures not_built { result ≡ End.NotBuilt → disk.new ≡ disk.old }
+    ensures unattached { has_unbuilt script.now ≡ true → (is_early result ≡ true) × (disk.new ≡ disk.old) × (out.new ≡ out.old) }
+    ensures not_built { result ≡ End.NotBuilt → (disk.new ≡ disk.old) × (has_unbuilt script.now ≡ true) }
     ensures disk_fault { result ≡ End.DiskFault → Rose (D.faults disk.old) (D.faults disk.new) }
     ensures out_fault { result ≡ End.OutFault → Rose (K.faults out.old) (K.faults out.new) }
-    ensures no_image { result ≡ End.NoImage → IsUntouched D.attached D.pending D.tells_stops D.gives D.bytes D.sectors D.sector_size D.image_length D.moment D.faults disk.old disk.new }
+    ensures no_image { result ≡ End.NoImage → IsUntouched D.attached D.pending D.tells_stops D.gives D.bytes D.sectors D.sector_size D.image_length D.moment D.faults disk.old disk.new
+        × IsUnwritten D.Disk disk.old disk.new }
+    ensures given { ForSome (D.gives disk.old) (λ gives. let r = request_in asked.now in FitsGiven (gives r.image (blank_size r)) result) }
     ensures silent { (result ≡ End.NotBuilt) ⊎ (result ≡ End.NoImage) → out.new ≡ out.old }
     ensures unwritten { asked.now.new ≡ None → IsUnwritten D.Disk disk.old disk.new }
-    ensures made { (result ≡ End.Done) ⊎ (result ≡ End.Refused) → D.bytes disk.new ≡ option_map (image_for asked.now.new) (D.bytes disk.old) }
-    ensures settled { (result ≡ End.Done) ⊎ (result ≡ End.Refused) → IsFalse (D.pending disk.new) }
+    ensures made { is_over_image result ≡ true → D.bytes disk.new ≡ option_map (image_for asked.now.new) (D.bytes disk.old) }
+    ensures settled { is_over_image result ≡ true → IsFalse (D.pending disk.new) }
     ensures no_memory { result ≡ End.NoMemory
         → (disk.new ≡ disk.old) ⊎ ((D.bytes disk.new ≡ option_map (image_for asked.now.new) (D.bytes disk.old)) × IsFalse (D.pending disk.new)) }
     ensures ended { (is_late result ≡ true) ⊎ ((result ≡ End.NoImage) ⊎ (result ≡ End.NotBuilt)) }
@@ -75,21 +78,25 @@ fn run_request<D: Disk, S: Source, K: Sink>(
 ) -> End
     ensures ends { ForSome (D.gives disk.old) (λ gives. ForSome (S.left script.old) (λ text. ForSome (D.bytes disk.old) (λ image.
         EndsAs (request_reply gives text image (Some (request_in asked.now))) result (K.taken out.old) (K.taken out.new)))) }
-    ensures unbuilt { is_unbuilt (request_in asked.now) ≡ true → (result ≡ End.NotBuilt) × (script.new ≡ script.old) × (disk.new ≡ disk.old) }
-    ensures unattached { ForSome (S.left script.old) (λ text. (script_limit < length text) ⊎ (has_unbuilt text ≡ true) → disk.new ≡ disk.old) }
-    ensures too_long { result ≡ End.ScriptTooLong → (disk.new ≡ disk.old) × ForSome (S.left script.old) (λ text. script_limit < length text) }
-    ensures not_built { result ≡ End.NotBuilt → disk.new ≡ disk.old }
+    ensures unbuilt { is_unbuilt (request_in asked.now) ≡ true → (result ≡ End.NotBuilt) × (script.new ≡ script.old) × (disk.new ≡ disk.old) × (out.new ≡ out.old) }
+    ensures unattached { ForSome (S.left script.old) (λ text. (script_limit < length text) ⊎ (has_unbuilt text ≡ true)
+        → (is_early result ≡ true) × (disk.new ≡ disk.old) × (out.new ≡ out.old)) }
+    ensures too_long { result ≡ End.ScriptTooLong → (disk.new ≡ disk.old) × ForSome (S.left script.old) (λ text. script_limit < length text)
+        × (S.left script.new ≡ behind_limit (S.left script.old)) }
+    ensures not_built { result ≡ End.NotBuilt → (disk.new ≡ disk.old) × AsksUnbuilt (request_in asked.now) (S.left script.old) }
     ensures script_fault { result ≡ End.ScriptFault → Rose (S.faults script.old) (S.faults script.new) × (disk.new ≡ disk.old) }
     ensures disk_fault { result ≡ End.DiskFault → Rose (D.faults disk.old) (D.faults disk.new) }
     ensures out_fault { result ≡ End.OutFault → Rose (K.faults out.old) (K.faults out.new) }
-    ensures no_image { result ≡ End.NoImage → IsUntouched D.attached D.pending D.tells_stops D.gives D.bytes D.sectors D.sector_size D.image_length D.moment D.faults disk.old disk.new }
+    ensures no_image { result ≡ End.NoImage → IsUntouched D.attached D.pending D.tells_stops D.gives D.bytes D.sectors D.sector_size D.image_length D.moment D.faults disk.old disk.new
+        × IsUnwritten D.Disk disk.old disk.new }
+    ensures given { ForSome (D.gives disk.old) (λ gives. let r = request_in asked.now in FitsGiven (gives r.image (blank_size r)) result) }
     ensures silent { (result ≡ End.NotBuilt) ⊎ ((result ≡ End.NoImage) ⊎ ((result ≡ End.ScriptFault) ⊎ (result ≡ End.ScriptTooLong))) → out.new ≡ out.old }
     ensures unwritten { asked.now.new ≡ None → IsUnwritten D.Disk disk.old disk.new }
-    ensures made { (result ≡ End.Done) ⊎ (result ≡ End.Refused) → D.bytes disk.new ≡ option_map (image_for asked.now.new) (D.bytes disk.old) }
-    ensures settled { (result ≡ End.Done) ⊎ (result ≡ End.Refused) → IsFalse (D.pending disk.new) }
+    ensures made { is_over_image result ≡ true → D.bytes disk.new ≡ option_map (image_for asked.now.new) (D.bytes disk.old) }
+    ensures settled { is_over_image result ≡ true → IsFalse (D.pending disk.new) }
     ensures no_memory { result ≡ End.NoMemory
         → (disk.new ≡ disk.old) ⊎ ((D.bytes disk.new ≡ option_map (image_for asked.now.new) (D.bytes disk.old)) × IsFalse (D.pending disk.new)) }
-    ensures script_end { (result ≡ End.Done) ⊎ (result ≡ End.Refused) → ForSome (S.left script.new) (λ rest. rest ≡ []) }
+    ensures script_end { is_early result ≡ false → ForSome (S.left script.new) (λ rest. rest ≡ []) }
     ensures good_words { result ≢ End.BadWords }
 {
     if asked.demo.is_some() || asked.safe {
@@ -108,6 +115,10 @@ fn run_request<D: Disk, S: Source, K: Sink>(
 /// `words` are those after the program's name. In this order: the words, the whole script, the image, the fresh volume
 /// where one is asked for, opening, and the commands in turn. The first that fails ends the run. An image that is there
 /// is never written.
+///
+/// Where the source tells its script, two ends are settled whatever the disk tells. With words of the grammar that ask for
+/// nothing that isn't built, a script that is too long ends as `ScriptTooLong`, any other with a command that isn't built as
+/// `NotBuilt`, and the rest as neither; only a call of the source may fail first, and memory may be short.
 pub fn run<D: Disk, S: Source, K: Sink>(
     alloc: Global,
     words: &Vec<String>,
@@ -124,29 +135,37 @@ pub fn run<D: Disk, S: Source, K: Sink>(
     ensures words { request_of (map string_bytes words.now.items) ≡ None
         → ((result ≡ End.BadWords) ⊎ (result ≡ End.NoMemory)) × (script.new ≡ script.old) × (disk.new ≡ disk.old) × (out.new ≡ out.old) }
 
-    // Nothing is attached where the words or the script ask for what isn't built, or the script is too long.
+    // Nothing is attached or written where the words or the script ask for what isn't built, or the script is too long. Then
+    // the run ends before an image is asked for, and these two ends have no other cause.
     ensures unbuilt { (r : Request) → request_of (map string_bytes words.now.items) ≡ Some r → is_unbuilt r ≡ true
-        → ((result ≡ End.NotBuilt) ⊎ (result ≡ End.NoMemory)) × (script.new ≡ script.old) × (disk.new ≡ disk.old) }
-    ensures unattached { ForSome (S.left script.old) (λ text. (script_limit < length text) ⊎ (has_unbuilt text ≡ true) → disk.new ≡ disk.old) }
-    ensures too_long { result ≡ End.ScriptTooLong → (disk.new ≡ disk.old) × ForSome (S.left script.old) (λ text. script_limit < length text) }
-    ensures not_built { result ≡ End.NotBuilt → disk.new ≡ disk.old }
+        → ((result ≡ End.NotBuilt) ⊎ (result ≡ End.NoMemory)) × (script.new ≡ script.old) × (disk.new ≡ disk.old) × (out.new ≡ out.old) }
+    ensures unattached { ForSome (S.left script.old) (λ text. (script_limit < length text) ⊎ (has_unbuilt text ≡ true)
+        → (is_early result ≡ true) × (disk.new ≡ disk.old) × (out.new ≡ out.old)) }
+    ensures too_long { result ≡ End.ScriptTooLong → (disk.new ≡ disk.old) × ForSome (S.left script.old) (λ text. script_limit < length text)
+        × (S.left script.new ≡ behind_limit (S.left script.old)) }
+    ensures not_built { result ≡ End.NotBuilt → (disk.new ≡ disk.old)
+        × ((r : Request) → request_of (map string_bytes words.now.items) ≡ Some r → AsksUnbuilt r (S.left script.old)) }
 
     // A fault is answered only where that object's count of faults rose in this call.
     ensures script_fault { result ≡ End.ScriptFault → Rose (S.faults script.old) (S.faults script.new) × (disk.new ≡ disk.old) }
     ensures disk_fault { result ≡ End.DiskFault → Rose (D.faults disk.old) (D.faults disk.new) }
     ensures out_fault { result ≡ End.OutFault → Rose (K.faults out.old) (K.faults out.new) }
-    ensures no_image { result ≡ End.NoImage → IsUntouched D.attached D.pending D.tells_stops D.gives D.bytes D.sectors D.sector_size D.image_length D.moment D.faults disk.old disk.new }
+
+    // Where the disk doesn't give the name, nothing has changed, and no stop shows anything else than before.
+    ensures no_image { result ≡ End.NoImage → IsUntouched D.attached D.pending D.tells_stops D.gives D.bytes D.sectors D.sector_size D.image_length D.moment D.faults disk.old disk.new
+        × IsUnwritten D.Disk disk.old disk.new }
+    ensures given { (r : Request) → request_of (map string_bytes words.now.items) ≡ Some r → ForSome (D.gives disk.old) (λ gives. FitsGiven (gives r.image (blank_size r)) result) }
     ensures silent { (result ≡ End.NotBuilt) ⊎ ((result ≡ End.NoImage) ⊎ ((result ≡ End.ScriptFault) ⊎ (result ≡ End.ScriptTooLong))) → out.new ≡ out.old }
 
     // An image that is there keeps its bytes, and at every stop it has one of those that it might have had before. Where a
-    // fresh one is asked for, the disk has it at the script's end.
+    // fresh one is asked for, the disk has it wherever the run ends over it.
     ensures unwritten { (r : Request) → request_of (map string_bytes words.now.items) ≡ Some r → r.new ≡ None → IsUnwritten D.Disk disk.old disk.new }
-    ensures made { (r : Request) → request_of (map string_bytes words.now.items) ≡ Some r → (result ≡ End.Done) ⊎ (result ≡ End.Refused)
+    ensures made { (r : Request) → request_of (map string_bytes words.now.items) ≡ Some r → is_over_image result ≡ true
         → D.bytes disk.new ≡ option_map (image_for r.new) (D.bytes disk.old) }
-    ensures settled { (result ≡ End.Done) ⊎ (result ≡ End.Refused) → IsFalse (D.pending disk.new) }
+    ensures settled { is_over_image result ≡ true → IsFalse (D.pending disk.new) }
     ensures no_memory { (r : Request) → request_of (map string_bytes words.now.items) ≡ Some r → result ≡ End.NoMemory
         → (disk.new ≡ disk.old) ⊎ ((D.bytes disk.new ≡ option_map (image_for r.new) (D.bytes disk.old)) × IsFalse (D.pending disk.new)) }
-    ensures script_end { (result ≡ End.Done) ⊎ (result ≡ End.Refused) → ForSome (S.left script.new) (λ rest. rest ≡ []) }
+    ensures script_end { is_early result ≡ false → ForSome (S.left script.new) (λ rest. rest ≡ []) }
 {
     match read_words(alloc, words) {
         Err(WordsError::BadWords) => End::BadWords,

@@ -16,7 +16,7 @@ ghost use Rattle.fc_words.specs.Request.{request_in};
 ghost use Rattle.fc_shell.specs.Modes.{reading_mode};
 ghost use Rattle.fc_shell.specs.Reading.{IsUnwritten};
 ghost use Rattle.fc_shell.specs.Replies.{EndsAs, attached_reply, blank_size, format_in, has_unbuilt, image_for, image_reply, replies_of};
-ghost use Rattle.fc_shell.specs.Serving.{ServesAs, end_of, is_late};
+ghost use Rattle.fc_shell.specs.Serving.{FitsGiven, ServesAs, end_of, is_late, is_over_image};
 
 use crate::answering::{LineFault, answer_line};
 use crate::ending::End;
@@ -133,7 +133,8 @@ fn make_image<D: Disk>(disk: &mut D, name: &str, format: Format) -> Result<bool,
     ensures given { IfOk result (λ given. ForSome (D.gives disk.old) (λ gives. given ≡ gives name.now (Some (format_size format)))) }
     ensures fresh { result ≡ Ok true → IsFresh D.attached D.pending D.sector_size disk.new }
     ensures bytes { result ≡ Ok true → D.bytes disk.new ≡ option_map (λ _. fresh_image format (zeros (format_size format))) (D.bytes disk.old) }
-    ensures not_given { result ≡ Ok false → IsUntouched D.attached D.pending D.tells_stops D.gives D.bytes D.sectors D.sector_size D.image_length D.moment D.faults disk.old disk.new }
+    ensures not_given { result ≡ Ok false → IsUntouched D.attached D.pending D.tells_stops D.gives D.bytes D.sectors D.sector_size D.image_length D.moment D.faults disk.old disk.new
+        × IsUnwritten D.Disk disk.old disk.new }
     ensures cause { FailsByFault D.Disk disk.old disk.new result }
 {
     if !disk.attach(name, Some(format.size()))? {
@@ -157,7 +158,8 @@ fn attach_image<D: Disk>(
     ensures fresh { result ≡ Ok true → IsFresh D.attached D.pending D.sector_size disk.new }
     ensures bytes { result ≡ Ok true → D.bytes disk.new ≡ option_map (image_for new) (D.bytes disk.old) }
     ensures unwritten { new ≡ None → IsUnwritten D.Disk disk.old disk.new }
-    ensures not_given { result ≡ Ok false → IsUntouched D.attached D.pending D.tells_stops D.gives D.bytes D.sectors D.sector_size D.image_length D.moment D.faults disk.old disk.new }
+    ensures not_given { result ≡ Ok false → IsUntouched D.attached D.pending D.tells_stops D.gives D.bytes D.sectors D.sector_size D.image_length D.moment D.faults disk.old disk.new
+        × IsUnwritten D.Disk disk.old disk.new }
     ensures cause { FailsByFault D.Disk disk.old disk.new result }
 {
     match new {
@@ -178,12 +180,14 @@ pub fn answer_script<D: Disk, K: Sink>(
     ensures ends { ForSome (D.gives disk.old) (λ gives. ForSome (D.bytes disk.old) (λ image. let r = request_in asked.now in
         EndsAs (attached_reply (gives r.image (blank_size r)) r script.now image) result (K.taken out.old) (K.taken out.new))) }
     ensures unwritten { asked.now.new ≡ None → IsUnwritten D.Disk disk.old disk.new }
-    ensures made { (result ≡ End.Done) ⊎ (result ≡ End.Refused) → D.bytes disk.new ≡ option_map (image_for asked.now.new) (D.bytes disk.old) }
-    ensures settled { (result ≡ End.Done) ⊎ (result ≡ End.Refused) → IsFalse (D.pending disk.new) }
+    ensures made { is_over_image result ≡ true → D.bytes disk.new ≡ option_map (image_for asked.now.new) (D.bytes disk.old) }
+    ensures settled { is_over_image result ≡ true → IsFalse (D.pending disk.new) }
     ensures no_memory { result ≡ End.NoMemory → (D.bytes disk.new ≡ option_map (image_for asked.now.new) (D.bytes disk.old)) × IsFalse (D.pending disk.new) }
     ensures disk_cause { result ≡ End.DiskFault → Rose (D.faults disk.old) (D.faults disk.new) }
     ensures out_cause { result ≡ End.OutFault → Rose (K.faults out.old) (K.faults out.new) }
-    ensures no_image { result ≡ End.NoImage → IsUntouched D.attached D.pending D.tells_stops D.gives D.bytes D.sectors D.sector_size D.image_length D.moment D.faults disk.old disk.new }
+    ensures no_image { result ≡ End.NoImage → IsUntouched D.attached D.pending D.tells_stops D.gives D.bytes D.sectors D.sector_size D.image_length D.moment D.faults disk.old disk.new
+        × IsUnwritten D.Disk disk.old disk.new }
+    ensures given { ForSome (D.gives disk.old) (λ gives. let r = request_in asked.now in FitsGiven (gives r.image (blank_size r)) result) }
     ensures silent { result ≡ End.NoImage → out.new ≡ out.old }
     ensures late { (is_late result ≡ true) ⊎ (result ≡ End.NoImage) }
 {

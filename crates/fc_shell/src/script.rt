@@ -19,7 +19,8 @@ pub enum ScriptError {
     NoMemory,
 }
 
-/// Reads the script to its end. None where it is longer than 16,777,216 bytes; then some of it may be left.
+/// Reads the script to its end. None where it is longer than 16,777,216 bytes; then the first 16,777,217 were taken, and
+/// the others are left.
 pub fn read_script<S: Source>(alloc: Global, script: &mut S) -> Result<Option<Vec<u8>>, ScriptError>
     ensures script { IfOk result (λ read. IsScript (S.left script.old) (S.left script.new) (option_map (λ bytes. bytes.items) read)) }
     ensures later { S.faults script.old ≤ S.faults script.new }
@@ -28,7 +29,8 @@ pub fn read_script<S: Source>(alloc: Global, script: &mut S) -> Result<Option<Ve
     let mut bytes = Vec::new(alloc);
     let mut piece = [0; PIECE];
     while bytes.len() <= LIMIT {
-        let Ok(count) = script.read(&mut piece) else {
+        let room = PIECE.min(LIMIT + 1 - bytes.len());
+        let Ok(count) = script.read(&mut piece[..room]) else {
             return Err(ScriptError::Source);
         };
         if count == 0 {

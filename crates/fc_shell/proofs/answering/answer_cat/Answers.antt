@@ -1,4 +1,4 @@
-use Rattle.std.proofs.Common.{◌≡◌, refl, sym, subst, ◌∙◌}
+use Rattle.std.proofs.Common.{refl, sym, subst, ◌∙◌}
 use Rattle.fc_effects.specs.Effect.{State, tree_in}
 use Rattle.fc_image.specs.Layout.{dir_form}
 use Rattle.fc_model.specs.Answer.{answer}

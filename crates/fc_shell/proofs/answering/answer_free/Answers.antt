@@ -3,7 +3,6 @@ use Rattle.fc_image.specs.Report.{free_bytes, largest_hole}
 use Rattle.fc_script.specs.Texts.{free_line, ok_line}
 use Rattle.fc_volume.specs.Volume.{parts_of}
 use Rattle.fc_shell.proofs.ErrorLemmas.{ok_no_error}
-use Rattle.fc_shell.proofs.ShortageLemmas.{shortage_none}
 use Rattle.fc_shell.proofs.answering.answer_free.Goals as goal
 
 pub returns-clause-answered : goal.returns-clause-answered

@@ -1,4 +1,4 @@
-use Rattle.std.proofs.Common.{◌≡◌, ◌≢◌, Err, ap, refl, sym, subst, ◌∙◌}
+use Rattle.std.proofs.Common.{◌≢◌, ap, refl, sym, subst, ◌∙◌}
 use Rattle.std.specs.Prelude.{IfErr}
 use Rattle.fc_device.specs.Faults.{Rose}
 use Rattle.fc_record.specs.Reads.{OnlyReads}

@@ -1,6 +1,5 @@
-use Rattle.std.proofs.Common.{◌<◌, ◌+◌, ◌-◌, ◌++◌, ◌∙◌, ap, sym, subst, take, drop, append_assoc, arith}
+use Rattle.std.proofs.Common.{◌<◌, ◌+◌, ◌-◌, ◌++◌, ◌∙◌, ap, take, drop, arith}
 use Rattle.std.specs.List.{range_with_len}
-use Rattle.sha2.specs.Hashers.{Holds256}
 use Rattle.fc_device.specs.Sectors.{sector_at}
 use Rattle.fc_device.proofs.DiskLaws.{laws}
 use Rattle.fc_image.specs.Layout.{bytes_in}
