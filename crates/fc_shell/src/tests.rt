@@ -396,3 +396,29 @@ fn calls_that_fail(rt: HostRuntime) -> Result<(), Fail> {
     assert!(rt; whole.starts_with(&part));
     Ok(())
 }
+
+// The status of a run that makes a fresh E, of 3,200 sectors of 256 bytes, where a write or a sync fails.
+fn fresh_status(alloc: Global, write: u64, sync: u64) -> Result<u8, Fail> {
+    let failing = Failing {
+        reads: Vec::new(alloc),
+        writes: one(alloc, write)?,
+        syncs: one(alloc, sync)?,
+    };
+    let name = String::from_str(alloc, "disc")?;
+    let mut disk = MemoryDisk::new(alloc, name, Vec::new(alloc), failing, 4000, 819_200)?;
+    let mut source = ListSource::new(copied(alloc, b"free\n")?, Vec::new(alloc), 5);
+    let mut sink = ListSink::new(alloc, Vec::new(alloc), 100)?;
+    let words = texts(alloc, &["--new", "E", "disc"])?;
+    let end = run(alloc, &words, &mut disk, &mut source, &mut sink);
+    Ok(end.status())
+}
+
+#[test]
+fn fresh_volumes_that_are_not_written(rt: HostRuntime) -> Result<(), Fail> {
+    let alloc = rt.alloc();
+    for (write, sync, wanted) in [(0, 0, 0), (1, 0, 4), (3200, 0, 4), (3201, 0, 0), (0, 1, 4)] {
+        let status = fresh_status(alloc, write, sync)?;
+        assert!(rt; status == wanted);
+    }
+    Ok(())
+}
