@@ -180,78 +180,82 @@ fn an_image_with_one_file(rt: HostRuntime) -> Result<(), Fail> {
     Ok(())
 }
 
+// Bytes of the image that are others, a script, and the status and the text that it has over that image.
+type OtherImage = (&'static [(usize, u8)], &'static [u8], u8, &'static [u8]);
+
+const OTHER_IMAGES: &[OtherImage] = &[
+    (
+        &[
+            (2071, 0),
+            (2075, 255),
+            (2076, 255),
+            (2077, 255),
+            (4095, 0x89),
+        ],
+        b"load $.hello\n",
+        0,
+        b"\nok\n",
+    ),
+    (
+        &[(2055, 0x20), (4095, 0x90)],
+        b"cat $\nload $.HE%20LO\nload $.He%20lo.C\n",
+        1,
+        b"He%20lo 00000003 00000000 00000000 5\nok\n48656c6c6f\nok\nerror 4 NotDirectory\n",
+    ),
+    (&[(0, 0xa2)], b"free\n", 3, b"bad-image NoKind\n"),
+    (
+        &[(69, 0), (863, 0)],
+        b"free\n",
+        3,
+        b"bad-image Zone 0 544\n",
+    ),
+    (&[(0, 0xae), (1, 0x29)], b"", 3, b"bad-image Zone 0 561\n"),
+    (
+        &[(2049, 88)],
+        b"free\n",
+        3,
+        b"bad-image Directory $ Magic\n",
+    ),
+    (
+        &[(4095, 0xf3)],
+        b"free\n",
+        3,
+        b"bad-image Directory $ Check\n",
+    ),
+    (
+        &[(2076, 1), (4095, 0xf6)],
+        b"",
+        3,
+        b"bad-image Place $.Hello\n",
+    ),
+    (
+        &[(2071, 1), (2072, 8), (4095, 0x70)],
+        b"",
+        3,
+        b"bad-image Place $.Hello\n",
+    ),
+    (
+        &[(2075, 2), (2076, 2), (4095, 0xd0)],
+        b"",
+        3,
+        b"bad-image Overlap $.Hello\n",
+    ),
+    (
+        &[(2075, 3), (2076, 2), (2078, 8), (4095, 0x98)],
+        b"",
+        3,
+        b"bad-image Overlap $.Hello\n",
+    ),
+    (&[(2049, 88)], b"compact\n", 9, b""),
+];
+
 #[test]
 fn other_images(rt: HostRuntime) -> Result<(), Fail> {
     let alloc = rt.alloc();
-    let cases: [(&[(usize, u8)], &[u8], u8, &[u8]); 12] = [
-        (
-            &[
-                (2071, 0),
-                (2075, 255),
-                (2076, 255),
-                (2077, 255),
-                (4095, 0x89),
-            ],
-            b"load $.hello\n",
-            0,
-            b"\nok\n",
-        ),
-        (
-            &[(2055, 0x20), (4095, 0x90)],
-            b"cat $\nload $.HE%20LO\nload $.He%20lo.C\n",
-            1,
-            b"He%20lo 00000003 00000000 00000000 5\nok\n48656c6c6f\nok\nerror 4 NotDirectory\n",
-        ),
-        (&[(0, 0xa2)], b"free\n", 3, b"bad-image NoKind\n"),
-        (
-            &[(69, 0), (863, 0)],
-            b"free\n",
-            3,
-            b"bad-image Zone 0 544\n",
-        ),
-        (&[(0, 0xae), (1, 0x29)], b"", 3, b"bad-image Zone 0 561\n"),
-        (
-            &[(2049, 88)],
-            b"free\n",
-            3,
-            b"bad-image Directory $ Magic\n",
-        ),
-        (
-            &[(4095, 0xf3)],
-            b"free\n",
-            3,
-            b"bad-image Directory $ Check\n",
-        ),
-        (
-            &[(2076, 1), (4095, 0xf6)],
-            b"",
-            3,
-            b"bad-image Place $.Hello\n",
-        ),
-        (
-            &[(2071, 1), (2072, 8), (4095, 0x70)],
-            b"",
-            3,
-            b"bad-image Place $.Hello\n",
-        ),
-        (
-            &[(2075, 2), (2076, 2), (4095, 0xd0)],
-            b"",
-            3,
-            b"bad-image Overlap $.Hello\n",
-        ),
-        (
-            &[(2075, 3), (2076, 2), (2078, 8), (4095, 0x98)],
-            b"",
-            3,
-            b"bad-image Overlap $.Hello\n",
-        ),
-        (&[(2049, 88)], b"compact\n", 9, b""),
-    ];
-    for (others, script, wanted, text) in cases {
+    for (others, script, wanted, text) in OTHER_IMAGES {
         let (status, written, _) = outcome(alloc, &["disc"], hello(alloc, others)?, script)?;
-        assert!(rt; status == wanted);
-        assert!(rt; written.as_slice() == text);
+        assert!(rt; status == *wanted);
+        assert!(rt; written.as_slice() == *text);
     }
     Ok(())
 }
