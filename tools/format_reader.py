@@ -1,8 +1,9 @@
 #!/usr/bin/env python3
-"""A reader of disc images that was written from docs/FORMAT.md alone, to show that the page is complete.
+"""A reader of disc images that uses docs/FORMAT.md and nothing else, to show that the page is complete.
 
-usage: tools/format_reader.py IMAGE      prints the fault, or what `check` and `free` count and each object with its SHA-256
-       tools/format_reader.py --compare  reads every image of tools/images.py, and compares with tools/read_image.py
+usage: tools/format_reader.py IMAGE       prints the fault, or what `check` and `free` count and each object with its SHA-256
+       tools/format_reader.py IMAGE PATH  writes the bytes of a file to standard output
+       tools/format_reader.py --compare   reads every image of tools/images.py, and compares with tools/read_image.py
 
 It shares no code with fcore or with the other tools. The comment at a rule names the page's heading, and its table if there are
 several. It favours short code over speed.
@@ -190,13 +191,10 @@ class NewMap:
         raise Bad("Copies", *wrong)
 
     def own_record(self, zone):  # Two copies, the map's record
-        own = Record(zone[4:64]) if zone[4] <= 10 and zone[9] <= 20 else None
         for at in [0, 4, 5, 9, 10, 11, *range(16, 20), *range(36, 40), 40, 42, *range(44, 48)]:
-            mine, other = zone[4 + at], self.g.raw[at]
-            if (mine % 16, other % 16) != (mine, other) and at == 40:
-                mine, other = mine % 16, other % 16
-            if mine != other:
+            if (zone[4 + at] ^ self.g.raw[at]) & (15 if at == 40 else 255):
                 raise Bad("Differs", at)
+        own = Record(zone[4:64])
         if own.root_fault() is not None:
             raise Bad("Bad", own.root_fault())
         return own
@@ -442,17 +440,26 @@ def line(entry):
     return "%s %08x %08x %08x %s" % (entry["path"], entry["attributes"], entry["load"], entry["exec"], length)
 
 
-def main(path):
-    with open(path, "rb") as file:
-        try:
-            disc = Disc(file.read())
-        except Bad as bad:
-            sys.exit("bad-image " + " ".join(map(str, bad.args)))
-    print(disc.counts(), end="")
-    for entry in disc.directories[1:]:
-        print(line(entry))
-    for entry in disc.files:
-        print(line(entry), hashlib.sha256(disc.content(entry)).hexdigest())
+def main(image, path=None):
+    """The status: 3 for an image that isn't accepted, 1 for a path that is no file."""
+    with open(image, "rb") as file:
+        data = file.read()
+    try:
+        disc = Disc(data)
+    except Bad as bad:
+        print("bad-image", *bad.args)
+        return 3
+    if path is None:
+        print(disc.counts(), end="")
+        for entry in disc.directories[1:]:
+            print(line(entry))
+        for entry in disc.files:
+            print(line(entry), hashlib.sha256(disc.content(entry)).hexdigest())
+        return 0
+    found = [entry for entry in disc.files if upper(entry["path"].encode()) == upper(path.encode())]
+    for entry in found:
+        sys.stdout.buffer.write(disc.content(entry))
+    return 0 if found else 1
 
 
 # ---- the comparison
@@ -498,6 +505,6 @@ def compare():
 if __name__ == "__main__":
     if sys.argv[1:] == ["--compare"]:
         sys.exit(0 if compare() else 1)
-    if len(sys.argv) != 2:
+    if len(sys.argv) not in (2, 3):
         sys.exit(__doc__)
-    main(sys.argv[1])
+    sys.exit(main(*sys.argv[1:]))
