@@ -9,6 +9,7 @@ It shares no code with fcore or with the other tools. The comment at a rule name
 several. It favours short code over speed.
 """
 import hashlib
+import signal
 import sys
 
 
@@ -507,4 +508,8 @@ if __name__ == "__main__":
         sys.exit(0 if compare() else 1)
     if len(sys.argv) not in (2, 3):
         sys.exit(__doc__)
-    sys.exit(main(*sys.argv[1:]))
+    signal.signal(signal.SIGPIPE, signal.SIG_DFL)  # a pager may close its end
+    try:
+        sys.exit(main(*sys.argv[1:]))
+    except OSError as error:
+        sys.exit(str(error))
