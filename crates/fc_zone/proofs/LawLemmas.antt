@@ -14,7 +14,7 @@ use Rattle.fc_zone.proofs.ZoneLemmas.{Spells-le}
 use Rattle.fc_zone.proofs.HolderLemmas.{run_ext, run_spelled}
 use Rattle.fc_zone.proofs.ReadingLemmas.{runs_of_zone}
 use Rattle.fc_zone.proofs.SpellingLemmas.{one_sector_of}
-use Rattle.fc_zone.proofs.WrittenLemmas.{stays_written}
+use Rattle.fc_zone.proofs.WrittenLemmas.{edit_keeps, stays_written}
 
 -- none of the runs begins there
 abbrev NoneAt : ℕ → List Run → Type 0
@@ -95,8 +95,8 @@ again shape s t u before between header zs zt zu one two =
       runs = ru ∙ sym rs;
       all_bits = λ written.
           (let ws = rw rs at written in
-          let wt = stays_written shape s t before between (rw (rs, rt) at one.links) ws in
-          let wu = stays_written shape t u between before (rw (rt, ru) at two.links) wt in
+          let wt = stays_written shape s t before between (edit_keeps shape (bits s) (bits t) before between (rw (rs, rt) at one.links)) ws in
+          let wu = stays_written shape t u between before (edit_keeps shape (bits t) (bits u) between before (rw (rt, ru) at two.links)) wt in
           one_sector_of shape s u before header zs zu ws wu (two.size ∙ one.size) outside);
     }
 
