@@ -1,6 +1,6 @@
 -- What the edits of a zone need, what they do to its list of runs, and what they write and leave.
-use Rattle.std.specs.Prelude.{◌≡◌, ◌<◌, ◌≤◌, ◌⊎◌, ℕ, ◌+◌, ◌-◌, ◌*◌, ◌%◌, ◌^◌, ◌==◌, List, [], ◌∷◌, ◌++◌, length, map, slice_set, slice_index, slice_range, Contains, if◌then◌else◌}
-use Rattle.std.specs.List.{AllByRecursion, flat_map}
+use Rattle.std.specs.Prelude.{◌≡◌, ◌<◌, ◌≤◌, ◌⊎◌, ℕ, ◌+◌, ◌-◌, ◌*◌, ◌%◌, ◌^◌, List, ◌∷◌, ◌++◌, length, slice_set, slice_index, slice_range, Contains}
+use Rattle.std.specs.List.{AllByRecursion}
 use Rattle.fc_bytes.specs.Bits.{bits}
 use Rattle.fc_checks.specs.Checks.{zone_check}
 use Rattle.fc_zone.specs.declared.ZoneShape.{ZoneShape}
@@ -66,30 +66,6 @@ Merges shape old new start =
 -- all the zone's bits as one hole
 abbrev pub whole_hole : ZoneShape → Run
 whole_hole shape = record { start = shape.first; len = shape.end - shape.first; kind = Hole }
-
--- The same edits as functions of lists of runs, no two of which begin at one place.
-
--- the run that begins there has this kind
-abbrev pub labelled_run : ℕ → RunKind → Run → Run
-labelled_run start kind run = if run.start == start then record run { kind = kind } else run
-
-abbrev pub labelled : ℕ → RunKind → List Run → List Run
-labelled start kind runs = map (labelled_run start kind) runs
-
--- the run that begins there is two of its kind, the first of `len` bits
-abbrev pub parts_at : ℕ → ℕ → Run → List Run
-parts_at start len run =
-    if run.start == start then record run { len = len } ∷ record run { start = start + len; len = run.len - len } ∷ [] else run ∷ []
-
-abbrev pub split_at : ℕ → ℕ → List Run → List Run
-split_at start len runs = flat_map (parts_at start len) runs
-
--- the run that begins there is one with the next
-abbrev pub merged_at : ℕ → List Run → List Run
-merged_at start [] = []
-merged_at start (run ∷ []) = run ∷ []
-merged_at start (run ∷ next ∷ runs) =
-    if run.start == start then record run { len = run.len + next.len } ∷ runs else run ∷ merged_at start (next ∷ runs)
 
 -- ---- what is written, and what stays
 

@@ -6,7 +6,7 @@ ghost use Rattle.fc_zone.specs.declared.Run.{Run};
 ghost use Rattle.fc_zone.specs.declared.RunKind.{RunKind};
 ghost use Rattle.fc_zone.specs.declared.ZoneFault.{ZoneFault};
 ghost use Rattle.fc_zone.specs.declared.ZoneShape.{ZoneShape};
-ghost use Rattle.fc_zone.specs.Edits.{HasHoleAt, HasRunToSplit, IsWritten, KeepsLinks, Merges, Relabels, Splits, WritesLinks, labelled, merged_at, split_at};
+ghost use Rattle.fc_zone.specs.Edits.{HasHoleAt, HasRunToSplit, IsWritten, KeepsLinks, Merges, Relabels, Splits, WritesLinks};
 ghost use Rattle.fc_zone.specs.Laws.{IsAgain, LeavesRest};
 ghost use Rattle.fc_zone.specs.Reading.{runs_of, zone_of};
 ghost use Rattle.fc_zone.specs.Zone.{IsFault, IsShapeOf, IsZone, Zone};
@@ -44,16 +44,6 @@ pub fn links_kept()
 pub fn one_result()
     ensures { (shape : ZoneShape) (s t u : List ℕ) → 32 ≤ shape.first → runs_of shape t ≡ runs_of shape u → IsZone shape t → IsZone shape u
         → LeavesRest shape s t → LeavesRest shape s u → bits t ≡ bits u }
-{}
-
-/// The edits as functions of the list of runs.
-pub fn edits_of_lists()
-    ensures label { (shape : ZoneShape) (sector : List ℕ) (front rest : List Run) (run : Run) (kind : RunKind) → Zone shape sector (front ++ run ∷ rest)
-        → labelled run.start kind (front ++ run ∷ rest) ≡ front ++ record run { kind = kind } ∷ rest }
-    ensures split { (shape : ZoneShape) (sector : List ℕ) (front rest : List Run) (run : Run) (len : ℕ) → Zone shape sector (front ++ run ∷ rest)
-        → split_at run.start len (front ++ run ∷ rest) ≡ front ++ record run { len = len } ∷ record run { start = run.start + len; len = run.len - len } ∷ rest }
-    ensures merge { (shape : ZoneShape) (sector : List ℕ) (front rest : List Run) (one two : Run) → Zone shape sector (front ++ one ∷ two ∷ rest)
-        → merged_at one.start (front ++ one ∷ two ∷ rest) ≡ front ++ record one { len = one.len + two.len } ∷ rest }
 {}
 
 /// `split` and then `merge` give the runs back, and the very sector where its links were written in full.
