@@ -23,8 +23,8 @@ use Rattle.fc_effects.specs.Steady.{lost_sectors}
 abbrev pub HaveOwnPlaces : List ZoneRun → Type 0
 HaveOwnPlaces runs = (p q : ZoneRun) → Contains runs p → Contains runs q → stands_at p q ≡ true → p ≡ q
 
--- After parts are taken from holes, what is left are holes that are long enough for runs, if those before were and the parts are
--- whole sectors. The parts of a plan are, so a second plan can follow the first.
+-- After parts are taken, each hole that is left is long enough for a run, if each was before and the parts are whole sectors, as
+-- those of a plan are. So a second plan can follow the first.
 pub record LeftLaw : Type 0 where
   pub taken : (g : Geometry) (holes parts : List ZoneRun) (bits : ℕ) → HaveOwnPlaces holes → All (HasRunLength g) holes
       → IsTaken g holes bits parts → All (λ part. part.1.len % g.q ≡ 0) parts → All (HasRunLength g) (holes_left holes parts)
@@ -33,13 +33,13 @@ pub record LeftLaw : Type 0 where
 
 -- ---- old maps
 
--- If compaction has nothing left to do and no sector is lost, the map has at most one hole.
+-- A settled old map without lost sectors has at most one hole.
 abbrev pub OneHoleLaw : Type 0
 OneHoleLaw =
     (space : FreeSpace) (objects : List Object) → IsOldDisc space objects → lost_sectors space objects ≡ [] → is_settled_space space objects ≡ true
     → length space.holes ≤ 1
 
--- So it is with every image that opens with an old map; and then no command is refused for want of compaction.
+-- So has an opened image with such a map, and then no command needs compaction.
 pub record OldMapCompactedLaw : Type 0 where
   pub one_hole : (image : List ℕ) (kind : Kind) (v : Opened) (space : FreeSpace) → OpensAs image kind v → v.layout ≡ Layout.Old space
       → lost_sectors space (objects_of v.listings) ≡ [] → is_settled v ≡ true → length space.holes ≤ 1

@@ -67,8 +67,8 @@ runs_joined m hole id z =
     if is_joined_in m hole id z then with_holes_joined (flat_map (rejoined (front_of m.geometry (bits_in (id_runs m id)) hole).1.len hole id z) (runs_of m z))
     else runs_of m z
 
--- The identifier has one run, at the front of the hole, and its old runs are holes; other identifiers keep theirs. In the zones
--- of these runs no two holes touch, and other zones keep their runs.
+-- The identifier has one run, at the front of the hole, and its old runs are holes; other identifiers keep their runs. In the zones of
+-- the hole and of the old runs no two holes touch afterwards, and other zones keep their runs.
 pub record Joined (m m' : Map) (id : ℕ) (hole : ZoneRun) : Type 0 where
   pub was : Contains (hole_runs m) hole
   pub one : id_runs m' id ≡ (hole.0, record (front_of m.geometry (bits_in (id_runs m id)) hole).1 { kind = kinds.Id id }) ∷ []
@@ -103,9 +103,9 @@ is_in_body units owned s = list_any (λ o. is_among (hole_sectors_in units (reco
 abbrev pub is_in_hole : ℕ → List Hole → ℕ → Bool
 is_in_hole units holes s = list_any (λ h. is_among (hole_sectors_in units h) s) holes
 
--- Where the objects and holes of an old map lie when each object has slid down. The objects lie apart in their order, and apart
--- from the holes; together they take the sectors that they took. No hole is directly followed by an object or another hole,
--- and as much is free as before. It speaks of no bytes, so it holds of every disk.
+-- Objects and holes of an old map after each object has slid down. The objects lie apart in their order, and apart from the holes;
+-- together they take the same sectors as before. No hole is directly followed by an object or another hole, and as much is free
+-- as before. No bytes are spoken of, so it holds of every disk.
 pub record Squashed (space space' : FreeSpace) (was now : List Owned) : Type 0 where
   pub disc : (space'.disc_units ≡ space.disc_units) × (space'.sector_units ≡ space.sector_units)
   pub map : IsOldMap space'
@@ -119,8 +119,8 @@ pub record Squashed (space space' : FreeSpace) (was now : List Owned) : Type 0 w
   pub apart : are_apart space'.holes ≡ true
   pub settled : list_all (λ h. not (list_any (λ o. o.start == hole_end h) now)) space'.holes ≡ true
 
--- Beside it, of a disk that tells its bytes: each object has its bytes at its new start, the sectors that lay in no object and
--- in no hole keep theirs, and the image is as long as it was.
+-- And of the bytes: each object has its bytes at its new start, sectors that lay in no object and in no hole keep theirs, and the
+-- image keeps its length.
 pub record SquashedBytes (old new : List ℕ) (space : FreeSpace) (was now : List Owned) : Type 0 where
   pub len : length new ≡ length old
   pub bodies : SameBodies old new was now

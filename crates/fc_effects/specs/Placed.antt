@@ -68,9 +68,8 @@ HasRunLength g part = (g.min ≤ part.1.len) × (part.1.len % g.q ≡ 0)
 abbrev pub BeginsBefore : ZoneRun → ZoneRun → Type 0
 BeginsBefore p q = (p.0 < q.0) ⊎ ((p.0 ≡ q.0) × (p.1.start < q.1.start))
 
--- A plan is a taking whose parts may be runs of a map, each by itself, and rise over the disc. So no hole is used twice.
--- The runs of an opened image are of such lengths and in such an order, and a taking says enough of them; of parts that are
--- runs of no map yet it doesn't.
+-- A plan: a taking whose parts rise over the disc, so that no hole is used twice, and have lengths that runs may have. `IsTaken`
+-- alone is enough for the runs of an opened image, which have such lengths and places anyway. Parts in memory need all of it.
 pub record IsPlan (g : Geometry) (holes : List ZoneRun) (bits : ℕ) (parts : List ZoneRun) : Type 0 where
   pub taken : IsTaken g holes bits parts
   pub long : All (HasRunLength g) parts

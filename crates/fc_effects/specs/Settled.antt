@@ -141,12 +141,12 @@ CompactedDir was is (Directory.Small old) (Directory.Small new) =
     × (new.sequence ≡ (if has_same_places old new then old.sequence else next_sequence old.sequence))
 CompactedDir was is _ _ = ⊥
 
--- the bytes are those that were there, or those that writing gives
+-- the same bytes as before, or bytes as writing makes them
 abbrev pub KeptOrWritten : Bool → List ℕ → List ℕ → SmallDir → Type 0
 KeptOrWritten true before after dir = after ≡ before
 KeptOrWritten false before after dir = IsWrittenSmall after dir
 
--- The bytes of a directory of which nothing has changed moved with it; one in which something has is written in full.
+-- A directory in which nothing changes keeps all its bytes, and one in which something does is written in full.
 abbrev pub CompactedBytes : List ℕ → List ℕ → Directory → Directory → Type 0
 CompactedBytes before after (Directory.Small old) (Directory.Small new) = KeptOrWritten (has_same_places old new) before after new
 CompactedBytes before after _ _ = ⊥

@@ -193,8 +193,8 @@ HasName c path (Directory.Big dir) = BigNameAfter c path dir dir.name
 abbrev pub gets_parent : Opened → Command → Path → Bool
 gets_parent v c dir = is_renamed_by c dir || has_new_holder v c dir
 
--- The bytes of a directory are as writing gives them, those that reading ignores too: the padding of names, the last mark, and
--- the check that isn't looked at.
+-- A directory's bytes are as writing makes them, also those that reading ignores: the padding of names, the last mark, and the
+-- check that isn't read.
 abbrev pub AreWritten : List ℕ → Directory → Type 0
 AreWritten bytes (Directory.Small dir) = IsWrittenSmall bytes dir
 AreWritten bytes (Directory.Big dir) = IsWrittenBig bytes dir
@@ -205,7 +205,7 @@ pub record IsKept (before after : List ℕ) (v w : Opened) (c : Command) (l new 
   pub parent : gets_parent v c l.object.path ≡ true → parent_of l.content ≡ holder_address w.listings new.object.path
   pub name : HasName c l.object.path l.content
 
--- a directory that the command may rewrite, and did, in full
+-- a directory that the command may rewrite and has rewritten, all its bytes included
 pub record IsWrittenAnew (after : List ℕ) (v w : Opened) (c : Command) (l new : Listing) : Type 0 where
   pub may : may_be_rewritten v c l.object.path ≡ true
   pub says : IsRewritten c l.object.path (holder_address w.listings new.object.path) l.content new.content
@@ -274,7 +274,7 @@ new_directory forms.Seven parent name = Directory.Small (empty_small Bytes1280 p
 new_directory forms.Ten parent name = Directory.Small (empty_small Bytes2048 parent name)
 new_directory forms.Long parent name = Directory.Big (empty_big parent name)
 
--- an empty directory at this path, written in full
+-- an empty directory at this path, all its bytes included
 pub record IsMadeDirectory (after : List ℕ) (w : Opened) (path : Path) (l : Listing) : Type 0 where
   pub says : l.content ≡ new_directory (dir_form w.layout) (holder_address w.listings path) (last_name path)
   pub len : l.object.entry.len ≡ new_dir_size (dir_form w.layout)
@@ -388,12 +388,12 @@ idle_sectors v m =
 abbrev pub lost_sectors : FreeSpace → List Object → List ℕ
 lost_sectors space objects = filter (is_lost_sector (Layout.Old space) objects) (range_with_len 0 (disc_sectors (Layout.Old space)))
 
--- The links of a zone that changed are written in full, and no others are touched.
+-- Each link of a zone is kept with all its bits, or written in full: FreeLink with its top bit, a hole's field with its link alone.
 abbrev pub KeepsOrWritesLinks : Map → Map → ℕ → Type 0
 KeepsOrWritesLinks m m' z = WritesLinks (shape m.geometry z) (bits (sector_of m z)) (bits (sector_of m' z)) (runs_of m z) (runs_of m' z)
 
--- The zones are the expected ones but for their allocation bits and checks, and their links are kept or written in full; the
--- boot block and the kept sectors stay.
+-- The zones are the expected ones except for their allocation bits and checks, and each link is kept or written in full. The boot
+-- block and the kept sectors stay.
 pub record MapOutside (old new : List ℕ) (kind : Kind) (expected : ℕ → List ℕ) (kept : List ℕ) (m m' : Map) : Type 0 where
   pub geometry : m'.geometry ≡ m.geometry
   pub zones : (z : ℕ) → z < m.geometry.zones → ZoneSteady m.geometry z (expected z) (sector_of m' z)

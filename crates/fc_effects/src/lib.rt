@@ -41,12 +41,12 @@ pub fn left()
     ensures { LeftLaw }
 {}
 
-/// An old map on which compaction has nothing left to do has at most one hole, if no sector is lost.
+/// A settled old map without lost sectors has at most one hole.
 pub fn one_hole()
     ensures { OneHoleLaw }
 {}
 
-/// So has every opened image with such a map, and none of its commands is refused for want of compaction.
+/// So has an opened image with such a map, and none of its commands is refused because it needs compaction.
 pub fn old_maps_compacted()
     ensures { OldMapCompactedLaw }
 {}
