@@ -11,7 +11,8 @@ use Rattle.fc_image.specs.Layout.{Layout}
 use Rattle.fc_image.specs.Walk.{Object}
 use Rattle.fc_effects.specs.Steady.{lost_sectors}
 use Rattle.fc_effects.specs.Settled.{CompactedLayout, CompactedDir}
-use Rattle.fc_effects.specs.Moves.{Owned, Squashed}
+use Rattle.fc_effects.specs.declared.Owned.{Owned}
+use Rattle.fc_effects.specs.Moves.{Squashed}
 
 -- an old map of sectors of 256 bytes
 abbrev pub space_of : ℕ → List Hole → FreeSpace
@@ -40,10 +41,10 @@ empty_root = empty_small Bytes1280 2 (codes "$")
 -- compaction of old maps
 pub record CompactionRows : Type 0 where
   -- a hole that is said to lie inside an object, two objects at one place, and the map of another disc
-  pub inside : (old new : List ℕ) → Squashed old new (space_of 40 (hole 11 2 ∷ [])) (space_of 40 (hole 8 2 ∷ [])) (owned_at 1 7 4 ∷ []) (owned_at 1 7 4 ∷ []) → ⊥
-  pub at_one_place : (old new : List ℕ) (space : FreeSpace) (was : List Owned)
-      → Squashed old new space space was (owned_at 1 7 2 ∷ owned_at 2 7 2 ∷ []) → ⊥
-  pub other_disc : (old new : List ℕ) (owned : List Owned) → Squashed old new (space_of 40 (hole 11 2 ∷ [])) (space_of 30 (hole 11 2 ∷ [])) owned owned → ⊥
+  pub inside : Squashed (space_of 40 (hole 11 2 ∷ [])) (space_of 40 (hole 8 2 ∷ [])) (owned_at 1 7 4 ∷ []) (owned_at 1 7 4 ∷ []) → ⊥
+  pub at_one_place : (space : FreeSpace) (was : List Owned)
+      → Squashed space space was (owned_at 1 7 2 ∷ owned_at 2 7 2 ∷ []) → ⊥
+  pub other_disc : (owned : List Owned) → Squashed (space_of 40 (hole 11 2 ∷ [])) (space_of 30 (hole 11 2 ∷ [])) owned owned → ⊥
   -- lost sectors that change places with a hole's
   pub lost : lost_sectors (space_of 14 (hole 10 2 ∷ [])) two_objects ≡ 12 ∷ 13 ∷ []
   pub changed_places : CompactedLayout (Layout.Old (space_of 14 (hole 10 2 ∷ []))) (Layout.Old (space_of 14 (hole 11 2 ∷ []))) two_objects two_objects → ⊥

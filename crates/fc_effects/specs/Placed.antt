@@ -1,6 +1,6 @@
 -- Where new space is taken, and which address an object gets.
-use Rattle.std.specs.Prelude.{◌≡◌, ◌<◌, ◌≤◌, ◌⊎◌, ℕ, ◌+◌, ◌-◌, ◌*◌, ◌/◌, Bool, true, false, ◌&&◌, ◌==◌, nat_lt, nat_le, List, [], ◌∷◌, length, if◌then◌else◌, Option, Some, None, IfSome, IsSomeAnd, Contains, All}
-use Rattle.std.specs.List.{flat_map, find, items_where_true, count_by}
+use Rattle.std.specs.Prelude.{◌≡◌, ◌<◌, ◌≤◌, ◌⊎◌, ℕ, ◌+◌, ◌-◌, ◌*◌, ◌/◌, ◌%◌, Bool, true, false, ◌&&◌, ◌==◌, nat_lt, nat_le, List, [], ◌∷◌, length, if◌then◌else◌, Option, Some, None, IfSome, IsSomeAnd, Contains, All}
+use Rattle.std.specs.List.{flat_map, find, items_where_true, count_by, AllPairs}
 use Rattle.std.specs.Option.{option_map_or}
 use Rattle.std.specs.Int.{next_multiple_of}
 use Rattle.fc_names.specs.Names.{Path}
@@ -59,6 +59,21 @@ pub record IsTaken (g : Geometry) (holes : List ZoneRun) (bits : ℕ) (parts : L
   pub enough : bits ≤ bits_in parts
   pub few_more : bits_in parts < bits + 2 * g.min
   pub fewest : IsFewest holes bits (length parts)
+
+-- A run may have this length: some whole sectors, and no less than the least.
+abbrev pub HasRunLength : Geometry → ZoneRun → Type 0
+HasRunLength g part = (g.min ≤ part.1.len) × (part.1.len % g.q ≡ 0)
+
+-- The first begins before the second: in an earlier zone, or earlier in the same.
+abbrev pub BeginsBefore : ZoneRun → ZoneRun → Type 0
+BeginsBefore p q = (p.0 < q.0) ⊎ ((p.0 ≡ q.0) × (p.1.start < q.1.start))
+
+-- A plan: a taking whose parts rise over the disc, so that no hole is used twice, and have lengths that runs may have. `IsTaken`
+-- alone is enough for the runs of an opened image, which have such lengths and places anyway. Parts in memory need all of it.
+pub record IsPlan (g : Geometry) (holes : List ZoneRun) (bits : ℕ) (parts : List ZoneRun) : Type 0 where
+  pub taken : IsTaken g holes bits parts
+  pub long : All (HasRunLength g) parts
+  pub rising : AllPairs BeginsBefore parts
 
 -- ---- low bytes
 

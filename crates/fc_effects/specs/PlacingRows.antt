@@ -4,7 +4,7 @@ use Rattle.fc_record.specs.declared.Geometry.{Geometry}
 use Rattle.fc_record.specs.Rows.{f}
 use Rattle.fc_zone.specs.declared.RunKind.TheVariants.{Hole}
 use Rattle.fc_newmap.specs.Map.{ZoneRun}
-use Rattle.fc_effects.specs.Placed.{IsTaken, front_of}
+use Rattle.fc_effects.specs.Placed.{IsPlan, IsTaken, front_of}
 use Rattle.fc_effects.specs.Sharing.{units}
 
 -- two bits are a sector, and a run has at least 16
@@ -32,3 +32,10 @@ pub record PlacingRows : Type 0 where
   pub both : IsTaken narrow two 20 two
   -- the long hole and one of the others
   pub long_and_one : IsTaken narrow three 70 (hole_at 160 64 ∷ hole_at 32 16 ∷ [])
+  -- a plan, and four takings that are none: a part shorter than a run, half a sector too much, one hole twice, and falling parts
+  pub planned : IsPlan narrow two 20 two
+  pub short_part : IsPlan narrow two 20 (hole_at 32 18 ∷ hole_at 96 2 ∷ []) → ⊥
+  pub half_sector : IsPlan narrow three 16 (hole_at 160 17 ∷ []) → ⊥
+  pub twice_is_taken : IsTaken narrow two 20 (hole_at 32 18 ∷ hole_at 32 18 ∷ [])
+  pub twice : IsPlan narrow two 20 (hole_at 32 18 ∷ hole_at 32 18 ∷ []) → ⊥
+  pub falling : IsPlan narrow two 20 (hole_at 96 18 ∷ hole_at 32 18 ∷ []) → ⊥

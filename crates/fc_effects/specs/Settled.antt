@@ -12,9 +12,9 @@ use Rattle.fc_oldmap.specs.OldMap.{FreeSpace}
 use Rattle.fc_newmap.specs.Map.{Map, runs_of, zone_numbers, id_runs, hole_runs, bits_in, longest, is_used}
 use Rattle.fc_dirs.specs.declared.Entry.{Entry}
 use Rattle.fc_dirs.specs.Directory.{Directory}
-use Rattle.fc_dirs.specs.Small.{SmallDir, next_sequence}
+use Rattle.fc_dirs.specs.Small.{SmallDir, IsWrittenSmall, next_sequence}
 use Rattle.fc_image.specs.Layout.{Layout, id_of}
-use Rattle.fc_image.specs.Walk.{Object, Listing}
+use Rattle.fc_image.specs.Walk.{Object, Listing, object_bytes}
 use Rattle.fc_image.specs.Objects.{objects_of, is_movable, is_lost, has_sectors, listing_at, object_at}
 use Rattle.fc_image.specs.Opening.{Opened}
 use Rattle.fc_image.specs.Report.{holder_address}
@@ -141,14 +141,28 @@ CompactedDir was is (Directory.Small old) (Directory.Small new) =
     × (new.sequence ≡ (if has_same_places old new then old.sequence else next_sequence old.sequence))
 CompactedDir was is _ _ = ⊥
 
+-- the same bytes as before, or bytes as writing makes them
+abbrev pub KeptOrWritten : Bool → List ℕ → List ℕ → SmallDir → Type 0
+KeptOrWritten true before after dir = after ≡ before
+KeptOrWritten false before after dir = IsWrittenSmall after dir
+
+-- A directory in which nothing changes keeps all its bytes, and one in which something does is written in full.
+abbrev pub CompactedBytes : List ℕ → List ℕ → Directory → Directory → Type 0
+CompactedBytes before after (Directory.Small old) (Directory.Small new) = KeptOrWritten (has_same_places old new) before after new
+CompactedBytes before after _ _ = ⊥
+
+-- a directory of an old map, before compaction and after
+pub record CompactedListing (old new : List ℕ) (v w : Opened) (l k : Listing) : Type 0 where
+  pub says : CompactedDir (holder_address v.listings l.object.path) (holder_address w.listings l.object.path) l.content k.content
+  pub bytes : CompactedBytes (object_bytes old v.layout l.object) (object_bytes new w.layout k.object) l.content k.content
+
 -- On an old map each directory is as it was but for addresses and parent, and a file of no bytes keeps its address.
-pub record OldListingsStay (v w : Opened) : Type 0 where
-  pub each : (l : Listing) → Contains v.listings l
-      → IsSomeAnd (listing_at w.listings l.object.path) (λ new. CompactedDir (holder_address v.listings l.object.path) (holder_address w.listings l.object.path) l.content new.content)
+pub record OldListingsStay (old new : List ℕ) (v w : Opened) : Type 0 where
+  pub each : (l : Listing) → Contains v.listings l → IsSomeAnd (listing_at w.listings l.object.path) (CompactedListing old new v w l)
   pub empty : (o : Object) → Contains (objects_of v.listings) o → has_sectors o ≡ false
       → IsSomeAnd (object_at w.listings o.path) (λ new. new.entry.address ≡ o.entry.address)
 
 -- On a new map every object keeps its address and its bytes.
 abbrev pub ObjectsStay : List ℕ → List ℕ → Layout → Opened → Opened → Type 0
 ObjectsStay old new (Layout.New m) v w = stored_objects new w ≡ stored_objects old v
-ObjectsStay old new (Layout.Old space) v w = OldListingsStay v w
+ObjectsStay old new (Layout.Old space) v w = OldListingsStay old new v w

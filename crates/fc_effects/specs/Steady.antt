@@ -17,7 +17,8 @@ use Rattle.fc_oldmap.specs.Holes.{hole, after_give}
 use Rattle.fc_oldmap.specs.OldMap.{with_holes, FreeSpace}
 use Rattle.fc_zone.specs.declared.RunKind.{RunKind}
 use Rattle.fc_zone.specs.declared.RunKind.TheVariants as kinds
-use Rattle.fc_newmap.specs.Map.{Map, ZoneRun, sector_of, hole_runs, id_runs, all_runs, with_root, is_used, sectors_of}
+use Rattle.fc_zone.specs.Edits.{WritesLinks}
+use Rattle.fc_newmap.specs.Map.{Map, ZoneRun, shape, sector_of, runs_of, hole_runs, id_runs, all_runs, with_root, is_used, sectors_of}
 use Rattle.fc_model.specs.Tree.{holder, last_name, is_prefix}
 use Rattle.fc_model.specs.Command.{Command}
 use Rattle.fc_dirs.specs.declared.Entry.{Entry}
@@ -25,8 +26,8 @@ use Rattle.fc_dirs.specs.Entries.{with_entry, has_name, padded_name}
 use Rattle.fc_names.specs.declared.name.NameForm.{NameForm}
 use Rattle.fc_names.specs.declared.name.NameForm.TheVariants as forms
 use Rattle.fc_dirs.specs.declared.SmallForm.TheVariants.{Bytes1280, Bytes2048}
-use Rattle.fc_dirs.specs.Small.{empty_small, next_sequence}
-use Rattle.fc_dirs.specs.Big.{BigDir, size_for, head_space, name_space, packed_heap, form_of, empty_big}
+use Rattle.fc_dirs.specs.Small.{IsWrittenSmall, empty_small, next_sequence}
+use Rattle.fc_dirs.specs.Big.{BigDir, IsWrittenBig, size_for, head_space, name_space, packed_heap, form_of, empty_big}
 use Rattle.fc_dirs.specs.Directory.{Directory, entries_of, parent_of}
 use Rattle.fc_image.specs.Layout.{Layout, dir_form, id_of, map_place, is_among, disc_sectors}
 use Rattle.fc_image.specs.Walk.{Object, Listing, is_directory_object, object_bytes}
@@ -192,16 +193,28 @@ HasName c path (Directory.Big dir) = BigNameAfter c path dir dir.name
 abbrev pub gets_parent : Opened → Command → Path → Bool
 gets_parent v c dir = is_renamed_by c dir || has_new_holder v c dir
 
+-- A directory's bytes are as writing makes them, also those that reading ignores: the padding of names, the last mark, and the
+-- check that isn't read.
+abbrev pub AreWritten : List ℕ → Directory → Type 0
+AreWritten bytes (Directory.Small dir) = IsWrittenSmall bytes dir
+AreWritten bytes (Directory.Big dir) = IsWrittenBig bytes dir
+
 -- a directory that has the bytes that it had, and already says what it has to
 pub record IsKept (before after : List ℕ) (v w : Opened) (c : Command) (l new : Listing) : Type 0 where
   pub bytes : object_bytes after w.layout new.object ≡ object_bytes before v.layout l.object
   pub parent : gets_parent v c l.object.path ≡ true → parent_of l.content ≡ holder_address w.listings new.object.path
   pub name : HasName c l.object.path l.content
 
+-- a directory that the command may rewrite and has rewritten, all its bytes included
+pub record IsWrittenAnew (after : List ℕ) (v w : Opened) (c : Command) (l new : Listing) : Type 0 where
+  pub may : may_be_rewritten v c l.object.path ≡ true
+  pub says : IsRewritten c l.object.path (holder_address w.listings new.object.path) l.content new.content
+  pub bytes : AreWritten (object_bytes after w.layout new.object) new.content
+
 -- A directory that isn't gone: its entries are as the command edits them, and it keeps its bytes or is rewritten.
 pub record DirectorySteady (before after : List ℕ) (v w : Opened) (c : Command) (l new : Listing) : Type 0 where
   pub entries : entries_of new.content ≡ entries_after v w c l
-  pub head : IsKept before after v w c l new ⊎ ((may_be_rewritten v c l.object.path ≡ true) × IsRewritten c l.object.path (holder_address w.listings new.object.path) l.content new.content)
+  pub head : IsKept before after v w c l new ⊎ IsWrittenAnew after v w c l new
 
 -- The command deletes the object.
 abbrev pub is_gone : Command → Path → Bool
@@ -261,11 +274,16 @@ new_directory forms.Seven parent name = Directory.Small (empty_small Bytes1280 p
 new_directory forms.Ten parent name = Directory.Small (empty_small Bytes2048 parent name)
 new_directory forms.Long parent name = Directory.Big (empty_big parent name)
 
+-- an empty directory at this path, all its bytes included
+pub record IsMadeDirectory (after : List ℕ) (w : Opened) (path : Path) (l : Listing) : Type 0 where
+  pub says : l.content ≡ new_directory (dir_form w.layout) (holder_address w.listings path) (last_name path)
+  pub len : l.object.entry.len ≡ new_dir_size (dir_form w.layout)
+  pub bytes : AreWritten (object_bytes after w.layout l.object) l.content
+
 -- what `cdir` makes
-abbrev pub NewDirectory : Opened → Command → Type 0
-NewDirectory w (Command.Cdir path) = IsSomeAnd (listing_at w.listings path) (λ l.
-    (l.content ≡ new_directory (dir_form w.layout) (holder_address w.listings path) (last_name path)) × (l.object.entry.len ≡ new_dir_size (dir_form w.layout)))
-NewDirectory w c = Unit {0}
+abbrev pub NewDirectory : List ℕ → Opened → Command → Type 0
+NewDirectory after w (Command.Cdir path) = IsSomeAnd (listing_at w.listings path) (IsMadeDirectory after w path)
+NewDirectory after w c = Unit {0}
 
 -- ---- space
 
@@ -370,13 +388,18 @@ idle_sectors v m =
 abbrev pub lost_sectors : FreeSpace → List Object → List ℕ
 lost_sectors space objects = filter (is_lost_sector (Layout.Old space) objects) (range_with_len 0 (disc_sectors (Layout.Old space)))
 
--- The zones are the expected ones but for their allocation bits and checks; the boot block and the kept sectors stay.
-abbrev pub MapOutside : List ℕ → List ℕ → Kind → (ℕ → List ℕ) → List ℕ → Map → Map → Type 0
-MapOutside old new kind expected kept m m' =
-    (m'.geometry ≡ m.geometry)
-    × ((z : ℕ) → z < m.geometry.zones → ZoneSteady m.geometry z (expected z) (sector_of m' z))
-    × SameSectors m.geometry.sector (boot_place kind m.geometry.sector) old new
-    × SameSectors m.geometry.sector kept old new
+-- Each link of a zone is kept with all its bits, or written in full: FreeLink with its top bit, a hole's field with its link alone.
+abbrev pub KeepsOrWritesLinks : Map → Map → ℕ → Type 0
+KeepsOrWritesLinks m m' z = WritesLinks (shape m.geometry z) (bits (sector_of m z)) (bits (sector_of m' z)) (runs_of m z) (runs_of m' z)
+
+-- The zones are the expected ones except for their allocation bits and checks, and each link is kept or written in full. The boot
+-- block and the kept sectors stay.
+pub record MapOutside (old new : List ℕ) (kind : Kind) (expected : ℕ → List ℕ) (kept : List ℕ) (m m' : Map) : Type 0 where
+  pub geometry : m'.geometry ≡ m.geometry
+  pub zones : (z : ℕ) → z < m.geometry.zones → ZoneSteady m.geometry z (expected z) (sector_of m' z)
+  pub links : (z : ℕ) → z < m.geometry.zones → KeepsOrWritesLinks m m' z
+  pub boot : SameSectors m.geometry.sector (boot_place kind m.geometry.sector) old new
+  pub kept_stay : SameSectors m.geometry.sector kept old new
 
 -- An old map stays as it is, or is written anew with its holes.
 abbrev pub OldMapOutside : List ℕ → List ℕ → FreeSpace → FreeSpace → Type 0
@@ -404,7 +427,7 @@ pub record Steady (old new : List ℕ) (v w : Opened) (c : Command) (copied : Bo
   pub directories : DirectoriesSteady old new v w c
   pub named : NamedStays v w c copied
   pub entry : NamedEntrySteady v w c
-  pub made : NewDirectory w c
+  pub made : NewDirectory new w c
   pub space : SpaceSteady v w c v.layout w.layout
   pub outside : OutsideSteady old new v w c v.layout w.layout
   pub behind : drop (disc_size v.kind) new ≡ drop (disc_size v.kind) old

@@ -1,11 +1,16 @@
 -- A walk finds no more directories than there are sectors.
-use Rattle.std.proofs.Common.{◌≡◌, ◌<◌, ◌≤◌, ℕ, zero, suc, ◌-◌, Bool, true, false, cond, List, [], ◌∷◌, ◌++◌, length, take, refl, sym, ap, subst, ◌∙◌, arith, eqb}
-use Rattle.std.specs.Prelude.{Result, Ok, Err, Contains, filter, ◌==◌, ◌||◌}
-use Rattle.std.specs.List.{flat_map, list_any, IsDistinct, AllByRecursion}
+use Rattle.std.proofs.Common.{◌≡◌, ◌<◌, ◌≤◌, ℕ, zero, suc, ◌+◌, ◌-◌, ◌*◌, ◌/◌, ◌%◌, Bool, true, false, cond, List, [], ◌∷◌, ◌++◌, length, take, refl, sym, ap, subst, ◌∙◌, arith, eqb, Some, None, Option, leb-true, lt_of_lt_of_le}
+use Rattle.std.specs.Prelude.{Result, Ok, Err, Contains, filter, ◌==◌, ◌||◌, ◌&&◌, nat_le}
+use Rattle.std.specs.List.{flat_map, list_any, range_with_len, IsDistinct, AllByRecursion}
 use Rattle.std.proofs.lemmas.Bool.{eqb-true, eqb-false, eq-eqb, ne_eqb}
 use Rattle.std.proofs.lemmas.Map.Steps.{length-le_from_distinct_below}
 use Rattle.std.proofs.lemmas.List.{length-append}
 use Rattle.std.proofs.lemmas.List.Concat.{flat_map-append}
+use Rattle.std.specs.Int.{div_ceil}
+use Rattle.fc_oldmap.specs.OldMap.{FreeSpace, free_space, hole_fault}
+use Rattle.fc_record.specs.declared.DiscRecord.{DiscRecord}
+use Rattle.fc_record.specs.declared.Kind.{Kind}
+use Rattle.fc_record.specs.declared.Kind.TheVariants.{Boot, OneZone, DiscD, DiscL}
 use Rattle.fc_record.specs.declared.Geometry.{Geometry}
 use Rattle.fc_record.specs.Record.{base}
 use Rattle.fc_names.specs.declared.name.NameForm.{NameForm}
@@ -17,10 +22,12 @@ use Rattle.fc_dirs.specs.Directory.{Directory, directory_of, directory_size, ent
 use Rattle.fc_dirs.specs.Small.{small_fault}
 use Rattle.fc_dirs.specs.Big.{big_fault}
 use Rattle.fc_image.specs.declared.ImageFault.{ImageFault}
-use Rattle.fc_image.specs.Layout.{Layout, dir_form, disc_sectors, sector_bytes, id_of, bytes_in, is_among}
+use Rattle.fc_image.specs.Layout.{Layout, dir_form, disc_sectors, sector_bytes, id_of, sectors_at, bytes_in, is_among}
 use Rattle.fc_image.specs.Walk.{Object, Listing, Reader, reader_of, at_path, object_of, children_of, is_directory_object, object_size, listings_from, root_entry, walk}
-use Rattle.fc_image.specs.Opening.{reserved_in}
+use Rattle.fc_image.specs.Opening.{Opened, MapAndRoot, map_and_root, holes_or, reserved_in}
+use Rattle.fc_image.specs.Stays.{IsNewKind, OpensAs}
 use Rattle.fc_image.specs.Edits.{Apart, RoomLaw}
+use Rattle.fc_image.proofs.FreeLemmas.{parts_of, range_bounds}
 use Rattle.fc_image.proofs.WalkLemmas.{bind_ok, walk-Tells}
 use Rattle.fc_image.proofs.HolesLemmas.{open_map, EachListed, Lies, walk_lies, in_id, apart_at}
 use Rattle.fc_image.proofs.MoveLemmas.{unless}
@@ -211,8 +218,8 @@ walk_once read layout reserved address size listings h =
       | Err later ↦ absurd (cc)
     ])).once
 
-pub room_law : RoomLaw
-room_law image kind r v new e =
+pub new_room : (image : List ℕ) (kind : Kind) (r : DiscRecord) (v : Opened) → IsNewKind kind r → OpensAs image kind v → length v.listings ≤ disc_sectors v.layout
+new_room image kind r v new e =
     let found = open_map image kind r v new e in
     let m = found.0 in
     let o = found.1 in
@@ -232,3 +239,73 @@ room_law image kind r v new e =
     let most = length-le_from_distinct_below firsts' (disc_sectors layout) (std_Distinct firsts' once)
     (λ q h. firsts_low (disc_sectors layout) (Lies layout (reserved_in kind layout)) low v.listings lies q (std_any q firsts' h)) in
     subst (λ (l : Layout). length v.listings ≤ disc_sectors l) (sym o.layout) (omega arith)
+
+-- ---- discs with old maps
+
+-- an address of an old map leads to sectors of the disc
+old_low : (space : FreeSpace) (address bytes : ℕ) (xs : List ℕ) → sectors_at (Layout.Old space) address bytes ≡ Some xs → (s : ℕ) → is_among xs s ≡ true → s < disc_sectors (Layout.Old space)
+unfolding sectors_at
+old_low space address bytes xs h s i =
+    by (bytes == 0) (address % space.sector_units == 0)
+    (nat_le (address / space.sector_units + div_ceil bytes (256 * space.sector_units)) (space.disc_units / space.sector_units)) refl h
+  where
+    first : ℕ
+    first = address / space.sector_units
+
+    count : ℕ
+    count = div_ceil bytes (256 * space.sector_units)
+
+    inside : (ys : List ℕ) → (let o : Option (List ℕ) = Some ys in o) ≡ Some xs → is_among ys s ≡ true
+    inside ys e = subst (λ (zs : List ℕ). is_among zs s ≡ true) (sym (some_one ys xs e)) i
+      where
+        some_one : (a b : List ℕ) → Some a ≡ Some b → a ≡ b
+        some_one a b g = cc
+
+    by : (none whole low : Bool) → nat_le (address / space.sector_units + div_ceil bytes (256 * space.sector_units)) (space.disc_units / space.sector_units) ≡ low
+        → cond none (Some []) (cond (whole && low) (Some (range_with_len (address / space.sector_units) (div_ceil bytes (256 * space.sector_units)))) None) ≡ Some xs
+        → s < space.disc_units / space.sector_units
+    by true whole low t e = absurd (let none = inside [] e in cc)
+    by false false low t e = absurd (cc)
+    by false true false t e = absurd (cc)
+    by false true true t e =
+        let most = leb-true (address / space.sector_units + div_ceil bytes (256 * space.sector_units)) (space.disc_units / space.sector_units) t in
+        let bounds = range_bounds (address / space.sector_units) (div_ceil bytes (256 * space.sector_units)) s
+        (inside (range_with_len (address / space.sector_units) (div_ceil bytes (256 * space.sector_units))) e) in
+        lt_of_lt_of_le bounds.1 most
+
+-- a walk over an old disc finds no more directories than sectors
+pub old_room : (image : List ℕ) (space : FreeSpace) (reserved : List ℕ) (address size : ℕ) (listings : List Listing)
+    → walk (reader_of image (Layout.Old space)) (Layout.Old space) reserved address size ≡ Ok listings → length listings ≤ disc_sectors (Layout.Old space)
+old_room image space reserved address size listings h =
+    let layout = Layout.Old space in
+    let lies = walk_lies (reader_of image layout) layout reserved address size listings h in
+    let once = walk_once (reader_of image layout) layout reserved address size listings h in
+    let told = walk-Tells (reader_of image layout) layout reserved address size listings h in
+    let count = count_firsts image layout listings told in
+    let most = length-le_from_distinct_below (firsts_of listings) (disc_sectors layout) (std_Distinct (firsts_of listings) once)
+    (λ q f. firsts_low (disc_sectors layout) (Lies layout reserved) (λ x l s i. old_low space x.entry.address _ x.sectors l.placed s i) listings lies q (std_any q (firsts_of listings) f)) in
+    subst (λ (n : ℕ). n ≤ disc_sectors layout) count most
+
+-- ---- all discs
+
+-- an opened image whose old map is found in this way
+old_kind_room : (image : List ℕ) (kind : Kind) (v : Opened) (units root : ℕ) (fault : Option ℕ) → map_and_root image kind ≡ holes_or (Layout.Old (free_space image units), root, 0) fault
+    → OpensAs image kind v → length v.listings ≤ disc_sectors v.layout
+old_kind_room image kind v units root fault is e =
+    let parts = parts_of image kind v e.opened in
+    let found = parts.0 in
+    let same : (Layout.Old (free_space image units), root, 0) ≡ found = found_is (Layout.Old (free_space image units), root, 0) found fault (sym is ∙ parts.1.1) in
+    let layout : Layout.Old (free_space image units) ≡ found.0 = ap (λ (f : MapAndRoot). f.0) same in
+    let walked = subst (λ (l : Layout). walk (reader_of image l) l (reserved_in kind l) found.1 found.2 ≡ Ok v.listings) (sym layout) parts.1.2 in
+    subst (λ (l : Layout). length v.listings ≤ disc_sectors l) (layout ∙ ap (λ (w : Opened). w.layout) parts.1.4)
+    (old_room image (free_space image units) (reserved_in kind (Layout.Old (free_space image units))) found.1 found.2 v.listings walked)
+  where
+    found_is : (x y : MapAndRoot) (fault : Option ℕ) → holes_or x fault ≡ Ok y → x ≡ y
+    found_is x y None f = cc
+    found_is x y (Some index) f = absurd (cc)
+
+pub room_law : RoomLaw
+room_law image (Boot r) v e = new_room image (Boot r) r v refl e
+room_law image (OneZone r) v e = new_room image (OneZone r) r v refl e
+room_law image DiscD v e = old_kind_room image DiscD v 4 4 (hole_fault image 4) refl e
+room_law image (DiscL n) v e = old_kind_room image (DiscL n) v 1 2 (hole_fault image 1) refl e

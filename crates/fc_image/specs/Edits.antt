@@ -1,4 +1,4 @@
--- What a walk is, apart from how it is made; and what an edited directory does to it.
+-- What a walk is, apart from how it is made, and what directories say after an edit.
 use Rattle.std.specs.Prelude.{◌≡◌, ◌≤◌, ℕ, ◌+◌, true, false, List, [], ◌∷◌, ◌++◌, length, map, filter, take, drop, Some, Ok, Contains}
 use Rattle.fc_names.specs.Names.{Path, is_same_path}
 use Rattle.fc_dirs.specs.declared.Entry.{Entry}
@@ -7,8 +7,7 @@ use Rattle.fc_image.specs.Layout.{Layout, sector_bytes, dir_form, disc_sectors, 
 use Rattle.fc_image.specs.Walk.{Object, Listing, Reader, reader_of, object_size, is_directory_object, root_entry, walk}
 use Rattle.fc_image.specs.Objects.{objects_of}
 use Rattle.fc_image.specs.Opening.{Opened}
-use Rattle.fc_image.specs.Stays.{IsNewKind, OpensAs, HasSectorsOf}
-use Rattle.fc_record.specs.declared.DiscRecord.{DiscRecord}
+use Rattle.fc_image.specs.Stays.{OpensAs, HasSectorsOf}
 use Rattle.fc_record.specs.declared.Kind.{Kind}
 
 -- the object's sectors are those of its address
@@ -55,9 +54,9 @@ pub record WalkFormLaw : Type 0 where
       → walk read layout reserved address size ≡ Ok listings
       → (root : Object) × IsRoot layout address size root × Follows read layout (root ∷ []) listings × Apart reserved (objects_of listings)
 
--- An opened disc has no more directories than sectors.
+-- An opened disc, of whatever kind, has no more directories than sectors.
 abbrev pub RoomLaw : Type 0
-RoomLaw = (image : List ℕ) (kind : Kind) (r : DiscRecord) (v : Opened) → IsNewKind kind r → OpensAs image kind v → length v.listings ≤ disc_sectors v.layout
+RoomLaw = (image : List ℕ) (kind : Kind) (v : Opened) → OpensAs image kind v → length v.listings ≤ disc_sectors v.layout
 
 -- ---- edits
 
@@ -95,47 +94,12 @@ pub record ApartLaw : Type 0 where
   pub added : (taken : List ℕ) (front rest : List Object) (o : Object) → Apart taken (front ++ rest) → IsApartFrom taken (front ++ rest) o → Apart taken (front ++ o ∷ rest)
   pub removed : (taken : List ℕ) (front rest : List Object) (o : Object) → Apart taken (front ++ o ∷ rest) → Apart taken (front ++ rest) × IsApartFrom taken (front ++ rest) o
 
--- ---- one directory says something else
+-- ---- what directories say
 
 -- each of these directories says what it said, by this reader and layout
 abbrev pub StayListed : Reader → Layout → List Listing → Type 0
 StayListed read layout [] = Unit {0}
 StayListed read layout (l ∷ listings) = IsListing read layout l × StayListed read layout listings
-
--- What the walks of an edit have in common: the first one found these listings, of which that of the edited directory stands
--- between the others; by the second reader and layout the others are as they were.
-pub record IsEdit (read read' : Reader) (layout layout' : Layout) (reserved : List ℕ) (address size : ℕ) (before after : List Listing) (l l' : Listing) : Type 0 where
-  pub walked : walk read layout reserved address size ≡ Ok (before ++ l ∷ after)
-  pub room : length (before ++ l ∷ after) ≤ disc_sectors layout
-  pub form : dir_form layout' ≡ dir_form layout
-  pub disc : disc_sectors layout' ≡ disc_sectors layout
-  -- the directory's own object stays, and so does the root's
-  pub same_object : l'.object ≡ l.object
-  pub root : (o : Object) → IsRoot layout address size o → IsAt layout' o
-  pub says : IsListing read' layout' l'
-  pub early : StayListed read' layout' before
-  -- the objects, also those that are new, are apart
-  pub apart : Apart reserved (objects_of (before ++ l' ∷ after))
-
--- the walk after an edit of one directory
-pub record WalkEditLaw : Type 0 where
-  -- files come, go and change in one directory
-  pub files : (read read' : Reader) (layout layout' : Layout) (reserved : List ℕ) (address size : ℕ) (before after : List Listing) (l l' : Listing)
-      → IsEdit read read' layout layout' reserved address size before after l l' → StayListed read' layout' after
-      → filter is_directory_object l'.children ≡ filter is_directory_object l.children
-      → walk read' layout' reserved address size ≡ Ok (before ++ l' ∷ after)
-  -- an empty directory d comes into it
-  pub dir_added : (read read' : Reader) (layout layout' : Layout) (reserved : List ℕ) (address size : ℕ) (before after : List Listing) (l l' d : Listing) (front rest : List Object)
-      → IsEdit read read' layout layout' reserved address size before after l l' → StayListed read' layout' after
-      → filter is_directory_object l.children ≡ front ++ rest → filter is_directory_object l'.children ≡ front ++ d.object ∷ rest
-      → IsListing read' layout' d → d.children ≡ []
-      → (n : ℕ) × (walk read' layout' reserved address size ≡ Ok (before ++ l' ∷ (take n after ++ d ∷ drop n after)))
-  -- an empty directory d goes
-  pub dir_removed : (read read' : Reader) (layout layout' : Layout) (reserved : List ℕ) (address size : ℕ) (before middle late : List Listing) (l l' d : Listing) (front rest : List Object)
-      → IsEdit read read' layout layout' reserved address size before (middle ++ d ∷ late) l l' → StayListed read' layout' (middle ++ late)
-      → filter is_directory_object l.children ≡ front ++ d.object ∷ rest → filter is_directory_object l'.children ≡ front ++ rest
-      → d.children ≡ [] → ((k : Listing) → Contains (middle ++ late) k → k.object ≡ d.object → ⊥)
-      → walk read' layout' reserved address size ≡ Ok (before ++ l' ∷ (middle ++ late))
 
 -- ---- what an image says, and another one
 

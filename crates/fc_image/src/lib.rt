@@ -6,8 +6,24 @@
 
 ghost use Rattle.fc_image.specs.Laws.{AcceptedLaw, LaterOpeningLaw, OpensLaw, WalkLaw};
 ghost use Rattle.fc_image.specs.Rows.{ImageRows};
-ghost use Rattle.fc_image.specs.Edits.{ApartLaw, EditLaw, PathsLaw, RoomLaw, StayLaw, WalkEditLaw, WalkFormLaw};
+ghost use Rattle.fc_image.specs.Edits.{ApartLaw, EditLaw, PathsLaw, RoomLaw, StayLaw, WalkFormLaw};
+ghost use Rattle.fc_image.specs.Order.{OrderLaw};
+ghost use Rattle.fc_image.specs.TreeEdits.{TreeEditLaw};
+ghost use Rattle.fc_image.specs.Sound.{LookupLaw};
+ghost use Rattle.fc_image.specs.Commanded.{CommandLaw, ObjectsLaw};
+ghost use Rattle.fc_image.specs.EditedWalk.{EditedApartLaw, EditedWalkLaw, EntriesLaw, ListingsLaw, RelistingLaw};
+ghost use Rattle.fc_image.specs.EditedImage.{EditedImageLaw};
+ghost use Rattle.fc_image.specs.MapEdits.{MapEditLaw, PlacesLaw};
+ghost use Rattle.fc_image.specs.OldEdits.{OldPlacesLaw, OldMapEditLaw};
+ghost use Rattle.fc_image.specs.Written.{WrittenLaw};
+ghost use Rattle.fc_image.specs.InPlace.{InPlaceLaw};
+ghost use Rattle.fc_image.specs.Renames.{RenameLaw};
+ghost use Rattle.fc_image.specs.Rewords.{RewordLaw};
+ghost use Rattle.fc_image.specs.Growths.{GrowthLaw};
+ghost use Rattle.fc_image.specs.GrownRenames.{GrownRenameLaw};
+ghost use Rattle.fc_image.specs.Answered.{AnsweredLaw};
 ghost use Rattle.fc_image.specs.Moves.{BootApartLaw, BootStaysLaw, CarriedLaw, CarryLaw, CommitLaw, HoleStepLaw, KeepsObjectsLaw, LooksLaw, MergeLaw, MoveLaw, SameMapLaw, ThenLaw, WholeLaw, WithMapLaw, ZoneFitsLaw};
+ghost use Rattle.fc_image.specs.OldMaps.{OldMapLaw};
 ghost use Rattle.fc_image.specs.Stays.{FreeLaw, HoleWriteLaw, HolesLaw, StoredLaw};
 
 use fc_dirs::DirFault;
@@ -165,7 +181,7 @@ pub fn walk_form()
     ensures { WalkFormLaw }
 {}
 
-/// An opened disc with a new map has no more directories than sectors.
+/// An opened disc has no more directories than sectors.
 pub fn room()
     ensures { RoomLaw }
 {}
@@ -180,11 +196,6 @@ pub fn apart()
     ensures { ApartLaw }
 {}
 
-/// A walk with one directory edited is the walk with that listing edited.
-pub fn walk_edits()
-    ensures { WalkEditLaw }
-{}
-
 /// What an image says, another says that has the directories' sectors and the objects' places.
 pub fn listed()
     ensures { StayLaw }
@@ -193,4 +204,119 @@ pub fn listed()
 /// No two objects of an opened image have paths that fold to one.
 pub fn paths()
     ensures { PathsLaw }
+{}
+
+/// A walk finds listings by what they are, in whatever order they stand.
+pub fn walk_order()
+    ensures { OrderLaw }
+{}
+
+/// The tree after objects went, came and moved, key by key.
+pub fn tree_edits()
+    ensures { TreeEditLaw }
+{}
+
+/// What a walk found is found by its path.
+pub fn lookups()
+    ensures { LookupLaw }
+{}
+
+/// What single objects tell of the tree.
+pub fn tree_objects()
+    ensures { ObjectsLaw }
+{}
+
+/// The tree after the objects are edited as a command asks is the one that the model gives.
+pub fn commanded()
+    ensures { CommandLaw }
+{}
+
+/// The walk after an edit, where directories with contents may have moved.
+pub fn edited_walks()
+    ensures { EditedWalkLaw }
+{}
+
+/// How listings are edited.
+pub fn relistings()
+    ensures { RelistingLaw }
+{}
+
+/// Objects that stay apart after an edit.
+pub fn edited_apart()
+    ensures { EditedApartLaw }
+{}
+
+/// Which directories are listed.
+pub fn which_listings()
+    ensures { ListingsLaw }
+{}
+
+/// What a directory holds, where its entries are edited.
+pub fn edited_entries()
+    ensures { EntriesLaw }
+{}
+
+/// An image whose directories and map were edited opens, with what its walk finds.
+pub fn edited_images()
+    ensures { EditedImageLaw }
+{}
+
+/// An object whose identifier keeps its runs is where it was.
+pub fn kept_places()
+    ensures { PlacesLaw }
+{}
+
+/// Discs with new maps of which directories are edited.
+pub fn map_edits()
+    ensures { MapEditLaw }
+{}
+
+/// An object of an old disc is where it was, whatever the holes.
+pub fn old_places()
+    ensures { OldPlacesLaw }
+{}
+
+/// Discs with old maps of which directories are edited.
+pub fn old_map_edits()
+    ensures { OldMapEditLaw }
+{}
+
+/// What is written into one directory leaves the bytes of all others.
+pub fn written()
+    ensures { WrittenLaw }
+{}
+
+/// One directory is edited and written in place.
+pub fn in_place()
+    ensures { InPlaceLaw }
+{}
+
+/// A file or a directory with contents gets another name, or another directory.
+pub fn renames()
+    ensures { RenameLaw }
+{}
+
+/// An object gets other words and attributes.
+pub fn rewords()
+    ensures { RewordLaw }
+{}
+
+/// One directory gets another place, while objects come into it and go from it.
+pub fn growths()
+    ensures { GrowthLaw }
+{}
+
+/// A file or a directory with contents gets another name, or another directory, which grows.
+pub fn grown_renames()
+    ensures { GrownRenameLaw }
+{}
+
+/// Commands in place: the new image opens, with the tree that the model gives.
+pub fn answered()
+    ensures { AnsweredLaw }
+{}
+
+/// What an opened image with an old map says of its holes and objects.
+pub fn old_maps()
+    ensures { OldMapLaw }
 {}

@@ -34,12 +34,12 @@ abbrev form_by : Geometry → NameForm
 form_by g = if g.version == 0 then Ten else Long
 
 outside_kept : (old new : List ℕ) (v w : Opened) (c : Command) (l l' : Layout) → IsNewLayout l → OutsideSteady old new v w c l l' → Kept l l'
-outside_kept old new v w c (Layout.New m) (Layout.New m') h x = (tt, ap form_by x.0)
+outside_kept old new v w c (Layout.New m) (Layout.New m') h x = (tt, ap form_by x.geometry)
 outside_kept old new v w c (Layout.New m) (Layout.Old space') h x = absurd x
 outside_kept old new v w c (Layout.Old space) l' h x = absurd h
 
 reclaim_kept : (old new : List ℕ) (kind : Kind) (l l' : Layout) (objects : List Object) → ReclaimOutside old new kind l l' objects → Kept l l'
-reclaim_kept old new kind (Layout.New m) (Layout.New m') objects x = (tt, ap form_by x.0)
+reclaim_kept old new kind (Layout.New m) (Layout.New m') objects x = (tt, ap form_by x.geometry)
 reclaim_kept old new kind (Layout.New m) (Layout.Old space') objects x = absurd x
 reclaim_kept old new kind (Layout.Old space) (Layout.New m') objects x = absurd x
 reclaim_kept old new kind (Layout.Old space) (Layout.Old space') objects x = absurd x

@@ -7,3 +7,5 @@ pub mod ReadLaw
 pub mod Early
 pub mod TreeLaw
 pub mod RepliesLaw
+pub mod Stops
+pub mod Promises

@@ -1,5 +1,5 @@
 -- Demos, replies and runs, worked out.
-use Rattle.std.specs.Prelude.{◌≡◌, [], ◌∷◌, ◌++◌, codes, drop, true, false, Some, None}
+use Rattle.std.specs.Prelude.{◌≡◌, ℕ, List, [], ◌∷◌, ◌++◌, codes, drop, true, false, Some, None}
 use Rattle.fc_dirs.specs.declared.DirFault.TheVariants as dirs
 use Rattle.fc_image.specs.declared.ImageFault.TheVariants as faults
 use Rattle.fc_runs.specs.Replies.{bad_image_line}
@@ -9,6 +9,8 @@ use Rattle.fc_script.specs.Texts.{refusal_line}
 use Rattle.fc_runs.specs.Run.{is_error, whole_replies, all_keep_tree}
 use Rattle.fc_runs.specs.HostRun.{all_host_keep_tree}
 use Rattle.fc_runs.specs.Early.{text_begun}
+use Rattle.fc_runs.specs.Stops.{next_keeps_tree, next_host_keeps_tree, replies_written}
+use Rattle.fc_runs.specs.Promises.{Cause, IsUnmade, spares_disk}
 
 -- demos, replies and runs
 pub record RunRows : Type 0 where
@@ -35,3 +37,20 @@ pub record RunRows : Type 0 where
   -- the text of a run that breaks off in its second line: what was written of a load's reply may follow, and a demo has none
   pub begun : text_begun None ((codes "ok" ++ 10 ∷ []) ∷ []) (Some (codes "load $.A")) (λ line. codes "41" ++ 10 ∷ []) ≡ codes "ok" ++ 10 ∷ codes "41" ++ 10 ∷ []
   pub demo_begun : text_begun (Some 1) ((codes "ok" ++ 10 ∷ []) ∷ []) (Some (codes "load $.A")) (λ line. codes "41" ++ 10 ∷ []) ≡ []
+  -- A run that broke off in `compact` keeps the tree that the lines before it gave, whatever they changed; in a `delete` it doesn't.
+  pub delete_then_compact : next_keeps_tree (codes "delete $.A" ∷ codes "compact" ∷ []) ((codes "ok" ++ 10 ∷ []) ∷ []) ≡ true
+  pub not_the_first : all_keep_tree (codes "delete $.A" ∷ codes "compact" ∷ []) ((codes "ok" ++ 10 ∷ []) ∷ []) ≡ false
+  pub compact_then_delete : next_keeps_tree (codes "compact" ∷ codes "delete $.A" ∷ []) ((codes "ok" ++ 10 ∷ []) ∷ []) ≡ false
+  pub then_get : next_host_keeps_tree (codes "delete $.A" ∷ codes "get $.B b" ∷ []) ((codes "ok" ++ 10 ∷ []) ∷ []) ≡ true
+  pub then_put : next_host_keeps_tree (codes "put a $.A 00000000 00000000" ∷ []) [] ≡ false
+  -- a reply that was cut off doesn't count, and a demo writes none
+  pub cut_off : replies_written None (codes "ok" ++ 10 ∷ codes "o") ((codes "ok" ++ 10 ∷ []) ∷ (codes "ok" ++ 10 ∷ []) ∷ []) ≡ 1
+  pub of_a_demo : replies_written (Some 1) (codes "ok" ++ 10 ∷ []) ((codes "ok" ++ 10 ∷ []) ∷ []) ≡ 0
+  -- A fresh image may be left unmade after a fault of the disk, with no text, or if memory ran out while nothing was changed. (Here a
+  -- number stands for a disk.)
+  pub unmade : (old new : ℕ) → IsUnmade true Cause.Disk old new []
+  pub untouched : (disk : ℕ) → IsUnmade true Cause.Memory disk disk []
+  pub no_fresh : (old new : ℕ) (text : List ℕ) → IsUnmade false Cause.Disk old new text → ⊥
+  pub some_text : (old new : ℕ) → IsUnmade true Cause.Disk old new (codes "ok") → ⊥
+  pub by_the_sink : (old new : ℕ) (text : List ℕ) → IsUnmade true Cause.Out old new text → ⊥
+  pub only_the_disk : spares_disk Cause.Host ≡ true

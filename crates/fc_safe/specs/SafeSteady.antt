@@ -108,7 +108,7 @@ pub record SafeSteady (old new : List ℕ) (v w : Opened) (c : Command) (copied 
   pub rewritten : ChangedRewritten v w c
   pub named : NamedStays v w c copied
   pub entry : NamedEntrySteady v w c
-  pub made : NewDirectory w c
+  pub made : NewDirectory new w c
   pub empty : is_written_empty c ≡ true → HasAddress (made_object w c) 0
   pub space : SafeSpaceSteady v w c v.layout w.layout
   pub outside : OutsideSteady old new v w c v.layout w.layout

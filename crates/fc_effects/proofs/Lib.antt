@@ -1,0 +1,3 @@
+mod LeftLemmas
+mod OneHoleLemmas
+mod CompactedLemmas

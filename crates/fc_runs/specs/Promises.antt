@@ -1,0 +1,94 @@
+-- What a whole run promises over any disk, for each way to end. s is the image as it opened, or the fresh one.
+use Rattle.std.specs.Prelude.{◌≡◌, ◌⊎◌, ℕ, Bool, true, false, List, [], Option, Some, None}
+use Rattle.std.specs.List.{list_any}
+use Rattle.fc_device.specs.declared.disk.Disk.{Ghosts}
+use Rattle.fc_device.specs.Calls.{StopsAsBefore}
+use Rattle.fc_effects.specs.Effect.{State}
+use Rattle.fc_runs.specs.Run.{Mode, Run, commands_in, script_for, is_error}
+use Rattle.fc_runs.specs.Early.{EndsEarly, HostEndsEarly}
+use Rattle.fc_runs.specs.HostRun.{Files, HostRun}
+use Rattle.fc_runs.specs.Stops.{MayHaveLeft, Stops, HostStops}
+
+-- ---- ends without a run
+
+-- After bad words, an I/O error in the script, a script that is too long or a name without an image nothing is written, and after a
+-- bad image its line. The image keeps its bytes, also after a crash at any moment.
+pub record HasNoRun {D : Type 0} (d : Ghosts D) (old new : D) (line text : List ℕ) : Type 0 where
+  pub told : text ≡ line
+  pub bytes : d.bytes new ≡ d.bytes old
+  pub stops : StopsAsBefore d old new
+
+-- The volume doesn't suit the safe mode. It was opened or made, and no line was begun.
+pub record HasNotSuited {D : Type 0} (d : Ghosts D) (old new : D) (fresh : Bool) (s : State) (text : List ℕ) : Type 0 where
+  pub told : text ≡ []
+  pub holds : d.bytes new ≡ Some s.image
+  pub settled : d.pending new ≡ false
+  pub stops : fresh ≡ false → StopsAsBefore d old new
+
+-- ---- the script's end
+
+-- All lines were done. The answer is Refused if a reply is an error line, else Done.
+pub record HasRun {D : Type 0} (d : Ghosts D) (old new : D) (mode : Mode) (fresh : Bool) (demo : Option ℕ) (s : State) (script text : List ℕ) (refused : Bool) : Type 0 where
+  pub end : State
+  pub run : Run (MayHaveLeft d old new) mode demo s script text end
+  pub refused_is : refused ≡ list_any is_error run.replies
+  pub holds : d.bytes new ≡ Some end.image
+  pub settled : d.pending new ≡ false
+  pub stops : d.pending old ≡ false → Stops d old new mode fresh demo s end (commands_in (script_for demo script)) run.replies text
+
+-- the same with files of the host
+pub record HostHasRun {D : Type 0} (d : Ghosts D) (old new : D) (mode : Mode) (fresh : Bool) (demo : Option ℕ) (s : State) (files left : Files) (script text : List ℕ) (refused : Bool) : Type 0 where
+  pub end : State
+  pub run : HostRun (MayHaveLeft d old new) mode demo s files script text end left
+  pub refused_is : refused ≡ list_any is_error run.replies
+  pub holds : d.bytes new ≡ Some end.image
+  pub settled : d.pending new ≡ false
+  pub stops : d.pending old ≡ false → HostStops d old new mode fresh demo s end files (commands_in (script_for demo script)) run.replies text
+
+-- ---- ends before it
+
+-- the only causes for which a run ends early: an I/O error of the disk, the sink or the host, or out of memory
+pub data Cause : Type 0 where
+  Disk : Cause
+  Out : Cause
+  Host : Cause
+  Memory : Cause
+
+-- Only an I/O error of the disk can leave bytes that don't follow from the lines done.
+abbrev pub spares_disk : Cause → Bool
+spares_disk Cause.Disk = false
+spares_disk cause = true
+
+-- A fresh image was asked for and isn't there: the disk had an I/O error while it was made, or the run was out of memory before it
+-- asked anything of the disk. Nothing was written.
+abbrev pub IsUnmade : {D : Type 0} → Bool → Cause → D → D → List ℕ → Type 0
+IsUnmade fresh Cause.Disk old new text = (fresh ≡ true) × (text ≡ [])
+IsUnmade fresh Cause.Memory old new text = (fresh ≡ true) × (text ≡ []) × (new ≡ old)
+IsUnmade fresh cause old new text = ⊥
+
+-- Some lines were done, and a part of their text was written. The disk has the image after these lines, and nothing is pending if
+-- anything was asked of it, except after an I/O error of the disk itself.
+pub record HasStopped {D : Type 0} (d : Ghosts D) (old new : D) (mode : Mode) (fresh : Bool) (demo : Option ℕ) (s : State) (script text : List ℕ) (cause : Cause) : Type 0 where
+  pub end : State
+  pub ended : EndsEarly (MayHaveLeft d old new) mode demo s script text end
+  pub holds : spares_disk cause ≡ true → d.bytes new ≡ Some end.image
+  pub settled : spares_disk cause ≡ true → (d.pending new ≡ false) ⊎ (new ≡ old)
+  pub stops : d.pending old ≡ false → Stops d old new mode fresh demo s end (commands_in (script_for demo script)) ended.replies text
+
+-- what holds after a run that ended early
+abbrev pub HasBrokenOff : {D : Type 0} → Ghosts D → D → D → Mode → Bool → Option ℕ → State → List ℕ → List ℕ → Cause → Type 0
+HasBrokenOff d old new mode fresh demo s script text cause =
+    HasStopped d old new mode fresh demo s script text cause ⊎ IsUnmade fresh cause old new text
+
+-- the same with files of the host
+pub record HostHasStopped {D : Type 0} (d : Ghosts D) (old new : D) (mode : Mode) (fresh : Bool) (demo : Option ℕ) (s : State) (files left : Files) (script text : List ℕ) (cause : Cause) : Type 0 where
+  pub end : State
+  pub ended : HostEndsEarly (MayHaveLeft d old new) mode demo s files script text end left
+  pub holds : spares_disk cause ≡ true → d.bytes new ≡ Some end.image
+  pub settled : spares_disk cause ≡ true → (d.pending new ≡ false) ⊎ (new ≡ old)
+  pub stops : d.pending old ≡ false → HostStops d old new mode fresh demo s end files (commands_in (script_for demo script)) ended.replies text
+
+-- The files of the host stay, if the fresh image isn't there.
+abbrev pub HostHasBrokenOff : {D : Type 0} → Ghosts D → D → D → Mode → Bool → Option ℕ → State → Files → Files → List ℕ → List ℕ → Cause → Type 0
+HostHasBrokenOff d old new mode fresh demo s files left script text cause =
+    HostHasStopped d old new mode fresh demo s files left script text cause ⊎ (IsUnmade fresh cause old new text × (left ≡ files))
