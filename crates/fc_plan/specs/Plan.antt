@@ -1,9 +1,9 @@
--- What a plan of new space has beside being a taking of as few holes as can be: it can be cut from the zones.
+-- What parts have that can be cut from holes, and holes that lie as those of a map do.
 use Rattle.std.specs.Prelude.{◌≡◌, ◌<◌, ◌≤◌, ◌⊎◌, ℕ, ◌+◌, ◌-◌, ◌%◌, List, [], ◌∷◌, ◌++◌, length, take, slice_index_or, if◌then◌else◌, Contains, All, AllPairs, Option, Some, None}
 use Rattle.std.specs.List.{count_by, AllByRecursion}
 use Rattle.fc_record.specs.declared.Geometry.{Geometry}
 use Rattle.fc_newmap.specs.Map.{ZoneRun, bits_in}
-use Rattle.fc_effects.specs.Placed.{IsFront, IsTaken, left_behind, stands_at}
+use Rattle.fc_effects.specs.Placed.{HasRunLength, IsFront, IsTaken, left_behind, stands_at}
 
 -- at each place at most one begins
 abbrev pub AreApart : List ZoneRun → Type 0
@@ -13,27 +13,12 @@ AreApart runs = (place : ZoneRun) → count_by (stands_at place) runs ≤ 1
 abbrev pub IsFrontOfOne : Geometry → List ZoneRun → ZoneRun → Type 0
 IsFrontOfOne g holes part = (hole : ZoneRun) × Contains holes hole × IsFront g hole part
 
--- a run may have this length
-abbrev pub HasRunLength : Geometry → ZoneRun → Type 0
-HasRunLength g part = (g.min ≤ part.1.len) × (part.1.len % g.q ≡ 0)
-
 -- The parts can be cut from the holes: each is the front of a hole, no hole is used twice, and each is long enough for a
 -- run of its own.
 pub record AreParts (g : Geometry) (holes parts : List ZoneRun) : Type 0 where
   pub fronts : All (IsFrontOfOne g holes) parts
   pub once : (place : ZoneRun) → count_by (stands_at place) parts ≤ count_by (stands_at place) holes
   pub long : All (HasRunLength g) parts
-
--- The first begins before the second: in an earlier zone, or earlier in the same.
-abbrev pub BeginsBefore : ZoneRun → ZoneRun → Type 0
-BeginsBefore p q = (p.0 < q.0) ⊎ ((p.0 ≡ q.0) × (p.1.start < q.1.start))
-
--- a plan: a taking of so many bits from as few holes as can be, whose parts may be runs and rise, so that no hole is used
--- twice
-pub record IsPlan (g : Geometry) (holes : List ZoneRun) (bits : ℕ) (parts : List ZoneRun) : Type 0 where
-  pub taken : IsTaken g holes bits parts
-  pub long : All (HasRunLength g) parts
-  pub rising : AllPairs BeginsBefore parts
 
 -- The parts are a taking of so many bits from as few holes as can be, and can be cut from the holes.
 pub record IsChoice (g : Geometry) (holes : List ZoneRun) (bits : ℕ) (parts : List ZoneRun) : Type 0 where

@@ -4,9 +4,9 @@ ghost use Rattle.std.specs.Prelude.{◌≡◌, ◌<◌, ◌+◌, ◌^◌, ◌++�
 ghost use Rattle.fc_record.specs.Record.{id_limit};
 ghost use Rattle.fc_newmap.specs.Map.{all_runs, bits_in, is_hole};
 ghost use Rattle.fc_newmap.specs.NewMap.{IsOfRecord};
-ghost use Rattle.fc_effects.specs.Placed.{holes_left};
+ghost use Rattle.fc_effects.specs.Placed.{IsPlan, holes_left};
 ghost use Rattle.fc_effects.specs.Sharing.{units};
-ghost use Rattle.fc_plan.specs.Plan.{AreFreeRuns, AreParts, IsPlan};
+ghost use Rattle.fc_plan.specs.Plan.{AreFreeRuns, AreParts};
 ghost use Rattle.fc_plan.specs.Supply.{IsSurvey, marked, stock_of, unused_from};
 ghost use Rattle.fc_plan.specs.declared.supply.PlanError.TheVariants as errors;
 
