@@ -1,5 +1,5 @@
 -- A write to one zone's sector in the buffer of a map.
-use Rattle.std.proofs.Common.{◌≡◌, ◌<◌, ◌≤◌, ℕ, ◌+◌, ◌-◌, ◌*◌, List, ◌∷◌, ◌++◌, length, take, drop, sym, ap, subst, ◌∙◌, arith, inl, inr}
+use Rattle.std.proofs.Common.{◌≡◌, ◌<◌, ◌≤◌, ℕ, ◌+◌, ◌-◌, ◌*◌, List, [], ◌∷◌, ◌++◌, length, take, drop, refl, sym, ap, ap₂, subst, ◌∙◌, arith, inl, inr}
 use Rattle.std.specs.Prelude.{Vec}
 use Rattle.std.specs.Vec.{with_items}
 use Rattle.std.proofs.lemmas.List.{with_items_is}
@@ -10,11 +10,15 @@ use Rattle.fc_zone.specs.declared.Run.{Run}
 use Rattle.fc_zone.specs.declared.RunKind.{RunKind}
 use Rattle.fc_zone.specs.Zone.{IsShapeOf, IsZone, Zone}
 use Rattle.fc_zone.specs.Reading.{runs_of as runs_read}
-use Rattle.fc_zone.specs.Edits.{HasHoleAt, HasRunAt, HasRunToSplit, HasRunsToMerge, Merges, Relabels, Splits, labelled, merged_at, split_at}
+use Rattle.fc_zone.specs.Edits.{HasHoleAt, HasRunAt, HasRunToSplit, HasRunsToMerge, KeepsBytes, KeepsOutside, Merges, Relabels, Splits, WritesLinks}
 use Rattle.fc_zone.proofs.ReadingLemmas.{runs_of_zone}
-use Rattle.fc_zone.proofs.LawLemmas.{labelled-cut, merged_at-cut, split_at-cut}
+use Rattle.fc_zone.proofs.WrittenLemmas.{edit_keeps}
+use Rattle.fc_bytes.specs.Bits.{bits}
+use Rattle.fc_newmap.specs.Edits.{IsEdit, KeepsRuns, MergesIn, RelabelsIn, SplitsIn, WritesLinksOf}
+use Rattle.std.proofs.lemmas.Bool.{cases_eq}
+use Rattle.std.proofs.lemmas.List.{get_or-set_other}
 use Rattle.fc_newmap.specs.Map.{Map, shape, sector_of, runs_of, with_zone}
-use Rattle.fc_newmap.specs.NewMap.{IsHeld, map_in}
+use Rattle.fc_newmap.specs.NewMap.{IsHeld, IsNewMap, map_in}
 use Rattle.fc_record.specs.Record.{first_bit}
 use Rattle.fc_newmap.proofs.GeometryLemmas.{header_high}
 use Rattle.fc_newmap.proofs.HeldLemmas as held
@@ -25,6 +29,7 @@ lent g from was = take (from + g.sector - from) (drop from was)
 
 -- what a write to a zone's sector makes of a map
 pub record IsWrittenIn (g : Geometry) (m : Map) (z : ℕ) (old part items : List ℕ) : Type 0 where
+  pub was : IsNewMap m
   pub geometry : m.geometry ≡ g
   pub low : z < g.zones
   pub old_is : old ≡ sector_of m z
@@ -63,6 +68,7 @@ written_in g v m was part from z is view low at same long =
     let map : map_in g (new_items g v was part from) ≡ with_zone m z part =
     new ∙ held.map_after g v.items z part is below whole ∙ ap (λ (n : Map). with_zone n z part) view in
     record {
+      was = subst IsNewMap view is.map;
       geometry = k;
       low = below;
       old_is = there ∙ ap (λ (n : Map). sector_of n z) view;
@@ -98,26 +104,50 @@ module _ (g : Geometry) (m : Map) (z : ℕ) (old part items : List ℕ) (s : Zon
   pub lowered : (Q : ZoneShape → List ℕ → Type 0) → Q (shape m.geometry z) (sector_of m z) → Q s old
   lowered Q h = subst (λ (k : ZoneShape). Q k old) (sym (is ∙ shape_same)) (subst (λ (t : List ℕ). Q (shape m.geometry z) t) (sym w.old_is) h)
 
-  -- the list of runs that the sector has then
-  pub listed : (f : List Run → List Run) → runs_read s part ≡ f (runs_read s old) → runs_of (map_in g items) z ≡ f (runs_of m z)
-  listed f h =
-      subst (λ (k : ZoneShape). runs_read k (sector_of (map_in g items) z) ≡ f (runs_of m z)) (sym shape_same) (lifted (λ k a b. runs_read k b ≡ f (runs_read k a)) h)
-
   pub held_by : IsZone s part → IsHeld g items
   held_by zone = w.held (subst (λ (k : ZoneShape). IsZone k part) is zone)
+
+  -- the sector's runs before the write and after it
+  pub zone_cut : (runs : List Run) → runs_of m z ≡ runs → Zone s old runs
+  zone_cut runs e = subst (λ (k : ZoneShape). Zone k old runs) (sym is) (subst (λ (rs : List Run). Zone (shape g z) old rs) e w.zone)
+
+  pub runs_after : (runs : List Run) → Zone s part runs → runs_of (map_in g items) z ≡ runs
+  runs_after runs zone = ap (runs_read (shape g z)) (sym w.new_is) ∙ runs_of_zone (shape g z) part runs (subst (λ (k : ZoneShape). Zone k part runs) is zone)
+
+  pub links_of : WritesLinks s (bits old) (bits part) (runs_read s old) (runs_read s part) → WritesLinksOf m (map_in g items) z
+  links_of links =
+      subst (λ (k : ZoneShape). WritesLinks (shape m.geometry z) (bits (sector_of m z)) (bits (sector_of (map_in g items) z)) (runs_of m z) (runs_read k (sector_of (map_in g items) z))) (sym shape_same)
+      (lifted (λ k a b. WritesLinks k (bits a) (bits b) (runs_read k a) (runs_read k b)) links)
+
+  pub edit_of : IsZone s part → WritesLinks s (bits old) (bits part) (runs_read s old) (runs_read s part) → KeepsOutside s old part → KeepsBytes s old part → IsEdit m (map_in g items) z
+  edit_of zone links outside bytes =
+      let held = held_by zone in
+      record {
+        was = w.was;
+        map = held.map;
+        geometry = sym w.geometry;
+        others = λ y ne. ap (λ (n : Map). sector_of n y) w.map ∙ get_or-set_other m.zones z y part [] ne;
+        outside = lifted KeepsOutside outside;
+        bytes = lifted KeepsBytes bytes;
+        links = edit_keeps (shape m.geometry z) (bits (sector_of m z)) (bits (sector_of (map_in g items) z)) (runs_of m z) (runs_of (map_in g items) z) (links_of links);
+      }
+
+  -- the edits of a zone as edits of the map
+  pub relabels : (start : ℕ) (kind : RunKind) → Relabels s old part start kind → RelabelsIn m (map_in g items) z start kind
+  relabels start kind edit = λ front rest run e at. runs_after (front ++ record run { kind = kind } ∷ rest) (edit front rest run (zone_cut (front ++ run ∷ rest) e) at)
+
+  pub splits : (start len : ℕ) → Splits s old part start len → SplitsIn m (map_in g items) z start len
+  splits start len edit = λ front rest run e at.
+      subst (λ (n : ℕ). runs_of (map_in g items) z ≡ front ++ record run { len = len } ∷ (record run { start = n + len; len = run.len - len } ∷ rest)) (sym at)
+      (runs_after (front ++ record run { len = len } ∷ (record run { start = start + len; len = run.len - len } ∷ rest)) (edit front rest run (zone_cut (front ++ run ∷ rest) e) at))
+
+  pub merges : (start : ℕ) → Merges s old part start → MergesIn m (map_in g items) z start
+  merges start edit = λ front rest one two e at. runs_after (front ++ record one { len = one.len + two.len } ∷ rest) (edit front rest one two (zone_cut (front ++ one ∷ (two ∷ rest)) e) at)
 
 -- the zone has runs after an edit, and which
 module _ (s : ZoneShape) (old new : List ℕ) (start : ℕ) where
   pub relabelled : (kind : RunKind) → HasRunAt s old start → Relabels s old new start kind → IsZone s new
   relabelled kind run edit = let r = run.1.1 in (r.0 ++ record run.0 { kind = kind } ∷ r.1.0, edit r.0 r.1.0 run.0 r.1.1 run.1.0)
-
-  pub relabelled_list : (kind : RunKind) → HasRunAt s old start → Relabels s old new start kind → runs_read s new ≡ labelled start kind (runs_read s old)
-  relabelled_list kind run edit =
-      let r = run.1.1 in
-      runs_of_zone s new (r.0 ++ record run.0 { kind = kind } ∷ r.1.0) (edit r.0 r.1.0 run.0 r.1.1 run.1.0)
-      ∙ sym (labelled-cut s old r.0 r.1.0 run.0 r.1.1 kind)
-      ∙ ap (λ (k : ℕ). labelled k kind (r.0 ++ run.0 ∷ r.1.0)) run.1.0
-      ∙ ap (labelled start kind) (sym (runs_of_zone s old (r.0 ++ run.0 ∷ r.1.0) r.1.1))
 
   pub was_run : HasHoleAt s old start → HasRunAt s old start
   was_run hole = (hole.0, (hole.1.0, hole.1.2))
@@ -126,26 +156,18 @@ module _ (s : ZoneShape) (old new : List ℕ) (start : ℕ) where
   split_zone len run edit = let r = run.1.2 in
       (r.0 ++ record run.0 { len = len } ∷ (record run.0 { start = start + len; len = run.0.len - len } ∷ r.1.0), edit r.0 r.1.0 run.0 r.1.1 run.1.0)
 
-  pub split_list : (len : ℕ) → HasRunToSplit s old start len → Splits s old new start len → runs_read s new ≡ split_at start len (runs_read s old)
-  split_list len run edit =
-      let r = run.1.2 in
-      runs_of_zone s new (r.0 ++ record run.0 { len = len } ∷ (record run.0 { start = start + len; len = run.0.len - len } ∷ r.1.0)) (edit r.0 r.1.0 run.0 r.1.1 run.1.0)
-      ∙ ap (λ (k : ℕ). r.0 ++ record run.0 { len = len } ∷ (record run.0 { start = k + len; len = run.0.len - len } ∷ r.1.0)) (sym run.1.0)
-      ∙ sym (split_at-cut s old r.0 r.1.0 run.0 r.1.1 len)
-      ∙ ap (λ (k : ℕ). split_at k len (r.0 ++ run.0 ∷ r.1.0)) run.1.0
-      ∙ ap (split_at start len) (sym (runs_of_zone s old (r.0 ++ run.0 ∷ r.1.0) r.1.1))
-
   pub merged_zone : HasRunsToMerge s old start → Merges s old new start → IsZone s new
   merged_zone runs edit = let r = runs.4 in (r.0 ++ record runs.0 { len = runs.0.len + runs.1.len } ∷ r.1.0, edit r.0 r.1.0 runs.0 runs.1 r.1.1 runs.2)
 
-  pub merged_list : HasRunsToMerge s old start → Merges s old new start → runs_read s new ≡ merged_at start (runs_read s old)
-  merged_list runs edit =
-      let r = runs.4 in
-      runs_of_zone s new (r.0 ++ record runs.0 { len = runs.0.len + runs.1.len } ∷ r.1.0) (edit r.0 r.1.0 runs.0 runs.1 r.1.1 runs.2)
-      ∙ sym (merged_at-cut s old r.0 r.1.0 runs.0 runs.1 r.1.1)
-      ∙ ap (λ (k : ℕ). merged_at k (r.0 ++ runs.0 ∷ (runs.1 ∷ r.1.0))) runs.2
-      ∙ ap (merged_at start) (sym (runs_of_zone s old (r.0 ++ runs.0 ∷ (runs.1 ∷ r.1.0)) r.1.1))
-
 -- a write that leaves the zone its runs
-pub same_runs : (g : Geometry) (m : Map) (z : ℕ) (old part items : List ℕ) → IsWrittenIn g m z old part items → Zone (shape g z) part (runs_of m z) → runs_of (map_in g items) z ≡ runs_of m z
-same_runs g m z old part items w zone = ap (runs_read (shape g z)) (sym w.new_is) ∙ runs_of_zone (shape g z) part (runs_of m z) zone
+module _ (g : Geometry) (m : Map) (z : ℕ) (old part items : List ℕ) (w : IsWrittenIn g m z old part items) (zone : Zone (shape g z) part (runs_of m z)) where
+  pub same_runs : KeepsRuns m (map_in g items)
+  same_runs =
+      let held = w.held (runs_of m z, zone) in
+      record { was = w.was; map = held.map; geometry = sym w.geometry; runs = each }
+    where
+      each : (y : ℕ) → runs_of (map_in g items) y ≡ runs_of m y
+      each y = elim (cases_eq y z) [
+        | inl same ↦ subst (λ (k : ℕ). runs_of (map_in g items) k ≡ runs_of m k) (sym same) (runs_after g m z old part items (shape g z) w refl (runs_of m z) zone)
+        | inr other ↦ ap₂ (λ (h : Geometry) (t : List ℕ). runs_read (shape h y) t) (sym w.geometry) (ap (λ (n : Map). sector_of n y) w.map ∙ get_or-set_other m.zones z y part [] other)
+      ]

@@ -18,7 +18,7 @@ ghost use Rattle.fc_newmap.specs.RunsLaw.{GeometryLaw, IdsLaw, RunsLaw, ShapeLaw
 pub use extents::extent_of;
 use fc_zone::ZoneFault;
 pub use map::NewMap;
-pub use runs::RunCursor;
+pub use runs::{MAP_ID, RunCursor, home_zone};
 pub use walk::Walk;
 
 /// Why a copy of a map is not loaded.

@@ -3,8 +3,7 @@
 ghost use Rattle.std.specs.Prelude.{◌≡◌, ◌+◌, ◌*◌, ◌<◌, ◌≤◌, ◌^◌, length, slice_get, slice_set, ◌++◌, ◌∷◌, List, IsTrue, IfOk, IfSome, IfNone, Ok, Err, MatchResult, OnOk};
 ghost use Rattle.std.specs.List.{zip};
 ghost use Rattle.fc_zone.specs.declared.RunKind.{RunKind};
-ghost use Rattle.fc_zone.specs.Edits.{HasHoleAt, HasRunAt, HasRunToSplit, HasRunsToMerge, Merges, Relabels, Splits, labelled, merged_at, sealed, split_at};
-ghost use Rattle.fc_zone.specs.Laws.{LeavesRest};
+ghost use Rattle.fc_zone.specs.Edits.{HasHoleAt, HasRunAt, HasRunToSplit, HasRunsToMerge, sealed};
 ghost use Rattle.fc_zone.specs.Reading.{zone_of};
 ghost use Rattle.fc_zone.specs.declared.Run.{Run};
 ghost use Rattle.fc_zone.specs.Zone.{HasRun, Zone};
@@ -12,6 +11,7 @@ ghost use Rattle.fc_bytes.specs.Bits.{overwritten};
 ghost use Rattle.byteorder.specs.Endian.{little_bytes};
 ghost use Rattle.fc_record.specs.Record.{is_root_right, is_root_size_right};
 ghost use Rattle.fc_newmap.specs.Map.{first_fault, runs_of, sector_of, shape, with_cross, with_root, with_zone, zone_numbers, zones_in};
+ghost use Rattle.fc_newmap.specs.Edits.{IsEdit, KeepsRuns, MergesIn, RelabelsIn, SplitsIn, WritesLinksOf};
 ghost use Rattle.fc_newmap.specs.NewMap.{IsNewMap, IsOfRecord, map_in, rooted};
 ghost use Rattle.fc_newmap.specs.Loaded.{loaded};
 ghost use Rattle.fc_newmap.specs.RunsLaw.{HasZones};
@@ -107,16 +107,16 @@ impl NewMap {
     /// Turns the hole of a zone that begins at `start` into a run of an identifier.
     ///
     /// This and the edits below are those of `fc_zone` in one zone: every other zone keeps its bytes, and in the zone every
-    /// bit outside FreeLink and the runs stays, ZoneCheck too, which `seal` writes. None takes memory.
+    /// bit outside FreeLink and the runs stays, ZoneCheck too, which `seal` writes. Links that name what they named keep
+    /// all their bits. None takes memory.
     pub fn label(&mut self, z: u16, start: u32, id: u32)
         requires zone { z < self.old.geometry.zones }
         requires hole { HasHoleAt (shape self.old.geometry z) (sector_of self.old z) start }
         requires some_id { 0 < id }
         requires id_fits { id < 2 ^ self.old.geometry.idlen }
-        ensures runs { Relabels (shape self.old.geometry z) (sector_of self.old z) (sector_of self.new z) start (RunKind.Id id) }
-        ensures list { runs_of self.new z ≡ labelled start (RunKind.Id id) (runs_of self.old z) }
-        ensures rest { LeavesRest (shape self.old.geometry z) (sector_of self.old z) (sector_of self.new z) }
-        ensures others { self.new ≡ with_zone self.old z (sector_of self.new z) }
+        ensures edit { IsEdit self.old self.new z }
+        ensures runs { RelabelsIn self.old self.new z start (RunKind.Id id) }
+        ensures links { WritesLinksOf self.old self.new z }
     {
         let shape = shape_of(&self.geometry, z);
         let from = place_of(&self.geometry, z);
@@ -128,10 +128,9 @@ impl NewMap {
     pub fn release(&mut self, z: u16, start: u32)
         requires zone { z < self.old.geometry.zones }
         requires run { HasRunAt (shape self.old.geometry z) (sector_of self.old z) start }
-        ensures runs { Relabels (shape self.old.geometry z) (sector_of self.old z) (sector_of self.new z) start RunKind.Hole }
-        ensures list { runs_of self.new z ≡ labelled start RunKind.Hole (runs_of self.old z) }
-        ensures rest { LeavesRest (shape self.old.geometry z) (sector_of self.old z) (sector_of self.new z) }
-        ensures others { self.new ≡ with_zone self.old z (sector_of self.new z) }
+        ensures edit { IsEdit self.old self.new z }
+        ensures runs { RelabelsIn self.old self.new z start RunKind.Hole }
+        ensures links { WritesLinksOf self.old self.new z }
     {
         let shape = shape_of(&self.geometry, z);
         let from = place_of(&self.geometry, z);
@@ -144,10 +143,9 @@ impl NewMap {
     pub fn split(&mut self, z: u16, start: u32, len: u32)
         requires zone { z < self.old.geometry.zones }
         requires run { HasRunToSplit (shape self.old.geometry z) (sector_of self.old z) start len }
-        ensures runs { Splits (shape self.old.geometry z) (sector_of self.old z) (sector_of self.new z) start len }
-        ensures list { runs_of self.new z ≡ split_at start len (runs_of self.old z) }
-        ensures rest { LeavesRest (shape self.old.geometry z) (sector_of self.old z) (sector_of self.new z) }
-        ensures others { self.new ≡ with_zone self.old z (sector_of self.new z) }
+        ensures edit { IsEdit self.old self.new z }
+        ensures runs { SplitsIn self.old self.new z start len }
+        ensures links { WritesLinksOf self.old self.new z }
     {
         let shape = shape_of(&self.geometry, z);
         let from = place_of(&self.geometry, z);
@@ -160,10 +158,9 @@ impl NewMap {
     pub fn merge(&mut self, z: u16, start: u32)
         requires zone { z < self.old.geometry.zones }
         requires runs { HasRunsToMerge (shape self.old.geometry z) (sector_of self.old z) start }
-        ensures runs { Merges (shape self.old.geometry z) (sector_of self.old z) (sector_of self.new z) start }
-        ensures list { runs_of self.new z ≡ merged_at start (runs_of self.old z) }
-        ensures rest { LeavesRest (shape self.old.geometry z) (sector_of self.old z) (sector_of self.new z) }
-        ensures others { self.new ≡ with_zone self.old z (sector_of self.new z) }
+        ensures edit { IsEdit self.old self.new z }
+        ensures runs { MergesIn self.old self.new z start }
+        ensures links { WritesLinksOf self.old self.new z }
     {
         let shape = shape_of(&self.geometry, z);
         let from = place_of(&self.geometry, z);
@@ -175,7 +172,7 @@ impl NewMap {
     pub fn seal(&mut self, z: u16)
         requires { z < self.old.geometry.zones }
         ensures map { self.new ≡ with_zone self.old z (sealed (sector_of self.old z)) }
-        ensures runs { runs_of self.new z ≡ runs_of self.old z }
+        ensures runs { KeepsRuns self.old self.new }
     {
         let from = place_of(&self.geometry, z);
         let size = self.geometry.sector as usize;
@@ -186,7 +183,7 @@ impl NewMap {
     pub fn set_cross(&mut self, z: u16, v: u8)
         requires { z < self.old.geometry.zones }
         ensures map { self.new ≡ with_cross self.old z v }
-        ensures runs { runs_of self.new z ≡ runs_of self.old z }
+        ensures runs { KeepsRuns self.old self.new }
     {
         let from = place_of(&self.geometry, z);
         let size = self.geometry.sector as usize;
@@ -199,7 +196,7 @@ impl NewMap {
         requires root { IsTrue (is_root_right (rooted self.old root size)) }
         requires size { IsTrue (is_root_size_right (rooted self.old root size)) }
         ensures map { self.new ≡ with_zone self.old 0 (with_root (sector_of self.old 0) root size) }
-        ensures runs { runs_of self.new 0 ≡ runs_of self.old 0 }
+        ensures runs { KeepsRuns self.old self.new }
     {
         let from = place_of(&self.geometry, 0);
         let sector = self.geometry.sector as usize;
@@ -225,6 +222,18 @@ impl NewMap {
     {
         let shape = shape_of(&self.geometry, z);
         fc_zone::next(sector_in(&self.zones, &self.geometry, z), &shape, after)
+    }
+
+    /// The run that begins at a place of a zone, where one does. Of the zone only the links of the holes before the place
+    /// are read, and no other run.
+    pub fn run_from(&self, z: u16, start: u32) -> Run
+        requires zone { z < self.now.geometry.zones }
+        requires run { HasRunAt (shape self.now.geometry z) (sector_of self.now z) start }
+        ensures value { (front rest : List Run) (run : Run) → runs_of self.now z ≡ front ++ run ∷ rest → run.start ≡ start → result ≡ run }
+        ensures run { HasRun (shape self.now.geometry z) (sector_of self.now z) result }
+    {
+        let shape = shape_of(&self.geometry, z);
+        fc_zone::run_beginning(sector_in(&self.zones, &self.geometry, z), &shape, start)
     }
 }
 

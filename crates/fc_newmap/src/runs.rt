@@ -2,7 +2,7 @@
 
 ghost use Rattle.std.specs.Prelude.{◌≡◌, ◌<◌, ◌++◌, ◌∷◌, [], List, Contains, IfSome, MatchOption, OnSome, slice_get};
 ghost use Rattle.fc_newmap.specs.Map.{ZoneRun, has_id, home_zone, id_runs};
-ghost use Rattle.fc_newmap.specs.NewMap.{IsOfRecord};
+ghost use Rattle.fc_newmap.specs.NewMap.{IsNewMap, IsOfRecord};
 ghost use Rattle.fc_newmap.specs.Walk.{IsBehind};
 
 use crate::NewMap;
@@ -23,11 +23,11 @@ pub struct RunCursor {
     pub walk: Walk,
 }
 
-// The identifier of the map, and of the root on discs with one zone's map.
-const MAP_ID: u32 = 2;
+/// The identifier of the map, and of the root on discs with one zone's map.
+pub const MAP_ID: u32 = 2;
 
-// The zone in which an identifier's runs are looked for first.
-fn home_zone(g: &Geometry, id: u32) -> u16
+/// The zone in which an identifier's runs are looked for first.
+pub fn home_zone(g: &Geometry, id: u32) -> u16
     requires { IsOfRecord g.now }
     ensures value { result ≡ home_zone g.now id }
     ensures low { result < g.now.zones }
@@ -68,7 +68,8 @@ impl RunCursor {
 
     /// Before the first run of an identifier.
     pub fn start(map: &NewMap, id: u32) -> Self
-        ensures { StandsAt map.now (id_runs map.now id) result }
+        ensures stands { StandsAt map.now (id_runs map.now id) result }
+        ensures map { IsNewMap map.now }
     {
         let g = map.geometry();
         let walk = Walk::from_zone(map, home_zone(g, id), g.zones - 1);

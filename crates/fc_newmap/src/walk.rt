@@ -65,8 +65,9 @@ impl Walk {
         Walk { shape, place, more }
     }
 
-    // Behind the run of a zone that begins at `start`, where `more` zones come after the zone.
-    pub(crate) fn behind(map: &NewMap, z: u16, start: u32, more: u16) -> Self
+    /// After the run of a zone that begins at `start`, and before `more` zones after that zone. It passes over the runs of
+    /// the zone up to that run.
+    pub fn behind(map: &NewMap, z: u16, start: u32, more: u16) -> Self
         requires zone { z < map.now.geometry.zones }
         requires run { (run : Run) × ((front rest : List Run) × ((run.start ≡ start) × (runs_of map.now z ≡ front ++ run ∷ rest))) }
         ensures { (front rest : List Run) (run : Run) → run.start ≡ start → runs_of map.now z ≡ front ++ run ∷ rest
@@ -87,6 +88,7 @@ impl Walk {
     pub fn over_all(map: &NewMap) -> Self
         ensures stands { StandsBefore map.now (all_runs map.now) result }
         ensures short { bits_left result ≤ 2 ^ 32 }
+        ensures map { IsNewMap map.now }
     {
         Walk::from_zone(map, 0, map.geometry().zones - 1)
     }

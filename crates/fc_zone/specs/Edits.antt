@@ -1,13 +1,13 @@
 -- What the edits of a zone need, what they do to its list of runs, and what they write and leave.
-use Rattle.std.specs.Prelude.{◌≡◌, ◌<◌, ◌≤◌, ◌⊎◌, ℕ, ◌+◌, ◌-◌, ◌*◌, ◌%◌, ◌^◌, ◌==◌, List, [], ◌∷◌, ◌++◌, length, map, slice_set, slice_index, slice_range, Contains, if◌then◌else◌}
-use Rattle.std.specs.List.{AllByRecursion, flat_map}
+use Rattle.std.specs.Prelude.{◌≡◌, ◌<◌, ◌≤◌, ◌⊎◌, ℕ, ◌+◌, ◌-◌, ◌*◌, ◌%◌, ◌^◌, List, ◌∷◌, ◌++◌, length, slice_set, slice_index, slice_range, Contains}
+use Rattle.std.specs.List.{AllByRecursion}
 use Rattle.fc_bytes.specs.Bits.{bits}
 use Rattle.fc_checks.specs.Checks.{zone_check}
 use Rattle.fc_zone.specs.declared.ZoneShape.{ZoneShape}
 use Rattle.fc_zone.specs.declared.Run.{Run}
 use Rattle.fc_zone.specs.declared.RunKind.{RunKind}
 use Rattle.fc_zone.specs.declared.RunKind.TheVariants.{Hole}
-use Rattle.fc_zone.specs.Zone.{HasRun, IsOnSector, Zone, field_at, hole_starts}
+use Rattle.fc_zone.specs.Zone.{HasRun, IsOnSector, Zone, field_at, first_hole, hole_starts, next_hole}
 
 -- ---- what is needed
 
@@ -67,30 +67,6 @@ Merges shape old new start =
 abbrev pub whole_hole : ZoneShape → Run
 whole_hole shape = record { start = shape.first; len = shape.end - shape.first; kind = Hole }
 
--- The same edits as functions of lists of runs, no two of which begin at one place.
-
--- the run that begins there has this kind
-abbrev pub labelled_run : ℕ → RunKind → Run → Run
-labelled_run start kind run = if run.start == start then record run { kind = kind } else run
-
-abbrev pub labelled : ℕ → RunKind → List Run → List Run
-labelled start kind runs = map (labelled_run start kind) runs
-
--- the run that begins there is two of its kind, the first of `len` bits
-abbrev pub parts_at : ℕ → ℕ → Run → List Run
-parts_at start len run =
-    if run.start == start then record run { len = len } ∷ record run { start = start + len; len = run.len - len } ∷ [] else run ∷ []
-
-abbrev pub split_at : ℕ → ℕ → List Run → List Run
-split_at start len runs = flat_map (parts_at start len) runs
-
--- the run that begins there is one with the next
-abbrev pub merged_at : ℕ → List Run → List Run
-merged_at start [] = []
-merged_at start (run ∷ []) = run ∷ []
-merged_at start (run ∷ next ∷ runs) =
-    if run.start == start then record run { len = run.len + next.len } ∷ runs else run ∷ merged_at start (next ∷ runs)
-
 -- ---- what is written, and what stays
 
 -- Every bit outside FreeLink and the zone's bits is as it was, ZoneCheck too: sealing is a call of its own.
@@ -98,18 +74,32 @@ abbrev pub KeepsOutside : ZoneShape → List ℕ → List ℕ → Type 0
 KeepsOutside shape old new =
     (k : ℕ) → (k < 8) ⊎ (24 ≤ k) → (k < shape.first) ⊎ (shape.end ≤ k) → slice_index (bits new) k ≡ slice_index (bits old) k
 
--- FreeLink is as it was, or has its top bit
-abbrev pub WritesTop : List ℕ → List ℕ → Type 0
-WritesTop old new = (slice_range new 8 24 ≡ slice_range old 8 24) ⊎ (slice_index new 23 ≡ 1)
+-- So is every byte all of whose bits lie there.
+abbrev pub KeepsBytes : ZoneShape → List ℕ → List ℕ → Type 0
+KeepsBytes shape old new =
+    (k : ℕ) → (k < 1) ⊎ (3 ≤ k) → (8 * k + 8 ≤ shape.first) ⊎ (shape.end ≤ 8 * k) → slice_index new k ≡ slice_index old k
 
--- the field of a hole is as it was when it was a hole already, or it is its link alone
+-- FreeLink is as it was, or names another place and has its top bit
+abbrev pub WritesTop : List ℕ → List ℕ → Type 0
+WritesTop old new = (slice_range new 8 24 ≡ slice_range old 8 24) ⊎ ((first_hole new ≡ first_hole old → ⊥) × (slice_index new 23 ≡ 1))
+
+-- the field of a hole is as it was, or the hole is new or names another place, and its link alone is its field
 abbrev pub WritesLink : ZoneShape → List ℕ → List ℕ → List ℕ → ℕ → Type 0
-WritesLink shape old new holes at = (Contains holes at × (field_at shape new at ≡ field_at shape old at)) ⊎ (field_at shape new at < 2 ^ 15)
+WritesLink shape old new holes at =
+    (Contains holes at × (field_at shape new at ≡ field_at shape old at))
+    ⊎ ((Contains holes at → next_hole shape new at ≡ next_hole shape old at → ⊥) × (field_at shape new at < 2 ^ 15))
 
 -- The links that an edit changes it writes in full: FreeLink with its top bit, and a hole's link alone as its field.
+-- Links that name what they named keep all bits of their fields.
 pub record WritesLinks (shape : ZoneShape) (old new : List ℕ) (before after : List Run) : Type 0 where
   pub free_link : WritesTop old new
   pub fields : AllByRecursion (WritesLink shape old new (hole_starts before)) (hole_starts after)
+
+-- After some edits each link is as it was or written in full: FreeLink has the bits that it had, or its top bit, and a
+-- hole has the field that it had as a hole, or its link alone.
+pub record KeepsLinks (shape : ZoneShape) (old new : List ℕ) (before after : List Run) : Type 0 where
+  pub free_link : (slice_range new 8 24 ≡ slice_range old 8 24) ⊎ (slice_index new 23 ≡ 1)
+  pub fields : AllByRecursion (λ at. (Contains (hole_starts before) at × (field_at shape new at ≡ field_at shape old at)) ⊎ (field_at shape new at < 2 ^ 15)) (hole_starts after)
 
 -- all links are written in full
 pub record IsWritten (shape : ZoneShape) (bits : List ℕ) (runs : List Run) : Type 0 where

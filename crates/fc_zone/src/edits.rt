@@ -4,21 +4,21 @@ ghost use Rattle.std.specs.Prelude.{◌≡◌, ◌+◌, ◌-◌, ◌*◌, ◌^�
 ghost use Rattle.fc_bytes.specs.Bits.{AreZero, SameOutside, bits, num};
 ghost use Rattle.fc_zone.specs.declared.Run.{Run};
 ghost use Rattle.fc_zone.specs.declared.ZoneShape.{ZoneShape};
-ghost use Rattle.fc_zone.specs.Edits.{CanBeBlank, HasHoleAt, HasRunAt, HasRunToSplit, HasRunsToMerge, IsWritten, KeepsOutside, Merges, Relabels, Splits, WritesLinks, sealed, whole_hole};
+ghost use Rattle.fc_zone.specs.Edits.{CanBeBlank, HasHoleAt, HasRunAt, HasRunToSplit, HasRunsToMerge, IsWritten, KeepsBytes, KeepsOutside, Merges, Relabels, Splits, WritesLinks, sealed, whole_hole};
 ghost use Rattle.fc_zone.specs.Reading.{runs_of};
 ghost use Rattle.fc_zone.specs.Zone.{IsShapeOf, Zone};
 
 use crate::links::{holder_before, hole_from, next_hole, set_link};
 use crate::reading::{end_of, kind_at};
 use crate::{RunKind, ZoneShape};
-use fc_bytes::put_bits;
+use fc_bytes::{are_bytes, put_bits};
 use fc_checks::zone_check;
 
 /// Turns the hole that begins at `start` into a run of an identifier.
 ///
 /// As with the edits below, the sector is one that `check_zone` passes. The links that an edit changes it writes in
-/// full (FreeLink with its top bit, and a hole's link as its whole field); every bit outside FreeLink and the zone's
-/// bits stays, ZoneCheck too, which `seal` writes.
+/// full (FreeLink with its top bit, and a hole's link as its whole field), and every other link keeps all its bits.
+/// Every bit outside FreeLink and the zone's bits stays, ZoneCheck too, which `seal` writes.
 pub fn label(b: &mut [u8], shape: &ZoneShape, start: u32, id: u32)
     requires shape { IsShapeOf b.old shape.now }
     requires hole { HasHoleAt shape.now b.old start }
@@ -27,7 +27,9 @@ pub fn label(b: &mut [u8], shape: &ZoneShape, start: u32, id: u32)
     ensures runs { Relabels shape.now b.old b.new start (RunKind.Id id) }
     ensures links { WritesLinks shape.now (bits b.old) (bits b.new) (runs_of shape.now b.old) (runs_of shape.now b.new) }
     ensures outside { KeepsOutside shape.now b.old b.new }
+    ensures bytes { KeepsBytes shape.now b.old b.new }
 {
+    are_bytes(b);
     let holder = holder_before(b, shape, start);
     let next = next_hole(b, shape, start);
     set_link(b, shape, holder, next);
@@ -41,7 +43,9 @@ pub fn release(b: &mut [u8], shape: &ZoneShape, start: u32)
     ensures runs { Relabels shape.now b.old b.new start RunKind.Hole }
     ensures links { WritesLinks shape.now (bits b.old) (bits b.new) (runs_of shape.now b.old) (runs_of shape.now b.new) }
     ensures outside { KeepsOutside shape.now b.old b.new }
+    ensures bytes { KeepsBytes shape.now b.old b.new }
 {
+    are_bytes(b);
     let holder = holder_before(b, shape, start);
     let next = hole_from(b, shape, holder);
     if next == Some(start) {
@@ -59,7 +63,9 @@ pub fn split(b: &mut [u8], shape: &ZoneShape, start: u32, len: u32)
     ensures runs { Splits shape.now b.old b.new start len }
     ensures links { WritesLinks shape.now (bits b.old) (bits b.new) (runs_of shape.now b.old) (runs_of shape.now b.new) }
     ensures outside { KeepsOutside shape.now b.old b.new }
+    ensures bytes { KeepsBytes shape.now b.old b.new }
 {
+    are_bytes(b);
     let middle = start + len;
     let kind = kind_at(b, shape, start);
     put_bits(b, middle - 1, 1, 1);
@@ -80,7 +86,9 @@ pub fn merge(b: &mut [u8], shape: &ZoneShape, start: u32)
     ensures runs { Merges shape.now b.old b.new start }
     ensures links { WritesLinks shape.now (bits b.old) (bits b.new) (runs_of shape.now b.old) (runs_of shape.now b.new) }
     ensures outside { KeepsOutside shape.now b.old b.new }
+    ensures bytes { KeepsBytes shape.now b.old b.new }
 {
+    are_bytes(b);
     let middle = end_of(b, shape, start);
     if let RunKind::Hole = kind_at(b, shape, start) {
         let next = next_hole(b, shape, middle);

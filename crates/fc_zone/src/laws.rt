@@ -6,10 +6,10 @@ ghost use Rattle.fc_zone.specs.declared.Run.{Run};
 ghost use Rattle.fc_zone.specs.declared.RunKind.{RunKind};
 ghost use Rattle.fc_zone.specs.declared.ZoneFault.{ZoneFault};
 ghost use Rattle.fc_zone.specs.declared.ZoneShape.{ZoneShape};
-ghost use Rattle.fc_zone.specs.Edits.{HasHoleAt, HasRunToSplit, IsWritten, Merges, Relabels, Splits, WritesLinks, labelled, merged_at, split_at};
+ghost use Rattle.fc_zone.specs.Edits.{HasHoleAt, HasRunToSplit, IsWritten, KeepsLinks, Merges, Relabels, Splits, WritesLinks};
 ghost use Rattle.fc_zone.specs.Laws.{IsAgain, LeavesRest};
 ghost use Rattle.fc_zone.specs.Reading.{runs_of, zone_of};
-ghost use Rattle.fc_zone.specs.Zone.{IsFault, IsShapeOf, Zone};
+ghost use Rattle.fc_zone.specs.Zone.{IsFault, IsShapeOf, IsZone, Zone};
 
 /// The function that reads a zone, and what its bits spell and its chain names, say the same.
 pub fn reading_agrees()
@@ -28,20 +28,22 @@ pub fn one_spelling()
         → (k : ℕ) → shape.first ≤ k → k < shape.end → slice_index (bits s) k ≡ slice_index (bits t) k }
 {}
 
-/// An edit keeps links that were written in full so.
+/// Edits keep links that were written in full so.
 pub fn stays_written()
-    ensures { (shape : ZoneShape) (old new : List ℕ) (before after : List Run) → WritesLinks shape (bits old) (bits new) before after
+    ensures { (shape : ZoneShape) (old new : List ℕ) (before after : List Run) → KeepsLinks shape (bits old) (bits new) before after
         → IsWritten shape (bits old) before → IsWritten shape (bits new) after }
 {}
 
-/// The edits as functions of the list of runs.
-pub fn edits_of_lists()
-    ensures label { (shape : ZoneShape) (sector : List ℕ) (front rest : List Run) (run : Run) (kind : RunKind) → Zone shape sector (front ++ run ∷ rest)
-        → labelled run.start kind (front ++ run ∷ rest) ≡ front ++ record run { kind = kind } ∷ rest }
-    ensures split { (shape : ZoneShape) (sector : List ℕ) (front rest : List Run) (run : Run) (len : ℕ) → Zone shape sector (front ++ run ∷ rest)
-        → split_at run.start len (front ++ run ∷ rest) ≡ front ++ record run { len = len } ∷ record run { start = run.start + len; len = run.len - len } ∷ rest }
-    ensures merge { (shape : ZoneShape) (sector : List ℕ) (front rest : List Run) (one two : Run) → Zone shape sector (front ++ one ∷ two ∷ rest)
-        → merged_at one.start (front ++ one ∷ two ∷ rest) ≡ front ++ record one { len = one.len + two.len } ∷ rest }
+/// What is left of the links after edits, one after another.
+pub fn links_kept()
+    ensures one { (shape : ZoneShape) (old new : List ℕ) (before after : List Run) → WritesLinks shape old new before after → KeepsLinks shape old new before after }
+    ensures many { (shape : ZoneShape) (a b c : List ℕ) (before between after : List Run) → KeepsLinks shape a b before between → KeepsLinks shape b c between after → KeepsLinks shape a c before after }
+{}
+
+/// An edit has one result: the sector before it and the runs after it fix every bit.
+pub fn one_result()
+    ensures { (shape : ZoneShape) (s t u : List ℕ) → 32 ≤ shape.first → runs_of shape t ≡ runs_of shape u → IsZone shape t → IsZone shape u
+        → LeavesRest shape s t → LeavesRest shape s u → bits t ≡ bits u }
 {}
 
 /// `split` and then `merge` give the runs back, and the very sector where its links were written in full.

@@ -3,6 +3,7 @@
 ghost use Rattle.std.specs.Prelude.{◌≡◌, ◌+◌, ◌-◌, ◌*◌, ◌^◌, ◌<◌, ◌≤◌, ◌↔◌, ◌++◌, ◌∷◌, ℕ, List, length, slice_get, IfSome, IfNone, IsOk, IfErr, OnOk, MatchResult, IsTrue};
 ghost use Rattle.fc_bytes.specs.Bits.{bits};
 ghost use Rattle.fc_zone.specs.Cursor.{HasLeft};
+ghost use Rattle.fc_zone.specs.Edits.{HasRunAt};
 ghost use Rattle.fc_zone.specs.Reading.{run_of, runs_of, zone_of};
 ghost use Rattle.fc_zone.specs.Zone.{HasRun, IsFault, IsOnSector, IsRun, IsShapeOf, IsZone, Zone, field_at};
 
@@ -127,6 +128,18 @@ pub fn kind_at(b: &[u8], shape: &ZoneShape, at: u32) -> RunKind
     } else {
         RunKind::Id(get_bits(b, at, u32::from(shape.idlen)))
     }
+}
+
+/// The run that begins at `start`, where one does. The chain of holes is followed up to it; no other run is read.
+pub fn run_beginning(b: &[u8], shape: &ZoneShape, start: u32) -> Run
+    requires shape { IsShapeOf b.now shape.now }
+    requires run { HasRunAt shape.now b.now start }
+    ensures value { (front rest : List Run) (run : Run) → Zone shape.now b.now (front ++ run ∷ rest) → run.start ≡ start → result ≡ run }
+    ensures run { HasRun shape.now b.now result }
+{
+    let len = end_of(b, shape, start) - start;
+    let kind = kind_at(b, shape, start);
+    Run { start, len, kind }
 }
 
 /// The first run of a zone that `check_zone` passes, and `None` where the zone has no bits.

@@ -8,6 +8,7 @@ use Rattle.fc_zone.proofs.HolderLemmas.{hole_iff_named}
 use Rattle.fc_zone.proofs.EditLemmas.{run_place, hole_after_hole, IfSome-map, label_zone, outside_link, outside_field}
 use Rattle.fc_zone.proofs.ReadingLemmas.{runs_of_zone}
 use Rattle.fc_zone.proofs.WrittenLemmas.{label_links}
+use Rattle.fc_zone.proofs.WrittenLemmas.{kept_bytes}
 use Rattle.fc_zone.proofs.edits.label.Goals as goal
 
 pub holder_before-holder-requires-clause-from_first : goal.holder_before-holder-requires-clause-from_first
@@ -93,5 +94,9 @@ returns-clause-links c =
     let same = rw holder at c.set_link.ensures.same in
     let again = SameOutside-field (bits t) (bits u) c.args.start shape.idlen c.args.id written room in
     let small = rw holder at c.set_link.ensures.written in
+    let names = rw holder at (c.set_link.ensures.names ∙ c.next_hole-next.ensures) in
     rw (runs_of_zone shape s (front ++ run ∷ rest) zone, runs_of_zone shape c.put_bits.new.b _ (returns-clause-runs c front rest run zone start))
-    (label_links shape (omega arith) s t u one two front rest run zone c.args.id hole same small (rw start again))
+    (label_links shape (omega arith) s t u one two front rest run zone c.args.id hole same small (rw start names) (rw start again))
+
+pub returns-clause-bytes : goal.returns-clause-bytes
+returns-clause-bytes c = kept_bytes c.args.shape.now c.args.b.now c.put_bits.new.b c.are_bytes.ensures (λ i. omega (arith, c.type_inv.b i)) (omega arith) (returns-clause-outside c)

@@ -10,6 +10,7 @@ use Rattle.fc_zone.proofs.CutLemmas.{merge_fits, next_of_pair, merge_id, merge_h
 use Rattle.fc_zone.proofs.UniqueLemmas.{same_cut}
 use Rattle.fc_zone.proofs.ReadingLemmas.{runs_of_zone}
 use Rattle.fc_zone.proofs.WrittenLemmas.{merge_id_links, merge_hole_links}
+use Rattle.fc_zone.proofs.WrittenLemmas.{kept_bytes}
 use Rattle.fc_zone.proofs.edits.merge.Goals as goal
 use Rattle.fc_zone.proofs.edits.merge.Goals.{in-Hole, in_default}
 
@@ -140,7 +141,8 @@ returns-clause-links c =
           let kind : one.kind ≡ Hole = sym (c.kind_at.ensures front (two ∷ rest) one zone start) ∙ w.in-Hole.is in
           let same_b = rw (← w.b-is) at w.set_link.ensures.same in
           let small_b = rw (← w.b-is) at w.set_link.ensures.written in
-          merge_hole_links shape (omega arith) s front rest one two zone b u size again kind (sym kinds ∙ kind) (rw start same_b) (rw start small_b) (rw start same))
+          let names_b = rw (← w.b-is) at (w.set_link.ensures.names ∙ (rw middle at w.next_hole-next.ensures)) in
+          merge_hole_links shape (omega arith) s front rest one two zone b u size again kind (sym kinds ∙ kind) (rw start same_b) (rw start small_b) (rw start names_b) (rw start same))
       | in_default w ↦ (
           let other : one.kind ≡ Hole → ⊥ = λ e. w.in_default.not-Hole (c.kind_at.ensures front (two ∷ rest) one zone start ∙ e) in
           let id = id_of one.kind other in
@@ -148,3 +150,6 @@ returns-clause-links c =
           let size_s = rw w.b-is at again in
           merge_id_links shape (omega arith) s front rest one two zone u id.0 size_s id.1 (sym kinds ∙ id.1) (rw start same_s))
     ])
+
+pub returns-clause-bytes : goal.returns-clause-bytes
+returns-clause-bytes c = kept_bytes c.args.shape.now c.args.b.now c.put_bits.new.b c.are_bytes.ensures (λ i. omega (arith, c.type_inv.b i)) (omega arith) (returns-clause-outside c)

@@ -9,6 +9,7 @@ use Rattle.fc_zone.proofs.EditLemmas.{run_place, hole_from_run, IfSome-known, re
 use Rattle.fc_zone.specs.Reading.{runs_of}
 use Rattle.fc_zone.proofs.ReadingLemmas.{runs_of_zone}
 use Rattle.fc_zone.proofs.WrittenLemmas.{nothing_written, release_links}
+use Rattle.fc_zone.proofs.WrittenLemmas.{kept_bytes}
 use Rattle.fc_zone.proofs.edits.release.Goals as goal
 
 pub holder_before-holder-requires-clause-from_first : goal.holder_before-holder-requires-clause-from_first
@@ -100,5 +101,9 @@ returns-clause-links c =
     let two : length (bits t) ≡ length (bits u) = omega (arith, length-bits t, length-bits u, c.set_link-2.auto.b) in
     let again = rw holder at c.set_link-2.ensures.same in
     let small = rw holder at c.set_link-2.ensures.written in
+    let names = rw holder at c.set_link-2.ensures.names in
     rw (runs_of_zone shape s (front ++ run ∷ rest) zone, runs_of_zone shape c.set_link-2.new.b _ (returns-clause-runs c front rest run zone start))
-    (release_links shape (omega arith) s t u one two front rest run zone other (rw start c.set_link.ensures.same) (rw start c.set_link.ensures.written) again small)
+    (release_links shape (omega arith) s t u one two front rest run zone other (rw start c.set_link.ensures.same) (rw start c.set_link.ensures.written) again small (names ∙ ap Some (sym start)))
+
+pub returns-clause-bytes : goal.returns-clause-bytes
+returns-clause-bytes c = kept_bytes c.args.shape.now c.args.b.now c.set_link-2.new.b c.are_bytes.ensures (λ i. omega (arith, c.type_inv.b i)) (omega arith) (returns-clause-outside c)

@@ -8,6 +8,7 @@ use Rattle.fc_zone.proofs.EditLemmas.{hole_after_hole, IfSome-map, outside_field
 use Rattle.fc_zone.proofs.CutLemmas.{split_fits, split_id, split_hole, named_kept, can_split_it, id_below}
 use Rattle.fc_zone.proofs.ReadingLemmas.{runs_of_zone}
 use Rattle.fc_zone.proofs.WrittenLemmas.{split_id_links, split_hole_links}
+use Rattle.fc_zone.proofs.WrittenLemmas.{kept_bytes}
 use Rattle.fc_zone.proofs.edits.split.Goals as goal
 
 pub overflow_add-middle : goal.overflow_add-middle
@@ -178,7 +179,7 @@ returns-in-Hole-clause-links c =
     rw (runs_of_zone shape s (front ++ run ∷ rest) zone, runs_of_zone shape v _ (returns-in-Hole-clause-runs c front rest run zone start))
     (rw (← start)
     (split_hole_links shape (omega arith) s front rest run zone len (omega arith) can t u v one two three kind
-    (rw start same) (rw start c.set_link.ensures.same) (rw start c.set_link.ensures.written) (rw start c.set_link-in-Hole.ensures.same) (rw start c.set_link-in-Hole.ensures.written)))
+    (rw start same) (rw start c.set_link.ensures.same) (rw start c.set_link.ensures.written) (rw start c.set_link-in-Hole.ensures.same) (rw start c.set_link-in-Hole.ensures.written) (rw start c.set_link-in-Hole.ensures.names)))
 
 pub returns-in-Id-clause-links : goal.returns-in-Id-clause-links
 returns-in-Id-clause-links c =
@@ -207,3 +208,9 @@ returns-in-Id-clause-links c =
     rw (runs_of_zone shape s (front ++ run ∷ rest) zone, runs_of_zone shape u _ (returns-in-Id-clause-runs c front rest run zone start))
     (rw (← start)
     (split_id_links shape (omega arith) s front rest run zone len (omega arith) can t u c.in-Id.id one two kind (rw start same) (rw start again)))
+
+pub returns-in-Hole-clause-bytes : goal.returns-in-Hole-clause-bytes
+returns-in-Hole-clause-bytes c = kept_bytes c.args.shape.now c.args.b.now c.set_link-in-Hole.new.b c.are_bytes.ensures (λ i. omega (arith, c.type_inv.b i)) (omega arith) (returns-in-Hole-clause-outside c)
+
+pub returns-in-Id-clause-bytes : goal.returns-in-Id-clause-bytes
+returns-in-Id-clause-bytes c = kept_bytes c.args.shape.now c.args.b.now c.put_bits-in-Id.new.b c.are_bytes.ensures (λ i. omega (arith, c.type_inv.b i)) (omega arith) (returns-in-Id-clause-outside c)

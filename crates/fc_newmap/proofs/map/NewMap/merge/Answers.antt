@@ -1,9 +1,8 @@
 use Rattle.std.proofs.Common.{subst, sym, refl}
 use Rattle.fc_zone.specs.declared.ZoneShape.{ZoneShape}
-use Rattle.fc_zone.specs.Edits.{HasRunsToMerge, Merges, merged_at}
-use Rattle.fc_zone.specs.Laws.{LeavesRest}
+use Rattle.fc_zone.specs.Edits.{HasRunsToMerge}
 use Rattle.fc_zone.specs.Zone.{IsShapeOf}
-use Rattle.fc_newmap.proofs.EditLemmas.{Writes, held_by, lent, lifted, listed, lowered, new_items, merged_list, merged_zone, written_in}
+use Rattle.fc_newmap.proofs.EditLemmas.{Writes, edit_of, held_by, lent, links_of, lowered, merged_zone, merges, new_items, written_in}
 use Rattle.fc_newmap.proofs.map.NewMap.merge.Goals as goal
 use Rattle.fc_newmap.proofs.map.NewMap.merge.Goals.{After-deref_mut, After-merge}
 
@@ -32,20 +31,15 @@ invariant_of-self c =
 pub returns-clause-runs : goal.returns-clause-runs
 returns-clause-runs c =
     let w = after (goal.at.returns-clause-runs c).After-merge in
-    lifted c.self.inside.geometry c.args.self.now c.args.z (lent c.self.inside.geometry c.place_of-from.result c.deref_mut.result.now) c.merge.new.b (new_items c.self.inside.geometry c.self.inside.zones c.deref_mut.result.now c.merge.new.b c.place_of-from.result) c.shape_of-shape.result w c.shape_of-shape.ensures.value (λ k a b. Merges k a b c.args.start) c.merge.ensures.runs
+    merges c.self.inside.geometry c.args.self.now c.args.z (lent c.self.inside.geometry c.place_of-from.result c.deref_mut.result.now) c.merge.new.b (new_items c.self.inside.geometry c.self.inside.zones c.deref_mut.result.now c.merge.new.b c.place_of-from.result) c.shape_of-shape.result w c.shape_of-shape.ensures.value c.args.start c.merge.ensures.runs
 
-pub returns-clause-list : goal.returns-clause-list
-returns-clause-list c =
-    let w = after (goal.at.returns-clause-list c).After-merge in
+pub returns-clause-links : goal.returns-clause-links
+returns-clause-links c =
+    let w = after (goal.at.returns-clause-links c).After-merge in
+    links_of c.self.inside.geometry c.args.self.now c.args.z (lent c.self.inside.geometry c.place_of-from.result c.deref_mut.result.now) c.merge.new.b (new_items c.self.inside.geometry c.self.inside.zones c.deref_mut.result.now c.merge.new.b c.place_of-from.result) c.shape_of-shape.result w c.shape_of-shape.ensures.value c.merge.ensures.links
+
+pub returns-clause-edit : goal.returns-clause-edit
+returns-clause-edit c =
+    let w = after (goal.at.returns-clause-edit c).After-merge in
     let req = lowered c.self.inside.geometry c.args.self.now c.args.z (lent c.self.inside.geometry c.place_of-from.result c.deref_mut.result.now) c.merge.new.b (new_items c.self.inside.geometry c.self.inside.zones c.deref_mut.result.now c.merge.new.b c.place_of-from.result) c.shape_of-shape.result w c.shape_of-shape.ensures.value (λ k t. HasRunsToMerge k t c.args.start) c.requires.runs in
-    listed c.self.inside.geometry c.args.self.now c.args.z (lent c.self.inside.geometry c.place_of-from.result c.deref_mut.result.now) c.merge.new.b (new_items c.self.inside.geometry c.self.inside.zones c.deref_mut.result.now c.merge.new.b c.place_of-from.result) c.shape_of-shape.result w c.shape_of-shape.ensures.value (merged_at c.args.start) (merged_list c.shape_of-shape.result (lent c.self.inside.geometry c.place_of-from.result c.deref_mut.result.now) c.merge.new.b c.args.start req c.merge.ensures.runs)
-
-pub returns-clause-rest : goal.returns-clause-rest
-returns-clause-rest c =
-    let w = after (goal.at.returns-clause-rest c).After-merge in
-    lifted c.self.inside.geometry c.args.self.now c.args.z (lent c.self.inside.geometry c.place_of-from.result c.deref_mut.result.now) c.merge.new.b (new_items c.self.inside.geometry c.self.inside.zones c.deref_mut.result.now c.merge.new.b c.place_of-from.result) c.shape_of-shape.result w c.shape_of-shape.ensures.value LeavesRest (record { size = c.merge.auto.b; links = c.merge.ensures.links; outside = c.merge.ensures.outside })
-
-pub returns-clause-others : goal.returns-clause-others
-returns-clause-others c =
-    let w = after (goal.at.returns-clause-others c).After-merge in
-    w.others
+    edit_of c.self.inside.geometry c.args.self.now c.args.z (lent c.self.inside.geometry c.place_of-from.result c.deref_mut.result.now) c.merge.new.b (new_items c.self.inside.geometry c.self.inside.zones c.deref_mut.result.now c.merge.new.b c.place_of-from.result) c.shape_of-shape.result w c.shape_of-shape.ensures.value (merged_zone c.shape_of-shape.result (lent c.self.inside.geometry c.place_of-from.result c.deref_mut.result.now) c.merge.new.b c.args.start req c.merge.ensures.runs) c.merge.ensures.links c.merge.ensures.outside c.merge.ensures.bytes

@@ -1,10 +1,9 @@
 use Rattle.std.proofs.Common.{subst, sym, refl}
 use Rattle.fc_zone.specs.declared.ZoneShape.{ZoneShape}
 use Rattle.fc_zone.specs.declared.RunKind.TheVariants.{Hole}
-use Rattle.fc_zone.specs.Edits.{HasRunAt, Relabels, labelled}
-use Rattle.fc_zone.specs.Laws.{LeavesRest}
+use Rattle.fc_zone.specs.Edits.{HasRunAt}
 use Rattle.fc_zone.specs.Zone.{IsShapeOf}
-use Rattle.fc_newmap.proofs.EditLemmas.{Writes, held_by, lent, lifted, listed, lowered, new_items, relabelled, relabelled_list, written_in}
+use Rattle.fc_newmap.proofs.EditLemmas.{Writes, edit_of, held_by, lent, links_of, lowered, new_items, relabelled, relabels, written_in}
 use Rattle.fc_newmap.proofs.map.NewMap.release.Goals as goal
 use Rattle.fc_newmap.proofs.map.NewMap.release.Goals.{After-deref_mut, After-release}
 
@@ -33,20 +32,15 @@ invariant_of-self c =
 pub returns-clause-runs : goal.returns-clause-runs
 returns-clause-runs c =
     let w = after (goal.at.returns-clause-runs c).After-release in
-    lifted c.self.inside.geometry c.args.self.now c.args.z (lent c.self.inside.geometry c.place_of-from.result c.deref_mut.result.now) c.release.new.b (new_items c.self.inside.geometry c.self.inside.zones c.deref_mut.result.now c.release.new.b c.place_of-from.result) c.shape_of-shape.result w c.shape_of-shape.ensures.value (λ k a b. Relabels k a b c.args.start Hole) c.release.ensures.runs
+    relabels c.self.inside.geometry c.args.self.now c.args.z (lent c.self.inside.geometry c.place_of-from.result c.deref_mut.result.now) c.release.new.b (new_items c.self.inside.geometry c.self.inside.zones c.deref_mut.result.now c.release.new.b c.place_of-from.result) c.shape_of-shape.result w c.shape_of-shape.ensures.value c.args.start Hole c.release.ensures.runs
 
-pub returns-clause-list : goal.returns-clause-list
-returns-clause-list c =
-    let w = after (goal.at.returns-clause-list c).After-release in
+pub returns-clause-links : goal.returns-clause-links
+returns-clause-links c =
+    let w = after (goal.at.returns-clause-links c).After-release in
+    links_of c.self.inside.geometry c.args.self.now c.args.z (lent c.self.inside.geometry c.place_of-from.result c.deref_mut.result.now) c.release.new.b (new_items c.self.inside.geometry c.self.inside.zones c.deref_mut.result.now c.release.new.b c.place_of-from.result) c.shape_of-shape.result w c.shape_of-shape.ensures.value c.release.ensures.links
+
+pub returns-clause-edit : goal.returns-clause-edit
+returns-clause-edit c =
+    let w = after (goal.at.returns-clause-edit c).After-release in
     let req = lowered c.self.inside.geometry c.args.self.now c.args.z (lent c.self.inside.geometry c.place_of-from.result c.deref_mut.result.now) c.release.new.b (new_items c.self.inside.geometry c.self.inside.zones c.deref_mut.result.now c.release.new.b c.place_of-from.result) c.shape_of-shape.result w c.shape_of-shape.ensures.value (λ k t. HasRunAt k t c.args.start) c.requires.run in
-    listed c.self.inside.geometry c.args.self.now c.args.z (lent c.self.inside.geometry c.place_of-from.result c.deref_mut.result.now) c.release.new.b (new_items c.self.inside.geometry c.self.inside.zones c.deref_mut.result.now c.release.new.b c.place_of-from.result) c.shape_of-shape.result w c.shape_of-shape.ensures.value (labelled c.args.start Hole) (relabelled_list c.shape_of-shape.result (lent c.self.inside.geometry c.place_of-from.result c.deref_mut.result.now) c.release.new.b c.args.start Hole req c.release.ensures.runs)
-
-pub returns-clause-rest : goal.returns-clause-rest
-returns-clause-rest c =
-    let w = after (goal.at.returns-clause-rest c).After-release in
-    lifted c.self.inside.geometry c.args.self.now c.args.z (lent c.self.inside.geometry c.place_of-from.result c.deref_mut.result.now) c.release.new.b (new_items c.self.inside.geometry c.self.inside.zones c.deref_mut.result.now c.release.new.b c.place_of-from.result) c.shape_of-shape.result w c.shape_of-shape.ensures.value LeavesRest (record { size = c.release.auto.b; links = c.release.ensures.links; outside = c.release.ensures.outside })
-
-pub returns-clause-others : goal.returns-clause-others
-returns-clause-others c =
-    let w = after (goal.at.returns-clause-others c).After-release in
-    w.others
+    edit_of c.self.inside.geometry c.args.self.now c.args.z (lent c.self.inside.geometry c.place_of-from.result c.deref_mut.result.now) c.release.new.b (new_items c.self.inside.geometry c.self.inside.zones c.deref_mut.result.now c.release.new.b c.place_of-from.result) c.shape_of-shape.result w c.shape_of-shape.ensures.value (relabelled c.shape_of-shape.result (lent c.self.inside.geometry c.place_of-from.result c.deref_mut.result.now) c.release.new.b c.args.start Hole req c.release.ensures.runs) c.release.ensures.links c.release.ensures.outside c.release.ensures.bytes

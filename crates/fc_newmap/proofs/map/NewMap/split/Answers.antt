@@ -1,9 +1,8 @@
 use Rattle.std.proofs.Common.{subst, sym, refl}
 use Rattle.fc_zone.specs.declared.ZoneShape.{ZoneShape}
-use Rattle.fc_zone.specs.Edits.{HasRunToSplit, Splits, split_at}
-use Rattle.fc_zone.specs.Laws.{LeavesRest}
+use Rattle.fc_zone.specs.Edits.{HasRunToSplit}
 use Rattle.fc_zone.specs.Zone.{IsShapeOf}
-use Rattle.fc_newmap.proofs.EditLemmas.{Writes, held_by, lent, lifted, listed, lowered, new_items, split_list, split_zone, written_in}
+use Rattle.fc_newmap.proofs.EditLemmas.{Writes, edit_of, held_by, lent, links_of, lowered, new_items, split_zone, splits, written_in}
 use Rattle.fc_newmap.proofs.map.NewMap.split.Goals as goal
 use Rattle.fc_newmap.proofs.map.NewMap.split.Goals.{After-deref_mut, After-split}
 
@@ -32,20 +31,15 @@ invariant_of-self c =
 pub returns-clause-runs : goal.returns-clause-runs
 returns-clause-runs c =
     let w = after (goal.at.returns-clause-runs c).After-split in
-    lifted c.self.inside.geometry c.args.self.now c.args.z (lent c.self.inside.geometry c.place_of-from.result c.deref_mut.result.now) c.split.new.b (new_items c.self.inside.geometry c.self.inside.zones c.deref_mut.result.now c.split.new.b c.place_of-from.result) c.shape_of-shape.result w c.shape_of-shape.ensures.value (λ k a b. Splits k a b c.args.start c.args.len) c.split.ensures.runs
+    splits c.self.inside.geometry c.args.self.now c.args.z (lent c.self.inside.geometry c.place_of-from.result c.deref_mut.result.now) c.split.new.b (new_items c.self.inside.geometry c.self.inside.zones c.deref_mut.result.now c.split.new.b c.place_of-from.result) c.shape_of-shape.result w c.shape_of-shape.ensures.value c.args.start c.args.len c.split.ensures.runs
 
-pub returns-clause-list : goal.returns-clause-list
-returns-clause-list c =
-    let w = after (goal.at.returns-clause-list c).After-split in
+pub returns-clause-links : goal.returns-clause-links
+returns-clause-links c =
+    let w = after (goal.at.returns-clause-links c).After-split in
+    links_of c.self.inside.geometry c.args.self.now c.args.z (lent c.self.inside.geometry c.place_of-from.result c.deref_mut.result.now) c.split.new.b (new_items c.self.inside.geometry c.self.inside.zones c.deref_mut.result.now c.split.new.b c.place_of-from.result) c.shape_of-shape.result w c.shape_of-shape.ensures.value c.split.ensures.links
+
+pub returns-clause-edit : goal.returns-clause-edit
+returns-clause-edit c =
+    let w = after (goal.at.returns-clause-edit c).After-split in
     let req = lowered c.self.inside.geometry c.args.self.now c.args.z (lent c.self.inside.geometry c.place_of-from.result c.deref_mut.result.now) c.split.new.b (new_items c.self.inside.geometry c.self.inside.zones c.deref_mut.result.now c.split.new.b c.place_of-from.result) c.shape_of-shape.result w c.shape_of-shape.ensures.value (λ k t. HasRunToSplit k t c.args.start c.args.len) c.requires.run in
-    listed c.self.inside.geometry c.args.self.now c.args.z (lent c.self.inside.geometry c.place_of-from.result c.deref_mut.result.now) c.split.new.b (new_items c.self.inside.geometry c.self.inside.zones c.deref_mut.result.now c.split.new.b c.place_of-from.result) c.shape_of-shape.result w c.shape_of-shape.ensures.value (split_at c.args.start c.args.len) (split_list c.shape_of-shape.result (lent c.self.inside.geometry c.place_of-from.result c.deref_mut.result.now) c.split.new.b c.args.start c.args.len req c.split.ensures.runs)
-
-pub returns-clause-rest : goal.returns-clause-rest
-returns-clause-rest c =
-    let w = after (goal.at.returns-clause-rest c).After-split in
-    lifted c.self.inside.geometry c.args.self.now c.args.z (lent c.self.inside.geometry c.place_of-from.result c.deref_mut.result.now) c.split.new.b (new_items c.self.inside.geometry c.self.inside.zones c.deref_mut.result.now c.split.new.b c.place_of-from.result) c.shape_of-shape.result w c.shape_of-shape.ensures.value LeavesRest (record { size = c.split.auto.b; links = c.split.ensures.links; outside = c.split.ensures.outside })
-
-pub returns-clause-others : goal.returns-clause-others
-returns-clause-others c =
-    let w = after (goal.at.returns-clause-others c).After-split in
-    w.others
+    edit_of c.self.inside.geometry c.args.self.now c.args.z (lent c.self.inside.geometry c.place_of-from.result c.deref_mut.result.now) c.split.new.b (new_items c.self.inside.geometry c.self.inside.zones c.deref_mut.result.now c.split.new.b c.place_of-from.result) c.shape_of-shape.result w c.shape_of-shape.ensures.value (split_zone c.shape_of-shape.result (lent c.self.inside.geometry c.place_of-from.result c.deref_mut.result.now) c.split.new.b c.args.start c.args.len req c.split.ensures.runs) c.split.ensures.links c.split.ensures.outside c.split.ensures.bytes

@@ -5,8 +5,8 @@ use Rattle.fc_newmap.proofs.HeldLemmas.{geometry_facts}
 use Rattle.fc_newmap.proofs.WalkLemmas.{started}
 use Rattle.fc_newmap.proofs.runs.RunCursor.start.Goals as goal
 
-pub returns : goal.returns
-returns c =
+pub returns-clause-stands : goal.returns-clause-stands
+returns-clause-stands c =
     let m : Map = c.args.map.now in
     let e = c.geometry-g.ensures.value in
     let f = geometry_facts m.geometry c.geometry-g.ensures.map.of_record in
