@@ -1,0 +1,6 @@
+pub mod Plan
+pub mod Supply
+pub mod Taking
+pub mod Giving
+pub mod Laws
+pub mod Applied
