@@ -8,7 +8,7 @@ use Rattle.std.proofs.lemmas.Bool.{cases_eq, cases_lt, eq-eqb, le-ltb, lt-ltb, n
 use Rattle.std.proofs.lemmas.List.{get_or-set_other, get_or-set_same}
 use Rattle.std.proofs.lemmas.Option.{slice_get-get_or}
 use Rattle.std.proofs.lemmas.Grind.{flat_map-append}
-use Rattle.std.proofs.lemmas.Nat.Bits.{bit_at_set_other, bit_at_set_same}
+use Rattle.std.proofs.lemmas.Nat.Bits.{bit_at_ones, bit_at_set_other, bit_at_set_same}
 use Rattle.fc_device.specs.declared.disk.Extent.{Extent}
 use Rattle.fc_newmap.proofs.CoverLemmas.{range_cut}
 use Rattle.fc_newmap.proofs.PlaceLemmas.{in_front, in_back, in_either, in_range, range_in}
@@ -118,27 +118,42 @@ taken_more m xs ys zs taken is all s low =
     all s low ∙ among_append xs (ys ++ taken) s ∙ ap (λ (b : Bool). is_among xs s || b) (among_append ys taken s) ∙ or_swap (is_among xs s) (is_among ys s) (is_among taken s)
     ∙ sym (ap (λ (b : Bool). b || is_among taken s) (ap (λ (l : List ℕ). is_among l s) is ∙ among_append ys xs s)) ∙ sym (among_append zs taken s)
 
--- one more sector of a row is marked
-pub row_more : (m m' : Marks) (first at next : ℕ) (taken : List ℕ) → first ≤ at → next ≡ at + 1 → m'.sectors ≡ m.sectors
-    → ((s : ℕ) → has_mark m' s ≡ ((s == at) || has_mark m s))
+-- a word of sectors is marked
+pub word_marked : (words words' : List ℕ) (sectors at : ℕ) → at % 64 ≡ 0 → at + 64 ≤ sectors → sectors ≤ 64 * length words
+    → words' ≡ set words (at / 64) (2 ^ 64 - 1)
+    → (s : ℕ) → has_mark (record { words = words'; sectors = sectors }) s ≡ (is_among (range_with_len at 64) s || has_mark (record { words = words; sectors = sectors }) s)
+word_marked words words' sectors at first low long is s = elim (cases_eq (s / 64) (at / 64)) [
+  | inl here ↦ (
+      let bit : bit_at (get_or words' (s / 64) 0) (s % 64) ≡ 1 =
+      ap (λ (n : ℕ). bit_at (get_or words' n 0) (s % 64)) here
+      ∙ ap (λ (ws : List ℕ). bit_at (get_or ws (at / 64) 0) (s % 64)) is
+      ∙ ap (λ (n : ℕ). bit_at n (s % 64)) (get_or-set_same words (at / 64) (2 ^ 64 - 1) 0 (let f : at / 64 < length words = omega (arith, low, long) in f))
+      ∙ bit_at_ones 64 (s % 64) (omega arith) in
+      both_true (nat_lt s sectors) (bit_at (get_or words' (s / 64) 0) (s % 64) == 1) (lt-ltb s sectors (omega (arith, here, first, low))) (eq-eqb _ 1 bit)
+      ∙ sym (ap (λ (b : Bool). b || has_mark (record { words = words; sectors = sectors }) s) (in_range at 64 s (omega (arith, here, first)) (omega (arith, here, first)))))
+  | inr there ↦ (
+      let bit : bit_at (get_or words' (s / 64) 0) (s % 64) ≡ bit_at (get_or words (s / 64) 0) (s % 64) =
+      ap (λ (ws : List ℕ). bit_at (get_or ws (s / 64) 0) (s % 64)) is
+      ∙ ap (λ (n : ℕ). bit_at n (s % 64)) (get_or-set_other words (at / 64) (s / 64) (2 ^ 64 - 1) 0 there) in
+      ap (λ (n : ℕ). nat_lt s sectors && (n == 1)) bit
+      ∙ sym (ap (λ (b : Bool). b || has_mark (record { words = words; sectors = sectors }) s) (outside there (is_among (range_with_len at 64) s) refl)))
+]
+  where
+    outside : (s / 64 ≡ at / 64 → ⊥) → (b : Bool) → is_among (range_with_len at 64) s ≡ b → is_among (range_with_len at 64) s ≡ false
+    outside there false e = e
+    outside there true e = absurd (let r = range_in at 64 s e in there (omega (arith, r.0, r.1, first)))
+
+-- more sectors of a row are marked
+pub row_more : (m m' : Marks) (first at next : ℕ) (taken : List ℕ) → first ≤ at → at ≤ next → m'.sectors ≡ m.sectors
+    → ((s : ℕ) → has_mark m' s ≡ (is_among (range_with_len at (next - at)) s || has_mark m s))
     → AreTaken m (range_with_len first (at - first) ++ taken) → AreTaken m' (range_with_len first (next - first) ++ taken)
 row_more m m' first at next taken from on same marks all =
-    let row : range_with_len first (next - first) ≡ range_with_len first (at - first) ++ (at ∷ []) =
-    ap (range_with_len first) (let e : next - first ≡ (at - first) + 1 = omega (arith, from, on) in e) ∙ range_cut first (at - first) 1
-    ∙ ap (λ (n : ℕ). range_with_len first (at - first) ++ (n ∷ [])) (let e : first + (at - first) ≡ at = omega (arith, from) in e) in
-    taken_more m' (at ∷ []) (range_with_len first (at - first)) (range_with_len first (next - first)) taken row
-    (λ s low. marks s ∙ ap₂ (λ (b c : Bool). b || c) (eqb_swap s at ∙ or_false (at == s)) (all s (subst (λ (n : ℕ). s < n) same low))
-    ∙ sym (among_append (at ∷ []) (range_with_len first (at - first) ++ taken) s))
-  where
-    eqb_swap : (a b : ℕ) → (a == b) ≡ (b == a)
-    eqb_swap a b = elim (cases_eq a b) [
-      | inl e ↦ eq-eqb a b e ∙ sym (eq-eqb b a (sym e))
-      | inr n ↦ ne_eqb a b n ∙ sym (ne_eqb b a (λ e. n (sym e)))
-    ]
-
-    or_false : (b : Bool) → b ≡ (b || false)
-    or_false true = refl
-    or_false false = refl
+    let row : range_with_len first (next - first) ≡ range_with_len first (at - first) ++ range_with_len at (next - at) =
+    ap (range_with_len first) (let e : next - first ≡ (at - first) + (next - at) = omega (arith, from, on) in e) ∙ range_cut first (at - first) (next - at)
+    ∙ ap (λ (n : ℕ). range_with_len first (at - first) ++ range_with_len n (next - at)) (let e : first + (at - first) ≡ at = omega (arith, from) in e) in
+    taken_more m' (range_with_len at (next - at)) (range_with_len first (at - first)) (range_with_len first (next - first)) taken row
+    (λ s low. marks s ∙ ap (λ (b : Bool). is_among (range_with_len at (next - at)) s || b) (all s (subst (λ (n : ℕ). s < n) same low))
+    ∙ sym (among_append (range_with_len at (next - at)) (range_with_len first (at - first) ++ taken) s))
 
 -- a row that ends with the disc
 pub row_ends : (m : Marks) (first at n : ℕ) (taken : List ℕ) → first ≤ at → ((s : ℕ) → s < m.sectors → first ≤ s → (s < at ↔ s < first + n))

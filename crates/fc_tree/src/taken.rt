@@ -1,5 +1,7 @@
 // Which sectors of a disc are taken.
-ghost use Rattle.std.specs.Prelude.{◌≡◌, ◌<◌, ◌≤◌, ◌↔◌, ◌+◌, ◌||◌, ◌==◌, true, [], ◌++◌, List, ℕ, IfOk};
+ghost use Rattle.std.specs.Prelude.{◌≡◌, ◌<◌, ◌≤◌, ◌↔◌, ◌+◌, ◌-◌, ◌%◌, ◌||◌, ◌==◌, false, true, [], ◌++◌, List, ℕ, IfOk};
+ghost use Rattle.std.specs.List.{range_with_len};
+ghost use Rattle.fc_image.specs.Layout.{is_among};
 ghost use Rattle.fc_objects.specs.Extents.{extent_sectors, sectors_in};
 ghost use Rattle.fc_tree.specs.Taken.{AreTaken, has_mark, is_free};
 
@@ -26,6 +28,14 @@ impl Model for Taken {
     ghost invariant = { λ t. t.sectors ≤ 64 * length t.words.items };
 }
 
+// Whether a word of marks begins at a sector, and the sectors before `end` fill it.
+fn fills_word(sector: u64, end: u64) -> bool
+    requires { sector < end }
+    ensures { result ≡ true → (sector % 64 ≡ 0) × (sector + 64 ≤ end) }
+{
+    sector.is_multiple_of(64) && end - sector >= 64
+}
+
 impl Taken {
     /// No sector of a disc of so many is taken.
     pub fn new(alloc: Global, sectors: u64) -> Result<Taken, NoMemory>
@@ -50,7 +60,17 @@ impl Taken {
         self.words[(sector / 64) as usize] |= 1 << (sector % 64);
     }
 
-    // The sectors of the disc behind the last of an extent's, if those are on the disc.
+    // Takes the 64 sectors of a word.
+    fn mark_word(&mut self, sector: u64)
+        requires first { sector % 64 ≡ 0 }
+        requires on_disc { sector + 64 ≤ self.old.sectors }
+        ensures sectors { self.new.sectors ≡ self.old.sectors }
+        ensures marks { (s : ℕ) → has_mark self.new s ≡ (is_among (range_with_len sector 64) s || has_mark self.old s) }
+    {
+        self.words[(sector / 64) as usize] = u64::MAX;
+    }
+
+    // The sectors of the disc after the last of an extent's, if those are on the disc.
     fn end_of(&self, extent: &Extent) -> u64
         ensures disc { result ≤ self.now.sectors }
         ensures last { (s : ℕ) → s < self.now.sectors → extent.now.first ≤ s → (s < result ↔ s < extent.now.first + extent.now.sectors) }
@@ -61,14 +81,56 @@ impl Taken {
             .min(self.sectors)
     }
 
+    // Up to which sector, of those before `end`, none from `sector` on is seen to be taken by one look: a whole word of
+    // them, one of them, or none.
+    fn free_to(&self, sector: u64, end: u64) -> u64
+        requires on_disc { end ≤ self.now.sectors }
+        requires some { sector < end }
+        ensures from { sector ≤ result }
+        ensures end { result ≤ end }
+        ensures free { (s : ℕ) → sector ≤ s → s < result → has_mark self.now s ≡ false }
+        ensures taken { result ≡ sector → has_mark self.now sector ≡ true }
+    {
+        if fills_word(sector, end) && self.words[(sector / 64) as usize] == 0 {
+            sector + 64
+        } else if self.has(sector) {
+            sector
+        } else {
+            sector + 1
+        }
+    }
+
+    // Takes a whole word of sectors where those from `sector` to `end` fill one, or else one sector. Answers the sector after
+    // them.
+    fn mark_to(&mut self, sector: u64, end: u64) -> u64
+        requires on_disc { end ≤ self.old.sectors }
+        requires some { sector < end }
+        ensures from { sector < result }
+        ensures end { result ≤ end }
+        ensures sectors { self.new.sectors ≡ self.old.sectors }
+        ensures marks { (s : ℕ) → has_mark self.new s ≡ (is_among (range_with_len sector (result - sector)) s || has_mark self.old s) }
+    {
+        if fills_word(sector, end) {
+            self.mark_word(sector);
+            sector + 64
+        } else {
+            self.mark(sector);
+            sector + 1
+        }
+    }
+
     // Whether none of an extent's sectors is taken.
     fn is_free(&self, extent: &Extent) -> bool
         ensures { result ≡ is_free self.now (extent_sectors extent.now) }
     {
-        for sector in extent.first..self.end_of(extent) {
-            if self.has(sector) {
+        let end = self.end_of(extent);
+        let mut sector = extent.first;
+        while sector < end {
+            let next = self.free_to(sector, end);
+            if next == sector {
                 return false;
             }
+            sector = next;
         }
         true
     }
@@ -90,8 +152,10 @@ impl Taken {
         ensures sectors { self.new.sectors ≡ self.old.sectors }
         ensures taken { (taken : List ℕ) → AreTaken self.old taken → AreTaken self.new (extent_sectors extent.now ++ taken) }
     {
-        for sector in extent.first..self.end_of(extent) {
-            self.mark(sector);
+        let end = self.end_of(extent);
+        let mut sector = extent.first;
+        while sector < end {
+            sector = self.mark_to(sector, end);
         }
     }
 
