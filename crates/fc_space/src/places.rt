@@ -14,35 +14,42 @@ use fc_names::NameForm;
 use std::alloc::Global;
 use std::marker::Model;
 
-/// A map that stays as it is, with an index of its runs: a new map is walked over twice when it is made, and then each
-/// place costs a search. Contracts see the map.
+/// A map with an index of its runs: a new map is walked over twice when it is made, and then each place costs a search.
+/// Contracts see the map.
 #[derive(Drop)]
-pub struct Places<'a> {
-    space: &'a Space,
+pub struct Places {
+    space: Space,
     rows: Vec<IdRow>,
 }
 
-impl<'a> Model for Places<'a> {
+impl Model for Places {
     ghost use Rattle.fc_space.specs.declared.space.Space.{Space};
     ghost use Rattle.fc_space.specs.Index.{IsIndexOf};
 
     ghost Value = { Space };
 
-    ghost view = { λ p. p.space.now };
+    ghost view = { λ p. p.space };
 
-    ghost invariant = { λ p. IsIndexOf p.space.now p.rows.items };
+    ghost invariant = { λ p. IsIndexOf p.space p.rows.items };
 }
 
-impl<'a> Places<'a> {
+impl Places {
     /// Makes the index of a map.
-    pub fn new(alloc: Global, space: &'a Space) -> Result<Places<'a>, NoMemory>
-        ensures { IfOk result (λ places. places ≡ space.now) }
+    pub fn new(alloc: Global, space: Space) -> Result<Places, NoMemory>
+        ensures { IfOk result (λ places. places ≡ space) }
     {
-        let rows = match space {
+        let rows = match &space {
             Space::OldMapped(_) => Vec::new(alloc),
             Space::NewMapped(map) => index_of(alloc, map)?,
         };
         Ok(Places { space, rows })
+    }
+
+    /// The map.
+    pub fn space(&self) -> &Space
+        ensures { result.now ≡ self.now }
+    {
+        &self.space
     }
 
     /// The bytes of a sector.
@@ -80,7 +87,7 @@ impl<'a> Places<'a> {
         if bytes == 0 {
             return Ok(Vec::new(alloc));
         }
-        match self.space {
+        match &self.space {
             Space::OldMapped(map) => old_place(alloc, map, address, bytes),
             Space::NewMapped(map) => indexed_place(alloc, map, &self.rows, address, bytes),
         }

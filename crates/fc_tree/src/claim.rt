@@ -56,7 +56,7 @@ pub fn object_size(form: NameForm, entry: &Entry) -> u32
 /// Takes the sectors of an object of this entry. Where it has none, or not all are free, none is taken.
 pub fn claim(
     alloc: Global,
-    places: &Places<'_>,
+    places: &Places,
     taken: &mut Taken,
     entry: &Entry,
 ) -> Result<(), Unclaimed>

@@ -44,7 +44,7 @@ pub fn push_node(nodes: &mut Vec<Node>, node: Node) -> Result<(), TreeError>
 // Adds the node of an object that the directory of node `at` holds.
 fn add_child(
     alloc: Global,
-    places: &Places<'_>,
+    places: &Places,
     nodes: &mut Vec<Node>,
     taken: &mut Taken,
     at: usize,
@@ -85,7 +85,7 @@ fn add_child(
 /// Adds the nodes of the objects of these entries, which the directory of node `at` has.
 pub fn add_children(
     alloc: Global,
-    places: &Places<'_>,
+    places: &Places,
     nodes: &mut Vec<Node>,
     taken: &mut Taken,
     at: usize,

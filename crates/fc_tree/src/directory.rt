@@ -78,7 +78,7 @@ fn damage_at(alloc: Global, nodes: &[Node], at: usize, fault: DirFault) -> TreeE
 fn read_directory<D: Disk>(
     alloc: Global,
     disk: &mut D,
-    places: &Places<'_>,
+    places: &Places,
     nodes: &[Node],
     at: usize,
     bytes: &mut Vec<u8>,
@@ -121,7 +121,7 @@ fn read_directory<D: Disk>(
 pub fn visit<D: Disk>(
     alloc: Global,
     disk: &mut D,
-    places: &Places<'_>,
+    places: &Places,
     nodes: &mut Vec<Node>,
     taken: &mut Taken,
     at: usize,

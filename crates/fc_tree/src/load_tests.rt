@@ -10,7 +10,7 @@ use fc_newmap::NewMap;
 use fc_oldmap::OldMap;
 use fc_record::measures::geometry;
 use fc_record::read_record;
-use fc_space::Space;
+use fc_space::{Places, Space};
 use std::alloc::Global;
 use std::test::Fail;
 
@@ -105,14 +105,14 @@ fn holding(alloc: Global, image: Vec<u8>) -> Result<MemoryDisk, Fail> {
 }
 
 // The disc's map.
-fn map() -> Option<Space> {
+fn map(alloc: Global) -> Option<Places> {
     let mut bytes = [0; 512];
     filled(&mut bytes, DISC);
-    Some(Space::OldMapped(OldMap::read(&bytes, 1).ok()?))
+    Places::new(alloc, Space::OldMapped(OldMap::read(&bytes, 1).ok()?)).ok()
 }
 
 // The map of the disc with long names.
-fn long_map(alloc: Global) -> Option<Space> {
+fn long_map(alloc: Global) -> Option<Places> {
     let mut bytes = [0; 1024];
     filled(&mut bytes, LONG_MAP);
     let record = read_record(&bytes[4..64]).ok()?;
@@ -122,14 +122,14 @@ fn long_map(alloc: Global) -> Option<Space> {
     }
     let mut zones = Vec::new(alloc);
     zones.extend_from_slice(&bytes).ok()?;
-    Some(Space::NewMapped(NewMap::load(zones, g).ok()?))
+    Places::new(alloc, Space::NewMapped(NewMap::load(zones, g).ok()?)).ok()
 }
 
 // Walks a disk of sectors of this size, if it may.
 fn walk<D: Disk>(
     alloc: Global,
     disk: &mut D,
-    space: &Space,
+    places: &Places,
     size: u64,
     root: u32,
     root_size: u32,
@@ -137,14 +137,14 @@ fn walk<D: Disk>(
     requires attached { IsTrue (D.attached disk.old) }
     requires size { D.sector_size disk.old ≡ size }
 {
-    if space.sector_bytes() != size || space.disc_sectors() > disk.sectors() {
+    if places.sector_bytes() != size || places.space().disc_sectors() > disk.sectors() {
         return None;
     }
     let reserved = [Extent {
         first: 0,
         sectors: 2,
     }];
-    Some(load(alloc, disk, space, root, root_size, &reserved))
+    Some(load(alloc, disk, places, root, root_size, &reserved))
 }
 
 // Whether a node has this holder and name, and is read as a directory or not.
@@ -202,10 +202,10 @@ fn nodes_are_numbered_as_they_are_found(rt: HostRuntime) -> Result<(), Fail> {
     let mut disk = disk_of(alloc, &[])?;
     let given = disk.attach("disc", None)?;
     assert!(rt; given);
-    let Some(space) = map() else {
+    let Some(places) = map(alloc) else {
         return Err("a map".into());
     };
-    let Some(Ok(tree)) = walk(alloc, &mut disk, &space, 256, 2, 0) else {
+    let Some(Ok(tree)) = walk(alloc, &mut disk, &places, 256, 2, 0) else {
         return Err("a tree".into());
     };
     assert!(rt; tree.bound() == 5);
@@ -243,14 +243,14 @@ const FAULTS: &[Row] = &[
 #[test]
 fn faults_have_their_paths(rt: HostRuntime) -> Result<(), Fail> {
     let alloc = rt.alloc();
-    let Some(space) = map() else {
+    let Some(places) = map(alloc) else {
         return Err("a map".into());
     };
     for (i, (parts, root, word, names)) in FAULTS.iter().enumerate() {
         let mut disk = disk_of(alloc, parts)?;
         let given = disk.attach("disc", None)?;
         assert!(rt; given);
-        match walk(alloc, &mut disk, &space, 256, *root, 0) {
+        match walk(alloc, &mut disk, &places, 256, *root, 0) {
             Some(Err(error)) => assert!(rt; word_of(&error, names) == *word, "row {i}"),
             _ => return Err("a fault".into()),
         }
@@ -297,7 +297,7 @@ const SIZES: &[LongRow] = &[
 #[test]
 fn what_is_no_directory_by_its_size_is_not_read(rt: HostRuntime) -> Result<(), Fail> {
     let alloc = rt.alloc();
-    let Some(space) = long_map(alloc) else {
+    let Some(places) = long_map(alloc) else {
         return Err("a map".into());
     };
     for (i, (root_size, parts, word, names, reads)) in SIZES.iter().enumerate() {
@@ -308,7 +308,7 @@ fn what_is_no_directory_by_its_size_is_not_read(rt: HostRuntime) -> Result<(), F
         let given = disk.attach("disc", None)?;
         assert!(rt; given);
         disk.shape(10);
-        match walk(alloc, &mut disk, &space, 1024, 0x301, *root_size) {
+        match walk(alloc, &mut disk, &places, 1024, 0x301, *root_size) {
             Some(Err(error)) => assert!(rt; word_of(&error, names) == *word, "row {i}"),
             _ => return Err("a fault".into()),
         }

@@ -14,7 +14,7 @@ use crate::node::TreeError;
 use crate::tree::Tree;
 use crate::walk::walk_disk;
 use fc_device::{Disk, Extent};
-use fc_space::Space;
+use fc_space::Places;
 use std::alloc::Global;
 
 /// Walks the directories of a disk, the root first and the others in the order in which they are found, and numbers their
@@ -27,21 +27,21 @@ use std::alloc::Global;
 pub fn load<D: Disk>(
     alloc: Global,
     disk: &mut D,
-    space: &Space,
+    places: &Places,
     root: u32,
     root_size: u32,
     reserved: &[Extent],
 ) -> Result<Tree, TreeError>
     requires attached { IsTrue (D.attached disk.old) }
-    requires size { D.sector_size disk.old ≡ sector_bytes (layout_of space.now) }
-    requires room { disc_sectors (layout_of space.now) ≤ D.sectors disk.old }
-    ensures tree { IfOk result (λ tree. IsLoaded (nodes_of tree) (layout_of space.now) (sectors_in reserved.now) root root_size (D.bytes disk.old)) }
+    requires size { D.sector_size disk.old ≡ sector_bytes (layout_of places.now) }
+    requires room { disc_sectors (layout_of places.now) ≤ D.sectors disk.old }
+    ensures tree { IfOk result (λ tree. IsLoaded (nodes_of tree) (layout_of places.now) (sectors_in reserved.now) root root_size (D.bytes disk.old)) }
     ensures fault { ForSome (D.bytes disk.old) (λ image. IfErr result
-        (IsFaultOf (walk (reader_of image (layout_of space.now)) (layout_of space.now) (not_free (layout_of space.now) (sectors_in reserved.now)) root root_size))) }
+        (IsFaultOf (walk (reader_of image (layout_of places.now)) (layout_of places.now) (not_free (layout_of places.now) (sectors_in reserved.now)) root root_size))) }
     ensures reads { OnlyReads D.Disk disk.old disk.new }
     ensures cause { result ≡ Err TreeError.DiskFault → Rose (D.faults disk.old) (D.faults disk.new) }
 {
-    let nodes = walk_disk(alloc, disk, space, root, root_size, reserved)?;
+    let nodes = walk_disk(alloc, disk, places, root, root_size, reserved)?;
     match Tree::from_nodes(alloc, nodes) {
         Ok(tree) => Ok(tree),
         Err(_) => Err(TreeError::NoMemory),

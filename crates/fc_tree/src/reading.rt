@@ -91,7 +91,7 @@ fn read_place<D: Disk>(
 pub fn read_object<D: Disk>(
     alloc: Global,
     disk: &mut D,
-    places: &Places<'_>,
+    places: &Places,
     entry: &Entry,
     into: &mut Vec<u8>,
 ) -> Result<(), ReadError>

@@ -78,7 +78,7 @@ fn root_node(form: NameForm, root: u32, root_size: u32) -> Node
 // Takes the root's sectors.
 fn claim_root(
     alloc: Global,
-    places: &Places<'_>,
+    places: &Places,
     taken: &mut Taken,
     entry: &Entry,
 ) -> Result<(), TreeError>
@@ -127,28 +127,26 @@ fn overlap_at(alloc: Global, nodes: &[Node], at: usize) -> TreeError
 pub fn walk_disk<D: Disk>(
     alloc: Global,
     disk: &mut D,
-    space: &Space,
+    places: &Places,
     root: u32,
     root_size: u32,
     reserved: &[Extent],
 ) -> Result<Vec<Node>, TreeError>
     requires attached { IsTrue (D.attached disk.old) }
-    requires size { D.sector_size disk.old ≡ sector_bytes (layout_of space.now) }
-    requires room { disc_sectors (layout_of space.now) ≤ D.sectors disk.old }
-    ensures ok { IfOk result (λ nodes. IsFound (layout_of space.now) (not_free (layout_of space.now) (sectors_in reserved.now)) root root_size (D.bytes disk.old) nodes.items) }
+    requires size { D.sector_size disk.old ≡ sector_bytes (layout_of places.now) }
+    requires room { disc_sectors (layout_of places.now) ≤ D.sectors disk.old }
+    ensures ok { IfOk result (λ nodes. IsFound (layout_of places.now) (not_free (layout_of places.now) (sectors_in reserved.now)) root root_size (D.bytes disk.old) nodes.items) }
     ensures err { IfErr result (λ e. ForSome (D.bytes disk.old) (λ image.
-        FailsAs (walk (reader_of image (layout_of space.now)) (layout_of space.now) (not_free (layout_of space.now) (sectors_in reserved.now)) root root_size) e)) }
+        FailsAs (walk (reader_of image (layout_of places.now)) (layout_of places.now) (not_free (layout_of places.now) (sectors_in reserved.now)) root root_size) e)) }
     ensures reads { OnlyReads D.Disk disk.old disk.new }
     ensures cause { result ≡ Err TreeError.DiskFault → Rose (D.faults disk.old) (D.faults disk.new) }
 {
+    let space = places.space();
     let Ok(mut taken) = reserve(alloc, space, reserved) else {
         return Err(TreeError::NoMemory);
     };
-    let Ok(places) = Places::new(alloc, space) else {
-        return Err(TreeError::NoMemory);
-    };
     let node = root_node(space.dir_form(), root, root_size);
-    claim_root(alloc, &places, &mut taken, &node.entry)?;
+    claim_root(alloc, places, &mut taken, &node.entry)?;
     let mut nodes = Vec::new(alloc);
     push_node(&mut nodes, node)?;
     // Each directory takes sectors of its own, so that there are never more.
@@ -160,7 +158,7 @@ pub fn walk_disk<D: Disk>(
             return Err(overlap_at(alloc, &nodes, at));
         }
         left -= 1;
-        visit(alloc, disk, &places, &mut nodes, &mut taken, at, &mut bytes)?;
+        visit(alloc, disk, places, &mut nodes, &mut taken, at, &mut bytes)?;
         from = at + 1;
     }
     Ok(nodes)

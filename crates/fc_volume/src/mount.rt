@@ -24,6 +24,7 @@ use fc_device::Disk;
 use fc_image::ImageFault;
 use fc_record::kinds::kind;
 use fc_record::{Kind, KindError};
+use fc_space::Places;
 use fc_tree::{TreeError, load};
 use std::alloc::Global;
 
@@ -95,24 +96,20 @@ fn volume_of<D: Disk>(
     ensures cause { result ≡ Err MountError.DiskFault → Rose (D.faults disk.old) (D.faults disk.new) }
 {
     fc_image::walking();
-    let rows = reserved_rows(kind, &found.space);
-    let tree = match load(
-        alloc,
-        disk,
-        &found.space,
-        found.root,
-        found.root_size,
-        &rows,
-    ) {
+    let Ok(places) = Places::new(alloc, found.space) else {
+        return Err(MountError::NoMemory);
+    };
+    let rows = reserved_rows(kind, places.space());
+    let tree = match load(alloc, disk, &places, found.root, found.root_size, &rows) {
         Ok(tree) => tree,
         Err(error) => return Err(mount_error(error)),
     };
-    let Ok(owners) = owners_of(alloc, &tree, &found.space) else {
+    let Ok(owners) = owners_of(alloc, &tree, places.space()) else {
         return Err(MountError::NoMemory);
     };
-    match misplaced_sector(kind, &found.space, &owners) {
+    match misplaced_sector(kind, places.space(), &owners) {
         None => Ok(Volume {
-            space: found.space,
+            places,
             tree,
             owners,
             read_only,

@@ -59,7 +59,7 @@ impl Volume {
         ensures { IfOk result (λ place. IsPlace self.now f.now place.items) }
     {
         let node = self.tree.node(f.node).unwrap();
-        match self.space.place_of(alloc, node.entry.address, f.len) {
+        match self.places.place_of(alloc, node.entry.address, f.len) {
             Ok(place) => Ok(place),
             Err(PlaceError::NoMemory) => Err(NoMemory),
             Err(PlaceError::Outside) => {
@@ -89,14 +89,14 @@ impl Volume {
         ensures reads { OnlyReads D.Disk disk.old disk.new }
         ensures cause { FailsByFault D.Disk disk.old disk.new result }
     {
-        let size = self.space.sector_bytes();
+        let size = self.places.sector_bytes();
         let count = piece_length(size, f.len, at, into.len());
         if count == 0 {
             return Ok(0);
         }
-        self.space.places_suffice();
+        self.places.places_suffice();
         let node = self.tree.node(f.node).unwrap();
-        let sector = self.space.sector_of(node.entry.address, f.len, at / size);
+        let sector = self.places.space().sector_of(node.entry.address, f.len, at / size);
         let from = (at % size) as usize;
         read_part(disk, sector, size as usize, from, &mut into[..count])?;
         Ok(count)

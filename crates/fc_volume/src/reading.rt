@@ -215,7 +215,7 @@ impl Volume {
         ensures no_fault { IfErr result (λ error. error ≢ CommandError.DiskFault) }
         ensures disk { disk.new ≡ disk.old }
     {
-        self.space.places_suffice();
+        self.places.places_suffice();
         lines_at(alloc, &self.tree, p)
     }
 
@@ -241,7 +241,7 @@ impl Volume {
         ensures all { result.0 ≡ free_bytes (parts_of self.now).layout }
         ensures largest { result.1 ≡ largest_hole (parts_of self.now).layout }
     {
-        match &self.space {
+        match self.places.space() {
             Space::OldMapped(map) => old_free(map.holes()),
             Space::NewMapped(map) => new_free(map),
         }

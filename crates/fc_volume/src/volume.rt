@@ -2,7 +2,7 @@
 ghost use Rattle.std.specs.Prelude.{◌≡◌};
 
 use fc_alloc::Owners;
-use fc_space::Space;
+use fc_space::{Places, Space};
 use fc_tree::Tree;
 use std::marker::Model;
 
@@ -10,7 +10,7 @@ use std::marker::Model;
 /// disk; each call is given it.
 #[derive(Drop)]
 pub struct Volume {
-    pub(crate) space: Space,
+    pub(crate) places: Places,
     pub(crate) tree: Tree,
     pub(crate) owners: Owners,
     pub(crate) read_only: bool,
@@ -22,7 +22,7 @@ impl Model for Volume {
 
     ghost Value = { volume.Volume };
 
-    ghost view = { λ v. record { space = v.space; tree = v.tree; owners = v.owners; read_only = v.read_only; fit = v.fit } };
+    ghost view = { λ v. record { space = v.places; tree = v.tree; owners = v.owners; read_only = v.read_only; fit = v.fit } };
 }
 
 impl Volume {
@@ -37,7 +37,7 @@ impl Volume {
     pub fn space(&self) -> &Space
         ensures { result.now ≡ self.now.space }
     {
-        &self.space
+        self.places.space()
     }
 
     /// The owners of identifiers.

@@ -5,4 +5,4 @@ use Rattle.fc_tree.proofs.loading.load.Goals as goal
 
 pub returns-in-Ok-clause-tree : goal.returns-in-Ok-clause-tree
 returns-in-Ok-clause-tree g c =
-    loaded (layout_of c.args.space.now) (sectors_in c.args.reserved.now) c.args.root c.args.root_size (g.D.Disk.bytes c.args.disk.now) c.in_ok-nodes.nodes.items c.in-Ok.tree c.in_ok-nodes.ensures.ok c.in-Ok.ensures
+    loaded (layout_of c.args.places.now) (sectors_in c.args.reserved.now) c.args.root c.args.root_size (g.D.Disk.bytes c.args.disk.now) c.in_ok-nodes.nodes.items c.in-Ok.tree c.in_ok-nodes.ensures.ok c.in-Ok.ensures

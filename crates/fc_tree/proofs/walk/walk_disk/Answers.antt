@@ -18,9 +18,9 @@ use Rattle.fc_tree.proofs.walk.walk_disk.Goals as goal
 
 pub returns-in_err-claim_root-clause-err : goal.returns-in_err-claim_root-clause-err
 returns-in_err-claim_root-clause-err g c =
-    let same : c.in-Ok-new.places ≡ c.args.space.now = c.in-Ok-new.ensures in
+    let same : c.space.result.now ≡ c.args.places.now = c.space.ensures in
     let p = err_from_is_err_and c.from_residual.result c.from_residual.ensures.1 in
-    let layout = layout_of c.args.space.now in
+    let layout = layout_of c.args.places.now in
     let reserved = not_free layout (sectors_in c.args.reserved.now) in
     rw (p.1, p.2) (λ image told. root_fails (reader_of image layout) layout reserved c.args.root c.args.root_size c.in_err-claim_root.field-0.0
     (subst (λ n. FailsAs (object_of layout reserved [] (root_entry c.args.root n)) c.in_err-claim_root.field-0.0) (ap (λ f. directory_size f c.args.root_size) c.dir_form.ensures)
@@ -28,8 +28,8 @@ returns-in_err-claim_root-clause-err g c =
 
 pub loop-at-init : goal.loop-at-init
 loop-at-init g c =
-    let same : c.in-Ok-new.places ≡ c.args.space.now = c.in-Ok-new.ensures in
-    let layout = layout_of c.args.space.now in
+    let same : c.space.result.now ≡ c.args.places.now = c.space.ensures in
+    let layout = layout_of c.args.places.now in
     let reserved = not_free layout (sectors_in c.args.reserved.now) in
     let node : c.root_node-node.result ≡ record { holder = 0; entry = root_entry c.args.root (directory_size (dir_form layout) c.args.root_size); body = bodies.File } =
     c.root_node-node.ensures ∙ ap (λ f. let n : Node = record { holder = 0; entry = root_entry c.args.root (directory_size f c.args.root_size); body = bodies.File } in n) c.dir_form.ensures in
@@ -44,34 +44,34 @@ loop-at-init g c =
 
 pub overlap_at-requires : goal.overlap_at-requires
 overlap_at-requires g c =
-    let next = (come_to (layout_of c.args.space.now) _ _ _ _ c.loop-at.nodes.items c.deref.result.now c.loop-at.from c.in-Some.at c.loop-at.left c.loop-at.taken c.loop-at.invariant.walking c.deref.ensures.value
+    let next = (come_to (layout_of c.args.places.now) _ _ _ _ c.loop-at.nodes.items c.deref.result.now c.loop-at.from c.in-Some.at c.loop-at.left c.loop-at.taken c.loop-at.invariant.walking c.deref.ensures.value
     c.in-Some.ensures.some c.in-Some.ensures.first).1 in
     (next.stands.names, subst (λ ns. Leads ns c.in-Some.at next.stands.names) (sym c.deref-then-left-eq0.ensures.value) next.stands.leads)
 
 pub returns-then-left-eq0-clause-err : goal.returns-then-left-eq0-clause-err
 returns-then-left-eq0-clause-err g c =
-    on_too_many (layout_of c.args.space.now) _ _ _ (g.D.Disk.bytes c.args.disk.now) c.loop-at.nodes.items c.deref.result.now c.loop-at.from c.in-Some.at c.loop-at.left c.loop-at.taken c.loop-at.invariant.walking c.deref.ensures.value
+    on_too_many (layout_of c.args.places.now) _ _ _ (g.D.Disk.bytes c.args.disk.now) c.loop-at.nodes.items c.deref.result.now c.loop-at.from c.in-Some.at c.loop-at.left c.loop-at.taken c.loop-at.invariant.walking c.deref.ensures.value
     c.in-Some.ensures.some c.in-Some.ensures.first c.overlap_at.result c.if-left-eq0.true
     (λ names l. c.overlap_at.ensures names (subst (λ ns. Leads ns c.in-Some.at names) (sym c.deref-then-left-eq0.ensures.value) l))
 
 pub returns-then-left-eq0-clause-cause : goal.returns-then-left-eq0-clause-cause
 returns-then-left-eq0-clause-cause g c = λ e.
-    let next = (come_to (layout_of c.args.space.now) _ _ _ _ c.loop-at.nodes.items c.deref.result.now c.loop-at.from c.in-Some.at c.loop-at.left c.loop-at.taken c.loop-at.invariant.walking c.deref.ensures.value
+    let next = (come_to (layout_of c.args.places.now) _ _ _ _ c.loop-at.nodes.items c.deref.result.now c.loop-at.from c.in-Some.at c.loop-at.left c.loop-at.taken c.loop-at.invariant.walking c.deref.ensures.value
     c.in-Some.ensures.some c.in-Some.ensures.first).1 in
     absurd (no_disk_fault _ c.overlap_at.result (c.overlap_at.ensures next.stands.names (subst (λ ns. Leads ns c.in-Some.at next.stands.names) (sym c.deref-then-left-eq0.ensures.value) next.stands.leads)) e)
 
 pub visit-requires-clause-there : goal.visit-requires-clause-there
 visit-requires-clause-there g c =
-    let same : c.in-Ok-new.places ≡ c.args.space.now = c.in-Ok-new.ensures in
-    rw (← same) at (there_is (layout_of c.args.space.now) _ _ _ _ c.loop-at.nodes.items c.deref.result.now c.loop-at.from c.in-Some.at c.loop-at.left c.loop-at.taken c.loop-at.invariant.walking
+    let same : c.space.result.now ≡ c.args.places.now = c.space.ensures in
+    rw (← same) at (there_is (layout_of c.args.places.now) _ _ _ _ c.loop-at.nodes.items c.deref.result.now c.loop-at.from c.in-Some.at c.loop-at.left c.loop-at.taken c.loop-at.invariant.walking
     c.deref.ensures.value c.in-Some.ensures.some c.in-Some.ensures.first)
 
 pub returns-in_err-visit-clause-err : goal.returns-in_err-visit-clause-err
 returns-in_err-visit-clause-err g c =
-    let same : c.in-Ok-new.places ≡ c.args.space.now = c.in-Ok-new.ensures in
+    let same : c.space.result.now ≡ c.args.places.now = c.space.ensures in
     let p = err_from_is_err_and c.from_residual-in_err-visit.result c.from_residual-in_err-visit.ensures.1 in
     rw (p.1, p.2)
-    (on_failed (layout_of c.args.space.now) _ _ _ (g.D.Disk.bytes c.args.disk.now) c.loop-at.nodes.items c.deref.result.now c.loop-at.from c.in-Some.at c.loop-at.left c.loop-at.taken c.loop-at.invariant.walking c.deref.ensures.value
+    (on_failed (layout_of c.args.places.now) _ _ _ (g.D.Disk.bytes c.args.disk.now) c.loop-at.nodes.items c.deref.result.now c.loop-at.from c.in-Some.at c.loop-at.left c.loop-at.taken c.loop-at.invariant.walking c.deref.ensures.value
     c.in-Some.ensures.some c.in-Some.ensures.first (c.loop-at.left - 1) c.in_err-visit.field-0.0 (omega (arith, c.if-left-eq0.false))
     (λ o before stands taken. λ image told. (rw same at c.in_err-visit.ensures.err) o before stands taken image (c.loop-at.invariant.reads.bytes ∙ told)))
 
@@ -80,8 +80,8 @@ returns-in_err-visit-clause-reads g c = reads_then (laws g.met.D.Disk) c.loop-at
 
 pub loop-at-preserved : goal.loop-at-preserved
 loop-at-preserved g c =
-    let same : c.in-Ok-new.places ≡ c.args.space.now = c.in-Ok-new.ensures in
-    let layout = layout_of c.args.space.now in
+    let same : c.space.result.now ≡ c.args.places.now = c.space.ensures in
+    let layout = layout_of c.args.places.now in
     record {
       reads = reads_then (laws g.met.D.Disk) c.loop-at.invariant.reads c.visit.ensures.reads;
       sectors = c.visit.ensures.sectors ∙ c.loop-at.invariant.sectors;
@@ -93,5 +93,5 @@ loop-at-preserved g c =
 
 pub returns-clause-ok : goal.returns-clause-ok
 returns-clause-ok g c =
-    walk_ends (layout_of c.args.space.now) _ _ _ (g.D.Disk.bytes c.args.disk.now) c.loop-at.nodes.items c.loop-at.from c.loop-at.left c.loop-at.taken c.loop-at.invariant.walking
+    walk_ends (layout_of c.args.places.now) _ _ _ (g.D.Disk.bytes c.args.disk.now) c.loop-at.nodes.items c.loop-at.from c.loop-at.left c.loop-at.taken c.loop-at.invariant.walking
     (λ i le. subst (λ ns. IsFileAt ns i) c.deref.ensures.value (c.in_default-next_directory.ensures.none refl i le))

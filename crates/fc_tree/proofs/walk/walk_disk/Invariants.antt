@@ -10,8 +10,8 @@ use Rattle.fc_tree.proofs.walk.walk_disk.Given as goal
 abbrev pub invariant-loop-at : goal.invariant-loop-at
 invariant-loop-at g l = record {
   reads : OnlyReads g.D.Disk l.fn.disk l.disk;
-  sectors : l.taken.sectors ≡ disc_sectors (layout_of l.space);
-  walking : IsWalking (layout_of l.space) (not_free (layout_of l.space) (sectors_in l.reserved)) l.root l.root_size (g.D.Disk.bytes l.fn.disk) l.nodes.items l.from l.left l.taken;
+  sectors : l.taken.sectors ≡ disc_sectors (layout_of l.places);
+  walking : IsWalking (layout_of l.places) (not_free (layout_of l.places) (sectors_in l.reserved)) l.root l.root_size (g.D.Disk.bytes l.fn.disk) l.nodes.items l.from l.left l.taken;
 }
 
 abbrev pub decreases-loop-at : goal.decreases-loop-at
