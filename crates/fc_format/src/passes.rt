@@ -82,8 +82,7 @@ fn write_part<D: Disk>(disk: &mut D, at: u64, first: u64, bytes: &[u8]) -> Resul
     Ok(first + (bytes.len() / SECTOR) as u64)
 }
 
-/// Writes the sectors up to `end`, each once and in rising order: the parts, which stand in this order, and bytes 0
-/// between and behind them.
+/// Writes the sectors up to `end`: the parts, which stand in this order, and bytes 0 between and behind them.
 pub fn write_parts<D: Disk>(disk: &mut D, parts: &[Part], end: u64) -> Result<(), DiskFault>
     requires attached { IsTrue (D.attached disk.old) }
     requires size { D.sector_size disk.old ≡ 256 }

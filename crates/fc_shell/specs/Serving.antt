@@ -1,6 +1,7 @@
 -- What serving a script over a volume answers, and how runs end by it.
-use Rattle.std.specs.Prelude.{◌≡◌, ℕ, Bool, true, false, List, ◌++◌, map, if◌then◌else◌, Option, Result, Ok, Err}
+use Rattle.std.specs.Prelude.{◌≡◌, ◌⊎◌, ℕ, Bool, true, false, List, [], ◌∷◌, ◌++◌, map, if◌then◌else◌, Option, Result, Ok, Err}
 use Rattle.std.specs.List.{list_any}
+use Rattle.fc_device.specs.Asked.{Asked}
 use Rattle.fc_effects.specs.Effect.{State}
 use Rattle.fc_runs.specs.Run.{Mode, commands_in, is_error, text_of}
 use Rattle.fc_shell.specs.declared.ending.End.{End}
@@ -51,6 +52,15 @@ is_over_image end = false
 -- Where the disk gives the name, the run doesn't end without an image; where it doesn't, the run doesn't end over one.
 abbrev pub FitsGiven : Bool → End → Type 0
 FitsGiven given end = (end ≡ NoImage → given ≡ false) × (is_over_image end ≡ true → given ≡ true)
+
+-- What was asked of the disk, by how the run ends: nothing; or this image, and once; and where memory was short, either.
+abbrev pub AsksFor : Asked → End → List Asked → List Asked → Type 0
+AsksFor image BadWords old new = new ≡ old
+AsksFor image ScriptFault old new = new ≡ old
+AsksFor image ScriptTooLong old new = new ≡ old
+AsksFor image NotBuilt old new = new ≡ old
+AsksFor image NoMemory old new = (new ≡ old) ⊎ (new ≡ old ++ image ∷ [])
+AsksFor image end old new = new ≡ old ++ image ∷ []
 
 -- a run may end so before an image is asked for
 abbrev pub is_early : End → Bool

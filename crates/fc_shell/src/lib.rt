@@ -15,7 +15,7 @@ mod script;
 mod sink;
 mod texts;
 
-ghost use Rattle.std.specs.Prelude.{◌≡◌, ◌≢◌, ◌⊎◌, ◌<◌, [], length, map, true, false, None, Some, IsFalse, option_map, string_bytes};
+ghost use Rattle.std.specs.Prelude.{◌≡◌, ◌≢◌, ◌⊎◌, ◌<◌, ◌++◌, [], ◌∷◌, length, map, true, false, None, Some, IsFalse, option_map, string_bytes};
 ghost use Rattle.std.specs.Option.{ForSome};
 ghost use Rattle.fc_device.specs.Faults.{Rose};
 ghost use Rattle.fc_device.specs.Form.{IsUntouched};
@@ -25,7 +25,7 @@ ghost use Rattle.fc_shell.specs.Reading.{IsUnwritten};
 ghost use Rattle.fc_shell.specs.ReadsLaw.{ReadsLaw};
 ghost use Rattle.fc_shell.specs.Replies.{AsksUnbuilt, EndsAs, blank_size, has_unbuilt, image_for, is_unbuilt, request_reply, run_reply, script_limit};
 ghost use Rattle.fc_shell.specs.Script.{behind_limit};
-ghost use Rattle.fc_shell.specs.Serving.{FitsGiven, is_early, is_late, is_over_image, read_reply};
+ghost use Rattle.fc_shell.specs.Serving.{AsksFor, FitsGiven, is_early, is_late, is_over_image, read_reply};
 
 pub use ending::End;
 use fc_device::{Disk, NoMemory, Sink, Source};
@@ -57,8 +57,10 @@ fn run_script<D: Disk, K: Sink>(
     ensures unwritten { asked.now.new ≡ None → IsUnwritten D.Disk disk.old disk.new }
     ensures made { is_over_image result ≡ true → D.bytes disk.new ≡ option_map (image_for asked.now.new) (D.bytes disk.old) }
     ensures settled { is_over_image result ≡ true → IsFalse (D.pending disk.new) }
-    ensures no_memory { result ≡ End.NoMemory
-        → (disk.new ≡ disk.old) ⊎ ((D.bytes disk.new ≡ option_map (image_for asked.now.new) (D.bytes disk.old)) × IsFalse (D.pending disk.new)) }
+    ensures no_memory { let r = request_in asked.now in result ≡ End.NoMemory
+        → (disk.new ≡ disk.old) ⊎ ((D.asked disk.new ≡ D.asked disk.old ++ (r.image, blank_size r) ∷ [])
+            × (D.bytes disk.new ≡ option_map (image_for asked.now.new) (D.bytes disk.old)) × IsFalse (D.pending disk.new)) }
+    ensures asks { let r = request_in asked.now in AsksFor (r.image, blank_size r) result (D.asked disk.old) (D.asked disk.new) }
     ensures ended { (is_late result ≡ true) ⊎ ((result ≡ End.NoImage) ⊎ (result ≡ End.NotBuilt)) }
 {
     match has_unbuilt(alloc, script) {
@@ -94,8 +96,10 @@ fn run_request<D: Disk, S: Source, K: Sink>(
     ensures unwritten { asked.now.new ≡ None → IsUnwritten D.Disk disk.old disk.new }
     ensures made { is_over_image result ≡ true → D.bytes disk.new ≡ option_map (image_for asked.now.new) (D.bytes disk.old) }
     ensures settled { is_over_image result ≡ true → IsFalse (D.pending disk.new) }
-    ensures no_memory { result ≡ End.NoMemory
-        → (disk.new ≡ disk.old) ⊎ ((D.bytes disk.new ≡ option_map (image_for asked.now.new) (D.bytes disk.old)) × IsFalse (D.pending disk.new)) }
+    ensures no_memory { let r = request_in asked.now in result ≡ End.NoMemory
+        → (disk.new ≡ disk.old) ⊎ ((D.asked disk.new ≡ D.asked disk.old ++ (r.image, blank_size r) ∷ [])
+            × (D.bytes disk.new ≡ option_map (image_for asked.now.new) (D.bytes disk.old)) × IsFalse (D.pending disk.new)) }
+    ensures asks { let r = request_in asked.now in AsksFor (r.image, blank_size r) result (D.asked disk.old) (D.asked disk.new) }
     ensures script_end { is_early result ≡ false → ForSome (S.left script.new) (λ rest. rest ≡ []) }
     ensures good_words { result ≢ End.BadWords }
 {
@@ -135,6 +139,10 @@ pub fn run<D: Disk, S: Source, K: Sink>(
     ensures words { request_of (map string_bytes words.now.items) ≡ None
         → ((result ≡ End.BadWords) ⊎ (result ≡ End.NoMemory)) × (script.new ≡ script.old) × (disk.new ≡ disk.old) × (out.new ≡ out.old) }
 
+    // Of the disk nothing is asked, or one image, and once: the one that the words name, as it is or as a fresh one of its
+    // format's size. Which of the two, the end says.
+    ensures asks { (r : Request) → request_of (map string_bytes words.now.items) ≡ Some r → AsksFor (r.image, blank_size r) result (D.asked disk.old) (D.asked disk.new) }
+
     // Nothing is attached or written where the words or the script ask for what isn't built, or the script is too long. Then
     // the run ends before an image is asked for, and these two ends have no other cause.
     ensures unbuilt { (r : Request) → request_of (map string_bytes words.now.items) ≡ Some r → is_unbuilt r ≡ true
@@ -164,7 +172,8 @@ pub fn run<D: Disk, S: Source, K: Sink>(
         → D.bytes disk.new ≡ option_map (image_for r.new) (D.bytes disk.old) }
     ensures settled { is_over_image result ≡ true → IsFalse (D.pending disk.new) }
     ensures no_memory { (r : Request) → request_of (map string_bytes words.now.items) ≡ Some r → result ≡ End.NoMemory
-        → (disk.new ≡ disk.old) ⊎ ((D.bytes disk.new ≡ option_map (image_for r.new) (D.bytes disk.old)) × IsFalse (D.pending disk.new)) }
+        → (disk.new ≡ disk.old) ⊎ ((D.asked disk.new ≡ D.asked disk.old ++ (r.image, blank_size r) ∷ [])
+            × (D.bytes disk.new ≡ option_map (image_for r.new) (D.bytes disk.old)) × IsFalse (D.pending disk.new)) }
     ensures script_end { is_early result ≡ false → ForSome (S.left script.new) (λ rest. rest ≡ []) }
 {
     match read_words(alloc, words) {

@@ -1,5 +1,5 @@
 // A script over an image, from its name to the last reply.
-ghost use Rattle.std.specs.Prelude.{◌≡◌, ◌⊎◌, ◌≤◌, true, false, Ok, Err, None, IfOk, IsTrue, IsFalse, option_map};
+ghost use Rattle.std.specs.Prelude.{◌≡◌, ◌⊎◌, ◌≤◌, ◌++◌, true, false, [], ◌∷◌, Ok, Err, Some, None, IfOk, IsTrue, IsFalse, option_map};
 ghost use Rattle.std.specs.Option.{ForSome};
 ghost use Rattle.fc_device.specs.Calls.{FailsByFault, OnlyReads};
 ghost use Rattle.fc_device.specs.Faults.{Rose};
@@ -129,6 +129,7 @@ fn format_in(word: FormatWord) -> Format
 
 // Makes an image of a name, a fresh volume of the format. Answers whether the disk gives it.
 fn make_image<D: Disk>(disk: &mut D, name: &str, format: Format) -> Result<bool, DiskFault>
+    ensures asked { D.asked disk.new ≡ D.asked disk.old ++ (name.now, Some (format_size format)) ∷ [] }
     ensures given { IfOk result (λ given. ForSome (D.gives disk.old) (λ gives. given ≡ gives name.now (Some (format_size format)))) }
     ensures fresh { result ≡ Ok true → IsFresh D.attached D.pending D.sector_size disk.new }
     ensures bytes { result ≡ Ok true → D.bytes disk.new ≡ option_map (λ _. fresh_image format (zeros (format_size format))) (D.bytes disk.old) }
@@ -153,6 +154,7 @@ fn attach_image<D: Disk>(
     name: &str,
     new: Option<FormatWord>,
 ) -> Result<bool, DiskFault>
+    ensures asked { D.asked disk.new ≡ D.asked disk.old ++ (name.now, option_map (λ f. format_size (format_in f)) new) ∷ [] }
     ensures given { IfOk result (λ given. ForSome (D.gives disk.old) (λ gives. given ≡ gives name.now (option_map (λ f. format_size (format_in f)) new))) }
     ensures fresh { result ≡ Ok true → IsFresh D.attached D.pending D.sector_size disk.new }
     ensures bytes { result ≡ Ok true → D.bytes disk.new ≡ option_map (image_for new) (D.bytes disk.old) }
@@ -176,6 +178,7 @@ pub fn answer_script<D: Disk, K: Sink>(
     out: &mut K,
 ) -> End
     requires built { has_unbuilt script.now ≡ false }
+    ensures asks { let r = request_in asked.now in D.asked disk.new ≡ D.asked disk.old ++ (r.image, blank_size r) ∷ [] }
     ensures ends { ForSome (D.gives disk.old) (λ gives. ForSome (D.bytes disk.old) (λ image. let r = request_in asked.now in
         EndsAs (attached_reply (gives r.image (blank_size r)) r script.now image) result (K.taken out.old) (K.taken out.new))) }
     ensures unwritten { asked.now.new ≡ None → IsUnwritten D.Disk disk.old disk.new }

@@ -22,8 +22,8 @@ use std::alloc::Global;
 /// directories alone. `reserved` has the sectors of the map and of a boot block; no object may take them, nor a hole of
 /// an old map. The disk is attached, has the map's sectors, and is at least as long as its disc.
 ///
-/// Each directory is read once, and one of a size that none can have not at all. The answer is `Image` exactly where the
-/// walk meets a fault, with the first, and `DiskFault` only where the disk's count of faults rose.
+/// The answer is `Image` exactly where the walk meets a fault, with the first, and `DiskFault` only where the disk's count
+/// of faults rose.
 pub fn load<D: Disk>(
     alloc: Global,
     disk: &mut D,

@@ -87,7 +87,7 @@ fn read_place<D: Disk>(
     Ok(())
 }
 
-/// Reads the bytes of an object of this entry, which has a place on the disc. Each of its sectors is read once.
+/// Reads the bytes of an object of this entry, which has a place on the disc.
 pub fn read_object<D: Disk>(
     alloc: Global,
     disk: &mut D,

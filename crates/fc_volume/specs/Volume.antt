@@ -31,6 +31,7 @@ pub record OnlyShapes {D : Type 0} (d : Ghosts D) (old new : D) : Type 0 where
   pub attached_stays : d.attached new ≡ d.attached old
   pub tells_stays : d.tells_stops new ≡ d.tells_stops old
   pub gives_stays : d.gives new ≡ d.gives old
+  pub asked_stays : d.asked new ≡ d.asked old
   pub length_stays : d.image_length new ≡ d.image_length old
   pub bytes_stay : d.bytes new ≡ d.bytes old
   pub pending_stays : d.pending new ≡ d.pending old

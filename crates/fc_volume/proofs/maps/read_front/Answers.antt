@@ -14,16 +14,16 @@ pub returns-in_err-read-3-clause-reads : goal.returns-in_err-read-3-clause-reads
 returns-in_err-read-3-clause-reads g c =
     let a = c.read-2.ensures in
     let b = c.read-3.ensures in
-    let one : OnlyReads g.D.Disk c.args.disk.now c.read-2.new.self = record { form = a.form; bytes = a.bytes; pending = a.pending; stops = a.stops; still = a.still; faults = a.cause.later } in
-    let two : OnlyReads g.D.Disk c.read-2.new.self c.read-3.new.self = record { form = b.form; bytes = b.bytes; pending = b.pending; stops = b.stops; still = b.still; faults = b.cause.later } in
+    let one : OnlyReads g.D.Disk c.args.disk.now c.read-2.new.self = record { form = a.form; bytes = a.bytes; pending = a.pending; stops = a.stops; still = a.still; calls = a.read_calls.0; faults = a.cause.later } in
+    let two : OnlyReads g.D.Disk c.read-2.new.self c.read-3.new.self = record { form = b.form; bytes = b.bytes; pending = b.pending; stops = b.stops; still = b.still; calls = b.read_calls.0; faults = b.cause.later } in
     reads_then (laws g.met.D.Disk) one two
 
 pub returns-clause-reads : goal.returns-clause-reads
 returns-clause-reads g c =
     let a = c.read-2.ensures in
     let b = c.read-3.ensures in
-    let one : OnlyReads g.D.Disk c.args.disk.now c.read-2.new.self = record { form = a.form; bytes = a.bytes; pending = a.pending; stops = a.stops; still = a.still; faults = a.cause.later } in
-    let two : OnlyReads g.D.Disk c.read-2.new.self c.read-3.new.self = record { form = b.form; bytes = b.bytes; pending = b.pending; stops = b.stops; still = b.still; faults = b.cause.later } in
+    let one : OnlyReads g.D.Disk c.args.disk.now c.read-2.new.self = record { form = a.form; bytes = a.bytes; pending = a.pending; stops = a.stops; still = a.still; calls = a.read_calls.0; faults = a.cause.later } in
+    let two : OnlyReads g.D.Disk c.read-2.new.self c.read-3.new.self = record { form = b.form; bytes = b.bytes; pending = b.pending; stops = b.stops; still = b.still; calls = b.read_calls.0; faults = b.cause.later } in
     reads_then (laws g.met.D.Disk) one two
 
 pub returns-clause-filled : goal.returns-clause-filled

@@ -21,18 +21,18 @@ returns-in-Err-read_map-clause-fault g c = λ image told.
 pub returns-in-Err-read_map-clause-shapes : goal.returns-in-Err-read_map-clause-shapes
 returns-in-Err-read_map-clause-shapes g c =
     let s = c.shape.ensures in
-    shapes_then (laws g.met.D.Disk) c.args.disk.now c.find_kind.new.disk c.shape.new.self c.read_map.new.disk c.find_kind.ensures.reads s.attached s.tells_stops s.gives s.length s.bytes s.pending s.stops s.still s.faults c.read_map.ensures.reads
+    shapes_then (laws g.met.D.Disk) c.args.disk.now c.find_kind.new.disk c.shape.new.self c.read_map.new.disk c.find_kind.ensures.reads s.attached s.tells_stops s.gives s.asked s.length s.bytes s.pending s.stops s.still s.faults c.read_map.ensures.reads
 
 pub returns-in-Ok-volume_of-clause-shapes : goal.returns-in-Ok-volume_of-clause-shapes
 returns-in-Ok-volume_of-clause-shapes g c =
     let s = c.shape.ensures in
-    shapes_then (laws g.met.D.Disk) c.args.disk.now c.find_kind.new.disk c.shape.new.self c.volume_of.new.disk c.find_kind.ensures.reads s.attached s.tells_stops s.gives s.length s.bytes s.pending s.stops s.still s.faults
+    shapes_then (laws g.met.D.Disk) c.args.disk.now c.find_kind.new.disk c.shape.new.self c.volume_of.new.disk c.find_kind.ensures.reads s.attached s.tells_stops s.gives s.asked s.length s.bytes s.pending s.stops s.still s.faults
     (reads_then (laws g.met.D.Disk) c.read_map.ensures.reads c.volume_of.ensures.reads)
 
 pub returns-in-Err-volume_of-clause-shapes : goal.returns-in-Err-volume_of-clause-shapes
 returns-in-Err-volume_of-clause-shapes g c =
     let s = c.shape.ensures in
-    shapes_then (laws g.met.D.Disk) c.args.disk.now c.find_kind.new.disk c.shape.new.self c.volume_of.new.disk c.find_kind.ensures.reads s.attached s.tells_stops s.gives s.length s.bytes s.pending s.stops s.still s.faults
+    shapes_then (laws g.met.D.Disk) c.args.disk.now c.find_kind.new.disk c.shape.new.self c.volume_of.new.disk c.find_kind.ensures.reads s.attached s.tells_stops s.gives s.asked s.length s.bytes s.pending s.stops s.still s.faults
     (reads_then (laws g.met.D.Disk) c.read_map.ensures.reads c.volume_of.ensures.reads)
 
 pub returns-in-Err-volume_of-clause-fault : goal.returns-in-Err-volume_of-clause-fault
