@@ -1,5 +1,6 @@
 -- A cached disk means what its inner disk means.
 use Rattle.std.specs.Prelude.{ℕ, Bool, Option, List}
+use Rattle.fc_device.specs.Asked.{Asked}
 use Rattle.fc_device.specs.declared.disk.Disk.{Ghosts}
 use Rattle.fc_cache.specs.declared.cached.CachedDisk.{CachedDisk}
 
@@ -9,6 +10,9 @@ module _ {D : Type 0} {d : Ghosts D} where
 
   abbrev pub gives_of : CachedDisk D d → Option (List ℕ → Option ℕ → Bool)
   gives_of disk = d.gives disk.inner
+
+  abbrev pub asked_of : CachedDisk D d → List Asked
+  asked_of disk = d.asked disk.inner
 
   abbrev pub bytes_of : CachedDisk D d → Option (List ℕ)
   bytes_of disk = d.bytes disk.inner

@@ -1,14 +1,14 @@
 // The cached disk itself.
-ghost use Rattle.std.specs.Prelude.{◌≡◌, ◌⊎◌, ◌≤◌, ◌<◌, ◌+◌, ◌^◌, true, false, None, Ok, [], length, replicate, option_map, is_some, IsTrue, IsFalse, IsOk, OnOk, OnErr, IfOk};
+ghost use Rattle.std.specs.Prelude.{◌≡◌, ◌⊎◌, ◌≤◌, ◌<◌, ◌+◌, ◌*◌, ◌^◌, ◌++◌, true, false, None, Ok, [], ◌∷◌, length, replicate, option_map, is_some, IsTrue, IsFalse, IsOk, OnOk, OnErr, IfOk};
 ghost use Rattle.std.specs.Option.{ForSome};
 ghost use Rattle.fc_device.specs.Faults.{HasCause};
 ghost use Rattle.fc_device.specs.Form.{KeepsForm, IsFresh, IsUntouched};
-ghost use Rattle.fc_device.specs.Sectors.{sector_at, with_sector};
+ghost use Rattle.fc_device.specs.Sectors.{row_at, sector_at, with_sector};
 ghost use Rattle.fc_device.specs.Stops.{LeavesOnly, SectorOldOrNew, StillLeaves};
 ghost use Rattle.fc_cache.specs.Sectors.{entries_of, is_kept, AreSectors, AreWhole};
 
 use crate::kept::Kept;
-use fc_device::{Disk, Failed};
+use fc_device::{Disk, Extent, Failed};
 use std::alloc::Global;
 
 /// A disk that keeps at most 64 of the sectors of the disk below, those that were used last, and writes through to it.
@@ -42,11 +42,13 @@ impl<D: Disk> CachedDisk<D> {
 }
 
 impl<D: Disk> Disk for CachedDisk<D> {
-    ghost use Rattle.fc_cache.specs.Cached.{attached_of, gives_of, bytes_of, left_of, tells_stops_of, moment_of, pending_of, sectors_of, size_of, length_of, reads_of, faults_of};
+    ghost use Rattle.fc_cache.specs.Cached.{attached_of, gives_of, asked_of, bytes_of, left_of, tells_stops_of, moment_of, pending_of, sectors_of, size_of, length_of, reads_of, faults_of};
 
     ghost attached = { λ s. D.attached s.inner };
 
     ghost gives = { λ s. D.gives s.inner };
+
+    ghost asked = { λ s. D.asked s.inner };
 
     ghost bytes = { λ s. D.bytes s.inner };
 
@@ -69,6 +71,7 @@ impl<D: Disk> Disk for CachedDisk<D> {
     ghost faults = { λ s. D.faults s.inner };
 
     fn attach(&mut self, name: &str, blank: Option<u64>) -> Result<bool, Failed>
+        ensures asked { asked_of self.new ≡ asked_of self.old ++ (name.now, blank) ∷ [] }
         ensures given { IfOk result (λ given. ForSome (gives_of self.old) (λ rule. given ≡ rule name.now blank)) }
         ensures fresh { result ≡ Ok true → IsFresh attached_of pending_of size_of self.new }
         ensures blank_length { result ≡ Ok true → ForSome blank (λ n. length_of self.new ≡ n) }
@@ -98,6 +101,7 @@ impl<D: Disk> Disk for CachedDisk<D> {
         ensures size { size_of self.new ≡ 2 ^ log2 }
         ensures attached { attached_of self.new ≡ attached_of self.old }
         ensures gives { gives_of self.new ≡ gives_of self.old }
+        ensures asked { asked_of self.new ≡ asked_of self.old }
         ensures length { length_of self.new ≡ length_of self.old }
         ensures bytes { bytes_of self.new ≡ bytes_of self.old }
         ensures pending { pending_of self.new ≡ pending_of self.old }
@@ -127,7 +131,7 @@ impl<D: Disk> Disk for CachedDisk<D> {
         requires on_disk { n < sectors_of self.old }
         requires whole { length into.old ≡ size_of self.old }
         ensures filled { OnOk result (ForSome (bytes_of self.old) (λ image. into.new ≡ sector_at (size_of self.old) image n)) }
-        ensures form { KeepsForm attached_of tells_stops_of gives_of sectors_of size_of length_of self.old self.new }
+        ensures form { KeepsForm attached_of tells_stops_of gives_of asked_of sectors_of size_of length_of self.old self.new }
         ensures bytes { bytes_of self.new ≡ bytes_of self.old }
         ensures pending { pending_of self.new ≡ pending_of self.old }
         ensures stops { LeavesOnly moment_of left_of self.old self.new (left_of self.old (moment_of self.old)) }
@@ -147,13 +151,32 @@ impl<D: Disk> Disk for CachedDisk<D> {
         Ok(())
     }
 
+    fn read_row(&mut self, row: Extent, into: &mut [u8]) -> Result<(), Failed>
+        requires attached { IsTrue (attached_of self.old) }
+        requires on_disk { row.first + row.sectors ≤ sectors_of self.old }
+        requires whole { length into.old ≡ row.sectors * size_of self.old }
+        ensures filled { OnOk result (ForSome (bytes_of self.old) (λ image. into.new ≡ row_at (size_of self.old) image row.first row.sectors)) }
+        ensures form { KeepsForm attached_of tells_stops_of gives_of asked_of sectors_of size_of length_of self.old self.new }
+        ensures bytes { bytes_of self.new ≡ bytes_of self.old }
+        ensures pending { pending_of self.new ≡ pending_of self.old }
+        ensures stops { LeavesOnly moment_of left_of self.old self.new (left_of self.old (moment_of self.old)) }
+        ensures still { StillLeaves moment_of left_of self.old self.new }
+        ensures read_calls { (reads_of self.old ≤ reads_of self.new) × (reads_of self.new ≤ reads_of self.old + row.sectors) }
+        ensures cause { HasCause (faults_of self.old) (faults_of self.new) result }
+
+        // What is kept stays: a row would drive out the sectors that were used last.
+        ensures kept { self.new.kept ≡ self.old.kept }
+    {
+        self.inner.read_row(row, into)
+    }
+
     fn write(&mut self, n: u64, from: &[u8]) -> Result<(), Failed>
         requires attached { IsTrue (attached_of self.old) }
         requires on_disk { n < sectors_of self.old }
         requires whole { length from.now ≡ size_of self.old }
         ensures written { OnOk result (bytes_of self.new ≡ option_map (λ image. with_sector (size_of self.old) image n from.now) (bytes_of self.old)) }
         ensures old_or_new { (bytes_of self.new ≡ bytes_of self.old) ⊎ (bytes_of self.new ≡ option_map (λ image. with_sector (size_of self.old) image n from.now) (bytes_of self.old)) }
-        ensures form { KeepsForm attached_of tells_stops_of gives_of sectors_of size_of length_of self.old self.new }
+        ensures form { KeepsForm attached_of tells_stops_of gives_of asked_of sectors_of size_of length_of self.old self.new }
         ensures stops { LeavesOnly moment_of left_of self.old self.new
             (SectorOldOrNew (size_of self.old) n from.now (left_of self.old (moment_of self.old))) }
         ensures still { StillLeaves moment_of left_of self.old self.new }

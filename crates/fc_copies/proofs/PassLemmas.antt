@@ -59,6 +59,7 @@ module _ {D : Type 0} {d : Ghosts D} (law : Laws d) where
         let there = first.exit was told in
         let then = second.exit there.0 there.1 in
         (then.0, then.1, after was there.0 then.0 told there.1 there.2 then.2);
+    told = λ image told. let there = second.told image told in first.told there.0 there.1;
   }
 
   -- where the bytes at the start are told, P says less than R
@@ -66,6 +67,7 @@ module _ {D : Type 0} {d : Ghosts D} (law : Laws d) where
   keeps_told keeps less = record {
     stops = weaker law _ keeps.stops (λ image led was told. less was image told (led was told));
     exit = λ was told. let there = keeps.exit was told in (there.0, there.1, less was there.0 told there.2);
+    told = keeps.told;
   }
 
 -- a pass at other numbers, that are the same

@@ -1,17 +1,15 @@
 -- A copy that is read zone by zone.
-use Rattle.std.proofs.Common.{◌≡◌, ◌<◌, ◌≤◌, ◌≢◌, ℕ, zero, suc, ◌+◌, ◌-◌, ◌*◌, ◌/◌, ◌^◌, Bool, true, false, cond, inl, inr, List, [], ◌∷◌, length, get_or, take, refl, sym, ap, ◌∙◌, arith, Some, None}
+use Rattle.std.proofs.Common.{◌≡◌, ◌<◌, ◌≤◌, ◌≢◌, ℕ, zero, suc, ◌+◌, ◌/◌, ◌^◌, Bool, true, false, cond, List, [], ◌∷◌, length, get_or, take, refl, sym, ap, ◌∙◌, arith, Some, None}
 use Rattle.std.specs.Prelude.{not, ◌&&◌, ◌==◌, slice_index, bit_xor, Option, Result, Ok, Err}
 use Rattle.std.specs.List.{fold, list_all}
-use Rattle.std.proofs.lemmas.Bool.{cases_eq, ne_eqb, eq-eqb}
+use Rattle.std.proofs.lemmas.Bool.{ne_eqb, eq-eqb}
 use Rattle.std.proofs.lemmas.List.{take_all}
 use Rattle.std.proofs.lemmas.List.Folds.{fold-map, list_all_more, list_all_at}
 use Rattle.std.proofs.lemmas.List.Sums.{fold_more, position_or_len_is}
 use Rattle.std.proofs.lemmas.List.FromFn.{length-map-range_with_len, get_or-map-range_with_len}
-use borrow.Rule.Slice.PartMut.{put_mid}
-use Rattle.fc_device.specs.Sectors.{sector_at, with_sector}
+use Rattle.fc_device.specs.Sectors.{sector_at}
 use Rattle.fc_device.specs.declared.disk.Disk.{Ghosts}
 use Rattle.fc_device.proofs.DiskLaws.{Laws}
-use Rattle.fc_device.proofs.SectorLemmas.{put_mid-with_sector, sector_at-with_sector_same, sector_at-with_sector_other}
 use Rattle.fc_newmap.specs.Map.{zones_in}
 use Rattle.fc_record.specs.declared.Geometry.{Geometry}
 use Rattle.fc_copies.proofs.GateLemmas.{first_part, second_part}
@@ -19,10 +17,6 @@ use Rattle.fc_copies.specs.declared.Which.{Which}
 use Rattle.fc_copies.specs.declared.Which.TheVariants.{One, Two}
 use Rattle.fc_copies.specs.Choosing.{copy_fault, cross_if_right}
 use Rattle.fc_copies.specs.Copies.{chosen, copy_of, copy_start, cross_of, is_check_right, is_sound, unsound_zone}
-
--- a zone that isn't past the end lies in its copy's bytes
-pub zone_fits : (z zones size : ℕ) → z < zones → z * size + size ≤ zones * size
-zone_fits z zones size lt = grind arith
 
 -- a disk's sectors are a number of 64 bits
 pub sectors_fit : {D : Type 0} {d : Ghosts D} → Laws d → (s : D) (n : ℕ) → n ≤ d.sectors s → n < 2 ^ 64
@@ -121,21 +115,6 @@ module _ (zones : List (List ℕ)) (z total : ℕ) (end : z ≡ length zones) (r
 
   pub total_wrong : total ≢ 255 → (n : ℕ) → n ≡ z → Some n ≡ copy_fault zones
   total_wrong other n n_is = ap Some n_is ∙ sym (ap (λ b. cond b None (Some z)) (ne_eqb total 255 other)) ∙ all_read zones z total end right is
-
--- ---- zones read one after another
-
--- One zone more is that of the copy.
-pub filled_more : (size first : ℕ) (image was part : List ℕ) (z : ℕ) → length part ≡ size → z * size + size ≤ length was
-    → ((k : ℕ) → k < z → sector_at size was k ≡ sector_at size image (first + k)) → part ≡ sector_at size image (first + z)
-    → (k : ℕ) → k < z + 1 → sector_at size (put_mid (z * size) (z * size + size - z * size) was part) k ≡ sector_at size image (first + k)
-filled_more size first image was part z whole fits so_far part_is k lt =
-    let next = put_mid-with_sector size was z part was part refl refl in
-    elim (cases_eq k z) [
-      | inl same ↦
-          ap (λ l. sector_at size l k) next ∙ ap (sector_at size (with_sector size was z part)) same ∙ sector_at-with_sector_same size was z part whole fits
-          ∙ part_is ∙ ap (λ n. sector_at size image (first + n)) (sym same)
-      | inr other ↦ ap (λ l. sector_at size l k) next ∙ sector_at-with_sector_other size was z k part whole fits other ∙ so_far k (omega arith)
-    ]
 
 -- Bytes whose zones are those of the copy.
 pub filled_all : (g : Geometry) (w : Which) (image bytes : List ℕ) → ((k : ℕ) → k < g.zones → sector_at g.sector bytes k ≡ sector_at g.sector image (copy_start g w + k)) → zones_in g bytes ≡ copy_of g w image

@@ -1,17 +1,16 @@
 // Which copy of the map counts, and a copy as a whole.
-ghost use Rattle.std.specs.Prelude.{◌≡◌, ◌<◌, ◌≤◌, ◌+◌, ◌*◌, ◌^◌, Err, length, IsTrue, IfOk, OnOk};
+ghost use Rattle.std.specs.Prelude.{◌≡◌, ◌<◌, ◌≤◌, ◌+◌, ◌*◌, ◌^◌, Ok, Err, length, IsTrue, IfOk, OnOk};
 ghost use Rattle.std.specs.Option.{ForSome};
-ghost use Rattle.fc_device.specs.Calls.{FailsByFault};
+ghost use Rattle.fc_device.specs.Calls.{FailsByFault, OnlyReads};
 ghost use Rattle.fc_device.specs.Faults.{Rose};
 ghost use Rattle.fc_device.specs.Sectors.{sector_at};
-ghost use Rattle.fc_record.specs.Reads.{OnlyReads};
 ghost use Rattle.fc_newmap.specs.Map.{zones_in};
 ghost use Rattle.fc_copies.specs.Copies.{copy_of, copy_start};
 ghost use Rattle.fc_copies.specs.Choosing.{Answers, copy_fault, cross_if_right};
 
 use crate::{CopyError, Which};
 use fc_checks::zone_check;
-use fc_device::{Disk, DiskFault};
+use fc_device::{Disk, DiskFault, Extent};
 use fc_record::Geometry;
 
 /// The most bytes that a sector has.
@@ -36,6 +35,7 @@ fn read_cross<D: Disk>(disk: &mut D, n: u64, sector: &mut [u8]) -> Result<Option
     requires whole { length sector.old ≡ D.sector_size disk.old }
     ensures found { IfOk result (λ cross. ForSome (D.bytes disk.old) (λ image. cross ≡ cross_if_right (sector_at (D.sector_size disk.old) image n))) }
     ensures reads { OnlyReads D.Disk disk.old disk.new }
+    ensures few { D.read_calls disk.new ≤ D.read_calls disk.old + 1 }
     ensures cause { FailsByFault D.Disk disk.old disk.new result }
 {
     disk.read(n, sector)?;
@@ -54,6 +54,7 @@ fn fault_of<D: Disk>(disk: &mut D, g: &Geometry, w: Which) -> Result<Option<u16>
     requires on_disk { g.now.map_sector + 2 * g.now.zones ≤ D.sectors disk.old }
     ensures found { IfOk result (λ fault. ForSome (D.bytes disk.old) (λ image. fault ≡ copy_fault (copy_of g.now w image))) }
     ensures reads { OnlyReads D.Disk disk.old disk.new }
+    ensures few { D.read_calls disk.new ≤ D.read_calls disk.old + g.now.zones }
     ensures cause { FailsByFault D.Disk disk.old disk.new result }
 {
     let start = start_of(g, w);
@@ -70,8 +71,8 @@ fn fault_of<D: Disk>(disk: &mut D, g: &Geometry, w: Which) -> Result<Option<u16>
 }
 
 /// The copy that counts: copy 1 where it is sound, else copy 2 where that is (docs/FORMAT.md, "Two copies"). The disk
-/// is attached, has the geometry's sectors and holds both copies. Only they are read, each sector at most once, copy 2
-/// only where copy 1 isn't sound; nothing is written.
+/// is attached, has the geometry's sectors and holds both copies. Only they are read, with at most a read call for each
+/// sector, and copy 2 isn't read where copy 1 is sound; nothing is written.
 ///
 /// The answer is `BothBad` exactly where neither is sound, and `DiskFault` only where the disk's count of faults rose.
 pub fn choose<D: Disk>(disk: &mut D, g: &Geometry) -> Result<Which, CopyError>
@@ -80,6 +81,8 @@ pub fn choose<D: Disk>(disk: &mut D, g: &Geometry) -> Result<Which, CopyError>
     requires on_disk { g.now.map_sector + 2 * g.now.zones ≤ D.sectors disk.old }
     ensures answer { ForSome (D.bytes disk.old) (λ image. Answers g.now image result) }
     ensures reads { OnlyReads D.Disk disk.old disk.new }
+    ensures few { D.read_calls disk.new ≤ D.read_calls disk.old + 2 * g.now.zones }
+    ensures one_alone { result ≡ Ok Which.One → D.read_calls disk.new ≤ D.read_calls disk.old + g.now.zones }
     ensures cause { result ≡ Err CopyError.DiskFault → Rose (D.faults disk.old) (D.faults disk.new) }
 {
     let c1 = match fault_of(disk, g, Which::One) {
@@ -108,13 +111,13 @@ pub fn fetch<D: Disk>(
     requires whole { length into.old ≡ g.now.zones * g.now.sector }
     ensures filled { OnOk result (ForSome (D.bytes disk.old) (λ image. zones_in g.now into.new ≡ copy_of g.now w image)) }
     ensures reads { OnlyReads D.Disk disk.old disk.new }
+    ensures few { D.read_calls disk.new ≤ D.read_calls disk.old + g.now.zones }
     ensures cause { FailsByFault D.Disk disk.old disk.new result }
 {
-    let start = start_of(g, w);
-    let size = g.sector as usize;
-    for z in 0..g.zones {
-        let at = usize::from(z) * size;
-        disk.read(start + u64::from(z), &mut into[at..at + size])?;
-    }
+    let copy = Extent {
+        first: start_of(g, w),
+        sectors: u64::from(g.zones),
+    };
+    disk.read_row(copy, into)?;
     Ok(())
 }

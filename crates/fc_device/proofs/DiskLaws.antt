@@ -45,7 +45,7 @@ module _ {D : Type 0} {d : Ghosts D} (law : Laws d) where
 
 module _ {D : Type 0} (d : Ghosts D) where
   pub form_same : (s : D) → SameForm d s s
-  form_same s = record { attached_stays = refl; tells_stays = refl; gives_stays = refl; sectors_stay = refl; size_stays = refl; length_stays = refl }
+  form_same s = record { attached_stays = refl; tells_stays = refl; gives_stays = refl; asked_stays = refl; sectors_stay = refl; size_stays = refl; length_stays = refl }
 
   -- the form stays over two calls
   pub form_then : {old mid new : D} → SameForm d old mid → SameForm d mid new → SameForm d old new
@@ -53,6 +53,7 @@ module _ {D : Type 0} (d : Ghosts D) where
     attached_stays = second.attached_stays ∙ first.attached_stays;
     tells_stays = second.tells_stays ∙ first.tells_stays;
     gives_stays = second.gives_stays ∙ first.gives_stays;
+    asked_stays = second.asked_stays ∙ first.asked_stays;
     sectors_stay = second.sectors_stay ∙ first.sectors_stay;
     size_stays = second.size_stays ∙ first.size_stays;
     length_stays = second.length_stays ∙ first.length_stays;

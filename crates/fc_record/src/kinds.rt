@@ -1,15 +1,14 @@
 //! The kind of an image.
-ghost use Rattle.std.specs.Prelude.{◌≡◌, ◌≤◌, ◌*◌, ◌^◌, length, Some, None, Err, if◌then◌else◌, IsTrue, IfOk, IfSome};
+ghost use Rattle.std.specs.Prelude.{◌≡◌, ◌+◌, ◌≤◌, ◌*◌, ◌^◌, length, Some, None, Err, if◌then◌else◌, IsTrue, IfOk, IfSome};
 ghost use Rattle.std.specs.Option.{ForSome};
 ghost use Rattle.fc_bytes.specs.Words.{bytes_at};
-ghost use Rattle.fc_device.specs.Calls.{FailsByFault, SameForm, StopsAsBefore};
+ghost use Rattle.fc_device.specs.Calls.{FailsByFault, SameForm, StopsAsBefore, OnlyReads};
 ghost use Rattle.fc_device.specs.Faults.{Rose};
 ghost use Rattle.fc_device.specs.Stops.{StillLeaves};
 ghost use Rattle.fc_checks.specs.Checks.{is_half_right};
 ghost use Rattle.fc_record.specs.Kinds.{is_boot, boot_record, is_old_map, kind_of, IsKind, Answers, FitsLength};
 ghost use Rattle.fc_record.specs.Parts.{record_in_boot, record_in_map, kind_in_old_map};
 ghost use Rattle.fc_record.specs.Record.{IsRecord};
-ghost use Rattle.fc_record.specs.Reads.{OnlyReads};
 
 use crate::reads::fetch;
 use crate::{DiscRecord, Kind, KindError, read_record};
@@ -84,6 +83,7 @@ fn boot_record<D: Disk>(disk: &mut D) -> Result<Option<DiscRecord>, DiskFault>
     ensures found { IfOk result (λ found. ForSome (D.bytes disk.old) (λ image. found ≡ (if is_boot image then Some (boot_record image) else None))) }
     ensures valid { IfOk result (λ found. IfSome found IsRecord) }
     ensures reads { OnlyReads D.Disk disk.old disk.new }
+    ensures few { D.read_calls disk.new ≤ D.read_calls disk.old + 2 }
     ensures cause { FailsByFault D.Disk disk.old disk.new result }
 {
     let mut block = [0u8; 512];
@@ -101,6 +101,7 @@ fn map_record<D: Disk>(disk: &mut D, first: u64) -> Result<Option<DiscRecord>, D
     ensures found { IfOk result (λ found. ForSome (D.bytes disk.old) (λ image. found ≡ record_in_map (bytes_at image (256 * first) 1024))) }
     ensures valid { IfOk result (λ found. IfSome found (λ r. IsKind (Kind.OneZone r))) }
     ensures reads { OnlyReads D.Disk disk.old disk.new }
+    ensures few { D.read_calls disk.new ≤ D.read_calls disk.old + 4 }
     ensures cause { FailsByFault D.Disk disk.old disk.new result }
 {
     let mut sector = [0u8; 1024];
@@ -117,6 +118,7 @@ fn old_kind<D: Disk>(disk: &mut D) -> Result<Option<Kind>, DiskFault>
     ensures found { IfOk result (λ found. ForSome (D.bytes disk.old) (λ image. found ≡ kind_in_old_map image)) }
     ensures valid { IfOk result (λ found. IfSome found IsKind) }
     ensures reads { OnlyReads D.Disk disk.old disk.new }
+    ensures few { D.read_calls disk.new ≤ D.read_calls disk.old + 2 }
     ensures cause { FailsByFault D.Disk disk.old disk.new result }
 {
     let mut map = [0u8; 512];
@@ -133,6 +135,7 @@ fn first_kind<D: Disk>(disk: &mut D) -> Result<Option<Kind>, DiskFault>
     ensures found { IfOk result (λ found. ForSome (D.bytes disk.old) (λ image. found ≡ kind_of image)) }
     ensures valid { IfOk result (λ found. IfSome found IsKind) }
     ensures reads { OnlyReads D.Disk disk.old disk.new }
+    ensures few { D.read_calls disk.new ≤ D.read_calls disk.old + 12 }
     ensures cause { FailsByFault D.Disk disk.old disk.new result }
 {
     if let Some(record) = boot_record(disk)? {
@@ -148,7 +151,7 @@ fn first_kind<D: Disk>(disk: &mut D) -> Result<Option<Kind>, DiskFault>
 }
 
 /// The kind of an image: the first of four that fits (docs/FORMAT.md, "Kinds"). The disk is attached and has sectors
-/// of 256 bytes. Only the first 3584 bytes are read, and nothing is written.
+/// of 256 bytes. Only the first 3584 bytes are read, with at most 12 read calls, and nothing is written.
 ///
 /// The answer is `NoKind` exactly where none fits, `Short` exactly where the image is shorter than the disc of the
 /// kind that fits, and `DiskFault` only where the disk's count of faults rose.
@@ -162,6 +165,7 @@ pub fn kind<D: Disk>(disk: &mut D) -> Result<Kind, KindError>
     ensures pending { D.pending disk.new ≡ D.pending disk.old }
     ensures stops { StopsAsBefore D.Disk disk.old disk.new }
     ensures still { StillLeaves D.moment D.left_since disk.old disk.new }
+    ensures read_calls { (D.read_calls disk.old ≤ D.read_calls disk.new) × (D.read_calls disk.new ≤ D.read_calls disk.old + 12) }
     ensures later { D.faults disk.old ≤ D.faults disk.new }
     ensures cause { result ≡ Err KindError.DiskFault → Rose (D.faults disk.old) (D.faults disk.new) }
 {

@@ -3,7 +3,7 @@ use Rattle.std.proofs.Common.{◌≡◌, ℕ, List, Option, Some, None, option_m
 use Rattle.fc_device.specs.declared.disk.Disk.{Ghosts}
 use Rattle.fc_device.proofs.DiskLaws.{Laws}
 use Rattle.fc_device.proofs.StopLemmas.{goes_on_same}
-use Rattle.fc_record.specs.Reads.{OnlyReads}
+use Rattle.fc_device.specs.Calls.{OnlyReads}
 use Rattle.fc_format.specs.declared.Format.{Format}
 use Rattle.fc_format.specs.Fresh.{format_size, fresh_image, zeros}
 use Rattle.fc_volume.specs.Volume.{OnlyShapes}

@@ -3,7 +3,7 @@ ghost use Rattle.std.specs.Prelude.{◌≡◌, ◌≢◌, ◌≤◌, ◌++◌, �
 ghost use Rattle.std.specs.Option.{ForSome};
 ghost use Rattle.fc_device.specs.Faults.{Rose};
 ghost use Rattle.fc_record.specs.declared.Kind.{Kind};
-ghost use Rattle.fc_record.specs.Reads.{OnlyReads};
+ghost use Rattle.fc_device.specs.Calls.{OnlyReads};
 ghost use Rattle.fc_model.specs.Command.{Command as Model};
 ghost use Rattle.fc_image.specs.Opening.{Opened};
 ghost use Rattle.fc_image.specs.Report.{counts, free_bytes, largest_hole};

@@ -1,11 +1,10 @@
 // A script over an image, from its name to the last reply.
 ghost use Rattle.std.specs.Prelude.{◌≡◌, ◌⊎◌, ◌≤◌, true, false, Ok, Err, None, IfOk, IsTrue, IsFalse, option_map};
 ghost use Rattle.std.specs.Option.{ForSome};
-ghost use Rattle.fc_device.specs.Calls.{FailsByFault};
+ghost use Rattle.fc_device.specs.Calls.{FailsByFault, OnlyReads};
 ghost use Rattle.fc_device.specs.Faults.{Rose};
 ghost use Rattle.fc_device.specs.Form.{IsFresh, IsUntouched};
 ghost use Rattle.fc_record.specs.declared.Kind.{Kind};
-ghost use Rattle.fc_record.specs.Reads.{OnlyReads};
 ghost use Rattle.fc_image.specs.Opening.{Opened};
 ghost use Rattle.fc_image.specs.Stays.{OpensAs};
 ghost use Rattle.fc_format.specs.Fresh.{format_size, fresh_image, zeros};

@@ -2,7 +2,7 @@
 ghost use Rattle.std.specs.Prelude.{◌≡◌, ◌≤◌, Err, IfErr, IfOk, IsTrue, List, ℕ, Ok, OnOk, length, reverse};
 ghost use Rattle.std.specs.Option.{ForSome};
 ghost use Rattle.fc_device.specs.Faults.{Rose};
-ghost use Rattle.fc_record.specs.Reads.{OnlyReads};
+ghost use Rattle.fc_device.specs.Calls.{OnlyReads};
 ghost use Rattle.fc_names.specs.Names.{Path};
 ghost use Rattle.fc_dirs.specs.Directory.{Directory, directory_of, directory_size, entries_of};
 ghost use Rattle.fc_image.specs.Layout.{dir_form, disc_sectors, sector_bytes};

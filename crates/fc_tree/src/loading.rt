@@ -2,7 +2,7 @@
 ghost use Rattle.std.specs.Prelude.{◌≡◌, ◌≤◌, Err, IfErr, IfOk, IsTrue};
 ghost use Rattle.std.specs.Option.{ForSome};
 ghost use Rattle.fc_device.specs.Faults.{Rose};
-ghost use Rattle.fc_record.specs.Reads.{OnlyReads};
+ghost use Rattle.fc_device.specs.Calls.{OnlyReads};
 ghost use Rattle.fc_objects.specs.Extents.{sectors_in};
 ghost use Rattle.fc_image.specs.Layout.{disc_sectors, sector_bytes};
 ghost use Rattle.fc_image.specs.Walk.{reader_of, walk};

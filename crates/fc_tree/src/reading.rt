@@ -2,7 +2,7 @@
 ghost use Rattle.std.specs.Prelude.{◌≡◌, ◌<◌, ◌≤◌, ◌∷◌, [], true, Err, IsTrue, List, ℕ, OnOk, Some, length};
 ghost use Rattle.std.specs.Option.{ForSome};
 ghost use Rattle.fc_device.specs.Faults.{Rose};
-ghost use Rattle.fc_record.specs.Reads.{OnlyReads};
+ghost use Rattle.fc_device.specs.Calls.{OnlyReads};
 ghost use Rattle.fc_objects.specs.Extents.{extent_sectors, sectors_in};
 ghost use Rattle.fc_image.specs.Edits.{IsAt};
 ghost use Rattle.fc_image.specs.Layout.{dir_form, disc_sectors, is_among, sector_bytes, sectors_at};

@@ -2,7 +2,7 @@
 ghost use Rattle.std.specs.Prelude.{◌≡◌, ◌<◌, ◌≤◌, ◌++◌, [], Err, IfErr, IfOk, IfSome, IsTrue, List, ℕ, None, Ok, OnOk, length, reverse};
 ghost use Rattle.std.specs.Option.{ForSome};
 ghost use Rattle.fc_device.specs.Faults.{Rose};
-ghost use Rattle.fc_record.specs.Reads.{OnlyReads};
+ghost use Rattle.fc_device.specs.Calls.{OnlyReads};
 ghost use Rattle.fc_names.specs.Names.{Path};
 ghost use Rattle.fc_dirs.specs.Directory.{directory_size};
 ghost use Rattle.fc_objects.specs.Extents.{sectors_in};

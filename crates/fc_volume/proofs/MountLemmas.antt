@@ -7,7 +7,7 @@ use Rattle.std.proofs.lemmas.Bool.{lt-ltb, ltb-true}
 use Rattle.fc_device.specs.declared.disk.Disk.{Ghosts}
 use Rattle.fc_device.proofs.DiskLaws.{Laws}
 use Rattle.fc_device.proofs.StopLemmas.{goes_on_same}
-use Rattle.fc_device.specs.Calls.{StopsAsBefore}
+use Rattle.fc_device.specs.Calls.{StopsAsBefore, OnlyReads}
 use Rattle.fc_device.specs.Stops.{StillLeaves}
 use Rattle.fc_names.specs.declared.name.NameForm.{NameForm}
 use Rattle.fc_names.specs.declared.name.NameForm.TheVariants as forms
@@ -16,7 +16,6 @@ use Rattle.fc_dirs.specs.declared.Entry.{Entry}
 use Rattle.fc_record.specs.declared.DiscRecord.{DiscRecord}
 use Rattle.fc_record.specs.declared.Kind.{Kind}
 use Rattle.fc_record.specs.Kinds.{FoundLaw, disc_size, fits_kind, kind_of}
-use Rattle.fc_record.specs.Reads.{OnlyReads}
 use Rattle.fc_record.specs.Record.{IsRecord}
 use Rattle.fc_newmap.proofs.GeometryLemmas.{facts_of_valid}
 use Rattle.fc_image.specs.declared.ImageFault.{ImageFault}

@@ -3,10 +3,9 @@ ghost use Rattle.std.specs.Prelude.{◌≡◌, ◌≤◌, ◌<◌, ◌+◌, ◌*
 ghost use Rattle.std.specs.Option.{ForSome};
 ghost use Rattle.fc_device.specs.Faults.{Rose};
 ghost use Rattle.fc_record.specs.Record.{IsRecord, geometry};
-ghost use Rattle.fc_device.specs.Calls.{FailsByFault};
+ghost use Rattle.fc_device.specs.Calls.{FailsByFault, OnlyReads};
 ghost use Rattle.fc_oldmap.specs.OldMap.{free_space, hole_fault};
 ghost use Rattle.fc_record.specs.Kinds.{IsKind, disc_size, fits_kind, is_old_map, map_record, old_units, sector_size};
-ghost use Rattle.fc_record.specs.Reads.{OnlyReads};
 ghost use Rattle.fc_newmap.specs.Map.{zones_in};
 ghost use Rattle.fc_newmap.specs.NewMap.{IsOfRecord};
 ghost use Rattle.fc_copies.specs.Copies.{chosen, copy_of};

@@ -1,9 +1,8 @@
 // Where files lie, and their bytes.
 ghost use Rattle.std.specs.Prelude.{◌≡◌, ◌<◌, ◌≤◌, ◌+◌, take, drop, length, IfOk, OnOk, IsTrue};
 ghost use Rattle.std.specs.Option.{ForSome};
-ghost use Rattle.fc_device.specs.Calls.{FailsByFault};
+ghost use Rattle.fc_device.specs.Calls.{FailsByFault, OnlyReads};
 ghost use Rattle.fc_device.specs.Sectors.{sector_at};
-ghost use Rattle.fc_record.specs.Reads.{OnlyReads};
 ghost use Rattle.fc_record.specs.declared.Kind.{Kind};
 ghost use Rattle.fc_image.specs.Layout.{sector_bytes};
 ghost use Rattle.fc_tree.specs.Agree.{Agree};

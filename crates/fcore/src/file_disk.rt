@@ -1,10 +1,10 @@
 // A disk over a real file. It tells nothing of its content, nor of what a stop of the machine leaves.
-ghost use Rattle.std.specs.Prelude.{◌≡◌, ◌<◌, ◌^◌, ◌/◌, ◌||◌, ◌==◌, false, None, IsTrue, IfOk, IfSome, refl};
+ghost use Rattle.std.specs.Prelude.{[], ◌≡◌, ◌<◌, ◌^◌, ◌/◌, ◌||◌, ◌==◌, false, None, IsTrue, IfOk, IfSome, refl};
 ghost use Rattle.std.specs.Option.{ForSome};
 ghost use Rattle.fc_device.specs.Untold.{not_some, not_true};
 ghost use Rattle.fc_device.specs.Image.{is_sector_size};
 
-use fc_device::{Disk, Failed};
+use fc_device::{Asks, Disk, Extent, Failed};
 use std::fs::{OpenFile, OpenOptions};
 use std::io::{self, ErrorKind, Read, Seek, SeekFrom, Write};
 use std::rt::Files;
@@ -99,6 +99,7 @@ impl<R: Files + Drop> Edge<R> {
 #[derive(Drop)]
 pub struct FileDisk<R: Files + Drop> {
     edge: Edge<R>,
+    asks: Asks,
     attached: bool,
     length: u64,
     size: u64,
@@ -110,10 +111,13 @@ pub struct FileDisk<R: Files + Drop> {
 }
 
 impl<R: Files + Drop> FileDisk<R> {
-    /// No file is open yet.
-    pub fn new(rt: R) -> FileDisk<R> {
+    /// No file is open yet, and none was asked for.
+    pub fn new(rt: R) -> FileDisk<R>
+        ensures { result.asks.list ≡ [] }
+    {
         FileDisk {
             edge: Edge { rt, file: None },
+            asks: Asks::new(),
             attached: false,
             length: 0,
             size: 256,
@@ -126,6 +130,8 @@ impl<R: Files + Drop> Disk for FileDisk<R> {
     ghost attached = { λ s. s.attached };
 
     ghost gives = { λ s. None };
+
+    ghost asked = { λ s. s.asks.list };
 
     ghost bytes = { λ s. None };
 
@@ -148,6 +154,7 @@ impl<R: Files + Drop> Disk for FileDisk<R> {
     ghost faults = { λ s. s.faults };
 
     fn attach(&mut self, name: &str, blank: Option<u64>) -> Result<bool, Failed> {
+        self.asks.note(name.as_bytes(), &blank);
         match self.edge.open(name, blank) {
             Ok(None) => Ok(false),
             Ok(Some(length)) => {
@@ -181,6 +188,14 @@ impl<R: Files + Drop> Disk for FileDisk<R> {
 
     fn read(&mut self, n: u64, into: &mut [u8]) -> Result<(), Failed> {
         if self.edge.read(n * self.size, into).is_err() {
+            self.faults = self.faults.saturating_add(1);
+            return Err(Failed);
+        }
+        Ok(())
+    }
+
+    fn read_row(&mut self, row: Extent, into: &mut [u8]) -> Result<(), Failed> {
+        if self.edge.read(row.first * self.size, into).is_err() {
             self.faults = self.faults.saturating_add(1);
             return Err(Failed);
         }

@@ -1,7 +1,7 @@
 use Rattle.std.proofs.Common.{Some, ◌≡◌, ◌<◌, ◌+◌, ℕ, List, [], length, get_or, refl, sym, ap, ◌∙◌, arith}
 use Rattle.fc_device.proofs.DiskLaws.{laws}
 use Rattle.fc_device.specs.Sectors.{sector_at}
-use Rattle.fc_record.proofs.ReadLemmas.{reads_start, reads_then}
+use Rattle.fc_device.proofs.StopLemmas.{reads_start, reads_then}
 use Rattle.fc_copies.specs.Choosing.{cross_if_right}
 use Rattle.fc_copies.specs.Copies.{copy_of, copy_start}
 use Rattle.fc_copies.proofs.ReadingLemmas.{length-copy, right_more, sectors_fit, total_more, total_right, total_wrong, wrong_here, zone_of_copy}
@@ -24,7 +24,7 @@ pub returns-in-None-clause-reads : goal.returns-in-None-clause-reads
 returns-in-None-clause-reads g c = reads_then (laws g.met.D.Disk) c.loop-z.invariant.reads c.read_cross.ensures.reads
 
 pub loop-z-init : goal.loop-z-init
-loop-z-init g c = record { reads = reads_start (laws g.met.D.Disk) c.args.disk.now; right = λ image told. refl; total = λ image told. refl }
+loop-z-init g c = record { reads = reads_start (laws g.met.D.Disk) c.args.disk.now; few = omega arith; right = λ image told. refl; total = λ image told. refl }
 
 pub loop-z-preserved : goal.loop-z-preserved
 loop-z-preserved g c =
@@ -38,6 +38,7 @@ loop-z-preserved g c =
     let inside : (image : List ℕ) → c.loop-z.z < length (copy_of c.args.g.now c.args.w image) = λ image. omega (arith, c.loop-z-test.true, length-copy c.args.g.now c.args.w image) in
     record {
       reads = reads_then (laws g.met.D.Disk) done.reads c.read_cross.ensures.reads;
+      few = omega (arith, done.few, c.read_cross.ensures.few);
       right = λ image told. right_more (copy_of c.args.g.now c.args.w image) c.loop-z.z (inside image) (done.right image told) c.in-Some.cross (found image told);
       total = λ image told. total_more (copy_of c.args.g.now c.args.w image) c.loop-z.z (inside image) (done.right image told) c.loop-z.total c.in-Some.cross (found image told) (done.total image told);
     }

@@ -1,9 +1,9 @@
 use Rattle.std.proofs.Common.{◌≢◌, ap, refl, sym, subst, ◌∙◌}
 use Rattle.std.specs.Prelude.{IfErr}
 use Rattle.fc_device.specs.Faults.{Rose}
-use Rattle.fc_record.specs.Reads.{OnlyReads}
+use Rattle.fc_device.specs.Calls.{OnlyReads}
 use Rattle.fc_device.proofs.DiskLaws.{laws}
-use Rattle.fc_record.proofs.ReadLemmas.{reads_start}
+use Rattle.fc_device.proofs.StopLemmas.{reads_start}
 use Rattle.fc_effects.specs.Effect.{State, tree_in}
 use Rattle.fc_image.specs.Layout.{dir_form}
 use Rattle.fc_model.specs.Answer.{answer}

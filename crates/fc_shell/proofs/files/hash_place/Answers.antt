@@ -4,7 +4,7 @@ use Rattle.fc_device.specs.declared.disk.Extent.{Extent}
 use Rattle.fc_device.proofs.DiskLaws.{laws}
 use Rattle.fc_image.specs.Layout.{bytes_in}
 use Rattle.fc_objects.specs.Extents.{extent_sectors, sectors_in}
-use Rattle.fc_record.proofs.ReadLemmas.{reads_then}
+use Rattle.fc_device.proofs.StopLemmas.{reads_then}
 use Rattle.fc_shell.proofs.HashLemmas.{fed_all, fed_more}
 use Rattle.fc_shell.proofs.PieceLemmas.{place_end, place_step}
 use Rattle.fc_shell.proofs.ReadingLemmas.{extent_has, still_has, whole_sectors}

@@ -6,7 +6,7 @@ use Rattle.fc_device.specs.Sectors.{sector_at}
 use Rattle.fc_device.proofs.DiskLaws.{laws}
 use Rattle.fc_image.specs.Layout.{bytes_in}
 use Rattle.fc_objects.specs.Extents.{extent_sectors}
-use Rattle.fc_record.proofs.ReadLemmas.{reads_then}
+use Rattle.fc_device.proofs.StopLemmas.{reads_then}
 use Rattle.fc_shell.proofs.PieceLemmas.{left_step, no_digits_of, row_digits, row_end}
 use Rattle.fc_shell.proofs.ReadingLemmas.{row_has, sectors_fit, whole_sector}
 use Rattle.fc_shell.proofs.ToldLemmas.{told_stopped}

@@ -6,7 +6,7 @@ use Rattle.fc_device.specs.declared.disk.Extent.{Extent}
 use Rattle.fc_device.proofs.DiskLaws.{laws}
 use Rattle.fc_image.specs.Layout.{bytes_in}
 use Rattle.fc_objects.specs.Extents.{extent_sectors, sectors_in}
-use Rattle.fc_record.proofs.ReadLemmas.{reads_then}
+use Rattle.fc_device.proofs.StopLemmas.{reads_then}
 use Rattle.fc_shell.proofs.PieceLemmas.{no_digits_of, place_digits, place_end}
 use Rattle.fc_shell.proofs.ReadingLemmas.{extent_has, still_has, whole_sectors}
 use Rattle.fc_shell.proofs.ToldLemmas.{told_stopped}

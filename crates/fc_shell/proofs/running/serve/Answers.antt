@@ -2,7 +2,7 @@ use Rattle.std.proofs.Common.{◌≡◌, Bool, false, Result, List, ℕ, ◌∷�
 use Rattle.std.specs.List.{list_any}
 use Rattle.std.proofs.lemmas.Result.{err_from_is_err_and}
 use Rattle.fc_device.proofs.DiskLaws.{laws}
-use Rattle.fc_record.proofs.ReadLemmas.{reads_start, reads_then}
+use Rattle.fc_device.proofs.StopLemmas.{reads_start, reads_then}
 use Rattle.fc_effects.specs.Effect.{State}
 use Rattle.fc_runs.specs.Run.{Mode}
 use Rattle.fc_script.specs.Lines.{command_of}

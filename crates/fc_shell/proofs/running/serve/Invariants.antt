@@ -2,7 +2,7 @@ use Rattle.std.proofs.Common.{◌≡◌, ◌≤◌, false, length}
 use Rattle.std.specs.List.{list_any}
 use Rattle.std.specs.Option.{ForSome}
 use Rattle.fc_record.specs.declared.Kind.{Kind}
-use Rattle.fc_record.specs.Reads.{OnlyReads}
+use Rattle.fc_device.specs.Calls.{OnlyReads}
 use Rattle.fc_image.specs.Opening.{Opened}
 use Rattle.fc_image.specs.Stays.{OpensAs}
 use Rattle.fc_script.specs.Lines.{command_of}

@@ -1,6 +1,6 @@
 use Rattle.std.proofs.Common.{◌+◌, ◌∷◌, [], arith, subst}
 use Rattle.fc_device.proofs.DiskLaws.{laws}
-use Rattle.fc_record.proofs.ReadLemmas.{reads_then}
+use Rattle.fc_device.proofs.StopLemmas.{reads_then}
 use Rattle.fc_newmap.proofs.PlaceLemmas.{in_range}
 use Rattle.fc_tree.specs.Reading.{Appends}
 use Rattle.fc_tree.proofs.ReadingLemmas.{row_more, sectors_fit}

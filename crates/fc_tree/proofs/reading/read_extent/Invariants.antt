@@ -1,5 +1,5 @@
 use Rattle.std.specs.List.{range_with_len}
-use Rattle.fc_record.specs.Reads.{OnlyReads}
+use Rattle.fc_device.specs.Calls.{OnlyReads}
 use Rattle.fc_tree.specs.Reading.{Appends}
 use Rattle.fc_tree.proofs.reading.read_extent.Given as goal
 

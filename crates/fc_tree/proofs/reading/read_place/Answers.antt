@@ -2,7 +2,7 @@ use Rattle.std.proofs.Common.{arith, subst, get_or}
 use Rattle.std.proofs.lemmas.List.{take_more}
 use Rattle.fc_device.specs.declared.disk.Extent.{Extent}
 use Rattle.fc_device.proofs.DiskLaws.{laws}
-use Rattle.fc_record.proofs.ReadLemmas.{reads_then}
+use Rattle.fc_device.proofs.StopLemmas.{reads_then}
 use Rattle.fc_objects.specs.Extents.{extent_sectors}
 use Rattle.fc_tree.specs.Reading.{Appends}
 use Rattle.fc_tree.proofs.ReadingLemmas.{extent_among, place_more}

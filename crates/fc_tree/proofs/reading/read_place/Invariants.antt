@@ -1,6 +1,6 @@
 use Rattle.std.proofs.Common.{take}
 use Rattle.fc_objects.specs.Extents.{sectors_in}
-use Rattle.fc_record.specs.Reads.{OnlyReads}
+use Rattle.fc_device.specs.Calls.{OnlyReads}
 use Rattle.fc_tree.specs.Reading.{Appends}
 use Rattle.fc_tree.proofs.reading.read_place.Given as goal
 

@@ -1,7 +1,7 @@
 use Rattle.std.proofs.Common.{◌≡◌, ◌∙◌, ◌+◌, ◌-◌, ◌++◌, ◌∷◌, [], ap, sym, subst, refl, arith, List}
 use Rattle.std.proofs.lemmas.Result.{err_from_is_err_and}
 use Rattle.fc_device.proofs.DiskLaws.{laws}
-use Rattle.fc_record.proofs.ReadLemmas.{reads_start, reads_then}
+use Rattle.fc_device.proofs.StopLemmas.{reads_start, reads_then}
 use Rattle.fc_dirs.specs.Directory.{directory_size}
 use Rattle.fc_objects.specs.Extents.{sectors_in}
 use Rattle.fc_image.specs.Layout.{dir_form}

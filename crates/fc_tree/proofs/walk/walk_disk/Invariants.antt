@@ -1,7 +1,7 @@
 use Rattle.std.proofs.Common.{◌≡◌}
 use Rattle.fc_image.specs.Layout.{disc_sectors}
 use Rattle.fc_objects.specs.Extents.{sectors_in}
-use Rattle.fc_record.specs.Reads.{OnlyReads}
+use Rattle.fc_device.specs.Calls.{OnlyReads}
 use Rattle.fc_space.specs.Space.{layout_of}
 use Rattle.fc_tree.specs.Loaded.{not_free}
 use Rattle.fc_tree.proofs.WalkingLemmas.{IsWalking}

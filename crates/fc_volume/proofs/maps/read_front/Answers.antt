@@ -1,7 +1,7 @@
 use Rattle.std.proofs.Common.{ap, ◌∙◌, arith}
 use Rattle.fc_device.proofs.DiskLaws.{laws}
-use Rattle.fc_record.specs.Reads.{OnlyReads}
-use Rattle.fc_record.proofs.ReadLemmas.{reads_then}
+use Rattle.fc_device.specs.Calls.{OnlyReads}
+use Rattle.fc_device.proofs.StopLemmas.{reads_then}
 use Rattle.fc_device.specs.Sectors.{sector_at}
 use Rattle.fc_volume.proofs.MapsOldLemmas.{front_wide, front_narrow}
 use Rattle.fc_volume.proofs.maps.read_front.Goals as goal
