@@ -8,7 +8,7 @@ ghost use Rattle.fc_space.specs.Space.{layout_of};
 ghost use Rattle.fc_check.specs.Space.{bytes_lost_to, is_lost_id, left_by, with_run};
 
 use fc_alloc::{Owner, Owners};
-use fc_newmap::{NewMap, Walk};
+use fc_newmap::{MAP_ID, NewMap, Walk};
 use fc_oldmap::{Hole, OldMap};
 use fc_space::Space;
 use fc_zone::{Run, RunKind};
@@ -37,9 +37,6 @@ pub struct RunSums {
 
 // The identifier of the disc's defects.
 const DEFECTS_ID: u32 = 1;
-
-// The map's identifier.
-const MAP_ID: u32 = 2;
 
 // Whether an identifier is lost.
 fn is_lost(owners: &Owners, id: u32) -> bool

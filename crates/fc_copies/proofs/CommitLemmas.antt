@@ -13,7 +13,7 @@ use Rattle.fc_record.specs.declared.Geometry.{Geometry}
 use Rattle.fc_newmap.specs.Map.{Map}
 use Rattle.fc_copies.specs.declared.Which.{Which}
 use Rattle.fc_copies.specs.declared.Which.TheVariants.{One, Two}
-use Rattle.fc_copies.specs.Committing.{CanCommit}
+use Rattle.fc_copies.specs.Committing.{CanWrite}
 use Rattle.fc_copies.specs.Copies.{ChangesCopies, CommitEnds, CommitLeaves, copy_of, copy_start, is_sound, sealed_zones}
 use Rattle.fc_copies.specs.Gate.{gate_deltas, gated}
 use Rattle.fc_copies.specs.Passes.{HasPassed, HasPassedBoth, IsPartWritten, PassesBoth}
@@ -119,7 +119,7 @@ module _ (g : Geometry) (start : List ℕ) (new : List (List ℕ)) (changed : Li
 
 -- ---- a map that can be committed
 
-module _ (m : Map) (changed start : List ℕ) (ready : CanCommit m changed start) (all : length m.zones ≡ m.geometry.zones) where
+module _ (m : Map) (changed start : List ℕ) (ready : CanWrite m changed start) (all : length m.zones ≡ m.geometry.zones) where
   abbrev g : Geometry
   g = m.geometry
 
@@ -196,7 +196,7 @@ header_fits size (inr (inr e)) = omega (arith, e)
 
 -- ---- a map in memory that is committed
 
-module _ (m : Map) (changed : List ℕ) (header : 4 ≤ m.geometry.sector) (places : All (λ z. z < m.geometry.zones) changed) (start : List ℕ) (ready : CanCommit m changed start) where
+module _ (m : Map) (changed : List ℕ) (header : 4 ≤ m.geometry.sector) (places : All (λ z. z < m.geometry.zones) changed) (start : List ℕ) (ready : CanWrite m changed start) where
   listed : length m.zones ≡ m.geometry.zones → AllByRecursion (λ z. z < length m.zones) changed
   listed all = all_by_index changed (λ z. z < length m.zones) (λ k lt. let below = All-get_or (λ z. z < m.geometry.zones) changed k 0 lt places in omega (arith, below, all))
 

@@ -1,13 +1,15 @@
 -- Zones of a map that are gated or sealed one after another.
-use Rattle.std.proofs.Common.{◌≡◌, ◌<◌, ◌≤◌, ℕ, zero, suc, ◌+◌, List, [], ◌∷◌, ◌++◌, length, get_or, set, take, refl, sym, ap, ◌∙◌, arith}
+use Rattle.std.proofs.Common.{◌≡◌, ◌<◌, ◌≤◌, ℕ, zero, suc, ◌+◌, List, [], ◌∷◌, ◌++◌, length, get_or, set, take, refl, sym, ap, ◌∙◌, inl, inr, arith}
 use Rattle.std.specs.Prelude.{slice_index, bit_xor}
 use Rattle.std.specs.List.{zip}
-use Rattle.std.proofs.lemmas.List.{take_more}
+use Rattle.std.proofs.lemmas.Bool.{cases_eq}
+use Rattle.std.proofs.lemmas.List.{get_or-set_other, get_or-set_same, take_more}
 use Rattle.std.proofs.lemmas.List.FromFn.{length-map-range_with_len, get_or-map-range_with_len}
 use Rattle.std.proofs.lemmas.List.Sums.{fold_more}
 use Rattle.std.proofs.lemmas.Slice.Zip.{length-zip, get_or-zip}
 use Rattle.fc_zone.specs.Edits.{sealed}
 use Rattle.fc_newmap.specs.Map.{Map, sector_of, with_cross, with_zone}
+use Rattle.fc_copies.specs.Committing.{KeepsContents}
 use Rattle.fc_copies.specs.Copies.{sealed_zones}
 use Rattle.fc_copies.specs.Gate.{gate_delta, gate_deltas, gated_by, gated_sector}
 
@@ -64,3 +66,28 @@ sealed_more m now new changed i z lt z_is before seal =
     ∙ ap (λ (zs : List (List ℕ)). record m { zones = zs })
     (ap (λ (y : ℕ). set (sealed_zones (take i changed) m.zones) y (sealed (get_or (sealed_zones (take i changed) m.zones) y []))) z_is
     ∙ sym (fold_more (λ (zs : List (List ℕ)) (y : ℕ). set zs y (sealed (get_or zs y []))) m.zones changed i 0 lt))
+
+-- ---- what stays of the zones' bytes
+
+pub contents_none : (m : Map) → KeepsContents m m
+contents_none m z k first third = refl
+
+pub contents_then : (a b c : Map) → KeepsContents a b → KeepsContents b c → KeepsContents a c
+contents_then a b c one two z k first third = two z k first third ∙ one z k first third
+
+-- a zone with other checks
+checked_contents : (m n : Map) (z : ℕ) (sector : List ℕ) → z < length m.zones → n ≡ with_zone m z sector → ((k : ℕ) → (k ≡ 0 → ⊥) → (k ≡ 3 → ⊥) → get_or sector k 0 ≡ get_or (sector_of m z) k 0)
+    → KeepsContents m n
+checked_contents m n z sector low e same y k first third = elim (cases_eq y z) [
+  | inl here ↦
+      ap (λ (t : Map). get_or (sector_of t y) k 0) e ∙ ap (λ (x : ℕ). get_or (sector_of (with_zone m z sector) x) k 0) here
+      ∙ ap (λ (s : List ℕ). get_or s k 0) (get_or-set_same m.zones z sector [] low) ∙ same k first third ∙ ap (λ (x : ℕ). get_or (sector_of m x) k 0) (sym here)
+  | inr other ↦ ap (λ (t : Map). get_or (sector_of t y) k 0) e ∙ ap (λ (s : List ℕ). get_or s k 0) (get_or-set_other m.zones z y sector [] other)
+]
+
+pub turned_contents : (m n : Map) (z delta : ℕ) → z < length m.zones → n ≡ with_zone m z (gated_sector (sector_of m z) delta) → KeepsContents m n
+turned_contents m n z delta low e =
+    checked_contents m n z (gated_sector (sector_of m z) delta) low e (λ k first third. get_or-set_other (set (sector_of m z) 3 _) 0 k _ 0 first ∙ get_or-set_other (sector_of m z) 3 k _ 0 third)
+
+pub sealed_contents : (m n : Map) (z : ℕ) → z < length m.zones → n ≡ with_zone m z (sealed (sector_of m z)) → KeepsContents m n
+sealed_contents m n z low e = checked_contents m n z (sealed (sector_of m z)) low e (λ k first third. get_or-set_other (sector_of m z) 0 k _ 0 first)

@@ -1,5 +1,5 @@
--- A copy that is read zone by zone.
-use Rattle.std.proofs.Common.{◌≡◌, ◌<◌, ◌≤◌, ◌≢◌, ℕ, zero, suc, ◌+◌, ◌/◌, ◌^◌, Bool, true, false, cond, List, [], ◌∷◌, length, get_or, take, refl, sym, ap, ◌∙◌, arith, Some, None}
+-- A copy that is read, and looked at zone by zone.
+use Rattle.std.proofs.Common.{◌≡◌, ◌<◌, ◌≤◌, ◌≢◌, ℕ, zero, suc, ◌+◌, ◌-◌, ◌*◌, ◌/◌, ◌%◌, ◌^◌, Bool, true, false, cond, inl, inr, List, [], ◌∷◌, length, length-take, length-drop, get_or, take, drop, refl, sym, ap, ◌∙◌, arith, Some, None}
 use Rattle.std.specs.Prelude.{not, ◌&&◌, ◌==◌, slice_index, bit_xor, Option, Result, Ok, Err}
 use Rattle.std.specs.List.{fold, list_all}
 use Rattle.std.proofs.lemmas.Bool.{ne_eqb, eq-eqb}
@@ -7,10 +7,11 @@ use Rattle.std.proofs.lemmas.List.{take_all}
 use Rattle.std.proofs.lemmas.List.Folds.{fold-map, list_all_more, list_all_at}
 use Rattle.std.proofs.lemmas.List.Sums.{fold_more, position_or_len_is}
 use Rattle.std.proofs.lemmas.List.FromFn.{length-map-range_with_len, get_or-map-range_with_len}
-use Rattle.fc_device.specs.Sectors.{sector_at}
+use Rattle.fc_device.specs.Sectors.{IsSectorSize, sector_at}
 use Rattle.fc_device.specs.declared.disk.Disk.{Ghosts}
 use Rattle.fc_device.proofs.DiskLaws.{Laws}
 use Rattle.fc_newmap.specs.Map.{zones_in}
+use Rattle.fc_newmap.proofs.HeldLemmas.{place_fits}
 use Rattle.fc_record.specs.declared.Geometry.{Geometry}
 use Rattle.fc_copies.proofs.GateLemmas.{first_part, second_part}
 use Rattle.fc_copies.specs.declared.Which.{Which}
@@ -24,6 +25,19 @@ sectors_fit {d = d} law s n le =
     let fits = law.length_fits s in
     let few : d.image_length s / d.sector_size s ≤ d.image_length s = grind arith in
     omega (arith, le, few, fits, law.whole_sectors s)
+
+-- a sector's bytes are words, and more than its header
+pub sector_words : (size : ℕ) → IsSectorSize size → (3 < size) × (size % 4 ≡ 0)
+sector_words size is = elim is [
+  | inl one ↦ (omega (arith, one), ap (λ (n : ℕ). n % 4) one)
+  | inr rest ↦ elim rest [ inl two ↦ (omega (arith, two), ap (λ (n : ℕ). n % 4) two) | inr three ↦ (omega (arith, three), ap (λ (n : ℕ). n % 4) three) ]
+]
+
+-- the bytes of a zone in a buffer
+pub sector_long : (bytes : List ℕ) (z zones size : ℕ) → length bytes ≡ zones * size → z < zones → length (take (z * size + size - z * size) (drop (z * size) bytes)) ≡ size
+sector_long bytes z zones size whole low =
+    let fits = place_fits z zones size low in
+    omega (arith, whole, fits, length-take (z * size + size - z * size) (drop (z * size) bytes), length-drop (z * size) bytes)
 
 -- ---- the sectors of a copy
 

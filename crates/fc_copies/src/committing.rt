@@ -3,9 +3,10 @@ ghost use Rattle.std.specs.Prelude.{◌≡◌, ◌<◌, ◌≤◌, ◌+◌, ◌*
 ghost use Rattle.std.specs.List.Sorted.{IsStrictlyIncreasing};
 ghost use Rattle.std.specs.Option.{ForSome};
 ghost use Rattle.fc_device.specs.Calls.{FailsByFault, SameForm, StopsAndExitsLeave};
+ghost use Rattle.fc_newmap.specs.Edits.{KeepsRuns};
 ghost use Rattle.fc_newmap.specs.Map.{sector_of, with_zone};
 ghost use Rattle.fc_newmap.specs.NewMap.{IsNewMap};
-ghost use Rattle.fc_copies.specs.Committing.{CanCommit};
+ghost use Rattle.fc_copies.specs.Committing.{CanWrite, KeepsContents};
 ghost use Rattle.fc_copies.specs.Copies.{copy_of, sealed_zones, ChangesCopies, CommitEnds, CommitLeaves};
 ghost use Rattle.fc_copies.specs.declared.Which.TheVariants.{One};
 ghost use Rattle.fc_copies.specs.Gate.{gate_delta, gated, gated_sector};
@@ -37,7 +38,9 @@ fn delta_of(k: usize, i: usize) -> u8
 fn turn(map: &mut NewMap, z: u16, delta: u8)
     requires zone { z < map.old.geometry.zones }
     requires header { 3 < map.old.geometry.sector }
-    ensures { map.new ≡ with_zone map.old z (gated_sector (sector_of map.old z) delta) }
+    ensures map { map.new ≡ with_zone map.old z (gated_sector (sector_of map.old z) delta) }
+    ensures runs { KeepsRuns map.old map.new }
+    ensures contents { KeepsContents map.old map.new }
 {
     let cross = map.bytes(z)[CROSS_CHECK];
     map.set_cross(z, cross ^ delta);
@@ -49,8 +52,11 @@ fn gate_zones(map: &mut NewMap, changed: &[u16])
     requires few { length changed.now ≤ 9 }
     requires header { 3 < map.old.geometry.sector }
     requires zones { All (λ z. z < map.old.geometry.zones) changed.now }
-    ensures { map.new ≡ record map.old { zones = gated changed.now map.old.zones } }
+    ensures map { map.new ≡ record map.old { zones = gated changed.now map.old.zones } }
+    ensures runs { KeepsRuns map.old map.new }
+    ensures contents { KeepsContents map.old map.new }
 {
+    map.is_map();
     for (i, z) in changed.iter().enumerate() {
         turn(map, *z, delta_of(changed.len(), i));
     }
@@ -59,8 +65,11 @@ fn gate_zones(map: &mut NewMap, changed: &[u16])
 // Sets the ZoneChecks of the zones.
 fn seal_zones(map: &mut NewMap, changed: &[u16])
     requires zones { All (λ z. z < map.old.geometry.zones) changed.now }
-    ensures { map.new ≡ record map.old { zones = sealed_zones changed.now map.old.zones } }
+    ensures map { map.new ≡ record map.old { zones = sealed_zones changed.now map.old.zones } }
+    ensures runs { KeepsRuns map.old map.new }
+    ensures contents { KeepsContents map.old map.new }
 {
+    map.is_map();
     for z in changed {
         map.seal(*z);
     }
@@ -122,7 +131,8 @@ fn write_both<D: Disk>(disk: &mut D, map: &NewMap, changed: &[u16]) -> Result<()
 /// sound, the map has their CrossChecks, and its zones that aren't listed are theirs.
 ///
 /// The CrossChecks of the listed zones are turned first, so that no mix of old and new zones is sound, and their
-/// ZoneChecks are set; this is what the map holds afterwards, whatever the answer. Then copy 1 is written, and copy 2
+/// ZoneChecks are set; this is what the map holds afterwards, whatever the answer: all its runs and all other bytes
+/// stay. Then copy 1 is written, and copy 2
 /// once it stands. At every stop and at every exit the copy that counts is the old map or the new one, and no sector
 /// outside the two copies changes. It fails only where the disk's count of faults rose.
 pub fn commit<D: Disk>(
@@ -136,8 +146,10 @@ pub fn commit<D: Disk>(
     requires on_disk { map.old.geometry.map_sector + 2 * map.old.geometry.zones ≤ D.sectors disk.old }
     requires rising { IsStrictlyIncreasing changed.now.items }
     requires zones { All (λ z. z < map.old.geometry.zones) changed.now.items }
-    requires ready { ForSome (D.bytes disk.old) (CanCommit map.old changed.now.items) }
+    requires ready { ForSome (D.bytes disk.old) (CanWrite map.old changed.now.items) }
     ensures map { map.new ≡ record map.old { zones = gated changed.now.items map.old.zones } }
+    ensures runs { KeepsRuns map.old map.new }
+    ensures contents { KeepsContents map.old map.new }
     ensures keeps { StopsAndExitsLeave D.Disk disk.old disk.new (λ start image.
         CommitLeaves map.old.geometry start (copy_of map.old.geometry One start) map.new.zones image) }
     ensures ends { OnOk result (ForSome (D.bytes disk.old) (λ start. ForSome (D.bytes disk.new) (CommitEnds map.old.geometry start map.new.zones))) }
@@ -165,8 +177,10 @@ pub fn commit_wide<D: Disk>(
     requires size { D.sector_size disk.old ≡ map.old.geometry.sector }
     requires on_disk { map.old.geometry.map_sector + 2 * map.old.geometry.zones ≤ D.sectors disk.old }
     requires zones { All (λ z. z < map.old.geometry.zones) changed.now.items }
-    requires ready { ForSome (D.bytes disk.old) (CanCommit map.old changed.now.items) }
+    requires ready { ForSome (D.bytes disk.old) (CanWrite map.old changed.now.items) }
     ensures map { map.new ≡ record map.old { zones = sealed_zones changed.now.items map.old.zones } }
+    ensures runs { KeepsRuns map.old map.new }
+    ensures contents { KeepsContents map.old map.new }
     ensures frame { StopsAndExitsLeave D.Disk disk.old disk.new (ChangesCopies map.old.geometry) }
     ensures nothing { changed.now.items ≡ [] → D.bytes disk.new ≡ D.bytes disk.old }
     ensures ends { OnOk result (ForSome (D.bytes disk.old) (λ start. ForSome (D.bytes disk.new) (CommitEnds map.old.geometry start map.new.zones))) }

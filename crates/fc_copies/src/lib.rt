@@ -14,7 +14,7 @@ mod reading;
 mod repairing;
 
 pub use committing::{commit, commit_wide};
-pub use reading::{choose, fetch};
+pub use reading::fetch;
 pub use repairing::repair;
 
 /// One of the two copies of the map: the one at the map's address, or the one behind it.

@@ -1,9 +1,9 @@
-// Which copy of the map counts, and a copy as a whole.
-ghost use Rattle.std.specs.Prelude.{◌≡◌, ◌<◌, ◌≤◌, ◌+◌, ◌*◌, ◌^◌, Ok, Err, length, IsTrue, IfOk, OnOk};
+// Which copy of the map counts, and its zones.
+ghost use Rattle.std.specs.Prelude.{◌≡◌, ◌<◌, ◌≤◌, ◌+◌, ◌*◌, ◌%◌, ◌^◌, Ok, Err, length, IsTrue, IfOk, OnOk};
 ghost use Rattle.std.specs.Option.{ForSome};
 ghost use Rattle.fc_device.specs.Calls.{FailsByFault, OnlyReads};
 ghost use Rattle.fc_device.specs.Faults.{Rose};
-ghost use Rattle.fc_device.specs.Sectors.{sector_at};
+ghost use Rattle.fc_device.specs.Sectors.{IsSectorSize};
 ghost use Rattle.fc_newmap.specs.Map.{zones_in};
 ghost use Rattle.fc_copies.specs.Copies.{copy_of, copy_start};
 ghost use Rattle.fc_copies.specs.Choosing.{Answers, copy_fault, cross_if_right};
@@ -12,9 +12,6 @@ use crate::{CopyError, Which};
 use fc_checks::zone_check;
 use fc_device::{Disk, DiskFault, Extent};
 use fc_record::Geometry;
-
-/// The most bytes that a sector has.
-pub const MOST: usize = 1024;
 
 /// The sector at which a copy begins.
 pub fn start_of(g: &Geometry, w: Which) -> u64
@@ -28,87 +25,50 @@ pub fn start_of(g: &Geometry, w: Which) -> u64
     }
 }
 
-// Reads the sector of a zone. Answers its CrossCheck where its ZoneCheck is right.
-fn read_cross<D: Disk>(disk: &mut D, n: u64, sector: &mut [u8]) -> Result<Option<u8>, DiskFault>
-    requires attached { IsTrue (D.attached disk.old) }
-    requires on_disk { n < D.sectors disk.old }
-    requires whole { length sector.old ≡ D.sector_size disk.old }
-    ensures found { IfOk result (λ cross. ForSome (D.bytes disk.old) (λ image. cross ≡ cross_if_right (sector_at (D.sector_size disk.old) image n))) }
-    ensures reads { OnlyReads D.Disk disk.old disk.new }
-    ensures few { D.read_calls disk.new ≤ D.read_calls disk.old + 1 }
-    ensures cause { FailsByFault D.Disk disk.old disk.new result }
+// The CrossCheck of a zone's sector, where its ZoneCheck is right.
+fn cross_in(sector: &[u8]) -> Option<u8>
+    requires header { 3 < length sector.now }
+    requires words { length sector.now % 4 ≡ 0 }
+    ensures { result ≡ cross_if_right sector.now }
 {
-    disk.read(n, sector)?;
     if sector[0] == zone_check(sector) {
-        Ok(Some(sector[3]))
+        Some(sector[3])
     } else {
-        Ok(None)
+        None
     }
 }
 
-// Where a copy is wrong: the first zone whose ZoneCheck is, or the number of zones where only the total of the
-// CrossChecks is. None where it is sound.
-fn fault_of<D: Disk>(disk: &mut D, g: &Geometry, w: Which) -> Result<Option<u16>, DiskFault>
-    requires attached { IsTrue (D.attached disk.old) }
-    requires size { D.sector_size disk.old ≡ g.now.sector }
-    requires on_disk { g.now.map_sector + 2 * g.now.zones ≤ D.sectors disk.old }
-    ensures found { IfOk result (λ fault. ForSome (D.bytes disk.old) (λ image. fault ≡ copy_fault (copy_of g.now w image))) }
-    ensures reads { OnlyReads D.Disk disk.old disk.new }
-    ensures few { D.read_calls disk.new ≤ D.read_calls disk.old + g.now.zones }
-    ensures cause { FailsByFault D.Disk disk.old disk.new result }
+// Where the zones of a copy are wrong: the first zone whose ZoneCheck is, or the number of zones where only the total
+// of the CrossChecks is. None where the copy is sound.
+fn fault_in(zones: &[u8], g: &Geometry) -> Option<u16>
+    requires whole { length zones.now ≡ g.now.zones * g.now.sector }
+    requires size { IsSectorSize g.now.sector }
+    ensures { result ≡ copy_fault (zones_in g.now zones.now) }
 {
-    let start = start_of(g, w);
     let size = g.sector as usize;
-    let mut sector = [0; MOST];
     let mut total = 0;
     for z in 0..g.zones {
-        match read_cross(disk, start + u64::from(z), &mut sector[..size])? {
+        let at = usize::from(z) * size;
+        match cross_in(&zones[at..at + size]) {
             Some(cross) => total ^= cross,
-            None => return Ok(Some(z)),
+            None => return Some(z),
         }
     }
-    Ok(if total == 255 { None } else { Some(g.zones) })
+    if total == 255 { None } else { Some(g.zones) }
 }
 
-/// The copy that counts: copy 1 where it is sound, else copy 2 where that is (docs/FORMAT.md, "Two copies"). The disk
-/// is attached, has the geometry's sectors and holds both copies. Only they are read, with at most a read call for each
-/// sector, and copy 2 isn't read where copy 1 is sound; nothing is written.
-///
-/// The answer is `BothBad` exactly where neither is sound, and `DiskFault` only where the disk's count of faults rose.
-pub fn choose<D: Disk>(disk: &mut D, g: &Geometry) -> Result<Which, CopyError>
-    requires attached { IsTrue (D.attached disk.old) }
-    requires size { D.sector_size disk.old ≡ g.now.sector }
-    requires on_disk { g.now.map_sector + 2 * g.now.zones ≤ D.sectors disk.old }
-    ensures answer { ForSome (D.bytes disk.old) (λ image. Answers g.now image result) }
-    ensures reads { OnlyReads D.Disk disk.old disk.new }
-    ensures few { D.read_calls disk.new ≤ D.read_calls disk.old + 2 * g.now.zones }
-    ensures one_alone { result ≡ Ok Which.One → D.read_calls disk.new ≤ D.read_calls disk.old + g.now.zones }
-    ensures cause { result ≡ Err CopyError.DiskFault → Rose (D.faults disk.old) (D.faults disk.new) }
-{
-    let c1 = match fault_of(disk, g, Which::One) {
-        Ok(None) => return Ok(Which::One),
-        Ok(Some(zone)) => zone,
-        Err(DiskFault) => return Err(CopyError::DiskFault),
-    };
-    match fault_of(disk, g, Which::Two) {
-        Ok(None) => Ok(Which::Two),
-        Ok(Some(c2)) => Err(CopyError::BothBad { c1, c2 }),
-        Err(DiskFault) => Err(CopyError::DiskFault),
-    }
-}
-
-/// Reads a copy whole. `into` has the bytes of all its zones, which stand in it one after another. The disk is
-/// attached, has the geometry's sectors and holds both copies. It fails only where the disk's count of faults rose.
-pub fn fetch<D: Disk>(
+// Reads a copy whole, and answers where it is wrong.
+fn read_copy<D: Disk>(
     disk: &mut D,
     g: &Geometry,
     w: Which,
     into: &mut [u8],
-) -> Result<(), DiskFault>
+) -> Result<Option<u16>, DiskFault>
     requires attached { IsTrue (D.attached disk.old) }
     requires size { D.sector_size disk.old ≡ g.now.sector }
     requires on_disk { g.now.map_sector + 2 * g.now.zones ≤ D.sectors disk.old }
     requires whole { length into.old ≡ g.now.zones * g.now.sector }
+    ensures found { IfOk result (λ fault. ForSome (D.bytes disk.old) (λ image. fault ≡ copy_fault (copy_of g.now w image))) }
     ensures filled { OnOk result (ForSome (D.bytes disk.old) (λ image. zones_in g.now into.new ≡ copy_of g.now w image)) }
     ensures reads { OnlyReads D.Disk disk.old disk.new }
     ensures few { D.read_calls disk.new ≤ D.read_calls disk.old + g.now.zones }
@@ -119,5 +79,35 @@ pub fn fetch<D: Disk>(
         sectors: u64::from(g.zones),
     };
     disk.read_row(copy, into)?;
-    Ok(())
+    Ok(fault_in(into, g))
+}
+
+/// Reads the copy that counts, and answers which it is: copy 1 where it is sound, else copy 2 where that is
+/// (docs/FORMAT.md, "Two copies"). `into` has the bytes of all its zones, which stand in it one after another
+/// afterwards. The disk is attached, has the geometry's sectors and holds both copies. Only they are read, with at most
+/// a read call for each sector, and copy 2 isn't read where copy 1 is sound; nothing is written.
+///
+/// The answer is `BothBad` exactly where neither is sound, and `DiskFault` only where the disk's count of faults rose.
+pub fn fetch<D: Disk>(disk: &mut D, g: &Geometry, into: &mut [u8]) -> Result<Which, CopyError>
+    requires attached { IsTrue (D.attached disk.old) }
+    requires size { D.sector_size disk.old ≡ g.now.sector }
+    requires on_disk { g.now.map_sector + 2 * g.now.zones ≤ D.sectors disk.old }
+    requires whole { length into.old ≡ g.now.zones * g.now.sector }
+    ensures answer { ForSome (D.bytes disk.old) (λ image. Answers g.now image result) }
+    ensures filled { IfOk result (λ w. ForSome (D.bytes disk.old) (λ image. zones_in g.now into.new ≡ copy_of g.now w image)) }
+    ensures reads { OnlyReads D.Disk disk.old disk.new }
+    ensures few { D.read_calls disk.new ≤ D.read_calls disk.old + 2 * g.now.zones }
+    ensures one_alone { result ≡ Ok Which.One → D.read_calls disk.new ≤ D.read_calls disk.old + g.now.zones }
+    ensures cause { result ≡ Err CopyError.DiskFault → Rose (D.faults disk.old) (D.faults disk.new) }
+{
+    let c1 = match read_copy(disk, g, Which::One, into) {
+        Ok(None) => return Ok(Which::One),
+        Ok(Some(zone)) => zone,
+        Err(DiskFault) => return Err(CopyError::DiskFault),
+    };
+    match read_copy(disk, g, Which::Two, into) {
+        Ok(None) => Ok(Which::Two),
+        Ok(Some(c2)) => Err(CopyError::BothBad { c1, c2 }),
+        Err(DiskFault) => Err(CopyError::DiskFault),
+    }
 }

@@ -7,9 +7,9 @@ ghost use Rattle.fc_copies.specs.Copies.{chosen, copy_of, HoldsCopies, RepairLea
 ghost use Rattle.fc_copies.specs.Passes.{HasWritten, IsPartWritten, masked, zone_from};
 
 use crate::Which;
-use crate::reading::{MOST, start_of};
+use crate::reading::start_of;
 use fc_device::{Disk, DiskFault};
-use fc_record::Geometry;
+use fc_record::{Geometry, MAX_SECTOR};
 
 // Writes these bytes as sector n, where others stand there. Answers whether it wrote.
 fn write_other<D: Disk>(disk: &mut D, n: u64, bytes: &[u8], there: &[u8]) -> Result<bool, DiskFault>
@@ -123,7 +123,7 @@ fn copy_first<D: Disk>(
 }
 
 /// Makes the other copy equal to the chosen one (docs/FORMAT.md, "Two copies"). The disk is attached, has the
-/// geometry's sectors and holds both copies, and nothing is pending. Where it tells its bytes, `w` is what `choose`
+/// geometry's sectors and holds both copies, and nothing is pending. Where it tells its bytes, `w` is what `fetch`
 /// answers of them.
 ///
 /// Where copy 1 was chosen, the zones of copy 2 that differ are written. Where copy 2 was, zone 0 of copy 1 is first
@@ -146,8 +146,8 @@ pub fn repair<D: Disk>(disk: &mut D, g: &Geometry, w: Which) -> Result<(), DiskF
     let one = start_of(g, Which::One);
     let two = start_of(g, Which::Two);
     let size = g.sector as usize;
-    let mut first = [0; MOST];
-    let mut second = [0; MOST];
+    let mut first = [0; MAX_SECTOR];
+    let mut second = [0; MAX_SECTOR];
     let sector = &mut first[..size];
     match w {
         Which::One => match_copy(disk, one, two, g.zones, sector, &mut second[..size]),

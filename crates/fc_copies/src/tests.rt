@@ -155,12 +155,11 @@ fn counted(alloc: Global, image: Vec<u8>, g: &Geometry) -> Result<Option<(Which,
     if !opened(&mut disk, g)? {
         return Ok(None);
     }
-    let w = match choose(&mut disk, g) {
+    let mut zones = vec![in alloc; 0; usize::from(g.zones) * g.sector as usize]?;
+    let w = match fetch(&mut disk, g, &mut zones) {
         Ok(w) => w,
         Err(_) => return Ok(None),
     };
-    let mut zones = vec![in alloc; 0; usize::from(g.zones) * g.sector as usize]?;
-    fetch(&mut disk, g, w, &mut zones)?;
     Ok(Some((w, zones)))
 }
 
@@ -374,7 +373,7 @@ fn two_zones_of_an_f_change(rt: HostRuntime) -> Result<(), Fail> {
     Ok(())
 }
 
-// A disk with these two copies of an F's map, and the answer of `choose`.
+// A disk with these two copies of an F's map, and the answer of `fetch`.
 fn chosen_of(
     alloc: Global,
     g: &Geometry,
@@ -388,7 +387,8 @@ fn chosen_of(
     if !opened(&mut disk, g)? {
         return Ok(None);
     }
-    let answer = choose(&mut disk, g);
+    let mut zones = vec![in alloc; 0; usize::from(g.zones) * g.sector as usize]?;
+    let answer = fetch(&mut disk, g, &mut zones);
     Ok(Some((disk, answer)))
 }
 

@@ -94,6 +94,13 @@ impl NewMap {
         &self.geometry
     }
 
+    /// Every map in memory is one. Nothing is done: a caller has this of a map that it changes afterwards.
+    pub fn is_map(&self)
+        ensures { IsNewMap self.now }
+    {
+        let _ = &self.geometry;
+    }
+
     /// The sector of a zone.
     pub fn bytes(&self, z: u16) -> &[u8]
         requires { z < self.now.geometry.zones }

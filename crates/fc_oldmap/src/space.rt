@@ -92,6 +92,7 @@ impl OldMap {
     pub fn sector_units(&self) -> u32
         ensures value { result ≡ self.now.sector_units }
         ensures units { (result ≡ 1) ⊎ (result ≡ 4) }
+        ensures map { IsOldMap self.now }
     {
         self.sector_units
     }
@@ -103,14 +104,16 @@ impl OldMap {
         requires whole { n % self.old.sector_units ≡ 0 }
         requires disc { ForSome (slice_get self.old.holes index) (λ h. hole_end h + n ≤ self.old.disc_units) }
         requires next { ForSome (slice_get self.old.holes index) (λ h. ForSome (slice_get self.old.holes (index + 1)) (λ g. hole_end h + n ≤ g.start)) }
-        ensures { self.new ≡ record self.old { holes = shifted index n self.old.holes } }
+        ensures holes { self.new ≡ record self.old { holes = shifted index n self.old.holes } }
+        ensures map { IsOldMap self.new }
     {
         shift_at(&mut self.holes, index as usize, n);
     }
 
     /// Joins every two holes that touch.
     pub fn tidy(&mut self)
-        ensures { self.new ≡ record self.old { holes = tidied self.old.holes } }
+        ensures holes { self.new ≡ record self.old { holes = tidied self.old.holes } }
+        ensures map { IsOldMap self.new }
     {
         tidy_all(&mut self.holes);
     }
@@ -122,6 +125,7 @@ impl OldMap {
         requires { n % self.old.sector_units ≡ 0 }
         ensures answer { result ≡ take_answer n self.old.holes }
         ensures holes { self.new ≡ record self.old { holes = after_take n self.old.holes } }
+        ensures map { IsOldMap self.new }
     {
         match take_from(&mut self.holes, n) {
             Some(start) => Ok(start),
@@ -141,6 +145,7 @@ impl OldMap {
         ensures full { IsErr result ↔ (hole_limit < length (after_give (hole start n) self.old.holes)) }
         ensures ok { OnOk result (self.new ≡ record self.old { holes = after_give (hole start n) self.old.holes }) }
         ensures err { OnErr result (self.new ≡ self.old) }
+        ensures map { IsOldMap self.new }
     {
         give_to(&mut self.holes, Hole { start, len: n })
     }

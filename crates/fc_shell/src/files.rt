@@ -17,10 +17,8 @@ ghost use Rattle.fc_shell.specs.Writing.{Wrote, WrotePart};
 use crate::answering::LineFault;
 use crate::sink::write_all;
 use fc_device::{Disk, DiskFault, Extent, Failed, Sink};
+use fc_record::MAX_SECTOR;
 use sha2::{Digest, Sha256};
-
-// The most bytes of a sector.
-const LARGEST: usize = 1024;
 
 // Writes bytes as hexadecimal digits.
 fn write_hex<K: Sink>(out: &mut K, bytes: &[u8]) -> Result<(), Failed>
@@ -29,7 +27,7 @@ fn write_hex<K: Sink>(out: &mut K, bytes: &[u8]) -> Result<(), Failed>
     ensures part { WrotePart (K.taken out.old) (K.taken out.new) (encode_lower bytes.now) }
     ensures cause { HasCause (K.faults out.old) (K.faults out.new) result }
 {
-    let mut digits = [0u8; 2 * LARGEST];
+    let mut digits = [0u8; 2 * MAX_SECTOR];
     let text = &mut digits[..2 * bytes.len()];
     let _ = hex::encode_to_slice(bytes, text);
     write_all(out, text)
@@ -52,7 +50,7 @@ fn write_sector<D: Disk, K: Sink>(
     ensures disk_cause { result ≡ Err LineFault.Disk → Rose (D.faults disk.old) (D.faults disk.new) }
     ensures out_cause { result ≡ Err LineFault.Out → Rose (K.faults out.old) (K.faults out.new) }
 {
-    let mut sector = [0u8; LARGEST];
+    let mut sector = [0u8; MAX_SECTOR];
     if disk.read(n, &mut sector[..size]).is_err() {
         return Err(LineFault::Disk);
     }
@@ -126,7 +124,7 @@ fn hash_sector<D: Disk>(
     ensures reads { OnlyReads D.Disk disk.old disk.new }
     ensures cause { FailsByFault D.Disk disk.old disk.new result }
 {
-    let mut sector = [0u8; LARGEST];
+    let mut sector = [0u8; MAX_SECTOR];
     disk.read(n, &mut sector[..size])?;
     hasher.update(&sector[..count]);
     Ok(())

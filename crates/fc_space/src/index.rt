@@ -2,13 +2,13 @@
 
 ghost use Rattle.std.specs.Prelude.{◌≡◌, ◌<◌, ◌++◌, All, IfOk, OnOk};
 ghost use Rattle.std.specs.List.Sorted.{IsNonDecreasingBy};
-ghost use Rattle.fc_newmap.specs.Map.{all_runs, home_zone};
+ghost use Rattle.fc_newmap.specs.Map.{all_runs};
 ghost use Rattle.fc_newmap.specs.NewMap.{IsNewMap, IsOfRecord};
 ghost use Rattle.fc_newmap.specs.Walk.{IsInZone};
 ghost use Rattle.fc_space.specs.Index.{IsIndex, IsLow, row_of, rows_of, rows_with};
 
 use fc_device::{Extent, NoMemory};
-use fc_newmap::{NewMap, Walk, extent_of};
+use fc_newmap::{NewMap, Walk, extent_of, home_zone};
 use fc_record::Geometry;
 use fc_zone::{Run, RunKind};
 use std::alloc::Global;
@@ -18,22 +18,6 @@ use std::alloc::Global;
 pub struct IdRow {
     pub id: u32,
     pub place: Extent,
-}
-
-// The map's own identifier.
-const MAP_ID: u32 = 2;
-
-// The zone in which an identifier's runs are looked for first.
-fn home_zone(g: &Geometry, id: u32) -> u16
-    requires { IsOfRecord g.now }
-    ensures { result ≡ home_zone g.now id }
-{
-    let zones = g.zones;
-    if id == MAP_ID {
-        zones / 2
-    } else {
-        (id / g.ids_per_zone % u32::from(zones)) as u16
-    }
 }
 
 // Appends the row of a run with an identifier, where the search for it comes to the run's zone before it turns to zone 0

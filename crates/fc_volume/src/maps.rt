@@ -17,7 +17,7 @@ ghost use Rattle.fc_volume.specs.Answers.{IsFaultOf};
 ghost use Rattle.fc_volume.specs.Maps.{Finds, found_of, zone_fault, zones_layout};
 
 use crate::MountError;
-use fc_copies::{CopyError, choose, fetch};
+use fc_copies::{CopyError, fetch};
 use fc_device::{Disk, DiskFault};
 use fc_image::ImageFault;
 use fc_newmap::{MapError, NewMap};
@@ -121,19 +121,15 @@ fn read_copy<D: Disk>(alloc: Global, disk: &mut D, g: &Geometry) -> Result<Vec<u
     ensures reads { OnlyReads D.Disk disk.old disk.new }
     ensures cause { result ≡ Err MountError.DiskFault → Rose (D.faults disk.old) (D.faults disk.new) }
 {
-    let which = match choose(disk, g) {
-        Ok(which) => which,
-        Err(CopyError::BothBad { c1, c2 }) => {
-            return Err(MountError::Image(ImageFault::Copies { c1, c2 }));
-        }
-        Err(CopyError::DiskFault) => return Err(MountError::DiskFault),
-    };
     let Ok(mut bytes) = vec![in alloc; 0u8; usize::from(g.zones) * g.sector as usize] else {
         return Err(MountError::NoMemory);
     };
-    match fetch(disk, g, which, &mut bytes) {
-        Ok(()) => Ok(bytes),
-        Err(DiskFault) => Err(MountError::DiskFault),
+    match fetch(disk, g, &mut bytes) {
+        Ok(_which) => Ok(bytes),
+        Err(CopyError::BothBad { c1, c2 }) => {
+            Err(MountError::Image(ImageFault::Copies { c1, c2 }))
+        }
+        Err(CopyError::DiskFault) => Err(MountError::DiskFault),
     }
 }
 

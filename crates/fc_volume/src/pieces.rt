@@ -11,14 +11,12 @@ ghost use Rattle.fc_volume.specs.Volume.{StandsFor, parts_of};
 
 use crate::{FileRef, Volume};
 use fc_device::{Disk, DiskFault, Extent, NoMemory};
+use fc_record::MAX_SECTOR;
 use fc_space::PlaceError;
 use std::alloc::Global;
 
 #[cfg(test)]
 mod tests;
-
-// The bytes of the largest sectors.
-const LARGEST: usize = 1024;
 
 // How many bytes of a file one call gives from a place on.
 fn piece_length(sector: u64, len: u64, at: u64, most: usize) -> usize
@@ -45,7 +43,7 @@ fn read_part<D: Disk>(
     ensures reads { OnlyReads D.Disk disk.old disk.new }
     ensures cause { FailsByFault D.Disk disk.old disk.new result }
 {
-    let mut bytes = [0; LARGEST];
+    let mut bytes = [0; MAX_SECTOR];
     disk.read(sector, &mut bytes[..size])?;
     into.copy_from_slice(&bytes[from..from + into.len()]);
     Ok(())

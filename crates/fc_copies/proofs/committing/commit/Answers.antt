@@ -19,7 +19,7 @@ returns-clause-keeps g c =
     let m = c.args.map.now in
     let changed = c.args.changed.now.items in
     let n = c.gate_zones.new.map in
-    let n_is : n ≡ record m { zones = gated changed m.zones } = c.gate_zones.ensures ∙ ap (λ (zs : List ℕ). record m { zones = gated zs m.zones }) c.deref.ensures.0 in
+    let n_is : n ≡ record m { zones = gated changed m.zones } = c.gate_zones.ensures.map ∙ ap (λ (zs : List ℕ). record m { zones = gated zs m.zones }) c.deref.ensures.0 in
     let listed : c.deref-2.result.now ≡ changed = c.deref-2.ensures.0 in
     let map_is = subst IsNewMap n_is c.write_both.ensures.map in
     let header : 4 ≤ m.geometry.sector = omega (arith, header_fits (d.sector_size start) (law.sector_sizes start), c.requires.size) in
@@ -38,7 +38,7 @@ returns-clause-ends g c =
     let m = c.args.map.now in
     let changed = c.args.changed.now.items in
     let n = c.gate_zones.new.map in
-    let n_is : n ≡ record m { zones = gated changed m.zones } = c.gate_zones.ensures ∙ ap (λ (zs : List ℕ). record m { zones = gated zs m.zones }) c.deref.ensures.0 in
+    let n_is : n ≡ record m { zones = gated changed m.zones } = c.gate_zones.ensures.map ∙ ap (λ (zs : List ℕ). record m { zones = gated zs m.zones }) c.deref.ensures.0 in
     let listed : c.deref-2.result.now ≡ changed = c.deref-2.ensures.0 in
     let map_is = subst IsNewMap n_is c.write_both.ensures.map in
     let header : 4 ≤ m.geometry.sector = omega (arith, header_fits (d.sector_size start) (law.sector_sizes start), c.requires.size) in

@@ -17,7 +17,7 @@ returns-clause-frame g c =
     let m = c.args.map.now in
     let changed = c.args.changed.now.items in
     let n = c.seal_zones.new.map in
-    let n_is : n ≡ record m { zones = sealed_zones changed m.zones } = c.seal_zones.ensures ∙ ap (λ (zs : List ℕ). record m { zones = sealed_zones zs m.zones }) c.deref.ensures.value in
+    let n_is : n ≡ record m { zones = sealed_zones changed m.zones } = c.seal_zones.ensures.map ∙ ap (λ (zs : List ℕ). record m { zones = sealed_zones zs m.zones }) c.deref.ensures.value in
     let listed : c.deref-2.result.now ≡ changed = c.deref-2.ensures.value in
     let map_is = subst IsNewMap n_is c.write_both.ensures.map in
     let header : 4 ≤ m.geometry.sector = omega (arith, header_fits (d.sector_size start) (law.sector_sizes start), c.requires.size) in
@@ -34,7 +34,7 @@ returns-clause-ends g c =
     let m = c.args.map.now in
     let changed = c.args.changed.now.items in
     let n = c.seal_zones.new.map in
-    let n_is : n ≡ record m { zones = sealed_zones changed m.zones } = c.seal_zones.ensures ∙ ap (λ (zs : List ℕ). record m { zones = sealed_zones zs m.zones }) c.deref.ensures.value in
+    let n_is : n ≡ record m { zones = sealed_zones changed m.zones } = c.seal_zones.ensures.map ∙ ap (λ (zs : List ℕ). record m { zones = sealed_zones zs m.zones }) c.deref.ensures.value in
     let listed : c.deref-2.result.now ≡ changed = c.deref-2.ensures.value in
     let map_is = subst IsNewMap n_is c.write_both.ensures.map in
     let header : 4 ≤ m.geometry.sector = omega (arith, header_fits (d.sector_size start) (law.sector_sizes start), c.requires.size) in

@@ -1,20 +1,27 @@
-use Rattle.std.proofs.Common.{◌+◌, ℕ, List, ap, ◌∙◌, arith}
-use Rattle.fc_device.proofs.DiskLaws.{laws}
-use Rattle.fc_device.proofs.SectorLemmas.{sector_at-row_at}
-use Rattle.fc_device.specs.Sectors.{row_at, sector_at}
-use Rattle.fc_copies.proofs.ReadingLemmas.{filled_all, sectors_fit}
+use Rattle.std.proofs.Common.{◌∙◌}
+use Rattle.fc_copies.specs.declared.Which.TheVariants.{One, Two}
+use Rattle.fc_copies.specs.Copies.{copy_of}
+use Rattle.fc_copies.proofs.ReadingLemmas.{chooses_none, chooses_one, chooses_two, sound_copy, wrong_copy}
 use Rattle.fc_copies.proofs.reading.fetch.Goals as goal
 
-pub start_of-requires : goal.start_of-requires
-start_of-requires g c = sectors_fit (laws g.met.D.Disk) c.args.disk.now _ c.requires.on_disk
+pub returns-in-Ok-None-clause-answer : goal.returns-in-Ok-None-clause-answer
+returns-in-Ok-None-clause-answer g c = λ image told.
+    chooses_one c.args.g.now image (sound_copy (copy_of c.args.g.now One image) c.in-Ok-None.field-0 (c.in-Ok-None.ensures.found image told) c.in-Ok-None.field-0-is)
 
-pub returns-clause-filled : goal.returns-clause-filled
-returns-clause-filled g c = λ image told.
-    let size = c.args.g.now.sector in
-    let start = c.start_of.result in
-    let row = c.in_ok-read_row.ensures.filled image told ∙ ap (λ (s : ℕ). row_at s image start c.from.result) c.requires.size in
-    filled_all c.args.g.now c.args.w image c.read_row.new.into
-    (λ k lt.
-    ap (λ (l : List ℕ). sector_at size l k) row
-    ∙ sector_at-row_at size image start c.from.result k (omega (arith, lt, c.from.ensures))
-    ∙ ap (λ (n : ℕ). sector_at size image (n + k)) c.start_of.ensures.value)
+pub returns-in-Ok-None-read_copy-clause-answer : goal.returns-in-Ok-None-read_copy-clause-answer
+returns-in-Ok-None-read_copy-clause-answer g c = λ image told.
+    let geometry = c.args.g.now in
+    let first = wrong_copy (copy_of geometry One image) c.in-Ok-Some.field-0 c.in-Ok-Some.zone (c.in-Ok-Some.ensures.found image told) c.in-Ok-Some.field-0-is in
+    let second = sound_copy (copy_of geometry Two image) c.in-Ok-None-read_copy.field-0 (c.in-Ok-None-read_copy.ensures.found image (c.read_copy.ensures.reads.bytes ∙ told)) c.in-Ok-None-read_copy.field-0-is in
+    chooses_two geometry image first.0 second
+
+pub returns-in-Ok-Some-read_copy-clause-answer : goal.returns-in-Ok-Some-read_copy-clause-answer
+returns-in-Ok-Some-read_copy-clause-answer g c = λ image told.
+    let geometry = c.args.g.now in
+    let first = wrong_copy (copy_of geometry One image) c.in-Ok-Some.field-0 c.in-Ok-Some.zone (c.in-Ok-Some.ensures.found image told) c.in-Ok-Some.field-0-is in
+    let there = c.in-Ok-Some-read_copy.ensures.found image (c.read_copy.ensures.reads.bytes ∙ told) in
+    let second = wrong_copy (copy_of geometry Two image) c.in-Ok-Some-read_copy.field-0 c.in-Ok-Some-read_copy.c2 there c.in-Ok-Some-read_copy.field-0-is in
+    chooses_none geometry image c.in-Ok-Some.zone c.in-Ok-Some-read_copy.c2 first.0 first.1 second.0 second.1
+
+pub returns-in-Ok-None-read_copy-clause-filled : goal.returns-in-Ok-None-read_copy-clause-filled
+returns-in-Ok-None-read_copy-clause-filled g c = λ image told. c.in-Ok-None-read_copy.ensures.filled image (c.read_copy.ensures.reads.bytes ∙ told)

@@ -16,3 +16,6 @@ invariant_of-self c =
     let apart = subst A (sym c.self.view_is) c.requires.apart in
     given_keeps c.give_to.result space c.give_to.new.holes.items (after_give given space.holes) c.give_to.ensures.full c.give_to.ensures.ok c.give_to.ensures.err map
     (AreHoles-after_give space.disc_units space.sector_units 0 given space.holes new map.holes apart)
+
+pub returns-clause-map : goal.returns-clause-map
+returns-clause-map c = invariant_of-self c

@@ -23,3 +23,6 @@ invariant_of-self c =
     let right = AreHoles-shifted space.disc_units space.sector_units 0 i n space.holes whole map.holes (λ h at. (disc h at, λ g at'. next h at g (ap (slice_get space.holes) e ∙ at'))) in
     subst M (sym c.shift_at.ensures)
     (with_list space (shifted i n space.holes) map (omega (arith, length-shifted i n space.holes, map.few)) right)
+
+pub returns-clause-map : goal.returns-clause-map
+returns-clause-map c = invariant_of-self c

@@ -40,3 +40,6 @@ returns-clause-answer c =
           let why = w.shortage.ensures ∙ ap (λ l. if nat_lt (hole_sum l) c.args.n then DiscFull else CompactionRequired) same in
           w.result-is ∙ refused-if (nat_lt (hole_sum holes) c.args.n) w.shortage.result why ∙ sym (take_answer-none c.args.n holes none) ∙ view
     ]
+
+pub returns-clause-map : goal.returns-clause-map
+returns-clause-map c = invariant_of-self c

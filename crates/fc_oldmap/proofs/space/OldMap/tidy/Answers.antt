@@ -13,3 +13,6 @@ invariant_of-self c =
     let M : List Hole → Type 0 = λ l. IsOldMap (record space { holes = l }) in
     subst M (sym c.tidy_all.ensures)
     (with_list space (tidied space.holes) map (omega (arith, length-tidied space.holes, map.few)) (AreHoles-tidied space.disc_units space.sector_units 0 space.holes map.holes))
+
+pub returns-clause-map : goal.returns-clause-map
+returns-clause-map c = invariant_of-self c
