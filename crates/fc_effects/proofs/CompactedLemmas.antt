@@ -1,12 +1,10 @@
 -- An opened image with an old map after compaction.
-use Rattle.std.proofs.Common.{◌≡◌, ◌<◌, ◌≤◌, ℕ, ◌+◌, Bool, true, false, cond, List, [], ◌∷◌, length, Option, Some, None, refl, sym, ap, subst, ◌∙◌, arith}
+use Rattle.std.proofs.Common.{◌≡◌, ◌≤◌, ℕ, ◌+◌, Bool, true, false, cond, List, [], ◌∷◌, length, Some, None, refl, subst, arith}
 use Rattle.std.specs.Prelude.{◌&&◌, nat_le, nat_lt, is_none}
 use Rattle.std.specs.Option.{option_map_or}
 use Rattle.std.proofs.lemmas.Bool.{leb-false, lt-ltb}
 use Rattle.std.proofs.lemmas.List.Sums.{sum_by-cons}
-use Rattle.fc_names.specs.declared.refusal.Refusal.{Refusal}
 use Rattle.fc_names.specs.declared.refusal.Refusal.TheVariants as refusals
-use Rattle.fc_record.specs.declared.Kind.{Kind}
 use Rattle.fc_oldmap.specs.declared.Hole.{Hole}
 use Rattle.fc_oldmap.specs.Holes.{hole_limit, hole_sum, first_fit_place}
 use Rattle.fc_oldmap.specs.OldMap.{FreeSpace}
@@ -15,11 +13,9 @@ use Rattle.fc_model.specs.Answer.{when, first_of}
 use Rattle.fc_image.specs.Layout.{Layout}
 use Rattle.fc_image.specs.Objects.{objects_of}
 use Rattle.fc_image.specs.Opening.{Opened}
-use Rattle.fc_image.specs.Stays.{OpensAs}
 use Rattle.fc_image.proofs.OldMapLemmas.{old_map_law}
 use Rattle.fc_effects.specs.Short.{gain_in, is_full_with, new_length, old_holes_after, old_need, short, space_reasons}
 use Rattle.fc_effects.specs.Settled.{is_settled, is_settled_space}
-use Rattle.fc_effects.specs.Steady.{lost_sectors}
 use Rattle.fc_effects.specs.Laws.{OldMapCompactedLaw}
 use Rattle.fc_effects.proofs.OneHoleLemmas.{one_hole_law}
 

@@ -1,5 +1,5 @@
 -- What parts leave of the holes from which they are taken.
-use Rattle.std.proofs.Common.{◌≡◌, ◌≤◌, ◌⊎◌, inl, inr, ℕ, ◌+◌, ◌-◌, ◌%◌, Bool, true, false, cond, List, [], ◌∷◌, Option, Some, None, Contains, All, refl, sym, ap, ap₂, subst, ◌∙◌, arith, zero, suc}
+use Rattle.std.proofs.Common.{◌≡◌, ◌≤◌, inl, inr, ℕ, ◌+◌, ◌-◌, ◌%◌, Bool, true, false, cond, List, [], ◌∷◌, Option, Some, None, Contains, All, refl, sym, ap, ap₂, subst, ◌∙◌, arith, zero, suc}
 use Rattle.std.specs.Prelude.{◌==◌, ◌&&◌}
 use Rattle.std.specs.List.{find}
 use Rattle.std.proofs.Math.Nat.{add-mod, mod-mod, add-zero}
@@ -7,7 +7,7 @@ use Rattle.std.proofs.lemmas.Bool.{eqb-true, eqb-false, eq-eqb}
 use Rattle.std.proofs.lemmas.List.Elements.{All-nil, All-cons, All-append, All-contains}
 use Rattle.fc_record.specs.declared.Geometry.{Geometry}
 use Rattle.fc_newmap.specs.Map.{ZoneRun}
-use Rattle.fc_effects.specs.Placed.{HasRunLength, IsFront, IsPlan, IsTaken, holes_left, left_behind, stands_at}
+use Rattle.fc_effects.specs.Placed.{HasRunLength, IsFront, IsTaken, holes_left, left_behind, stands_at}
 use Rattle.fc_effects.specs.Laws.{HaveOwnPlaces, LeftLaw}
 
 both_true : (a b : Bool) → (a && b) ≡ true → (a ≡ true) × (b ≡ true)

@@ -4,7 +4,7 @@ use Rattle.fc_checks.specs.Rows.{e_root, e_plus_root}
 use Rattle.fc_record.specs.Record.{geometry}
 use Rattle.fc_record.specs.Kinds.{map_record}
 use Rattle.fc_zone.specs.declared.RunKind.TheVariants.{Hole, Id}
-use Rattle.fc_newmap.specs.Map.{Map, runs_of}
+use Rattle.fc_newmap.specs.Map.{Map}
 use Rattle.fc_newmap.specs.Rows.{run}
 use Rattle.fc_dirs.specs.declared.SmallForm.TheVariants.{Bytes1280, Bytes2048}
 use Rattle.fc_dirs.specs.Small.{SmallDir, empty_small, hugo_word}

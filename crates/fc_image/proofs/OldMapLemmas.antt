@@ -24,7 +24,7 @@ use Rattle.fc_image.specs.Opening.{Opened, MapAndRoot, map_and_root, reserved_in
 use Rattle.fc_image.specs.Edits.{AreChildren, Follows, IsRoot}
 use Rattle.fc_image.proofs.FreeLemmas.{parts_of}
 use Rattle.fc_image.proofs.HolesLemmas.{Each, Each-append, Each-objects, Each-contains, Lies, apart_at, found_map, walk_lies}
-use Rattle.fc_image.specs.OldMaps.{IsOldDisc, LiesOnOldMap, OldMapLaw}
+use Rattle.fc_image.specs.OldMaps.{LiesOnOldMap, OldMapLaw}
 use Rattle.fc_image.proofs.EditLemmas.{walk_gives}
 
 -- ---- the map

@@ -1,14 +1,14 @@
 -- The tree after an edit, key by key.
-use Rattle.std.specs.Prelude.{◌≡◌, ℕ, List, [], ◌∷◌, ◌++◌, map, true, None, Some, Ok, Contains, IsPermutation}
+use Rattle.std.specs.Prelude.{◌≡◌, ℕ, List, [], ◌∷◌, ◌++◌, map, Ok, IsPermutation}
 use Rattle.std.specs.Option.{option_map}
 use Rattle.std.specs.FinMap.{insert, remove, from_entries}
-use Rattle.fc_names.specs.Names.{Path, folded_path, is_same_path}
+use Rattle.fc_names.specs.Names.{Path, folded_path}
 use Rattle.fc_model.specs.Tree.{Node, Tree, node_at}
 use Rattle.fc_model.specs.Answer.{moved_entry, with_moved}
 use Rattle.fc_record.specs.declared.Kind.{Kind}
 use Rattle.fc_image.specs.Layout.{Layout}
-use Rattle.fc_image.specs.Walk.{Object, Listing, Reader, reader_of, walk}
-use Rattle.fc_image.specs.Objects.{objects_of, object_at, listing_at, node_of, tree_entry, tree_of}
+use Rattle.fc_image.specs.Walk.{Object, Listing, reader_of, walk}
+use Rattle.fc_image.specs.Objects.{objects_of, object_at, node_of, tree_entry, tree_of}
 use Rattle.fc_image.specs.Opening.{Opened}
 use Rattle.fc_image.specs.Stays.{OpensAs}
 use Rattle.fc_image.specs.Sound.{AreSound}

@@ -206,112 +206,112 @@ pub fn paths()
     ensures { PathsLaw }
 {}
 
-/// A walk finds listings by what they are, in whatever order they stand.
+/// What a walk finds doesn't depend on the order in which listings are given.
 pub fn walk_order()
     ensures { OrderLaw }
 {}
 
-/// The tree after objects went, came and moved, key by key.
+/// How the tree changes when objects go, come and move.
 pub fn tree_edits()
     ensures { TreeEditLaw }
 {}
 
-/// What a walk found is found by its path.
+/// The path of an object, or of a listing, leads to it.
 pub fn lookups()
     ensures { LookupLaw }
 {}
 
-/// What single objects tell of the tree.
+/// From facts of single objects to edits of the tree.
 pub fn tree_objects()
     ensures { ObjectsLaw }
 {}
 
-/// The tree after the objects are edited as a command asks is the one that the model gives.
+/// A command's edit of the objects gives the tree of the model.
 pub fn commanded()
     ensures { CommandLaw }
 {}
 
-/// The walk after an edit, where directories with contents may have moved.
+/// The walk after an edit, which may move directories with their contents.
 pub fn edited_walks()
     ensures { EditedWalkLaw }
 {}
 
-/// How listings are edited.
+/// Edits of listings, by the directories in which objects go and come.
 pub fn relistings()
     ensures { RelistingLaw }
 {}
 
-/// Objects that stay apart after an edit.
+/// Which objects lie apart after an edit.
 pub fn edited_apart()
     ensures { EditedApartLaw }
 {}
 
-/// Which directories are listed.
+/// Picking listings out of a walk.
 pub fn which_listings()
     ensures { ListingsLaw }
 {}
 
-/// What a directory holds, where its entries are edited.
+/// The objects of a directory after an edit of its entries.
 pub fn edited_entries()
     ensures { EntriesLaw }
 {}
 
-/// An image whose directories and map were edited opens, with what its walk finds.
+/// An image opens after an edit of its directories and its map.
 pub fn edited_images()
     ensures { EditedImageLaw }
 {}
 
-/// An object whose identifier keeps its runs is where it was.
+/// An object keeps its sectors if its identifier keeps its runs.
 pub fn kept_places()
     ensures { PlacesLaw }
 {}
 
-/// Discs with new maps of which directories are edited.
+/// Edits of directories on discs with new maps.
 pub fn map_edits()
     ensures { MapEditLaw }
 {}
 
-/// An object of an old disc is where it was, whatever the holes.
+/// An object on an old map keeps its sectors, whatever happens to the holes.
 pub fn old_places()
     ensures { OldPlacesLaw }
 {}
 
-/// Discs with old maps of which directories are edited.
+/// Edits of directories on discs with old maps.
 pub fn old_map_edits()
     ensures { OldMapEditLaw }
 {}
 
-/// What is written into one directory leaves the bytes of all others.
+/// Which objects keep their bytes after a write to other sectors.
 pub fn written()
     ensures { WrittenLaw }
 {}
 
-/// One directory is edited and written in place.
+/// Edits of one directory that is written to its old place.
 pub fn in_place()
     ensures { InPlaceLaw }
 {}
 
-/// A file or a directory with contents gets another name, or another directory.
+/// Renames of files and of directories with their contents.
 pub fn renames()
     ensures { RenameLaw }
 {}
 
-/// An object gets other words and attributes.
+/// New words and attributes for one object.
 pub fn rewords()
     ensures { RewordLaw }
 {}
 
-/// One directory gets another place, while objects come into it and go from it.
+/// Edits of one directory that gets a new place or more sectors.
 pub fn growths()
     ensures { GrowthLaw }
 {}
 
-/// A file or a directory with contents gets another name, or another directory, which grows.
+/// Renames into a directory that grows.
 pub fn grown_renames()
     ensures { GrownRenameLaw }
 {}
 
-/// Commands in place: the new image opens, with the tree that the model gives.
+/// After each command that changes a new map the image opens, with the tree of the model.
 pub fn answered()
     ensures { AnsweredLaw }
 {}

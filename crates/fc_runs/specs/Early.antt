@@ -26,8 +26,9 @@ text_begun None replies (Some line) begun = text_of replies ++ begun line
 text_begun (Some n) replies None begun = demo_line n replies
 text_begun (Some n) replies (Some line) begun = []
 
--- A run that ended after some lines, in this state, and wrote a part of their text from its front. So it is after want of
--- memory and after faults; after a fault of the disk the state says nothing of its bytes.
+-- A run that ended after some lines, in this state, and wrote a part of their text from its front. Only I/O errors of the disk, the
+-- sink and the host, and out of memory, end a run so (`Cause` of Promises); every other end has a text of its own. After an I/O error
+-- of the disk the state says nothing of its bytes.
 pub record EndsEarly (May : List ℕ → Type 0) (mode : Mode) (demo : Option ℕ) (s : State) (script text : List ℕ) (s' : State) : Type 0 where
   pub start : May s.image
   pub replies : List (List ℕ)

@@ -15,7 +15,8 @@ use Rattle.fc_image.specs.Layout.{Layout}
 use Rattle.fc_image.specs.Walk.{Object, Listing}
 use Rattle.fc_image.specs.Objects.{objects_of, node_of, tree_entry, tree_of}
 use Rattle.fc_image.proofs.PathsLemmas.{many, has_that, names_once}
-use Rattle.fc_tree.specs.Laws.{AreSound, Rise, ChildrenLaw}
+use Rattle.fc_tree.specs.Laws.{Rise, ChildrenLaw}
+use Rattle.fc_image.specs.Sound.{AreSound}
 use Rattle.fc_tree.proofs.MemberLemmas.{from_map, in_map, many_permuted, many_mapped}
 use Rattle.fc_tree.proofs.WalkedLemmas.{root, root_path, twins, child_path, child_is_object}
 use Rattle.fc_tree.proofs.SoundLemmas.{key_total, key_exact, folds_alike, same_by_folds, fold_pushed, children_stored, root_or_child, same_object, same_listing}

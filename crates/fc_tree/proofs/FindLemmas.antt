@@ -14,7 +14,8 @@ use Rattle.fc_image.specs.Objects.{objects_of, node_of, tree_of}
 use Rattle.fc_tree.specs.declared.node.Node.{Node}
 use Rattle.fc_tree.specs.declared.node.Found.TheVariants as founds
 use Rattle.fc_tree.specs.Nodes.{child, number_of, found_from, is_directory_node, HoldObjects}
-use Rattle.fc_tree.specs.Laws.{AreAlike, AreSound, FindLaw}
+use Rattle.fc_tree.specs.Laws.{AreAlike, FindLaw}
+use Rattle.fc_image.specs.Sound.{AreSound}
 use Rattle.fc_tree.proofs.WalkedLemmas.{same_some, root, root_path, few_objects}
 use Rattle.fc_tree.proofs.SoundLemmas.{folds_alike, same_by_folds, root_object}
 use Rattle.fc_tree.proofs.TreeLemmas.{object_of_node, node_of_object}

@@ -21,7 +21,8 @@ use Rattle.fc_tree.specs.declared.node.Found.{Found}
 use Rattle.fc_tree.specs.declared.node.Found.TheVariants as founds
 use Rattle.fc_tree.specs.Nodes.{child, number_of, found_from, found_in, body_in, body_of, HoldObjects}
 use Rattle.fc_tree.specs.Agree.{content_in}
-use Rattle.fc_tree.specs.Laws.{AreAlike, AreSound}
+use Rattle.fc_tree.specs.Laws.{AreAlike}
+use Rattle.fc_image.specs.Sound.{AreSound}
 use Rattle.fc_tree.proofs.WalkedLemmas.{same_some, root, root_path, directories_listed, listing_found}
 use Rattle.fc_tree.proofs.MemberLemmas.{from_map, in_filter}
 use Rattle.fc_tree.proofs.SoundLemmas.{root_object, listing_of}

@@ -17,7 +17,7 @@ use Rattle.fc_image.proofs.PathsLemmas.{itself}
 use Rattle.fc_tree.specs.declared.node.Node.{Node}
 use Rattle.fc_tree.specs.Nodes.{number_of, body_in, body_of, HasNode, HoldObjects}
 use Rattle.fc_tree.specs.Agree.{reader_of_nodes, content_in, said_by, NodesLaw}
-use Rattle.fc_tree.specs.Laws.{AreSound}
+use Rattle.fc_image.specs.Sound.{AreSound}
 use Rattle.fc_tree.specs.Counts.{address_in, node_says, object_says, HaveCounts, CountsLaw, HolderLaw}
 use Rattle.fc_tree.proofs.WalkedLemmas.{same_some, same_place, place_of, contained, one_object, listed_directory, listing_found, no_listing, holder_listed, directories_listed}
 use Rattle.fc_tree.proofs.SoundLemmas.{same_by_folds}

@@ -16,7 +16,8 @@ use Rattle.fc_tree.specs.declared.node.Node.{Node}
 use Rattle.fc_tree.specs.Nodes.{Numbers, numbered_from, nodes_of, child, number_from, number_of, body_of, HasNode, HoldObjects}
 use Rattle.fc_tree.specs.Agree.{InOrder}
 use Rattle.fc_tree.specs.Numbered.{HasBody, HasHolder, IsNodeOf, AreNumbered}
-use Rattle.fc_tree.specs.Laws.{AreSound, NumbersLaw}
+use Rattle.fc_tree.specs.Laws.{NumbersLaw}
+use Rattle.fc_image.specs.Sound.{AreSound}
 use Rattle.fc_tree.specs.Slots.{slot_at, is_child}
 use Rattle.fc_tree.proofs.SlotLemmas.{get-nodes_of, entries-nodes_of, child_is}
 use Rattle.fc_tree.proofs.WalkedLemmas.{same_place, place_of, element_at, root, root_path, first_is_root, one_object, child_path, listing_found, no_listing, not_first, holder-push}

@@ -12,7 +12,8 @@ use Rattle.fc_model.specs.Tree.{Node, children}
 use Rattle.fc_image.specs.Layout.{Layout}
 use Rattle.fc_image.specs.Walk.{Object, Listing}
 use Rattle.fc_image.specs.Objects.{node_of, tree_of}
-use Rattle.fc_tree.specs.Laws.{AreSound, Rise}
+use Rattle.fc_tree.specs.Laws.{Rise}
+use Rattle.fc_image.specs.Sound.{AreSound}
 use Rattle.fc_tree.proofs.ChildrenLemmas.{children_law}
 
 -- ---- a permutation of a mapped list

@@ -14,7 +14,7 @@ use Rattle.fc_image.specs.Walk.{Object, Listing}
 use Rattle.fc_image.specs.Objects.{objects_of, listing_at}
 use Rattle.fc_image.specs.Edits.{AreChildren}
 use Rattle.fc_image.proofs.PathsLemmas.{is_at, same_equal, itself}
-use Rattle.fc_tree.specs.Laws.{AreSound}
+use Rattle.fc_image.specs.Sound.{AreSound}
 use Rattle.fc_tree.proofs.WalkedLemmas.{same_place, place_of, contained, follows_each, given, root, root_and_held, first_is_root, few_objects, one_listing, listed_directory}
 use Rattle.fc_tree.proofs.MemberLemmas.{contains_cases, from_flat, found_passes, one_passes}
 

@@ -14,7 +14,8 @@ use Rattle.fc_image.specs.Edits.{AreChildren, IsListing, Follows, Apart, IsRoot}
 use Rattle.fc_image.proofs.EditLemmas.{walk_gives, root_first}
 use Rattle.fc_image.proofs.PathsLemmas.{opened_walk, many, many-append, NoTwins, is_at, itself, unless, only_one, listed_few, once, root_other}
 use Rattle.fc_tree.specs.Agree.{IsDirectory}
-use Rattle.fc_tree.specs.Laws.{AreSound, SoundLaw}
+use Rattle.fc_tree.specs.Laws.{SoundLaw}
+use Rattle.fc_image.specs.Sound.{AreSound}
 
 -- ---- places in lists
 

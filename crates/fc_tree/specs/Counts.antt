@@ -15,7 +15,7 @@ use Rattle.fc_tree.specs.declared.node.Body.{Body}
 use Rattle.fc_tree.specs.declared.node.Body.TheVariants as bodies
 use Rattle.fc_tree.specs.declared.node.Node.{Node}
 use Rattle.fc_tree.specs.Nodes.{Numbers, nodes_of, bound_of, number_of, body_in, body_of, HoldObjects}
-use Rattle.fc_tree.specs.Laws.{AreSound}
+use Rattle.fc_image.specs.Sound.{AreSound}
 
 -- the address of the node of a number
 abbrev pub address_in : FinMap nat_cmp Node → ℕ → ℕ

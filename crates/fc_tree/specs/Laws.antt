@@ -1,5 +1,5 @@
 -- Laws of the nodes that stand for a walk's objects.
-use Rattle.std.specs.Prelude.{◌≡◌, ℕ, true, List, ◌∷◌, [], map, option_map, Some, None, Result, Ok, Err, Contains, IsPermutation}
+use Rattle.std.specs.Prelude.{◌≡◌, ℕ, true, List, ◌∷◌, [], map, option_map, Some, Result, Ok, Err, Contains, IsPermutation}
 use Rattle.std.specs.Ordering.{nat_cmp, is_le}
 use Rattle.std.specs.FinMap.{FinMap, get}
 use Rattle.fc_names.specs.declared.refusal.Refusal.{Refusal}
@@ -8,13 +8,13 @@ use Rattle.fc_names.specs.Names.{Path, is_same_path, name_cmp}
 use Rattle.fc_model.specs.Tree.{Node as ModelNode, node_at, children}
 use Rattle.fc_model.specs.Answer.{found}
 use Rattle.fc_record.specs.declared.Kind.{Kind}
-use Rattle.fc_dirs.specs.Entries.{first_twin}
 use Rattle.fc_dirs.specs.Directory.{entries_of}
 use Rattle.fc_image.specs.Layout.{Layout}
-use Rattle.fc_image.specs.Walk.{Object, Listing, Reader, walk}
+use Rattle.fc_image.specs.Walk.{Object, Listing}
 use Rattle.fc_image.specs.Objects.{objects_of, node_of, tree_of}
 use Rattle.fc_image.specs.Opening.{Opened}
 use Rattle.fc_image.specs.Stays.{OpensAs}
+use Rattle.fc_image.specs.Sound.{AreSound}
 use Rattle.fc_tree.specs.declared.node.Node.{Node}
 use Rattle.fc_tree.specs.declared.node.Found.{Found}
 use Rattle.fc_tree.specs.declared.node.Found.TheVariants as founds
@@ -22,16 +22,7 @@ use Rattle.fc_tree.specs.Nodes.{nodes_of, found_in, number_of, HoldObjects}
 use Rattle.fc_tree.specs.Agree.{InOrder}
 use Rattle.fc_tree.specs.Numbered.{AreNumbered}
 
--- some reader's walk finds these listings, and no directory has two names that fold to one
-pub record AreSound (layout : Layout) (listings : List Listing) : Type 0 where
-  pub read : Reader
-  pub reserved : List ℕ
-  pub address : ℕ
-  pub size : ℕ
-  pub walked : walk read layout reserved address size ≡ Ok listings
-  pub apart : (l : Listing) → Contains listings l → first_twin (entries_of l.content) ≡ None
-
--- The listings of an opened image are.
+-- The listings of an opened image are sound.
 abbrev pub SoundLaw : Type 0
 SoundLaw = (image : List ℕ) (kind : Kind) (v : Opened) → OpensAs image kind v → AreSound v.layout v.listings
 

@@ -16,7 +16,7 @@ use Rattle.fc_tree.specs.declared.node.Body.TheVariants as bodies
 use Rattle.fc_tree.specs.declared.node.Node.{Node}
 use Rattle.fc_tree.specs.declared.node.TreeError.{TreeError}
 use Rattle.fc_tree.specs.Agree.{HasForm, IsDirectory}
-use Rattle.fc_tree.specs.Laws.{AreSound}
+use Rattle.fc_image.specs.Sound.{AreSound}
 use Rattle.fc_tree.specs.Nodes.{body_in}
 use Rattle.fc_tree.specs.Numbered.{AreNumbered}
 use Rattle.fc_tree.specs.Taken.{AreTaken, Marks}

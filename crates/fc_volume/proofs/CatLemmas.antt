@@ -16,7 +16,7 @@ use Rattle.fc_image.specs.Opening.{Opened}
 use Rattle.fc_image.specs.Stays.{OpensAs}
 use Rattle.fc_space.specs.Space.{PlacesSuffice}
 use Rattle.fc_tree.specs.Nodes.{Numbers, nodes_of}
-use Rattle.fc_tree.specs.Laws.{AreSound}
+use Rattle.fc_image.specs.Sound.{AreSound}
 use Rattle.fc_tree.specs.Parts.{ArePartsOf}
 use Rattle.fc_tree.proofs.LengthLemmas.{object_long}
 use Rattle.fc_tree.proofs.MemberLemmas.{contains_here, contains_later}

@@ -23,7 +23,7 @@ use Rattle.fc_space.proofs.NthLemmas.{nth_among, nth_cases}
 use Rattle.fc_tree.specs.declared.node.Node.{Node}
 use Rattle.fc_tree.specs.Nodes.{nodes_of}
 use Rattle.fc_tree.specs.Agree.{Agree, reader_of_nodes}
-use Rattle.fc_tree.specs.Laws.{AreSound}
+use Rattle.fc_image.specs.Sound.{AreSound}
 use Rattle.fc_tree.proofs.FindLemmas.{object_of_number}
 use Rattle.fc_tree.proofs.LengthLemmas.{first_among, sector_long}
 use Rattle.fc_tree.proofs.WalkedLemmas.{apart_names, same_some}

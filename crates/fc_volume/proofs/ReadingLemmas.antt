@@ -26,7 +26,8 @@ use Rattle.fc_tree.specs.declared.node.Found.{Found}
 use Rattle.fc_tree.specs.declared.node.Found.TheVariants as founds
 use Rattle.fc_tree.specs.Nodes.{body_in, body_of, found_in, nodes_of, number_of, HoldObjects}
 use Rattle.fc_tree.specs.Parts.{ArePartsOf}
-use Rattle.fc_tree.specs.Laws.{AreAlike, AreSound}
+use Rattle.fc_tree.specs.Laws.{AreAlike}
+use Rattle.fc_image.specs.Sound.{AreSound}
 use Rattle.fc_tree.proofs.FindLemmas.{find_law}
 use Rattle.fc_tree.proofs.MemberLemmas.{contains_cases, contains_here, contains_later, from_map, no_element}
 use Rattle.fc_tree.proofs.SoundLemmas.{listing_of, root_or_child}

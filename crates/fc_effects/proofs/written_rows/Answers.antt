@@ -1,4 +1,4 @@
-use Rattle.std.proofs.Common.{◌≡◌, ◌<◌, ◌⊎◌, inl, inr, ℕ, List, refl, ap, arith}
+use Rattle.std.proofs.Common.{◌≡◌, ◌<◌, inl, inr, refl, ap, arith}
 use Rattle.std.specs.Prelude.{slice_index}
 use Rattle.fc_bytes.specs.Bits.{bits, num, low_bits}
 use Rattle.fc_checks.specs.Checks.{carry_sum, accumulated}
