@@ -17,7 +17,7 @@ use Rattle.fc_oldmap.specs.Holes.{hole, after_give}
 use Rattle.fc_oldmap.specs.OldMap.{with_holes, FreeSpace}
 use Rattle.fc_zone.specs.declared.RunKind.{RunKind}
 use Rattle.fc_zone.specs.declared.RunKind.TheVariants as kinds
-use Rattle.fc_zone.specs.Edits.{WritesLinks}
+use Rattle.fc_zone.specs.Edits.{KeepsLinks}
 use Rattle.fc_newmap.specs.Map.{Map, ZoneRun, shape, sector_of, runs_of, hole_runs, id_runs, all_runs, with_root, is_used, sectors_of}
 use Rattle.fc_model.specs.Tree.{holder, last_name, is_prefix}
 use Rattle.fc_model.specs.Command.{Command}
@@ -390,7 +390,7 @@ lost_sectors space objects = filter (is_lost_sector (Layout.Old space) objects) 
 
 -- Each link of a zone is kept with all its bits, or written in full: FreeLink with its top bit, a hole's field with its link alone.
 abbrev pub KeepsOrWritesLinks : Map → Map → ℕ → Type 0
-KeepsOrWritesLinks m m' z = WritesLinks (shape m.geometry z) (bits (sector_of m z)) (bits (sector_of m' z)) (runs_of m z) (runs_of m' z)
+KeepsOrWritesLinks m m' z = KeepsLinks (shape m.geometry z) (bits (sector_of m z)) (bits (sector_of m' z)) (runs_of m z) (runs_of m' z)
 
 -- The zones are the expected ones except for their allocation bits and checks, and each link is kept or written in full. The boot
 -- block and the kept sectors stay.
