@@ -33,7 +33,7 @@ class Extraction:
             if entry.is_directory and entry.path[:-1] in self.places:
                 self.make_folder(entry)
         files = [entry for entry in self.wanted if entry.path[:-1] in self.places]
-        progress = Progress("files written", len(files))
+        progress = Progress("bytes written", sum(entry.length for entry in files))
         for script, batch in batches("load", files):
             with self.tree.image.run(self.program, script) as run:
                 for path, group in groupby(batch, key=lambda entry: entry.path[:-1]):
@@ -96,8 +96,7 @@ class Extraction:
             return
         with holder:
             for entry in files:
-                self.write(holder, entry, run.load(entry.length))
-                progress.step()
+                self.write(holder, entry, progress.passed(run.load(entry.length)))
 
     def write(self, holder: Folder, entry: Entry, pieces: Iterator[bytes]) -> None:
         suffix = names.suffix_of(entry.load, entry.execution)

@@ -4,14 +4,14 @@ from __future__ import annotations
 import os
 import sys
 from argparse import Namespace
-from typing import Dict, Iterable, Iterator, List, Optional
+from typing import Callable, Dict, Iterable, Iterator, List, Optional
 
 from . import names
 from .extraction import Extraction
 from .faults import explained
 from .images import HEADER, L_SIZE, PIECE, open_file, open_image, read_at, size_of, to_disc_order, to_interleaved
 from .listing import counted, row, rows
-from .messages import FAILED, WRONG_WORDS, Trouble, reason, shown, tell
+from .messages import FAILED, WRONG_WORDS, Progress, Trouble, reason, shown, tell
 from .output import Folder, new_folder, split_path, written
 from .program import BadImage, Entry, Path, Refused, Run, command, find_program
 from .tree import find_entry, read_tree
@@ -77,12 +77,11 @@ def get(words: Namespace) -> int:
     if entry.is_directory:
         raise Trouble("%s: %s: a directory: use extract" % (shown(words.image), shown(words.path)))
     with image.run(program, command("load", entry.path)) as run:
+        pieces = Progress("bytes written", entry.length).passed(run.load(entry.length))
         if words.file == "-":
-            for piece in run.load(entry.length):
-                sys.stdout.buffer.write(piece)
-            sys.stdout.buffer.flush()
+            sys.stdout.buffer.writelines(pieces)
         else:
-            save(entry, run.load(entry.length), words.file)
+            save(entry, pieces, words.file)
     return 0
 
 
@@ -101,7 +100,8 @@ def save(entry: Entry, pieces: Iterator[bytes], wanted: Optional[str]) -> None:
 def place_text(folder: str, name: bytes, error: OSError) -> str:
     """Which file couldn't be made, and why."""
     text = "there is something of this name already" if isinstance(error, FileExistsError) else reason(error)
-    return "%s: %s" % (shown(os.path.join(os.fsencode(folder), name)), text)
+    place = name if folder == "." and name else os.path.join(os.fsencode(folder), name)
+    return "%s: %s" % (shown(place), text)
 
 
 # ---- extract
@@ -131,28 +131,27 @@ def extract(words: Namespace) -> int:
 def check(words: Namespace) -> int:
     program = find_program()
     failed = 0
-    for path in files_in(words.image):
+    unread: List[OSError] = []
+    for path in files_in(words.image, unread.append):
         try:
             failed += not check_one(program, path, words.order)
         except Trouble as trouble:
             failed += 1
             tell(str(trouble))
-    return FAILED if failed else 0
+    for error in unread:
+        tell("%s: %s" % (shown(error.filename), reason(error)))
+    return FAILED if failed or unread else 0
 
 
-def files_in(paths: List[str]) -> Iterator[str]:
+def files_in(paths: List[str], not_read: Callable[[OSError], None]) -> Iterator[str]:
     """The files that are named, and those in the folders that are named, in the order of their names."""
     for path in paths:
         if not os.path.isdir(path):
             yield path
             continue
-        for folder, inner, files in os.walk(path, onerror=not_listed):
+        for folder, inner, files in os.walk(path, onerror=not_read):
             inner.sort()
             yield from (place for place in (os.path.join(folder, name) for name in sorted(files)) if os.path.isfile(place))
-
-
-def not_listed(error: OSError) -> None:
-    raise Trouble("%s: %s" % (shown(error.filename), reason(error)))
 
 
 def check_one(program: str, path: str, order: str) -> bool:

@@ -4,7 +4,7 @@ from __future__ import annotations
 import os
 import sys
 import time
-from typing import Union
+from typing import Iterable, Iterator, Union
 
 FAILED = 1
 WRONG_WORDS = 2
@@ -47,8 +47,8 @@ class Progress:
         self.what, self.total, self.done = what, total, 0
         self.next = time.monotonic() + FIRST_PROGRESS if sys.stderr.isatty() else float("inf")
 
-    def step(self) -> None:
-        self.done += 1
+    def step(self, count: int = 1) -> None:
+        self.done += count
         if self.next == float("inf"):
             return
         now = time.monotonic()
@@ -56,6 +56,13 @@ class Progress:
             self.next = now + BETWEEN_PROGRESS
             Progress.line_is_there = True
             print("\r%s: %d of %d" % (self.what, self.done, self.total), end="", file=sys.stderr, flush=True)
+
+
+    def passed(self, pieces: Iterable[bytes]) -> Iterator[bytes]:
+        """The pieces, as they come by; the line counts bytes."""
+        for piece in pieces:
+            self.step(len(piece))
+            yield piece
 
 
 def clear_progress() -> None:

@@ -10,9 +10,10 @@ import os
 import secrets
 import stat
 from contextlib import contextmanager, suppress
-from typing import Iterable, Iterator, Optional, Sequence, Tuple
+from typing import Iterable, Iterator, Optional, Sequence, Tuple, TypeVar
 
 Inode = Tuple[int, int]
+AnyFolder = TypeVar("AnyFolder", bound="Folder")
 NAME_LIMIT = 255
 # A system that has no hard links says one of these
 NO_LINKS = (errno.EPERM, errno.EOPNOTSUPP, errno.ENOSYS, errno.EMLINK)
@@ -37,7 +38,7 @@ class Folder:
     def __exit__(self, *_: object) -> None:
         os.close(self.number)
 
-    def below(self, names: Sequence[bytes]) -> Folder:
+    def below(self: AnyFolder, names: Sequence[bytes]) -> AnyFolder:
         """A folder in it, by the names that lead there. A symbolic link on the way is an error."""
         number = os.dup(self.number)
         for name in names:
@@ -46,7 +47,7 @@ class Folder:
                 number = os.open(name, os.O_RDONLY | os.O_DIRECTORY | os.O_NOFOLLOW, dir_fd=outer)
             finally:
                 os.close(outer)
-        return Folder(number)
+        return type(self)(number)
 
     def name_limit(self) -> int:
         """The bytes that a name may have."""

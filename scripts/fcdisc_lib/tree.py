@@ -5,7 +5,7 @@ from typing import Dict, Iterator, List, Tuple
 
 from . import names
 from .images import AS_IT_IS, Image, has_l_size, open_image
-from .messages import shown, tell
+from .messages import Progress, shown, tell
 from .program import Entry, Path, Refused, Run, batches, command
 
 # RISC OS takes no path of more than 255 bytes. A disc that goes deeper was made to do harm, and each level costs a run.
@@ -44,17 +44,18 @@ def read_tree(program: str, path: str, order: str, start: Path) -> Tree:
     tell_doubt(image, counts)
     tree = Tree(image, start)
     tree.entries[start] = entries
+    progress = Progress("directories read", counts["dirs"])
     level = [entry for entry in entries if entry.is_directory]
     while level:
         if len(level[0].path) > MAX_DEPTH:
             tree.too_deep = len(level)
             tell("%s: directories more than %d deep are left out" % (shown(path), MAX_DEPTH))
             break
-        level = read_level(program, tree, level)
+        level = read_level(program, tree, level, progress)
     return tree
 
 
-def read_level(program: str, tree: Tree, level: List[Entry]) -> List[Entry]:
+def read_level(program: str, tree: Tree, level: List[Entry], progress: Progress) -> List[Entry]:
     """Reads the directories of a level; those in them are the next one."""
     found: List[Entry] = []
     for script, directories in batches("cat", level):
@@ -62,6 +63,7 @@ def read_level(program: str, tree: Tree, level: List[Entry]) -> List[Entry]:
             for directory in directories:
                 entries = tree.entries[directory.path] = run.cat(directory.path)
                 found += [entry for entry in entries if entry.is_directory]
+                progress.step()
     return found
 
 
