@@ -113,7 +113,7 @@ def main(arguments: List[str]) -> int:
         return FAILED
     except OSError as error:
         drop_output()
-        tell("%s%s" % (shown(error.filename) + ": " if error.filename else "", reason(error)))
+        tell("%s: %s" % (shown(error.filename) if error.filename else "standard output", reason(error)))
         return FAILED
     finally:
         clear_progress()

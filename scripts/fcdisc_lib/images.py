@@ -49,15 +49,23 @@ def size_of(file: BinaryIO) -> int:
 
 
 def read_at(file: BinaryIO, at: int, length: int) -> bytes:
-    file.seek(at)
-    return file.read(length)
+    try:
+        file.seek(at)
+        return file.read(length)
+    except OSError as error:
+        raise Trouble("%s: %s" % (shown(file.name), reason(error))) from None
+
+
+def pieces_from(file: BinaryIO, start: int) -> Iterator[bytes]:
+    """What is in the file from there on."""
+    for at in range(start, size_of(file), PIECE):
+        yield read_at(file, at, PIECE)
 
 
 def copy(source: BinaryIO, start: int, target: BinaryIO) -> None:
     """Copies from there to the end; pieces of zeros take no room in the copy."""
-    source.seek(start)
     zeros = bytes(PIECE)
-    for piece in iter(lambda: source.read(PIECE), b""):
+    for piece in pieces_from(source, start):
         if piece == zeros[:len(piece)]:
             target.seek(len(piece), os.SEEK_CUR)
         else:
@@ -99,7 +107,7 @@ class Image:
     def run(self, program: str, script: bytes) -> Run:
         """A run that only reads. The name is that of an open file, so that every run of a job is over the same one."""
         number = self.file.fileno()
-        return Run(program, ["--read-only", "--", "/dev/fd/%d" % number], script, [number])
+        return Run(program, self.path, ["--read-only", "--", "/dev/fd/%d" % number], script, [number])
 
 
 def interleaved_image(path: str, file: BinaryIO) -> Image:
@@ -157,9 +165,11 @@ def readings(program: str, path: str, file: BinaryIO, order: str, faults: List[B
 def open_image(program: str, path: str, order: str, script: bytes, read: Callable[[Run], Result]) -> Tuple[Image, Result]:
     """Opens the image in the first way that fcore accepts, and says so where it isn't as it is.
 
-    `read` reads the replies to the script. Raises BadImage with the fault of the likeliest way where none is accepted.
+    `read` reads the replies to the script. Raises BadImage where none is accepted, with the fault of the likeliest way, or of the
+    last one where a disc begins only there.
     """
     file = open_file(path)
+    tried: List[Image] = []
     faults: List[BadImage] = []
     try:
         for image in readings(program, path, file, order, faults):
@@ -167,6 +177,7 @@ def open_image(program: str, path: str, order: str, script: bytes, read: Callabl
                 with image.run(program, script) as run:
                     result = read(run)
             except BadImage as fault:
+                tried.append(image)
                 faults.append(fault)
                 continue
             tell_reading(image, order)
@@ -174,7 +185,9 @@ def open_image(program: str, path: str, order: str, script: bytes, read: Callabl
     except OSError as error:
         text = "%s: while a copy of it was made in %s: %s"
         raise Trouble(text % (shown(path), shown(tempfile.gettempdir()), reason(error))) from None
-    raise faults[0]
+    shown_fault = -1 if faults[0].words[0] == "NoKind" else 0
+    tell_reading(tried[shown_fault], order)
+    raise faults[shown_fault]
 
 
 def tell_reading(image: Image, order: str) -> None:

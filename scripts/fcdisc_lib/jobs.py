@@ -9,7 +9,7 @@ from typing import Callable, Dict, Iterable, Iterator, List, Optional
 from . import names
 from .extraction import Extraction
 from .faults import explained
-from .images import HEADER, L_SIZE, PIECE, open_file, open_image, read_at, size_of, to_disc_order, to_interleaved
+from .images import HEADER, L_SIZE, open_file, open_image, pieces_from, read_at, size_of, to_disc_order, to_interleaved
 from .listing import counted, row, rows
 from .messages import FAILED, WRONG_WORDS, Progress, Trouble, reason, shown, tell
 from .output import Folder, new_folder, split_path, written
@@ -183,13 +183,11 @@ def new(words: Namespace) -> int:
     try:
         with Folder.at(folder) as holder, holder.temporary_name() as temporary:
             place = "/dev/fd/%d/%s" % (holder.number, os.fsdecode(temporary))
-            with Run(program, ["--new", words.format, "--", place], b"", [holder.number]):
+            with Run(program, words.image, ["--new", words.format, "--", place], b"", [holder.number]):
                 pass
             holder.publish(temporary, name)
     except OSError as error:
         raise Trouble(place_text(folder, name, error)) from None
-    except Trouble as trouble:
-        raise Trouble("%s: %s" % (shown(words.image), trouble)) from None
     return 0
 
 
@@ -209,8 +207,7 @@ def strip(words: Namespace) -> int:
     with open_file(words.image) as file:
         if size_of(file) <= HEADER:
             raise Trouble("%s: it has no more than %d bytes" % (shown(words.image), HEADER))
-        file.seek(HEADER)
-        write_new(words.out, iter(lambda: file.read(PIECE), b""))
+        write_new(words.out, pieces_from(file, HEADER))
     return verdict(program, words.out)
 
 

@@ -76,9 +76,12 @@ def find_program() -> str:
 
 
 class Run:
-    """A run of fcore. Used by `with`: at the end the program has ended, and all that it wrote was read, or an error says why not."""
+    """A run of fcore. Used by `with`: at the end the program has ended, and all that it wrote was read, or an error says why not.
 
-    def __init__(self, program: str, words: Sequence[str], script: bytes, kept_open: Iterable[int] = ()):
+    `image` is the image's name for people. The files `kept_open` can be opened by fcore as /dev/fd/N.
+    """
+
+    def __init__(self, program: str, image: str, words: Sequence[str], script: bytes, kept_open: Iterable[int]):
         try:
             self.process = subprocess.Popen([program, *words], stdin=subprocess.PIPE, stdout=subprocess.PIPE, bufsize=BUFFER,
                                             pass_fds=tuple(kept_open))
@@ -86,7 +89,7 @@ class Run:
             raise Trouble("%s can't be run: %s" % (shown(program), reason(error))) from None
         assert self.process.stdin and self.process.stdout
         self.replies: BinaryIO = self.process.stdout  # type: ignore[assignment]
-        self.script = script
+        self.image, self.script = image, script
 
     def __enter__(self) -> Run:
         try:
@@ -132,15 +135,18 @@ class Run:
 
     def cause(self, line: bytes) -> Exception:
         """Why there is another line, or none, in a reply's place."""
-        changed = Trouble("fcore's answer isn't what was asked for: did the image change meanwhile?")
+        changed = self.trouble("fcore's answer isn't what was asked for: did the image change meanwhile?")
         if self.replies.peek(1):  # type: ignore[attr-defined]
             return changed
         status = self.process.wait()
         if status == 3 and is_fault(line):
             return BadImage(line.decode("ascii").rstrip("\n").partition(" ")[2])
         if status < 0:
-            return Trouble("fcore was ended by signal %d" % -status)
-        return changed if status in (0, 1) else Trouble(ENDS.get(status, "fcore ended with status %d" % status))
+            return self.trouble("fcore was ended by signal %d" % -status)
+        return changed if status in (0, 1) else self.trouble(ENDS.get(status, "fcore ended with status %d" % status))
+
+    def trouble(self, text: str) -> Trouble:
+        return Trouble("%s: %s" % (shown(self.image), text))
 
     # the replies, in the order of the script's lines
 

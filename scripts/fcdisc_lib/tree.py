@@ -41,7 +41,7 @@ def read_tree(program: str, path: str, order: str, start: Path) -> Tree:
         return run.check(), run.cat(start)
 
     image, (counts, entries) = open_image(program, path, order, b"check\n" + command("cat", start), read)
-    tell_doubt(image, counts)
+    tell_doubt(image, order, counts)
     tree = Tree(image, start)
     tree.entries[start] = entries
     progress = Progress("directories read", counts["dirs"])
@@ -67,9 +67,10 @@ def read_level(program: str, tree: Tree, level: List[Entry], progress: Progress)
     return found
 
 
-def tell_doubt(image: Image, counts: Dict[str, int]) -> None:
+def tell_doubt(image: Image, order: str, counts: Dict[str, int]) -> None:
     """An L disc without directories opens in either order of its sides, so nothing shows whether it was the right one."""
-    if image.how == AS_IT_IS and counts["dirs"] == 1 and counts["files"] and has_l_size(image.file):
+    doubtful = order == "auto" and image.how == AS_IT_IS and counts["dirs"] == 1 and counts["files"]
+    if doubtful and has_l_size(image.file):
         tell("%s: taken to be in disc order; if files look wrong, its sides are interleaved: use --order adl" % shown(image.path))
 
 
@@ -82,6 +83,6 @@ def find_entry(program: str, path: str, order: str, place: Path) -> Tuple[Image,
     wanted = names.folded(place[-1])
     for entry in entries:
         if names.folded(entry.name) == wanted:
-            tell_doubt(image, counts)
+            tell_doubt(image, order, counts)
             return image, entry
     raise Refused("NotFound")
