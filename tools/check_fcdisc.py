@@ -135,8 +135,9 @@ def host_tree(volume, holder, place):
             times.update(inner_times)
         else:
             left[path] = bytes(entry.data)
-            if entry.load >> 20 == 0xFFF:
-                times[path] = ((entry.load & 0xFF) << 32 | entry.execution) // 100 - 2208988800
+            time_told = ((entry.load & 0xFF) << 32 | entry.execution) // 100 - 2208988800
+            if entry.load >> 20 == 0xFFF and time_told >= -1 << 31:  # not every host has times before 1901
+                times[path] = time_told
     return left, times
 
 
@@ -155,8 +156,8 @@ def list_rows(holder, depth=0):
 
 
 def read_row(line):
-    found = re.fullmatch(r"(.{17}) (.{10,})  (.{6})  (( {2})*)(\S+)", line)
-    return (found[1].split()[0], found[2].strip(), found[3].strip(), len(found[4]) // 2, found[6]) if found else line
+    found = re.fullmatch(r"(.{17}) (.{10})  (.{6})  ((?: {2})*)(\S+)", line)
+    return (found[1].split()[0], found[2].strip(), found[3].strip(), len(found[4]) // 2, found[5]) if found else line
 
 
 def accepted_disc(checks, name, volume):
