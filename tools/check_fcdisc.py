@@ -245,10 +245,10 @@ def unit_checks(checks):
             (b"a,0000ABCD-12345678", False, (b"a", None, (0xABCD, 0x12345678))), (b"a,ffb", True, (b"a,ffb", None, None)),
             (b"caf\xc3\xa9", True, (b"caf\xe9", None, None)), (b"raw\xe9", True, (b"raw\xe9", None, None)),
             (b"100%", True, (b"100%", None, None)), (b"a%2ea", True, (b"a.a", None, None))):
-        checks.expect("the disc's name of %r" % host, name=(wanted, tuple(names.disc_name(host, is_directory))))
+        checks.expect("the disc's name of %r" % host, found=(wanted, tuple(names.disc_name(host, is_directory))))
     for host in (b"\xd0\x96", b"tab\t", b"n" * 256, b",fff", b"%0A"):
         try:
-            checks.expect("the disc's name of %r" % host, name=("ValueError", names.disc_name(host, False)))
+            checks.expect("the disc's name of %r" % host, found=("ValueError", names.disc_name(host, False)))
         except ValueError:
             checks.passed += 1
 
