@@ -240,6 +240,7 @@ def unit_checks(checks):
     sides = bytes(at // 4096 for at in range(len(sides)))
     checks.expect("sides both ways", back=(sides, parts.to_interleaved(parts.to_disc_order(sides))),
                   there=(fcdisc_cases.interleaved_back(sides), parts.to_disc_order(sides)))
+    publish_without_links(checks)
     for host, is_directory, wanted in (
             (b"README.txt", False, (b"README/txt", None, None)), (b"Prog,FFB", False, (b"Prog", 0xFFB, None)),
             (b"a,0000ABCD-12345678", False, (b"a", None, (0xABCD, 0x12345678))), (b"a,ffb", True, (b"a,ffb", None, None)),
@@ -251,6 +252,28 @@ def unit_checks(checks):
             checks.expect("the disc's name of %r" % host, found=("ValueError", names.disc_name(host, False)))
         except ValueError:
             checks.passed += 1
+
+
+def publish_without_links(checks):
+    """On a host without hard links a file gets its name all the same, and doesn't replace another."""
+    from fcdisc_lib import output
+
+    def no_link(*_, **__):
+        raise PermissionError(1, "no links here")
+
+    made, link = checks.fresh(b"work"), os.link
+    os.link = no_link
+    try:
+        with output.Folder.at(os.fsdecode(made)) as folder:
+            for content in (b"first", b"second"):
+                try:
+                    with output.written(folder, [content]) as temporary:
+                        folder.publish(temporary, b"name")
+                except FileExistsError:
+                    checks.passed += 1
+    finally:
+        os.link = link
+    checks.expect("no hard links", left=({b"name": b"first"}, snapshot(made)))
 
 
 # ---- a host that takes capitals for small letters

@@ -167,6 +167,12 @@ def listing():
                "a file first\n", status=1)
     yield Case("list-full", ["list", image("named.adf")], err="fcdisc: standard output: No space left on device\n", status=1,
                within='exec "$@" > /dev/full')
+    yield Case("list-closed-output", ["list", image("named.adf")], err="fcdisc: standard output is closed\n", status=1,
+               within='exec "$@" >&-')
+    yield Case("list-closed-streams", ["list", image("named.adf")], status=1, within='exec "$@" <&- >&- 2>&-')
+    yield Case("list-closed-input", ["list", image("named.adf")], NAMED_ROWS, within='exec "$@" <&- 2>&-')
+    yield Case("list-a-pipe", ["list", "p"], err="fcdisc: p: not a file; what lies on a device has to be copied into a file first\n",
+               status=1, within='mkfifo p; "$@"; status=$?; rm p; exit $status')
     yield Case("list-closed-pipe", ["list", image("f-user.adf")], "directory                     /       !Boot\n", status=0,
                within='"$@" | head -n 1')
 

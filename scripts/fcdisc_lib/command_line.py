@@ -10,6 +10,7 @@ from typing import List, NoReturn
 from . import jobs
 from .images import ORDERS
 from .messages import FAILED, Trouble, clear_progress, reason, shown, tell
+from .output import remove_unfinished
 from .program import BadImage
 
 DESCRIPTION = "Daily jobs with images of Acorn discs (RISC OS, ADFS), by the program fcore. No image that is there is changed."
@@ -78,6 +79,7 @@ def catch_signals() -> None:
     def stop(number: int, _: object) -> NoReturn:
         for other in numbers:
             signal.signal(other, signal.SIG_IGN)
+        remove_unfinished()
         raise Stopped(number)
 
     for number in numbers:
@@ -94,6 +96,8 @@ def end_by(number: int) -> NoReturn:
 
 def main(arguments: List[str]) -> int:
     """Does the job that the words ask for, and answers the status."""
+    if not hold_streams():
+        return FAILED
     words = parser().parse_args(arguments)
     try:
         catch_signals()
@@ -117,6 +121,19 @@ def main(arguments: List[str]) -> int:
         return FAILED
     finally:
         clear_progress()
+
+
+def hold_streams() -> bool:
+    """Opens what is closed of the standard streams, lest their numbers become those of images; whether there is an output."""
+    number = os.open(os.devnull, os.O_RDWR)
+    while number <= 2:
+        number = os.open(os.devnull, os.O_RDWR)
+    os.close(number)
+    if sys.stderr is None:
+        sys.stderr = open(os.devnull, "w")
+    if sys.stdout is None:
+        tell("standard output is closed")
+    return sys.stdout is not None
 
 
 def drop_output() -> None:

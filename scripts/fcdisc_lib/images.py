@@ -29,9 +29,9 @@ Result = TypeVar("Result")
 
 
 def open_file(path: str) -> BinaryIO:
-    """The file, which has to be one: not a folder or a device."""
+    """The file, which has to be one: not a folder or a device. To open it doesn't wait, as for the other end of a pipe."""
     try:
-        file = open(path, "rb")
+        file = open(path, "rb", opener=lambda name, flags: os.open(name, flags | os.O_NONBLOCK))
         if stat.S_ISREG(os.fstat(file.fileno()).st_mode):
             return file
         file.close()

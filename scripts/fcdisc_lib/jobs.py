@@ -11,7 +11,7 @@ from .extraction import Extraction
 from .faults import explained
 from .images import HEADER, L_SIZE, open_file, open_image, pieces_from, read_at, size_of, to_disc_order, to_interleaved
 from .listing import counted, row, rows
-from .messages import FAILED, WRONG_WORDS, Progress, Trouble, reason, shown, tell
+from .messages import FAILED, WRONG_WORDS, Progress, Trouble, reason, say, shown, tell
 from .output import Folder, new_folder, split_path, written
 from .program import BadImage, Entry, Path, Refused, Run, command, find_program
 from .tree import find_entry, read_tree
@@ -47,7 +47,7 @@ def list_disc(words: Namespace) -> int:
     except Refused as refused:
         return list_file(program, words, start, refused)
     for line in rows(tree):
-        print(line)
+        say(line)
     return FAILED if tree.too_deep else 0
 
 
@@ -59,7 +59,7 @@ def list_file(program: str, words: Namespace, path: Path, refused: Refused) -> i
         image, entry = find_entry(program, words.image, words.order, path)
     except Refused as error:
         raise refusal(error, words) from None
-    print(row(entry, 0))
+    say(row(entry, 0))
     return 0
 
 
@@ -77,11 +77,11 @@ def get(words: Namespace) -> int:
     if entry.is_directory:
         raise Trouble("%s: %s: a directory: use extract" % (shown(words.image), shown(words.path)))
     with image.run(program, command("load", entry.path)) as run:
-        pieces = Progress("bytes written", entry.length).passed(run.load(entry.length))
+        pieces = run.load(entry.length)
         if words.file == "-":
             sys.stdout.buffer.writelines(pieces)
         else:
-            save(entry, pieces, words.file)
+            save(entry, Progress("bytes written", entry.length).passed(pieces), words.file)
     return 0
 
 
@@ -121,7 +121,7 @@ def extract(words: Namespace) -> int:
         extraction = Extraction(program, tree, folder)
         extraction.run()
     files = "%d of %s" % (extraction.written, counted(len(extraction.wanted), "file"))
-    print("%s written to %s" % (files, shown(words.folder)))
+    say("%s written to %s" % (files, shown(words.folder)))
     return 0 if extraction.is_complete() else FAILED
 
 
@@ -135,6 +135,7 @@ def check(words: Namespace) -> int:
     for path in files_in(words.image, unread.append):
         try:
             failed += not check_one(program, path, words.order)
+            sys.stdout.flush()  # the next image may take its time
         except Trouble as trouble:
             failed += 1
             tell(str(trouble))
@@ -159,9 +160,9 @@ def check_one(program: str, path: str, order: str) -> bool:
     try:
         image, counts = open_image(program, path, order, b"check\n", Run.check)
     except BadImage as fault:
-        print(not_accepted(path, fault), flush=True)
+        say(not_accepted(path, fault))
         return False
-    print("%s: %s" % (shown(path), found(counts)), flush=True)
+    say("%s: %s" % (shown(path), found(counts)))
     return True
 
 

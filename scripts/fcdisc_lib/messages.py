@@ -71,6 +71,12 @@ def clear_progress() -> None:
         print("\r\033[K", end="", file=sys.stderr, flush=True)
 
 
+def say(text: str) -> None:
+    """A line of what was asked for, on standard output."""
+    clear_progress()
+    print(text)
+
+
 def tell(text: str) -> None:
     """A message on standard error."""
     clear_progress()

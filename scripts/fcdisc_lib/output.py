@@ -10,7 +10,7 @@ import os
 import secrets
 import stat
 from contextlib import contextmanager, suppress
-from typing import Iterable, Iterator, Optional, Sequence, Tuple, TypeVar
+from typing import Iterable, Iterator, Optional, Sequence, Set, Tuple, TypeVar
 
 Inode = Tuple[int, int]
 AnyFolder = TypeVar("AnyFolder", bound="Folder")
@@ -19,6 +19,15 @@ NAME_LIMIT = 255
 NO_LINKS = (errno.EPERM, errno.EOPNOTSUPP, errno.ENOSYS, errno.EMLINK)
 # After these no other file can be written either
 HOPELESS = (errno.ENOSPC, errno.EDQUOT, errno.EROFS, errno.EIO)
+
+unfinished: Set[Tuple[int, bytes]] = set()  # the files that have a temporary name: a folder's descriptor, and the name
+
+
+def remove_unfinished() -> None:
+    """For a signal, which can come at any moment, also when a file is about to be removed."""
+    for number, name in list(unfinished):
+        with suppress(OSError):
+            os.unlink(name, dir_fd=number)
 
 
 class Folder:
@@ -71,11 +80,13 @@ class Folder:
     def temporary_name(self) -> Iterator[bytes]:
         """A name for a file while it is written. The file is away afterwards, whatever happens."""
         name = b".fcdisc-%s.tmp" % secrets.token_hex(8).encode("ascii")
+        unfinished.add((self.number, name))
         try:
             yield name
         finally:
             with suppress(FileNotFoundError):
                 os.unlink(name, dir_fd=self.number)
+            unfinished.discard((self.number, name))
 
     def publish(self, temporary: bytes, name: bytes) -> None:
         """Gives a whole file its name. FileExistsError if the name is there, whatever has it: then nothing changes."""
