@@ -16,6 +16,7 @@ import time
 import damaged_images
 import fcdisc_cases
 import images
+import readme_examples
 from filecore import folded, spelled
 
 LONGEST = 255
@@ -203,6 +204,31 @@ def folder_of_images(checks, files):
                       braces=(False, "{" in line))
 
 
+# ---- the examples of the man pages
+
+EXAMPLE_IMAGES = {b"f-user.adf": "f-user.adf", b"d-twin.adf": "d-twin.adf", b"old.adl": "sides.adl", b"disc.hdf": "header.hdf"}
+
+
+def examples_of(page):
+    """The literal text of a page of mdoc, indented as readme_examples.py wants it."""
+    with open(page) as file:
+        blocks = re.findall(r"^\.Bd -literal.*?\n(.*?)^\.Ed", file.read(), re.DOTALL | re.MULTILINE)
+    text = "".join(blocks).replace("\\e", "\\")
+    return readme_examples.examples("".join("    %s\n" % line for line in text.splitlines()))
+
+
+def page_examples(checks, page):
+    work = checks.fresh(b"work")
+    for name, source in EXAMPLE_IMAGES.items():
+        shutil.copy(checks.place(b"images/" + source.encode()), os.path.join(work, name))
+    found = list(examples_of(page))
+    checks.expect("examples of " + page, some=(True, len(found) > 1))
+    environment = {**checks.environment(), "PATH": "%s:%s" % (os.fsdecode(checks.place(b"bin")), os.environ["PATH"])}
+    for command, lines in found:
+        run = subprocess.run(["bash", "-c", command], cwd=work, env=environment, capture_output=True, text=True, check=False)
+        checks.expect("example " + command, output=texts("".join(line + "\n" for line in lines), run.stdout))
+
+
 # ---- names alone
 
 
@@ -368,7 +394,10 @@ def can_mount():
 def run_all(checks):
     files = images.table()[0]
     extra = fcdisc_cases.extra_images(files)
-    os.mkdir(checks.place(b"images"))
+    for name in (b"images", b"bin"):
+        os.mkdir(checks.place(name))
+    os.symlink(checks.fcdisc, checks.place(b"bin/fcdisc"))
+    os.symlink(checks.fcore, checks.place(b"bin/fcore"))
     for name, data in {**files, **extra}.items():
         path = os.path.join(checks.place(b"images"), os.fsencode(name))
         os.makedirs(os.path.dirname(path), exist_ok=True)
@@ -382,6 +411,8 @@ def run_all(checks):
     for name, volume, data in images.accepted():
         accepted_disc(checks, name, volume)
     folder_of_images(checks, {**files, **extra})
+    for page in ("fcore.1", "fcdisc.1"):
+        page_examples(checks, os.path.join(os.path.dirname(os.path.realpath(__file__)), "..", "man", page))
     unit_checks(checks)
     folding_host(checks)
     interrupted(checks)

@@ -5,7 +5,6 @@ usage: tools/time_extract.py FCDISC FCORE [ROUNDS]    in a folder for temporary 
 It stands outside the gate: what it measures depends on the machine. Extract may take at most five times as long.
 """
 import os
-import shutil
 import subprocess
 import sys
 import tempfile
@@ -26,15 +25,14 @@ def seconds(words, **how):
 
 def main(fcdisc, fcore, rounds=3):
     with tempfile.TemporaryDirectory() as folder:
-        image, tree, copy = (os.path.join(folder, name) for name in ("large.adf", "tree", "copy"))
+        image = os.path.join(folder, "large.adf")
         large_image.main(image)
         extracts, copies = [], []
-        for _ in range(rounds):
+        for at in range(rounds):  # nothing is deleted in between: ext4 is slow to make files for a while after that
+            tree = os.path.join(folder, "tree%d" % at)
             os.sync()
             extracts.append(seconds([fcdisc, "extract", image, tree], env={**os.environ, "FCORE": os.path.abspath(fcore)}))
-            copies.append(seconds(["cp", "-r", tree, copy]))
-            shutil.rmtree(copy)
-            shutil.rmtree(tree)
+            copies.append(seconds(["cp", "-r", tree, tree + "-copy"]))
     ratio = min(extracts) / min(copies)
     print("extract %s s" % " ".join("%.2f" % one for one in extracts))
     print("cp -r   %s s" % " ".join("%.2f" % one for one in copies))

@@ -48,9 +48,10 @@ class Extraction:
 
     def take_name(self, holder: Folder, entry: Entry, suffix: bytes, take: Callable[[bytes], None]) -> bytes:
         """Finds a name that `take` can take. One that this job took before is passed over for a fresh spelling."""
-        limit = holder.name_limit()
+        right = names.host_name(entry.name, suffix)
         for number in range(1, MOST_NAMES):
-            name = names.fitted_name(entry.name, suffix, limit, number)
+            fits = number == 1 and len(right) <= holder.name_limit
+            name = right if fits else names.fitted_name(entry.name, suffix, holder.name_limit, number)
             try:
                 take(name)
             except FileExistsError:
@@ -58,7 +59,7 @@ class Extraction:
                     raise Taken from None
                 continue
             self.own.add(holder.inode(name))
-            if name != names.host_name(entry.name, suffix):
+            if name != right:
                 self.renamed += 1
                 self.tell(entry, "has another name here: " + shown(name))
             return name

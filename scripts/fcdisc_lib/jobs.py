@@ -90,7 +90,7 @@ def save(entry: Entry, pieces: Iterator[bytes], wanted: Optional[str]) -> None:
     folder, name = (wanted or ".", b"") if wanted is None or os.path.isdir(wanted) else split_path(wanted)
     try:
         with Folder.at(folder) as holder:
-            name = name or names.fitted_name(entry.name, names.suffix_of(entry.load, entry.execution), holder.name_limit())
+            name = name or names.fitted_name(entry.name, names.suffix_of(entry.load, entry.execution), holder.name_limit)
             with written(holder, pieces, names.unix_time(entry.load, entry.execution)) as temporary:
                 holder.publish(temporary, name)
     except OSError as error:

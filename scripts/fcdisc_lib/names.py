@@ -22,8 +22,15 @@ SPELLED_BYTE = re.compile("%([0-9A-Fa-f]{2})")
 # ---- as fcore spells them
 
 
+def spelled_byte(byte: int) -> str:
+    return chr(byte) if 33 <= byte <= 126 and byte not in NOT_PLAIN else "%%%02X" % byte
+
+
+SPELLED = [spelled_byte(byte) for byte in range(256)]
+
+
 def spelled(name: bytes) -> str:
-    return "".join(chr(byte) if 33 <= byte <= 126 and byte not in NOT_PLAIN else "%%%02X" % byte for byte in name)
+    return "".join([SPELLED[byte] for byte in name])
 
 
 def spelled_path(names: Sequence[bytes]) -> str:
@@ -80,21 +87,24 @@ def suffix_of(load: int, execution: int) -> bytes:
     return b",%03x" % (load >> 8 & 0xFFF) if has_type(load) else b",%08x-%08x" % (load, execution)
 
 
+def host_part(byte: int) -> bytes:
+    if byte in NOT_ON_HOSTS:
+        return b"%%%02X" % byte
+    return b"." if byte == ord("/") else chr(byte).encode("utf-8")
+
+
+HOST_PARTS = [host_part(byte) for byte in range(256)]
+
+
 def host_parts(name: bytes) -> List[bytes]:
     """What the host's name has for each byte of a disc's name."""
-    parts = [host_part(byte) for byte in name]
+    parts = [HOST_PARTS[byte] for byte in name]
     looks_suffixed = SUFFIX.search(name)
     if looks_suffixed:
         parts[looks_suffixed.start()] = b"%2C"
     if name in FOLDER_ITSELF:
         parts[0] = b"%2F"
     return parts
-
-
-def host_part(byte: int) -> bytes:
-    if byte in NOT_ON_HOSTS:
-        return b"%%%02X" % byte
-    return b"." if byte == ord("/") else chr(byte).encode("utf-8")
 
 
 def fitted_name(name: bytes, suffix: bytes, limit: int, number: int = 1) -> bytes:

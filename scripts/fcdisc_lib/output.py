@@ -6,6 +6,7 @@ outside. Nothing that is there is replaced.
 from __future__ import annotations
 
 import errno
+import itertools
 import os
 import secrets
 import stat
@@ -20,6 +21,9 @@ NO_LINKS = (errno.EPERM, errno.EOPNOTSUPP, errno.ENOSYS, errno.EMLINK)
 # After these no other file can be written either
 HOPELESS = (errno.ENOSPC, errno.EDQUOT, errno.EROFS, errno.EIO)
 
+# Nobody else can know the names of this run's temporary files
+OWN_WORD = secrets.token_hex(8).encode("ascii")
+NUMBERS = itertools.count(1)
 unfinished: Set[Tuple[int, bytes]] = set()  # the files that have a temporary name: a folder's descriptor, and the name
 
 
@@ -35,6 +39,7 @@ class Folder:
 
     def __init__(self, number: int):
         self.number = number
+        self.name_limit = name_limit(number)  # the bytes that a name in it may have
 
     @classmethod
     def at(cls, path: str) -> Folder:
@@ -58,12 +63,6 @@ class Folder:
                 os.close(outer)
         return type(self)(number)
 
-    def name_limit(self) -> int:
-        """The bytes that a name may have."""
-        with suppress(OSError, ValueError):
-            return min(NAME_LIMIT, os.fpathconf(self.number, "PC_NAME_MAX"))
-        return NAME_LIMIT
-
     def is_folder(self, name: bytes) -> bool:
         """Whether the name is that of a folder itself, not of a link to one."""
         return stat.S_ISDIR(os.stat(name, dir_fd=self.number, follow_symlinks=False).st_mode)
@@ -79,7 +78,7 @@ class Folder:
     @contextmanager
     def temporary_name(self) -> Iterator[bytes]:
         """A name for a file while it is written. The file is away afterwards, whatever happens."""
-        name = b".fcdisc-%s.tmp" % secrets.token_hex(8).encode("ascii")
+        name = b".fcdisc-%s-%d.tmp" % (OWN_WORD, next(NUMBERS))
         unfinished.add((self.number, name))
         try:
             yield name
@@ -131,6 +130,12 @@ def set_time(number: int, time: Optional[int]) -> None:
     if time is not None:
         with suppress(OSError, OverflowError):
             os.utime(number, ns=(time, time))
+
+
+def name_limit(number: int) -> int:
+    with suppress(OSError, ValueError):
+        return min(NAME_LIMIT, os.fpathconf(number, "PC_NAME_MAX"))
+    return NAME_LIMIT
 
 
 def new_folder(path: str) -> Folder:
