@@ -2,7 +2,10 @@
 PREFIX ?= /usr/local
 PROGRAM = crates/fcore/out/fcore
 
-.PHONY: all build install demo test bench
+INSTALLED = $(DESTDIR)$(PREFIX)
+PAGES = $(wildcard man/*.1 man/*.5)
+
+.PHONY: all build install uninstall demo test bench
 
 all: build
 
@@ -11,8 +14,18 @@ build:
 	cd crates/fcore && rt run -- data/hello.adf < stdin
 	@echo "the program lies in $(PROGRAM)"
 
+# fcdisc finds its parts in lib/fcore, and fcore beside itself.
 install: build
-	install -D $(PROGRAM) $(DESTDIR)$(PREFIX)/bin/fcore
+	install -D $(PROGRAM) $(INSTALLED)/bin/fcore
+	install -D scripts/fcdisc $(INSTALLED)/bin/fcdisc
+	install -d $(INSTALLED)/lib/fcore/fcdisc_lib
+	install -m 644 scripts/fcdisc_lib/*.py $(INSTALLED)/lib/fcore/fcdisc_lib
+	$(foreach page,$(PAGES),install -D -m 644 $(page) $(INSTALLED)/share/man/man$(subst .,,$(suffix $(page)))/$(notdir $(page)) &&) true
+
+uninstall:
+	rm -f $(INSTALLED)/bin/fcore $(INSTALLED)/bin/fcdisc
+	rm -rf $(INSTALLED)/lib/fcore
+	rm -f $(foreach page,$(PAGES),$(INSTALLED)/share/man/man$(subst .,,$(suffix $(page)))/$(notdir $(page)))
 
 # A fresh disc that --new makes, and the embedded image: each file of demo/ is a script, and the words of its run stand beside it.
 # The program is built unproved, with checks at run time; the proofs are the business of make test.

@@ -1,6 +1,6 @@
 #!/usr/bin/env bash
 # Runs the built program over the images of tools/images.py, and compares output and status with that table; then the examples
-# of README.md. No image may be changed.
+# of README.md. No image may be changed. Then fcdisc over the program, what `make install` puts there, and the man pages.
 #
 # usage: tools/check_program.sh PROGRAM
 set -u
@@ -13,6 +13,7 @@ python3 "$tools/images.py" --check || exit 1
 python3 "$tools/images.py" "$folder" || exit 1
 mkdir run bin
 ln -s "$program" bin/fcore
+ln -s "$(realpath "$tools/../scripts/fcdisc")" bin/fcdisc
 passed=0
 failed=0
 
@@ -86,6 +87,20 @@ expect() {
   fi
 }
 
+# What `make install` puts there works from there, and `make uninstall` takes all of it away.
+install_is_right() {
+  local root=$folder/root
+  make -s -C "$tools/.." -o build install uninstall PROGRAM="$program" DESTDIR="$root" PREFIX=/there || return 1
+  [ -z "$(find "$root" ! -type d)" ] || return 1
+  make -s -C "$tools/.." -o build install PROGRAM="$program" DESTDIR="$root" PREFIX=/there || return 1
+  [ "$(env -u FCORE "$root/there/bin/fcdisc" get hello.adf '$.Hello' -)" = Hello ] || return 1
+  [ -e "$root/there/share/man/man1/fcdisc.1" ] && [ -e "$root/there/share/man/man1/fcore.1" ]
+}
+
+pages_are_right() {
+  ! command -v mandoc > /dev/null || mandoc -T lint -W warning "$tools"/../man/*.[0-9]
+}
+
 for embedded in "$tools"/../crates/fcore/data/*.adf; do
   cmp -s "$embedded" "$(basename "$embedded")" || fail "$embedded isn't the image of the table"
 done
@@ -97,6 +112,11 @@ outside_fails
 sha256sum --quiet --check run/sums || fail "images were changed"
 examples=$(PATH="$folder/bin:$PATH" python3 "$tools/readme_examples.py" "$tools/../README.md") || failed=$((failed + 1))
 printf '%s\n' "$examples"
+python3 "$tools/check_fcdisc.py" "$tools/../scripts/fcdisc" "$program" || failed=$((failed + 1))
+install_is_right
+expect 'make install and make uninstall' 0 $?
+pages_are_right
+expect 'the man pages' 0 $?
 
 echo "$passed passed, $failed failed"
 [ "$failed" = 0 ]

@@ -1,0 +1,142 @@
+"""The words of fcdisc, and how a run ends."""
+from __future__ import annotations
+
+import argparse
+import os
+import signal
+import sys
+from typing import List, NoReturn
+
+from . import jobs
+from .images import ORDERS
+from .messages import FAILED, Trouble, clear_progress, reason, shown, tell
+from .output import remove_unfinished
+from .program import BadImage
+
+DESCRIPTION = "Daily jobs with images of Acorn discs (RISC OS, ADFS), by the program fcore. No image that is there is changed."
+EPILOG = "Status: 0 all went well, 1 something failed or was refused, 2 wrong words. See fcdisc(1)."
+PATH_HELP = "as $.Docs.Letter; what isn't plain in a name as %%XX, as the list shows it"
+
+
+def parser() -> argparse.ArgumentParser:
+    made = argparse.ArgumentParser(prog="fcdisc", description=DESCRIPTION, epilog=EPILOG, allow_abbrev=False)
+    jobs_of = made.add_subparsers(metavar="JOB", required=True, dest="job")
+
+    def job(name: str, run: object, text: str, *, reads: bool = True) -> argparse.ArgumentParser:
+        added = jobs_of.add_parser(name, help=text[0].lower() + text[1:].split(". ")[0].rstrip("."), description=text,
+                                   epilog=EPILOG, allow_abbrev=False)
+        added.set_defaults(run=run)
+        if reads:
+            added.add_argument("--order", choices=ORDERS, default="auto", help="of the bytes of an L disc's image: `disc`, or `adl` "
+                               "for interleaved sides; else it is found out, and told where it isn't as it seems")
+        return added
+
+    added = job("list", jobs.list_disc, "List a disc as a tree: type, size, access, name. fcore runs once a level of directories.")
+    added.add_argument("image", metavar="IMAGE")
+    added.add_argument("path", metavar="PATH", nargs="?", default="$", help=PATH_HELP)
+
+    added = job("get", jobs.get, "Take one file out. fcore runs twice.")
+    added.add_argument("image", metavar="IMAGE")
+    added.add_argument("path", metavar="PATH", help=PATH_HELP)
+    added.add_argument("file", metavar="FILE", nargs="?", help="the file to make, or the folder for it; - is standard output")
+
+    added = job("extract", jobs.extract, "Take all files out into a folder. It is made if need be; what is there is never replaced. "
+                "fcore runs once a level of directories, and once for all files.")
+    added.add_argument("image", metavar="IMAGE")
+    added.add_argument("folder", metavar="FOLDER")
+    added.add_argument("path", metavar="PATH", nargs="?", default="$", help="of a directory, to take out that alone")
+
+    added = job("check", jobs.check, "Say of each image whether it is whole, what is wrong, and what to do. fcore runs once an image.")
+    added.add_argument("image", metavar="IMAGE", nargs="+", help="an image, or a folder of them")
+
+    added = job("new", jobs.new, "Make an empty disc.", reads=False)
+    added.add_argument("format", metavar="FORMAT", type=str.upper, choices=jobs.FORMATS, help=", ".join(jobs.FORMATS))
+    added.add_argument("image", metavar="IMAGE", help="the file to make")
+
+    added = job("adl", jobs.adl, "Put the image of an L disc, whose sides are interleaved, into disc order.", reads=False)
+    added.add_argument("--back", action="store_true", help="the other way: from disc order to interleaved sides")
+    added.add_argument("image", metavar="IMAGE")
+    added.add_argument("out", metavar="OUT", help="the file to make")
+
+    added = job("strip", jobs.strip, "Copy an image without its header of 512 bytes.", reads=False)
+    added.add_argument("image", metavar="IMAGE")
+    added.add_argument("out", metavar="OUT", help="the file to make")
+    return made
+
+
+class Stopped(BaseException):
+    """A signal that ends the program, once what it was at is cleared away."""
+
+    def __init__(self, number: int):
+        super().__init__(number)
+        self.number = number
+
+
+def catch_signals() -> None:
+    numbers = [number for number in (signal.SIGINT, signal.SIGTERM, signal.SIGHUP)
+               if signal.getsignal(number) is not signal.SIG_IGN]
+
+    def stop(number: int, _: object) -> NoReturn:
+        for other in numbers:
+            signal.signal(other, signal.SIG_IGN)
+        remove_unfinished()
+        raise Stopped(number)
+
+    for number in numbers:
+        signal.signal(number, stop)
+
+
+def end_by(number: int) -> NoReturn:
+    """Ends as the signal would have ended the program, so that a shell sees it."""
+    clear_progress()
+    signal.signal(number, signal.SIG_DFL)
+    os.kill(os.getpid(), number)
+    raise SystemExit(128 + number)
+
+
+def main(arguments: List[str]) -> int:
+    """Does the job that the words ask for, and answers the status."""
+    if not hold_streams():
+        return FAILED
+    words = parser().parse_args(arguments)
+    try:
+        catch_signals()
+        status = words.run(words)
+        sys.stdout.flush()
+        return status
+    except Stopped as stopped:
+        end_by(stopped.number)
+    except Trouble as trouble:
+        tell(str(trouble))
+        return trouble.status
+    except BadImage as fault:
+        tell(jobs.not_accepted(words.image, fault))
+        return FAILED
+    except BrokenPipeError:
+        drop_output()  # whoever read the output has seen enough
+        return FAILED
+    except OSError as error:
+        drop_output()
+        tell("%s: %s" % (shown(error.filename) if error.filename else "standard output", reason(error)))
+        return FAILED
+    finally:
+        clear_progress()
+
+
+def hold_streams() -> bool:
+    """Opens what is closed of the standard streams, lest their numbers become those of images; whether there is an output."""
+    number = os.open(os.devnull, os.O_RDWR)
+    while number <= 2:
+        number = os.open(os.devnull, os.O_RDWR)
+    os.close(number)
+    if sys.stderr is None:
+        sys.stderr = open(os.devnull, "w")
+    if sys.stdout is None:
+        tell("standard output is closed")
+    return sys.stdout is not None
+
+
+def drop_output() -> None:
+    """What is still to be written to standard output can't be, and must not fail again at the end."""
+    nothing = os.open(os.devnull, os.O_WRONLY)
+    os.dup2(nothing, sys.stdout.fileno())

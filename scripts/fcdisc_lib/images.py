@@ -1,0 +1,198 @@
+"""Images as people have them: in disc order, or with the two sides of an L disc track by track, or with a header before the disc."""
+from __future__ import annotations
+
+import os
+import stat
+import tempfile
+from typing import BinaryIO, Callable, Iterator, List, Tuple, TypeVar
+
+from .messages import Trouble, reason, shown, tell
+from .program import BadImage, Run
+
+TRACK = 4096  # bytes of a track of an L disc: 16 sectors of 256 bytes
+TRACKS = 80  # on each of two sides
+L_SIZE = 2 * TRACKS * TRACK
+HEADER = 512
+PIECE = 1 << 20
+HEAD = 4096  # what tells the kind of a disc lies before this
+ORDERS = ("auto", "disc", "adl")
+
+AS_IT_IS, SIDES, HEADED = "as it is", "sides", "header"
+NOTES = {
+    SIDES: "its two sides are interleaved, as in .adl files: read in disc order",
+    HEADED: "it has a header of %d bytes: read without it" % HEADER,
+}
+Result = TypeVar("Result")
+
+
+# ---- files that are images
+
+
+def open_file(path: str) -> BinaryIO:
+    """The file, which has to be one: not a folder or a device. To open it doesn't wait, as for the other end of a pipe."""
+    try:
+        file = open(path, "rb", opener=lambda name, flags: os.open(name, flags | os.O_NONBLOCK))
+        if stat.S_ISREG(os.fstat(file.fileno()).st_mode):
+            return file
+        file.close()
+    except OSError as error:
+        raise Trouble("%s: %s" % (shown(path), reason(error))) from None
+    raise Trouble("%s: not a file; what lies on a device has to be copied into a file first" % shown(path))
+
+
+def is_named_adl(path: str) -> bool:
+    return path.lower().endswith(".adl")
+
+
+def size_of(file: BinaryIO) -> int:
+    return os.fstat(file.fileno()).st_size
+
+
+def read_at(file: BinaryIO, at: int, length: int) -> bytes:
+    try:
+        file.seek(at)
+        return file.read(length)
+    except OSError as error:
+        raise Trouble("%s: %s" % (shown(file.name), reason(error))) from None
+
+
+def pieces_from(file: BinaryIO, start: int) -> Iterator[bytes]:
+    """What is in the file from there on."""
+    for at in range(start, size_of(file), PIECE):
+        yield read_at(file, at, PIECE)
+
+
+def copy(source: BinaryIO, start: int, target: BinaryIO) -> None:
+    """Copies from there to the end; pieces of zeros take no room in the copy."""
+    zeros = bytes(PIECE)
+    for piece in pieces_from(source, start):
+        if piece == zeros[:len(piece)]:
+            target.seek(len(piece), os.SEEK_CUR)
+        else:
+            target.write(piece)
+    target.truncate()
+
+
+# ---- the sides of an L disc
+
+
+def has_l_size(file: BinaryIO) -> bool:
+    """Whether it is as long as an L disc, and its first sector, which is the same in both orders, says so too."""
+    return size_of(file) >= L_SIZE and int.from_bytes(read_at(file, 252, 3), "little") * 256 == L_SIZE
+
+
+def to_disc_order(interleaved: bytes) -> bytes:
+    """From track 0 of side 0, track 0 of side 1, track 1 of side 0 and so on to all of side 0, then all of side 1."""
+    return b"".join(track_at(interleaved, 2 * track + side) for side in (0, 1) for track in range(TRACKS))
+
+
+def to_interleaved(in_disc_order: bytes) -> bytes:
+    """The other way of `to_disc_order`."""
+    return b"".join(track_at(in_disc_order, side * TRACKS + track) for track in range(TRACKS) for side in (0, 1))
+
+
+def track_at(content: bytes, place: int) -> bytes:
+    return content[place * TRACK:(place + 1) * TRACK]
+
+
+# ---- images for fcore
+
+
+class Image:
+    """A file that fcore reads: the one that the user named, or a copy in disc order that has no name and goes with the program."""
+
+    def __init__(self, path: str, file: BinaryIO, how: str):
+        self.path, self.file, self.how = path, file, how
+
+    def run(self, program: str, script: bytes) -> Run:
+        """A run that only reads. The name is that of an open file, so that every run of a job is over the same one."""
+        number = self.file.fileno()
+        return Run(program, self.path, ["--read-only", "--", "/dev/fd/%d" % number], script, [number])
+
+
+def interleaved_image(path: str, file: BinaryIO) -> Image:
+    turned = nameless_file()
+    turned.write(to_disc_order(read_at(file, 0, L_SIZE)))
+    turned.flush()
+    return Image(path, turned, SIDES)
+
+
+def headed_image(path: str, file: BinaryIO) -> Image:
+    bare = nameless_file()
+    copy(file, HEADER, bare)
+    bare.flush()
+    return Image(path, bare, HEADED)
+
+
+def head_alone(path: str, file: BinaryIO) -> Image:
+    """As `headed_image`, but zeros follow the head: that is enough to see whether a disc begins there."""
+    bare = nameless_file()
+    bare.write(read_at(file, HEADER, HEAD))
+    bare.truncate(size_of(file) - HEADER)
+    bare.flush()
+    return Image(path, bare, HEADED)
+
+
+def nameless_file() -> BinaryIO:
+    return tempfile.TemporaryFile()  # type: ignore[return-value]
+
+
+def begins_disc(program: str, image: Image) -> bool:
+    try:
+        with image.run(program, b""):
+            return True
+    except BadImage as fault:
+        return fault.words[0] != "NoKind"
+
+
+def readings(program: str, path: str, file: BinaryIO, order: str, faults: List[BadImage]) -> Iterator[Image]:
+    """The ways to read the file, the likeliest first. `faults` grows by the fault of each way that fails."""
+    can_turn = order != "disc" and has_l_size(file)
+    if order == "adl" and not can_turn:
+        raise Trouble("%s: no L disc of %d bytes begins here, so it has no sides to put into order" % (shown(path), L_SIZE))
+    by_name = can_turn and is_named_adl(path)
+    if by_name or order == "adl":
+        yield interleaved_image(path, file)
+    if order == "adl":
+        return
+    yield Image(path, file, AS_IT_IS)
+    if can_turn and not by_name:
+        yield interleaved_image(path, file)
+    if faults[-1].words[0] == "NoKind" and size_of(file) > HEADER and begins_disc(program, head_alone(path, file)):
+        yield headed_image(path, file)
+
+
+def open_image(program: str, path: str, order: str, script: bytes, read: Callable[[Run], Result]) -> Tuple[Image, Result]:
+    """Opens the image in the first way that fcore accepts, and says so where it isn't as it is.
+
+    `read` reads the replies to the script. Raises BadImage where none is accepted, with the fault of the likeliest way, or of the
+    last one where a disc begins only there.
+    """
+    file = open_file(path)
+    tried: List[Image] = []
+    faults: List[BadImage] = []
+    try:
+        for image in readings(program, path, file, order, faults):
+            try:
+                with image.run(program, script) as run:
+                    result = read(run)
+            except BadImage as fault:
+                tried.append(image)
+                faults.append(fault)
+                continue
+            tell_reading(image, order)
+            return image, result
+    except OSError as error:
+        text = "%s: while a copy of it was made in %s: %s"
+        raise Trouble(text % (shown(path), shown(tempfile.gettempdir()), reason(error))) from None
+    shown_fault = -1 if faults[0].words[0] == "NoKind" else 0
+    tell_reading(tried[shown_fault], order)
+    raise faults[shown_fault]
+
+
+def tell_reading(image: Image, order: str) -> None:
+    """What was found out, and wasn't asked for."""
+    if image.how == HEADED or image.how == SIDES and order == "auto":
+        tell("%s: %s" % (shown(image.path), NOTES[image.how]))
+    elif image.how == AS_IT_IS and order == "auto" and is_named_adl(image.path) and has_l_size(image.file):
+        tell("%s: its name says interleaved sides, but it is in disc order: read so" % shown(image.path))

@@ -1,0 +1,151 @@
+"""New files on the host: written under a name of their own, and given the right one only when they are whole.
+
+A name is looked up in a folder that is open, and no symbolic link is followed below it, so nothing that a disc's names say leads
+outside. Nothing that is there is replaced.
+"""
+from __future__ import annotations
+
+import errno
+import itertools
+import os
+import secrets
+import stat
+from contextlib import contextmanager, suppress
+from typing import Iterable, Iterator, Optional, Sequence, Set, Tuple, TypeVar
+
+Inode = Tuple[int, int]
+AnyFolder = TypeVar("AnyFolder", bound="Folder")
+NAME_LIMIT = 255
+# A system that has no hard links says one of these
+NO_LINKS = (errno.EPERM, errno.EOPNOTSUPP, errno.ENOSYS, errno.EMLINK)
+# After these no other file can be written either
+HOPELESS = (errno.ENOSPC, errno.EDQUOT, errno.EROFS, errno.EIO)
+
+# Nobody else can know the names of this run's temporary files
+OWN_WORD = secrets.token_hex(8).encode("ascii")
+NUMBERS = itertools.count(1)
+unfinished: Set[Tuple[int, bytes]] = set()  # the files that have a temporary name: a folder's descriptor, and the name
+
+
+def remove_unfinished() -> None:
+    """For a signal, which can come at any moment, also when a file is about to be removed."""
+    for number, name in list(unfinished):
+        with suppress(OSError):
+            os.unlink(name, dir_fd=number)
+
+
+class Folder:
+    """An open folder of the host."""
+
+    def __init__(self, number: int):
+        self.number = number
+        self.name_limit = name_limit(number)  # the bytes that a name in it may have
+
+    @classmethod
+    def at(cls, path: str) -> Folder:
+        """The folder that the user named: links in that name are the user's."""
+        return cls(os.open(path, os.O_RDONLY | os.O_DIRECTORY))
+
+    def __enter__(self) -> Folder:
+        return self
+
+    def __exit__(self, *_: object) -> None:
+        os.close(self.number)
+
+    def below(self: AnyFolder, names: Sequence[bytes]) -> AnyFolder:
+        """A folder in it, by the names that lead there. A symbolic link on the way is an error."""
+        number = os.dup(self.number)
+        for name in names:
+            outer = number
+            try:
+                number = os.open(name, os.O_RDONLY | os.O_DIRECTORY | os.O_NOFOLLOW, dir_fd=outer)
+            finally:
+                os.close(outer)
+        return type(self)(number)
+
+    def is_folder(self, name: bytes) -> bool:
+        """Whether the name is that of a folder itself, not of a link to one."""
+        return stat.S_ISDIR(os.stat(name, dir_fd=self.number, follow_symlinks=False).st_mode)
+
+    def inode(self, name: bytes) -> Inode:
+        found = os.stat(name, dir_fd=self.number, follow_symlinks=False)
+        return found.st_dev, found.st_ino
+
+    def make(self, name: bytes) -> None:
+        """Makes a folder in it. FileExistsError if the name is there, whatever has it."""
+        os.mkdir(name, dir_fd=self.number)
+
+    @contextmanager
+    def temporary_name(self) -> Iterator[bytes]:
+        """A name for a file while it is written. The file is away afterwards, whatever happens."""
+        name = b".fcdisc-%s-%d.tmp" % (OWN_WORD, next(NUMBERS))
+        unfinished.add((self.number, name))
+        try:
+            yield name
+        finally:
+            with suppress(FileNotFoundError):
+                os.unlink(name, dir_fd=self.number)
+            unfinished.discard((self.number, name))
+
+    def publish(self, temporary: bytes, name: bytes) -> None:
+        """Gives a whole file its name. FileExistsError if the name is there, whatever has it: then nothing changes."""
+        try:
+            os.link(temporary, name, src_dir_fd=self.number, dst_dir_fd=self.number, follow_symlinks=False)
+        except OSError as error:
+            if error.errno not in NO_LINKS:
+                raise
+            self.publish_without_links(temporary, name)
+
+    def publish_without_links(self, temporary: bytes, name: bytes) -> None:
+        os.close(os.open(name, os.O_WRONLY | os.O_CREAT | os.O_EXCL, dir_fd=self.number))
+        try:
+            os.rename(temporary, name, src_dir_fd=self.number, dst_dir_fd=self.number)
+        except BaseException:
+            os.unlink(name, dir_fd=self.number)
+            raise
+
+
+@contextmanager
+def written(folder: Folder, pieces: Iterable[bytes], time: Optional[int] = None) -> Iterator[bytes]:
+    """A file of these pieces under a temporary name, to be published. `time` is in nanoseconds since 1970."""
+    with folder.temporary_name() as temporary:
+        number = os.open(temporary, os.O_WRONLY | os.O_CREAT | os.O_EXCL | os.O_NOFOLLOW, 0o666, dir_fd=folder.number)
+        try:
+            for piece in pieces:
+                write_all(number, piece)
+            set_time(number, time)
+        finally:
+            os.close(number)
+        yield temporary
+
+
+def write_all(number: int, piece: bytes) -> None:
+    left = memoryview(piece)
+    while left:
+        left = left[os.write(number, left):]
+
+
+def set_time(number: int, time: Optional[int]) -> None:
+    """A time that the host can't have is left out: it is a courtesy."""
+    if time is not None:
+        with suppress(OSError, OverflowError):
+            os.utime(number, ns=(time, time))
+
+
+def name_limit(number: int) -> int:
+    with suppress(OSError, ValueError):
+        return min(NAME_LIMIT, os.fpathconf(number, "PC_NAME_MAX"))
+    return NAME_LIMIT
+
+
+def new_folder(path: str) -> Folder:
+    """The folder of that name, made if it isn't there."""
+    with suppress(FileExistsError):
+        os.mkdir(path)
+    return Folder.at(path)
+
+
+def split_path(path: str) -> Tuple[str, bytes]:
+    """The folder of a path, and the name in it."""
+    folder, name = os.path.split(path)
+    return folder or ".", os.fsencode(name)
