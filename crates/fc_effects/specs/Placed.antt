@@ -77,7 +77,7 @@ pub record IsPlan (g : Geometry) (holes : List ZoneRun) (bits : ℕ) (parts : Li
 
 -- ---- low bytes
 
--- An identifier of so many bytes leaves a share unit behind a file of this length, whose low byte can be counted on from.
+-- after a file of `len` bytes, `space` bytes have another whole share unit, and its number fits in a low byte
 abbrev pub has_spare_share : Geometry → ℕ → ℕ → Bool
 has_spare_share g space len =
     let end = next_multiple_of len g.share in nat_le (end + g.share) space && nat_le (end / g.share) 254

@@ -1,4 +1,4 @@
--- What an image opens as, with the first fault. The checker accepts an image exactly where this has no fault.
+-- What an image opens as, with the first fault. An image is accepted exactly if this is Ok.
 use Rattle.std.specs.Prelude.{◌≡◌, ℕ, ◌/◌, ◌%◌, Bool, true, not, ◌==◌, nat_lt, List, [], ◌∷◌, ◌++◌, length, filter, slice_index, slice_index_or, if◌then◌else◌, Option, Some, None, Result, Ok, Err, min}
 use Rattle.std.specs.List.{range_with_len, find}
 use Rattle.std.specs.Int.{div_ceil}
@@ -34,7 +34,7 @@ pub record Opened : Type 0 where
 abbrev pub compared_offsets : List ℕ
 compared_offsets = 0 ∷ 4 ∷ 5 ∷ 9 ∷ 10 ∷ 11 ∷ 16 ∷ 17 ∷ 18 ∷ 19 ∷ 36 ∷ 37 ∷ 38 ∷ 39 ∷ 40 ∷ 42 ∷ 44 ∷ 45 ∷ 46 ∷ 47 ∷ []
 
--- Of byte 40 the low four bits count.
+-- a byte of a record as it is compared: of byte 40 only the low four bits
 abbrev pub byte_compared : DiscRecord → ℕ → ℕ
 byte_compared r at = if at == 40 then slice_index r.raw at % 16 else slice_index r.raw at
 

@@ -34,7 +34,7 @@ small_sector low high runs = sealed (
 abbrev pub e_image : List ℕ → List ℕ → List ℕ → List ℕ
 e_image first second root = first ++ second ++ root ++ replicate 4096 0
 
--- one hole
+-- the map sector of a fresh small disc, with one hole
 abbrev pub fresh_sector : List ℕ
 fresh_sector = small_sector 0x18 0x82 (0 ∷ 0 ∷ 0 ∷ 0x80 ∷ [])
 

@@ -42,13 +42,13 @@ pub enum ImageFault {
     Differs { offset: u8 },
     /// The map's record has a wrong root or root size.
     Bad { offset: u8 },
-    /// A zone's bits spell no runs from this bit on.
+    /// No run or hole of this zone begins where one has to, at this bit.
     Zone { zone: u16, bit: u32 },
     /// The old map's hole of this number is wrong.
     Hole { index: u32 },
-    /// A directory's bytes are none.
+    /// The bytes at this path are not a directory.
     Directory { path: Path, fault: DirFault },
-    /// An object's address leads nowhere.
+    /// An object's address and length lie outside its space.
     Place { path: Path },
     /// An object takes a sector that is taken already.
     Overlap { path: Path },

@@ -34,7 +34,7 @@ abbrev pub refusal_of : Result Node Refusal → Option Refusal
 refusal_of (Ok node) = None
 refusal_of (Err refusal) = Some refusal
 
--- the path leads to no object
+-- why the path leads to no object, if it does not
 abbrev pub path_refusal : Tree → Path → Option Refusal
 path_refusal t path = refusal_of (found t path)
 

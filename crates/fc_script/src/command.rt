@@ -41,7 +41,7 @@ pub enum Command {
     Cat {
         path: Path,
     },
-    /// Tells the bytes of a file.
+    /// Writes the bytes of a file to the reply.
     Load {
         path: Path,
     },
@@ -53,7 +53,7 @@ pub enum Command {
     Cdir {
         path: Path,
     },
-    /// Takes an object away. A directory must be empty.
+    /// Deletes an object. A directory must be empty.
     Delete {
         path: Path,
     },

@@ -24,7 +24,7 @@ pub fn part_of(extent: Extent, skip: u64, need: u64) -> Extent
     }
 }
 
-// Whether objects may have an identifier.
+// Whether an object may use this identifier.
 pub fn is_object_id(map: &NewMap, id: u32) -> bool
     ensures { result ≡ is_object_id map.now id }
 {

@@ -47,7 +47,7 @@ impl Volume {
         &self.owners
     }
 
-    /// Whether commands may be done. A volume stays unfit once a change of it ended in a fault of the disk.
+    /// Whether the volume accepts commands. A volume stays unfit once a change of it ended in a fault of the disk.
     pub fn fit(&self) -> bool
         ensures { result ≡ self.now.fit }
     {
