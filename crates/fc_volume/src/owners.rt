@@ -25,7 +25,7 @@ use std::alloc::Global;
 fn is_directory(e: &Entry) -> bool
     ensures { result ≡ is_directory e.now.attrs }
 {
-    (e.attrs >> 3) % 2 == 1
+    Attrs::new(e.attrs).is_directory()
 }
 
 // The bytes of an object of an entry. Of a small directory they follow from its form.
