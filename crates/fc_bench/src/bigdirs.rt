@@ -150,7 +150,7 @@ fn put_name<R: Clock>(
     looked: &mut u64,
     put: &mut u64,
 ) -> io::Result<Vec<BigDir>> {
-    let Some(name) = new_name(number) else {
+    let Some(name) = new_name(alloc, number) else {
         return Ok(dirs);
     };
     let start = Instant::now(rt)?;

@@ -178,7 +178,8 @@ fn refuses_other_lines(rt: HostRuntime) -> Result<(), Fail> {
 
 #[test]
 fn writes_lines(rt: HostRuntime) -> Result<(), Fail> {
-    let mut text = Vec::new(rt.alloc());
+    let alloc = rt.alloc();
+    let mut text = Vec::new(alloc);
     for refusal in [Refusal::BadCommand, Refusal::DiscFull, Refusal::NotNewMap] {
         error_text(refusal.number(), refusal.word(), &mut text)?;
     }

@@ -29,7 +29,7 @@ fn names_up(alloc: Global, nodes: &[Node], at: usize) -> Result<Vec<&Name>, NoMe
 
 // The path of these names, the last of them first.
 fn reversed(alloc: Global, names: Vec<&Name>) -> Result<Path, NoMemory>
-    ensures { IfOk result (λ path. path ≡ reverse (map (λ name. name.now) names.items)) }
+    ensures { IfOk result (λ path. path ≡ reverse (map (λ name. name.now) names.entry.items)) }
 {
     let mut names = names;
     let mut path = Path::root(alloc);

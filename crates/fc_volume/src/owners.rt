@@ -16,7 +16,7 @@ ghost use Rattle.fc_volume.specs.Owners.{node_owner, owner_at, owners_below, wit
 use fc_alloc::{Owner, Owners};
 use fc_device::NoMemory;
 use fc_dirs::Entry;
-use fc_names::NameForm;
+use fc_names::{Attrs, NameForm};
 use fc_space::Space;
 use fc_tree::{Node, Tree};
 use std::alloc::Global;

@@ -133,7 +133,7 @@ fn stored_lines(alloc: Global, entries: &[Entry]) -> Result<Vec<Line>, NoMemory>
 {
     let mut lines = Vec::with_capacity(alloc, entries.len())?;
     for e in entries {
-        lines.push(line_of(e)?)?;
+        lines.push(line_of(e)?).map_err(|_| NoMemory)?;
     }
     Ok(lines)
 }
