@@ -112,10 +112,10 @@ fn directory(alloc: Global, entries: u16, order: u32) -> io::Result<Vec<u8>> {
 }
 
 // A name that no directory here has, behind those of lesser numbers: the letters of the number, and one more.
-fn new_name(number: u32) -> Option<Name> {
+fn new_name(alloc: Global, number: u32) -> Option<Name> {
     let mut name = [b'Z'; 8];
     put(&mut name, 0, &letters(number));
-    read_name(&name)
+    read_name(alloc, &name).ok()
 }
 
 // Reads so many directories of the same bytes.
@@ -150,7 +150,7 @@ fn put_name<R: Clock>(
     looked: &mut u64,
     put: &mut u64,
 ) -> io::Result<Vec<BigDir>> {
-    let Some(name) = new_name(number) else {
+    let Some(name) = new_name(alloc, number) else {
         return Ok(dirs);
     };
     let start = Instant::now(rt)?;

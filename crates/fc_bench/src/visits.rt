@@ -1,5 +1,5 @@
 // Entries that are put into big directories, and the looks for their names, which are the caller's.
-ghost use Rattle.std.specs.Prelude.{◌≡◌, IsFalse};
+ghost use Rattle.std.specs.Prelude.{◌≡◌, IfOk, IsFalse};
 ghost use Rattle.fc_dirs.specs.Entries.{has_name};
 
 use fc_bigdir::{BigDir, Entry};
@@ -21,19 +21,19 @@ fn has_name(entries: &[Entry], name: &Name) -> bool
     entries.iter().any(|e| fold_eq(name, &e.name))
 }
 
-fn entry(name: Name) -> Entry
-    ensures name { result.name ≡ name }
-    ensures last { result.last ≡ 0 }
+fn entry(name: &Name) -> Result<Entry, AllocError>
+    ensures name { IfOk result (λ e. e.name ≡ name.now) }
+    ensures last { IfOk result (λ e. e.last ≡ 0) }
 {
-    Entry {
-        name,
+    Ok(Entry {
+        name: name.clone()?,
         load: 0,
         exec: 0,
         len: 0,
         address: 0,
         attrs: 3,
         last: 0,
-    }
+    })
 }
 
 // The directories that don't have the name, each with an entry of it.
@@ -43,7 +43,7 @@ pub fn look(alloc: Global, dirs: Vec<BigDir>, name: Name) -> Result<Vec<Visit>, 
         if !has_name(dir.entries(), &name) {
             visits.push(Visit {
                 dir,
-                e: entry(name),
+                e: entry(&name)?,
             })?;
         }
     }

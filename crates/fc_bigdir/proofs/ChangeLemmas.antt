@@ -6,8 +6,8 @@ use Rattle.std.proofs.lemmas.Option.{slice_get-get_or}
 use Rattle.fc_names.specs.Names.{IsName}
 use Rattle.fc_dirs.specs.declared.Entry.{Entry}
 use Rattle.fc_dirs.specs.Big.{AllStand, BigDir, FitsBig, IsBig, StandsInHeap, bytes_for, head_space_of, with_big_changed}
-use Rattle.fc_smalldir.proofs.SearchLemmas.{blank}
-use Rattle.fc_smalldir.proofs.TwinLemmas.{apart_from, none_from, apart_set}
+use Rattle.fc_dirs.proofs.SearchLemmas.{blank}
+use Rattle.fc_dirs.proofs.TwinLemmas.{apart_from, none_from, apart_set}
 use Rattle.fc_bigdir.proofs.GrowLemmas.{big_with}
 
 -- Each entry has a place.

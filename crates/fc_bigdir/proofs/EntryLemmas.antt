@@ -9,7 +9,7 @@ use Rattle.byteorder.specs.Endian.{little_number}
 use Rattle.byteorder.specs.Numbers.{little_from-take}
 use Rattle.fc_bytes.specs.Words.{bytes_at, u32_at}
 use Rattle.fc_dirs.specs.Big.{is_entry_right, entry_bytes, entries_start, entry_count, name_place, first_bad_entry, heap_of}
-use Rattle.fc_smalldir.proofs.SearchLemmas.{find-none, find-found}
+use Rattle.fc_dirs.proofs.SearchLemmas.{find-none, find-found}
 
 pub both : (a b : Bool) → (a && b) ≡ true → (a ≡ true) × (b ≡ true)
 both true b is = (refl, is)

@@ -12,7 +12,7 @@ use Rattle.fc_dirs.specs.declared.DirFault.TheVariants.{Magic, Sequence, Size, C
 use Rattle.std.specs.Option.{option_map}
 use Rattle.fc_dirs.specs.Entries.{fault_unless, first_of, first_twin}
 use Rattle.fc_dirs.specs.Big.{big_entries, big_fault, first_bad_entry, does_fit, entry_count, frame_fault, has_second_form, head_space, heap_end, heap_len, is_check_right, is_magic_right, is_sequence_right, is_size_right, name_len}
-use Rattle.fc_smalldir.specs.Faults.{IsFaultOf}
+use Rattle.fc_dirs.specs.Faults.{IsFaultOf}
 use Rattle.fc_bigdir.proofs.EntryLemmas.{both}
 
 -- ---- the first of three faults

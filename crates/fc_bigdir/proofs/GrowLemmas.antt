@@ -8,7 +8,7 @@ use Rattle.std.proofs.lemmas.List.Sums.{prefix_len-le-length, sum_by-insert}
 use Rattle.std.proofs.lemmas.Bool.Decides.{nat_tests}
 use Rattle.fc_checks.specs.Checks.{is_big_size}
 use Rattle.fc_names.specs.Names.{is_name_before}
-use Rattle.fc_smalldir.proofs.TwinLemmas.{apart_from, none_from, apart_insert, apart_remove}
+use Rattle.fc_dirs.proofs.TwinLemmas.{apart_from, none_from, apart_insert, apart_remove}
 use Rattle.fc_dirs.specs.declared.Entry.{Entry}
 use Rattle.fc_dirs.specs.Entries.{entry_place, with_entry, without_entry, has_name, first_twin, padded_name}
 use Rattle.fc_dirs.specs.Big.{BigDir, IsBig, FitsBig, StandsInHeap, AllStand, appended, bytes_for, bytes_taken, size_for, head_space_of, name_space, packed, packed_heap, packed_places, with_big_entry, with_entry_at, size_with, size_limit, without_big_entry}

@@ -24,8 +24,8 @@ use Rattle.std.proofs.lemmas.Option.{slice_get-get_or}
 use Rattle.fc_names.specs.Names.{folded, name_cmp, is_same_name, upper}
 use Rattle.fc_dirs.specs.declared.Entry.{Entry}
 use Rattle.fc_dirs.specs.Entries.{first_twin, is_twin}
-use Rattle.fc_smalldir.proofs.SearchLemmas.{blank, is_some-find}
-use Rattle.fc_smalldir.proofs.TwinLemmas.{is_twin-at, twin_found, none_twin, same_name_sym}
+use Rattle.fc_dirs.proofs.SearchLemmas.{blank, is_some-find}
+use Rattle.fc_dirs.proofs.TwinLemmas.{is_twin-at, twin_found, none_twin, same_name_sym}
 use Rattle.fc_bigdir.specs.declared.twins.Numbered.{Numbered}
 use Rattle.fc_bigdir.specs.Twins.{AreSorted, IsLettered, cmp_held, cmp_lettered, cmp_numbered, first_letters, name_at, numbered, shown}
 

@@ -10,7 +10,7 @@ use Rattle.fc_dirs.specs.Entries.{first_twin}
 use Rattle.fc_dirs.specs.Big.{AllStand, FitsBig, IsBig, StandsInHeap, big_dir, big_entries, big_entry, entry_bytes, entry_count, entry_name_len, first_bad_entry, frame_fault, has_second_form, heap_len, heap_of, heap_start, is_entry_right, name_len, name_place}
 use Rattle.fc_bigdir.specs.Fields.{dir_of}
 use Rattle.fc_smalldir.proofs.ReadLemmas.{take_bytes, drop_bytes}
-use Rattle.fc_smalldir.proofs.SearchLemmas.{fails-find}
+use Rattle.fc_dirs.proofs.SearchLemmas.{fails-find}
 use Rattle.fc_bigdir.proofs.EntryLemmas.{AreRight, named}
 use Rattle.fc_bigdir.proofs.FaultLemmas.{IsFramed, framed}
 

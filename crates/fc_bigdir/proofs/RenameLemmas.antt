@@ -7,7 +7,7 @@ use Rattle.std.proofs.lemmas.List.Elements.{All-from_recursion}
 use Rattle.std.proofs.lemmas.Option.{slice_get-get_or}
 use Rattle.std.proofs.lemmas.Slice.Eq.{bytes_eq-Decides}
 use Rattle.fc_names.specs.Names.{IsName, is_same_name}
-use Rattle.fc_smalldir.proofs.SearchLemmas.{blank}
+use Rattle.fc_dirs.proofs.SearchLemmas.{blank}
 use Rattle.fc_dirs.specs.declared.Entry.{Entry}
 use Rattle.fc_dirs.specs.Entries.{has_name, without_entry}
 use Rattle.fc_dirs.specs.Big.{BigDir, IsBig, FitsBig, StandsInHeap, is_spelled, with_entry_at, without_big_entry}

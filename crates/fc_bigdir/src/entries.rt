@@ -6,18 +6,16 @@ ghost use Rattle.std.specs.Option.{option_map};
 ghost use Rattle.fc_bytes.specs.Words.{bytes_at};
 ghost use Rattle.fc_dirs.specs.declared.DirFault.TheVariants as faults;
 ghost use Rattle.fc_dirs.specs.Big.{big_entries, big_entry, does_fit, entry_bytes, entry_count, first_bad_entry, heap_of, is_entry_right, name_place};
-ghost use Rattle.fc_smalldir.specs.Faults.{IsFaultOf};
+ghost use Rattle.fc_dirs.specs.Faults.{IsFaultOf};
 ghost use Rattle.fc_bigdir.specs.Fields.{packed_size};
 
 use crate::bytes::word_at;
 use crate::enter::name_space;
 use crate::frame::entries_start;
+use fc_device::NoMemory;
 use fc_dirs::{DirError, DirFault, Entry};
 use fc_names::Name;
 use std::alloc::Global;
-
-// The room for more entries that a directory gets when it is read, so that the first of them don't move all others.
-const SPARE: usize = 16;
 
 // Whether all bytes of a name are from 32 on.
 fn is_printed(name: &[u8]) -> bool
@@ -36,25 +34,26 @@ fn is_name_at(heap: &[u8], at: usize, len: usize) -> bool
 }
 
 // The entry that 28 bytes say, if its name is right.
-fn read_entry(heap: &[u8], b: &[u8]) -> Option<Entry>
+fn read_entry(alloc: Global, heap: &[u8], b: &[u8]) -> Result<Option<Entry>, NoMemory>
     requires { length b.now ≡ 28 }
-    ensures says { MatchOption result (is_entry_right heap.now b.now ≡ false) (λ e. e ≡ big_entry heap.now b.now) }
-    ensures right { IfSome result (λ _. is_entry_right heap.now b.now ≡ true) }
+    ensures says { IfOk result (λ read. MatchOption read (is_entry_right heap.now b.now ≡ false) (λ e. e ≡ big_entry heap.now b.now)) }
+    ensures right { IfOk result (λ read. IfSome read (λ _. is_entry_right heap.now b.now ≡ true)) }
 {
     let len = word_at(b, 20) as usize;
     let at = word_at(b, 24) as usize;
     if !is_name_at(heap, at, len) {
-        return None;
+        return Ok(None);
     }
-    Some(Entry {
-        name: Name::new(&heap[at..at + len]),
+    let name = Name::new(alloc, &heap[at..at + len])?;
+    Ok(Some(Entry {
+        name,
         load: word_at(b, 0),
         exec: word_at(b, 4),
         len: word_at(b, 8),
         address: word_at(b, 12),
         attrs: word_at(b, 16),
         last: 0,
-    })
+    }))
 }
 
 // The entries that bytes say, with the size of a heap of exactly their names, or the first whose name is wrong.
@@ -75,13 +74,16 @@ pub fn read_entries(
 {
     let start = entries_start(b, second_form);
     let count = word_at(b, 16) as usize;
-    let Ok(mut entries) = Vec::with_capacity(alloc, count + SPARE) else {
+    let Ok(mut entries) = Vec::with_capacity(alloc, count) else {
         return Err(DirError::NoMemory);
     };
     let mut packed = 0;
     for i in 0..count {
         let at = start + 28 * i;
-        match read_entry(heap, &b[at..at + 28]) {
+        let Ok(read) = read_entry(alloc, heap, &b[at..at + 28]) else {
+            return Err(DirError::NoMemory);
+        };
+        match read {
             Some(e) => {
                 packed += name_space(&e.name);
                 if entries.push(e).is_err() {
@@ -103,7 +105,7 @@ pub fn read_places(alloc: Global, b: &[u8], second_form: bool) -> Result<Vec<u32
 {
     let start = entries_start(b, second_form);
     let count = word_at(b, 16) as usize;
-    let Ok(mut places) = Vec::with_capacity(alloc, count + SPARE) else {
+    let Ok(mut places) = Vec::with_capacity(alloc, count) else {
         return Err(DirError::NoMemory);
     };
     for i in 0..count {

@@ -5,7 +5,7 @@ ghost use Rattle.fc_bytes.specs.Words.{bytes_at};
 ghost use Rattle.fc_dirs.specs.declared.DirFault.TheVariants as faults;
 ghost use Rattle.fc_dirs.specs.Entries.{first_twin};
 ghost use Rattle.fc_dirs.specs.Big.{IsBigDir, big_fault, does_fit, frame_fault, has_second_form, heap_of, name_len};
-ghost use Rattle.fc_smalldir.specs.Faults.{IsFaultOf};
+ghost use Rattle.fc_dirs.specs.Faults.{IsFaultOf};
 
 use crate::BigDir;
 use crate::bytes::{copied, word_at};

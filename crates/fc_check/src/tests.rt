@@ -183,13 +183,13 @@ fn counts_old_maps(rt: HostRuntime) -> Result<(), Fail> {
 }
 
 // An entry of a name.
-fn entry(text: &str) -> Option<Entry> {
+fn entry(alloc: Global, text: &str) -> Option<Entry> {
     let bytes = text.as_bytes();
     if bytes.is_empty() || bytes.len() > 255 || bytes.iter().any(|c| *c < 32) {
         return None;
     }
     Some(Entry {
-        name: Name::new(bytes),
+        name: Name::new(alloc, bytes).ok()?,
         load: 0,
         exec: 0,
         len: 0,
@@ -212,7 +212,7 @@ fn tells_order(rt: HostRuntime) -> Result<(), Fail> {
     for (names, want) in rows {
         let mut entries = Vec::new(rt.alloc());
         for name in names {
-            entries.push(entry(name).ok_or("no name")?)?;
+            entries.push(entry(rt.alloc(), name).ok_or("no name")?)?;
         }
         assert!(rt; is_sorted(&entries) == want, "{names:?}");
     }

@@ -4,3 +4,4 @@ pub mod FoldOrder
 pub mod SpellingLemmas
 pub mod SpelledRead
 pub mod PathLemmas
+pub mod PackedLemmas

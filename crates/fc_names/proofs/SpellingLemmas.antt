@@ -1,13 +1,14 @@
 -- What a spelled byte is, and how a text is read byte by byte.
-use Rattle.std.proofs.Common.{◌≡◌, ◌≤◌, ◌<◌, ◌/◌, ◌%◌, ℕ, false, List, [], ◌∷◌, ◌++◌, length, slice_index, Option, Some, None, refl, ◌∙◌, sym, ap, arith, append_assoc, length-append, if◌then◌else◌}
-use Rattle.std.specs.Int.{is_in_range}
+use Rattle.std.proofs.Common.{◌≡◌, ◌≤◌, ◌<◌, ◌/◌, ◌%◌, ℕ, false, List, [], ◌∷◌, ◌++◌, length, take, drop, slice_index, Option, Some, None, refl, ◌∙◌, sym, ap, arith, append_assoc, append-nil, get_or, le-leb, length-append, if◌then◌else◌}
+use Rattle.std.specs.Int.{IsInRange, is_in_range}
 use Rattle.std.proofs.lemmas.Bool.{and_right, lt-leb}
-use Rattle.std.specs.List.{All}
+use Rattle.std.specs.List.{All, flat_map}
+use Rattle.std.proofs.lemmas.List.{length-take, take-append-drop, take-append-le}
 use Rattle.std.specs.Option.{option_map, option_and_then}
 use Rattle.std.proofs.lemmas.List.Elements.{All-append, All-nil, All-cons}
 use Rattle.hex.specs.Hex.{encode_with, upper_digits}
-use Rattle.fc_names.specs.Names.{is_plain}
-use Rattle.fc_names.specs.Paths.{cons_some, name_of, spelled_byte, spelled_bytes}
+use Rattle.fc_names.specs.Names.{IsName, is_plain}
+use Rattle.fc_names.specs.Paths.{cons_some, name_of, spelled_byte, spelled_bytes, spelled_name}
 
 -- a byte that isn't plain is spelled by its two digits
 pub spelled_byte-escaped : (c : ℕ) → is_plain c ≡ false
@@ -27,25 +28,25 @@ after_some done left = option_map (λ bytes. done ++ bytes) left
 -- a text is read up to `rest`, and what was read is `done`
 pub record IsRead (text done rest : List ℕ) : Type 0 where
   pub spells : spelled_bytes text ≡ after_some done (spelled_bytes rest)
-  pub printed : All (λ c. 32 ≤ c) done
+  pub printed : All (IsInRange 32 255) done
 
 after_some-nil : (left : Option (List ℕ)) → left ≡ after_some [] left
 after_some-nil (Some bytes) = refl
 after_some-nil None = refl
 
 pub IsRead-start : (text : List ℕ) → IsRead text [] text
-IsRead-start text = record { spells = after_some-nil (spelled_bytes text); printed = All-nil (λ b. 32 ≤ b) }
+IsRead-start text = record { spells = after_some-nil (spelled_bytes text); printed = All-nil (IsInRange 32 255) }
 
 after_some-push : (done : List ℕ) (c : ℕ) (left : Option (List ℕ))
     → after_some done (cons_some (Some c) left) ≡ after_some (done ++ c ∷ []) left
 after_some-push done c (Some bytes) = ap Some (sym (append_assoc done (c ∷ []) bytes))
 after_some-push done c None = refl
 
-pub IsRead-next : (text done rest after : List ℕ) (c : ℕ) → IsRead text done rest → 32 ≤ c
+pub IsRead-next : (text done rest after : List ℕ) (c : ℕ) → IsRead text done rest → IsInRange 32 255 c
     → spelled_bytes rest ≡ cons_some (Some c) (spelled_bytes after) → IsRead text (done ++ c ∷ []) after
 IsRead-next text done rest after c read printed e = record {
   spells = read.spells ∙ ap (after_some done) e ∙ after_some-push done c (spelled_bytes after);
-  printed = All-append (λ b. 32 ≤ b) done (c ∷ []) read.printed (All-cons (λ b. 32 ≤ b) c [] printed (All-nil (λ b. 32 ≤ b)));
+  printed = All-append (IsInRange 32 255) done (c ∷ []) read.printed (All-cons (IsInRange 32 255) c [] printed (All-nil (IsInRange 32 255)));
 }
 
 -- a name of what a text spells
@@ -65,3 +66,30 @@ pub name_of-too_long : (text done rest after : List ℕ) (c : ℕ) → IsRead te
     → spelled_bytes rest ≡ cons_some (Some c) (spelled_bytes after) → length done ≡ 255 → name_of text ≡ None
 name_of-too_long text done rest after c read e full =
     ap named (read.spells ∙ ap (after_some done) e) ∙ named-too_long done c (spelled_bytes after) full
+
+-- the bytes that were read are the name, if all is read
+pub name_of-read : (text done rest : List ℕ) → IsRead text done rest → rest ≡ [] → 1 ≤ length done → length done ≤ 255
+    → Some done ≡ name_of text
+name_of-read text done rest read e some most =
+    sym (
+    ap named (read.spells ∙ ap (λ r. after_some done (spelled_bytes r)) e ∙ ap Some (append-nil done))
+    ∙ rw (le-leb 1 (length done) some, le-leb (length done) 255 most) refl
+    )
+
+-- how a name is spelled in a path
+abbrev pub spelled_part : List ℕ → List ℕ
+spelled_part name = 46 ∷ spelled_name name
+
+-- a name more is appended
+pub part_pushed : (into new whole name : List ℕ) (names : List (List ℕ)) → into ++ flat_map spelled_part (name ∷ names) ≡ whole
+    → new ≡ into ++ 46 ∷ spelled_name name → new ++ flat_map spelled_part names ≡ whole
+part_pushed into new whole name names left pushed =
+    ap (λ n. n ++ flat_map spelled_part names) pushed ∙ append_assoc into (46 ∷ spelled_name name) (flat_map spelled_part names) ∙ left
+
+-- what was kept at first is kept later
+pub still_kept : (old now new : List ℕ) → take (length old) now ≡ old → take (length now) new ≡ now → take (length old) new ≡ old
+still_kept old now new first next =
+    let size = length-take (length old) now in
+    let fits : length old ≤ length now = omega (arith, size, ap length first) in
+    let whole : now ++ drop (length now) new ≡ new = ap (λ n. n ++ drop (length now) new) (sym next) ∙ take-append-drop (length now) new in
+    ap (take (length old)) (sym whole) ∙ take-append-le (length old) now (drop (length now) new) fits ∙ first

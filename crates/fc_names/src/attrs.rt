@@ -40,6 +40,13 @@ impl Flags for Attrs {
 }
 
 impl Attrs {
+    /// The attributes of that number.
+    pub fn new(bits: u32) -> Attrs
+        ensures { result.0 ≡ bits }
+    {
+        Attrs(bits)
+    }
+
     /// Whether the object is locked.
     pub fn is_locked(self) -> bool
         ensures { result ≡ is_locked self.0 }

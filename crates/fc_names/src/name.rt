@@ -1,36 +1,32 @@
 // Names of objects, and how they are compared.
-ghost use Rattle.std.specs.Prelude.{◌≡◌, ◌<◌, ◌≤◌, ◌-◌, ◌++◌, length, drop, replicate};
+ghost use Rattle.std.specs.Prelude.{◌≡◌, ◌<◌, ◌≤◌, length, IfOk};
 ghost use Rattle.std.specs.List.{All};
 ghost use Rattle.fc_names.specs.Names.{IsName, name_cmp, is_same_name, is_name_before, is_plain, is_writable, is_writable_byte, name_limit, upper};
 
+use fc_device::NoMemory;
+use std::alloc::Global;
 use std::cmp::Ordering;
 use std::marker::Model;
 
 /// The most bytes of a name.
 pub const MOST: usize = 255;
 
-/// The name of an object: 1 to 255 bytes, each at least 32. It holds them itself, so that a copy takes no memory.
-#[derive(Clone, Copy, Debug)]
+/// The name of an object: 1 to 255 bytes, each at least 32. It takes memory of its own length.
+#[derive(Clone, Debug, Drop)]
 pub struct Name {
-    bytes: [u8; 255],
-    count: u8,
+    bytes: Vec<u8>,
 }
 
 impl Model for Name {
-    ghost use Rattle.std.specs.Prelude.{List, ℕ, ◌-◌, ◌++◌, length, take, replicate};
+    ghost use Rattle.std.specs.Prelude.{List, ℕ};
 
     ghost Value = { List ℕ };
 
-    ghost use Rattle.fc_names.specs.Stored.{shown, IsStored, stored, stored-shown};
+    ghost use Rattle.fc_names.specs.Names.{IsName};
 
-    ghost view = { shown };
+    ghost view = { λ n. n.bytes.items };
 
-    // Bytes past the name are 0, so that a name has one form.
-    ghost invariant = { IsStored };
-
-    ghost inverse = { stored };
-
-    ghost inverse_ok = { stored-shown };
+    ghost invariant = { λ n. IsName n.bytes.items };
 }
 
 impl PartialEq for Name {
@@ -65,36 +61,26 @@ pub enum NameForm {
     Long,
 }
 
-// The bytes and then 0.
-fn padded(b: &[u8]) -> [u8; 255]
-    requires { length b.now ≤ 255 }
-    ensures { result ≡ b.now ++ replicate (255 - length b.now) 0 }
+// A vector of these bytes alone.
+fn copied(alloc: Global, b: &[u8]) -> Result<Vec<u8>, NoMemory>
+    ensures { IfOk result (λ copy. copy.items ≡ b.now) }
 {
-    let mut bytes = [0; MOST];
-    put_front(&mut bytes, b);
-    bytes
-}
-
-// Replaces the first bytes.
-fn put_front(bytes: &mut [u8], b: &[u8])
-    requires { length b.now ≤ length bytes.old }
-    ensures { bytes.new ≡ b.now ++ drop (length b.now) bytes.old }
-{
-    bytes[..b.len()].copy_from_slice(b);
+    let mut copy = Vec::with_capacity(alloc, b.len())?;
+    copy.extend_from_slice(b)?;
+    Ok(copy)
 }
 
 impl Name {
     /// The name of these bytes.
-    pub fn new(b: &[u8]) -> Name
+    pub fn new(alloc: Global, b: &[u8]) -> Result<Name, NoMemory>
         requires some { 0 < length b.now }
         requires most { length b.now ≤ 255 }
         requires printed { All (λ c. 32 ≤ c) b.now }
-        ensures { result ≡ b.now }
+        ensures { IfOk result (λ name. name ≡ b.now) }
     {
-        Name {
-            bytes: padded(b),
-            count: b.len() as u8,
-        }
+        Ok(Name {
+            bytes: copied(alloc, b)?,
+        })
     }
 
     /// The bytes of the name.
@@ -102,7 +88,7 @@ impl Name {
         ensures same { result.now ≡ self.now }
         ensures name { IsName self.now }
     {
-        &self.bytes[..self.count as usize]
+        &self.bytes
     }
 }
 
@@ -120,7 +106,8 @@ pub fn fold_cmp(a: &Name, b: &Name) -> Ordering
     fold_cmp_bytes(a.bytes(), b.bytes())
 }
 
-fn fold_cmp_bytes(a: &[u8], b: &[u8]) -> Ordering
+/// The order of the names of these bytes, with `a` to `z` taken as `A` to `Z`.
+pub fn fold_cmp_bytes(a: &[u8], b: &[u8]) -> Ordering
     ensures { result ≡ name_cmp a.now b.now }
 {
     for (x, y) in a.iter().zip(b) {

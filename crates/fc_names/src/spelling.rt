@@ -1,14 +1,17 @@
 // The spelling of names in paths and replies: a byte by itself where it is plain, and else by `%` and two
 // hexadecimal digits.
-ghost use Rattle.std.specs.Prelude.{◌≡◌, ◌≢◌, ◌+◌, ◌<◌, ◌≤◌, [], ◌++◌, length, Some, None, IfSome, IfNone, IsOk, OnOk, OnErr, vec_len, vec_capacity};
+ghost use Rattle.std.specs.Prelude.{◌≡◌, ◌≢◌, ◌↔◌, ◌+◌, ◌<◌, ◌≤◌, [], ◌∷◌, ◌++◌, length, take, Some, None, Err, IsSome, IfSome, IfNone, IfOk, IsOk, OnOk, OnErr, option_map, vec_len, vec_capacity};
+ghost use Rattle.std.specs.Int.{IsInRange};
 ghost use Rattle.hex.specs.Hex.{hex_digit_value};
 ghost use Rattle.arrayvec.specs.ArrayVec.{array_vec_len};
-ghost use Rattle.fc_names.specs.Paths.{byte_of, cons_some, name_of, spelled_byte, spelled_bytes, spelled_name};
+ghost use Rattle.fc_names.specs.Paths.{byte_of, cons_some, name_of, spelled_byte, spelled_bytes, spelled_name, spelled_path};
+ghost use Rattle.fc_names.specs.Names.{IsName};
 
-use crate::Name;
 use crate::name::{MOST, is_plain};
+use crate::{Name, Path, PathError};
 use arrayvec::ArrayVec;
 use fc_device::NoMemory;
+use std::alloc::Global;
 
 // The most bytes of a spelled name.
 const SPELLED: usize = 3 * MOST;
@@ -30,11 +33,12 @@ fn push_spelled(text: &mut ArrayVec<u8, SPELLED>, c: u8)
     }
 }
 
-fn spelled(n: &Name) -> ArrayVec<u8, SPELLED>
-    ensures { result.items ≡ spelled_name n.now }
+fn spelled(name: &[u8]) -> ArrayVec<u8, SPELLED>
+    requires { length name.now ≤ 255 }
+    ensures { result.items ≡ spelled_name name.now }
 {
     let mut text = ArrayVec::new();
-    for c in n.bytes() {
+    for c in name {
         push_spelled(&mut text, *c);
     }
     text
@@ -48,9 +52,45 @@ pub fn write_name(n: &Name, into: &mut Vec<u8>) -> Result<(), NoMemory>
     // It fails only where room was missing.
     ensures room { vec_len into.old + length (spelled_name n.now) ≤ vec_capacity into.old → IsOk result }
 {
-    let text = spelled(n);
+    let text = spelled(n.bytes());
     into.extend_from_slice(&text)?;
     Ok(())
+}
+
+// Appends a full stop and the spelled name.
+fn push_part(into: &mut Vec<u8>, name: &[u8]) -> Result<(), NoMemory>
+    requires { length name.now ≤ 255 }
+    ensures ok { OnOk result (into.new.items ≡ into.old.items ++ 46 ∷ spelled_name name.now) }
+    ensures kept { take (length into.old.items) into.new.items ≡ into.old.items }
+{
+    into.push(b'.').map_err(|_| NoMemory)?;
+    into.extend_from_slice(&spelled(name))?;
+    Ok(())
+}
+
+// Appends the spelled path, or a part of it.
+fn push_path(into: &mut Vec<u8>, path: &Path) -> Result<(), NoMemory>
+    ensures ok { OnOk result (into.new.items ≡ into.old.items ++ spelled_path path.now) }
+    ensures kept { take (length into.old.items) into.new.items ≡ into.old.items }
+{
+    into.push(b'$').map_err(|_| NoMemory)?;
+    for name in path.names() {
+        push_part(into, name)?;
+    }
+    Ok(())
+}
+
+/// Appends the spelled path. After `NoMemory` the vector is as before.
+pub fn write_path(path: &Path, into: &mut Vec<u8>) -> Result<(), NoMemory>
+    ensures ok { OnOk result (into.new.items ≡ into.old.items ++ spelled_path path.now) }
+    ensures err { OnErr result (into.new.items ≡ into.old.items) }
+{
+    let before = into.len();
+    let done = push_path(into, path);
+    if done.is_err() {
+        into.truncate(before);
+    }
+    done
 }
 
 // The value of a hexadecimal digit of either case.
@@ -76,7 +116,7 @@ fn byte_of(high: u8, low: u8) -> Option<u8>
 // The first byte that a text spells, and the text after it.
 fn read_byte(text: &[u8]) -> Option<(u8, &[u8])>
     ensures read { IfSome result (λ r. spelled_bytes text.now ≡ cons_some (Some r.0) (spelled_bytes r.1.now)) }
-    ensures printed { IfSome result (λ r. 32 ≤ r.0) }
+    ensures printed { IfSome result (λ r. IsInRange 32 255 r.0) }
     ensures shorter { IfSome result (λ r. length r.1.now < length text.now) }
     ensures none { IfNone result (text.now ≢ [] → spelled_bytes text.now ≡ None) }
 {
@@ -87,9 +127,10 @@ fn read_byte(text: &[u8]) -> Option<(u8, &[u8])>
     }
 }
 
-/// The name that a text spells, by the rule of names in paths. `None` where it spells none.
-pub fn read_name(text: &[u8]) -> Option<Name>
-    ensures { result ≡ name_of text.now }
+/// The bytes of the name that a text spells, by the rule of names in paths. `None` where it spells none.
+pub fn spelled_bytes(text: &[u8]) -> Option<ArrayVec<u8, MOST>>
+    ensures name { option_map (λ bytes. bytes.items) result ≡ name_of text.now }
+    ensures is_name { IfSome result (λ bytes. IsName bytes.items) }
 {
     let mut bytes: ArrayVec<u8, MOST> = ArrayVec::new();
     let mut rest = text;
@@ -101,9 +142,21 @@ pub fn read_name(text: &[u8]) -> Option<Name>
         bytes.push(c);
         rest = after;
     }
-    if bytes.is_empty() {
-        None
-    } else {
-        Some(Name::new(&bytes))
+    match bytes.len() {
+        0 => None,
+        _ => Some(bytes),
     }
+}
+
+/// The name that a text spells, by the rule of names in paths. Any other text is `BadName`, also where there is no
+/// memory.
+pub fn read_name(alloc: Global, text: &[u8]) -> Result<Name, PathError>
+    ensures name { IfOk result (λ name. name_of text.now ≡ Some name) }
+    ensures bad_name { (result ≡ Err PathError.BadName) ↔ (name_of text.now ≡ None) }
+    ensures no_memory { result ≡ Err PathError.NoMemory → IsSome (name_of text.now) }
+{
+    let Some(bytes) = spelled_bytes(text) else {
+        return Err(PathError::BadName);
+    };
+    Name::new(alloc, &bytes).map_err(|_| PathError::NoMemory)
 }

@@ -1,27 +1,20 @@
 use crate::{
     Attrs, Name, NameForm, Path, PathError, Refusal, fold_eq, fold_less, read_path, writable,
-    write_name,
+    write_path,
 };
 use bitflags::Flags;
 use fc_device::NoMemory;
 use std::alloc::Global;
 use std::test::Fail;
 
-// A path as it is spelled.
-fn spelled(alloc: Global, path: &Path) -> Result<Vec<u8>, NoMemory> {
-    let mut text = Vec::new(alloc);
-    text.extend_from_slice(b"$")?;
-    for name in path.names() {
-        text.extend_from_slice(b".")?;
-        write_name(name, &mut text)?;
-    }
-    Ok(text)
-}
-
 // The path that a text spells, spelled again.
 fn respelled(alloc: Global, text: &[u8]) -> Result<Vec<u8>, PathError> {
     let path = read_path(alloc, text)?;
-    spelled(alloc, &path).map_err(|_| PathError::NoMemory)
+    let mut text = Vec::new(alloc);
+    match write_path(&path, &mut text) {
+        Ok(()) => Ok(text),
+        Err(NoMemory) => Err(PathError::NoMemory),
+    }
 }
 
 #[test]
@@ -65,10 +58,14 @@ fn refuses_other_texts(rt: HostRuntime) -> Result<(), Fail> {
 }
 
 // The name of a text, where it can be one.
-fn named(text: &str) -> Option<Name> {
+fn named(alloc: Global, text: &str) -> Option<Name> {
     let bytes = text.as_bytes();
     let fits = !bytes.is_empty() && bytes.len() <= 255 && bytes.iter().all(|c| *c >= 32);
-    if fits { Some(Name::new(bytes)) } else { None }
+    if fits {
+        Name::new(alloc, bytes).ok()
+    } else {
+        None
+    }
 }
 
 #[test]
@@ -84,8 +81,8 @@ fn folds_names(rt: HostRuntime) -> Result<(), Fail> {
         ("_", "a", false, false),
         ("é", "É", false, false),
     ] {
-        let a = named(a).ok_or(a)?;
-        let b = named(b).ok_or(b)?;
+        let a = named(rt.alloc(), a).ok_or(a)?;
+        let b = named(rt.alloc(), b).ok_or(b)?;
         assert!(rt; fold_eq(&a, &b) == same && fold_less(&a, &b) == before);
     }
     Ok(())
@@ -103,7 +100,7 @@ fn tells_writable_names(rt: HostRuntime) -> Result<(), Fail> {
         ("!Boot~", true, true, true),
         ("\u{7f}", false, false, false),
     ] {
-        let name = named(text).ok_or(text)?;
+        let name = named(rt.alloc(), text).ok_or(text)?;
         assert!(rt; writable(&name, NameForm::Seven) == seven);
         assert!(rt; writable(&name, NameForm::Ten) == ten);
         assert!(rt; writable(&name, NameForm::Long) == long);
@@ -113,11 +110,14 @@ fn tells_writable_names(rt: HostRuntime) -> Result<(), Fail> {
 
 #[test]
 fn pushes_and_copies(rt: HostRuntime) -> Result<(), Fail> {
-    let name = named("Docs").ok_or("Docs")?;
+    let name = named(rt.alloc(), "Docs").ok_or("Docs")?;
     let mut path = Path::root(rt.alloc());
-    assert!(rt; path.push(name).is_ok());
+    assert!(rt; path.push(&name).is_ok() && path.push(&name.clone()?).is_ok());
     let copy = path.clone()?;
-    assert!(rt; copy.names() == [name].as_slice());
+    assert!(rt; copy.names().all(|n| n == name.bytes()));
+    let mut text = Vec::new(rt.alloc());
+    write_path(&copy, &mut text)?;
+    assert!(rt; text.as_slice() == b"$.Docs.Docs".as_slice());
     assert!(rt; Refusal::NotNewMap.number() == 21 && Refusal::MapFull.word() == "MapFull");
     let attrs = Attrs::from_bits_retain(0x10d);
     assert!(rt; attrs.is_locked() && attrs.is_directory() && attrs.bits() == 0x10d);

@@ -1,5 +1,5 @@
 use crate::{Command, LineError, check_text, entry_text, error_text, free_text, read_line};
-use fc_names::{Name, Path, Refusal, write_name};
+use fc_names::{Name, Path, Refusal, write_path};
 use std::alloc::Global;
 use std::test::Fail;
 
@@ -43,11 +43,7 @@ fn spelled(alloc: Global, path: Option<&Path>) -> Result<Vec<u8>, Fail> {
     let Some(path) = path else {
         return Ok(text);
     };
-    text.extend_from_slice(b"$")?;
-    for name in path.names() {
-        text.extend_from_slice(b".")?;
-        write_name(name, &mut text)?;
-    }
+    write_path(path, &mut text)?;
     Ok(text)
 }
 
@@ -182,7 +178,8 @@ fn refuses_other_lines(rt: HostRuntime) -> Result<(), Fail> {
 
 #[test]
 fn writes_lines(rt: HostRuntime) -> Result<(), Fail> {
-    let mut text = Vec::new(rt.alloc());
+    let alloc = rt.alloc();
+    let mut text = Vec::new(alloc);
     for refusal in [Refusal::BadCommand, Refusal::DiscFull, Refusal::NotNewMap] {
         error_text(refusal.number(), refusal.word(), &mut text)?;
     }
@@ -190,8 +187,8 @@ fn writes_lines(rt: HostRuntime) -> Result<(), Fail> {
     free_text(815_104, 0, &mut text)?;
     free_text(1_624_064, 421_888, &mut text)?;
     check_text(&[1, 9, 0, 2, 796_672, 3, u64::MAX], &mut text)?;
-    entry_text(&Name::new(b"Ab"), 3, 0xffff_ff00, 0, Some(1), &mut text)?;
-    entry_text(&Name::new(b"A B"), 0x1_9abc, 0, 0x1234, None, &mut text)?;
+    entry_text(&Name::new(alloc, b"Ab")?, 3, 0xffff_ff00, 0, Some(1), &mut text)?;
+    entry_text(&Name::new(alloc, b"A B")?, 0x1_9abc, 0, 0x1234, None, &mut text)?;
     let want = "error 1 BadCommand\nerror 14 DiscFull\nerror 21 NotNewMap\nerror 17 Spread\n\
         free 815104 0\nfree 1624064 421888\n\
         files 1 dirs 9 lost 0 holes 2 free 796672 unsorted 3 parents 18446744073709551615\n\

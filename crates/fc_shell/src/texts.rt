@@ -8,7 +8,7 @@ ghost use Rattle.fc_shell.specs.Lines.{spaced};
 use fc_device::NoMemory;
 use fc_dirs::DirFault;
 use fc_image::ImageFault;
-use fc_names::{Path, write_name};
+use fc_names::{Path, write_path};
 use std::alloc::Global;
 
 // Appends a space and a word.
@@ -32,12 +32,8 @@ fn push_number(alloc: Global, line: &mut Vec<u8>, number: u64) -> Result<(), NoM
 fn push_path(line: &mut Vec<u8>, path: &Path) -> Result<(), NoMemory>
     ensures { OnOk result (line.new.items ≡ line.old.items ++ spaced (spelled_path path.now ∷ [])) }
 {
-    line.extend_from_slice(b" $")?;
-    for name in path.names() {
-        line.extend_from_slice(b".")?;
-        write_name(name, line)?;
-    }
-    Ok(())
+    line.extend_from_slice(b" ")?;
+    write_path(path, line)
 }
 
 // Appends the words of what is wrong with a directory.

@@ -12,7 +12,7 @@ use Rattle.fc_dirs.specs.Entries.{first_twin}
 use Rattle.fc_dirs.specs.Small.{FitsSmall, IsSmall, IsSmallDir, small_fault, small_dir, small_entries, tail_of, first_nameless, is_magic_right, is_sequence_right, is_small_check_right}
 use Rattle.fc_dirs.specs.declared.DirError.{DirError}
 use Rattle.fc_dirs.specs.declared.DirError.TheVariants.{Fault, NoMemory}
-use Rattle.fc_smalldir.specs.Faults.{IsFaultOf}
+use Rattle.fc_dirs.specs.Faults.{IsFaultOf}
 use Rattle.fc_smalldir.specs.Fields.{AreRead}
 use Rattle.fc_smalldir.proofs.ReadBack.{none_nameless}
 use Rattle.fc_smalldir.proofs.ReadLemmas.{drop_bytes}

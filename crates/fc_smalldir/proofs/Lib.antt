@@ -1,8 +1,6 @@
 pub mod NameLemmas
 pub mod EntryLemmas
-pub mod SearchLemmas
 pub mod ReadLemmas
-pub mod TwinLemmas
 pub mod HeadLemmas
 pub mod PlaceLemmas
 pub mod LayoutLemmas

@@ -7,7 +7,7 @@ use Rattle.std.proofs.lemmas.List.Elements.{All-tail, All-head}
 use Rattle.fc_dirs.specs.declared.Entry.{Entry}
 use Rattle.fc_dirs.specs.declared.SmallForm.{SmallForm}
 use Rattle.fc_dirs.specs.Small.{FitsSmall, tail_of, small_entry, small_entries, entries_in, first_nameless}
-use Rattle.fc_smalldir.proofs.SearchLemmas.{position-found}
+use Rattle.fc_dirs.proofs.SearchLemmas.{position-found}
 
 -- all by place is all by recursion
 pub by_recursion : {X : Type 0} (P : X → Type 0) (xs : List X) → All P xs → AllByRecursion P xs

@@ -16,9 +16,9 @@ use Rattle.fc_dirs.specs.Entries.{has_name, entry_place, with_entry, without_ent
 use Rattle.fc_dirs.specs.Small.{SmallDir, FitsSmall, IsSmall, tail_of, byte_limit, attrs_limit, last_limit}
 use Rattle.fc_smalldir.specs.Fields.{names_of_form}
 use Rattle.fc_smalldir.proofs.NameLemmas.{ArePrinted}
-use Rattle.fc_smalldir.proofs.SearchLemmas.{blank}
+use Rattle.fc_dirs.proofs.SearchLemmas.{blank}
 use Rattle.fc_smalldir.proofs.PlaceLemmas.{by_recursion}
-use Rattle.fc_smalldir.proofs.TwinLemmas.{Apart, apart_from, none_from, apart_insert, apart_remove, apart_set}
+use Rattle.fc_dirs.proofs.TwinLemmas.{Apart, apart_from, none_from, apart_insert, apart_remove, apart_set}
 
 -- ---- names that may be written
 

@@ -1,4 +1,3 @@
 pub mod Written
 pub mod Fields
-pub mod Faults
 pub mod Laws

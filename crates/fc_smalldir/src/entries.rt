@@ -5,7 +5,7 @@ ghost use Rattle.std.specs.Option.{option_map};
 ghost use Rattle.fc_dirs.specs.declared.DirFault.TheVariants as faults;
 ghost use Rattle.fc_dirs.specs.Entries.{entry_place, first_twin, has_name};
 ghost use Rattle.fc_dirs.specs.Small.{FitsSmall, first_nameless, small_entries, tail_of};
-ghost use Rattle.fc_smalldir.specs.Faults.{IsFaultOf};
+ghost use Rattle.fc_dirs.specs.Faults.{IsFaultOf};
 ghost use Rattle.fc_smalldir.specs.Fields.{AreRead};
 ghost use Rattle.fc_smalldir.specs.Written.{entry_bytes};
 
@@ -82,7 +82,10 @@ pub fn read_entries(
     };
     for i in 0..count {
         let at = 5 + 26 * i;
-        match read_entry(&b[at..at + 26], form) {
+        let Ok(read) = read_entry(alloc, &b[at..at + 26], form) else {
+            return Err(DirError::NoMemory);
+        };
+        match read {
             Some(e) => {
                 if entries.push(e).is_err() {
                     return Err(DirError::NoMemory);

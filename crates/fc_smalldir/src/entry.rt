@@ -1,5 +1,5 @@
 // Entries in their 26 bytes.
-ghost use Rattle.std.specs.Prelude.{◌≡◌, ◌+◌, ◌*◌, ◌/◌, ◌%◌, ◌^◌, ◌<◌, ◌≤◌, ◌++◌, length, take, map, MatchOption, IfSome};
+ghost use Rattle.std.specs.Prelude.{◌≡◌, ◌+◌, ◌*◌, ◌/◌, ◌%◌, ◌^◌, ◌<◌, ◌≤◌, ◌++◌, length, take, map, MatchOption, IfOk, IfSome};
 ghost use Rattle.std.specs.List.{AllByRecursion};
 ghost use Rattle.fc_bytes.specs.Bits.{num};
 ghost use Rattle.fc_dirs.specs.Small.{FitsSmall, name_in, small_entry};
@@ -9,8 +9,10 @@ ghost use Rattle.fc_smalldir.specs.Written.{entry_bytes, last_byte, name_bytes, 
 use crate::bytes::{array_at, padded, put};
 use byteorder::{ByteOrder, LittleEndian};
 use fc_bytes::le24;
+use fc_device::NoMemory;
 use fc_dirs::{Entry, SmallForm};
 use fc_names::Name;
+use std::alloc::Global;
 
 // The number of bytes before the first below 32.
 fn name_len(field: &[u8]) -> usize
@@ -90,25 +92,26 @@ fn last_in(b: &[u8], form: SmallForm) -> u8
 }
 
 // The entry that 26 bytes say, if its name isn't empty.
-pub fn read_entry(b: &[u8], form: SmallForm) -> Option<Entry>
+pub fn read_entry(alloc: Global, b: &[u8], form: SmallForm) -> Result<Option<Entry>, NoMemory>
     requires { length b.now ≡ 26 }
-    ensures says { MatchOption result (length (small_entry form b.now).name ≡ 0) (λ e. e ≡ small_entry form b.now) }
-    ensures fits { IfSome result (FitsSmall form) }
+    ensures says { IfOk result (λ read. MatchOption read (length (small_entry form b.now).name ≡ 0) (λ e. e ≡ small_entry form b.now)) }
+    ensures fits { IfOk result (λ read. IfSome read (FitsSmall form)) }
 {
     let field = plain_field(array_at(b, 0), form);
     let len = name_len(&field);
     if len == 0 {
-        return None;
+        return Ok(None);
     }
-    Some(Entry {
-        name: Name::new(&field[..len]),
+    let name = Name::new(alloc, &field[..len])?;
+    Ok(Some(Entry {
+        name,
         load: LittleEndian::read_u32(&b[10..]),
         exec: LittleEndian::read_u32(&b[14..]),
         len: LittleEndian::read_u32(&b[18..]),
         address: le24(b, 22),
         attrs: attrs_in(b, form),
         last: last_in(b, form),
-    })
+    }))
 }
 
 // The ten bytes of an entry's name.

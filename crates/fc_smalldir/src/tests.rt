@@ -118,8 +118,8 @@ fn are_listed(dir: &SmallDir, names: &[&str]) -> bool {
 }
 
 // The entry of a file without bytes.
-fn file(name: &[u8], address: u32) -> Result<Entry, Fail> {
-    let Some(name) = read_name(name) else {
+fn file(alloc: Global, name: &[u8], address: u32) -> Result<Entry, Fail> {
+    let Ok(name) = read_name(alloc, name) else {
         return Err("a name".into());
     };
     Ok(Entry {
@@ -180,8 +180,11 @@ fn change_len(dir: &mut SmallDir, at: usize, len: u32) -> bool
     let Some(e) = dir.entries().get(at) else {
         return false;
     };
+    let Ok(name) = e.name.clone() else {
+        return false;
+    };
     let changed = Entry {
-        name: e.name,
+        name,
         load: 0xffff_f123,
         exec: 0x4567_89ab,
         len,
@@ -211,10 +214,10 @@ fn numbered(i: u8) -> [u8; 3] {
 fn full(alloc: Global, form: SmallForm, places: u8) -> Result<SmallDir, Fail>
     ensures { IfOk result (λ dir. dir.form ≡ form) }
 {
-    let mut dir = SmallDir::empty(alloc, form, 0x203, &Name::new(b"$"));
+    let mut dir = SmallDir::empty(alloc, form, 0x203, &Name::new(alloc, b"$")?);
     for k in 0..places {
         let i = (29 * u32::from(k) % u32::from(places)) as u8;
-        let e = file(&numbered(i), 0x300 + u32::from(i))?;
+        let e = file(alloc, &numbered(i), 0x300 + u32::from(i))?;
         if insert(&mut dir, form, e) != "ok" {
             return Err("a place".into());
         }
@@ -251,7 +254,7 @@ fn fills_each_place(rt: HostRuntime) -> Result<(), Fail> {
     put_numbered(&mut want, 77, 0, 3);
     let mut dir = full(alloc, SmallForm::Bytes2048, 77)?;
     assert!(rt; is_written(alloc, &dir, &want)?);
-    let more = insert(&mut dir, SmallForm::Bytes2048, file(b"New", 0x400)?);
+    let more = insert(&mut dir, SmallForm::Bytes2048, file(alloc, b"New", 0x400)?);
     assert!(rt; more == "full");
     assert!(rt; is_written(alloc, &dir, &want)?);
 
@@ -269,7 +272,7 @@ fn fills_each_place(rt: HostRuntime) -> Result<(), Fail> {
     put_numbered(&mut want, 47, 128, 0);
     let mut dir = full(alloc, SmallForm::Bytes1280, 47)?;
     assert!(rt; is_written(alloc, &dir, &want)?);
-    let more = insert(&mut dir, SmallForm::Bytes1280, file(b"New", 0x400)?);
+    let more = insert(&mut dir, SmallForm::Bytes1280, file(alloc, b"New", 0x400)?);
     assert!(rt; more == "full");
     assert!(rt; is_written(alloc, &dir, &want)?);
     Ok(())
@@ -279,12 +282,12 @@ fn fills_each_place(rt: HostRuntime) -> Result<(), Fail> {
 fn changes_entries_and_fields(rt: HostRuntime) -> Result<(), Fail> {
     let alloc = rt.alloc();
     let form = SmallForm::Bytes2048;
-    let mut dir = SmallDir::empty(alloc, form, 0x203, &Name::new(b"$"));
-    assert!(rt; insert(&mut dir, form, file(b"b", 0x301)?) == "ok");
-    assert!(rt; insert(&mut dir, form, file(b"C", 0x303)?) == "ok");
-    assert!(rt; insert(&mut dir, form, file(b"A", 0x302)?) == "ok");
+    let mut dir = SmallDir::empty(alloc, form, 0x203, &Name::new(alloc, b"$")?);
+    assert!(rt; insert(&mut dir, form, file(alloc, b"b", 0x301)?) == "ok");
+    assert!(rt; insert(&mut dir, form, file(alloc, b"C", 0x303)?) == "ok");
+    assert!(rt; insert(&mut dir, form, file(alloc, b"A", 0x302)?) == "ok");
     assert!(rt; are_listed(&dir, &["A", "b", "C"]));
-    assert!(rt; rename_first(&mut dir, file(b"dd", 0x302)?));
+    assert!(rt; rename_first(&mut dir, file(alloc, b"dd", 0x302)?));
     assert!(rt; are_listed(&dir, &["b", "C", "dd"]));
     assert!(rt; change_len(&mut dir, 0, 0x1000));
     if dir.entries().len() == 3 {
@@ -292,7 +295,7 @@ fn changes_entries_and_fields(rt: HostRuntime) -> Result<(), Fail> {
     }
     assert!(rt; are_listed(&dir, &["b", "dd"]));
     dir.set_parent(0x1234);
-    dir.set_name(&Name::new(b"Docs"));
+    dir.set_name(&Name::new(alloc, b"Docs")?);
     dir.touch();
     assert_eq!(rt; dir.parent(), 0x1234);
     // The check is another program's.

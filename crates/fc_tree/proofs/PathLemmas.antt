@@ -1,6 +1,8 @@
 -- Names that lead from nodes to the root.
-use Rattle.std.proofs.Common.{◌≡◌, ◌<◌, ℕ, List, [], ◌∷◌, ◌++◌, refl, sym, ap, ap₂, subst, ◌∙◌, arith, Some, None, Option, append_assoc, append-nil}
+use Rattle.std.proofs.Common.{◌≡◌, ◌<◌, ℕ, List, [], ◌∷◌, ◌++◌, refl, sym, ap, ap₂, subst, ◌∙◌, arith, Some, None, Option, append_assoc, append-nil, map, reverse}
 use Rattle.std.specs.Prelude.{slice_get}
+use Rattle.std.specs.Borrow.{Bor}
+use Rattle.std.proofs.lemmas.List.{map-append, reverse-append}
 use Rattle.fc_names.specs.Names.{Path}
 use Rattle.fc_tree.specs.declared.node.Node.{Node}
 use Rattle.fc_tree.specs.Walking.{Leads}
@@ -58,3 +60,14 @@ way_never nodes from at found (x ∷ rest, l, all) high none = some_none l.0 (sy
   where
     some_none : (n : Node) → (let o : Option Node = Some n in o) ≡ None → ⊥
     some_none n e = cc
+
+-- ---- the names from the root on
+
+-- the last name goes from the names that are left to the path
+pub popped : (path path' whole : Path) (xs ys : List (Bor (List ℕ))) (x : Bor (List ℕ)) → ys ≡ xs ++ x ∷ [] → path' ≡ path ++ x.now ∷ []
+    → path ++ reverse (map (λ n. n.now) ys) ≡ whole → path' ++ reverse (map (λ n. n.now) xs) ≡ whole
+popped path path' whole xs ys x e grown is =
+    let now : Bor (List ℕ) → List ℕ = λ n. n.now in
+    ap (λ (p : Path). p ++ reverse (map now xs)) grown ∙ append_assoc path (x.now ∷ []) (reverse (map now xs))
+    ∙ ap (λ (r : Path). path ++ r) (sym (ap (λ l. reverse (map now l)) e ∙ ap reverse (map-append now xs (x ∷ [])) ∙ reverse-append (map now xs) (x.now ∷ [])))
+    ∙ is

@@ -10,7 +10,7 @@ ghost use Rattle.fc_tree.specs.Taken.{AreTaken};
 
 use crate::taken::Taken;
 use fc_dirs::Entry;
-use fc_names::NameForm;
+use fc_names::{Attrs, NameForm};
 use fc_space::{PlaceError, Places};
 use std::alloc::Global;
 
@@ -28,7 +28,7 @@ pub enum Unclaimed {
 pub fn is_directory(entry: &Entry) -> bool
     ensures { result ≡ is_directory entry.now.attrs }
 {
-    entry.attrs >> 3 & 1 == 1
+    Attrs::new(entry.attrs).is_directory()
 }
 
 /// The bytes of a directory whose entry gives this length.

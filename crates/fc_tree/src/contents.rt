@@ -1,8 +1,9 @@
 // The nodes of the objects that a directory holds.
-ghost use Rattle.std.specs.Prelude.{◌≡◌, ◌++◌, ◌∷◌, [], Err, IfErr, List, ℕ, Ok, OnOk, map};
+ghost use Rattle.std.specs.Prelude.{◌≡◌, ◌++◌, ◌∷◌, [], Err, IfErr, IfOk, List, ℕ, Ok, OnOk, map};
 ghost use Rattle.fc_image.specs.Layout.{disc_sectors};
 ghost use Rattle.fc_image.specs.Walk.{Object, children_of, object_of};
 ghost use Rattle.fc_space.specs.Space.{layout_of};
+ghost use Rattle.fc_tree.specs.declared.node.Body.TheVariants as bodies;
 ghost use Rattle.fc_tree.specs.Taken.{AreTaken};
 ghost use Rattle.fc_tree.specs.Walking.{FailsAs, StandsFor, new_node};
 
@@ -10,24 +11,17 @@ use crate::claim::{Unclaimed, claim};
 use crate::node::{Body, Node, TreeError};
 use crate::paths::path_in;
 use crate::taken::Taken;
+use fc_device::NoMemory;
 use fc_dirs::Entry;
 use fc_image::ImageFault;
 use fc_space::Places;
 use std::alloc::Global;
 
-// The same entry.
-fn copy_of(entry: &Entry) -> Entry
-    ensures { result ≡ entry.now }
+// The same entry, with memory for its name.
+fn copy_of(entry: &Entry) -> Result<Entry, NoMemory>
+    ensures { IfOk result (λ copy. copy ≡ entry.now) }
 {
-    Entry {
-        name: entry.name,
-        load: entry.load,
-        exec: entry.exec,
-        len: entry.len,
-        address: entry.address,
-        attrs: entry.attrs,
-        last: entry.last,
-    }
+    Ok(entry.clone()?)
 }
 
 /// Adds a node behind the others.
@@ -39,6 +33,22 @@ pub fn push_node(nodes: &mut Vec<Node>, node: Node) -> Result<(), TreeError>
         return Err(TreeError::NoMemory);
     }
     Ok(())
+}
+
+// Adds the node of an object that is held by node `at` and says nothing yet.
+fn push_child(nodes: &mut Vec<Node>, at: usize, entry: &Entry) -> Result<(), TreeError>
+    ensures ok { OnOk result (nodes.new.items ≡ nodes.old.items ++ record { holder = at; entry = entry.now; body = bodies.File } ∷ []) }
+    ensures err { IfErr result (λ e. e ≡ TreeError.NoMemory) }
+{
+    let Ok(entry) = copy_of(entry) else {
+        return Err(TreeError::NoMemory);
+    };
+    let node = Node {
+        holder: at as u64,
+        entry,
+        body: Body::File,
+    };
+    push_node(nodes, node)
 }
 
 // Adds the node of an object that the directory of node `at` holds.
@@ -62,14 +72,7 @@ fn add_child(
         → FailsAs (object_of (layout_of places.now) before (dir.path ++ entry.now.name ∷ []) entry.now) e) }
 {
     let unclaimed = match claim(alloc, places, taken, entry) {
-        Ok(()) => {
-            let node = Node {
-                holder: at as u64,
-                entry: copy_of(entry),
-                body: Body::File,
-            };
-            return push_node(nodes, node);
-        }
+        Ok(()) => return push_child(nodes, at, entry),
         Err(unclaimed) => unclaimed,
     };
     let Ok(path) = path_in(alloc, nodes, at, &entry.name) else {

@@ -10,7 +10,7 @@ ghost use Rattle.fc_tree.specs.Places.{AreSorted, keys_of, shown};
 
 use crate::node::Node;
 use crate::slots::{is_child, node_at};
-use fc_names::{Name, fold_cmp};
+use fc_names::fold_cmp_bytes;
 use std::alloc::{AllocError, Global};
 use std::cmp::Ordering;
 
@@ -18,7 +18,7 @@ use std::cmp::Ordering;
 #[derive(Clone, Copy)]
 pub struct Place<'a> {
     pub holder: u64,
-    pub name: &'a Name,
+    pub name: &'a [u8],
     pub number: u64,
 }
 
@@ -28,7 +28,7 @@ pub fn place_of(n: u64, node: &Node) -> Place<'_>
 {
     Place {
         holder: node.holder,
-        name: &node.entry.name,
+        name: node.entry.name.bytes(),
         number: n,
     }
 }
@@ -38,7 +38,7 @@ fn cmp_places(a: &Place<'_>, b: &Place<'_>) -> Ordering
 {
     match a.holder.cmp(&b.holder) {
         // Names count only in the same directory.
-        Ordering::Equal => fold_cmp(a.name, b.name).then(a.number.cmp(&b.number)),
+        Ordering::Equal => fold_cmp_bytes(a.name, b.name).then(a.number.cmp(&b.number)),
         order => order,
     }
 }
@@ -83,7 +83,7 @@ pub fn put_number(order: &mut Vec<u64>, at: usize, n: u64)
 }
 
 // The number of the node of a name in a directory: the least, where several have the name.
-pub fn first_child(slots: &[Option<Node>], order: &[u64], dir: u64, name: &Name) -> Option<u64>
+pub fn first_child(slots: &[Option<Node>], order: &[u64], dir: u64, name: &[u8]) -> Option<u64>
     requires { IsIndex slots.now order.now }
     ensures { result ≡ child (nodes_of (record { slots = slots.now; room = 0 })) dir name.now }
 {

@@ -167,12 +167,10 @@ fn is_small(body: &Body) -> bool {
 
 // Whether a path has these names.
 fn is_path(path: &Path, names: &[&'static [u8]]) -> bool {
-    path.names().len() == names.len()
-        && path
-            .names()
-            .iter()
-            .zip(names)
-            .all(|(name, want)| name.bytes() == *want)
+    let mut wanted = names.iter();
+    path.names()
+        .all(|name| wanted.next().is_some_and(|want| name == *want))
+        && wanted.next().is_none()
 }
 
 // What the walk tells of a fault, in words, where it has this path.

@@ -1,5 +1,5 @@
 // The paths of nodes, by the names on the way to the root.
-ghost use Rattle.std.specs.Prelude.{◌≡◌, ◌++◌, ◌∷◌, [], IfOk, reverse};
+ghost use Rattle.std.specs.Prelude.{◌≡◌, ◌++◌, ◌∷◌, [], IfOk, map, reverse};
 ghost use Rattle.fc_names.specs.Names.{Path};
 ghost use Rattle.fc_tree.specs.Walking.{Leads};
 
@@ -9,9 +9,9 @@ use fc_names::{Name, Path};
 use std::alloc::Global;
 
 // The names from a node up to the root, which has none.
-fn names_up(alloc: Global, nodes: &[Node], at: usize) -> Result<Vec<Name>, NoMemory>
+fn names_up(alloc: Global, nodes: &[Node], at: usize) -> Result<Vec<&Name>, NoMemory>
     requires { (names : Path) × Leads nodes.now at names }
-    ensures { IfOk result (λ found. (names : Path) → Leads nodes.now at names → found.items ≡ names) }
+    ensures { IfOk result (λ found. (names : Path) → Leads nodes.now at names → map (λ name. name.now) found.items ≡ names) }
 {
     let mut names = Vec::new(alloc);
     let mut at = at;
@@ -19,7 +19,7 @@ fn names_up(alloc: Global, nodes: &[Node], at: usize) -> Result<Vec<Name>, NoMem
         let Some(node) = nodes.get(at) else {
             unreachable!();
         };
-        if names.push(node.entry.name).is_err() {
+        if names.push(&node.entry.name).is_err() {
             return Err(NoMemory);
         }
         at = node.holder as usize;
@@ -28,8 +28,8 @@ fn names_up(alloc: Global, nodes: &[Node], at: usize) -> Result<Vec<Name>, NoMem
 }
 
 // The path of these names, the last of them first.
-fn reversed(alloc: Global, names: Vec<Name>) -> Result<Path, NoMemory>
-    ensures { IfOk result (λ path. path ≡ reverse names.items) }
+fn reversed(alloc: Global, names: Vec<&Name>) -> Result<Path, NoMemory>
+    ensures { IfOk result (λ path. path ≡ reverse (map (λ name. name.now) names.entry.items)) }
 {
     let mut names = names;
     let mut path = Path::root(alloc);
@@ -54,6 +54,6 @@ pub fn path_in(alloc: Global, nodes: &[Node], at: usize, name: &Name) -> Result<
     ensures { IfOk result (λ path. (names : Path) → Leads nodes.now at names → path ≡ reverse names ++ name.now ∷ []) }
 {
     let mut path = path_of(alloc, nodes, at)?;
-    path.push(*name)?;
+    path.push(name)?;
     Ok(path)
 }

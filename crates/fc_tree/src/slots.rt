@@ -4,7 +4,7 @@ ghost use Rattle.std.specs.Option.{option_map, option_map_or};
 ghost use Rattle.fc_tree.specs.Slots.{is_child, slot_at};
 
 use crate::node::Node;
-use fc_names::{Name, fold_eq};
+use fc_names::fold_cmp_bytes;
 use std::alloc::{AllocError, Global};
 
 // The node of a number.
@@ -15,11 +15,15 @@ pub fn node_at(slots: &[Option<Node>], n: u64) -> Option<&Node>
 }
 
 // Whether a directory has the node of a number under this name.
-pub fn is_child(slots: &[Option<Node>], n: u64, dir: u64, name: &Name) -> bool
+pub fn is_child(slots: &[Option<Node>], n: u64, dir: u64, name: &[u8]) -> bool
     ensures { result ≡ option_map_or (λ node. is_child dir name.now (n, node)) (slot_at slots.now n) false }
 {
     match node_at(slots, n) {
-        Some(node) => node.holder == dir && n != 0 && fold_eq(name, &node.entry.name),
+        Some(node) => {
+            node.holder == dir
+                && n != 0
+                && fold_cmp_bytes(name, node.entry.name.bytes()).is_eq()
+        }
         None => false,
     }
 }

@@ -7,11 +7,12 @@ ghost use Rattle.std.specs.Option.{option_map};
 ghost use Rattle.std.specs.FinMap.{get, insert, remove};
 ghost use Rattle.fc_tree.specs.Nodes.{bound_of, child, found_in, is_directory_node, nodes_of};
 
+use crate::claim::is_directory;
 use crate::index::{first_child, index_of, place_of, put_number, rank, rank_of};
 use crate::node::{Found, Node};
 use crate::slots::{node_at, push_slot, put_slot, slots_of, take_slot};
 use fc_device::NoMemory;
-use fc_names::{Name, Path};
+use fc_names::Path;
 use std::alloc::Global;
 use std::marker::Model;
 
@@ -84,13 +85,13 @@ impl Tree {
         ensures { result ≡ is_directory_node (nodes_of self.now) n }
     {
         match self.node(n) {
-            Some(node) => (node.entry.attrs >> 3) % 2 == 1,
+            Some(node) => is_directory(&node.entry),
             None => false,
         }
     }
 
     // The number of the node of a name in a directory.
-    fn child(&self, dir: u64, name: &Name) -> Option<u64>
+    fn child(&self, dir: u64, name: &[u8]) -> Option<u64>
         ensures { result ≡ child (nodes_of self.now) dir name.now }
     {
         first_child(&self.slots, &self.order, dir, name)

@@ -57,13 +57,13 @@ fn reserve(alloc: Global, space: &Space, reserved: &[Extent]) -> Result<Taken, N
 }
 
 // The root's node.
-fn root_node(form: NameForm, root: u32, root_size: u32) -> Node
-    ensures { result ≡ record { holder = 0; entry = root_entry root (directory_size form root_size); body = bodies.File } }
+fn root_node(alloc: Global, form: NameForm, root: u32, root_size: u32) -> Result<Node, NoMemory>
+    ensures { IfOk result (λ node. node ≡ record { holder = 0; entry = root_entry root (directory_size form root_size); body = bodies.File }) }
 {
-    Node {
+    Ok(Node {
         holder: 0,
         entry: Entry {
-            name: Name::new(b"$"),
+            name: Name::new(alloc, b"$")?,
             load: 0,
             exec: 0,
             len: directory_size(form, root_size),
@@ -72,7 +72,7 @@ fn root_node(form: NameForm, root: u32, root_size: u32) -> Node
             last: 0,
         },
         body: Body::File,
-    }
+    })
 }
 
 // Takes the root's sectors.
@@ -145,7 +145,9 @@ pub fn walk_disk<D: Disk>(
     let Ok(mut taken) = reserve(alloc, space, reserved) else {
         return Err(TreeError::NoMemory);
     };
-    let node = root_node(space.dir_form(), root, root_size);
+    let Ok(node) = root_node(alloc, space.dir_form(), root, root_size) else {
+        return Err(TreeError::NoMemory);
+    };
     claim_root(alloc, places, &mut taken, &node.entry)?;
     let mut nodes = Vec::new(alloc);
     push_node(&mut nodes, node)?;

@@ -16,7 +16,7 @@ ghost use Rattle.fc_volume.specs.Owners.{node_owner, owner_at, owners_below, wit
 use fc_alloc::{Owner, Owners};
 use fc_device::NoMemory;
 use fc_dirs::Entry;
-use fc_names::NameForm;
+use fc_names::{Attrs, NameForm};
 use fc_space::Space;
 use fc_tree::{Node, Tree};
 use std::alloc::Global;
@@ -25,7 +25,7 @@ use std::alloc::Global;
 fn is_directory(e: &Entry) -> bool
     ensures { result ≡ is_directory e.now.attrs }
 {
-    (e.attrs >> 3) % 2 == 1
+    Attrs::new(e.attrs).is_directory()
 }
 
 // The bytes of an object of an entry. Of a small directory they follow from its form.

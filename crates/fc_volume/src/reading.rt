@@ -24,7 +24,7 @@ ghost use Rattle.fc_volume.specs.Volume.{StandsFor, parts_of};
 use crate::{CommandError, FileRef, Line, Listed, Volume};
 use fc_device::{Disk, NoMemory};
 use fc_dirs::Entry;
-use fc_names::{Path, Refusal, fold_cmp};
+use fc_names::{Attrs, Path, Refusal, fold_cmp};
 use fc_newmap::NewMap;
 use fc_oldmap::Hole;
 use fc_space::Space;
@@ -38,7 +38,7 @@ mod tests;
 fn is_directory(attrs: u32) -> bool
     ensures { result ≡ is_directory attrs }
 {
-    (attrs >> 3) % 2 == 1
+    Attrs::new(attrs).is_directory()
 }
 
 // The number of the node to which a path leads.
@@ -110,28 +110,31 @@ fn entries_at<'a>(tree: &'a Tree, p: &Path) -> Result<&'a [Entry], CommandError>
 }
 
 // An entry as a line.
-fn line_of(e: &Entry) -> Line
-    ensures { result ≡ line_of e.now }
+fn line_of(e: &Entry) -> Result<Line, NoMemory>
+    ensures { IfOk result (λ line. line ≡ line_of e.now) }
 {
     let listed = if is_directory(e.attrs) {
         Listed::Dir
     } else {
         Listed::File(u64::from(e.len))
     };
-    Line {
-        name: e.name,
+    Ok(Line {
+        name: e.name.clone()?,
         attrs: e.attrs,
         load: e.load,
         exec: e.exec,
         listed,
-    }
+    })
 }
 
 // The lines of some entries, in their order.
 fn stored_lines(alloc: Global, entries: &[Entry]) -> Result<Vec<Line>, NoMemory>
     ensures { IfOk result (λ lines. lines.items ≡ map line_of entries.now) }
 {
-    let lines = entries.iter().map(line_of).collect(alloc)?;
+    let mut lines = Vec::with_capacity(alloc, entries.len())?;
+    for e in entries {
+        lines.push(line_of(e)?).map_err(|_| NoMemory)?;
+    }
     Ok(lines)
 }
 

@@ -257,12 +257,12 @@ fn reads_heads(rt: HostRuntime) -> Result<(), Fail> {
 #[test]
 fn names_heads(rt: HostRuntime) -> Result<(), Fail> {
     let alloc = rt.alloc();
-    let Ok(mut dir) = BigDir::empty(alloc, 0x301, &Name::new(b"D")) else {
+    let Ok(mut dir) = BigDir::empty(alloc, 0x301, &Name::new(alloc, b"D")?) else {
         return Err("an empty directory".into());
     };
     assert_eq!(rt; dir.head_space(), 4);
     dir.touch();
-    assert!(rt; dir.set_name(&Name::new(b"Docs")).is_ok());
+    assert!(rt; dir.set_name(&Name::new(alloc, b"Docs")?).is_ok());
     assert_eq!(rt; dir.head_space(), 8);
     assert_eq!(rt; dir.size(), 2048);
     Ok(())

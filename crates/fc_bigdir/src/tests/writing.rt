@@ -34,10 +34,10 @@ fn has_name(entries: &[Entry], name: &Name) -> bool
     entries.iter().any(|e| fold_eq(name, &e.name))
 }
 
-fn named(text: &[u8]) -> Option<Entry>
+fn named(alloc: Global, text: &[u8]) -> Option<Entry>
     ensures { IfSome result (λ e. e.last ≡ 0) }
 {
-    let name = read_name(text)?;
+    let name = read_name(alloc, text).ok()?;
     Some(Entry {
         name,
         load: 0xffff_fd00,
@@ -51,21 +51,21 @@ fn named(text: &[u8]) -> Option<Entry>
 
 // A directory with that name in its head, or none where memory is wanting.
 fn fresh(alloc: Global, name: &[u8]) -> Option<BigDir> {
-    let name = read_name(name)?;
+    let name = read_name(alloc, name).ok()?;
     BigDir::empty(alloc, 0x301, &name).ok()
 }
 
 // Puts an entry of that name in; whether that was done.
-fn put(dir: &mut BigDir, text: &[u8]) -> bool {
-    let Some(e) = named(text) else {
+fn put(alloc: Global, dir: &mut BigDir, text: &[u8]) -> bool {
+    let Some(e) = named(alloc, text) else {
         return false;
     };
     !has_name(dir.entries(), &e.name) && dir.insert(e).is_ok()
 }
 
 // Gives the entry at a place that name; whether that was done.
-fn rename(dir: &mut BigDir, at: usize, text: &[u8]) -> bool {
-    let Some(e) = named(text) else {
+fn rename(alloc: Global, dir: &mut BigDir, at: usize, text: &[u8]) -> bool {
+    let Some(e) = named(alloc, text) else {
         return false;
     };
     if at >= dir.entries().len() {
@@ -77,8 +77,8 @@ fn rename(dir: &mut BigDir, at: usize, text: &[u8]) -> bool {
     dir.rename(at, e).is_ok()
 }
 
-fn set_name(dir: &mut BigDir, text: &[u8]) -> bool {
-    let Some(name) = read_name(text) else {
+fn set_name(alloc: Global, dir: &mut BigDir, text: &[u8]) -> bool {
+    let Ok(name) = read_name(alloc, text) else {
         return false;
     };
     dir.set_name(&name).is_ok()
@@ -109,17 +109,17 @@ fn grows(rt: HostRuntime) -> Result<(), Fail> {
     };
     assert_eq!(rt; dir.head_space(), 4);
     for i in 0..62 {
-        assert!(rt; put(&mut dir, &[b'N', b'0' + i / 10, b'0' + i % 10]));
+        assert!(rt; put(alloc, &mut dir, &[b'N', b'0' + i / 10, b'0' + i % 10]));
     }
     assert_eq!(rt; dir.size(), 2048);
     // 24 bytes are left, and a name of 32 bytes wants 32 more in the head.
-    assert!(rt; set_name(&mut dir, &[b'd'; 32]));
+    assert!(rt; set_name(alloc, &mut dir, &[b'd'; 32]));
     assert_eq!(rt; dir.head_space(), 4);
-    assert!(rt; put(&mut dir, b"N62"));
+    assert!(rt; put(alloc, &mut dir, b"N62"));
     assert_eq!(rt; dir.size(), 4096);
-    assert!(rt; rename(&mut dir, 0, &[b'a'; 200]));
+    assert!(rt; rename(alloc, &mut dir, 0, &[b'a'; 200]));
     assert_eq!(rt; dir.size(), 4096);
-    assert!(rt; set_name(&mut dir, b"Docs"));
+    assert!(rt; set_name(alloc, &mut dir, b"Docs"));
     assert_eq!(rt; dir.head_space(), 8);
     Ok(())
 }
@@ -171,11 +171,11 @@ fn keeps_names(rt: HostRuntime) -> Result<(), Fail> {
         return Err("a fresh root".into());
     };
     for (name, _, heap) in names {
-        assert!(rt; put(&mut dir, name));
+        assert!(rt; put(alloc, &mut dir, name));
         assert_eq!(rt; dir.heap(), heap);
     }
     for (name, space, _) in names {
-        assert!(rt; set_name(&mut dir, name));
+        assert!(rt; set_name(alloc, &mut dir, name));
         assert_eq!(rt; dir.head_space(), space);
         let Some(bytes) = written(&dir) else {
             return Err("another size".into());

@@ -7,17 +7,21 @@ use std::alloc::Global;
 use std::test::Fail;
 
 // The name of a text, where it can be one.
-fn named(text: &[u8]) -> Option<Name> {
+fn named(alloc: Global, text: &[u8]) -> Option<Name> {
     let fits = !text.is_empty() && text.len() <= 255 && text.iter().all(|c| *c >= 32);
-    if fits { Some(Name::new(text)) } else { None }
+    if fits {
+        Name::new(alloc, text).ok()
+    } else {
+        None
+    }
 }
 
 // A node with no body: a directory where the attributes say so.
-fn node(holder: u64, text: &[u8], attrs: u32) -> Option<Node> {
+fn node(alloc: Global, holder: u64, text: &[u8], attrs: u32) -> Option<Node> {
     Some(Node {
         holder,
         entry: Entry {
-            name: named(text)?,
+            name: named(alloc, text)?,
             load: 0,
             exec: 0,
             len: 0,
@@ -37,7 +41,7 @@ fn push(nodes: &mut Vec<Node>, node: Node) -> Result<(), NoMemory> {
 fn tree_of(alloc: Global, rows: &[(u64, &str, u32)]) -> Result<Option<Tree>, NoMemory> {
     let mut nodes = Vec::new(alloc);
     for (holder, text, attrs) in rows {
-        let Some(node) = node(*holder, text.as_bytes(), *attrs) else {
+        let Some(node) = node(alloc, *holder, text.as_bytes(), *attrs) else {
             return Ok(None);
         };
         push(&mut nodes, node)?;
@@ -124,7 +128,7 @@ fn nodes_move(rt: HostRuntime) -> Result<(), Fail> {
     assert!(rt; found(alloc, &tree, "$.Apps.Code") == Some(Found::Absent));
 
     code.holder = 0;
-    code.entry.name = named(b"Source").ok_or("name")?;
+    code.entry.name = named(alloc, b"Source").ok_or("name")?;
     assert!(rt; put(&mut tree, 3, code));
     for (text, want) in [
         ("$.Apps.Code", Found::Absent),

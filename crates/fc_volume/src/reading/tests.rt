@@ -1,12 +1,13 @@
 // Lines by name, of entries that are stored in another order.
 use super::*;
 use fc_names::read_name;
+use std::alloc::Global;
 use std::test::Fail;
 
 // An entry of a name.
-fn entry(name: &[u8], attrs: u32, len: u32) -> Option<Entry> {
+fn entry(alloc: Global, name: &[u8], attrs: u32, len: u32) -> Option<Entry> {
     Some(Entry {
-        name: read_name(name)?,
+        name: read_name(alloc, name).ok()?,
         load: 0xffff_fd00,
         exec: 7,
         len,
@@ -35,7 +36,7 @@ fn lists_by_folded_name(rt: HostRuntime) -> Result<(), Fail> {
         (b"Alpha".as_slice(), 0x33, 0),
         (b"a".as_slice(), 11, 2048),
     ] {
-        let Some(e) = entry(name, attrs, len) else {
+        let Some(e) = entry(alloc, name, attrs, len) else {
             return Err("a name".into());
         };
         entries.push(e)?;

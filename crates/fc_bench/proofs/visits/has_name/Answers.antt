@@ -5,7 +5,7 @@ use Rattle.std.proofs.lemmas.Iterator.Search.{any_from_yields_List}
 use borrow.Author.Tests.{tests}
 use Rattle.fc_names.specs.Names.{is_same_name}
 use Rattle.fc_dirs.specs.declared.Entry.{Entry}
-use Rattle.fc_smalldir.proofs.SearchLemmas.{is_some-find}
+use Rattle.fc_dirs.proofs.SearchLemmas.{is_some-find}
 use Rattle.fc_bench.proofs.visits.has_name.Goals as goal
 
 pub returns : goal.returns

@@ -1,7 +1,7 @@
 use Rattle.std.proofs.Common.{◌≡◌, None, length, subst, sym, ap, ◌∙◌, arith, refl}
 use Rattle.std.proofs.lemmas.Result.{err_from_is_err_and}
 use Rattle.std.specs.Option.{option_map}
-use Rattle.fc_smalldir.specs.Faults.{IsFaultOf}
+use Rattle.fc_dirs.specs.Faults.{IsFaultOf}
 use Rattle.fc_dirs.specs.declared.DirFault.TheVariants.{BadEntry, Twin}
 use Rattle.fc_dirs.specs.Entries.{first_twin}
 use Rattle.fc_dirs.specs.Big.{IsBig, big_entries, first_bad_entry, has_second_form}

@@ -1,4 +1,4 @@
-use Rattle.std.proofs.Common.{◌≡◌, ◌∙◌, sym, ap, refl, subst, Some, List, ℕ, Option, Bor}
+use Rattle.std.proofs.Common.{rules, ◌≡◌, false, [], ◌∷◌, ◌++◌, ◌∙◌, sym, ap, refl, subst, Some, List, ℕ, Option, Bor}
 use Rattle.std.specs.Option.{option_map}
 use Rattle.fc_names.proofs.PathLemmas.{AreRead, AreRead-start, AreRead-next, path_of-other, root_from_test, other_from_test}
 use Rattle.fc_names.proofs.path.read_path.Goals as goal
@@ -21,5 +21,7 @@ pub loop-rest-preserved : goal.loop-rest-preserved
 loop-rest-preserved c =
     let next : text_in c.loop-rest.rest ≡ Some c.in-Some.names.now = ap text_in c.in-Some.is in
     let read = subst (λ rest. AreRead c.args.text.now rest c.loop-rest.full c.loop-rest.path) next c.loop-rest.invariant in
-    let name = sym c.read_name.ensures ∙ c.in-Some-read_name.is in
-    AreRead-next _ _ _ _ (text_in c.cut-in-Some.result.1) _ _ _ _ read c.cut-in-Some.ensures.parts name c.push_unless-full.ensures
+    let name = sym c.spelled_bytes.ensures.name ∙ ap (λ b. option_map (λ bytes. bytes.items) b) c.in-Some-spelled_bytes.is in
+    let pushed : c.push_unless-full.result ≡ false → (c.loop-rest.full ≡ false) × (c.push_unless-full.new.path ≡ c.loop-rest.path ++ c.in-Some-spelled_bytes.name.items ∷ []) =
+    search rules in
+    AreRead-next _ _ _ _ (text_in c.cut-in-Some.result.1) _ _ _ _ read c.cut-in-Some.ensures.parts name pushed

@@ -1,6 +1,6 @@
 use Rattle.std.proofs.Common.{◌≡◌, true, false, sym, ◌∙◌, arith, below_more}
 use Rattle.fc_dirs.specs.Entries.{is_twin}
-use Rattle.fc_smalldir.proofs.TwinLemmas.{is_twin-at, twin_found, none_twin}
+use Rattle.fc_dirs.proofs.TwinLemmas.{is_twin-at, twin_found, none_twin}
 use Rattle.fc_smalldir.proofs.entries.first_twin.Goals as goal
 
 pub returns-then-has_name : goal.returns-then-has_name

@@ -4,7 +4,7 @@ use Rattle.std.proofs.lemmas.Iterator.Search.{position_from_yields_List}
 use borrow.Author.Tests.{tests}
 use Rattle.fc_names.specs.Names.{is_name_before}
 use Rattle.fc_dirs.specs.declared.Entry.{Entry}
-use Rattle.fc_smalldir.proofs.SearchLemmas.{place_or_end}
+use Rattle.fc_dirs.proofs.SearchLemmas.{place_or_end}
 use Rattle.fc_smalldir.proofs.entries.place_of.Goals as goal
 
 pub returns-clause-place : goal.returns-clause-place

@@ -2,7 +2,7 @@ use Rattle.std.proofs.Common.{rules, ◌≡◌, ap, ◌∙◌, position, nat_lt,
 use Rattle.std.proofs.lemmas.Iterator.{YieldsList-from_slice}
 use Rattle.std.proofs.lemmas.Iterator.Search.{position_from_yields_List}
 use borrow.Author.Tests.{tests}
-use Rattle.fc_smalldir.proofs.SearchLemmas.{place_or_end, printed_len}
+use Rattle.fc_dirs.proofs.SearchLemmas.{place_or_end, printed_len}
 use Rattle.fc_smalldir.proofs.entry.name_len.Goals as goal
 
 pub returns-clause-name : goal.returns-clause-name

@@ -24,20 +24,20 @@ returns-in_err-claim_root-clause-err g c =
     let reserved = not_free layout (sectors_in c.args.reserved.now) in
     rw (p.1, p.2) (λ image told. root_fails (reader_of image layout) layout reserved c.args.root c.args.root_size c.in_err-claim_root.field-0.0
     (subst (λ n. FailsAs (object_of layout reserved [] (root_entry c.args.root n)) c.in_err-claim_root.field-0.0) (ap (λ f. directory_size f c.args.root_size) c.dir_form.ensures)
-    (subst (λ e. FailsAs (object_of layout reserved [] e) c.in_err-claim_root.field-0.0) (ap (λ n. n.entry) c.root_node-node.ensures) (rw same at (c.in_err-claim_root.ensures.err reserved c.in-Ok.ensures.taken)))))
+    (subst (λ e. FailsAs (object_of layout reserved [] e) c.in_err-claim_root.field-0.0) (ap (λ n. n.entry) c.in-Ok-root_node.ensures) (rw same at (c.in_err-claim_root.ensures.err reserved c.in-Ok.ensures.taken)))))
 
 pub loop-at-init : goal.loop-at-init
 loop-at-init g c =
     let same : c.space.result.now ≡ c.args.places.now = c.space.ensures in
     let layout = layout_of c.args.places.now in
     let reserved = not_free layout (sectors_in c.args.reserved.now) in
-    let node : c.root_node-node.result ≡ record { holder = 0; entry = root_entry c.args.root (directory_size (dir_form layout) c.args.root_size); body = bodies.File } =
-    c.root_node-node.ensures ∙ ap (λ f. let n : Node = record { holder = 0; entry = root_entry c.args.root (directory_size f c.args.root_size); body = bodies.File } in n) c.dir_form.ensures in
-    let nodes : c.push_node.new.nodes.items ≡ c.root_node-node.result ∷ [] = c.in_ok-push_node.ensures.ok ∙ ap (λ (ns : List Node). ns ++ c.root_node-node.result ∷ []) c.new-nodes.ensures.items in
+    let node : c.in-Ok-root_node.node ≡ record { holder = 0; entry = root_entry c.args.root (directory_size (dir_form layout) c.args.root_size); body = bodies.File } =
+    c.in-Ok-root_node.ensures ∙ ap (λ f. let n : Node = record { holder = 0; entry = root_entry c.args.root (directory_size f c.args.root_size); body = bodies.File } in n) c.dir_form.ensures in
+    let nodes : c.push_node.new.nodes.items ≡ c.in-Ok-root_node.node ∷ [] = c.in_ok-push_node.ensures.ok ∙ ap (λ (ns : List Node). ns ++ c.in-Ok-root_node.node ∷ []) c.new-nodes.ensures.items in
     record {
       reads = reads_start (laws g.met.D.Disk) c.args.disk.now;
       sectors = c.claim_root.ensures.sectors ∙ c.in-Ok.ensures.sectors;
-      walking = walk_starts layout reserved c.args.root c.args.root_size (g.D.Disk.bytes c.args.disk.now) c.push_node.new.nodes.items c.root_node-node.result (c.disc_sectors-left.result + 1) c.claim_root.new.taken nodes node
+      walking = walk_starts layout reserved c.args.root c.args.root_size (g.D.Disk.bytes c.args.disk.now) c.push_node.new.nodes.items c.in-Ok-root_node.node (c.disc_sectors-left.result + 1) c.claim_root.new.taken nodes node
           (ap (λ n. n + 1) c.disc_sectors-left.ensures.value)
           (rw (same, ap (λ n. n.entry) node) at (c.in_ok-claim_root.ensures.ok reserved c.in-Ok.ensures.taken));
     }

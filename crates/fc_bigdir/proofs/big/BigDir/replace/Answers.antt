@@ -1,6 +1,6 @@
 use Rattle.std.proofs.Common.{◌≡◌, get_or, ◌∙◌, sym, arith}
 use Rattle.std.proofs.lemmas.List.{get_or_default}
-use Rattle.fc_smalldir.proofs.SearchLemmas.{blank}
+use Rattle.fc_dirs.proofs.SearchLemmas.{blank}
 use Rattle.fc_bigdir.specs.Fields.{dir_of}
 use Rattle.fc_bigdir.proofs.WrittenEntries.{places_as_many}
 use Rattle.fc_bigdir.proofs.RenameLemmas.{big_replaced, spelled_name}

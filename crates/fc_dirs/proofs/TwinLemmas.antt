@@ -14,7 +14,7 @@ use Rattle.std.specs.Option.{option_map_or}
 use Rattle.std.proofs.lemmas.Option.{slice_get-get_or}
 use Rattle.fc_dirs.specs.declared.Entry.{Entry}
 use Rattle.fc_dirs.specs.Entries.{is_twin, first_twin, has_name}
-use Rattle.fc_smalldir.proofs.SearchLemmas.{blank, is_some-find, find-none, find-found, fails-find}
+use Rattle.fc_dirs.proofs.SearchLemmas.{blank, is_some-find, find-none, find-found, fails-find}
 
 pub is_twin-at : (es : List Entry) (i : ℕ) (d : Entry) → i < length es → is_twin es i ≡ has_name (take i es) (get_or es i d).name
 is_twin-at es i d within = ap (λ o. option_map_or (λ e. has_name (take i es) e.name) o false) (slice_get-get_or es i d within)

@@ -1,6 +1,6 @@
 use Rattle.std.proofs.Common.{length}
 use Rattle.fc_names.proofs.SpellingLemmas.{IsRead}
-use Rattle.fc_names.proofs.spelling.read_name.Given as goal
+use Rattle.fc_names.proofs.spelling.spelled_bytes.Given as goal
 
 abbrev pub invariant-loop-rest : goal.invariant-loop-rest
 invariant-loop-rest l = IsRead l.fn.text l.bytes.items l.rest
