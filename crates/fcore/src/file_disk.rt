@@ -1,6 +1,5 @@
 // A disk over a real file. It tells nothing of its content, nor of what a stop of the machine leaves.
-ghost use Rattle.std.specs.Prelude.{[], ◌≡◌, ◌<◌, ◌^◌, ◌/◌, ◌||◌, ◌==◌, true, false, None, IsTrue, IfOk, IfSome, refl};
-ghost use Rattle.std.specs.Option.{ForSome};
+ghost use Rattle.std.specs.Prelude.{[], ◌≡◌, ◌<◌, ◌^◌, ◌/◌, ◌||◌, ◌==◌, true, false, None, IsTrue, refl};
 ghost use Rattle.fc_device.specs.Faults.{HasCause};
 ghost use Rattle.fc_device.specs.Untold.{not_some, not_true};
 ghost use Rattle.fc_device.specs.Image.{is_sector_size};
