@@ -197,7 +197,8 @@ def getting():
     yield Case("get-root", ["get", user, "$"], err="fcdisc: $ is a directory: use extract\n", status=1)
     yield Case("get-none", ["get", user, "$.Nothing"], err=told("f-user.adf", "$.Nothing: there is no such object on the disc"), status=1)
     yield Case("get-hostile", ["get", image("hostile.adf"), "$.%2e%2e/%2e%2e/up"], left={b"%2E%2E.%2E%2E.up,fff": b"file 0"})
-    yield Case("get-long", ["get", image("one.adf"), "$." + LONG.decode() + "abcd1"], left={LONG + b"a,fff": b"long 1"})
+    yield Case("get-long", ["get", image("one.adf"), "$." + LONG.decode() + "abcd1"], status=1, left={LONG + b"a,fff": b"long 1"},
+               err="fcdisc: $.%sabcd1: has another name here: %sa,fff\n" % (LONG.decode(), LONG.decode()))
     yield Case("get-too-large", ["get", image("large.adf"), "$.Large"], err="fcdisc: Large,fff: File too large\n", status=1,
                within='ulimit -f 16; exec "$@"')
     yield Case("get-sides", ["get", image("sides.adl"), "$.Outer.Inner.Innermost.Deep", "d"], err=told("sides.adl", SIDES),

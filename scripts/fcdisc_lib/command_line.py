@@ -133,7 +133,9 @@ def hold_streams() -> bool:
         sys.stderr = open(os.devnull, "w")
     if sys.stdout is None:
         tell("standard output is closed")
-    return sys.stdout is not None
+        return False
+    sys.stdout.reconfigure(errors="backslashreplace")  # type: ignore[attr-defined]
+    return True
 
 
 def drop_output() -> None:

@@ -80,21 +80,26 @@ def get(words: Namespace) -> int:
         pieces = run.load(entry.length)
         if words.file == "-":
             sys.stdout.buffer.writelines(pieces)
-        else:
-            save(entry, Progress("bytes written", entry.length).passed(pieces), words.file)
-    return 0
+            return 0
+        return save(entry, Progress("bytes written", entry.length).passed(pieces), words.file)
 
 
-def save(entry: Entry, pieces: Iterator[bytes], wanted: Optional[str]) -> None:
+def save(entry: Entry, pieces: Iterator[bytes], wanted: Optional[str]) -> int:
     """Writes the file under the name that is wanted, or, in a folder, under the name that it has on the host."""
     folder, name = (wanted or ".", b"") if wanted is None or os.path.isdir(wanted) else split_path(wanted)
+    suffix = names.suffix_of(entry.load, entry.execution)
+    chosen = bool(name)
     try:
         with Folder.at(folder) as holder:
-            name = name or names.fitted_name(entry.name, names.suffix_of(entry.load, entry.execution), holder.name_limit)
+            name = name or names.fitted_name(entry.name, suffix, holder.name_limit)
             with written(holder, pieces, names.unix_time(entry.load, entry.execution)) as temporary:
                 holder.publish(temporary, name)
     except OSError as error:
         raise Trouble(place_text(folder, name, error)) from None
+    if chosen or name == names.host_name(entry.name, suffix):
+        return 0
+    tell("%s: has another name here: %s" % (names.spelled_path(entry.path), shown(name)))
+    return FAILED
 
 
 def place_text(folder: str, name: bytes, error: OSError) -> str:
