@@ -1,7 +1,7 @@
 #!/usr/bin/env python3
 """Compares the time of `fcdisc extract` of 50,000 files of a disc of 518 MB with that of `cp -r` of the extracted tree.
 
-usage: tools/time_extract.py FCDISC FCORE [ROUNDS]    in a folder for temporary files, as TMPDIR says; three rounds, where none are said
+usage: tools/time_extract.py FCDISC FCORE [ROUNDS]    in a folder for temporary files, as TMPDIR says; three rounds by default
 It stands outside the gate: what it measures depends on the machine. Extract may take at most five times as long.
 """
 import os

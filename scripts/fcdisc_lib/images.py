@@ -1,4 +1,4 @@
-"""Images as people have them: in disc order, or with the two sides of an L disc track by track, or with a header before the disc."""
+"""Images as people have them: in disc order, with the two sides of an L disc track by track, or with a header before the disc."""
 from __future__ import annotations
 
 import os
@@ -99,7 +99,7 @@ def track_at(content: bytes, place: int) -> bytes:
 
 
 class Image:
-    """A file that fcore reads: the one that the user named, or a copy in disc order that has no name and goes with the program."""
+    """A file that fcore reads: the one that the user named, or a copy in disc order, which has no name."""
 
     def __init__(self, path: str, file: BinaryIO, how: str):
         self.path, self.file, self.how = path, file, how
