@@ -269,7 +269,6 @@ def unit_checks(checks):
     source = random.Random(25)
     checks.expect("names both ways", kept=([], [at for at in range(20000) if not name_is_kept(names, source)]))
     checks.expect("names that fit", kept=([], [at for at in range(2000) if not fits(names, source)]))
-    sides = bytes(source.randrange(256) for _ in range(1 << 10)) * 640
     sides = bytes(at // 4096 for at in range(len(sides)))
     checks.expect("sides both ways", back=(sides, parts.to_interleaved(parts.to_disc_order(sides))),
                   there=(fcdisc_cases.interleaved_back(sides), parts.to_disc_order(sides)))
