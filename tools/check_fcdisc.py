@@ -269,7 +269,7 @@ def unit_checks(checks):
     source = random.Random(25)
     checks.expect("names both ways", kept=([], [at for at in range(20000) if not name_is_kept(names, source)]))
     checks.expect("names that fit", kept=([], [at for at in range(2000) if not fits(names, source)]))
-    sides = bytes(at // 4096 for at in range(len(sides)))
+    sides = bytes(at // 4096 for at in range(160 * 4096))
     checks.expect("sides both ways", back=(sides, parts.to_interleaved(parts.to_disc_order(sides))),
                   there=(fcdisc_cases.interleaved_back(sides), parts.to_disc_order(sides)))
     publish_without_links(checks)
@@ -299,7 +299,7 @@ def publish_without_links(checks):
         with output.Folder.at(os.fsdecode(made)) as folder:
             for content in (b"first", b"second"):
                 try:
-                    with output.written(folder, [content]) as temporary:
+                    with output.NewFile(folder, [content]) as temporary:
                         folder.publish(temporary, b"name")
                 except FileExistsError:
                     checks.passed += 1

@@ -6,7 +6,7 @@ from typing import Callable, Dict, Iterator, List, Set, Tuple, Union
 
 from . import names
 from .messages import Progress, Trouble, reason, shown, tell
-from .output import HOPELESS, Folder, Inode, written
+from .output import HOPELESS, Folder, Inode, NewFile
 from .program import Entry, Path, Run, batches
 from .tree import Tree
 
@@ -106,7 +106,7 @@ class Extraction:
     def write(self, holder: Folder, entry: Entry, pieces: Iterator[bytes]) -> None:
         suffix = names.suffix_of(entry.load, entry.execution)
         try:
-            with written(holder, pieces, names.unix_time(entry.load, entry.execution)) as temporary:
+            with NewFile(holder, pieces, names.unix_time(entry.load, entry.execution)) as temporary:
                 self.take_name(holder, entry, suffix, lambda name: holder.publish(temporary, name))
             self.written += 1
         except (OSError, Taken) as error:
