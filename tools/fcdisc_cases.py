@@ -300,6 +300,10 @@ def checking():
         yield Case("check-" + name, ["check", image(name)], "../images/%s: not accepted: %s%s\n" % (name, NO_KIND, advice),
                    status=1)
     yield Case("check-empty-folder", ["check", "."])
+    many = [b"%02d" % at for at in range(40)]
+    yield Case("check-few-descriptors", ["check", "."], "".join(
+        "./%s: not accepted: %s%s\n" % (name.decode(), NO_KIND, NO_KIND_ADVICE) for name in many), status=1,
+        before=dict.fromkeys(many, b"no disc"), within='ulimit -n 24; exec "$@"')
     yield Case("check-names", ["check", "."], "./a\\x0a\\x1b[31m: not accepted: %s%s\n./\\xff.adf: not accepted: %s%s\n" % (
         NO_KIND, NO_KIND_ADVICE, NO_KIND, NO_KIND_ADVICE), status=1,
                before={b"a\n\x1b[31m": b"no disc", b"\xff.adf": b"no disc"})
