@@ -6,7 +6,7 @@ ghost use Rattle.fc_format.specs.Zones.{IsRecordOfF};
 ghost use Rattle.fc_format.specs.Fresh.{boot_block, e_map, e_plus_map, e_record, f_plus_zone2, f_record, f_zone0, f_zone1, f_zone2, f_zone3, old_map_with, plus_record, zeros};
 
 use crate::zones::lay_out;
-use fc_bytes::put_le24;
+use fc_bytes::{put, put_le24};
 use fc_checks::{boot_check, old_check};
 use fc_zone::{ZoneShape, seal};
 
@@ -67,14 +67,6 @@ const ZONE_3: ZoneShape = ZoneShape {
     q: 16,
     min: 16,
 };
-
-/// Writes bytes from byte `at` on.
-pub fn put(b: &mut [u8], at: usize, bytes: &[u8])
-    requires { at + length bytes.now ≤ length b.old }
-    ensures { b.new ≡ overwritten b.old at bytes.now }
-{
-    b[at..at + bytes.len()].copy_from_slice(bytes);
-}
 
 // The record of an E disc.
 fn e_record() -> Record

@@ -1,108 +1,31 @@
 // A disk over a real file. It tells nothing of its content, nor of what a stop of the machine leaves.
-ghost use Rattle.std.specs.Prelude.{[], ◌≡◌, ◌<◌, ◌^◌, ◌/◌, ◌||◌, ◌==◌, false, None, IsTrue, IfOk, IfSome, refl};
-ghost use Rattle.std.specs.Option.{ForSome};
+ghost use Rattle.std.specs.Prelude.{[], ◌≡◌, ◌<◌, ◌^◌, ◌/◌, ◌||◌, ◌==◌, true, false, None, IsTrue, refl};
+ghost use Rattle.fc_device.specs.Faults.{HasCause};
 ghost use Rattle.fc_device.specs.Untold.{not_some, not_true};
 ghost use Rattle.fc_device.specs.Image.{is_sector_size};
 
+use crate::opened::Edge;
 use fc_device::{Asks, Disk, Extent, Failed};
-use std::fs::{OpenFile, OpenOptions};
-use std::io::{self, ErrorKind, Read, Seek, SeekFrom, Write};
+use std::os::unix::fs::FileExt;
 use std::rt::Files;
 
-// Whether a file may be read all the same.
-fn is_read_only(kind: ErrorKind) -> bool {
-    kind == ErrorKind::PermissionDenied || kind == ErrorKind::ReadOnlyFilesystem
-}
-
-// Whether the name isn't given: no file of that name is there, or one is where it is to be made.
-fn is_not_given(kind: ErrorKind, make: bool) -> bool {
-    match kind {
-        ErrorKind::AlreadyExists => make,
-        ErrorKind::NotFound | ErrorKind::NotADirectory | ErrorKind::InvalidFilename => !make,
-        _ => false,
-    }
-}
-
-// What reaches the file. Nothing is claimed of it.
-#[derive(Drop)]
-struct Edge<R: Files + Drop> {
-    rt: R,
-    file: Option<R::File>,
-}
-
-impl<R: Files + Drop> Edge<R> {
-    // Opens a file that is there, for reading alone where it may not be written, or makes one.
-    fn open_file(&self, name: &str, make: bool) -> io::Result<R::File> {
-        let mut how = OpenOptions::new();
-        how.read(true);
-        how.write(true);
-        how.create_new(make);
-        match how.open(&self.rt, name) {
-            Err(error) if is_read_only(error.kind()) && !make => {
-                let mut how = OpenOptions::new();
-                how.read(true);
-                how.open(&self.rt, name)
-            }
-            opened => opened,
-        }
-    }
-
-    // The length of the image that was opened, and None where the name isn't given.
-    fn open(&mut self, name: &str, blank: Option<u64>) -> io::Result<Option<u64>>
-        ensures { IfOk result (λ opened. IfSome opened (λ length. ForSome blank (λ n. length ≡ n))) }
-    {
-        let file = match self.open_file(name, blank.is_some()) {
-            Ok(file) => file,
-            Err(error) if is_not_given(error.kind(), blank.is_some()) => return Ok(None),
-            Err(error) => return Err(error),
-        };
-        let length = match blank {
-            None => file.metadata()?.len(),
-            Some(n) => {
-                file.set_len(n)?;
-                n
-            }
-        };
-        self.file = Some(file);
-        Ok(Some(length))
-    }
-
-    fn read(&mut self, at: u64, into: &mut [u8]) -> io::Result<()> {
-        match &mut self.file {
-            None => Err(io::Error::from(ErrorKind::NotFound)),
-            Some(file) => {
-                file.seek(SeekFrom::Start(at))?;
-                file.read_exact(into)
-            }
-        }
-    }
-
-    fn write(&mut self, at: u64, from: &[u8]) -> io::Result<()> {
-        match &mut self.file {
-            None => Err(io::Error::from(ErrorKind::NotFound)),
-            Some(file) => {
-                file.seek(SeekFrom::Start(at))?;
-                file.write_all(from)
-            }
-        }
-    }
-
-    fn sync(&self) -> io::Result<()> {
-        match &self.file {
-            None => Ok(()),
-            Some(file) => file.sync_all(),
-        }
-    }
-}
-
 /// A disk over a file of the machine.
+///
+/// A file that is there is opened for reading alone. The first write opens it for writing, and fails where its name leads
+/// to another file by then. A file that the disk made goes with the disk where no sync has succeeded since. A sync that
+/// failed is never made good: the system may have given up what was written, and each later one fails too.
 #[derive(Drop)]
-pub struct FileDisk<R: Files + Drop> {
+pub struct FileDisk<R: Files + Drop>
+where
+    R::File: FileExt,
+{
     edge: Edge<R>,
     asks: Asks,
     attached: bool,
     length: u64,
     size: u64,
+    // Whether something was written, and no sync has succeeded since.
+    pending: bool,
     faults: u64,
     ghost known: { IsTrue ((size == 256) || (size == 512) || (size == 1024)) },
     ghost positive: { 0 < size },
@@ -110,23 +33,47 @@ pub struct FileDisk<R: Files + Drop> {
     ghost few: { faults < 2 ^ 64 },
 }
 
-impl<R: Files + Drop> FileDisk<R> {
+impl<R: Files + Drop> FileDisk<R>
+where
+    R::File: FileExt,
+{
     /// No file is open yet, and none was asked for.
     pub fn new(rt: R) -> FileDisk<R>
         ensures { result.asks.list ≡ [] }
     {
         FileDisk {
-            edge: Edge { rt, file: None },
+            edge: Edge::new(rt),
             asks: Asks::new(),
             attached: false,
             length: 0,
             size: 256,
+            pending: false,
             faults: 0,
         }
     }
+
+    // Writes from a byte of the image on. Whatever comes of it, it is pending.
+    fn write_from(&mut self, at: u64, from: &[u8]) -> Result<(), Failed>
+        ensures pending { self.new.pending ≡ true }
+        ensures asks { self.new.asks ≡ self.old.asks }
+        ensures attached { self.new.attached ≡ self.old.attached }
+        ensures length { self.new.length ≡ self.old.length }
+        ensures size { self.new.size ≡ self.old.size }
+        ensures cause { HasCause self.old.faults self.new.faults result }
+    {
+        self.pending = true;
+        if self.edge.write(at, from).is_err() {
+            self.faults = self.faults.saturating_add(1);
+            return Err(Failed);
+        }
+        Ok(())
+    }
 }
 
-impl<R: Files + Drop> Disk for FileDisk<R> {
+impl<R: Files + Drop> Disk for FileDisk<R>
+where
+    R::File: FileExt,
+{
     ghost attached = { λ s. s.attached };
 
     ghost gives = { λ s. None };
@@ -141,7 +88,7 @@ impl<R: Files + Drop> Disk for FileDisk<R> {
 
     ghost moment = { λ s. 0 };
 
-    ghost pending = { λ s. false };
+    ghost pending = { λ s. s.pending };
 
     ghost sectors = { λ s. s.length / s.size };
 
@@ -161,6 +108,7 @@ impl<R: Files + Drop> Disk for FileDisk<R> {
                 self.attached = true;
                 self.length = length;
                 self.size = 256;
+                self.pending = false;
                 Ok(true)
             }
             Err(_) => {
@@ -203,15 +151,13 @@ impl<R: Files + Drop> Disk for FileDisk<R> {
     }
 
     fn write(&mut self, n: u64, from: &[u8]) -> Result<(), Failed> {
-        if self.edge.write(n * self.size, from).is_err() {
-            self.faults = self.faults.saturating_add(1);
-            return Err(Failed);
-        }
-        Ok(())
+        self.write_from(n * self.size, from)
     }
 
     fn sync(&mut self) -> Result<(), Failed> {
-        if self.edge.sync().is_err() {
+        let synced = self.edge.sync();
+        self.pending = synced.is_err();
+        if synced.is_err() {
             self.faults = self.faults.saturating_add(1);
             return Err(Failed);
         }

@@ -2,16 +2,17 @@
 #![tactic(auto)]
 
 mod file_disk;
+mod opened;
 mod streams;
 
 use fc_cache::CachedDisk;
 use fc_shell::{End, run};
 use file_disk::FileDisk;
 use std::alloc::Global;
-use std::fs::OpenOptions;
+use std::fs::{self, File};
 use std::io::ErrorKind;
+use std::os::fd::AsFd;
 use std::process::ExitCode;
-use std::rt::Files;
 use std::{env, io};
 use streams::{StdSink, StdSource};
 
@@ -28,20 +29,38 @@ fn end_of_words(error: &io::Error) -> End {
     }
 }
 
-// A file that takes the lowest free descriptor.
-fn held(rt: &HostRuntime) -> io::Result<<HostRuntime as Files>::File> {
-    let mut how = OpenOptions::new();
-    how.read(true);
-    how.write(true);
-    how.open(rt, "/dev/null")
+// Whether a stream's descriptor is open: one that is closed has no duplicate.
+fn is_open(stream: &impl AsFd) -> bool {
+    stream.as_fd().try_clone_to_owned().is_ok()
+}
+
+// Takes the descriptor of a stream that is closed, the lowest one that is free: else a file that is opened later would have it,
+// and replies would be written into it. A folder has it, which can be opened where there is no /dev, and of which each read and
+// each write fails: so an absent script isn't taken for an empty one, and no reply gets lost unseen.
+fn hold(rt: &HostRuntime, stream: &impl AsFd) -> io::Result<Option<File>> {
+    if is_open(stream) {
+        return Ok(None);
+    }
+    let held = match fs::open(rt, "/") {
+        Ok(folder) => folder,
+        Err(_) => fs::open(rt, ".")?,
+    };
+    Ok(Some(held))
+}
+
+// Those of the three streams' descriptors that are closed, from the lowest one on.
+fn hold_streams(rt: &HostRuntime) -> io::Result<[Option<File>; 3]> {
+    let input = hold(rt, &rt.stdin())?;
+    let output = hold(rt, &rt.stdout())?;
+    let errors = hold(rt, &rt.stderr())?;
+    Ok([input, output, errors])
 }
 
 fn main(rt: HostRuntime) -> ExitCode {
     let alloc = rt.alloc();
-    // Where descriptors 0 to 2 are closed, the image must not get one of them: the replies would be written into it.
-    let _first = held(&rt);
-    let _second = held(&rt);
-    let _third = held(&rt);
+    let Ok(_held) = hold_streams(&rt) else {
+        return ExitCode::from(End::DiskFault.status());
+    };
     let words = match words(&rt, alloc) {
         Ok(words) => words,
         Err(error) => return ExitCode::from(end_of_words(&error).status()),

@@ -1,8 +1,35 @@
 // The standard streams as source and sink. Nothing is claimed of what they give and take.
 ghost use Rattle.std.specs.Prelude.{◌<◌, ◌^◌, None};
+ghost use Rattle.std.specs.Io.{ReadsAtMost, WritesAtMost};
 
 use fc_device::{Failed, Sink, Source};
-use std::io::{Read, Write};
+use std::io::{self, ErrorKind, Read, Write};
+
+// Reads, and again after an interruption.
+fn read_some<R: Read>(reader: &mut R, into: &mut [u8]) -> io::Result<usize>
+    ensures { ReadsAtMost result into.new }
+{
+    for _ in 0..u64::MAX {
+        match reader.read(into) {
+            Err(error) if error.kind() == ErrorKind::Interrupted => {}
+            answer => return answer,
+        }
+    }
+    Err(io::Error::from(ErrorKind::TimedOut))
+}
+
+// Writes, and again after an interruption.
+fn write_some<W: Write>(writer: &mut W, from: &[u8]) -> io::Result<usize>
+    ensures { WritesAtMost result from.now }
+{
+    for _ in 0..u64::MAX {
+        match writer.write(from) {
+            Err(error) if error.kind() == ErrorKind::Interrupted => {}
+            answer => return answer,
+        }
+    }
+    Err(io::Error::from(ErrorKind::TimedOut))
+}
 
 /// A source over a reader.
 #[derive(Drop)]
@@ -25,7 +52,7 @@ impl<R: Read + Drop> Source for StdSource<R> {
     ghost faults = { λ s. s.faults };
 
     fn read(&mut self, into: &mut [u8]) -> Result<usize, Failed> {
-        match self.reader.read(into) {
+        match read_some(&mut self.reader, into) {
             Ok(count) => Ok(count),
             Err(_) => {
                 self.faults = self.faults.saturating_add(1);
@@ -61,7 +88,7 @@ impl<W: Write + Drop> Sink for StdSink<W> {
         if from.is_empty() {
             return Ok(0);
         }
-        match self.writer.write(from) {
+        match write_some(&mut self.writer, from) {
             Ok(count) if count > 0 => Ok(count),
             _ => {
                 self.faults = self.faults.saturating_add(1);

@@ -1,12 +1,44 @@
 // The adapters over real things.
+ghost use Rattle.std.specs.Prelude.{◌≡◌, IsTrue};
+ghost use Rattle.fc_device.specs.Calls.{SameForm};
+
 use crate::file_disk::FileDisk;
 use crate::streams::{StdSink, StdSource};
-use fc_device::{Disk, Sink, Source};
+use fc_device::{Disk, Extent, Failed, Sink, Source};
 use std::fs;
+use std::io::{self, ErrorKind, Read, Write};
 use std::test::Fail;
 
-// An image that a test makes and takes away.
-const MADE: &str = "made-by-a-test.adf";
+// A reader and a writer whose every second call is interrupted.
+#[derive(Drop)]
+struct Interrupted<T: Drop> {
+    inner: T,
+    calls: u64,
+}
+
+impl<T: Read + Drop> Read for Interrupted<T> {
+    fn read(&mut self, into: &mut [u8]) -> io::Result<usize> {
+        self.calls = self.calls.saturating_add(1);
+        if self.calls % 2 == 1 {
+            return Err(io::Error::from(ErrorKind::Interrupted));
+        }
+        self.inner.read(into)
+    }
+}
+
+impl<T: Write + Drop> Write for Interrupted<T> {
+    fn write(&mut self, from: &[u8]) -> io::Result<usize> {
+        self.calls = self.calls.saturating_add(1);
+        if self.calls % 2 == 1 {
+            return Err(io::Error::from(ErrorKind::Interrupted));
+        }
+        self.inner.write(from)
+    }
+
+    fn flush(&mut self) -> io::Result<()> {
+        Ok(())
+    }
+}
 
 #[test]
 fn streams_give_and_take(rt: HostRuntime) -> Result<(), Fail> {
@@ -26,7 +58,28 @@ fn streams_give_and_take(rt: HostRuntime) -> Result<(), Fail> {
 }
 
 #[test]
-fn a_file_is_a_disk(rt: HostRuntime) -> Result<(), Fail> {
+fn streams_go_on_after_an_interruption(rt: HostRuntime) -> Result<(), Fail> {
+    let mut source = StdSource::new(Interrupted {
+        inner: b"abc".as_slice(),
+        calls: 0,
+    });
+    let mut buffer = [0u8; 2];
+    let first = source.read(&mut buffer)?;
+    assert_eq!(rt; &buffer[..first], b"ab".as_slice());
+    let second = source.read(&mut buffer)?;
+    assert_eq!(rt; &buffer[..second], b"c".as_slice());
+    let mut sink = StdSink::new(Interrupted {
+        inner: Vec::new(rt.alloc()),
+        calls: 0,
+    });
+    let count = sink.write(b"abc")?;
+    assert!(rt; count == 3);
+    Ok(())
+}
+
+#[test]
+fn a_name_is_given_or_not(rt: HostRuntime) -> Result<(), Fail> {
+    const MADE: &str = "named-by-a-test.adf";
     let _ = fs::remove_file(&rt, MADE);
     let mut disk = FileDisk::new(rt.clone()?);
     let absent = disk.attach("no-such-image.adf", None)?;
@@ -37,10 +90,149 @@ fn a_file_is_a_disk(rt: HostRuntime) -> Result<(), Fail> {
     assert!(rt; !again);
     let sectors = disk.sectors();
     assert!(rt; sectors == 3);
-    let through = disk.attach("made-by-a-test.adf/image.adf", None)?;
+    let through = disk.attach("named-by-a-test.adf/image.adf", None)?;
     assert!(rt; !through);
     let nowhere = disk.attach("no-such-folder/image.adf", Some(1000));
     assert!(rt; nowhere.is_err());
+    let folder = disk.attach(".", None);
+    assert!(rt; folder.is_err());
+    Ok(())
+}
+
+// Writes bytes of one value to a sector, where there is such a one.
+fn put<D: Disk>(disk: &mut D, n: u64, byte: u8) -> Result<bool, Failed>
+    requires attached { IsTrue (D.attached disk.old) }
+    requires size { D.sector_size disk.old ≡ 512 }
+    ensures form { SameForm D.Disk disk.old disk.new }
+{
+    if n >= disk.sectors() {
+        return Ok(false);
+    }
+    disk.write(n, &[byte; 512])?;
+    Ok(true)
+}
+
+// Whether a sector has bytes of one value.
+fn has<D: Disk>(disk: &mut D, n: u64, byte: u8) -> Result<bool, Failed>
+    requires attached { IsTrue (D.attached disk.old) }
+    requires size { D.sector_size disk.old ≡ 512 }
+    ensures form { SameForm D.Disk disk.old disk.new }
+{
+    let mut sector = [0u8; 512];
+    if n >= disk.sectors() {
+        return Ok(false);
+    }
+    disk.read(n, &mut sector)?;
+    Ok(sector == [byte; 512])
+}
+
+// Whether two sectors, read at once, have bytes of these values.
+fn has_two<D: Disk>(disk: &mut D, first: u64, bytes: [u8; 2]) -> Result<bool, Failed>
+    requires attached { IsTrue (D.attached disk.old) }
+    requires size { D.sector_size disk.old ≡ 512 }
+    ensures form { SameForm D.Disk disk.old disk.new }
+{
+    let mut row = [0u8; 1024];
+    let sectors = disk.sectors();
+    if first >= sectors || sectors - first < 2 {
+        return Ok(false);
+    }
+    let extent = Extent { first, sectors: 2 };
+    disk.read_row(extent, &mut row)?;
+    let mut wanted = [bytes[0]; 1024];
+    wanted[512..].fill(bytes[1]);
+    Ok(row == wanted)
+}
+
+#[test]
+fn writes_are_read_back(rt: HostRuntime) -> Result<(), Fail> {
+    const MADE: &str = "written-by-a-test.adf";
     let _ = fs::remove_file(&rt, MADE);
+    let mut disk = FileDisk::new(rt.clone()?);
+    let made = disk.attach(MADE, Some(5000))?;
+    assert!(rt; made);
+    disk.shape(9);
+    let all = put(&mut disk, 8, 73)?
+        && put(&mut disk, 1, 66)?
+        && put(&mut disk, 5, 1)?
+        && put(&mut disk, 0, 65)?
+        && put(&mut disk, 5, 70)?;
+    assert!(rt; all);
+    disk.sync()?;
+    drop(disk);
+    let mut again = FileDisk::new(rt.clone()?);
+    let given = again.attach(MADE, None)?;
+    assert!(rt; given);
+    again.shape(9);
+    let right = has(&mut again, 5, 70)?;
+    assert!(rt; right);
+    // The first write opens the file for writing, and reads go on by the same file.
+    let right = put(&mut again, 3, 90)? && has(&mut again, 3, 90)?;
+    assert!(rt; right);
+    let right = has(&mut again, 8, 73)? && has_two(&mut again, 7, [0, 73])?;
+    assert!(rt; right);
+    let right = has_two(&mut again, 3, [90, 0])? && has_two(&mut again, 0, [65, 66])?;
+    assert!(rt; right);
+    again.sync()?;
+    let bytes = fs::read(&rt, MADE)?;
+    assert!(rt; bytes.len() == 5000);
+    let firsts = [65u8, 66, 0, 90, 0, 70, 0, 0, 73, 0];
+    let right = bytes
+        .chunks(512)
+        .zip(&firsts)
+        .all(|(sector, first)| sector.iter().all(|byte| byte == first));
+    assert!(rt; right);
+    fs::remove_file(&rt, MADE)?;
+    Ok(())
+}
+
+#[test]
+fn an_unfinished_file_goes(rt: HostRuntime) -> Result<(), Fail> {
+    const MADE: &str = "unfinished-by-a-test.adf";
+    const MOVED: &str = "moved-by-a-test.adf";
+    let _ = fs::remove_file(&rt, MADE);
+    let mut disk = FileDisk::new(rt.clone()?);
+    let made = disk.attach(MADE, Some(1024))?;
+    assert!(rt; made);
+    disk.write(1, &[1u8; 256])?;
+    drop(disk);
+    let gone = !fs::exists(&rt, MADE)?;
+    assert!(rt; gone);
+    // What has the name by then is another's.
+    let mut other = FileDisk::new(rt.clone()?);
+    let made = other.attach(MADE, Some(1024))?;
+    assert!(rt; made);
+    fs::rename(&rt, MADE, MOVED)?;
+    fs::write(&rt, MADE, "another's")?;
+    drop(other);
+    let kept = fs::read_to_string(&rt, MADE)?;
+    assert_eq!(rt; kept.as_str(), "another's");
+    fs::remove_file(&rt, MADE)?;
+    fs::remove_file(&rt, MOVED)?;
+    Ok(())
+}
+
+#[test]
+fn another_file_is_never_written(rt: HostRuntime) -> Result<(), Fail> {
+    const IMAGE: &str = "read-by-a-test.adf";
+    const MOVED: &str = "put-aside-by-a-test.adf";
+    fs::write(&rt, IMAGE, [7u8; 512])?;
+    let mut disk = FileDisk::new(rt.clone()?);
+    let given = disk.attach(IMAGE, None)?;
+    assert!(rt; given);
+    let sectors = disk.sectors();
+    assert!(rt; sectors == 2);
+    fs::rename(&rt, IMAGE, MOVED)?;
+    fs::write(&rt, IMAGE, [8u8; 512])?;
+    let refused = disk.write(1, &[9u8; 256]).is_err();
+    assert!(rt; refused);
+    let mut sector = [0u8; 256];
+    disk.read(1, &mut sector)?;
+    assert!(rt; sector == [7; 256]);
+    let (new, old) = (fs::read(&rt, IMAGE)?, fs::read(&rt, MOVED)?);
+    assert!(rt; new.iter().all(|byte| *byte == 8));
+    assert!(rt; old.iter().all(|byte| *byte == 7));
+    fs::remove_file(&rt, IMAGE)?;
+    fs::remove_file(&rt, MOVED)?;
     Ok(())
 }

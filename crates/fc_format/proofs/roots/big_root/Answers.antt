@@ -11,6 +11,6 @@ laid =
 
 pub returns : goal.returns
 returns c =
-    let whole : c.put-3.new.b ≡ laid = rw (c.put-3.ensures, c.put-2.ensures, c.put_le24-2.ensures.bytes, c.put_le24.ensures.bytes, c.put.ensures) refl in
+    let whole : c.put-3.new.b ≡ laid = rw (c.put-3.ensures.bytes, c.put-2.ensures.bytes, c.put_le24-2.ensures.bytes, c.put_le24.ensures.bytes, c.put.ensures.bytes) refl in
     ap (λ l. slice_set l 2047 c.big_dir_check.result) whole
     ∙ ap (slice_set laid 2047) (c.big_dir_check.ensures ∙ ap (λ l. big_dir_check l 32) whole)

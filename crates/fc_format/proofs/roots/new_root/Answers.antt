@@ -21,11 +21,11 @@ pub returns : goal.returns
 returns c =
     let parent = c.args.parent in
     let whole : c.put-4.new.b ≡ laid parent =
-    c.put-4.ensures
-    ∙ ap (λ (l : List ℕ). overwritten l 2043 nick_word) (c.put-3.ensures
-    ∙ ap (λ (l : List ℕ). overwritten l 2032 name) (c.put-2.ensures
+    c.put-4.ensures.bytes
+    ∙ ap (λ (l : List ℕ). overwritten l 2043 nick_word) (c.put-3.ensures.bytes
+    ∙ ap (λ (l : List ℕ). overwritten l 2032 name) (c.put-2.ensures.bytes
     ∙ ap (λ (l : List ℕ). overwritten l 2013 name) (c.put_le24.ensures.bytes
-    ∙ ap (λ (l : List ℕ). overwritten l 2010 (little_bytes 3 parent)) c.put.ensures)))
+    ∙ ap (λ (l : List ℕ). overwritten l 2010 (little_bytes 3 parent)) c.put.ensures.bytes)))
     ∙ laid_is parent in
     ap (λ (l : List ℕ). slice_set l 2047 c.small_dir_check.result) whole
     ∙ ap (slice_set (laid parent) 2047) (c.small_dir_check.ensures ∙ ap (λ (l : List ℕ). small_dir_check l 5) whole)

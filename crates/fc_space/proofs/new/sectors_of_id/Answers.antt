@@ -6,7 +6,7 @@ use Rattle.fc_space.proofs.SearchLemmas.{run_passed, started, nothing_left, all_
 use Rattle.fc_space.proofs.new.sectors_of_id.Goals as goal
 
 pub loop-need-init : goal.loop-need-init
-loop-need-init c = started c.args.map.now c.args.id c.args.skip c.args.need c.new-place.result.items c.start-cursor.result c.new-place.ensures.items c.start-cursor.ensures
+loop-need-init c = started c.args.map.now c.args.id c.args.skip c.args.need c.new-place.result.items c.start-cursor.result c.new-place.ensures.items c.start-cursor.ensures.stands
 
 pub returns-in_default-clause-outside : goal.returns-in_default-clause-outside
 returns-in_default-clause-outside c = λ e.
