@@ -121,8 +121,15 @@ def host_name(entry):
                    for byte in entry.name).encode()
     if entry.is_directory:
         return base
-    suffix = b",%03x" % (entry.load >> 8 & 0xFFF) if entry.load >> 20 == 0xFFF else b",%08x-%08x" % (entry.load, entry.execution)
+    suffix = b"," + kind_of(entry).encode()
     return base[:LONGEST - len(suffix)] + suffix
+
+
+def kind_of(entry):
+    """A file's type, or its load and exec words."""
+    if entry.load >> 20 == 0xFFF:
+        return "%03x" % (entry.load >> 8 & 0xFFF)
+    return "%08x-%08x" % (entry.load, entry.execution)
 
 
 def host_tree(volume, holder, place):
@@ -152,8 +159,7 @@ def list_rows(holder, depth=0):
             yield "directory", "", access, depth, spelled(entry.name)
             yield from list_rows(entry, depth + 1)
         else:
-            kind = "%03x" % (entry.load >> 8 & 0xFFF) if entry.load >> 20 == 0xFFF else "%08x-%08x" % (entry.load, entry.execution)
-            yield kind, str(len(entry.data)), access, depth, spelled(entry.name)
+            yield kind_of(entry), str(len(entry.data)), access, depth, spelled(entry.name)
 
 
 def read_row(line):
@@ -246,7 +252,8 @@ def name_is_kept(names, source):
     found = names.disc_name(host, is_directory)
     words = (None, None) if is_directory else (load >> 8 & 0xFFF, None) if load >> 20 == 0xFFF else (None, (load, execution))
     return (found == (name, *words) and b"/" not in host and host not in (b".", b"..") and min(host) >= 32
-            and names.read_spelled(names.spelled(name)) == name and names.read_path(names.spelled_path([name, name])) == [name, name]
+            and names.read_spelled(names.spelled(name)) == name
+            and names.read_path(names.spelled_path([name, name])) == [name, name]
             and names.spelled(name) == spelled(name))
 
 
@@ -262,8 +269,7 @@ def unit_checks(checks):
     source = random.Random(25)
     checks.expect("names both ways", kept=([], [at for at in range(20000) if not name_is_kept(names, source)]))
     checks.expect("names that fit", kept=([], [at for at in range(2000) if not fits(names, source)]))
-    sides = bytes(source.randrange(256) for _ in range(1 << 10)) * 640
-    sides = bytes(at // 4096 for at in range(len(sides)))
+    sides = bytes(at // 4096 for at in range(160 * 4096))
     checks.expect("sides both ways", back=(sides, parts.to_interleaved(parts.to_disc_order(sides))),
                   there=(fcdisc_cases.interleaved_back(sides), parts.to_disc_order(sides)))
     publish_without_links(checks)
@@ -293,7 +299,7 @@ def publish_without_links(checks):
         with output.Folder.at(os.fsdecode(made)) as folder:
             for content in (b"first", b"second"):
                 try:
-                    with output.written(folder, [content]) as temporary:
+                    with output.NewFile(folder, [content]) as temporary:
                         folder.publish(temporary, b"name")
                 except FileExistsError:
                     checks.passed += 1
@@ -343,7 +349,8 @@ def folding_host(checks):
     left = {small(name.encode()): data for name, data in (
         ("è", None), ("è/in,fff", b"in \xc8"), ("è~2", None), ("è~2/in,fff", b"in \xe8"), ("été,fff", b"file \xc9t\xe9"),
         ("été~2,fff", b"file \xe9t\xe9"))}
-    checks.expect("two names that become one", left=(left, snapshot(made)), complete=(False, job.is_complete()), told=(2, len(told)))
+    checks.expect("two names that become one", left=(left, snapshot(made)), complete=(False, job.is_complete()),
+                  told=(2, len(told)))
 
 
 def small(name):
@@ -388,7 +395,8 @@ def wait_for(there, seconds=60):
 
 
 def can_mount():
-    return subprocess.run(["unshare", "-m", "sh", "-c", "mount -t tmpfs none /mnt"], capture_output=True, check=False).returncode == 0
+    run = subprocess.run(["unshare", "-m", "sh", "-c", "mount -t tmpfs none /mnt"], capture_output=True, check=False)
+    return run.returncode == 0
 
 
 def run_all(checks):

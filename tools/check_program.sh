@@ -112,6 +112,9 @@ for case in cases/*; do
 done
 outside_fails
 sha256sum --quiet --check run/sums || fail "images were changed"
+# the examples also speak of an image with interleaved sides, and of one with a header
+FCORE=$program bin/fcdisc adl --back l-files.adf sides.adl
+cat <(head -c 512 /dev/zero) f-user.adf > header.adf
 examples=$(PATH="$folder/bin:$PATH" python3 "$tools/readme_examples.py" "$tools/../README.md") || failed=$((failed + 1))
 printf '%s\n' "$examples"
 python3 "$tools/check_fcdisc.py" "$tools/../scripts/fcdisc" "$program" || failed=$((failed + 1))

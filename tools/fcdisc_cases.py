@@ -1,17 +1,17 @@
-"""Runs of fcdisc: the words, what stands in the folder before, and what has to come: output, errors, status and what is left there.
+"""Runs of fcdisc: the words, what stands in the folder before, and what has to come: output, errors, status, what is left.
 
 Each case runs in a fresh folder `work` beside the folder `images`. Host names are written here as they have to be, not computed.
 """
 import gzip
-import os
 
-from volumes import File, OldVolume, fresh_e
+from volumes import OldVolume, fresh_e
 
 HEADER = b"header of an emulator".ljust(512, b"\0")
 TRACK = 4096
 BOOTS = b"| boots\n"
 THERE = "there is something of this name already"
 NOT_WRITTEN = "not written: there is something of its name already"
+NO_FILE = ": not a file; what lies on a device has to be copied into a file first\n"
 DOUBT = "taken to be in disc order; if files look wrong, its sides are interleaved: use --order adl"
 SIDES = "its two sides are interleaved, as in .adl files: read in disc order"
 LONG = b"n" * 250
@@ -126,13 +126,13 @@ fff Text                  90  WR/       Note1
 ...
 41 files, 2 directories, 70208 bytes
 """
-TWIN_TEXT = ("directory $.D is damaged: entry 3 has the name of one before it [Directory $.D Twin 3]. What to do: read its sectors "
-             "again from the disc; else change one of the names in a copy of the image, with a new check")
+TWIN_TEXT = ("directory $.D is damaged: entry 3 has the name of one before it [Directory $.D Twin 3]. What to do: read its "
+             "sectors again from the disc; else change one of the names in a copy of the image, with a new check")
 NO_KIND = "no FileCore disc begins here [NoKind]. What to do: "
 NO_KIND_ADVICE = ("see that the file is an image of an Acorn FileCore disc, byte by byte and not packed; if it is one, read the "
                   "disc's first 4096 bytes again")
-SHORT_ADVICE = ("copy the disc again; a file that is only made longer may open, but what is missing can have been anywhere in it, "
-                "and then files are wrong")
+SHORT_ADVICE = ("copy the disc again; a file that is only made longer may open, but what is missing can have been anywhere in "
+                "it, and then files are wrong")
 
 
 def image(name):
@@ -150,7 +150,8 @@ def listing():
                "feb Obey                   8  WR/     !Run\n1 file, 0 directories, 8 bytes\n")
     yield Case("list-file", ["list", image("f-user.adf"), "docs.Note1"], "fff Text                  90  WR/     Note1\n")
     yield Case("list-spelled", ["list", image("named.adf"), "$.A B"], "00000000-00000000          4  WR/     A%20B\n")
-    yield Case("list-none", ["list", image("named.adf"), "$.D.x"], err=told("named.adf", "$.D.x: there is no such object on the disc"),
+    yield Case("list-none", ["list", image("named.adf"), "$.D.x"],
+               err=told("named.adf", "$.D.x: there is no such object on the disc"),
                status=1)
     yield Case("list-below-file", ["list", image("named.adf"), "$.Ab.x"],
                err=told("named.adf", "$.Ab.x: a file stands where a directory has to"), status=1)
@@ -159,20 +160,20 @@ def listing():
     yield Case("list-other-letters", ["list", image("named.adf"), "\u0416"],
                err="fcdisc: \u0416: a disc's names have no letters but those of Latin 1\n", status=2)
     yield Case("list-damaged", ["list", image("d-twin.adf")], err=told("d-twin.adf", "not accepted: " + TWIN_TEXT), status=1)
-    yield Case("list-deep", ["list", image("deep.adf")], "directory                     /       d\n...\n0 files, 128 directories, 0 bytes\n",
+    yield Case("list-deep", ["list", image("deep.adf")],
+               "directory                     /       d\n...\n0 files, 128 directories, 0 bytes\n",
                told("deep.adf", "directories more than 127 deep are left out"), 1)
     yield Case("list-no-image", ["list", "none.adf"], err="fcdisc: none.adf: No such file or directory\n", status=1)
     yield Case("list-a-folder", ["list", "."], err="fcdisc: .: Is a directory\n", status=1)
-    yield Case("list-a-device", ["list", "/dev/null"], err="fcdisc: /dev/null: not a file; what lies on a device has to be copied into "
-               "a file first\n", status=1)
+    yield Case("list-a-device", ["list", "/dev/null"], err="fcdisc: /dev/null" + NO_FILE, status=1)
     yield Case("list-full", ["list", image("named.adf")], err="fcdisc: standard output: No space left on device\n", status=1,
                within='exec "$@" > /dev/full')
     yield Case("list-closed-output", ["list", image("named.adf")], err="fcdisc: standard output is closed\n", status=1,
                within='exec "$@" >&-')
     yield Case("list-closed-streams", ["list", image("named.adf")], status=1, within='exec "$@" <&- >&- 2>&-')
     yield Case("list-closed-input", ["list", image("named.adf")], NAMED_ROWS, within='exec "$@" <&- 2>&-')
-    yield Case("list-a-pipe", ["list", "p"], err="fcdisc: p: not a file; what lies on a device has to be copied into a file first\n",
-               status=1, within='mkfifo p; "$@"; status=$?; rm p; exit $status')
+    yield Case("list-a-pipe", ["list", "p"], err="fcdisc: p" + NO_FILE, status=1,
+               within='mkfifo p; "$@"; status=$?; rm p; exit $status')
     yield Case("list-closed-pipe", ["list", image("f-user.adf")], "directory                     /       !Boot\n", status=0,
                within='"$@" | head -n 1')
 
@@ -184,20 +185,26 @@ def getting():
     user = image("f-user.adf")
     yield Case("get", ["get", user, "$.!boot.!run"], left={b"!Run,feb": BOOTS})
     yield Case("get-named", ["get", user, "$.!Boot.!Run", "boot.txt"], left={b"boot.txt": BOOTS})
-    yield Case("get-into-folder", ["get", user, "!Boot.!Run", "out"], before={b"out": None}, left={b"out": None, b"out/!Run,feb": BOOTS})
+    yield Case("get-into-folder", ["get", user, "!Boot.!Run", "out"], before={b"out": None},
+               left={b"out": None, b"out/!Run,feb": BOOTS})
     yield Case("get-printed", ["get", user, "$.!Boot.!Run", "-"], BOOTS.decode())
-    yield Case("get-full", ["get", user, "$.!Boot.!Run", "-"], err="fcdisc: standard output: No space left on device\n", status=1,
+    yield Case("get-full", ["get", user, "$.!Boot.!Run", "-"], err="fcdisc: standard output: No space left on device\n",
+               status=1,
                within='exec "$@" > /dev/full')
     yield Case("get-there", ["get", user, "$.!Boot.!Run"], err="fcdisc: !Run,feb: " + THERE + "\n", status=1,
                before={b"!Run,feb": b"mine"})
     yield Case("get-link-in-the-way", ["get", user, "$.!Boot.!Run", "x"], err="fcdisc: x: " + THERE + "\n", status=1,
                before={b"x": "-> ../images/none"})
-    yield Case("get-no-folder", ["get", user, "$.!Boot.!Run", "none/x"], err="fcdisc: none/x: No such file or directory\n", status=1)
+    yield Case("get-no-folder", ["get", user, "$.!Boot.!Run", "none/x"], err="fcdisc: none/x: No such file or directory\n",
+               status=1)
     yield Case("get-directory", ["get", user, "$.!Boot"], err=told("f-user.adf", "$.!Boot: a directory: use extract"), status=1)
     yield Case("get-root", ["get", user, "$"], err="fcdisc: $ is a directory: use extract\n", status=1)
-    yield Case("get-none", ["get", user, "$.Nothing"], err=told("f-user.adf", "$.Nothing: there is no such object on the disc"), status=1)
+    yield Case("get-none", ["get", user, "$.Nothing"], err=told("f-user.adf", "$.Nothing: there is no such object on the disc"),
+               status=1)
     yield Case("get-hostile", ["get", image("hostile.adf"), "$.%2e%2e/%2e%2e/up"], left={b"%2E%2E.%2E%2E.up,fff": b"file 0"})
-    yield Case("get-long", ["get", image("one.adf"), "$." + LONG.decode() + "abcd1"], left={LONG + b"a,fff": b"long 1"})
+    yield Case("get-long", ["get", image("one.adf"), "$." + LONG.decode() + "abcd1"], status=1,
+               left={LONG + b"a,fff": b"long 1"},
+               err="fcdisc: $.%sabcd1: has another name here: %sa,fff\n" % (LONG.decode(), LONG.decode()))
     yield Case("get-too-large", ["get", image("large.adf"), "$.Large"], err="fcdisc: Large,fff: File too large\n", status=1,
                within='ulimit -f 16; exec "$@"')
     yield Case("get-sides", ["get", image("sides.adl"), "$.Outer.Inner.Innermost.Deep", "d"], err=told("sides.adl", SIDES),
@@ -219,13 +226,16 @@ def hostile_tree(folder):
 
 def extracting():
     names = image("named.adf")
-    files = {b"o": None, b"o/A B,00000000-00000000": b"A B!", b"o/Ab,fff": b"\2", b"o/D": None, b"o/D/error,00000000-00000000": b""}
+    files = {b"o": None, b"o/A B,00000000-00000000": b"A B!", b"o/Ab,fff": b"\2", b"o/D": None,
+             b"o/D/error,00000000-00000000": b""}
     yield Case("extract", ["extract", names, "o"], "3 of 3 files written to o\n", left=files)
     yield Case("extract-part", ["extract", names, "o", "$.d"], "1 of 1 file written to o\n",
                left={b"o": None, b"o/error,00000000-00000000": b""})
-    yield Case("extract-into-folder", ["extract", names, "o"], "3 of 3 files written to o\n", before={b"o": None, b"o/D": None, b"o/x": b"y"},
+    yield Case("extract-into-folder", ["extract", names, "o"], "3 of 3 files written to o\n",
+               before={b"o": None, b"o/D": None, b"o/x": b"y"},
                left={**files, b"o/x": b"y"})
-    yield Case("extract-again", ["extract", names, "o"], "2 of 3 files written to o\n", told("named.adf", "$.Ab: " + NOT_WRITTEN), 1,
+    yield Case("extract-again", ["extract", names, "o"], "2 of 3 files written to o\n",
+               told("named.adf", "$.Ab: " + NOT_WRITTEN), 1,
                {**files, b"o/Ab,fff": b"mine"}, before={b"o": None, b"o/Ab,fff": b"mine"})
     yield Case("extract-links-in-the-way", ["extract", names, "o"], "1 of 3 files written to o\n",
                told("named.adf", "$.D: " + NOT_WRITTEN) + told("named.adf", "$.Ab: " + NOT_WRITTEN), 1,
@@ -235,15 +245,19 @@ def extracting():
                told("named.adf", "$.D: " + NOT_WRITTEN), 1,
                {b"o": None, b"o/D": b"mine", b"o/A B,00000000-00000000": b"A B!", b"o/Ab,fff": b"\2"},
                before={b"o": None, b"o/D": b"mine"})
-    yield Case("extract-to-a-file", ["extract", names, "o"], err="fcdisc: o: Not a directory\n", status=1, before={b"o": b"mine"})
+    yield Case("extract-to-a-file", ["extract", names, "o"], err="fcdisc: o: Not a directory\n", status=1,
+               before={b"o": b"mine"})
     yield Case("extract-no-folder", ["extract", names, "none/o"], err="fcdisc: none/o: No such file or directory\n", status=1)
-    yield Case("extract-damaged", ["extract", image("d-twin.adf"), "o"], err=told("d-twin.adf", "not accepted: " + TWIN_TEXT), status=1)
+    yield Case("extract-damaged", ["extract", image("d-twin.adf"), "o"], err=told("d-twin.adf", "not accepted: " + TWIN_TEXT),
+               status=1)
     yield Case("extract-a-file", ["extract", names, "o", "$.Ab"],
                err=told("named.adf", "$.Ab: a file stands where a directory has to"), status=1)
-    yield Case("extract-hostile", ["extract", image("hostile.adf"), "o"], "19 of 19 files written to o\n", left=hostile_tree(b"o"))
+    yield Case("extract-hostile", ["extract", image("hostile.adf"), "o"], "19 of 19 files written to o\n",
+               left=hostile_tree(b"o"))
     fitted = [LONG + b"a,fff", LONG[:249] + b"~2,fff", LONG[:249] + b"~3,fff"]
     yield Case("extract-two-that-become-one", ["extract", image("one.adf"), "o"], "4 of 4 files written to o\n", "".join(
-        told("one.adf", "$.%sabcd%d: has another name here: %s" % (LONG.decode(), at, name.decode())) for at, name in enumerate(fitted)), 1,
+        told("one.adf", "$.%sabcd%d: has another name here: %s" % (LONG.decode(), at, name.decode()))
+        for at, name in enumerate(fitted)), 1,
         {b"o": None, b"o/other,fff": b"other", **{b"o/" + name: b"long %d" % at for at, name in enumerate(fitted)}})
     yield from extracting_little_room()
 
@@ -254,13 +268,14 @@ def extracting_little_room():
     yield Case("extract-too-large", ["extract", large, "o"], "1 of 2 files written to o\n",
                told("large.adf", "$.Large: not written: File too large"), 1, small, within='ulimit -f 16; exec "$@"')
     yield Case("extract-full-disk", ["extract", large, "o"], ". ./o\n",
-               told("large.adf", "$.Large: not written: No space left on device") + told("large.adf", "0 of 2 files written"), 1,
+               told("large.adf", "$.Large: not written: No space left on device") + told("large.adf", "0 of 2 files written"),
+               1,
                {b"o": None}, before={b"o": None}, within=FULL_DISK)
 
 
 # A disk of 48 kB is mounted where the others don't see it; what is left on it is printed
-FULL_DISK = ('unshare -m sh -c \'mount -t tmpfs -o size=48k none . && cd "$PWD" && mkdir o && "$@"; status=$?; echo $(find . | sort); '
-             'exit $status\' sh "$@"')
+FULL_DISK = ('unshare -m sh -c \'mount -t tmpfs -o size=48k none . && cd "$PWD" && mkdir o && "$@"; status=$?; '
+             'echo $(find . | sort); exit $status\' sh "$@"')
 
 
 # ---- check
@@ -271,18 +286,27 @@ def checking():
                "../images/f-user.adf: whole: 41 files, 2 directories, 1525760 bytes free; 1 directory out of order\n"
                "../images/named.adf: whole: 3 files, 1 directory, 808960 bytes free\n")
     yield Case("check-damaged", ["check", image("d-twin.adf"), image("hello.adf")],
-               "../images/d-twin.adf: not accepted: %s\n../images/hello.adf: whole: 1 file, 0 directories, 813056 bytes free\n" % TWIN_TEXT,
+               "../images/d-twin.adf: not accepted: %s\n"
+               "../images/hello.adf: whole: 1 file, 0 directories, 813056 bytes free\n" % TWIN_TEXT,
                status=1)
-    yield Case("check-short", ["check", image("short.adl")], "../images/short.adl: not accepted: it has 400000 bytes, and its disc 655360 "
+    yield Case("check-short", ["check", image("short.adl")],
+               "../images/short.adl: not accepted: it has 400000 bytes, and its disc 655360 "
                "[Short 655360 400000]. What to do: %s\n" % SHORT_ADVICE, status=1)
     yield Case("check-none", ["check", "none.adf", image("hello.adf")],
-               "../images/hello.adf: whole: 1 file, 0 directories, 813056 bytes free\n", "fcdisc: none.adf: No such file or directory\n", 1)
+               "../images/hello.adf: whole: 1 file, 0 directories, 813056 bytes free\n",
+               "fcdisc: none.adf: No such file or directory\n", 1)
     for name, advice in (("packed.gz", "it is packed by gzip: unpack it first, with gunzip"),
                          ("archive.zip", "it is a zip archive: unpack it first"), ("text.txt", NO_KIND_ADVICE)):
-        yield Case("check-" + name, ["check", image(name)], "../images/%s: not accepted: %s%s\n" % (name, NO_KIND, advice), status=1)
+        yield Case("check-" + name, ["check", image(name)], "../images/%s: not accepted: %s%s\n" % (name, NO_KIND, advice),
+                   status=1)
     yield Case("check-empty-folder", ["check", "."])
+    many = [b"%02d" % at for at in range(40)]
+    yield Case("check-few-descriptors", ["check", "."], "".join(
+        "./%s: not accepted: %s%s\n" % (name.decode(), NO_KIND, NO_KIND_ADVICE) for name in many), status=1,
+        before=dict.fromkeys(many, b"no disc"), within='ulimit -n 24; exec "$@"')
     yield Case("check-names", ["check", "."], "./a\\x0a\\x1b[31m: not accepted: %s%s\n./\\xff.adf: not accepted: %s%s\n" % (
-        NO_KIND, NO_KIND_ADVICE, NO_KIND, NO_KIND_ADVICE), status=1, before={b"a\n\x1b[31m": b"no disc", b"\xff.adf": b"no disc"})
+        NO_KIND, NO_KIND_ADVICE, NO_KIND, NO_KIND_ADVICE), status=1,
+               before={b"a\n\x1b[31m": b"no disc", b"\xff.adf": b"no disc"})
     yield Case("check-dash", ["check", "--", "-x.adf"], "-x.adf: not accepted: %s%s\n" % (NO_KIND, NO_KIND_ADVICE), status=1,
                before={b"-x.adf": b""})
 
@@ -291,7 +315,8 @@ def checking():
 
 
 def found_out():
-    whole = "whole: 62 files, 5 directories, 520704 bytes free; 3072 bytes that nothing owns; 1 directory out of order; 1 directory with a wrong parent\n"
+    whole = ("whole: 62 files, 5 directories, 520704 bytes free; 3072 bytes that nothing owns; 1 directory out of order; "
+             "1 directory with a wrong parent\n")
     user = "whole: 41 files, 2 directories, 1525760 bytes free; 1 directory out of order\n"
     yield Case("sides-adl", ["check", image("sides.adl")], "../images/sides.adl: " + whole, told("sides.adl", SIDES))
     yield Case("sides-adf", ["check", image("sides.adf")], "../images/sides.adf: " + whole, told("sides.adf", SIDES))
@@ -330,16 +355,18 @@ def making(files, extra):
                before={b"x.adf": b"mine"})
     yield Case("adl-size", ["adl", image("short.adl"), "x.adf"],
                err=told("short.adl", "it has 400000 bytes, and an L disc of two sides has 655360"), status=1)
-    fault = ("fcdisc: the new image is there, but %s: not accepted: directory $.Lengths is damaged: the words at its two ends are wrong "
-             "[Directory $.Lengths Magic]. What to do: read its sectors again from the disc\n")
+    fault = ("fcdisc: the new image is there, but %s: not accepted: directory $.Lengths is damaged: the words at its two ends "
+             "are wrong [Directory $.Lengths Magic]. What to do: read its sectors again from the disc\n")
     yield Case("adl-twice", ["adl", image("l-files.adf"), "x.adf"], err=fault % "x.adf", status=1,
                left={b"x.adf": interleaved_back(ordered)})
     yield Case("adl-full", ["adl", image("sides.adl"), "x.adf"], err="fcdisc: x.adf: File too large\n", status=1,
                within='ulimit -f 16; exec "$@"')
     yield Case("strip", ["strip", image("header.hdf"), "x.adf"], left={b"x.adf": bytes(files["f-user.adf"])})
-    yield Case("strip-no-header", ["strip", image("f-user.adf"), "x.adf"], err="fcdisc: the new image is there, but x.adf: not accepted: "
+    yield Case("strip-no-header", ["strip", image("f-user.adf"), "x.adf"],
+               err="fcdisc: the new image is there, but x.adf: not accepted: "
                + NO_KIND + NO_KIND_ADVICE + "\n", status=1, left={b"x.adf": bytes(files["f-user.adf"])[512:]})
-    yield Case("strip-small", ["strip", "x", "y"], err="fcdisc: x: it has no more than 512 bytes\n", status=1, before={b"x": bytes(512)})
+    yield Case("strip-small", ["strip", "x", "y"], err="fcdisc: x: it has no more than 512 bytes\n", status=1,
+               before={b"x": bytes(512)})
 
 
 def interleaved_back(image):
@@ -352,8 +379,10 @@ def interleaved_back(image):
 
 
 def words():
-    for at, one in enumerate((["lst", "x"], [], ["list"], ["get", "x"], ["extract", "x"], ["check"], ["new", "E"], ["new", "G", "x"],
-                              ["adl", "x"], ["strip", "x"], ["list", "--order", "x", "y"], ["list", "a", "b", "c"], ["--new", "x"])):
+    for at, one in enumerate((["lst", "x"], [], ["list"], ["get", "x"], ["extract", "x"], ["check"], ["new", "E"],
+                              ["new", "G", "x"],
+                              ["adl", "x"], ["strip", "x"], ["list", "--order", "x", "y"], ["list", "a", "b", "c"],
+                              ["--new", "x"])):
         yield Case("words-%d" % at, one, err="usage: fcdisc...\n", status=2)
     for job in ("list", "get", "extract", "check", "new", "adl", "strip"):
         yield Case("help-" + job, [job, "--help"], "usage: fcdisc %s [-h]...\n" % job)
@@ -389,7 +418,8 @@ def other_programs():
             left = {b"o": None, b"o/A,ff0": b"A", b"o/B,ff0": b"B"}
         yield Case("fcore-" + name, ["extract", hello, "o"], err=told("hello.adf", error), status=1, left=left,
                    fcore=START + answer + LISTED % length)
-    yield Case("fcore-is-none", ["list", hello], err="fcdisc: $FCORE is ../fake/fcore, and that can't be run\n", status=1, fcore="")
+    yield Case("fcore-is-none", ["list", hello], err="fcdisc: $FCORE is ../fake/fcore, and that can't be run\n", status=1,
+               fcore="")
 
 
 def all_cases(files, extra):

@@ -5,7 +5,7 @@ import argparse
 import os
 import signal
 import sys
-from typing import List, NoReturn
+from typing import Any, Callable, List, NoReturn
 
 from . import jobs
 from .images import ORDERS
@@ -20,48 +20,64 @@ PATH_HELP = "as $.Docs.Letter; what isn't plain in a name as %%XX, as the list s
 
 def parser() -> argparse.ArgumentParser:
     made = argparse.ArgumentParser(prog="fcdisc", description=DESCRIPTION, epilog=EPILOG, allow_abbrev=False)
-    jobs_of = made.add_subparsers(metavar="JOB", required=True, dest="job")
-
-    def job(name: str, run: object, text: str, *, reads: bool = True) -> argparse.ArgumentParser:
-        added = jobs_of.add_parser(name, help=text[0].lower() + text[1:].split(". ")[0].rstrip("."), description=text,
-                                   epilog=EPILOG, allow_abbrev=False)
-        added.set_defaults(run=run)
-        if reads:
-            added.add_argument("--order", choices=ORDERS, default="auto", help="of the bytes of an L disc's image: `disc`, or `adl` "
-                               "for interleaved sides; else it is found out, and told where it isn't as it seems")
-        return added
-
-    added = job("list", jobs.list_disc, "List a disc as a tree: type, size, access, name. fcore runs once a level of directories.")
-    added.add_argument("image", metavar="IMAGE")
-    added.add_argument("path", metavar="PATH", nargs="?", default="$", help=PATH_HELP)
-
-    added = job("get", jobs.get, "Take one file out. fcore runs twice.")
-    added.add_argument("image", metavar="IMAGE")
-    added.add_argument("path", metavar="PATH", help=PATH_HELP)
-    added.add_argument("file", metavar="FILE", nargs="?", help="the file to make, or the folder for it; - is standard output")
-
-    added = job("extract", jobs.extract, "Take all files out into a folder. It is made if need be; what is there is never replaced. "
-                "fcore runs once a level of directories, and once for all files.")
-    added.add_argument("image", metavar="IMAGE")
-    added.add_argument("folder", metavar="FOLDER")
-    added.add_argument("path", metavar="PATH", nargs="?", default="$", help="of a directory, to take out that alone")
-
-    added = job("check", jobs.check, "Say of each image whether it is whole, what is wrong, and what to do. fcore runs once an image.")
-    added.add_argument("image", metavar="IMAGE", nargs="+", help="an image, or a folder of them")
-
-    added = job("new", jobs.new, "Make an empty disc.", reads=False)
-    added.add_argument("format", metavar="FORMAT", type=str.upper, choices=jobs.FORMATS, help=", ".join(jobs.FORMATS))
-    added.add_argument("image", metavar="IMAGE", help="the file to make")
-
-    added = job("adl", jobs.adl, "Put the image of an L disc, whose sides are interleaved, into disc order.", reads=False)
-    added.add_argument("--back", action="store_true", help="the other way: from disc order to interleaved sides")
-    added.add_argument("image", metavar="IMAGE")
-    added.add_argument("out", metavar="OUT", help="the file to make")
-
-    added = job("strip", jobs.strip, "Copy an image without its header of 512 bytes.", reads=False)
-    added.add_argument("image", metavar="IMAGE")
-    added.add_argument("out", metavar="OUT", help="the file to make")
+    added = made.add_subparsers(metavar="JOB", required=True, dest="job")
+    add_reading(added)
+    add_making(added)
     return made
+
+
+def add_job(added: Any, name: str, run: Callable[[argparse.Namespace], int], text: str) -> argparse.ArgumentParser:
+    """A subcommand. The first sentence of its text stands in the list of them."""
+    first = text.split(". ")[0].rstrip(".")
+    job = added.add_parser(name, help=first[0].lower() + first[1:], description=text, epilog=EPILOG, allow_abbrev=False)
+    job.set_defaults(run=run)
+    return job  # type: ignore[no-any-return]
+
+
+def add_reading(added: Any) -> None:
+    job = add_job(added, "list", jobs.list_disc, "List a disc as a tree: type, size, access, name. fcore runs once for each "
+                  "level of directories.")
+    add_order(job)
+    job.add_argument("image", metavar="IMAGE")
+    job.add_argument("path", metavar="PATH", nargs="?", default="$", help=PATH_HELP)
+
+    job = add_job(added, "get", jobs.get, "Take one file out. fcore runs twice.")
+    add_order(job)
+    job.add_argument("image", metavar="IMAGE")
+    job.add_argument("path", metavar="PATH", help=PATH_HELP)
+    job.add_argument("file", metavar="FILE", nargs="?", help="the file to make, or the folder for it; - is standard output")
+
+    job = add_job(added, "extract", jobs.extract, "Take all files out into a folder. It is made if need be; what is there is "
+                  "never replaced. fcore runs once for each level of directories, and once for all files.")
+    add_order(job)
+    job.add_argument("image", metavar="IMAGE")
+    job.add_argument("folder", metavar="FOLDER")
+    job.add_argument("path", metavar="PATH", nargs="?", default="$", help="of a directory, to take out that alone")
+
+    job = add_job(added, "check", jobs.check, "Say of each image whether it is whole, what is wrong, and what to do. fcore runs "
+                  "once for each image.")
+    add_order(job)
+    job.add_argument("image", metavar="IMAGE", nargs="+", help="an image, or a folder of them")
+
+
+def add_order(job: argparse.ArgumentParser) -> None:
+    job.add_argument("--order", choices=ORDERS, default="auto", help="of the bytes of an L disc's image: `disc`, or `adl` for "
+                     "interleaved sides; else it is found out, and told where it isn't as it seems")
+
+
+def add_making(added: Any) -> None:
+    job = add_job(added, "new", jobs.new, "Make an empty disc.")
+    job.add_argument("format", metavar="FORMAT", type=str.upper, choices=jobs.FORMATS, help=", ".join(jobs.FORMATS))
+    job.add_argument("image", metavar="IMAGE", help="the file to make")
+
+    job = add_job(added, "adl", jobs.adl, "Put the image of an L disc, whose sides are interleaved, into disc order.")
+    job.add_argument("--back", action="store_true", help="the other way: from disc order to interleaved sides")
+    job.add_argument("image", metavar="IMAGE")
+    job.add_argument("out", metavar="OUT", help="the file to make")
+
+    job = add_job(added, "strip", jobs.strip, "Copy an image without its header of 512 bytes.")
+    job.add_argument("image", metavar="IMAGE")
+    job.add_argument("out", metavar="OUT", help="the file to make")
 
 
 class Stopped(BaseException):
@@ -133,7 +149,9 @@ def hold_streams() -> bool:
         sys.stderr = open(os.devnull, "w")
     if sys.stdout is None:
         tell("standard output is closed")
-    return sys.stdout is not None
+        return False
+    sys.stdout.reconfigure(errors="backslashreplace")  # type: ignore[attr-defined]
+    return True
 
 
 def drop_output() -> None:

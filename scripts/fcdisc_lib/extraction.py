@@ -6,11 +6,9 @@ from typing import Callable, Dict, Iterator, List, Set, Tuple, Union
 
 from . import names
 from .messages import Progress, Trouble, reason, shown, tell
-from .output import HOPELESS, Folder, Inode, written
+from .output import HOPELESS, Folder, Inode, NewFile
 from .program import Entry, Path, Run, batches
 from .tree import Tree
-
-MOST_NAMES = 10000  # that are tried for one object
 
 
 class Taken(Exception):
@@ -24,6 +22,7 @@ class Extraction:
         self.program, self.tree, self.folder = program, tree, folder
         self.places: Dict[Path, Tuple[bytes, ...]] = {tree.start: ()}  # the directories that have a folder, and where
         self.own: Set[Inode] = set()  # what this job made or used: a name that leads there again stands for something else
+        self.numbers: Dict[Tuple[Path, bytes], int] = {}  # of names in a directory that become one: the last that was used
         self.wanted = tree.files()
         self.written = self.renamed = 0
 
@@ -49,21 +48,26 @@ class Extraction:
     def take_name(self, holder: Folder, entry: Entry, suffix: bytes, take: Callable[[bytes], None]) -> bytes:
         """Finds a name that `take` can take. One that this job took before is passed over for a fresh spelling."""
         right = names.host_name(entry.name, suffix)
-        for number in range(1, MOST_NAMES):
-            fits = number == 1 and len(right) <= holder.name_limit
-            name = right if fits else names.fitted_name(entry.name, suffix, holder.name_limit, number)
-            try:
-                take(name)
-            except FileExistsError:
-                if holder.inode(name) not in self.own:
-                    raise Taken from None
-                continue
-            self.own.add(holder.inode(name))
-            if name != right:
-                self.renamed += 1
-                self.tell(entry, "has another name here: " + shown(name))
-            return name
-        raise Taken
+        first = right if len(right) <= holder.name_limit else names.fitted_name(entry.name, suffix, holder.name_limit)
+        name, alike = first, (entry.path[:-1], first)
+        while not self.took(holder, name, take):
+            number = self.numbers[alike] = self.numbers.get(alike, 1) + 1
+            name = names.fitted_name(entry.name, suffix, holder.name_limit, number)
+        if name != right:
+            self.renamed += 1
+            self.tell(entry, "has another name here: " + shown(name))
+        return name
+
+    def took(self, holder: Folder, name: bytes, take: Callable[[bytes], None]) -> bool:
+        """Whether `take` could take the name; if it can't, this job has it already. Raises Taken where something else has."""
+        try:
+            take(name)
+        except FileExistsError:
+            if holder.inode(name) not in self.own:
+                raise Taken from None
+            return False
+        self.own.add(holder.inode(name))
+        return True
 
     # folders
 
@@ -102,7 +106,7 @@ class Extraction:
     def write(self, holder: Folder, entry: Entry, pieces: Iterator[bytes]) -> None:
         suffix = names.suffix_of(entry.load, entry.execution)
         try:
-            with written(holder, pieces, names.unix_time(entry.load, entry.execution)) as temporary:
+            with NewFile(holder, pieces, names.unix_time(entry.load, entry.execution)) as temporary:
                 self.take_name(holder, entry, suffix, lambda name: holder.publish(temporary, name))
             self.written += 1
         except (OSError, Taken) as error:

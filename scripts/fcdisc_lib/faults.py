@@ -7,17 +7,17 @@ from typing import Dict, List, Tuple
 FAULTS: Dict[str, Tuple[str, str]] = {
     "NoKind": (
         "no FileCore disc begins here",
-        "see that the file is an image of an Acorn FileCore disc, byte by byte and not packed; if it is one, read the disc's first "
-        "4096 bytes again"),
+        "see that the file is an image of an Acorn FileCore disc, byte by byte and not packed; if it is one, read the disc's "
+        "first 4096 bytes again"),
     "Short": (
         "it has {1} bytes, and its disc {0}",
-        "copy the disc again; a file that is only made longer may open, but what is missing can have been anywhere in it, and then "
-        "files are wrong"),
+        "copy the disc again; a file that is only made longer may open, but what is missing can have been anywhere in it, and "
+        "then files are wrong"),
     "Copies": (
-        "neither copy of the map is sound: the first wrong zone is {0} in one copy and {1} in the other (the number of zones, where "
-        "only their sum is wrong)",
-        "read the map's sectors again; zeros in a zone mean a sector that was never read; zones that are right in one copy can be put "
-        "together in a copy of the image"),
+        "neither copy of the map is sound: the first wrong zone is {0} in one copy and {1} in the other (the number of zones, "
+        "where only their sum is wrong)",
+        "read the map's sectors again; zeros in a zone mean a sector that was never read; zones that are right in one copy can "
+        "be put together in a copy of the image"),
     "Differs": (
         "two descriptions of the disc, of boot block and map or of the map's two copies, differ at byte {0}",
         "read their sectors again; else one is left over from another formatting, and the right one has to take its place"),
@@ -26,8 +26,8 @@ FAULTS: Dict[str, Tuple[str, str]] = {
         "read the map's sectors again; else find the root directory and put its address or size there"),
     "Zone": (
         "zone {0} of the map has no right piece of space at bit {1}",
-        "read the map's sectors again and look at the other copy of the map: it may be whole; zeros in a zone mean a sector that was "
-        "never read"),
+        "read the map's sectors again and look at the other copy of the map: it may be whole; zeros in a zone mean a sector that "
+        "was never read"),
     "Hole": (
         "hole {0} of the list of free space can't be",
         "read the map's sectors again; else correct the list: space that it leaves out is lost, but no file is harmed"),
@@ -51,8 +51,12 @@ DIRECTORY_FAULTS: Dict[str, Tuple[str, str]] = {
     "Sequence": ("its two ends have different numbers, as after a write that was cut off", ""),
     "Size": ("its size can't be", ""),
     "Check": ("its check byte is wrong", ""),
-    "BadEntry": ("entry {0} has a name that can't be", "; else change that name in a copy of the image, with a new check"),
-    "Twin": ("entry {0} has the name of one before it", "; else change one of the names in a copy of the image, with a new check"),
+    "BadEntry": (
+        "entry {0} has a name that can't be",
+        "; else change that name in a copy of the image, with a new check"),
+    "Twin": (
+        "entry {0} has the name of one before it",
+        "; else change one of the names in a copy of the image, with a new check"),
 }
 
 # How files begin that hold no image as it is

@@ -1,4 +1,4 @@
-"""Images as people have them: in disc order, or with the two sides of an L disc track by track, or with a header before the disc."""
+"""Images as people have them: in disc order, with the two sides of an L disc track by track, or with a header before the disc."""
 from __future__ import annotations
 
 import os
@@ -99,7 +99,7 @@ def track_at(content: bytes, place: int) -> bytes:
 
 
 class Image:
-    """A file that fcore reads: the one that the user named, or a copy in disc order that has no name and goes with the program."""
+    """A file that fcore reads: the one that the user named, or a copy in disc order, which has no name."""
 
     def __init__(self, path: str, file: BinaryIO, how: str):
         self.path, self.file, self.how = path, file, how
@@ -171,6 +171,7 @@ def open_image(program: str, path: str, order: str, script: bytes, read: Callabl
     file = open_file(path)
     tried: List[Image] = []
     faults: List[BadImage] = []
+    kept = None
     try:
         for image in readings(program, path, file, order, faults):
             try:
@@ -181,13 +182,18 @@ def open_image(program: str, path: str, order: str, script: bytes, read: Callabl
                 faults.append(fault)
                 continue
             tell_reading(image, order)
+            kept = image.file
             return image, result
+        told = -1 if faults[0].words[0] == "NoKind" else 0
+        tell_reading(tried[told], order)
+        raise faults[told]
     except OSError as error:
         text = "%s: while a copy of it was made in %s: %s"
         raise Trouble(text % (shown(path), shown(tempfile.gettempdir()), reason(error))) from None
-    shown_fault = -1 if faults[0].words[0] == "NoKind" else 0
-    tell_reading(tried[shown_fault], order)
-    raise faults[shown_fault]
+    finally:
+        for one in (file, *(image.file for image in tried)):
+            if one is not kept:
+                one.close()
 
 
 def tell_reading(image: Image, order: str) -> None:

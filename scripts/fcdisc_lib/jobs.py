@@ -1,6 +1,7 @@
 """The subcommands. Each answers the status with which the program ends."""
 from __future__ import annotations
 
+import gc
 import os
 import sys
 from argparse import Namespace
@@ -12,7 +13,7 @@ from .faults import explained
 from .images import HEADER, L_SIZE, open_file, open_image, pieces_from, read_at, size_of, to_disc_order, to_interleaved
 from .listing import counted, row, rows
 from .messages import FAILED, WRONG_WORDS, Progress, Trouble, reason, say, shown, tell
-from .output import Folder, new_folder, split_path, written
+from .output import Folder, NewFile, TemporaryName, new_folder, split_path
 from .program import BadImage, Entry, Path, Refused, Run, command, find_program
 from .tree import find_entry, read_tree
 
@@ -80,21 +81,26 @@ def get(words: Namespace) -> int:
         pieces = run.load(entry.length)
         if words.file == "-":
             sys.stdout.buffer.writelines(pieces)
-        else:
-            save(entry, Progress("bytes written", entry.length).passed(pieces), words.file)
-    return 0
+            return 0
+        return save(entry, Progress("bytes written", entry.length).passed(pieces), words.file)
 
 
-def save(entry: Entry, pieces: Iterator[bytes], wanted: Optional[str]) -> None:
+def save(entry: Entry, pieces: Iterator[bytes], wanted: Optional[str]) -> int:
     """Writes the file under the name that is wanted, or, in a folder, under the name that it has on the host."""
     folder, name = (wanted or ".", b"") if wanted is None or os.path.isdir(wanted) else split_path(wanted)
+    suffix = names.suffix_of(entry.load, entry.execution)
+    chosen = bool(name)
     try:
         with Folder.at(folder) as holder:
-            name = name or names.fitted_name(entry.name, names.suffix_of(entry.load, entry.execution), holder.name_limit)
-            with written(holder, pieces, names.unix_time(entry.load, entry.execution)) as temporary:
+            name = name or names.fitted_name(entry.name, suffix, holder.name_limit)
+            with NewFile(holder, pieces, names.unix_time(entry.load, entry.execution)) as temporary:
                 holder.publish(temporary, name)
     except OSError as error:
         raise Trouble(place_text(folder, name, error)) from None
+    if chosen or name == names.host_name(entry.name, suffix):
+        return 0
+    tell("%s: has another name here: %s" % (names.spelled_path(entry.path), shown(name)))
+    return FAILED
 
 
 def place_text(folder: str, name: bytes, error: OSError) -> str:
@@ -117,6 +123,7 @@ def extract(words: Namespace) -> int:
         folder = new_folder(words.folder)
     except OSError as error:
         raise Trouble("%s: %s" % (shown(words.folder), reason(error))) from None
+    gc.disable()  # what is made of a disc's listing stays to the end, and to look through it again and again takes time
     with folder:
         extraction = Extraction(program, tree, folder)
         extraction.run()
@@ -162,6 +169,7 @@ def check_one(program: str, path: str, order: str) -> bool:
     except BadImage as fault:
         say(not_accepted(path, fault))
         return False
+    image.file.close()
     say("%s: %s" % (shown(path), found(counts)))
     return True
 
@@ -182,7 +190,7 @@ def new(words: Namespace) -> int:
     program = find_program()
     folder, name = split_path(words.image)
     try:
-        with Folder.at(folder) as holder, holder.temporary_name() as temporary:
+        with Folder.at(folder) as holder, TemporaryName(holder) as temporary:
             place = "/dev/fd/%d/%s" % (holder.number, os.fsdecode(temporary))
             with Run(program, words.image, ["--new", words.format, "--", place], b"", [holder.number]):
                 pass
@@ -216,7 +224,7 @@ def write_new(path: str, pieces: Iterable[bytes]) -> None:
     """A new file of the host; nothing may have its name yet."""
     folder, name = split_path(path)
     try:
-        with Folder.at(folder) as holder, written(holder, pieces) as temporary:
+        with Folder.at(folder) as holder, NewFile(holder, pieces) as temporary:
             holder.publish(temporary, name)
     except OSError as error:
         raise Trouble(place_text(folder, name, error)) from None

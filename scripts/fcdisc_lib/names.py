@@ -39,7 +39,9 @@ def spelled_path(names: Sequence[bytes]) -> str:
 
 def read_spelled(text: str) -> bytes:
     """The name that fcore spelled."""
-    return SPELLED_BYTE.sub(lambda found: chr(int(found[1], 16)), text).encode("latin-1")
+    if "%" in text:
+        text = SPELLED_BYTE.sub(lambda found: chr(int(found[1], 16)), text)
+    return text.encode("latin-1")
 
 
 def folded(name: bytes) -> bytes:
@@ -99,7 +101,7 @@ HOST_PARTS = [host_part(byte) for byte in range(256)]
 def host_parts(name: bytes) -> List[bytes]:
     """What the host's name has for each byte of a disc's name."""
     parts = [HOST_PARTS[byte] for byte in name]
-    looks_suffixed = SUFFIX.search(name)
+    looks_suffixed = SUFFIX.search(name) if b"," in name else None
     if looks_suffixed:
         parts[looks_suffixed.start()] = b"%2C"
     if name in FOLDER_ITSELF:

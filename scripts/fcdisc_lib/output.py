@@ -10,14 +10,15 @@ import itertools
 import os
 import secrets
 import stat
-from contextlib import contextmanager, suppress
-from typing import Iterable, Iterator, Optional, Sequence, Set, Tuple, TypeVar
+from contextlib import suppress
+from typing import Iterable, Optional, Sequence, Set, Tuple, TypeVar
 
 Inode = Tuple[int, int]
 AnyFolder = TypeVar("AnyFolder", bound="Folder")
 NAME_LIMIT = 255
 # A system that has no hard links says one of these
 NO_LINKS = (errno.EPERM, errno.EOPNOTSUPP, errno.ENOSYS, errno.EMLINK)
+NEW_FILE = os.O_WRONLY | os.O_CREAT | os.O_EXCL | os.O_NOFOLLOW
 # After these no other file can be written either
 HOPELESS = (errno.ENOSPC, errno.EDQUOT, errno.EROFS, errno.EIO)
 
@@ -75,18 +76,6 @@ class Folder:
         """Makes a folder in it. FileExistsError if the name is there, whatever has it."""
         os.mkdir(name, dir_fd=self.number)
 
-    @contextmanager
-    def temporary_name(self) -> Iterator[bytes]:
-        """A name for a file while it is written. The file is away afterwards, whatever happens."""
-        name = b".fcdisc-%s-%d.tmp" % (OWN_WORD, next(NUMBERS))
-        unfinished.add((self.number, name))
-        try:
-            yield name
-        finally:
-            with suppress(FileNotFoundError):
-                os.unlink(name, dir_fd=self.number)
-            unfinished.discard((self.number, name))
-
     def publish(self, temporary: bytes, name: bytes) -> None:
         """Gives a whole file its name. FileExistsError if the name is there, whatever has it: then nothing changes."""
         try:
@@ -105,31 +94,64 @@ class Folder:
             raise
 
 
-@contextmanager
-def written(folder: Folder, pieces: Iterable[bytes], time: Optional[int] = None) -> Iterator[bytes]:
-    """A file of these pieces under a temporary name, to be published. `time` is in nanoseconds since 1970."""
-    with folder.temporary_name() as temporary:
-        number = os.open(temporary, os.O_WRONLY | os.O_CREAT | os.O_EXCL | os.O_NOFOLLOW, 0o666, dir_fd=folder.number)
+class TemporaryName:
+    """A name for a file while it is written. The file is away afterwards, whatever happens."""
+
+    def __init__(self, folder: Folder):
+        self.folder = folder
+        self.name = b".fcdisc-%s-%d.tmp" % (OWN_WORD, next(NUMBERS))
+
+    def __enter__(self) -> bytes:
+        unfinished.add((self.folder.number, self.name))
+        return self.name
+
+    def __exit__(self, *_: object) -> None:
         try:
-            for piece in pieces:
+            os.unlink(self.name, dir_fd=self.folder.number)
+        except FileNotFoundError:
+            pass
+        unfinished.discard((self.folder.number, self.name))
+
+
+class NewFile(TemporaryName):
+    """A file of these pieces under a temporary name, to be published. `time` is in nanoseconds since 1970."""
+
+    def __init__(self, folder: Folder, pieces: Iterable[bytes], time: Optional[int] = None):
+        super().__init__(folder)
+        self.pieces, self.time = pieces, time
+
+    def __enter__(self) -> bytes:
+        name = super().__enter__()
+        try:
+            self.write(name)
+        except BaseException:
+            self.__exit__()
+            raise
+        return name
+
+    def write(self, name: bytes) -> None:
+        number = os.open(name, NEW_FILE, 0o666, dir_fd=self.folder.number)
+        try:
+            for piece in self.pieces:
                 write_all(number, piece)
-            set_time(number, time)
+            set_time(number, self.time)
         finally:
             os.close(number)
-        yield temporary
 
 
 def write_all(number: int, piece: bytes) -> None:
-    left = memoryview(piece)
-    while left:
-        left = left[os.write(number, left):]
+    done = os.write(number, piece)
+    while done < len(piece):
+        done += os.write(number, piece[done:])
 
 
 def set_time(number: int, time: Optional[int]) -> None:
     """A time that the host can't have is left out: it is a courtesy."""
     if time is not None:
-        with suppress(OSError, OverflowError):
+        try:
             os.utime(number, ns=(time, time))
+        except (OSError, OverflowError):
+            pass
 
 
 def name_limit(number: int) -> int:
