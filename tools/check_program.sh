@@ -1,6 +1,7 @@
 #!/usr/bin/env bash
 # Runs the built program over the images of tools/images.py, and compares output and status with that table; then the examples
-# of README.md. No image may be changed. Then fcdisc over the program, what `make install` puts there, and the man pages.
+# of README.md. No image may be changed. Then fcdisc over the program, what `make install` puts there, and the man pages. The page
+# of the format is tried first: the reader that was written from it has to say the same as the other reader.
 #
 # usage: tools/check_program.sh PROGRAM
 set -u
@@ -10,6 +11,7 @@ folder=$(mktemp -d)
 trap 'rm -rf "$folder"' EXIT
 cd "$folder" || exit 1
 python3 "$tools/images.py" --check || exit 1
+python3 "$tools/format_reader.py" --compare || exit 1
 python3 "$tools/images.py" "$folder" || exit 1
 mkdir run bin
 ln -s "$program" bin/fcore

@@ -313,7 +313,7 @@ def variants():
     yield "f-first-copy", volume, damaged_images.Damage(volume).zone(2, {900: 0x11, 3: 4}, (1,)).zone(3, {3: 4}, (1,)).data
     yield "f-other-root-in-boot", volume, damaged_images.Damage(volume).boot({12: 2}).data
     volume = damaged_images.tiny()
-    unread = {4 + at: 0x5A for at in (1, 2, 3, 6, 7, 8, 20, 21, 22, 31, 32, 35, 41, 43, 48, 51, 52, 59)} | {4 + 40: 0xF0}
+    unread = {**{4 + at: 0x5A for at in (1, 2, 3, 6, 7, 8, 20, 21, 22, 31, 32, 35, 41, 43, 48, 51, 52, 59)}, 4 + 40: 0xF0}
     yield "unread-bytes", volume, damaged_images.Damage(volume).zone(0, unread).data
     volume = fresh_e()
     volume.take(9, 0, 16)
@@ -361,7 +361,7 @@ def named_cases():
 
 
 def accepted():
-    for name, make in (VOLUMES | {"named": named_files}).items():
+    for name, make in {**VOLUMES, "named": named_files}.items():
         volume = make()
         yield name, volume, volume.image()
     yield from variants()
