@@ -167,10 +167,17 @@ fn is_small(body: &Body) -> bool {
 
 // Whether a path has these names.
 fn is_path(path: &Path, names: &[&'static [u8]]) -> bool {
-    let mut wanted = names.iter();
-    path.names()
-        .all(|name| wanted.next().is_some_and(|want| name == *want))
-        && wanted.next().is_none()
+    let mut left = names;
+    for name in path.names() {
+        let Some((want, others)) = left.split_first() else {
+            return false;
+        };
+        if name != *want {
+            return false;
+        }
+        left = others;
+    }
+    left.is_empty()
 }
 
 // What the walk tells of a fault, in words, where it has this path.

@@ -1,7 +1,6 @@
 // Lines by name, of entries that are stored in another order.
 use super::*;
 use fc_names::read_name;
-use std::alloc::Global;
 use std::test::Fail;
 
 // An entry of a name.

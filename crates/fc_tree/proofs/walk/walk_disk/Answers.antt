@@ -18,7 +18,7 @@ use Rattle.fc_tree.proofs.walk.walk_disk.Goals as goal
 
 pub returns-in_err-claim_root-clause-err : goal.returns-in_err-claim_root-clause-err
 returns-in_err-claim_root-clause-err g c =
-    let same : c.space.result.now ≡ c.args.places.now = c.space.ensures in
+    let same : c.space-space.result.now ≡ c.args.places.now = c.space-space.ensures in
     let p = err_from_is_err_and c.from_residual.result c.from_residual.ensures.1 in
     let layout = layout_of c.args.places.now in
     let reserved = not_free layout (sectors_in c.args.reserved.now) in
@@ -28,7 +28,7 @@ returns-in_err-claim_root-clause-err g c =
 
 pub loop-at-init : goal.loop-at-init
 loop-at-init g c =
-    let same : c.space.result.now ≡ c.args.places.now = c.space.ensures in
+    let same : c.space-space.result.now ≡ c.args.places.now = c.space-space.ensures in
     let layout = layout_of c.args.places.now in
     let reserved = not_free layout (sectors_in c.args.reserved.now) in
     let node : c.in-Ok-root_node.node ≡ record { holder = 0; entry = root_entry c.args.root (directory_size (dir_form layout) c.args.root_size); body = bodies.File } =
@@ -62,13 +62,13 @@ returns-then-left-eq0-clause-cause g c = λ e.
 
 pub visit-requires-clause-there : goal.visit-requires-clause-there
 visit-requires-clause-there g c =
-    let same : c.space.result.now ≡ c.args.places.now = c.space.ensures in
+    let same : c.space-space.result.now ≡ c.args.places.now = c.space-space.ensures in
     rw (← same) at (there_is (layout_of c.args.places.now) _ _ _ _ c.loop-at.nodes.items c.deref.result.now c.loop-at.from c.in-Some.at c.loop-at.left c.loop-at.taken c.loop-at.invariant.walking
     c.deref.ensures.value c.in-Some.ensures.some c.in-Some.ensures.first)
 
 pub returns-in_err-visit-clause-err : goal.returns-in_err-visit-clause-err
 returns-in_err-visit-clause-err g c =
-    let same : c.space.result.now ≡ c.args.places.now = c.space.ensures in
+    let same : c.space-space.result.now ≡ c.args.places.now = c.space-space.ensures in
     let p = err_from_is_err_and c.from_residual-in_err-visit.result c.from_residual-in_err-visit.ensures.1 in
     rw (p.1, p.2)
     (on_failed (layout_of c.args.places.now) _ _ _ (g.D.Disk.bytes c.args.disk.now) c.loop-at.nodes.items c.deref.result.now c.loop-at.from c.in-Some.at c.loop-at.left c.loop-at.taken c.loop-at.invariant.walking c.deref.ensures.value
@@ -80,7 +80,7 @@ returns-in_err-visit-clause-reads g c = reads_then (laws g.met.D.Disk) c.loop-at
 
 pub loop-at-preserved : goal.loop-at-preserved
 loop-at-preserved g c =
-    let same : c.space.result.now ≡ c.args.places.now = c.space.ensures in
+    let same : c.space-space.result.now ≡ c.args.places.now = c.space-space.ensures in
     let layout = layout_of c.args.places.now in
     record {
       reads = reads_then (laws g.met.D.Disk) c.loop-at.invariant.reads c.visit.ensures.reads;
