@@ -13,7 +13,7 @@ use Rattle.fc_zone.specs.Edits.{KeepsOutside, Relabels, Splits, WritesLinks}
 use Rattle.fc_zone.specs.Reading.{runs_of}
 use Rattle.fc_zone.proofs.ReadingLemmas.{runs_of_zone}
 use Rattle.fc_zone.proofs.SpellingLemmas.{one_sector_of}
-use Rattle.fc_zone.proofs.WrittenLemmas.{stays_written}
+use Rattle.fc_zone.proofs.WrittenLemmas.{edit_keeps, stays_written}
 use Rattle.fc_format.specs.Zones.{CanOwn, IsLaid, last_hole, owned_runs}
 
 -- one edit more
@@ -24,7 +24,7 @@ edited shape start old new before after was zone links outside size =
     let now = runs_of_zone shape new after zone in
     record {
       zone = zone;
-      written = stays_written shape old new before after (rw (told, now) at links) was.written;
+      written = stays_written shape old new before after (edit_keeps shape (bits old) (bits new) before after (rw (told, now) at links)) was.written;
       outside = λ k free beyond. outside k free beyond ∙ was.outside k free beyond;
       size = size ∙ was.size;
     }

@@ -117,9 +117,7 @@ fn save(alloc: Global, map: &mut NewMap, bytes: u64) -> Option<Plan> {
 
 // Fills a zone with runs of 12 bits of identifiers from `id` up to 2047, and one hole. The first identifier that is left.
 fn filled(zones: &mut [u8; 4096], z: u32, id: u32) -> u32
-    requires zone { z ≤ 15 }
-    requires id { id ≤ 2048 }
-    ensures { result ≤ 2048 }
+    requires { z ≤ 15 }
 {
     let start = 2048 * z;
     let mut at = if z == 0 { 512 } else { 32 };
