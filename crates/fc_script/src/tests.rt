@@ -187,8 +187,22 @@ fn writes_lines(rt: HostRuntime) -> Result<(), Fail> {
     free_text(815_104, 0, &mut text)?;
     free_text(1_624_064, 421_888, &mut text)?;
     check_text(&[1, 9, 0, 2, 796_672, 3, u64::MAX], &mut text)?;
-    entry_text(&Name::new(alloc, b"Ab")?, 3, 0xffff_ff00, 0, Some(1), &mut text)?;
-    entry_text(&Name::new(alloc, b"A B")?, 0x1_9abc, 0, 0x1234, None, &mut text)?;
+    entry_text(
+        &Name::new(alloc, b"Ab")?,
+        3,
+        0xffff_ff00,
+        0,
+        Some(1),
+        &mut text,
+    )?;
+    entry_text(
+        &Name::new(alloc, b"A B")?,
+        0x1_9abc,
+        0,
+        0x1234,
+        None,
+        &mut text,
+    )?;
     let want = "error 1 BadCommand\nerror 14 DiscFull\nerror 21 NotNewMap\nerror 17 Spread\n\
         free 815104 0\nfree 1624064 421888\n\
         files 1 dirs 9 lost 0 holes 2 free 796672 unsorted 3 parents 18446744073709551615\n\

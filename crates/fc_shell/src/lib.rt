@@ -59,7 +59,7 @@ fn run_script<D: Disk, K: Sink>(
     ensures settled { is_over_image result ≡ true → IsFalse (D.pending disk.new) }
     ensures no_memory { let r = request_in asked.now in result ≡ End.NoMemory
         → (disk.new ≡ disk.old) ⊎ ((D.asked disk.new ≡ D.asked disk.old ++ (r.image, blank_size r) ∷ [])
-            × (D.bytes disk.new ≡ option_map (image_for asked.now.new) (D.bytes disk.old)) × IsFalse (D.pending disk.new)) }
+        × (D.bytes disk.new ≡ option_map (image_for asked.now.new) (D.bytes disk.old)) × IsFalse (D.pending disk.new)) }
     ensures asks { let r = request_in asked.now in AsksFor (r.image, blank_size r) result (D.asked disk.old) (D.asked disk.new) }
     ensures ended { (is_late result ≡ true) ⊎ ((result ≡ End.NoImage) ⊎ (result ≡ End.NotBuilt)) }
 {
@@ -98,7 +98,7 @@ fn run_request<D: Disk, S: Source, K: Sink>(
     ensures settled { is_over_image result ≡ true → IsFalse (D.pending disk.new) }
     ensures no_memory { let r = request_in asked.now in result ≡ End.NoMemory
         → (disk.new ≡ disk.old) ⊎ ((D.asked disk.new ≡ D.asked disk.old ++ (r.image, blank_size r) ∷ [])
-            × (D.bytes disk.new ≡ option_map (image_for asked.now.new) (D.bytes disk.old)) × IsFalse (D.pending disk.new)) }
+        × (D.bytes disk.new ≡ option_map (image_for asked.now.new) (D.bytes disk.old)) × IsFalse (D.pending disk.new)) }
     ensures asks { let r = request_in asked.now in AsksFor (r.image, blank_size r) result (D.asked disk.old) (D.asked disk.new) }
     ensures script_end { is_early result ≡ false → ForSome (S.left script.new) (λ rest. rest ≡ []) }
     ensures good_words { result ≢ End.BadWords }
@@ -173,7 +173,7 @@ pub fn run<D: Disk, S: Source, K: Sink>(
     ensures settled { is_over_image result ≡ true → IsFalse (D.pending disk.new) }
     ensures no_memory { (r : Request) → request_of (map string_bytes words.now.items) ≡ Some r → result ≡ End.NoMemory
         → (disk.new ≡ disk.old) ⊎ ((D.asked disk.new ≡ D.asked disk.old ++ (r.image, blank_size r) ∷ [])
-            × (D.bytes disk.new ≡ option_map (image_for r.new) (D.bytes disk.old)) × IsFalse (D.pending disk.new)) }
+        × (D.bytes disk.new ≡ option_map (image_for r.new) (D.bytes disk.old)) × IsFalse (D.pending disk.new)) }
     ensures script_end { is_early result ≡ false → ForSome (S.left script.new) (λ rest. rest ≡ []) }
 {
     match read_words(alloc, words) {

@@ -20,9 +20,7 @@ pub fn is_child(slots: &[Option<Node>], n: u64, dir: u64, name: &[u8]) -> bool
 {
     match node_at(slots, n) {
         Some(node) => {
-            node.holder == dir
-                && n != 0
-                && fold_cmp_bytes(name, node.entry.name.bytes()).is_eq()
+            node.holder == dir && n != 0 && fold_cmp_bytes(name, node.entry.name.bytes()).is_eq()
         }
         None => false,
     }

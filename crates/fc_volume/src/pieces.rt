@@ -94,7 +94,10 @@ impl Volume {
         }
         self.places.places_suffice();
         let node = self.tree.node(f.node).unwrap();
-        let sector = self.places.space().sector_of(node.entry.address, f.len, at / size);
+        let sector = self
+            .places
+            .space()
+            .sector_of(node.entry.address, f.len, at / size);
         let from = (at % size) as usize;
         read_part(disk, sector, size as usize, from, &mut into[..count])?;
         Ok(count)
