@@ -101,9 +101,9 @@ class Place:
                    for at, name, how in streams]
         child = os.posix_spawn(self.program, ["fcore", *words], self.environment(faults), file_actions=actions,
                                setsigdef=[signal.SIGPIPE, signal.SIGXFSZ])
-        status = os.waitstatus_to_exitcode(os.waitpid(child, 0)[1])
+        status = os.waitpid(child, 0)[1]
         os.chdir(here)
-        return self.ended(status)
+        return self.ended(-os.WTERMSIG(status) if os.WIFSIGNALED(status) else os.WEXITSTATUS(status))
 
     def left(self):
         """What is left of fresh.adf: absent, whole or part. A file that isn't what it has to be is named instead."""

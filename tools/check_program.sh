@@ -1,7 +1,8 @@
 #!/usr/bin/env bash
 # Runs the built program over the images of tools/images.py, and compares output and status with that table; then the examples
-# of README.md. No image may be changed. Then fcdisc over the program, what `make install` puts there, and the man pages. The page
-# of the format is tried first: the reader that was written from it has to say the same as the other reader.
+# of README.md. No image may be changed. Then the program where the system fails it, fcdisc over the program, what `make install`
+# puts there, and the man pages. The page of the format is tried first: the reader that was written from it has to say the same as
+# the other reader.
 #
 # usage: tools/check_program.sh PROGRAM
 set -u
@@ -77,8 +78,9 @@ outside_fails() {
   expect 'the folder of a fresh image is absent' 4 $?
   "$program" $'h\xffllo.adf' < run/script > run/answer
   expect 'the name is not text' 2 $?
-  # Whatever the answer, the image must not be taken for the standard output: the sums show it.
+  # The image must not be taken for the standard output: the sums show it.
   "$program" hello.adf < run/script >&-
+  expect 'standard output is closed' 6 $?
 }
 
 expect() {
@@ -117,6 +119,7 @@ FCORE=$program bin/fcdisc adl --back l-files.adf sides.adl
 cat <(head -c 512 /dev/zero) f-user.adf > header.adf
 examples=$(PATH="$folder/bin:$PATH" python3 "$tools/readme_examples.py" "$tools/../README.md") || failed=$((failed + 1))
 printf '%s\n' "$examples"
+python3 "$tools/check_outside.py" "$program" || failed=$((failed + 1))
 python3 "$tools/check_fcdisc.py" "$tools/../scripts/fcdisc" "$program" || failed=$((failed + 1))
 install_is_right
 expect 'make install and make uninstall' 0 $?
