@@ -23,8 +23,8 @@ returns-in_err-claim_root-clause-err g c =
     let layout = layout_of c.args.places.now in
     let reserved = not_free layout (sectors_in c.args.reserved.now) in
     rw (p.1, p.2) (λ image told. root_fails (reader_of image layout) layout reserved c.args.root c.args.root_size c.in_err-claim_root.field-0.0
-    (subst (λ n. FailsAs (object_of layout reserved [] (root_entry c.args.root n)) c.in_err-claim_root.field-0.0) (ap (λ f. directory_size f c.args.root_size) c.dir_form.ensures)
-    (subst (λ e. FailsAs (object_of layout reserved [] e) c.in_err-claim_root.field-0.0) (ap (λ n. n.entry) c.in-Ok-root_node.ensures) (rw same at (c.in_err-claim_root.ensures.err reserved c.in-Ok.ensures.taken)))))
+    (subst (λ n. FailsAs (object_of layout reserved [] (root_entry c.args.root n)) c.in_err-claim_root.field-0.0) (ap (λ f. directory_size f c.args.root_size) (rw same at c.dir_form.ensures))
+    (subst (λ e. FailsAs (object_of layout reserved [] e) c.in_err-claim_root.field-0.0) (ap (λ n. n.entry) c.in-Ok-root_node.ensures) (c.in_err-claim_root.ensures.err reserved (rw same at c.in-Ok.ensures.taken)))))
 
 pub loop-at-init : goal.loop-at-init
 loop-at-init g c =
@@ -32,14 +32,14 @@ loop-at-init g c =
     let layout = layout_of c.args.places.now in
     let reserved = not_free layout (sectors_in c.args.reserved.now) in
     let node : c.in-Ok-root_node.node ≡ record { holder = 0; entry = root_entry c.args.root (directory_size (dir_form layout) c.args.root_size); body = bodies.File } =
-    c.in-Ok-root_node.ensures ∙ ap (λ f. let n : Node = record { holder = 0; entry = root_entry c.args.root (directory_size f c.args.root_size); body = bodies.File } in n) c.dir_form.ensures in
+    c.in-Ok-root_node.ensures ∙ ap (λ f. let n : Node = record { holder = 0; entry = root_entry c.args.root (directory_size f c.args.root_size); body = bodies.File } in n) (rw same at c.dir_form.ensures) in
     let nodes : c.push_node.new.nodes.items ≡ c.in-Ok-root_node.node ∷ [] = c.in_ok-push_node.ensures.ok ∙ ap (λ (ns : List Node). ns ++ c.in-Ok-root_node.node ∷ []) c.new-nodes.ensures.items in
     record {
       reads = reads_start (laws g.met.D.Disk) c.args.disk.now;
-      sectors = c.claim_root.ensures.sectors ∙ c.in-Ok.ensures.sectors;
+      sectors = c.claim_root.ensures.sectors ∙ (rw same at c.in-Ok.ensures.sectors);
       walking = walk_starts layout reserved c.args.root c.args.root_size (g.D.Disk.bytes c.args.disk.now) c.push_node.new.nodes.items c.in-Ok-root_node.node (c.disc_sectors-left.result + 1) c.claim_root.new.taken nodes node
-          (ap (λ n. n + 1) c.disc_sectors-left.ensures.value)
-          (rw (same, ap (λ n. n.entry) node) at (c.in_ok-claim_root.ensures.ok reserved c.in-Ok.ensures.taken));
+          (ap (λ n. n + 1) (rw same at c.disc_sectors-left.ensures.value))
+          (rw (ap (λ n. n.entry) node) at (c.in_ok-claim_root.ensures.ok reserved (rw same at c.in-Ok.ensures.taken)));
     }
 
 pub overlap_at-requires : goal.overlap_at-requires
@@ -63,8 +63,8 @@ returns-then-left-eq0-clause-cause g c = λ e.
 pub visit-requires-clause-there : goal.visit-requires-clause-there
 visit-requires-clause-there g c =
     let same : c.space-space.result.now ≡ c.args.places.now = c.space-space.ensures in
-    rw (← same) at (there_is (layout_of c.args.places.now) _ _ _ _ c.loop-at.nodes.items c.deref.result.now c.loop-at.from c.in-Some.at c.loop-at.left c.loop-at.taken c.loop-at.invariant.walking
-    c.deref.ensures.value c.in-Some.ensures.some c.in-Some.ensures.first)
+    there_is (layout_of c.args.places.now) _ _ _ _ c.loop-at.nodes.items c.deref.result.now c.loop-at.from c.in-Some.at c.loop-at.left c.loop-at.taken c.loop-at.invariant.walking
+    c.deref.ensures.value c.in-Some.ensures.some c.in-Some.ensures.first
 
 pub returns-in_err-visit-clause-err : goal.returns-in_err-visit-clause-err
 returns-in_err-visit-clause-err g c =
@@ -73,7 +73,7 @@ returns-in_err-visit-clause-err g c =
     rw (p.1, p.2)
     (on_failed (layout_of c.args.places.now) _ _ _ (g.D.Disk.bytes c.args.disk.now) c.loop-at.nodes.items c.deref.result.now c.loop-at.from c.in-Some.at c.loop-at.left c.loop-at.taken c.loop-at.invariant.walking c.deref.ensures.value
     c.in-Some.ensures.some c.in-Some.ensures.first (c.loop-at.left - 1) c.in_err-visit.field-0.0 (omega (arith, c.if-left-eq0.false))
-    (λ o before stands taken. λ image told. (rw same at c.in_err-visit.ensures.err) o before stands taken image (c.loop-at.invariant.reads.bytes ∙ told)))
+    (λ o before stands taken. λ image told. c.in_err-visit.ensures.err o before stands taken image (c.loop-at.invariant.reads.bytes ∙ told)))
 
 pub returns-in_err-visit-clause-reads : goal.returns-in_err-visit-clause-reads
 returns-in_err-visit-clause-reads g c = reads_then (laws g.met.D.Disk) c.loop-at.invariant.reads c.visit.ensures.reads
@@ -88,7 +88,7 @@ loop-at-preserved g c =
       walking = on_visited layout _ _ _ (g.D.Disk.bytes c.args.disk.now) c.loop-at.nodes.items c.deref.result.now c.loop-at.from c.in-Some.at c.loop-at.left c.loop-at.taken c.loop-at.invariant.walking c.deref.ensures.value
           c.in-Some.ensures.some c.in-Some.ensures.first c.visit.new.nodes.items c.visit.new.taken (c.loop-at.left - 1) (c.in-Some.at + 1) (omega (arith, c.if-left-eq0.false)) refl
           (λ o before stands taken. subst (λ told. IsVisited layout told c.loop-at.nodes.items c.visit.new.nodes.items c.in-Some.at o before c.visit.new.taken) c.loop-at.invariant.reads.bytes
-          ((rw same at c.in_ok-visit.ensures.ok) o before stands taken));
+          (c.in_ok-visit.ensures.ok o before stands taken));
     }
 
 pub returns-clause-ok : goal.returns-clause-ok
