@@ -96,8 +96,8 @@ zones_order m is (suc (suc n)) z fits =
 pub map_holes-free : (m : Map) → IsNewMap m → AreFreeRuns m.geometry (hole_runs m)
 map_holes-free m is = record {
   each = recursion_from_All (IsFreeRun m.geometry) (hole_runs m) (λ k d in'.
-    let h = holes_placed m is k d in' in
-    record { long = h.long; low = end_low m.geometry (get_or (hole_runs m) k d) is.of_record h.in_zone });
+      let h = holes_placed m is k d in' in
+      record { long = h.long; low = end_low m.geometry (get_or (hole_runs m) k d) is.of_record h.in_zone });
   order = order-filter (λ p. is_hole p.1.kind) (all_runs m) (zones_order m is m.geometry.zones 0 (omega arith));
 }
 
@@ -147,7 +147,7 @@ none_after : (place p : ZoneRun) (rest : List ZoneRun) → 0 < p.1.len → stand
 none_after place p [] some here a = refl
 none_after place p (q ∷ rest) some here a =
     count_other place q rest (elsewhere place q (λ there.
-      (let h = same_place place p here in let k = same_place place q there in not_both p q (and_from (p.0 == q.0) (p.1.start == q.1.start) (eq-eqb p.0 q.0 (sym h.0 ∙ k.0)) (eq-eqb p.1.start q.1.start (sym h.1 ∙ k.1))) (ends_then_begins p q some a.0))))
+    (let h = same_place place p here in let k = same_place place q there in not_both p q (and_from (p.0 == q.0) (p.1.start == q.1.start) (eq-eqb p.0 q.0 (sym h.0 ∙ k.0)) (eq-eqb p.1.start q.1.start (sym h.1 ∙ k.1))) (ends_then_begins p q some a.0))))
     ∙ none_after place p rest some here a.1
 
 pub order-apart : (xs : List ZoneRun) → AllByRecursion (λ (p : ZoneRun). 0 < p.1.len) xs → AreInOrder xs → AreApart xs
@@ -202,11 +202,11 @@ rising_by_place xs sorted apart low i j d lt in' =
         | inr (inr more) ↦ absurd (omega arith)
         | inl alike ↦
             absurd (
-              let here : stands_at p p ≡ true = and_from (p.0 == p.0) (p.1.start == p.1.start) (eq-eqb p.0 p.0 refl) (eq-eqb p.1.start p.1.start refl) in
-              let there : stands_at p q ≡ true = and_from (p.0 == q.0) (p.1.start == q.1.start) (eq-eqb p.0 q.0 same) (eq-eqb p.1.start q.1.start alike) in
-              let two = two_at p xs i j d lt in' here there in
-              let one = apart p in
-              omega arith)
+            let here : stands_at p p ≡ true = and_from (p.0 == p.0) (p.1.start == p.1.start) (eq-eqb p.0 p.0 refl) (eq-eqb p.1.start p.1.start refl) in
+            let there : stands_at p q ≡ true = and_from (p.0 == q.0) (p.1.start == q.1.start) (eq-eqb p.0 q.0 same) (eq-eqb p.1.start q.1.start alike) in
+            let two = two_at p xs i j d lt in' here there in
+            let one = apart p in
+            omega arith)
       ]
     ]
 
@@ -352,8 +352,8 @@ left-free g (h ∷ holes) (p ∷ ps) fronts long free order =
         let front : IsFront g h p = fronts.0.0 e in (
           both_all (IsFreeRun g) (left_behind h (Some p)) (left_of_both holes ps) (rest_free g h p free.0 long.0 front) rest.0,
           cond_both (p.1.len == h.1.len) [] (rest_of h p ∷ []) (λ (xs : List ZoneRun). AreInOrder (xs ++ left_of_both holes ps))
-          (λ same. rest.1)
-          (λ other. (before_left (rest_of h p) holes ps (rest_before h p holes front.within order.0), rest.1)),
+              (λ same. rest.1)
+              (λ other. (before_left (rest_of h p) holes ps (rest_before h p holes front.within order.0), rest.1)),
         )
 
 -- ---- one step of the walk

@@ -54,10 +54,10 @@ pub plan_of : (g : Geometry) (holes : List ZoneRun) (bits : ℕ) (parts ordered 
     → IsPermutation parts ordered → IsNonDecreasingBy place_number ordered → IsPlan g holes bits ordered
 plan_of g holes bits parts ordered some free choice moved sorted =
     let apart : AreApart ordered = λ place. (
-      let count : count_at place ordered ≡ count_at place parts = sum_by-IsPermutation (λ (q : ZoneRun). cond (stands_at place q) 1 0) parts ordered moved in
-      let once = choice.cut.once place in
-      let one = free_apart g holes some free place in
-      omega arith) in
+    let count : count_at place ordered ≡ count_at place parts = sum_by-IsPermutation (λ (q : ZoneRun). cond (stands_at place q) 1 0) parts ordered moved in
+    let once = choice.cut.once place in
+    let one = free_apart g holes some free place in
+    omega arith) in
     let fronts : All (IsFrontOfOne g holes) ordered = All-permutation (IsFrontOfOne g holes) parts ordered moved choice.cut.fronts in
     record {
       taken = taken_moved g holes bits parts ordered moved choice.taken;

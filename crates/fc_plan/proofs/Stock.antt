@@ -69,12 +69,12 @@ pub surveyed : (passed : List ZoneRun) (run : ZoneRun) (holes : List ZoneRun) (u
 surveyed passed run holes used holes' used' survey eh eu = record {
   free = eh ∙ ap (λ (hs : List ZoneRun). hs ++ filter (λ p. is_hole p.1.kind) (run ∷ [])) survey.free ∙ sym (filter-append (λ p. is_hole p.1.kind) passed (run ∷ []));
   marks = λ id in'. (
-    let same : length used' ≡ length used = ap length eu ∙ length-marked used run.1.kind in
-    let low : id < length used = omega arith in
-    ap (λ (us : List Bool). get_or us id true) eu
-    ∙ mark_at used run.1.kind id low
-    ∙ ap (λ (b : Bool). has_id id run.1.kind || b) (survey.marks id low)
-    ∙ sym (any_more (λ p. has_id id p.1.kind) passed run));
+      let same : length used' ≡ length used = ap length eu ∙ length-marked used run.1.kind in
+      let low : id < length used = omega arith in
+      ap (λ (us : List Bool). get_or us id true) eu
+      ∙ mark_at used run.1.kind id low
+      ∙ ap (λ (b : Bool). has_id id run.1.kind || b) (survey.marks id low)
+      ∙ sym (any_more (λ p. has_id id p.1.kind) passed run));
 }
 
 pub surveyed-length : (used used' : List Bool) (kind : RunKind) (limit : ℕ) → used' ≡ marked used kind → length used ≡ limit → length used' ≡ limit
@@ -97,8 +97,8 @@ pub nothing_surveyed : (n : ℕ) (holes : List ZoneRun) (used : List Bool) → h
 nothing_surveyed n holes used eh eu = record {
   free = eh;
   marks = λ id in'. (
-    let same : length used ≡ n = ap length eu ∙ length-replicate n false in
-    ap (λ (us : List Bool). get_or us id true) eu ∙ get_or-replicate n id false true (omega arith));
+      let same : length used ≡ n = ap length eu ∙ length-replicate n false in
+      ap (λ (us : List Bool). get_or us id true) eu ∙ get_or-replicate n id false true (omega arith));
 }
 
 pub nothing_surveyed-length : (n : ℕ) (used : List Bool) → used ≡ replicate n false → length used ≡ n

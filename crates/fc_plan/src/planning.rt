@@ -121,10 +121,7 @@ fn rising_parts(holes: Vec<(u16, Run)>, bits: u64, g: &Geometry) -> Option<Vec<(
 pub fn found_at(hole: (u16, Run), taken: &[(u16, Run)]) -> Option<(u16, Run)>
     ensures { result ≡ find (stands_at hole) taken.now }
 {
-    taken
-        .iter()
-        .copied()
-        .find(|part| stands_at(hole, *part))
+    taken.iter().copied().find(|part| stands_at(hole, *part))
 }
 
 // What a part of a hole leaves of it.

@@ -30,7 +30,11 @@ fn with_holes(alloc: Global, lens: &[u32]) -> Option<NewMap> {
     let mut at = 544u32;
     put_bits(&mut zone, 8, 16, 32768 + 536);
     for (i, len) in lens.iter().enumerate() {
-        let next = if i + 1 < lens.len() { len.saturating_add(16) } else { 0 };
+        let next = if i + 1 < lens.len() {
+            len.saturating_add(16)
+        } else {
+            0
+        };
         put_run(&mut zone, at, *len, 15, next);
         at = at.saturating_add(*len);
         put_run(&mut zone, at, 16, 15, 4);
@@ -65,10 +69,9 @@ fn fresh_e() -> [u8; 1024] {
 // The places of parts.
 fn are_parts(parts: &[(u16, Run)], want: &[(u32, u32)]) -> bool {
     parts.len() == want.len()
-        && parts
-            .iter()
-            .zip(want)
-            .all(|(part, w)| part.0 == 0 && part.1.start == w.0 && part.1.len == w.1)
+        && parts.iter().zip(want).all(|(part, w)| part.0 == 0
+            && part.1.start == w.0
+            && part.1.len == w.1)
 }
 
 // Whether an object of so many bytes gets these parts on a map of these holes.
