@@ -99,15 +99,16 @@ fn volume_of<D: Disk>(
     let Ok(places) = Places::new(alloc, found.space) else {
         return Err(MountError::NoMemory);
     };
-    let rows = reserved_rows(kind, places.space());
+    let space = places.space();
+    let rows = reserved_rows(kind, space);
     let tree = match load(alloc, disk, &places, found.root, found.root_size, &rows) {
         Ok(tree) => tree,
         Err(error) => return Err(mount_error(error)),
     };
-    let Ok(owners) = owners_of(alloc, &tree, places.space()) else {
+    let Ok(owners) = owners_of(alloc, &tree, space) else {
         return Err(MountError::NoMemory);
     };
-    match misplaced_sector(kind, places.space(), &owners) {
+    match misplaced_sector(kind, space, &owners) {
         None => Ok(Volume {
             places,
             tree,
