@@ -145,14 +145,14 @@ fn nodes_move(rt: HostRuntime) -> Result<(), Fail> {
 fn numbers_are_given_again(rt: HostRuntime) -> Result<(), Fail> {
     let alloc = rt.alloc();
     let mut tree = small_tree(alloc)?.ok_or("no tree")?;
-    let first = node(1, b"One", 3).ok_or("node")?;
+    let first = node(alloc, 1, b"One", 3).ok_or("node")?;
     assert!(rt; add(&mut tree, first) == Some(5) && tree.bound() == 6);
 
     assert!(rt; take(&mut tree, 2).is_some());
     let data = take(&mut tree, 4).ok_or("4")?;
     assert!(rt; put(&mut tree, 4, data));
-    let second = node(1, b"Two", 3).ok_or("node")?;
-    let third = node(1, b"Three", 3).ok_or("node")?;
+    let second = node(alloc, 1, b"Two", 3).ok_or("node")?;
+    let third = node(alloc, 1, b"Three", 3).ok_or("node")?;
     assert!(rt; add(&mut tree, second) == Some(2));
     assert!(rt; add(&mut tree, third) == Some(6) && tree.bound() == 7);
     for (text, want) in [
@@ -171,7 +171,7 @@ fn numbers_are_given_again(rt: HostRuntime) -> Result<(), Fail> {
 fn the_least_twin_is_found(rt: HostRuntime) -> Result<(), Fail> {
     let alloc = rt.alloc();
     let mut tree = small_tree(alloc)?.ok_or("no tree")?;
-    let twin = node(0, b"README", 3).ok_or("node")?;
+    let twin = node(alloc, 0, b"README", 3).ok_or("node")?;
     assert!(rt; add(&mut tree, twin) == Some(5));
     assert!(rt; found(alloc, &tree, "$.readme") == Some(Found::Node(2)));
     assert!(rt; take(&mut tree, 2).is_some());
@@ -183,12 +183,12 @@ fn the_least_twin_is_found(rt: HostRuntime) -> Result<(), Fail> {
 fn many_names_in_no_order(rt: HostRuntime) -> Result<(), Fail> {
     let alloc = rt.alloc();
     let mut nodes = Vec::new(alloc);
-    push(&mut nodes, node(0, b"$", 8).ok_or("root")?)?;
+    push(&mut nodes, node(alloc, 0, b"$", 8).ok_or("root")?)?;
     // The names fall, in each half by steps of two.
     for i in 0..200u8 {
         let k = 199 - i;
         let text = [b'A' + k % 2, b'a' + k / 20, b'a' + k % 20];
-        push(&mut nodes, node(0, &text, 3).ok_or("node")?)?;
+        push(&mut nodes, node(alloc, 0, &text, 3).ok_or("node")?)?;
     }
     let tree = Tree::from_nodes(alloc, nodes)?;
     for i in 0..200u8 {
