@@ -167,17 +167,14 @@ fn is_small(body: &Body) -> bool {
 
 // Whether a path has these names.
 fn is_path(path: &Path, names: &[&'static [u8]]) -> bool {
-    let mut left = names;
+    let mut at = 0;
     for name in path.names() {
-        let Some((want, others)) = left.split_first() else {
-            return false;
-        };
-        if name != *want {
+        if at >= names.len() || name != names[at] {
             return false;
         }
-        left = others;
+        at += 1;
     }
-    left.is_empty()
+    at == names.len()
 }
 
 // What the walk tells of a fault, in words, where it has this path.
