@@ -6,6 +6,8 @@
 #
 # usage: tools/check_program.sh PROGRAM
 set -u
+# a closed standard input would lend its number to the first file that is opened
+exec < /dev/null
 program=$(realpath "$1")
 tools=$(realpath "$(dirname "$0")")
 folder=$(mktemp -d)

@@ -118,6 +118,13 @@ fn old_space(parts: &[Part]) -> Option<Space> {
     Some(Space::OldMapped(OldMap::read(&bytes, 4).ok()?))
 }
 
+// Whether a disc has so many sectors of 1024 bytes, and directories of 2048 bytes.
+fn is_disc(space: &Space, sectors: u64) -> bool {
+    space.disc_sectors() == sectors
+        && space.sector_bytes() == 1024
+        && space.dir_form() == NameForm::Ten
+}
+
 // Whether these are the extents.
 fn are_extents(place: &[Extent], want: &[(u64, u64)]) -> bool {
     place.len() == want.len()
@@ -128,10 +135,10 @@ fn are_extents(place: &[Extent], want: &[(u64, u64)]) -> bool {
 }
 
 // Whether a row's place is found, by the map and by its index.
-fn is_right(alloc: Global, space: &Space, places: &Places<'_>, row: &Row) -> bool {
+fn is_right(alloc: Global, places: &Places, row: &Row) -> bool {
     let (address, bytes, want) = *row;
     match (
-        space.place_of(alloc, address, bytes),
+        places.space().place_of(alloc, address, bytes),
         places.place_of(alloc, address, bytes),
     ) {
         (Ok(walked), Ok(found)) => are_extents(&walked, want) && are_extents(&found, want),
@@ -140,9 +147,9 @@ fn is_right(alloc: Global, space: &Space, places: &Places<'_>, row: &Row) -> boo
 }
 
 // Whether bytes at an address have no place.
-fn is_outside(alloc: Global, space: &Space, places: &Places<'_>, address: u32, bytes: u64) -> bool {
+fn is_outside(alloc: Global, places: &Places, address: u32, bytes: u64) -> bool {
     matches!(
-        space.place_of(alloc, address, bytes),
+        places.space().place_of(alloc, address, bytes),
         Err(PlaceError::Outside)
     ) && matches!(
         places.place_of(alloc, address, bytes),
@@ -153,7 +160,7 @@ fn is_outside(alloc: Global, space: &Space, places: &Places<'_>, address: u32, b
 // The number of the first row that isn't right, and of the first place that isn't outside.
 fn wrong_rows(
     alloc: Global,
-    space: &Space,
+    space: Space,
     rows: &[Row],
     outside: &[(u32, u64)],
 ) -> (Option<usize>, Option<usize>) {
@@ -161,11 +168,8 @@ fn wrong_rows(
         return (Some(0), Some(0));
     };
     (
-        rows.iter()
-            .position(|row| !is_right(alloc, space, &places, row)),
-        outside.iter().position(|(address, bytes)| !is_outside(
-            alloc, space, &places, *address, *bytes,
-        )),
+        rows.iter().position(|row| !is_right(alloc, &places, row)),
+        outside.iter().position(|(address, bytes)| !is_outside(alloc, &places, *address, *bytes)),
     )
 }
 
@@ -214,21 +218,20 @@ fn finds_places(rt: HostRuntime) -> Result<(), Fail> {
     let Some(e) = new_space(alloc, FRESH_E, 1) else {
         return Err("an E".into());
     };
-    assert_eq!(rt; wrong_rows(alloc, &e, ROWS_E, OUTSIDE_E), (None, None));
+    assert!(rt; is_disc(&e, 800));
+    assert_eq!(rt; wrong_rows(alloc, e, ROWS_E, OUTSIDE_E), (None, None));
     let Some(f) = new_space(alloc, FRESH_F, 4) else {
         return Err("an F".into());
     };
+    assert!(rt; is_disc(&f, 1600));
     assert_eq!(rt;
-        wrong_rows(alloc, &f, ROWS_F, &[(0x200, 14337), (0x20f, 1)]),
+        wrong_rows(alloc, f, ROWS_F, &[(0x200, 14337), (0x20f, 1)]),
         (None, None)
     );
     let Some(d) = old_space(FRESH_D) else {
         return Err("a D".into());
     };
-    assert_eq!(rt; wrong_rows(alloc, &d, ROWS_D, OUTSIDE_D), (None, None));
-    for (space, sectors) in [(&e, 800), (&f, 1600), (&d, 800)] {
-        assert!(rt; space.disc_sectors() == sectors && space.sector_bytes() == 1024);
-        assert!(rt; space.dir_form() == NameForm::Ten);
-    }
+    assert!(rt; is_disc(&d, 800));
+    assert_eq!(rt; wrong_rows(alloc, d, ROWS_D, OUTSIDE_D), (None, None));
     Ok(())
 }
