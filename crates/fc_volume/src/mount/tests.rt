@@ -194,11 +194,11 @@ fn images_are_mounted_or_told_of(rt: HostRuntime) -> Result<(), Fail> {
 #[test]
 fn a_read_that_fails_is_a_disk_fault(rt: HostRuntime) -> Result<(), Fail> {
     let alloc = rt.alloc();
-    // Two reads for a boot block, four for the map's first place, one of copy 1, one of the whole map, two of the root.
-    for call in 1..12 {
+    // Two reads for a boot block, four for the map's first place, one of the map, two of the root.
+    for call in 1..11 {
         let mut failing = never(alloc);
         failing.reads.push(call)?;
-        let want = if call < 11 { "DiskFault" } else { "mounted" };
+        let want = if call < 10 { "DiskFault" } else { "mounted" };
         let row: &Row = &(E, &[], 819_200, (want, 0, 0));
         let told = mounted(alloc, row, failing)?;
         assert!(rt; told == row.3, "call {call}");
