@@ -9,7 +9,7 @@ use Rattle.fc_checks.specs.Checks.{is_big_size}
 use Rattle.fc_smalldir.proofs.NameLemmas.{length-padded}
 use Rattle.fc_dirs.specs.Entries.{padded_name}
 use Rattle.fc_dirs.specs.Big.{BigDir, IsBig, head_space, head_space_of, bytes_taken}
-use Rattle.fc_bigdir.specs.Written.{head_word, tail_word, head_bytes, entries_bytes, parts_bytes, parts_end, tail_bytes, laid}
+use Rattle.fc_dirs.specs.BigBytes.{head_word, tail_word, head_bytes, entries_bytes, parts_bytes, parts_end, tail_bytes, laid}
 use Rattle.fc_bigdir.proofs.WrittenEntries.{behind, word_first, places_as_many, length-entries}
 
 -- ---- sizes

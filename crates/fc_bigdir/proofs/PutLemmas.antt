@@ -4,7 +4,7 @@ use Rattle.std.specs.List.{AllByRecursion}
 use Rattle.std.proofs.lemmas.List.{take_at, set_at, take-append-drop, take-replicate, length-replicate}
 use Rattle.fc_dirs.specs.declared.Entry.{Entry}
 use Rattle.fc_dirs.specs.Entries.{padded_name}
-use Rattle.fc_bigdir.specs.Written.{entry_bytes, entries_bytes}
+use Rattle.fc_dirs.specs.BigBytes.{entry_bytes, entries_bytes}
 
 -- a name with 13 and zeros behind it, where there is room
 padded_room : (n k m : ℕ) (name : List ℕ) → n ≡ length name + suc k → k ≤ m → take n (name ++ 13 ∷ replicate m 0) ≡ name ++ 13 ∷ replicate k 0

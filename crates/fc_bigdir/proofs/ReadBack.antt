@@ -7,9 +7,9 @@ use Rattle.fc_bytes.specs.Words.{bytes_at, u32_at}
 use Rattle.fc_checks.specs.Checks.{is_big_size, big_dir_check}
 use Rattle.fc_dirs.specs.declared.Entry.{Entry}
 use Rattle.fc_dirs.specs.Entries.{first_twin}
-use Rattle.fc_dirs.specs.Big.{BigDir, IsBig, IsWrittenBig, head_space, head_space_of, bytes_taken, name_len, entry_count, heap_len, entries_start, heap_start, heap_end, does_fit, is_check_right, has_second_form, heap_of, entry_bytes, big_entry, big_entries, name_place, is_entry_right, first_bad_entry, is_magic_right, is_sequence_right, is_size_right, frame_fault, big_fault, big_dir}
+use Rattle.fc_dirs.specs.Big.{BigDir, IsBig, IsBigDir, head_space, head_space_of, bytes_taken, name_len, entry_count, heap_len, entries_start, heap_start, heap_end, does_fit, is_check_right, has_second_form, heap_of, entry_bytes, big_entry, big_entries, name_place, is_entry_right, first_bad_entry, is_magic_right, is_sequence_right, is_size_right, frame_fault, big_fault, big_dir}
 use Rattle.fc_bigdir.specs.Laws.{ReadsBack, HasWidths}
-use Rattle.fc_bigdir.specs.Written.{laid, free_bytes, checked_bytes, parts_bytes, parts_end, big_bytes, tail_word}
+use Rattle.fc_dirs.specs.BigBytes.{laid, free_bytes, checked_bytes, parts_bytes, parts_end, big_bytes, tail_word}
 use Rattle.fc_bigdir.proofs.WrittenEntries.{SaysEntries, says_entries}
 use Rattle.fc_bigdir.proofs.LaidLemmas.{SaysLaid, says_laid, size_bounds}
 use Rattle.fc_bigdir.proofs.WrittenChecks.{second_true, sum_over, check_of_parts, end_said, own_form_right, first_form_wrong, behind_heap_set}
@@ -80,7 +80,7 @@ frame_right bytes dir free check says big right =
 
 -- laid bytes that are read by their own form
 pub laid_reads : (dir : BigDir) (free : List ℕ) (check : ℕ) → IsBig dir → HasWidths dir → length free ≡ dir.size - bytes_taken dir → check ≡ sum_over (parts_bytes dir) dir
-    → has_second_form (laid dir free check) ≡ dir.second_form → IsWrittenBig (laid dir free check) dir
+    → has_second_form (laid dir free check) ≡ dir.second_form → IsBigDir (laid dir free check) dir
 unfolding big_fault big_dir
 laid_reads dir free check big widths len is form =
     let bytes = laid dir free check in
@@ -95,21 +95,18 @@ laid_reads dir free check big widths len is form =
     ap (λ f. map (λ i. name_place (entry_bytes f bytes i)) (range_with_len 0 (entry_count bytes))) form ∙ names.places in
     let name : bytes_at bytes 28 (name_len bytes) ≡ dir.name = ap (bytes_at bytes 28) says.name_len ∙ says.name in
     record {
-      reads = record {
-        right = rw (frame, bad, twin) refl;
-        says = λ i. record {
-          size = says.size i;
-          sequence = says.sequence i;
-          parent = says.parent i;
-          name = name i;
-          second_form = form i;
-          reserved = says.reserved i;
-          heap = heap i;
-          name_places = places i;
-          entries = entries i;
-        };
+      right = rw (frame, bad, twin) refl;
+      says = λ i. record {
+        size = says.size i;
+        sequence = says.sequence i;
+        parent = says.parent i;
+        name = name i;
+        second_form = form i;
+        reserved = says.reserved i;
+        heap = heap i;
+        name_places = places i;
+        entries = entries i;
       };
-      head = says.space;
     }
 
 -- ---- the word behind the heap
@@ -173,12 +170,14 @@ read_back dir big widths =
     let sum = sum_over (parts_bytes dir) dir in
     let len : length (free_bytes dir) ≡ dir.size - bytes_taken dir = length-replicate (dir.size - bytes_taken dir) 0 in
     let check = check_of_parts dir (free_bytes dir) 0 big len in
-    chosen (dir.second_form && first) (set bytes (parts_end dir) 1) bytes (λ l. IsWrittenBig l dir)
+    let reads : IsBigDir (big_bytes dir) dir =
+    chosen (dir.second_form && first) (set bytes (parts_end dir) 1) bytes (λ l. IsBigDir l dir)
     (λ both.
     let form = left_true dir.second_form first both in
     let m = marked_bytes dir big form (second_true dir.second_form first both) in
     let wrong = first_form_wrong dir m.0 sum big widths m.2 form m.3 in
-    subst (λ l. IsWrittenBig l dir) (sym m.1) (laid_reads dir (1 ∷ 0 ∷ 0 ∷ 0 ∷ m.0) sum big widths (omega (arith, m.2)) refl (ap not wrong ∙ sym form)))
+    subst (λ l. IsBigDir l dir) (sym m.1) (laid_reads dir (1 ∷ 0 ∷ 0 ∷ 0 ∷ m.0) sum big widths (omega (arith, m.2)) refl (ap not wrong ∙ sym form)))
     (λ other.
     let c = big_dir_check (laid dir (free_bytes dir) 0) (parts_end dir) in
-    laid_reads dir (free_bytes dir) c big widths len check (form_told (λ f. is_check_right f bytes) dir.second_form (own_form_right dir (free_bytes dir) c big len check) other))
+    laid_reads dir (free_bytes dir) c big widths len check (form_told (λ f. is_check_right f bytes) dir.second_form (own_form_right dir (free_bytes dir) c big len check) other)) in
+    record { reads = reads; spelled = refl }

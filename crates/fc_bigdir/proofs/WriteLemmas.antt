@@ -3,7 +3,7 @@ use Rattle.std.proofs.Common.{◌≡◌, ℕ, ◌-◌, ◌&&◌, true, false, Li
 use Rattle.std.proofs.lemmas.List.{set_at}
 use Rattle.fc_checks.specs.Checks.{big_dir_check}
 use Rattle.fc_dirs.specs.Big.{BigDir, is_check_right}
-use Rattle.fc_bigdir.specs.Written.{parts_bytes, parts_end, tail_bytes, laid, free_bytes, checked_bytes, big_bytes}
+use Rattle.fc_dirs.specs.BigBytes.{parts_bytes, parts_end, tail_bytes, laid, free_bytes, checked_bytes, big_bytes}
 
 -- the check is set
 pub check_set : (d : BigDir) (b : List ℕ) (last check end : ℕ) → b ≡ laid d (free_bytes d) 0 → last ≡ length b - 1 → end ≡ parts_end d → check ≡ big_dir_check b end → set b last check ≡ checked_bytes d

@@ -9,7 +9,7 @@ use Rattle.fc_checks.specs.Checks.{big_dir_check, byte_xor, accumulated}
 use Rattle.fc_dirs.specs.declared.Entry.{Entry}
 use Rattle.fc_dirs.specs.Entries.{padded_name}
 use Rattle.fc_dirs.specs.Big.{BigDir, IsBig, head_space, head_space_of, bytes_taken, heap_end, does_fit, is_check_right}
-use Rattle.fc_bigdir.specs.Written.{tail_word, head_bytes, entry_bytes, entries_bytes, parts_bytes, parts_end, tail_bytes, laid}
+use Rattle.fc_dirs.specs.BigBytes.{tail_word, head_bytes, entry_bytes, entries_bytes, parts_bytes, parts_end, tail_bytes, laid}
 use Rattle.fc_bigdir.specs.Laws.{AreBytes, HasWidths}
 use Rattle.fc_bigdir.proofs.FlipLemmas.{flipped}
 use Rattle.fc_bigdir.proofs.LaidLemmas.{SaysLaid, says_laid, length-parts, parts_whole}

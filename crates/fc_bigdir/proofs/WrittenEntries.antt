@@ -9,7 +9,7 @@ use Rattle.byteorder.specs.Numbers.{little_number-reads_back, length-bytes_low_f
 use Rattle.fc_bytes.specs.Words.{bytes_at, u32_at}
 use Rattle.fc_dirs.specs.declared.Entry.{Entry}
 use Rattle.fc_dirs.specs.Big.{AllStand, StandsInHeap, FitsBig, big_entry, is_entry_right, name_place, entry_name_len}
-use Rattle.fc_bigdir.specs.Written.{entry_bytes, entries_bytes}
+use Rattle.fc_dirs.specs.BigBytes.{entry_bytes, entries_bytes}
 use Rattle.fc_bigdir.specs.Laws.{HasWords}
 
 -- one step further behind a part

@@ -2,8 +2,8 @@
 use Rattle.std.specs.Prelude.{◌<◌, ◌^◌, ℕ, List}
 use Rattle.std.specs.List.{AllByRecursion}
 use Rattle.fc_dirs.specs.declared.Entry.{Entry}
-use Rattle.fc_dirs.specs.Big.{BigDir, IsBig, IsWrittenBig}
-use Rattle.fc_bigdir.specs.Written.{big_bytes}
+use Rattle.fc_dirs.specs.Big.{BigDir, IsBig}
+use Rattle.fc_dirs.specs.BigBytes.{IsWrittenBig, big_bytes}
 
 -- The numbers of an entry have 32 bits.
 pub record HasWords (e : Entry) : Type 0 where

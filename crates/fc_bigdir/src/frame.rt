@@ -1,19 +1,11 @@
 // What stands around the entries of a directory: where its parts stand, and their faults.
 ghost use Rattle.std.specs.Prelude.{◌≡◌, ◌<◌, ◌≤◌, ◌^◌, None, Some, length, IfOk, IfErr, IsTrue};
-ghost use Rattle.fc_checks.specs.Checks.{is_big_size};
 ghost use Rattle.fc_dirs.specs.Big.{does_fit, entries_start, frame_fault, has_second_form, heap_end, is_check_right, is_magic_right, is_sequence_right, is_size_right};
 
 use crate::bytes::word_at;
 use crate::space::head_space;
-use fc_checks::big_dir_check;
+use fc_checks::{big_dir_check, is_big_size};
 use fc_dirs::DirFault;
-
-/// Whether a directory may have that size.
-pub fn is_big_size(size: usize) -> bool
-    ensures { result ≡ is_big_size size }
-{
-    (2048..=4_194_304).contains(&size) && size % 2048 == 0
-}
 
 // Whether the version bytes are 0 and both words stand.
 fn is_magic_right(b: &[u8]) -> bool

@@ -22,7 +22,6 @@ ghost use Rattle.fc_bigdir.specs.Laws.{ReadsBack};
 
 pub use big::BigDir;
 pub use fc_dirs::{DirError, DirFault, Entry, InsertError};
-pub use frame::is_big_size;
 pub use space::size_for;
 
 /// A law: what is written reads as the same head, entries and form of the head's name.

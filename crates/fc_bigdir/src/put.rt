@@ -4,7 +4,7 @@ ghost use Rattle.std.specs.List.{AllByRecursion};
 ghost use Rattle.byteorder.specs.Endian.{little_bytes};
 ghost use Rattle.fc_dirs.specs.Entries.{padded_name};
 ghost use Rattle.fc_bigdir.specs.Laws.{AreBytes, HasWords};
-ghost use Rattle.fc_bigdir.specs.Written.{entries_bytes, entry_bytes};
+ghost use Rattle.fc_dirs.specs.BigBytes.{entries_bytes, entry_bytes};
 
 use fc_dirs::Entry;
 

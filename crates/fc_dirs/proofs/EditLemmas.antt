@@ -1,6 +1,5 @@
 -- An entry that is edited by its number is edited by its name.
 use Rattle.std.proofs.Common.{◌≡◌, ◌<◌, ℕ, zero, suc, inl, inr, Bool, true, false, not, List, [], ◌∷◌, length, map, filter, get_or, remove, set, refl, sym, ap, ◌∙◌, arith, Some, None, slice_get}
-use Rattle.std.specs.List.{list_any}
 use Rattle.std.proofs.lemmas.Bool.{cases_order}
 use Rattle.std.proofs.lemmas.Option.{slice_get_within, get_or_from_slice_get}
 use Rattle.fc_names.specs.Names.{is_same_name}
@@ -8,7 +7,7 @@ use Rattle.fc_names.proofs.FoldOrder.{fold_law}
 use Rattle.fc_dirs.specs.declared.Entry.{Entry}
 use Rattle.fc_dirs.specs.Entries.{first_twin, has_name}
 use Rattle.fc_dirs.specs.Edits.{EditLaw, replaced_entry, without_name}
-use Rattle.fc_dirs.proofs.SearchLemmas.{blank, is_some-find}
+use Rattle.fc_dirs.proofs.SearchLemmas.{blank}
 use Rattle.fc_dirs.proofs.TwinLemmas.{Apart, apart_from, same_name_sym, absent_names}
 
 -- ---- lists in which one element alone passes or fails a test

@@ -12,7 +12,8 @@ use Rattle.fc_oldmap.specs.OldMap.{FreeSpace}
 use Rattle.fc_newmap.specs.Map.{Map, runs_of, zone_numbers, id_runs, hole_runs, bits_in, longest, is_used}
 use Rattle.fc_dirs.specs.declared.Entry.{Entry}
 use Rattle.fc_dirs.specs.Directory.{Directory}
-use Rattle.fc_dirs.specs.Small.{SmallDir, IsWrittenSmall, next_sequence}
+use Rattle.fc_dirs.specs.Small.{SmallDir, next_sequence}
+use Rattle.fc_dirs.specs.SmallBytes.{IsWrittenSmall}
 use Rattle.fc_image.specs.Layout.{Layout, id_of}
 use Rattle.fc_image.specs.Walk.{Object, Listing, object_bytes}
 use Rattle.fc_image.specs.Objects.{objects_of, is_movable, is_lost, has_sectors, listing_at, object_at}

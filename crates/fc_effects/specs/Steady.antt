@@ -26,8 +26,10 @@ use Rattle.fc_dirs.specs.Entries.{with_entry, has_name, padded_name}
 use Rattle.fc_names.specs.declared.name.NameForm.{NameForm}
 use Rattle.fc_names.specs.declared.name.NameForm.TheVariants as forms
 use Rattle.fc_dirs.specs.declared.SmallForm.TheVariants.{Bytes1280, Bytes2048}
-use Rattle.fc_dirs.specs.Small.{IsWrittenSmall, empty_small, next_sequence}
-use Rattle.fc_dirs.specs.Big.{BigDir, IsWrittenBig, size_for, head_space, name_space, packed_heap, form_of, empty_big}
+use Rattle.fc_dirs.specs.Small.{empty_small, next_sequence}
+use Rattle.fc_dirs.specs.SmallBytes.{IsWrittenSmall}
+use Rattle.fc_dirs.specs.BigBytes.{IsWrittenBig}
+use Rattle.fc_dirs.specs.Big.{BigDir, size_for, head_space, name_space, packed_heap, form_of, empty_big}
 use Rattle.fc_dirs.specs.Directory.{Directory, entries_of, parent_of}
 use Rattle.fc_image.specs.Layout.{Layout, dir_form, id_of, map_place, is_among, disc_sectors}
 use Rattle.fc_image.specs.Walk.{Object, Listing, is_directory_object, object_bytes}

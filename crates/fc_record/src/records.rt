@@ -5,6 +5,7 @@ ghost use Rattle.fc_record.specs.Record.{record_of, geometry, is_sector_right, i
 use crate::measures::{measured, zone_start};
 use crate::{DiscRecord, Geometry, RecordFault};
 use byteorder::{ByteOrder, LittleEndian};
+use fc_checks::is_big_size;
 
 /// The most bytes of a disc.
 const LONGEST_DISC: u64 = 1 << 40;
@@ -99,12 +100,11 @@ pub fn is_root_right(r: &DiscRecord) -> bool
     r.root / 256 >= 2 && (r.version > 0 || r.root < 1 << 24)
 }
 
-/// Whether the root's size is one that a valid record may have: where the format version isn't 0, a multiple of 2048
-/// from 2048 to 4,194,304 bytes.
+/// Whether the root's size is one that a valid record may have: where the format version isn't 0, one of a big directory.
 pub fn is_root_size_right(r: &DiscRecord) -> bool
     ensures { result ≡ is_root_size_right r.now }
 {
-    r.version == 0 || r.root_size >= 2048 && r.root_size <= 4_194_304 && r.root_size % 2048 == 0
+    r.version == 0 || is_big_size(r.root_size as usize)
 }
 
 // The first condition that a record fails.

@@ -11,7 +11,7 @@ use Rattle.fc_dirs.specs.declared.SmallForm.{SmallForm}
 use Rattle.fc_dirs.specs.declared.SmallForm.TheVariants.{Bytes1280, Bytes2048}
 use Rattle.fc_dirs.specs.Entries.{padded_name}
 use Rattle.fc_dirs.specs.Small.{FitsSmall, small_entry, name_in, entries_in, byte_limit}
-use Rattle.fc_smalldir.specs.Written.{entry_bytes, name_bytes}
+use Rattle.fc_dirs.specs.SmallBytes.{entry_bytes, name_bytes}
 use Rattle.fc_smalldir.proofs.NameLemmas.{ArePrinted, name_in-padded, length-padded, length-with_tops, low-with_tops, num-with_tops, padded_name_low}
 
 pub length-name_bytes : (form : SmallForm) (e : Entry) → length (name_bytes form e) ≡ 10

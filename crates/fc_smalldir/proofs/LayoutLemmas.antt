@@ -1,16 +1,14 @@
 -- What is written of a whole directory reads as the directory.
-use Rattle.std.proofs.Common.{◌≡◌, ◌≤◌, ◌<◌, ℕ, zero, suc, ◌+◌, ◌-◌, ◌*◌, ◌^◌, ◌/◌, ◌%◌, Bool, true, false, List, [], ◌∷◌, ◌++◌, length, take, drop, replicate, slice_index, slice_get, Some, refl, sym, ap, ap₂, ◌∙◌, arith, append_assoc, length-append}
+use Rattle.std.proofs.Common.{◌≡◌, ◌≤◌, ◌<◌, ℕ, zero, suc, ◌+◌, ◌-◌, ◌*◌, ◌^◌, ◌/◌, ◌%◌, Bool, true, false, List, [], ◌∷◌, ◌++◌, length, take, drop, replicate, slice_index, refl, sym, ap, ap₂, ◌∙◌, arith, append_assoc, length-append}
 use Rattle.std.specs.List.{flat_map}
-use Rattle.std.proofs.lemmas.List.{take_at, drop_at, drop-drop, get_or-drop, length-replicate, get_or-replicate, get_or_append_left, get_or-append_right, take-append-le, drop-append-le, length-drop}
+use Rattle.std.proofs.lemmas.List.{take_at, drop_at, drop-drop, get_or-drop, length-replicate, take-append-le, drop-append-le, length-drop}
 use Rattle.byteorder.specs.Endian.{little_bytes, little_number}
 use Rattle.byteorder.specs.Numbers.{little_number-reads_back, length-bytes_low_first}
 use Rattle.fc_bytes.specs.Words.{bytes_at, words}
 use Rattle.fc_checks.specs.Checks.{small_dir_check, byte_xor, accumulated}
-use Rattle.fc_dirs.specs.declared.Entry.{Entry}
-use Rattle.fc_dirs.specs.declared.SmallForm.{SmallForm}
-use Rattle.fc_dirs.specs.Small.{SmallDir, IsSmall, tail_of, small_entries, last_mark}
-use Rattle.fc_smalldir.specs.Written.{bytes_before_check, head_bytes, free_bytes, tail_bytes, magic_word, entry_bytes, name_bytes, last_byte}
-use Rattle.fc_smalldir.proofs.EntryLemmas.{length-name_bytes, entries-read_back, length-entries, length-entry_bytes}
+use Rattle.fc_dirs.specs.Small.{SmallDir, IsSmall, tail_of, small_entries}
+use Rattle.fc_dirs.specs.SmallBytes.{bytes_before_check, head_bytes, free_bytes, tail_bytes, magic_word, entry_bytes}
+use Rattle.fc_smalldir.proofs.EntryLemmas.{entries-read_back, length-entries}
 
 -- what stands before the tail
 abbrev pub front_bytes : SmallDir → List ℕ
@@ -94,13 +92,6 @@ same_part bytes c o at n within =
     let left : n ≤ length (drop at bytes) = omega (arith, length-drop at bytes) in
     ap (take n) (drop-append-le at bytes c (omega arith)) ∙ same_front (drop at bytes) c o n left ∙ sym (ap (take n) (drop-append-le at bytes o (omega arith)))
 
--- the ten bytes of a name stand first in an entry
-name_first : (form : SmallForm) (e : Entry) (rest : List ℕ) → take 10 (entry_bytes form e ++ rest) ≡ name_bytes form e
-name_first form e rest =
-    let whole : entry_bytes form e ++ rest ≡ name_bytes form e ++ (little_bytes 4 e.load ++ (little_bytes 4 e.exec ++ (little_bytes 4 e.len ++ (little_bytes 3 e.address ++ (last_byte form e ∷ [] ++ rest))))) =
-    simp append_assoc in
-    ap (take 10) whole ∙ take_at (name_bytes form e) _ 10 (length-name_bytes form e)
-
 -- ---- the head and the entries
 
 pub checked_regrouped : (h e f t c : List ℕ) → h ++ e ++ f ++ t ++ c ≡ h ++ (e ++ (f ++ (t ++ c)))
@@ -125,41 +116,6 @@ entries_kept dir check small =
     rw (behind_head dir check)
     (entries-read_back (tail_of dir.form).places dir.form dir.entries rest small.places small.entries
     (λ free. zeros_first (26 * (tail_of dir.form).places + 1 - 26 * length dir.entries) (tail_bytes dir ++ check ∷ []) (omega (arith, free))))
-
--- the name field of the entry of a number
-pub names_kept : (form : SmallForm) (es : List Entry) (rest : List ℕ) (i : ℕ) (e : Entry) → slice_get es i ≡ Some e
-    → take 10 (drop (26 * i) (flat_map (entry_bytes form) es ++ rest)) ≡ name_bytes form e
-names_kept form [] rest i e is = absurd (cc)
-names_kept form (e' ∷ es) rest zero e is =
-    let same : e' ≡ e = cc in
-    let split : flat_map (entry_bytes form) (e' ∷ es) ++ rest ≡ entry_bytes form e' ++ (flat_map (entry_bytes form) es ++ rest) =
-    append_assoc (entry_bytes form e') (flat_map (entry_bytes form) es) rest in
-    rw split (rw same (name_first form e (flat_map (entry_bytes form) es ++ rest)))
-names_kept form (e' ∷ es) rest (suc i) e is =
-    let behind : List ℕ = flat_map (entry_bytes form) es ++ rest in
-    let split : flat_map (entry_bytes form) (e' ∷ es) ++ rest ≡ entry_bytes form e' ++ behind =
-    append_assoc (entry_bytes form e') (flat_map (entry_bytes form) es) rest in
-    let sum : 26 * suc i ≡ 26 + 26 * i = omega arith in
-    let past : drop (26 + 26 * i) (entry_bytes form e' ++ behind) ≡ drop (26 * i) behind =
-    sym (drop-drop (26 * i) 26 (entry_bytes form e' ++ behind)) ∙ ap (drop (26 * i)) (drop_at (entry_bytes form e') behind 26 (length-entry_bytes form e')) in
-    rw (sum, split) (ap (take 10) past ∙ names_kept form es rest i e is)
-
--- the byte behind all places for entries
-pub mark_kept : (dir : SmallDir) (check : ℕ) → length dir.entries ≤ (tail_of dir.form).places → last_mark dir.form (checked_bytes dir check) ≡ 0
-mark_kept dir check few =
-    let places = (tail_of dir.form).places in
-    let at = 5 + 26 * places in
-    let n = 26 * places + 1 - 26 * length dir.entries in
-    let h = head_bytes dir in
-    let es = flat_map (entry_bytes dir.form) dir.entries in
-    let whole = length-front dir few in
-    let hes : length (h ++ es) ≡ 5 + 26 * length dir.entries =
-    length-append h es ∙ omega (arith, length-magic_word dir.is_hugo, length-entries dir.form dir.entries) in
-    let in_two : at < length (front_bytes dir ++ tail_bytes dir) = omega (arith, length-append (front_bytes dir) (tail_bytes dir)) in
-    get_or_append_left (front_bytes dir ++ tail_bytes dir) (check ∷ []) 0 at in_two
-    ∙ get_or_append_left (front_bytes dir) (tail_bytes dir) 0 at (omega arith)
-    ∙ get_or-append_right (h ++ es) (free_bytes dir) (5 + 26 * length dir.entries) at 0 hes (omega arith)
-    ∙ get_or-replicate n (at - (5 + 26 * length dir.entries)) 0 0 (omega arith)
 
 -- ---- the check
 

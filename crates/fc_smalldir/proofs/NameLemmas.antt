@@ -7,7 +7,7 @@ use Rattle.std.proofs.Math.Nat.{pow-suc}
 use Rattle.fc_bytes.specs.Bits.{num}
 use Rattle.fc_dirs.specs.Entries.{padded_name}
 use Rattle.fc_dirs.specs.Small.{name_in}
-use Rattle.fc_smalldir.specs.Written.{with_tops}
+use Rattle.fc_dirs.specs.SmallBytes.{with_tops}
 
 -- bytes that a name has, below a limit
 abbrev pub ArePrinted : ℕ → List ℕ → Type 0

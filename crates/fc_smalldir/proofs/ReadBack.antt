@@ -1,8 +1,8 @@
 -- What is written of a directory reads as the directory.
-use Rattle.std.proofs.Common.{◌≡◌, ◌≤◌, ℕ, ◌+◌, ◌-◌, ◌*◌, ◌%◌, ◌==◌, ◌&&◌, ◌||◌, Bool, true, false, List, [], ◌∷◌, ◌++◌, length, get_or, map, take, drop, slice_index, None, refl, sym, ap, ◌∙◌, arith, length-append, eq-eqb, subst}
+use Rattle.std.proofs.Common.{◌≡◌, ◌≤◌, ℕ, ◌+◌, ◌-◌, ◌==◌, ◌&&◌, ◌||◌, Bool, true, false, List, [], ◌∷◌, ◌++◌, length, get_or, slice_index, None, refl, sym, ap, ◌∙◌, arith, length-append, eq-eqb}
 use Rattle.std.specs.List.{AllByRecursion, flat_map}
 use Rattle.std.specs.Str.{bytes_eq}
-use Rattle.std.proofs.lemmas.List.{take_at, drop-drop}
+use Rattle.std.proofs.lemmas.List.{take_at}
 use Rattle.std.proofs.lemmas.List.Elements.{All-from_recursion}
 use Rattle.std.proofs.lemmas.Bool.Decides.{nat_tests}
 use Rattle.fc_dirs.proofs.SearchLemmas.{blank, position-none}
@@ -13,13 +13,11 @@ use Rattle.fc_checks.specs.Checks.{small_dir_check}
 use Rattle.fc_dirs.specs.declared.Entry.{Entry}
 use Rattle.fc_dirs.specs.declared.SmallForm.{SmallForm}
 use Rattle.fc_dirs.specs.declared.SmallForm.TheVariants.{Bytes1280, Bytes2048}
-use Rattle.fc_dirs.specs.Entries.{padded_name, first_twin}
-use Rattle.fc_dirs.specs.Small.{SmallDir, FitsSmall, IsSmall, IsWrittenSmall, IsCheckWritten, tail_of, small_entries, small_dir, small_fault, entries_end, hugo_word, nick_word, name_field, is_magic_right, is_sequence_right, is_small_check_right, first_nameless}
-use Rattle.std.proofs.lemmas.Option.{slice_get_within, get_or_from_slice_get}
+use Rattle.fc_dirs.specs.Entries.{first_twin}
+use Rattle.fc_dirs.specs.Small.{SmallDir, FitsSmall, IsSmall, tail_of, small_entries, small_dir, small_fault, entries_end, hugo_word, nick_word, is_magic_right, is_sequence_right, is_small_check_right, first_nameless}
 use Rattle.fc_smalldir.specs.Laws.{ReadsBack}
-use Rattle.fc_smalldir.specs.Written.{small_bytes, bytes_before_check, head_bytes, free_bytes, tail_bytes, magic_word, entry_bytes, name_bytes, check_of}
-use Rattle.fc_smalldir.proofs.NameLemmas.{low-with_tops, padded_name_low}
-use Rattle.fc_smalldir.proofs.LayoutLemmas.{front_bytes, checked_bytes, checked_regrouped, length-magic_word, length-front, says_tail, behind_head, entries_kept, names_kept, mark_kept, check_kept}
+use Rattle.fc_dirs.specs.SmallBytes.{small_bytes, bytes_before_check, head_bytes, free_bytes, tail_bytes, magic_word, entry_bytes, check_of}
+use Rattle.fc_smalldir.proofs.LayoutLemmas.{front_bytes, checked_bytes, checked_regrouped, length-magic_word, length-front, says_tail, entries_kept, check_kept}
 
 -- Each entry has a name.
 pub none_nameless : (form : SmallForm) (es : List Entry) → AllByRecursion (FitsSmall form) es → first_nameless es ≡ None
@@ -127,10 +125,6 @@ says_parts Bytes1280 dir check small =
       check_is = says.check_is;
     }
 
--- the bytes are written so, where the check is right
-abbrev WrittenAs : SmallDir → ℕ → Type 0
-WrittenAs dir check = IsWrittenSmall (checked_bytes dir check) dir
-
 -- the check that is written is the one that is read
 check_right : (form : SmallForm) (dir : SmallDir) → IsSmall (formed form dir)
     → is_small_check_right form (checked_bytes (formed form dir) (check_of form (bytes_before_check (formed form dir) ++ 0 ∷ []) (entries_end dir.entries))) ≡ true
@@ -147,15 +141,6 @@ check_right Bytes2048 dir small =
     let entries = entries_kept d check small in
     let at : slice_index (checked_bytes d check) 2047 ≡ check = parts.check_is in
     rw (entries, at, kept) (eq-eqb check check refl)
-
-written_name : (form : SmallForm) (bytes : List ℕ) (i : ℕ) (e : Entry) → FitsSmall form e → bytes_at bytes (5 + 26 * i) 10 ≡ name_bytes form e → name_field form bytes i ≡ padded_name 10 e.name
-written_name Bytes2048 bytes i e fits is = is
-written_name Bytes1280 bytes i e fits is = ap (map (λ c. c % 128)) is ∙ low-with_tops e.attrs (padded_name 10 e.name) (padded_name_low e.name fits.printed)
-
-written_zero : (form : SmallForm) (dir : SmallDir) → IsSmall (formed form dir)
-    → IsCheckWritten form (checked_bytes (formed form dir) (check_of form (bytes_before_check (formed form dir) ++ 0 ∷ []) (entries_end dir.entries)))
-written_zero Bytes2048 dir small = tt
-written_zero Bytes1280 dir small = (says_parts Bytes1280 dir 0 small).check_is
 
 pub read_back : ReadsBack
 unfolding small_bytes small_dir
@@ -175,15 +160,5 @@ read_back dir small =
     same_dir dir _ _ _ _ _ _ _ (hugo_ok dir.is_hugo (bytes_at bytes 1 4) word1) parts.head.sequence_is parts.parent parts.name parts.title parts.reserved entries in
     record {
       reads = record { size = parts.size; right = right; says = says };
-      names = λ i e at.
-          let place : drop (5 + 26 * i) bytes ≡ drop (26 * i) (drop 5 bytes) = sym (drop-drop (26 * i) 5 bytes) in
-          let rest : List ℕ = free_bytes dir ++ (tail_bytes dir ++ check ∷ []) in
-          let name : bytes_at bytes (5 + 26 * i) 10 ≡ name_bytes dir.form e =
-          ap (take 10) (place ∙ ap (drop (26 * i)) (behind_head dir check)) ∙ names_kept dir.form dir.entries rest i e at in
-          let within = slice_get_within dir.entries i e at in
-          let fits : FitsSmall dir.form e =
-          subst (FitsSmall dir.form) (get_or_from_slice_get dir.entries i e blank at) (All-from_recursion (FitsSmall dir.form) dir.entries small.entries i blank within) in
-          written_name dir.form bytes i e fits name;
-      mark = mark_kept dir check small.places;
-      check = written_zero dir.form dir small;
+      spelled = refl;
     }

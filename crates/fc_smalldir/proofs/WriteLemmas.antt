@@ -9,7 +9,7 @@ use Rattle.fc_dirs.specs.declared.SmallForm.TheVariants.{Bytes1280, Bytes2048}
 use Rattle.fc_dirs.specs.Small.{SmallDir, tail_of, entries_end}
 use Rattle.fc_smalldir.specs.declared.head.Head.{Head}
 use Rattle.fc_smalldir.specs.Fields.{dir_of}
-use Rattle.fc_smalldir.specs.Written.{small_bytes, bytes_before_check, head_bytes, free_bytes, tail_bytes, first_field, last_field, entry_bytes, check_of}
+use Rattle.fc_dirs.specs.SmallBytes.{small_bytes, bytes_before_check, head_bytes, free_bytes, tail_bytes, first_field, last_field, entry_bytes, check_of}
 
 same_first : (form : SmallForm) (d e : SmallDir) → d.reserved ≡ e.reserved → d.name ≡ e.name → first_field form d ≡ first_field form e
 same_first Bytes2048 d e r n = r

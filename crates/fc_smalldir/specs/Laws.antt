@@ -1,6 +1,6 @@
 -- What holds of small directories.
-use Rattle.fc_dirs.specs.Small.{SmallDir, IsSmall, IsWrittenSmall}
-use Rattle.fc_smalldir.specs.Written.{small_bytes}
+use Rattle.fc_dirs.specs.Small.{SmallDir, IsSmall}
+use Rattle.fc_dirs.specs.SmallBytes.{IsWrittenSmall, small_bytes}
 
 -- What is written reads as the same directory, head and entries.
 abbrev pub ReadsBack : Type 0

@@ -7,7 +7,7 @@ ghost use Rattle.fc_dirs.specs.Entries.{entry_place, first_twin, has_name};
 ghost use Rattle.fc_dirs.specs.Small.{FitsSmall, first_nameless, small_entries, tail_of};
 ghost use Rattle.fc_dirs.specs.Faults.{IsFaultOf};
 ghost use Rattle.fc_smalldir.specs.Fields.{AreRead};
-ghost use Rattle.fc_smalldir.specs.Written.{entry_bytes};
+ghost use Rattle.fc_dirs.specs.SmallBytes.{entry_bytes};
 
 use crate::DirError;
 use crate::entry::{put_entry, read_entry};

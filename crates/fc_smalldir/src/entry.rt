@@ -4,7 +4,7 @@ ghost use Rattle.std.specs.List.{AllByRecursion};
 ghost use Rattle.fc_bytes.specs.Bits.{num};
 ghost use Rattle.fc_dirs.specs.Small.{FitsSmall, name_in, small_entry};
 ghost use Rattle.fc_smalldir.specs.Fields.{attrs_in, last_in, plain_field};
-ghost use Rattle.fc_smalldir.specs.Written.{entry_bytes, last_byte, name_bytes, with_tops};
+ghost use Rattle.fc_dirs.specs.SmallBytes.{entry_bytes, last_byte, name_bytes, with_tops};
 
 use crate::bytes::{array_at, padded, put};
 use byteorder::{ByteOrder, LittleEndian};

@@ -4,7 +4,7 @@ ghost use Rattle.std.specs.Str.{bytes_eq};
 ghost use Rattle.fc_bytes.specs.Words.{bytes_at};
 ghost use Rattle.fc_dirs.specs.Small.{has_old_word, hugo_word, is_magic_right, is_sequence_right, is_small_check_right, small_dir, small_entries, tail_of};
 ghost use Rattle.fc_smalldir.specs.Fields.{dir_of, first_len, last_len};
-ghost use Rattle.fc_smalldir.specs.Written.{check_of, first_field, last_field, magic_word, tail_bytes};
+ghost use Rattle.fc_dirs.specs.SmallBytes.{check_of, first_field, last_field, magic_word, tail_bytes};
 
 use crate::bytes::{array_at, put};
 use fc_bytes::le24;

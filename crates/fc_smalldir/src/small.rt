@@ -3,10 +3,10 @@ ghost use Rattle.std.specs.Prelude.{◌≡◌, ◌<◌, ◌≤◌, ◌↔◌, �
 ghost use Rattle.std.specs.Option.{option_map};
 ghost use Rattle.fc_names.specs.Names.{is_writable};
 ghost use Rattle.fc_dirs.specs.Entries.{has_name, without_entry};
-ghost use Rattle.fc_dirs.specs.Small.{IsSmall, IsSmallDir, IsWrittenSmall, attrs_limit, empty_small, is_full_small, last_limit, next_sequence, small_fault, tail_of, with_small_entry, with_small_name, with_small_renamed};
+ghost use Rattle.fc_dirs.specs.Small.{IsSmall, IsSmallDir, attrs_limit, empty_small, is_full_small, last_limit, next_sequence, small_fault, tail_of, with_small_entry, with_small_name, with_small_renamed};
 ghost use Rattle.fc_dirs.specs.Faults.{IsFaultOf};
 ghost use Rattle.fc_smalldir.specs.Fields.{names_of_form};
-ghost use Rattle.fc_smalldir.specs.Written.{small_bytes};
+ghost use Rattle.fc_dirs.specs.SmallBytes.{IsWrittenSmall, small_bytes};
 
 use crate::bytes::{padded, put, put_zeros};
 use crate::entries::{count_entries, first_twin, place_of, put_entries, read_entries};

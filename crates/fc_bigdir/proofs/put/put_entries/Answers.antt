@@ -1,6 +1,6 @@
 use Rattle.std.proofs.Common.{◌≡◌, ◌<◌, ◌++◌, get_or, length, take, subst, sym, ap, ap₂, ◌∙◌, arith, append_assoc}
 use Rattle.fc_bigdir.specs.Laws.{HasWords}
-use Rattle.fc_bigdir.specs.Written.{entries_bytes, entry_bytes}
+use Rattle.fc_dirs.specs.BigBytes.{entries_bytes, entry_bytes}
 use Rattle.fc_bigdir.proofs.PutLemmas.{entries_more, recursion_more}
 use Rattle.fc_bigdir.proofs.put.put_entries.Goals as goal
 

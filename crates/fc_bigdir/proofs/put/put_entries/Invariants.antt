@@ -1,7 +1,7 @@
 use Rattle.std.proofs.Common.{◌≡◌, ◌+◌, ◌*◌, ◌++◌, take}
 use Rattle.std.specs.List.{AllByRecursion}
 use Rattle.fc_bigdir.specs.Laws.{HasWords}
-use Rattle.fc_bigdir.specs.Written.{entries_bytes}
+use Rattle.fc_dirs.specs.BigBytes.{entries_bytes}
 use Rattle.fc_bigdir.proofs.put.put_entries.Given as goal
 
 abbrev pub invariant-loop-i : goal.invariant-loop-i

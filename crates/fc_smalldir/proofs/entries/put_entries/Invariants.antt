@@ -1,6 +1,6 @@
 use Rattle.std.proofs.Common.{◌≡◌, ◌+◌, ◌*◌, ◌++◌, take}
 use Rattle.std.specs.List.{flat_map}
-use Rattle.fc_smalldir.specs.Written.{entry_bytes}
+use Rattle.fc_dirs.specs.SmallBytes.{entry_bytes}
 use Rattle.fc_smalldir.proofs.entries.put_entries.Given as goal
 
 abbrev pub invariant-loop-e : goal.invariant-loop-e

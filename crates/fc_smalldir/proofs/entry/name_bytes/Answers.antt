@@ -1,7 +1,7 @@
 use Rattle.std.proofs.Common.{subst, ap, ◌∙◌}
 use Rattle.fc_dirs.specs.Entries.{padded_name}
 use Rattle.fc_dirs.specs.Small.{byte_limit}
-use Rattle.fc_smalldir.specs.Written.{with_tops}
+use Rattle.fc_dirs.specs.SmallBytes.{with_tops}
 use Rattle.fc_smalldir.proofs.NameLemmas.{ArePrinted, padded_name_low}
 use Rattle.fc_smalldir.proofs.entry.name_bytes.Goals as goal
 

@@ -1,5 +1,5 @@
 use Rattle.std.proofs.Common.{◌≡◌, ◌++◌, take, drop}
-use Rattle.fc_smalldir.specs.Written.{with_tops}
+use Rattle.fc_dirs.specs.SmallBytes.{with_tops}
 use Rattle.fc_smalldir.proofs.NameLemmas.{AreLow}
 use Rattle.fc_smalldir.proofs.entry.with_tops.Given as goal
 

@@ -1,5 +1,6 @@
 use Rattle.std.proofs.Common.{◌≡◌, true, false, ◌&&◌, subst, sym, ap, ap₂, ◌∙◌}
-use Rattle.fc_dirs.specs.Big.{BigDir, IsBig, IsWrittenBig, is_check_right}
+use Rattle.fc_dirs.specs.Big.{BigDir, IsBig, is_check_right}
+use Rattle.fc_dirs.specs.BigBytes.{IsWrittenBig}
 use Rattle.fc_bigdir.proofs.WriteLemmas.{word_set, word_kept}
 use Rattle.fc_bigdir.proofs.ReadBack.{read_back}
 use Rattle.fc_bigdir.proofs.big.BigDir.write.Goals as goal

@@ -1,8 +1,8 @@
 use Rattle.std.proofs.Common.{◌≡◌, ◌+◌, ◌*◌, ◌++◌, length, take, subst, sym, ap, ◌∙◌, arith}
 use Rattle.std.specs.List.{flat_map}
-use Rattle.fc_dirs.specs.Small.{IsSmall, IsWrittenSmall, entries_end}
+use Rattle.fc_dirs.specs.Small.{IsSmall, entries_end}
 use Rattle.fc_smalldir.specs.Fields.{dir_of}
-use Rattle.fc_smalldir.specs.Written.{small_bytes, check_of, entry_bytes}
+use Rattle.fc_dirs.specs.SmallBytes.{IsWrittenSmall, small_bytes, check_of, entry_bytes}
 use Rattle.fc_smalldir.proofs.HeadLemmas.{parts_fit}
 use Rattle.fc_smalldir.proofs.WriteLemmas.{same_tail, parts_written, check_set}
 use Rattle.fc_smalldir.proofs.ReadBack.{read_back}

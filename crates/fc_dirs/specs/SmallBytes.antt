@@ -1,5 +1,5 @@
--- The bytes of small directories, as they are written.
-use Rattle.std.specs.Prelude.{ℕ, ◌+◌, ◌-◌, ◌*◌, ◌/◌, ◌%◌, Bool, true, false, List, [], ◌∷◌, ◌++◌, length, replicate}
+-- Directories of 2048 and of 1280 bytes: which bytes are written of them.
+use Rattle.std.specs.Prelude.{◌≡◌, ℕ, ◌+◌, ◌-◌, ◌*◌, ◌/◌, ◌%◌, Bool, true, false, List, [], ◌∷◌, ◌++◌, length, replicate}
 use Rattle.std.specs.List.{flat_map}
 use Rattle.byteorder.specs.Endian.{little_bytes}
 use Rattle.fc_checks.specs.Checks.{small_dir_check}
@@ -7,7 +7,7 @@ use Rattle.fc_dirs.specs.declared.Entry.{Entry}
 use Rattle.fc_dirs.specs.declared.SmallForm.{SmallForm}
 use Rattle.fc_dirs.specs.declared.SmallForm.TheVariants.{Bytes1280, Bytes2048}
 use Rattle.fc_dirs.specs.Entries.{padded_name}
-use Rattle.fc_dirs.specs.Small.{SmallDir, tail_of, entries_end, hugo_word, nick_word}
+use Rattle.fc_dirs.specs.Small.{SmallDir, IsSmallDir, tail_of, entries_end, hugo_word, nick_word}
 
 -- the bytes with the bits of a number as their top bits, the lowest bit at the first
 abbrev pub with_tops : ℕ → List ℕ → List ℕ
@@ -70,3 +70,9 @@ unfoldable pub small_bytes : SmallDir → List ℕ
 small_bytes dir =
     let bytes = bytes_before_check dir in
     bytes ++ check_of dir.form (bytes ++ 0 ∷ []) (entries_end dir.entries) ∷ []
+
+-- What writing gives: bytes that read as the directory, and of these the only ones that are written. Beyond what reading looks
+-- at, 13 and bytes 0 follow a short name, free places and the last mark are 0, and so is the check that is not read.
+pub record IsWrittenSmall (bytes : List ℕ) (dir : SmallDir) : Type 0 where
+  pub reads : IsSmallDir bytes dir
+  pub spelled : bytes ≡ small_bytes dir

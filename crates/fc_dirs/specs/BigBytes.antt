@@ -1,10 +1,10 @@
--- The bytes of big directories, as they are written.
-use Rattle.std.specs.Prelude.{ℕ, ◌-◌, ◌&&◌, false, List, [], ◌∷◌, ◌++◌, length, replicate, slice_set, if◌then◌else◌}
+-- Big directories: which bytes are written of them.
+use Rattle.std.specs.Prelude.{◌≡◌, ℕ, ◌-◌, ◌&&◌, false, List, [], ◌∷◌, ◌++◌, length, replicate, slice_set, if◌then◌else◌}
 use Rattle.byteorder.specs.Endian.{little_bytes}
 use Rattle.fc_checks.specs.Checks.{big_dir_check}
 use Rattle.fc_dirs.specs.declared.Entry.{Entry}
 use Rattle.fc_dirs.specs.Entries.{padded_name}
-use Rattle.fc_dirs.specs.Big.{BigDir, bytes_taken, head_space_of, is_check_right}
+use Rattle.fc_dirs.specs.Big.{BigDir, IsBigDir, bytes_taken, head_space_of, is_check_right}
 
 -- the words `SBPr` in the head and `oven` in the tail
 abbrev pub head_word : List ℕ
@@ -61,3 +61,9 @@ unfoldable pub big_bytes : BigDir → List ℕ
 big_bytes dir =
     let bytes = checked_bytes dir in
     if dir.second_form && is_check_right false bytes then slice_set bytes (parts_end dir) 1 else bytes
+
+-- What writing gives: bytes that read as the directory, and of these the only ones that are written. Beyond what reading looks
+-- at, 13 and bytes 0 follow the head's name, and 0 stands between the heap and the tail, but for the word above.
+pub record IsWrittenBig (bytes : List ℕ) (dir : BigDir) : Type 0 where
+  pub reads : IsBigDir bytes dir
+  pub spelled : bytes ≡ big_bytes dir
