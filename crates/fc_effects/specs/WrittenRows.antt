@@ -10,7 +10,7 @@ use Rattle.fc_dirs.specs.declared.SmallForm.TheVariants.{Bytes1280, Bytes2048}
 use Rattle.fc_dirs.specs.Small.{SmallDir, empty_small, hugo_word}
 use Rattle.fc_dirs.specs.Big.{empty_big}
 use Rattle.fc_dirs.specs.Directory.{Directory}
-use Rattle.fc_dirs.specs.Rows.{dollar, named}
+use Rattle.fc_dirs.specs.Rows.{dollar, named, spoilt}
 use Rattle.fc_image.specs.Rows.{fresh_sector, small_sector, used_sector}
 use Rattle.fc_effects.specs.Steady.{AreWritten, KeepsOrWritesLinks}
 use Rattle.fc_effects.specs.Settled.{CompactedBytes}
@@ -68,11 +68,14 @@ pub record WrittenRows : Type 0 where
   -- the top bit of FreeLink may not go, and a new hole's field has no bit but those of its link
   pub no_top : KeepsOrWritesLinks used without_top 0 → ⊥
   pub high_bit : KeepsOrWritesLinks full freed_high 0 → ⊥
-  -- bytes after a name's 13, the mark after the last entry, the last byte of 1280, and bytes after the 13 of a big directory's name
+  -- bytes after a name's 13, free places, the mark after them, the last byte of 1280, bytes after the 13 of a big directory's name and
+  -- those between its heap and its tail
   pub padding : AreWritten (root_with ((65 ∷ 13 ∷ 7 ∷ []) ++ replicate 22 0 ++ 3 ∷ [])) (Directory.Small one_file) → ⊥
-  pub mark : AreWritten (take 2007 e_root ++ 1 ∷ drop 2008 e_root) (Directory.Small (empty_small Bytes2048 0x203 dollar)) → ⊥
+  pub free : AreWritten (spoilt 6 1 e_root) (Directory.Small (empty_small Bytes2048 0x203 dollar)) → ⊥
+  pub mark : AreWritten (spoilt 2007 1 e_root) (Directory.Small (empty_small Bytes2048 0x203 dollar)) → ⊥
   pub last_byte : AreWritten (old_root 9) (Directory.Small old_empty) → ⊥
-  pub head : AreWritten (take 30 e_plus_root ++ 1 ∷ drop 31 e_plus_root) (Directory.Big (empty_big 0x301 dollar)) → ⊥
+  pub head : AreWritten (spoilt 30 1 e_plus_root) (Directory.Big (empty_big 0x301 dollar)) → ⊥
+  pub heap : AreWritten (spoilt 2039 1 e_plus_root) (Directory.Big (empty_big 0x301 dollar)) → ⊥
   -- compaction keeps all bytes of a directory of which nothing changes, and writes one in which something does
   pub moved : CompactedBytes (old_root 0) (old_root 0) (Directory.Small old_empty) (Directory.Small old_empty)
   pub touched : CompactedBytes (old_root 9) (old_root 0) (Directory.Small old_empty) (Directory.Small old_empty) → ⊥
