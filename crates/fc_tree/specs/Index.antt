@@ -37,8 +37,15 @@ pub record IsRank (slots : List (Option Node)) (order : List ℕ) (key : Key) (r
   pub below : (k : ℕ) → k < rank → is_before slots key (slice_index order k) ≡ true
   pub above : (k : ℕ) → rank ≤ k → k < length order → is_before slots key (slice_index order k) ≡ false
 
--- The index is that of the slots, and both hold as many more numbers as there is room for, with no more memory.
-pub record IsHeld (slots : List (Option Node)) (order : List ℕ) (room slots_capacity order_capacity : ℕ) : Type 0 where
+-- Each number below this one has a node.
+abbrev pub AreFull : List (Option Node) → ℕ → Type 0
+AreFull slots least = (m : ℕ) → m < least → is_some (slot_at slots m) ≡ true
+
+-- The index is that of the slots, and both hold as many more numbers as there is room for, with no more memory. The numbers below
+-- the least that may have no node have nodes.
+pub record IsHeld (slots : List (Option Node)) (order : List ℕ) (least room slots_capacity order_capacity : ℕ) : Type 0 where
   pub index : IsIndex slots order
   pub slots_room : length slots + room ≤ slots_capacity
   pub order_room : length slots + room ≤ order_capacity
+  pub least_within : least ≤ length slots
+  pub full : AreFull slots least

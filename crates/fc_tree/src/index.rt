@@ -1,9 +1,9 @@
 // The index of nodes: their numbers, in the order of the directories that hold them, then of their names by folding, then
 // of the numbers themselves.
-ghost use Rattle.std.specs.Prelude.{◌≡◌, ◌<◌, ◌≤◌, Some, length, map, slice_index, vec_capacity, IsSome, IfOk};
-ghost use Rattle.std.specs.List.{insert};
+ghost use Rattle.std.specs.Prelude.{◌≡◌, ◌<◌, ◌≤◌, Some, is_none, length, map, slice_index, vec_capacity, IsSome, IfOk};
+ghost use Rattle.std.specs.List.{insert, position_or_len};
 ghost use Rattle.fc_tree.specs.Slots.{slot_at};
-ghost use Rattle.fc_tree.specs.Index.{IsIndex, IsRank, key_cmp, key_of};
+ghost use Rattle.fc_tree.specs.Index.{AreFull, IsIndex, IsRank, key_cmp, key_of};
 ghost use Rattle.fc_tree.specs.Index as index;
 ghost use Rattle.fc_tree.specs.Nodes.{child, nodes_of};
 ghost use Rattle.fc_tree.specs.Places.{AreSorted, keys_of, shown};
@@ -80,6 +80,25 @@ pub fn put_number(order: &mut Vec<u64>, at: usize, n: u64)
     ensures capacity { vec_capacity order.new ≡ vec_capacity order.old }
 {
     let _ = order.insert(at, n);
+}
+
+// The least number that no node has, where those below `least` have nodes.
+pub fn first_vacant(slots: &[Option<Node>], order: &[u64], least: usize) -> usize
+    requires index { IsIndex slots.now order.now }
+    requires within { least ≤ length slots.now }
+    requires full { AreFull slots.now least }
+    ensures number { result ≡ position_or_len is_none slots.now }
+    ensures within { result ≤ length slots.now }
+    ensures full { AreFull slots.now result }
+{
+    if order.len() == slots.len() {
+        // Each number has a node.
+        return slots.len();
+    }
+    match slots[least..].iter().position(|slot| slot.is_none()) {
+        Some(at) => least + at,
+        None => slots.len(),
+    }
 }
 
 // The number of the node of a name in a directory: the least, where several have the name.

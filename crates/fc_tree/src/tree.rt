@@ -2,13 +2,13 @@
 #[cfg(test)]
 mod tests;
 
-ghost use Rattle.std.specs.Prelude.{◌≡◌, ◌+◌, ◌<◌, ◌≤◌, ℕ, Some, None, map, slice_set, IsSome, IfSome, IfOk, OnOk, OnErr};
+ghost use Rattle.std.specs.Prelude.{◌≡◌, ◌+◌, ◌-◌, ◌<◌, ◌≤◌, ℕ, Some, None, map, max, slice_set, IsSome, IfOk, OnOk, OnErr};
 ghost use Rattle.std.specs.Option.{option_map};
 ghost use Rattle.std.specs.FinMap.{get, insert, remove};
-ghost use Rattle.fc_tree.specs.Nodes.{bound_of, child, found_in, is_directory_node, nodes_of};
+ghost use Rattle.fc_tree.specs.Nodes.{bound_of, child, found_in, is_directory_node, next_number, nodes_of};
 
 use crate::claim::is_directory;
-use crate::index::{first_child, index_of, place_of, put_number, rank, rank_of};
+use crate::index::{first_child, first_vacant, index_of, place_of, put_number, rank, rank_of};
 use crate::node::{Found, Node};
 use crate::slots::{node_at, push_slot, put_slot, slots_of, take_slot};
 use fc_device::NoMemory;
@@ -24,8 +24,8 @@ pub struct Tree {
     slots: Vec<Option<Node>>,
     // The numbers of the nodes, in the order of the directories that hold them, and then of their names.
     order: Vec<u64>,
-    // Numbers of nodes that were taken out, for other nodes. Some may have been given since.
-    free: Vec<u64>,
+    // The numbers below it have nodes.
+    least: usize,
     // How many more nodes can be added with no more memory.
     room: usize,
 }
@@ -40,14 +40,7 @@ impl Model for Tree {
 
     ghost view = { λ t. record { slots = t.slots.items; room = t.room } };
 
-    ghost invariant = { λ t. IsHeld t.slots.items t.order.items t.room (vec_capacity t.slots) (vec_capacity t.order) };
-}
-
-// Drops a number from the end.
-fn drop_last(free: &mut Vec<u64>, n: u64) {
-    if free.last() == Some(&n) {
-        free.pop();
-    }
+    ghost invariant = { λ t. IsHeld t.slots.items t.order.items t.least t.room (vec_capacity t.slots) (vec_capacity t.order) };
 }
 
 impl Tree {
@@ -60,7 +53,7 @@ impl Tree {
         Ok(Tree {
             slots,
             order,
-            free: Vec::new(alloc),
+            least: 0,
             room: 0,
         })
     }
@@ -114,7 +107,7 @@ impl Tree {
         Found::Node(at)
     }
 
-    /// Takes the node of a number out.
+    /// Takes the node of a number out. It takes no memory.
     pub fn take_out(&mut self, n: u64) -> Node
         requires { IsSome (get (nodes_of self.old) n) }
         ensures node { get (nodes_of self.old) n ≡ Some result }
@@ -125,8 +118,7 @@ impl Tree {
     {
         let at = rank_of(&self.slots, &self.order, n);
         self.order.remove(at);
-        // Where there is no memory for it, no other node gets the number.
-        let _ = self.free.push(n);
+        self.least = self.least.min(n as usize);
         take_slot(&mut self.slots, n)
     }
 
@@ -141,22 +133,18 @@ impl Tree {
     {
         let at = rank(&self.slots, &self.order, &place_of(n, &node));
         put_number(&mut self.order, at, n);
-        drop_last(&mut self.free, n);
         put_slot(&mut self.slots, n, node);
     }
 
-    // A number that another node had.
-    fn vacant(&mut self) -> Option<u64>
-        ensures below { IfSome result (λ n. n < bound_of self.old) }
-        ensures free { IfSome result (λ n. get (nodes_of self.old) n ≡ None) }
+    // The number of the next new node.
+    fn next_number(&mut self) -> u64
+        ensures number { result ≡ next_number self.old }
+        ensures within { result ≤ bound_of self.old }
+        ensures free { get (nodes_of self.old) result ≡ None }
         ensures same { self.new ≡ self.old }
     {
-        let n = self.free.pop()?;
-        if n < self.bound() && self.node(n).is_none() {
-            Some(n)
-        } else {
-            None
-        }
+        self.least = first_vacant(&self.slots, &self.order, self.least);
+        self.least as u64
     }
 
     // Puts a node under a number below the bound.
@@ -188,29 +176,29 @@ impl Tree {
         n
     }
 
-    /// Adds a node under a number that no node has, which is the result. It takes no memory. The number may be that of a
-    /// node that was taken out and not put back.
+    /// Adds a node under the least number that no node has, which is the result. It takes no memory.
     pub fn add(&mut self, node: Node) -> u64
         requires { 0 < self.old.room }
+        ensures number { result ≡ next_number self.old }
         ensures free { get (nodes_of self.old) result ≡ None }
         ensures nodes { nodes_of self.new ≡ insert (nodes_of self.old) result node }
         ensures below { result < bound_of self.new }
-        ensures bound { bound_of self.old ≤ bound_of self.new }
-        ensures room { self.old.room ≤ self.new.room + 1 }
+        ensures bound { bound_of self.new ≡ max (bound_of self.old) (result + 1) }
+        ensures room { self.new.room + 1 ≡ self.old.room }
     {
-        match self.vacant() {
-            Some(n) => {
-                self.reuse(n, node);
-                n
-            }
-            None => self.append(node),
+        let n = self.next_number();
+        if n < self.bound() {
+            self.reuse(n, node);
+            n
+        } else {
+            self.append(node)
         }
     }
 
     /// Makes room for one more node. After `NoMemory` all is as before.
     pub fn reserve(&mut self) -> Result<(), NoMemory>
         ensures slots { self.new.slots ≡ self.old.slots }
-        ensures ok { OnOk result (self.old.room + 1 ≤ self.new.room) }
+        ensures ok { OnOk result (self.new ≡ record self.old { room = self.old.room + 1 }) }
         ensures err { OnErr result (self.new ≡ self.old) }
     {
         let room = self.room + 1;
@@ -219,5 +207,12 @@ impl Tree {
             .reserve(self.slots.len() + room - self.order.len())?;
         self.room = room;
         Ok(())
+    }
+    /// Gives up the room for one node that `reserve` made, and keeps its memory for later.
+    pub fn release(&mut self)
+        requires { 0 < self.old.room }
+        ensures { self.new ≡ record self.old { room = self.old.room - 1 } }
+    {
+        self.room -= 1;
     }
 }

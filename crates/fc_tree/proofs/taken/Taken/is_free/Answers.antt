@@ -1,4 +1,4 @@
-use Rattle.std.proofs.Common.{◌∙◌, ◌≡◌, sym, arith}
+use Rattle.std.proofs.Common.{◌≡◌, sym, arith}
 use Rattle.fc_tree.proofs.TakenLemmas.{row_free, row_taken, row_last}
 use Rattle.fc_tree.proofs.taken.Taken.is_free.Goals as goal
 

@@ -14,7 +14,7 @@ invariant_of-self c =
     let room = ap (λ (t : Numbers). t.room) c.self.view_is in
     let less : c.self.inside.room - 1 + 1 ≡ c.self.inside.room = omega (arith, some, room) in
     let end : c.len-n.result ≡ length slots = omega arith in
-    held_pushed slots c.push_slot.new.slots.items order c.put_number.new.order.items c.self.inside.room (c.self.inside.room - 1) c.rank-at.result c.len-n.result _ _ _ _ c.args.node
+    held_pushed slots c.push_slot.new.slots.items order c.put_number.new.order.items c.self.inside.least c.self.inside.room (c.self.inside.room - 1) c.rank-at.result c.len-n.result _ _ _ _ c.args.node
     c.self.invariant less end
     (rank_moved c.deref.result.now slots c.deref-2.result.now order (shown c.place_of.result) (key_of c.len-n.result c.args.node) c.rank-at.result
     c.deref.ensures.value c.deref-2.ensures.value c.place_of.ensures c.rank-at.ensures)

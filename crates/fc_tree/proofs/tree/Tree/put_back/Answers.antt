@@ -25,7 +25,7 @@ invariant_of-self c =
     let order = c.self.inside.order.items in
     let seen = ap (λ (t : Numbers). t.slots) c.self.view_is in
     let within : c.args.n < length slots = omega (arith, c.requires.below, ap length seen) in
-    held_set slots c.put_slot.new.slots.items order c.put_number.new.order.items c.self.inside.room c.rank-at.result c.args.n _ _ _ _ c.args.node c.self.invariant within
+    held_set slots c.put_slot.new.slots.items order c.put_number.new.order.items c.self.inside.least c.self.inside.room c.rank-at.result c.args.n _ _ _ _ c.args.node c.self.invariant within
     (ap (λ s. slot_at s c.args.n) seen ∙ sym (get-nodes_of c.args.self.now c.args.n) ∙ c.requires.free)
     (rank_moved c.deref.result.now slots c.deref-2.result.now order (shown c.place_of.result) (key_of c.args.n c.args.node) c.rank-at.result
     c.deref.ensures.value c.deref-2.ensures.value c.place_of.ensures c.rank-at.ensures)

@@ -20,7 +20,8 @@ pub invariant_of-self : goal.invariant_of-self
 invariant_of-self c =
     let slots = c.self.inside.slots.items in
     let order = c.self.inside.order.items in
-    held_cleared slots c.take_slot.new.slots.items order c.remove.new.self.items c.self.inside.room c.rank_of-at.result c.args.n _ _ _ _ c.take_slot.result c.self.invariant
+    held_cleared slots c.take_slot.new.slots.items order c.remove.new.self.items c.self.inside.least _ c.self.inside.room c.rank_of-at.result c.args.n _ _ _ _ c.take_slot.result c.self.invariant
+    c.min-self-inside.ensures
     c.take_slot.ensures.node
     (omega (arith, c.rank_of-at.ensures.within, ap length c.deref-2.ensures.value))
     (sym (ap (λ o. slice_index o c.rank_of-at.result) c.deref-2.ensures.value) ∙ c.rank_of-at.ensures.number)
