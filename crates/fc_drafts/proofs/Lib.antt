@@ -5,3 +5,4 @@ pub mod EditLemmas
 pub mod AmendLemmas
 pub mod RewritingLemmas
 pub mod FindLemmas
+pub mod EntryLemmas

@@ -48,10 +48,10 @@ abbrev pub CanName : Directory → List ℕ → Type 0
 CanName (Directory.Small dir) name = IsTrue (is_writable (names_of_form dir.form) name)
 CanName (Directory.Big dir) name = Unit {0}
 
--- The field of the parent can hold the number.
-abbrev pub CanLieIn : Directory → ℕ → Type 0
-CanLieIn (Directory.Small dir) parent = parent < 2 ^ 24
-CanLieIn (Directory.Big dir) parent = Unit {0}
+-- The fields of addresses, of the parent and of entries, can hold the number.
+abbrev pub CanAddress : Directory → ℕ → Type 0
+CanAddress (Directory.Small dir) address = address < 2 ^ 24
+CanAddress (Directory.Big dir) address = Unit {0}
 
 -- The field of the head's name can hold the name. A big head takes any, or keeps its own.
 abbrev pub CanBeCalled : Directory → List ℕ → Type 0

@@ -1,10 +1,8 @@
 -- The entries that commands make.
-use Rattle.std.specs.Prelude.{◌≡◌, ℕ, ◌+◌, ◌*◌, ◌/◌, ◌%◌, List}
+use Rattle.std.specs.Prelude.{ℕ, ◌+◌, ◌*◌, ◌/◌, ◌%◌, List}
 use Rattle.fc_names.specs.declared.name.NameForm.{NameForm}
 use Rattle.fc_dirs.specs.declared.Entry.{Entry}
-use Rattle.fc_dirs.specs.Directory.{Directory}
 use Rattle.fc_effects.specs.Short.{new_dir_size}
-use Rattle.fc_drafts.specs.Draft.{CanHold}
 
 -- a new file, which may be read and written
 abbrev pub file_entry : List ℕ → (load exec len address : ℕ) → Entry
@@ -33,7 +31,3 @@ renamed_entry e name address = record e { name = name; address = address }
 -- a grown directory, at its address and of its length
 abbrev pub regrown : Entry → (address len : ℕ) → Entry
 regrown e address len = record e { address = address; len = len }
-
--- A directory that can hold the first entry can hold the second.
-abbrev pub AsWellHeld : Entry → Entry → Type 0
-AsWellHeld e new = (dir : Directory) → CanHold dir e → CanHold dir new

@@ -6,7 +6,7 @@ ghost use Rattle.fc_dirs.specs.Entries.{has_name};
 ghost use Rattle.fc_dirs.specs.Small.{tail_of};
 ghost use Rattle.fc_dirs.specs.Directory.{Directory, entries_of, parent_of};
 ghost use Rattle.fc_effects.specs.Steady.{AreWritten, new_directory};
-ghost use Rattle.fc_drafts.specs.Draft.{CanBeCalled, CanHold, CanLieIn, IsSayable, directory_in, size_of};
+ghost use Rattle.fc_drafts.specs.Draft.{CanBeCalled, CanHold, CanAddress, IsSayable, directory_in, size_of};
 
 use fc_bigdir::BigDir;
 use fc_device::NoMemory;
@@ -55,7 +55,7 @@ impl Draft {
         parent: u32,
         name: &Name,
     ) -> Result<Draft, NoMemory>
-        requires parent { CanLieIn (new_directory form parent name.now) parent }
+        requires parent { CanAddress (new_directory form parent name.now) parent }
         requires name { CanBeCalled (new_directory form parent name.now) name.now }
         ensures { IfOk result (λ draft. directory_in draft ≡ new_directory form parent name.now) }
     {

@@ -3,7 +3,7 @@ ghost use Rattle.std.specs.Prelude.{◌≡◌, ◌<◌, ◌↔◌, Some, length,
 ghost use Rattle.std.specs.Option.{option_map};
 ghost use Rattle.fc_dirs.specs.Entries.{has_name, without_entry};
 ghost use Rattle.fc_dirs.specs.Directory.{entries_of};
-ghost use Rattle.fc_drafts.specs.Draft.{CanBeCalled, CanHold, CanLieIn, CanName, IsFullFor, IsFullForRenamed, directory_in, with_changed, with_head, with_less, with_name, with_new, with_renamed};
+ghost use Rattle.fc_drafts.specs.Draft.{CanBeCalled, CanHold, CanAddress, CanName, IsFullFor, IsFullForRenamed, directory_in, with_changed, with_head, with_less, with_name, with_new, with_renamed};
 
 use crate::Draft;
 use fc_device::NoMemory;
@@ -13,7 +13,7 @@ use fc_names::Name;
 impl Draft {
     // Sets the field of the parent, and grows the sequence byte by one.
     pub(crate) fn head(&mut self, parent: u32)
-        requires { CanLieIn (directory_in self.old) parent }
+        requires { CanAddress (directory_in self.old) parent }
         ensures { directory_in self.new ≡ with_head parent (directory_in self.old) }
     {
         match self {

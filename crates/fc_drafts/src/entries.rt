@@ -1,7 +1,7 @@
 // The entries that commands make.
 ghost use Rattle.std.specs.Prelude.{◌≡◌, ◌<◌, ◌^◌, IfOk};
 ghost use Rattle.fc_effects.specs.Short.{new_dir_size};
-ghost use Rattle.fc_drafts.specs.Entries.{AsWellHeld, directory_entry, file_entry, marked_entry, regrown, renamed_entry, saved_entry, set_entry};
+ghost use Rattle.fc_drafts.specs.Entries.{directory_entry, file_entry, marked_entry, regrown, renamed_entry, saved_entry, set_entry};
 
 use fc_device::NoMemory;
 use fc_dirs::Entry;
@@ -78,8 +78,7 @@ pub fn saved_entry(
 /// An entry with other words, and with bits 0 to 2 of its attributes as given.
 pub fn set_entry(e: &Entry, load: u32, exec: u32, access: u32) -> Result<Entry, NoMemory>
     requires { access < 8 }
-    ensures set { IfOk result (λ set. set ≡ set_entry e.now load exec access) }
-    ensures held { IfOk result (λ set. AsWellHeld e.now set) }
+    ensures { IfOk result (λ set. set ≡ set_entry e.now load exec access) }
 {
     let copy = copy_of(e)?;
     let attrs = copy.attrs / 8 * 8 + access;

@@ -6,7 +6,7 @@ ghost use Rattle.fc_dirs.specs.declared.Entry.{Entry};
 ghost use Rattle.fc_dirs.specs.Entries.{has_name, without_entry};
 ghost use Rattle.fc_dirs.specs.Directory.{entries_of};
 ghost use Rattle.fc_effects.specs.Short.{Gain, is_full_with};
-ghost use Rattle.fc_drafts.specs.Draft.{CanBeCalled, CanHold, CanLieIn, CanName, directory_in};
+ghost use Rattle.fc_drafts.specs.Draft.{CanBeCalled, CanHold, CanAddress, CanName, directory_in};
 ghost use Rattle.fc_drafts.specs.Gains.{GetsName, GetsNameFor};
 ghost use Rattle.fc_drafts.specs.Rewriting.{HasAmended, HasEntered, HasLeft, HasMoved, HasNewHolder, HasRenamed, HasReplaced, IsAt};
 
@@ -24,7 +24,7 @@ impl Draft {
         requires named { CanName (directory_in self.old) e.name }
         requires held { CanHold (directory_in self.old) e }
         requires absent { IsFalse (has_name (entries_of (directory_in self.old)) e.name) }
-        requires parent { CanLieIn (directory_in self.old) parent }
+        requires parent { CanAddress (directory_in self.old) parent }
         ensures ok { OnOk result (HasEntered parent e (directory_in self.old) (directory_in self.new)) }
         ensures err { OnErr result (directory_in self.new ≡ directory_in self.old) }
         ensures full { (gain : Gain) → GetsName (directory_in self.old) e.name gain → IsErrOf result InsertError.DirFull ↔ IsTrue (is_full_with (directory_in self.old) gain) }
@@ -40,7 +40,7 @@ impl Draft {
         requires present { at < length (entries_of (directory_in self.old)) }
         requires same { option_map (λ d. d.name) (slice_get (entries_of (directory_in self.old)) at) ≡ Some e.name }
         requires held { CanHold (directory_in self.old) e }
-        requires parent { CanLieIn (directory_in self.old) parent }
+        requires parent { CanAddress (directory_in self.old) parent }
         ensures { HasReplaced parent at e (directory_in self.old) (directory_in self.new) }
     {
         self.entries();
@@ -51,7 +51,7 @@ impl Draft {
     /// The entry at a place goes. In a big directory its name stays in the heap.
     pub fn leave(&mut self, parent: u32, at: usize)
         requires present { at < length (entries_of (directory_in self.old)) }
-        requires parent { CanLieIn (directory_in self.old) parent }
+        requires parent { CanAddress (directory_in self.old) parent }
         ensures { HasLeft parent at (directory_in self.old) (directory_in self.new) }
     {
         self.entries();
@@ -68,7 +68,7 @@ impl Draft {
         requires named { CanName (directory_in self.old) e.name }
         requires held { CanHold (directory_in self.old) e }
         requires absent { IsFalse (has_name (without_entry at (entries_of (directory_in self.old))) e.name) }
-        requires parent { CanLieIn (directory_in self.old) parent }
+        requires parent { CanAddress (directory_in self.old) parent }
         ensures ok { OnOk result (HasRenamed parent at e (directory_in self.old) (directory_in self.new)) }
         ensures err { OnErr result (directory_in self.new ≡ directory_in self.old) }
         ensures kept { (was : Entry) → IsAt (entries_of (directory_in self.old)) at was → was.name ≡ e.name → IsErrOf result InsertError.DirFull → ⊥ }
@@ -84,7 +84,7 @@ impl Draft {
     /// space for the new one. After an error the draft is as before.
     pub fn rename_head(&mut self, parent: u32, name: &Name) -> Result<(), NoMemory>
         requires name { CanBeCalled (directory_in self.old) name.now }
-        requires parent { CanLieIn (directory_in self.old) parent }
+        requires parent { CanAddress (directory_in self.old) parent }
         ensures ok { OnOk result (HasMoved parent name.now (directory_in self.old) (directory_in self.new)) }
         ensures err { OnErr result (directory_in self.new ≡ directory_in self.old) }
     {
@@ -96,7 +96,7 @@ impl Draft {
 
     /// The directory that holds this one has got another address, or one of its entries has been amended.
     pub fn set_holder(&mut self, parent: u32)
-        requires { CanLieIn (directory_in self.old) parent }
+        requires { CanAddress (directory_in self.old) parent }
         ensures { HasNewHolder parent (directory_in self.old) (directory_in self.new) }
     {
         self.entries();
