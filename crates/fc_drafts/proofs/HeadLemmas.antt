@@ -97,18 +97,21 @@ big_name_kept (Command.Mark p attrs) path old name other is = is
 pub big_rewritten : (parent : ℕ) (old new : BigDir) → IsBig old → SameHead old new → HeapAfter old new
     → IsRewrittenFor parent (Directory.Big old) (with_head parent (Directory.Big new))
 big_rewritten parent old new big same heap = λ c path other.
-    let form : new.second_form ≡ form_of old.second_form new.name = same.second_form ∙ sym (form_kept old big) ∙ ap (form_of old.second_form) (sym same.name) in
-    (big_name_kept c path old new.name other same.name, heap, λ i. record {
-      size = new.size;
-      sequence = next_sequence (same.sequence i);
-      parent = parent;
-      name = new.name;
-      second_form = form i;
-      reserved = same.reserved i;
-      heap = new.heap;
-      name_places = new.name_places;
-      entries = new.entries;
-    })
+    let form : new.second_form ≡ form_of old.second_form new.name = same.second_form ∙ sym (form_kept old big) ∙ ap (form_of old.second_form) (sym same.name) in (
+      big_name_kept c path old new.name other same.name,
+      heap,
+      λ i. record {
+        size = new.size;
+        sequence = next_sequence (same.sequence i);
+        parent = parent;
+        name = new.name;
+        second_form = form i;
+        reserved = same.reserved i;
+        heap = new.heap;
+        name_places = new.name_places;
+        entries = new.entries;
+      },
+    )
 
 -- ---- heaps
 
@@ -182,17 +185,17 @@ fails_more head n heap more size further fails =
 pub big_moved : (parent : ℕ) (name : List ℕ) (old : BigDir) → IsBig old → IsRewrittenAs name parent (Directory.Big old) (with_head parent (with_name name (Directory.Big old)))
 big_moved parent name old big = λ from to path renamed last.
     subst (λ (b : Bool). (let rest = with_head_name name old in
-      RenamedHead b old (last_name to) rest.name × HeapAfter old (record rest { parent = parent; sequence = next_sequence rest.sequence })
-      × (record rest { parent = parent; sequence = next_sequence rest.sequence } ≡ record old {
-        size = rest.size;
-        sequence = next_sequence old.sequence;
-        parent = parent;
-        name = rest.name;
-        second_form = form_of old.second_form rest.name;
-        heap = rest.heap;
-        name_places = rest.name_places;
-        entries = rest.entries;
-      }))) (sym (turned path from renamed)) (by (last_name to) last (nat_le (bytes_taken new) old.size) refl)
+    RenamedHead b old (last_name to) rest.name × HeapAfter old (record rest { parent = parent; sequence = next_sequence rest.sequence })
+    × (record rest { parent = parent; sequence = next_sequence rest.sequence } ≡ record old {
+      size = rest.size;
+      sequence = next_sequence old.sequence;
+      parent = parent;
+      name = rest.name;
+      second_form = form_of old.second_form rest.name;
+      heap = rest.heap;
+      name_places = rest.name_places;
+      entries = rest.entries;
+    }))) (sym (turned path from renamed)) (by (last_name to) last (nat_le (bytes_taken new) old.size) refl)
   where
     new : BigDir
     new = record old { name = name; second_form = form_of old.second_form name }
@@ -216,16 +219,22 @@ big_moved parent name old big = λ from to path renamed last.
 
     by : (last : List ℕ) → last ≡ name → (b : Bool) → nat_le (bytes_taken new) old.size ≡ b → Done last (cond b new old)
     by last is true holds = (
-      inl (sym is, subst (λ (n : List ℕ). holds_name old (min (length old.heap) (packed_len old)) n ≡ true) (sym is)
-      (holds_less (head_space old.second_form (length name)) (length old.entries) (length old.heap) (min (length old.heap) (packed_len old)) old.size (size_bounds old.size big.size) (omega arith)
-      (subst (λ (h : ℕ). nat_le (bytes_for h (length old.entries) (length old.heap)) old.size ≡ true) space holds))),
+      inl (
+        sym is,
+        subst (λ (n : List ℕ). holds_name old (min (length old.heap) (packed_len old)) n ≡ true) (sym is)
+            (holds_less (head_space old.second_form (length name)) (length old.entries) (length old.heap) (min (length old.heap) (packed_len old)) old.size (size_bounds old.size big.size) (omega arith)
+            (subst (λ (h : ℕ). nat_le (bytes_for h (length old.entries) (length old.heap)) old.size ≡ true) space holds)),
+      ),
       heap_stays old new refl (same_names old),
       refl,
     )
     by last is false fails = (
-      inr (refl, subst (λ (n : List ℕ). holds_name old (max (length old.heap) (packed_len old)) n ≡ false) (sym is)
-      (fails_more (head_space old.second_form (length name)) (length old.entries) (length old.heap) (max (length old.heap) (packed_len old)) old.size (omega arith)
-      (subst (λ (h : ℕ). nat_le (bytes_for h (length old.entries) (length old.heap)) old.size ≡ false) space fails))),
+      inr (
+        refl,
+        subst (λ (n : List ℕ). holds_name old (max (length old.heap) (packed_len old)) n ≡ false) (sym is)
+            (fails_more (head_space old.second_form (length name)) (length old.entries) (length old.heap) (max (length old.heap) (packed_len old)) old.size (omega arith)
+            (subst (λ (h : ℕ). nat_le (bytes_for h (length old.entries) (length old.heap)) old.size ≡ false) space fails)),
+      ),
       heap_stays old old refl (same_names old),
       λ i. record old { sequence = next_sequence old.sequence; parent = parent; second_form = sym (form_kept old big) i },
     )

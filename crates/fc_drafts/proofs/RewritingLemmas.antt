@@ -82,7 +82,7 @@ replaced parent (Directory.Small dir) at e small within same = record {
 replaced parent (Directory.Big dir) at e big within same = record {
   is = refl;
   rewritten = big_kept parent dir (set dir.entries at e) dir.name_places big
-  (ap (filter (is_unspelled dir.entries)) (names_set dir.entries at e within same) ∙ none_pass (is_unspelled dir.entries) dir.entries (own_name dir.entries));
+      (ap (filter (is_unspelled dir.entries)) (names_set dir.entries at e within same) ∙ none_pass (is_unspelled dir.entries) dir.entries (own_name dir.entries));
   entries = made_changed dir.entries at (get_or dir.entries at blank) e big.apart (slice_get-get_or dir.entries at blank within) same;
   size = refl;
 }
@@ -99,7 +99,7 @@ left parent (Directory.Small dir) at small within = record {
 left parent (Directory.Big dir) at big within = record {
   is = refl;
   rewritten = big_kept parent dir (remove dir.entries at) (remove dir.name_places at) big
-  (none_pass (is_unspelled dir.entries) (remove dir.entries at) (left_fail (is_unspelled dir.entries) dir.entries at within (own_name dir.entries)));
+      (none_pass (is_unspelled dir.entries) (remove dir.entries at) (left_fail (is_unspelled dir.entries) dir.entries at within (own_name dir.entries)));
   entries = λ was name is same. edit_law.removed dir.entries at was name big.apart is same;
   size = refl;
 }

@@ -49,12 +49,7 @@ impl Draft {
 
     /// A new directory of that name, with no entry. `parent` is the disc address of the directory that holds it, on discs
     /// with small directories below 2^24.
-    pub fn empty(
-        alloc: Global,
-        form: NameForm,
-        parent: u32,
-        name: &Name,
-    ) -> Result<Draft, NoMemory>
+    pub fn empty(alloc: Global, form: NameForm, parent: u32, name: &Name) -> Result<Draft, NoMemory>
         requires parent { CanAddress (new_directory form parent name.now) parent }
         requires name { CanBeCalled (new_directory form parent name.now) name.now }
         ensures { IfOk result (λ draft. directory_in draft ≡ new_directory form parent name.now) }
@@ -122,8 +117,6 @@ impl Draft {
     pub fn place_of_name(&self, name: &Name) -> Option<usize>
         ensures place { MatchOption result (IsFalse (has_name (entries_of (directory_in self.now)) name.now)) (λ at. (e : Entry) × (slice_get (entries_of (directory_in self.now)) at ≡ Some e) × IsTrue (is_same_name e.name name.now) × CanHold (directory_in self.now) e) }
     {
-        self.entries()
-            .iter()
-            .position(|e| fold_eq(name, &e.name))
+        self.entries().iter().position(|e| fold_eq(name, &e.name))
     }
 }
