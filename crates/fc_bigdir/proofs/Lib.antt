@@ -16,3 +16,4 @@ pub mod GrowLemmas
 pub mod KeptLemmas
 pub mod RenameLemmas
 pub mod ChangeLemmas
+pub mod NeededLemmas

@@ -7,10 +7,12 @@
 mod big;
 mod bytes;
 mod change;
+mod copy;
 mod enter;
 mod entries;
 mod frame;
 mod insert;
+mod needed;
 mod put;
 mod read;
 mod rename;

@@ -5,6 +5,7 @@
 #![tactic(auto)]
 
 mod bytes;
+mod copy;
 mod entries;
 mod entry;
 mod head;
@@ -12,6 +13,7 @@ mod small;
 
 ghost use Rattle.fc_smalldir.specs.Laws.{ReadsBack};
 
+pub use copy::copied_entries;
 pub use fc_dirs::{DirError, DirFault, Entry, InsertError, SmallForm};
 pub use small::SmallDir;
 

@@ -24,8 +24,8 @@ use std::marker::Model;
 /// A directory of 2048 or of 1280 bytes: its form, the fields of its head and tail, and its entries in stored order.
 #[derive(Drop)]
 pub struct SmallDir {
-    head: Head,
-    entries: Vec<Entry>,
+    pub(crate) head: Head,
+    pub(crate) entries: Vec<Entry>,
 }
 
 impl Model for SmallDir {

@@ -1,0 +1,5 @@
+pub mod Draft
+pub mod Gains
+pub mod Entries
+pub mod Rewriting
+pub mod Laws

@@ -1,0 +1,87 @@
+// The room that a directory has for a name, before anything is edited.
+ghost use Rattle.std.specs.Prelude.{◌≡◌, ◌<◌, length};
+ghost use Rattle.fc_dirs.specs.declared.Entry.{Entry};
+ghost use Rattle.fc_dirs.specs.Directory.{entries_of};
+ghost use Rattle.fc_dirs.specs.Small.{tail_of};
+ghost use Rattle.fc_effects.specs.Short.{Gain};
+ghost use Rattle.fc_drafts.specs.Draft.{directory_in};
+ghost use Rattle.fc_drafts.specs.Gains.{GetsName, GetsNameFor, HasRoom, room_of_size, small_room};
+ghost use Rattle.fc_drafts.specs.Rewriting.{IsAt};
+
+use crate::Draft;
+use fc_dirs::SmallForm;
+use fc_names::Name;
+use fc_smalldir::SmallDir;
+
+/// The room that a directory has for a name.
+#[derive(Clone, Copy, Debug, PartialEq, Eq)]
+pub enum Room {
+    /// None: a small directory has too many entries, and a big one would pass 4,194,304 bytes.
+    Full,
+    /// The directory has to grow to so many bytes.
+    Grows(u32),
+    /// As it is.
+    Fits,
+}
+
+// The room of a directory of so many bytes that needs so many.
+fn room_of_size(size: usize, needed: u64) -> Room
+    ensures { result ≡ room_of_size size needed }
+{
+    if needed > 4_194_304 {
+        Room::Full
+    } else if needed > size as u64 {
+        Room::Grows(needed as u32)
+    } else {
+        Room::Fits
+    }
+}
+
+// The number of entries that a small directory holds at most.
+fn places(form: SmallForm) -> usize
+    ensures { result ≡ (tail_of form).places }
+{
+    match form {
+        SmallForm::Bytes2048 => 77,
+        SmallForm::Bytes1280 => 47,
+    }
+}
+
+// The room of a small directory for one entry more.
+fn small_room(dir: &SmallDir) -> Room
+    ensures { result ≡ small_room dir.now }
+{
+    if dir.entries().len() == places(dir.form()) {
+        Room::Full
+    } else {
+        Room::Fits
+    }
+}
+
+impl Draft {
+    /// The room for a name that is not there.
+    pub fn room_for(&self, name: &Name) -> Room
+        ensures { (gain : Gain) → GetsName (directory_in self.now) name.now gain → HasRoom (directory_in self.now) gain result }
+    {
+        self.entries();
+        match self {
+            Draft::Small(dir) => small_room(dir),
+            Draft::Big(dir) => room_of_size(dir.size(), dir.needed_with(name)),
+        }
+    }
+
+    /// The room for a name in place of that of the entry at a place. A name that is spelled as before always fits.
+    pub fn room_renamed(&self, at: usize, name: &Name) -> Room
+        requires { at < length (entries_of (directory_in self.now)) }
+        ensures kept { (was : Entry) → IsAt (entries_of (directory_in self.now)) at was → was.name ≡ name.now → result ≡ Room.Fits }
+        ensures respelled { (was : Entry) (gain : Gain) → IsAt (entries_of (directory_in self.now)) at was → (was.name ≡ name.now → ⊥) → GetsNameFor (directory_in self.now) was.name name.now gain → HasRoom (directory_in self.now) gain result }
+    {
+        if self.entries()[at].name.bytes() == name.bytes() {
+            return Room::Fits;
+        }
+        match self {
+            Draft::Small(_) => Room::Fits,
+            Draft::Big(dir) => room_of_size(dir.size(), dir.needed_renamed(at, name)),
+        }
+    }
+}
