@@ -1,1 +1,3 @@
 pub mod ExtentLemmas
+pub mod AheadLemmas
+pub mod BlockLemmas

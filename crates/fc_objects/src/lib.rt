@@ -3,8 +3,11 @@
 #![tactic(auto)]
 
 mod pieces;
+mod reader;
+mod sectors;
 #[cfg(test)]
 mod tests;
 
 pub use fc_device::{Disk, DiskFault, Extent};
 pub use pieces::{read_piece, write_piece};
+pub use reader::ObjectReader;
