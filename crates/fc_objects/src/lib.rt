@@ -5,9 +5,11 @@
 mod pieces;
 mod reader;
 mod sectors;
+mod writer;
 #[cfg(test)]
 mod tests;
 
 pub use fc_device::{Disk, DiskFault, Extent};
 pub use pieces::{read_piece, write_piece};
 pub use reader::ObjectReader;
+pub use writer::write_object;
