@@ -3,7 +3,8 @@ use Rattle.std.proofs.Common.{◌≡◌, ℕ, zero, suc, ◌+◌, ◌-◌, ◌*�
 use Rattle.std.specs.List.{flat_map, range_with_len}
 use Rattle.std.proofs.lemmas.Grind.{common_steps, flat_map-append}
 use Rattle.std.proofs.lemmas.Bool.{cases_lt}
-use Rattle.std.proofs.lemmas.List.{append-nil, take-append-le}
+use Rattle.std.proofs.lemmas.List.{append-nil, length-append, take-append-le}
+use Rattle.std.proofs.lemmas.List.FromFn.{length-range_with_len}
 use Rattle.std.proofs.Math.Seq.{take-append-add, take-length}
 use Rattle.fc_device.specs.declared.disk.Extent.{Extent}
 use Rattle.fc_device.specs.Sectors.{row_at, sector_at}
@@ -78,3 +79,19 @@ block_bytes size image before after row len count read rest cut is long few =
     ∙ take_both len read (flat_map f after)
     ∙ ap₂ (λ (a : List ℕ) (k : ℕ). a ++ take k (flat_map f after))
     (take_most len read ∙ ap (λ (k : ℕ). take k read) some ∙ sym (take-append-le count read rest (omega (arith, some)))) left
+
+-- how many bytes are ahead then
+pub block_length : (size : ℕ) (before after : List ℕ) (row : Extent) (len count : ℕ) → before ≡ extent_sectors row ++ after → count ≡ min len (row.sectors * size)
+    → min len (length before * size) ≡ count + min (len - count) (length after * size)
+block_length size before after row len count cut few =
+    let long : length before ≡ row.sectors + length after =
+    ap length cut ∙ length-append (extent_sectors row) after ∙ ap (λ (n : ℕ). n + length after) (length-range_with_len row.first row.sectors) in
+    let both : length before * size ≡ row.sectors * size + length after * size = ap (λ (n : ℕ). n * size) long ∙ sum_times row.sectors (length after) size in
+    omega (arith, both, few)
+  where
+    sum_times : (x y z : ℕ) → (x + y) * z ≡ x * z + y * z
+    sum_times x y z = grind (arith)
+
+-- none where no sector is left
+pub length_none : (len size : ℕ) (sectors : List ℕ) → sectors ≡ [] → min len (length sectors * size) ≡ 0
+length_none len size sectors none = ap (λ (xs : List ℕ). min len (length xs * size)) none ∙ (let e : min len (0 * size) ≡ 0 = omega arith in e)

@@ -4,7 +4,7 @@ ghost use Rattle.std.specs.Option.{ForSome};
 ghost use Rattle.fc_device.specs.Calls.{FailsByFault, OnlyReads};
 ghost use Rattle.fc_objects.specs.Extents.{sectors_in};
 ghost use Rattle.fc_objects.specs.Ahead.{ahead};
-ghost use Rattle.fc_objects.specs.Bytes.{bytes_ahead};
+ghost use Rattle.fc_objects.specs.Bytes.{bytes_ahead, length_ahead};
 
 use crate::sectors::Sectors;
 use fc_device::{Disk, DiskFault, Extent};
@@ -53,9 +53,9 @@ impl<'a> ObjectReader<'a> {
         requires on_disk { All (λ n. n < D.sectors disk.old) (ahead self.old.sectors) }
         requires room { self.old.size ≤ length into.old }
         ensures bytes { IfOk result (λ count. ForSome (D.bytes disk.old) (λ image. bytes_ahead image self.old ≡ take count into.new ++ bytes_ahead image self.new)) }
-        ensures end { result ≡ Ok 0 → (image : List ℕ) → bytes_ahead image self.old ≡ [] }
+        ensures end { result ≡ Ok 0 → (length_ahead self.old ≡ 0) × ((image : List ℕ) → bytes_ahead image self.old ≡ []) }
         ensures bound { IfOk result (λ count. count ≤ length into.new) }
-        ensures left { IfOk result (λ count. self.new.len + count ≡ self.old.len) }
+        ensures length { IfOk result (λ count. length_ahead self.old ≡ count + length_ahead self.new) }
         ensures failed { OnErr result (self.new ≡ self.old) }
         ensures size_stays { self.new.size ≡ self.old.size }
         ensures on_disk { All (λ n. n < D.sectors disk.new) (ahead self.new.sectors) }

@@ -1,18 +1,23 @@
-use Rattle.std.proofs.Common.{◌≡◌, ◌<◌, ◌*◌, All, drop, refl, sym, subst, ◌∙◌, arith}
+use Rattle.std.proofs.Common.{ℕ, List, ◌≡◌, ◌<◌, ◌*◌, All, drop, refl, sym, subst, ◌∙◌, arith}
 use Rattle.std.proofs.lemmas.List.{length-take-le}
 use Rattle.std.proofs.lemmas.Nat.{mul-le}
 use Rattle.fc_device.specs.Sectors.{row_at}
 use Rattle.fc_objects.specs.Ahead.{ahead}
 use Rattle.fc_objects.specs.Extents.{extent_sectors}
 use Rattle.fc_objects.proofs.AheadLemmas.{all_back, row_last}
-use Rattle.fc_objects.proofs.BlockLemmas.{block_bytes, no_length, no_sectors}
+use Rattle.fc_objects.proofs.BlockLemmas.{block_bytes, block_length, length_none, no_length, no_sectors}
 use Rattle.fc_objects.proofs.reader.ObjectReader.read.Goals as goal
 
 pub returns-then-self-eq0-clause-end : goal.returns-then-self-eq0-clause-end
-returns-then-self-eq0-clause-end g c = λ _ image. let s = c.args.self.now in no_length s.size image (ahead s.sectors) s.len (omega (arith, c.if-self-eq0.true))
+returns-then-self-eq0-clause-end g c = λ _.
+    let s = c.args.self.now in
+    (omega (arith, c.if-self-eq0.true), λ (image : List ℕ). no_length s.size image (ahead s.sectors) s.len (omega (arith, c.if-self-eq0.true)))
 
 pub returns-in_default-clause-end : goal.returns-in_default-clause-end
-returns-in_default-clause-end g c = λ _ image. let s = c.args.self.now in no_sectors s.size image (ahead s.sectors) s.len (c.in_default.ensures.end refl)
+returns-in_default-clause-end g c = λ _.
+    let s = c.args.self.now in
+    let none = c.in_default.ensures.end refl in
+    (length_none s.len s.size (ahead s.sectors) none, λ (image : List ℕ). no_sectors s.size image (ahead s.sectors) s.len none)
 
 pub read_row-requires-clause-on_disk : goal.read_row-requires-clause-on_disk
 read_row-requires-clause-on_disk g c =
@@ -37,3 +42,11 @@ returns-clause-on_disk g c =
     let old = all_back (λ n. n < d.sectors c.args.disk.now) (extent_sectors c.in-Some.row) (ahead c.next_row.new.self)
     (subst (All (λ n. n < d.sectors c.args.disk.now)) c.in-Some.ensures.row c.requires.on_disk) in
     subst (λ k. All (λ n. n < k) (ahead c.next_row.new.self)) (sym c.read_row.ensures.form.sectors_stay) old
+
+pub returns-clause-length : goal.returns-clause-length
+returns-clause-length g c =
+    let s = c.args.self.now in
+    block_length s.size (ahead s.sectors) (ahead c.next_row.new.self) c.in-Some.row s.len c.min-count.result c.in-Some.ensures.row c.min-count.ensures
+
+pub returns-in_default-clause-length : goal.returns-in_default-clause-length
+returns-in_default-clause-length g c = omega arith
