@@ -10,6 +10,7 @@ use crate::sectors::Sectors;
 use fc_device::{Disk, DiskFault, Extent};
 
 /// Gives the bytes of an object from its first to its last, a block at a time.
+#[derive(Clone, Copy)]
 pub struct ObjectReader<'a> {
     sectors: Sectors<'a>,
     // The bytes of a sector.
