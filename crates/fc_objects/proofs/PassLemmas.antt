@@ -49,9 +49,13 @@ module _ {D : Type 0} {d : Ghosts D} (law : Laws d) where
         let one : LeavesOnly d.moment d.left_since mid new (SectorOldOrNew size n piece (d.left_since mid (d.moment mid))) =
         subst (λ (k : ℕ). LeavesOnly d.moment d.left_since mid new (SectorOldOrNew k n piece (d.left_since mid (d.moment mid)))) same second in
         goes_on_write law size n piece first one
-        (λ image p. (p.0, p.1, λ inside.
-        let fits : n * size + size ≤ length p.0 = subst (λ (k : ℕ). k * size + size ≤ length p.0) next.at (inside (length done) 0 next.within) in
-        subst (λ (x : List ℕ). IsPartWritten size sectors bytes p.0 (with_sector size image n x)) (sym is) (part_more size sectors bytes p.0 image done n next fits (p.2 inside))))
+        (λ image p. (
+          p.0,
+          p.1,
+          λ inside.
+              let fits : n * size + size ≤ length p.0 = subst (λ (k : ℕ). k * size + size ≤ length p.0) next.at (inside (length done) 0 next.within) in
+              subst (λ (x : List ℕ). IsPartWritten size sectors bytes p.0 (with_sector size image n x)) (sym is) (part_more size sectors bytes p.0 image done n next fits (p.2 inside)),
+        ))
 
     -- what is read then
     pub exit_more : (was image : List ℕ) → d.bytes start ≡ Some was → All (λ k. k < d.sectors start) sectors → d.bytes mid ≡ Some image → IsPartWritten (d.sector_size start) sectors bytes was image

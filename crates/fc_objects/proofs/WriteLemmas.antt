@@ -65,9 +65,11 @@ part_more size sectors bytes was image done n next fits so_far =
       length_stays = length-with_sector size image n piece long inside ∙ so_far.length_stays;
       each = λ s. elim (cases_eq s n) [
         | inl same ↦ inr (
-            length done, next.within, next.at ∙ sym same,
-            ap (sector_at size (with_sector size image n piece)) same ∙ sector_at-with_sector_same size image n piece long inside,
-          )
+          length done,
+          next.within,
+          next.at ∙ sym same,
+          ap (sector_at size (with_sector size image n piece)) same ∙ sector_at-with_sector_same size image n piece long inside,
+        )
         | inr other ↦
             let e = sector_at-with_sector_other size image n s piece long inside other in
             ⊎_elim (λ old. inl (e ∙ old)) (λ new. inr (new.0, new.1, new.2, e ∙ new.3)) (so_far.each s)

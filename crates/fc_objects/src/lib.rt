@@ -5,9 +5,9 @@
 mod pieces;
 mod reader;
 mod sectors;
-mod writer;
 #[cfg(test)]
 mod tests;
+mod writer;
 
 pub use fc_device::{Disk, DiskFault, Extent};
 pub use pieces::{read_piece, write_piece};

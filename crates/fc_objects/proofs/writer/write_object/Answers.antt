@@ -104,7 +104,8 @@ loop-row-preserved g c =
       part = λ was told. exit_more law sectors walk.0 from (padded c.args.size left) row.first next inv.form.size_stays piece was (inv.part was told).0 told c.requires.on_disk (inv.part was told).1 (inv.part was told).2 c.write_front.ensures.old_or_new;
       told = told_more law (λ image. with_sector (g.D.Disk.sector_size c.loop-row.disk) image row.first (padded c.args.size left)) c.write_front.ensures.old_or_new inv.told;
       walk = (
-        walk.0 ++ (row.first ∷ []), cut ∙ sym (append_assoc walk.0 (row.first ∷ []) after),
+        walk.0 ++ (row.first ∷ []),
+        cut ∙ sym (append_assoc walk.0 (row.first ∷ []) after),
         left_more (g.D.Disk.sector_size c.args.disk.now) c.args.size (length walk.0) (length (walk.0 ++ (row.first ∷ []))) c.min.result from left walk.2 c.min.ensures c.requires.size count,
         done_more law sectors walk.0 from (padded c.args.size left) row.first next inv.form.size_stays piece after cut (omega (arith, low, inv.form.sectors_stay)) c.in_ok-write_front.ensures.written walk.3,
       );
