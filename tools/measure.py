@@ -165,7 +165,7 @@ def tasks(folder):
     tree = write_files(path("tree"), volume)[0]
     others = {"cat of the image": ["cat", path("objects.adf")]}
     if shutil.which("mke2fs") and shutil.which("e2fsck"):
-        subprocess.run(["mke2fs", "-q", "-t", "ext4", "-d", path("tree"), path("objects.ext4"), "600M"], check=True)
+        subprocess.run(["mke2fs", "-q", "-t", "ext4", "-N", "60000", "-d", path("tree"), path("objects.ext4"), "600M"], check=True)
         others["e2fsck"] = ["e2fsck", "-f", "-n", path("objects.ext4")]
     check = write_script(path("check"), ["check"])
     found.append(Task("`check` of %d files in 1,000 directories" % len(tree), path("objects.adf"), check, others))

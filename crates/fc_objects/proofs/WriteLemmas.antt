@@ -1,14 +1,17 @@
 -- The bytes of an object, written sector by sector.
 use Rattle.std.proofs.Common.{◌≡◌, ◌≢◌, inl, inr, ⊎_elim, ◌≤◌, ◌<◌, ℕ, ◌+◌, ◌-◌, ◌*◌, min, List, [], ◌∷◌, ◌++◌, length, take, drop, get_or, replicate, length-append, length-drop, refl, sym, ap, ap₂, ◌∙◌, arith}
+use Rattle.std.specs.List.{flat_map}
 use Rattle.std.proofs.lemmas.Bool.{cases_lt, cases_eq}
-use Rattle.std.proofs.lemmas.List.{length-replicate, length-take-le, take-replicate, drop-replicate, take_min, drop_min, drop-drop}
+use Rattle.std.proofs.lemmas.Grind.{common_steps}
+use Rattle.std.proofs.lemmas.List.{length-replicate, length-take-le, take-replicate, drop-replicate, take_min, drop_min, drop-drop, append-nil, take-append-le, take-append-drop, take-take}
 use Rattle.std.proofs.Math.ListN.{get_or-append}
 use Rattle.std.proofs.Math.Seq.{take-length}
 use Rattle.std.proofs.Math.Seq.{get_or-append_right}
 use Rattle.fc_device.specs.Sectors.{sector_at, with_sector}
 use Rattle.fc_device.proofs.SectorLemmas.{length-with_sector, sector_at-with_sector_other, sector_at-with_sector_same}
+use Rattle.fc_objects.specs.Bytes.{first_bytes}
 use Rattle.fc_objects.specs.Written.{AreApart, HasParts, IsPartWritten, padded, part_at}
-use Rattle.fc_objects.proofs.BlockLemmas.{take_both, take_most}
+use Rattle.fc_objects.proofs.BlockLemmas.{no_length, take_both, take_most}
 
 -- ---- one sector
 
@@ -106,3 +109,49 @@ left_more size own done more k bytes left is few same next =
     ap (λ (n : ℕ). take n (drop k left)) (sym (length-drop k left)) ∙ take-length (drop k left)
     ∙ ap (λ (n : ℕ). drop n left) (few ∙ ap (λ (n : ℕ). min n (length left)) (sym same)) ∙ drop_min size left
     ∙ ap (drop size) is ∙ drop-drop size (done * size) bytes ∙ ap (λ (n : ℕ). drop n bytes) (step ∙ ap (λ (n : ℕ). n * size) (sym next))
+
+-- ---- what was written is read
+
+-- the parts of the other sectors are those of the other bytes
+parts_after : (size : ℕ) (s : ℕ) (sectors bytes image : List ℕ) → HasParts size (s ∷ sectors) bytes image → HasParts size sectors (drop size bytes) image
+parts_after size s sectors bytes image parts i within =
+    let step : size + i * size ≡ (i + 1) * size = grind arith in
+    let next : get_or (s ∷ sectors) (i + 1) 0 ≡ get_or sectors i 0 = grind (arith, common_steps) in
+    ap (sector_at size image) (sym next) ∙ parts (i + 1) (omega (arith, within))
+    ∙ ap (padded size) (sym (drop-drop (i * size) size bytes ∙ ap (λ (k : ℕ). drop k bytes) step))
+
+front_short : (size : ℕ) (bytes rest : List ℕ) → length bytes ≤ size → take (length bytes) (padded size bytes ++ rest) ≡ bytes
+unfolding padded
+front_short size bytes rest few =
+    take-append-le (length bytes) (take size (bytes ++ replicate size 0)) rest (omega (arith, few, length-padded size bytes))
+    ∙ take-take (length bytes) size (bytes ++ replicate size 0) few ∙ take-append-le (length bytes) bytes (replicate size 0) (omega arith) ∙ take-length bytes
+
+front_long : (size : ℕ) (bytes rest : List ℕ) → size ≤ length bytes → rest ≡ drop size bytes → take size bytes ++ rest ≡ bytes
+front_long size bytes rest many is = ap (λ (xs : List ℕ). take size bytes ++ xs) is ∙ take-append-drop size bytes
+
+-- the bytes that were written are the first of the sectors
+pub reads_back : (size : ℕ) (image sectors bytes : List ℕ) → HasParts size sectors bytes image → length bytes ≤ length sectors * size → first_bytes size image sectors (length bytes) ≡ bytes
+unfolding first_bytes
+reads_back size image [] bytes parts room = no_length size image [] (length bytes) (omega (arith, room)) ∙ sym (none bytes (omega (arith, room)))
+  where
+    none : (xs : List ℕ) → length xs ≡ 0 → xs ≡ []
+    none [] e = refl
+    none (x ∷ xs) e = absurd (omega (arith, e))
+reads_back size image (s ∷ sectors) bytes parts room =
+    let rest = flat_map (sector_at size image) sectors in
+    let first : sector_at size image s ≡ padded size bytes = parts 0 (omega arith) ∙ ap (λ (k : ℕ). padded size (drop k bytes)) (let e : 0 * size ≡ 0 = omega arith in e) in
+    let all : flat_map (sector_at size image) (s ∷ sectors) ≡ padded size bytes ++ rest = ap (λ (xs : List ℕ). xs ++ rest) first in
+    ap (take (length bytes)) all
+    ∙ elim (cases_lt (length bytes) size) [
+      | inl few ↦ front_short size bytes rest (omega (arith, few))
+      | inr many ↦ (
+          let long = length-padded size bytes in
+          let left : length bytes - length (padded size bytes) ≡ length (drop size bytes) = omega (arith, long, length-drop size bytes) in
+          let step : (length sectors + 1) * size ≡ length sectors * size + size = grind arith in
+          let back = reads_back size image sectors (drop size bytes) (parts_after size s sectors bytes image parts) (omega (arith, room, step, length-drop size bytes)) in
+          let whole : take (length bytes) (padded size bytes) ≡ take size bytes =
+          take_most (length bytes) (padded size bytes) ∙ ap (λ (k : ℕ). take k (padded size bytes)) (let e : min (length bytes) (length (padded size bytes)) ≡ length (padded size bytes) = omega (arith, long, many) in e)
+          ∙ take-length (padded size bytes) ∙ padded_is size bytes ∙ ap (λ (k : ℕ). take size bytes ++ replicate k 0) (let e : size - length bytes ≡ 0 = omega (arith, many) in e) ∙ append-nil (take size bytes) in
+          take_both (length bytes) (padded size bytes) rest ∙ ap₂ (λ (a b : List ℕ). a ++ b) whole (ap (λ (k : ℕ). take k rest) left ∙ back)
+          ∙ front_long size bytes (drop size bytes) many refl)
+    ]

@@ -62,6 +62,8 @@ pub fn write_object<D: Disk>(
     requires size { D.sector_size disk.old ≡ size }
     requires on_disk { All (λ n. n < D.sectors disk.old) (sectors_in at.now) }
     ensures written { OnOk result (AreApart (sectors_in at.now) → ForSome (D.bytes disk.new) (HasParts (D.sector_size disk.old) (sectors_in at.now) from.now)) }
+    ensures reads_back { OnOk result (AreApart (sectors_in at.now) → length from.now ≤ length (sectors_in at.now) * D.sector_size disk.old
+        → ForSome (D.bytes disk.new) (λ image. first_bytes (D.sector_size disk.old) image (sectors_in at.now) (length from.now) ≡ from.now)) }
     ensures part { ForSome (D.bytes disk.old) (λ was. (image : List ℕ) × (D.bytes disk.new ≡ Some image) × IsPartWritten (D.sector_size disk.old) (sectors_in at.now) from.now was image) }
     ensures stops { StopsTear D.Disk disk.old disk.new (sectors_in at.now) from.now }
     ensures keeps { IsFalse (D.pending disk.old) → StopsAndExitsLeave D.Disk disk.old disk.new (IsPartWritten (D.sector_size disk.old) (sectors_in at.now) from.now) }

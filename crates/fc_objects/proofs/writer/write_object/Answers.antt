@@ -1,12 +1,13 @@
-use Rattle.std.proofs.Common.{◌≡◌, ◌<◌, ◌+◌, ◌++◌, ◌∷◌, [], ◌∙◌, ℕ, All, length, append_assoc, length-append, ap, subst, sym, arith}
+use Rattle.std.proofs.Common.{List, ◌++◌, refl, ◌≡◌, ◌<◌, ◌+◌, ◌++◌, ◌∷◌, [], ◌∙◌, ℕ, All, length, append_assoc, length-append, ap, subst, sym, arith}
 use Rattle.fc_device.specs.Sectors.{with_sector}
 use Rattle.fc_device.proofs.DiskLaws.{form_then, laws}
 use Rattle.fc_objects.specs.Ahead.{ahead}
 use Rattle.fc_objects.specs.Extents.{sectors_in}
-use Rattle.fc_objects.specs.Written.{padded, part_at}
+use Rattle.std.proofs.lemmas.List.{append-nil}
+use Rattle.fc_objects.specs.Written.{HasParts, padded, part_at}
 use Rattle.fc_objects.proofs.AheadLemmas.{all_back}
 use Rattle.fc_objects.proofs.PassLemmas.{done_more, exit_more, keeps_of, next_on_disk, next_sector, sectors_fit, tear_more, told_more}
-use Rattle.fc_objects.proofs.WriteLemmas.{left_more, next_of}
+use Rattle.fc_objects.proofs.WriteLemmas.{left_more, next_of, reads_back}
 use Rattle.fc_objects.proofs.writer.write_object.Goals as goal
 
 pub next_row-requires-clause-fit : goal.next_row-requires-clause-fit
@@ -115,3 +116,11 @@ pub returns-clause-keeps : goal.returns-clause-keeps
 returns-clause-keeps g c = λ quiet.
     let inv = c.loop-row.invariant in
     keeps_of (laws g.met.D.Disk) (sectors_in c.args.at.now) c.args.from.now quiet c.requires.on_disk inv.stops inv.part inv.told
+
+pub returns-clause-reads_back : goal.returns-clause-reads_back
+returns-clause-reads_back g c = λ apart room image told.
+    let walk = c.loop-row.invariant.walk in
+    let sectors = sectors_in c.args.at.now in
+    let size = g.D.Disk.sector_size c.args.disk.now in
+    let all : sectors ≡ walk.0 = walk.1 ∙ ap (λ (xs : List ℕ). walk.0 ++ xs) (c.in_default.ensures.end refl) ∙ append-nil walk.0 in
+    reads_back size image sectors c.args.from.now (subst (λ (xs : List ℕ). HasParts size xs c.args.from.now image) (sym all) (walk.3 apart image told)) room
