@@ -1,1 +1,4 @@
 pub mod Extents
+pub mod Ahead
+pub mod Bytes
+pub mod Written

@@ -3,8 +3,13 @@
 #![tactic(auto)]
 
 mod pieces;
+mod reader;
+mod sectors;
 #[cfg(test)]
 mod tests;
+mod writer;
 
 pub use fc_device::{Disk, DiskFault, Extent};
 pub use pieces::{read_piece, write_piece};
+pub use reader::ObjectReader;
+pub use writer::write_object;

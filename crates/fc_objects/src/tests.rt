@@ -40,6 +40,32 @@ fn set_value<D: Disk>(disk: &mut D, sector: u64, value: u8) -> Result<(), DiskFa
     write_piece(disk, &object(), sector, &[value; 256])
 }
 
+// Writes these bytes into the object.
+fn set_bytes<D: Disk>(disk: &mut D, bytes: &[u8]) -> Result<(), DiskFault>
+    requires attached { IsTrue (D.attached disk.old) }
+    requires size { D.sector_size disk.old ≡ 256 }
+    requires on_disk { 8 ≤ D.sectors disk.old }
+    ensures { SameForm D.Disk disk.old disk.new }
+{
+    write_object(disk, 256, &object(), bytes)
+}
+
+// How many bytes each of three blocks of 512 bytes gives, where the object has 600.
+fn blocks<D: Disk>(disk: &mut D) -> Result<[usize; 3], DiskFault>
+    requires attached { IsTrue (D.attached disk.old) }
+    requires size { D.sector_size disk.old ≡ 256 }
+    requires on_disk { 8 ≤ D.sectors disk.old }
+    ensures { SameForm D.Disk disk.old disk.new }
+{
+    let place = object();
+    let mut reader = ObjectReader::new(&place, 256, 600);
+    let mut block = [0xff; 512];
+    let first = reader.read(disk, &mut block)?;
+    let second = reader.read(disk, &mut block)?;
+    let third = reader.read(disk, &mut block)?;
+    Ok([first, second, third])
+}
+
 // A disk of eight sectors, of which each has its number and 10 throughout. The ninth read and the fifth write fail.
 fn disc(alloc: Global) -> Result<MemoryDisk, Fail> {
     let mut failing = Failing {
@@ -87,5 +113,21 @@ fn each_sector_is_read_and_written(rt: HostRuntime) -> Result<(), Fail> {
     assert!(rt; has_value(&mut disk, 0, 1).is_err());
     assert!(rt; set_value(&mut disk, 0, 9).is_err());
     assert!(rt; has_sectors(disk.bytes(), &[4, 11, 3, 13, 14, 1, 2, 17]));
+    Ok(())
+}
+
+#[test]
+fn an_object_is_written_and_read_in_blocks(rt: HostRuntime) -> Result<(), Fail> {
+    let alloc = rt.alloc();
+    let mut disk = disc(alloc)?;
+    let given = disk.attach("disc", None)?;
+    assert!(rt; given);
+    let sectors = disk.sectors();
+    assert!(rt; sectors == 8);
+    set_bytes(&mut disk, &[7; 600])?;
+    let padded = disk.bytes().iter().skip(512).take(256).enumerate().all(|(i, b)| *b == if i < 88 { 7 } else { 0 });
+    assert!(rt; padded && has_value(&mut disk, 0, 7)? && has_value(&mut disk, 1, 7)? && has_value(&mut disk, 3, 0)?);
+    assert!(rt; blocks(&mut disk)? == [512, 88, 0]);
+    assert!(rt; set_bytes(&mut disk, &[]).is_err());
     Ok(())
 }

@@ -6,8 +6,8 @@ mod ServingLemmas
 pub mod AnsweredLemmas
 pub mod ErrorLemmas
 pub mod HashLemmas
-pub mod PieceLemmas
-pub mod ReadingLemmas
+pub mod BlockLemmas
+pub mod DigitLemmas
 pub mod ReplyLemmas
 pub mod ShortageLemmas
 pub mod ToldLemmas

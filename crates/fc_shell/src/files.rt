@@ -1,89 +1,73 @@
-// The bytes of files, sector by sector.
-ghost use Rattle.std.specs.Prelude.{◌≡◌, ◌<◌, ◌≤◌, ◌*◌, ◌-◌, ◌++◌, ◌∷◌, ℕ, List, Err, length, take, IfOk, OnOk};
+// The bytes of files, block by block.
+ghost use Rattle.std.specs.Prelude.{◌≡◌, ◌≤◌, ◌*◌, ◌++◌, ◌∷◌, Err, length, IfOk, OnOk};
 ghost use Rattle.std.specs.Option.{ForSome};
 ghost use Rattle.hex.specs.Hex.{encode_lower};
-ghost use Rattle.sha2.specs.Hashers.{Holds256};
 ghost use Rattle.sha2.specs.Sha256.{sha256};
 ghost use Rattle.fc_device.specs.Calls.{FailsByFault, OnlyReads};
 ghost use Rattle.fc_device.specs.Faults.{HasCause, Rose};
-ghost use Rattle.fc_device.specs.Sectors.{sector_at};
 ghost use Rattle.fc_image.specs.Layout.{bytes_in};
-ghost use Rattle.fc_objects.specs.Extents.{extent_sectors, sectors_in};
+ghost use Rattle.fc_objects.specs.Extents.{sectors_in};
 ghost use Rattle.fc_script.specs.Texts.{digest_reply, load_reply, ok_line};
 ghost use Rattle.fc_shell.specs.Answered.{Told};
 ghost use Rattle.fc_shell.specs.Readable.{HasSectors, IsReadable};
 ghost use Rattle.fc_shell.specs.Writing.{Wrote, WrotePart};
 
 use crate::answering::LineFault;
+use crate::digits::put_digits;
 use crate::sink::write_all;
 use fc_device::{Disk, DiskFault, Extent, Failed, Sink};
-use fc_record::MAX_SECTOR;
+use fc_objects::ObjectReader;
 use sha2::{Digest, Sha256};
 
-// Writes bytes as hexadecimal digits.
-fn write_hex<K: Sink>(out: &mut K, bytes: &[u8]) -> Result<(), Failed>
-    requires { length bytes.now ≤ 1024 }
+// How many bytes are read at once: of a small file, and of another.
+const SMALL: usize = 4096;
+
+const BLOCK: usize = 65_536;
+
+// Writes bytes as hexadecimal digits, for which `text` has room.
+fn write_hex<K: Sink>(out: &mut K, bytes: &[u8], text: &mut [u8]) -> Result<(), Failed>
+    requires { 2 * length bytes.now ≤ length text.old }
     ensures written { OnOk result (Wrote (K.taken out.old) (K.taken out.new) (encode_lower bytes.now)) }
     ensures part { WrotePart (K.taken out.old) (K.taken out.new) (encode_lower bytes.now) }
     ensures cause { HasCause (K.faults out.old) (K.faults out.new) result }
 {
-    let mut digits = [0u8; 2 * MAX_SECTOR];
-    let text = &mut digits[..2 * bytes.len()];
-    let _ = hex::encode_to_slice(bytes, text);
-    write_all(out, text)
+    let digits = &mut text[..2 * bytes.len()];
+    put_digits(bytes, digits);
+    write_all(out, digits)
 }
 
-// Reads a sector, and writes its first bytes as hexadecimal digits.
-fn write_sector<D: Disk, K: Sink>(
+// Writes the first `len` bytes of a place as hexadecimal digits, a block at a time, with buffers for a block and its digits.
+fn write_blocks<D: Disk, K: Sink>(
     disk: &mut D,
     out: &mut K,
     size: usize,
-    n: u64,
-    count: usize,
+    place: &[Extent],
+    len: u64,
+    block: &mut [u8],
+    text: &mut [u8],
 ) -> Result<(), LineFault>
     requires disk { IsReadable D.Disk disk.old size }
-    requires on_disk { n < D.sectors disk.old }
-    requires few { count ≤ size }
-    ensures told { ForSome (D.bytes disk.old) (λ image. Told (encode_lower (take count (sector_at size image n))) (K.taken out.old) (K.taken out.new) result) }
+    requires on_disk { HasSectors D.Disk disk.old (sectors_in place.now) }
+    requires room { size ≤ length block.old }
+    requires text_room { 2 * length block.old ≤ length text.old }
+    ensures told { ForSome (D.bytes disk.old) (λ image. Told (encode_lower (bytes_in size image (sectors_in place.now) len)) (K.taken out.old) (K.taken out.new) result) }
     ensures reads { OnlyReads D.Disk disk.old disk.new }
     ensures out_faults { K.faults out.old ≤ K.faults out.new }
     ensures disk_cause { result ≡ Err LineFault.Disk → Rose (D.faults disk.old) (D.faults disk.new) }
     ensures out_cause { result ≡ Err LineFault.Out → Rose (K.faults out.old) (K.faults out.new) }
 {
-    let mut sector = [0u8; MAX_SECTOR];
-    if disk.read(n, &mut sector[..size]).is_err() {
-        return Err(LineFault::Disk);
+    let mut reader = ObjectReader::new(place, size, len);
+    loop {
+        let Ok(count) = reader.read(disk, block) else {
+            return Err(LineFault::Disk);
+        };
+        if count == 0 {
+            return Ok(());
+        }
+        if write_hex(out, &block[..count], text).is_err() {
+            return Err(LineFault::Out);
+        }
     }
-    if write_hex(out, &sector[..count]).is_err() {
-        return Err(LineFault::Out);
-    }
-    Ok(())
-}
-
-// Writes the bytes of some sectors in a row as hexadecimal digits, `len` at most. Answers how many of `len` are left.
-fn write_extent<D: Disk, K: Sink>(
-    disk: &mut D,
-    out: &mut K,
-    size: usize,
-    extent: &Extent,
-    len: u64,
-) -> Result<u64, LineFault>
-    requires disk { IsReadable D.Disk disk.old size }
-    requires on_disk { HasSectors D.Disk disk.old (extent_sectors extent.now) }
-    ensures told { ForSome (D.bytes disk.old) (λ image. Told (encode_lower (bytes_in size image (extent_sectors extent.now) len)) (K.taken out.old) (K.taken out.new) result) }
-    ensures left { IfOk result (λ left. left ≡ len - size * extent.now.sectors) }
-    ensures reads { OnlyReads D.Disk disk.old disk.new }
-    ensures out_faults { K.faults out.old ≤ K.faults out.new }
-    ensures disk_cause { result ≡ Err LineFault.Disk → Rose (D.faults disk.old) (D.faults disk.new) }
-    ensures out_cause { result ≡ Err LineFault.Out → Rose (K.faults out.old) (K.faults out.new) }
-{
-    let mut left = len;
-    for i in 0..extent.sectors {
-        let count = left.min(size as u64);
-        write_sector(disk, out, size, extent.first + i, count as usize)?;
-        left -= count;
-    }
-    Ok(left)
 }
 
 // Writes the first `len` bytes of a place as hexadecimal digits.
@@ -102,56 +86,41 @@ fn write_place<D: Disk, K: Sink>(
     ensures disk_cause { result ≡ Err LineFault.Disk → Rose (D.faults disk.old) (D.faults disk.new) }
     ensures out_cause { result ≡ Err LineFault.Out → Rose (K.faults out.old) (K.faults out.new) }
 {
-    let mut left = len;
-    for extent in place {
-        left = write_extent(disk, out, size, extent, left)?;
+    if len <= SMALL as u64 {
+        let mut block = [0; SMALL];
+        let mut text = [0; 2 * SMALL];
+        write_blocks(disk, out, size, place, len, &mut block, &mut text)
+    } else {
+        let mut block = [0; BLOCK];
+        let mut text = [0; 2 * BLOCK];
+        write_blocks(disk, out, size, place, len, &mut block, &mut text)
     }
-    Ok(())
 }
 
-// Reads a sector, and gives its first bytes to a hasher.
-fn hash_sector<D: Disk>(
+// The digest of the first `len` bytes of a place, a block at a time, with a buffer for a block.
+fn hash_blocks<D: Disk>(
     disk: &mut D,
-    hasher: &mut Sha256,
     size: usize,
-    n: u64,
-    count: usize,
-) -> Result<(), DiskFault>
-    requires disk { IsReadable D.Disk disk.old size }
-    requires on_disk { n < D.sectors disk.old }
-    requires few { count ≤ size }
-    ensures given { ForSome (D.bytes disk.old) (λ image. (m : List ℕ) → Holds256 hasher.old m → OnOk result (Holds256 hasher.new (m ++ take count (sector_at size image n)))) }
-    ensures reads { OnlyReads D.Disk disk.old disk.new }
-    ensures cause { FailsByFault D.Disk disk.old disk.new result }
-{
-    let mut sector = [0u8; MAX_SECTOR];
-    disk.read(n, &mut sector[..size])?;
-    hasher.update(&sector[..count]);
-    Ok(())
-}
-
-// Gives a hasher the bytes of some sectors in a row, `len` at most. Answers how many of `len` are left.
-fn hash_extent<D: Disk>(
-    disk: &mut D,
-    hasher: &mut Sha256,
-    size: usize,
-    extent: &Extent,
+    place: &[Extent],
     len: u64,
-) -> Result<u64, DiskFault>
+    block: &mut [u8],
+) -> Result<[u8; 32], DiskFault>
     requires disk { IsReadable D.Disk disk.old size }
-    requires on_disk { HasSectors D.Disk disk.old (extent_sectors extent.now) }
-    ensures given { ForSome (D.bytes disk.old) (λ image. (m : List ℕ) → Holds256 hasher.old m → OnOk result (Holds256 hasher.new (m ++ bytes_in size image (extent_sectors extent.now) len))) }
-    ensures left { IfOk result (λ left. left ≡ len - size * extent.now.sectors) }
+    requires on_disk { HasSectors D.Disk disk.old (sectors_in place.now) }
+    requires room { size ≤ length block.old }
+    ensures digest { ForSome (D.bytes disk.old) (λ image. IfOk result (λ digest. digest ≡ sha256 (bytes_in size image (sectors_in place.now) len))) }
     ensures reads { OnlyReads D.Disk disk.old disk.new }
     ensures cause { FailsByFault D.Disk disk.old disk.new result }
 {
-    let mut left = len;
-    for i in 0..extent.sectors {
-        let count = left.min(size as u64);
-        hash_sector(disk, hasher, size, extent.first + i, count as usize)?;
-        left -= count;
+    let mut hasher = Sha256::new();
+    let mut reader = ObjectReader::new(place, size, len);
+    loop {
+        let count = reader.read(disk, block)?;
+        if count == 0 {
+            return Ok(hasher.finalize());
+        }
+        hasher.update(&block[..count]);
     }
-    Ok(left)
 }
 
 // The digest of the first `len` bytes of a place.
@@ -167,12 +136,11 @@ fn hash_place<D: Disk>(
     ensures reads { OnlyReads D.Disk disk.old disk.new }
     ensures cause { FailsByFault D.Disk disk.old disk.new result }
 {
-    let mut hasher = Sha256::new();
-    let mut left = len;
-    for extent in place {
-        left = hash_extent(disk, &mut hasher, size, extent, left)?;
+    if len <= SMALL as u64 {
+        hash_blocks(disk, size, place, len, &mut [0; SMALL])
+    } else {
+        hash_blocks(disk, size, place, len, &mut [0; BLOCK])
     }
-    Ok(hasher.finalize())
 }
 
 /// Writes the reply of `load`: the first `len` bytes of a place.
@@ -204,7 +172,7 @@ fn write_sum<K: Sink>(out: &mut K, sum: &[u8; 32]) -> Result<(), Failed>
     ensures part { WrotePart (K.taken out.old) (K.taken out.new) (encode_lower sum.now ++ 10 ∷ ok_line) }
     ensures cause { HasCause (K.faults out.old) (K.faults out.new) result }
 {
-    write_hex(out, sum)?;
+    write_hex(out, sum, &mut [0; 64])?;
     write_all(out, b"\nok\n")
 }
 

@@ -5,6 +5,7 @@
 #![tactic(auto)]
 
 mod answering;
+mod digits;
 mod ending;
 mod files;
 mod judging;

@@ -1,18 +1,19 @@
 // The bytes of objects.
-ghost use Rattle.std.specs.Prelude.{◌≡◌, ◌<◌, ◌≤◌, ◌∷◌, [], true, Err, IsTrue, List, ℕ, OnOk, Some, length};
+ghost use Rattle.std.specs.Prelude.{◌≡◌, ◌<◌, ◌≤◌, ◌+◌, ◌*◌, ◌++◌, min, All, Err, IsTrue, List, ℕ, OnOk, Some, length};
 ghost use Rattle.std.specs.Option.{ForSome};
 ghost use Rattle.fc_device.specs.Faults.{Rose};
 ghost use Rattle.fc_device.specs.Calls.{OnlyReads};
-ghost use Rattle.fc_objects.specs.Extents.{extent_sectors, sectors_in};
+ghost use Rattle.fc_objects.specs.Bytes.{first_bytes};
+ghost use Rattle.fc_objects.specs.Extents.{sectors_in};
 ghost use Rattle.fc_image.specs.Edits.{IsAt};
-ghost use Rattle.fc_image.specs.Layout.{dir_form, disc_sectors, is_among, sector_bytes, sectors_at};
+ghost use Rattle.fc_image.specs.Layout.{dir_form, disc_sectors, sector_bytes, sectors_at};
 ghost use Rattle.fc_image.specs.Walk.{Object, object_bytes, object_size};
 ghost use Rattle.fc_space.specs.Space.{layout_of};
-ghost use Rattle.fc_tree.specs.Reading.{Appends};
 
 use crate::claim::object_size;
 use fc_device::{Disk, Extent};
 use fc_dirs::Entry;
+use fc_objects::ObjectReader;
 use fc_space::{PlaceError, Places};
 use std::alloc::Global;
 
@@ -23,68 +24,38 @@ pub enum ReadError {
     NoMemory,
 }
 
-// Appends a sector of `size` bytes.
-fn read_sector<D: Disk>(
-    disk: &mut D,
-    n: u64,
-    size: usize,
-    into: &mut Vec<u8>,
-) -> Result<(), ReadError>
-    requires attached { IsTrue (D.attached disk.old) }
-    requires on_disk { n < D.sectors disk.old }
-    requires whole { size ≡ D.sector_size disk.old }
-    ensures read { OnOk result (Appends (D.bytes disk.old) size into.old.items into.new.items (n ∷ [])) }
-    ensures reads { OnlyReads D.Disk disk.old disk.new }
-    ensures cause { result ≡ Err ReadError.DiskFault → Rose (D.faults disk.old) (D.faults disk.new) }
-{
-    let at = into.len();
-    if into.resize(at + size, 0).is_err() {
-        return Err(ReadError::NoMemory);
-    }
-    match disk.read(n, &mut into[at..at + size]) {
-        Ok(()) => Ok(()),
-        Err(_) => Err(ReadError::DiskFault),
-    }
-}
+// How many bytes are read at once.
+const BLOCK: usize = 4096;
 
-// Appends the sectors of an extent.
-fn read_extent<D: Disk>(
-    disk: &mut D,
-    extent: &Extent,
-    size: usize,
-    into: &mut Vec<u8>,
-) -> Result<(), ReadError>
-    requires attached { IsTrue (D.attached disk.old) }
-    requires on_disk { (s : ℕ) → is_among (extent_sectors extent.now) s ≡ true → s < D.sectors disk.old }
-    requires whole { size ≡ D.sector_size disk.old }
-    ensures read { OnOk result (Appends (D.bytes disk.old) size into.old.items into.new.items (extent_sectors extent.now)) }
-    ensures reads { OnlyReads D.Disk disk.old disk.new }
-    ensures cause { result ≡ Err ReadError.DiskFault → Rose (D.faults disk.old) (D.faults disk.new) }
-{
-    for i in 0..extent.sectors {
-        read_sector(disk, extent.first + i, size, into)?;
-    }
-    Ok(())
-}
-
-// Appends the sectors of some extents.
-fn read_place<D: Disk>(
+// Appends the first `len` bytes of a place, whose sectors have `size` bytes each.
+fn append_bytes<D: Disk>(
     disk: &mut D,
     place: &[Extent],
     size: usize,
+    len: u64,
     into: &mut Vec<u8>,
 ) -> Result<(), ReadError>
     requires attached { IsTrue (D.attached disk.old) }
-    requires on_disk { (s : ℕ) → is_among (sectors_in place.now) s ≡ true → s < D.sectors disk.old }
-    requires whole { size ≡ D.sector_size disk.old }
-    ensures read { OnOk result (Appends (D.bytes disk.old) size into.old.items into.new.items (sectors_in place.now)) }
+    requires size { D.sector_size disk.old ≡ size }
+    requires on_disk { All (λ s. s < D.sectors disk.old) (sectors_in place.now) }
+    ensures bytes { OnOk result (ForSome (D.bytes disk.old) (λ image. into.new.items ≡ into.old.items ++ first_bytes size image (sectors_in place.now) len)) }
+    ensures long { OnOk result (length into.new.items ≡ length into.old.items + min len (length (sectors_in place.now) * size)) }
     ensures reads { OnlyReads D.Disk disk.old disk.new }
     ensures cause { result ≡ Err ReadError.DiskFault → Rose (D.faults disk.old) (D.faults disk.new) }
 {
-    for extent in place {
-        read_extent(disk, extent, size, into)?;
+    let mut reader = ObjectReader::new(place, size, len);
+    let mut block = [0; BLOCK];
+    loop {
+        let Ok(count) = reader.read(disk, &mut block) else {
+            return Err(ReadError::DiskFault);
+        };
+        if count == 0 {
+            return Ok(());
+        }
+        if into.extend_from_slice(&block[..count]).is_err() {
+            return Err(ReadError::NoMemory);
+        }
     }
-    Ok(())
 }
 
 /// Reads the bytes of an object of this entry, which has a place on the disc.
@@ -105,14 +76,14 @@ pub fn read_object<D: Disk>(
     ensures reads { OnlyReads D.Disk disk.old disk.new }
     ensures cause { result ≡ Err ReadError.DiskFault → Rose (D.faults disk.old) (D.faults disk.new) }
 {
-    let bytes = object_size(places.dir_form(), entry);
-    let place = match places.place_of(alloc, entry.address, u64::from(bytes)) {
+    let len = u64::from(object_size(places.dir_form(), entry));
+    let place = match places.place_of(alloc, entry.address, len) {
         Ok(place) => place,
         Err(PlaceError::Outside) => unreachable!(),
         Err(PlaceError::NoMemory) => return Err(ReadError::NoMemory),
     };
     into.clear();
-    read_place(disk, &place, places.sector_bytes() as usize, into)?;
-    into.truncate(bytes as usize);
+    let size = places.sector_bytes() as usize;
+    append_bytes(disk, &place, size, len, into)?;
     Ok(())
 }

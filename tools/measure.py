@@ -1,0 +1,216 @@
+#!/usr/bin/env python3
+"""Compares the processor time of fcore with that of other programs that do as much, and measures its memory and system calls.
+
+usage: tools/measure.py FCORE [ROUNDS]    in a folder for temporary files (TMPDIR) with 3 GB free; five rounds by default
+It stands outside the gate: what it measures depends on the machine. In each round the contestants of a task run in turn; the
+least time of each counts. The images are generated, and are in memory when they are read. What isn't installed (mke2fs and
+e2fsck, xxd, strace) is left out.
+"""
+import os
+import random
+import shutil
+import subprocess
+import sys
+import tempfile
+
+import large_image
+from volumes import File, NewVolume, record_bytes
+
+MEGA = 1 << 20
+DIRECTORIES, FILES, RUNS = 70, 72, 25
+RUN = 2048  # the bytes of the smallest run of the disc in many runs
+LOADED = 256 * MEGA
+
+
+def run(words, script=None, out=subprocess.DEVNULL):
+    """Runs a command, whose standard input is a file. Answers its resources."""
+    with open(script or os.devnull, "rb") as given:
+        process = subprocess.Popen(words, stdin=given, stdout=out, stderr=subprocess.DEVNULL)
+        _, status, used = os.wait4(process.pid, 0)
+    process.returncode = os.waitstatus_to_exitcode(status)
+    assert process.returncode == 0, (words, process.returncode)
+    return used
+
+
+def into_pipe(words, script=None):
+    """The same with a pipe as output, which cat empties."""
+    with subprocess.Popen(["cat"], stdin=subprocess.PIPE, stdout=subprocess.DEVNULL) as reader:
+        used = run(words, script, reader.stdin)
+        reader.stdin.close()
+    return used
+
+
+def seconds(used):
+    return used.ru_utime + used.ru_stime
+
+
+class Task:
+    """What fcore does with a script over an image, and commands that do as much."""
+
+    def __init__(self, name, image, script, others, runner=run):
+        self.name, self.image, self.script, self.others, self.runner = name, image, script, others, runner
+
+
+def empty_volume(zones, log2_bit, map_bits):
+    size = (zones * 8160 - 480) << log2_bit
+    volume = NewVolume(record_bytes(10, 15, log2_bit, zones, 32, 0x300, size), True)
+    volume.take(2, zones // 2, map_bits)
+    volume.take(2, 0, 32)
+    volume.take(volume.new_identifier(), 0, 16)
+    return volume
+
+
+def fill_directories(volume, count, files):
+    """Directories $.D0 and so on, each in a run of its own, with the contents that `files` gives for each."""
+    zones = len(volume.runs)
+    for at in range(count):
+        made = volume.directory(volume.root, b"D%d" % at, pieces=[(at % zones, 16)])
+        volume.root.entries.append(made)
+        made.entries.extend(files(at))
+    for directory in volume.directories():
+        directory.entries.sort(key=lambda entry: entry.name)
+
+
+def in_many_runs():
+    """Some 5,000 files in 25 runs each, which lie in zones far apart."""
+    zones = 360
+    volume = empty_volume(zones, 7, 2 * zones * 8)
+    order = random.Random(1)
+    others = [zone for zone in range(zones) if zone != zones // 2]  # than the map's
+
+    def files(at):
+        for n in range(FILES):
+            pieces = [(zone, 16) for zone in order.sample(others, RUNS)]
+            yield volume.file(b"F%d" % n, order.randbytes(RUNS * RUN - 100), pieces)
+
+    fill_directories(volume, DIRECTORIES, files)
+    return volume
+
+
+def with_large_file():
+    """One file of 256 MB, in runs as long as a zone has room for."""
+    zones = 70
+    volume = empty_volume(zones, 10, 2 * zones)
+    pieces, left = [], LOADED // 1024
+    for zone in range(1, zones):
+        if left and zone != zones // 2:
+            pieces.append((zone, min(left, 8000)))
+            left -= pieces[-1][1]
+    volume.root.entries.append(volume.file(b"Large", random.Random(2).randbytes(MEGA) * (LOADED // MEGA), pieces))
+    return volume
+
+
+def of_objects(directories, files):
+    """At most 77 directories that have equally many empty files, at most 77."""
+    zones = 62
+    volume = empty_volume(zones, 10, 2 * zones)
+    fill_directories(volume, directories, lambda at: [File(b"F%d" % n, b"") for n in range(files)])
+    return volume
+
+
+def write_image(path, volume):
+    with open(path, "wb") as file:
+        volume.write(large_image.SparseFile(file, volume.shape.record.size))
+
+
+def write_script(path, lines):
+    with open(path, "w") as file:
+        file.write("".join(line + "\n" for line in lines))
+    return path
+
+
+def write_files(folder, volume):
+    """The volume's files outside of it. Answers their paths there and in it."""
+    outside, inside = [], []
+
+    def below(directory, path, name):
+        os.makedirs(path)
+        for entry in directory.entries:
+            there, here = os.path.join(path, entry.name.decode()), name + "." + entry.name.decode()
+            if entry.is_directory:
+                below(entry, there, here)
+            else:
+                with open(there, "wb") as file:
+                    file.write(entry.data)
+                outside.append(there)
+                inside.append(here)
+
+    below(volume.root, folder, "$")
+    return outside, inside
+
+
+def tasks(folder):
+    path = lambda name: os.path.join(folder, name)
+    found = []
+
+    volume = in_many_runs()
+    write_image(path("runs.adf"), volume)
+    outside, inside = write_files(path("files"), volume)
+    script = write_script(path("digests"), ["digest " + name for name in inside])
+    found.append(Task("%d digests on a disc in %d runs" % (len(inside), len(inside) * RUNS), path("runs.adf"), script, {"sha256sum": ["sha256sum", *outside]}))
+
+    volume = with_large_file()
+    write_image(path("large.adf"), volume)
+    large = write_files(path("large"), volume)[0][0]
+    with open(path("twice"), "wb") as file:
+        file.truncate(2 * LOADED)
+    load = write_script(path("load"), ["load $.Large"])
+    digest = write_script(path("digest"), ["digest $.Large"])
+    cat, xxd = {"cat of as many bytes": ["cat", path("twice")]}, {"xxd -p": ["xxd", "-p", large]}
+    found.append(Task("`load` of 256 MB, into a pipe", path("large.adf"), load, {**cat, **(xxd if shutil.which("xxd") else {})}, into_pipe))
+    found.append(Task("`digest` of 256 MB", path("large.adf"), digest, {"sha256sum": ["sha256sum", large]}))
+
+    volume = large_image.with_directories(1000)
+    write_image(path("objects.adf"), volume)
+    tree = write_files(path("tree"), volume)[0]
+    others = {"cat of the image": ["cat", path("objects.adf")]}
+    if shutil.which("mke2fs") and shutil.which("e2fsck"):
+        subprocess.run(["mke2fs", "-q", "-t", "ext4", "-N", "60000", "-d", path("tree"), path("objects.ext4"), "600M"], check=True)
+        others["e2fsck"] = ["e2fsck", "-f", "-n", path("objects.ext4")]
+    check = write_script(path("check"), ["check"])
+    found.append(Task("`check` of %d files in 1,000 directories" % len(tree), path("objects.adf"), check, others))
+    found.append(Task("the same, and `free` 1,000 times", path("objects.adf"), write_script(path("frees"), ["check"] + ["free"] * 1000), {}))
+    return found
+
+
+def memory(fcore, folder, volume):
+    """The most bytes that opening this volume takes."""
+    image = os.path.join(folder, "memory.adf")
+    write_image(image, volume)
+    return run([fcore, image], os.path.join(folder, "check")).ru_maxrss * 1024
+
+
+def system_calls(words, script):
+    """How many system calls a command makes."""
+    with open(script, "rb") as given:
+        told = subprocess.run(["strace", "-f", "-c", "-U", "calls", *words], stdin=given, stdout=subprocess.DEVNULL, stderr=subprocess.PIPE, check=True).stderr
+    return int(told.split()[-2])
+
+
+def main(fcore, rounds=5):
+    fcore = os.path.abspath(fcore)
+    with tempfile.TemporaryDirectory() as folder:
+        print("| Task | fcore | beside it (above 1: fcore is slower) |\n|---|---|---|")
+        for task in tasks(folder):
+            contestants = {"fcore": ([fcore, task.image], task.script), **{name: (words, None) for name, words in task.others.items()}}
+            least = {name: 1e9 for name in contestants}
+            for _ in range(rounds):
+                for name, (words, script) in contestants.items():
+                    least[name] = min(least[name], seconds(task.runner(words, script)))
+            ours = least.pop("fcore")
+            ratios = ", ".join("%s %.2f" % (name, ours / max(time, 1e-3)) for name, time in least.items())
+            print("| %s | %.3f s | %s |" % (task.name, ours, ratios or "–"), flush=True)
+        if shutil.which("strace"):
+            for name in ("load", "digest"):
+                calls = system_calls([fcore, os.path.join(folder, "large.adf")], os.path.join(folder, name))
+                print("| system calls of that `%s` | %d | – |" % (name, calls))
+        few, many = (memory(fcore, folder, of_objects(70, files)) for files in (5, 75))
+        print("| memory of a file | %d bytes | – |" % ((many - few) / (70 * 70)))
+        few, many = (memory(fcore, folder, large_image.with_directories(count)) for count in (200, 1200))
+        print("| memory of a directory, with 50 files | %d bytes | – |" % ((many - few) / 1000))
+
+
+if __name__ == "__main__":
+    if len(sys.argv) not in (2, 3):
+        sys.exit(__doc__)
+    main(sys.argv[1], *map(int, sys.argv[2:]))
