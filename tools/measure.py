@@ -4,7 +4,7 @@
 usage: tools/measure.py FCORE [ROUNDS]    in a folder for temporary files (TMPDIR) with 3 GB free; five rounds by default
 It stands outside the gate: what it measures depends on the machine. In each round the contestants of a task run in turn; the
 least time of each counts. The images are generated, and are in memory when they are read. What isn't installed (mke2fs and
-e2fsck, xxd, strace) is left out.
+e2fsck, xxd, strace, /usr/bin/time) is left out.
 """
 import os
 import random
@@ -174,10 +174,11 @@ def tasks(folder):
 
 
 def memory(fcore, folder, volume):
-    """The most bytes that opening this volume takes."""
+    """The most bytes that opening this volume takes. A process has at least its parent's, so a small program starts it."""
     image = os.path.join(folder, "memory.adf")
     write_image(image, volume)
-    return run([fcore, image], os.path.join(folder, "check")).ru_maxrss * 1024
+    told = subprocess.run(["/usr/bin/time", "-f", "%M", fcore, image], stdin=subprocess.DEVNULL, stderr=subprocess.PIPE, check=True).stderr
+    return int(told) * 1024
 
 
 def system_calls(words, script):
@@ -204,10 +205,11 @@ def main(fcore, rounds=5):
             for name in ("load", "digest"):
                 calls = system_calls([fcore, os.path.join(folder, "large.adf")], os.path.join(folder, name))
                 print("| system calls of that `%s` | %d | – |" % (name, calls))
-        few, many = (memory(fcore, folder, of_objects(70, files)) for files in (5, 75))
-        print("| memory of a file | %d bytes | – |" % ((many - few) / (70 * 70)))
-        few, many = (memory(fcore, folder, large_image.with_directories(count)) for count in (200, 1200))
-        print("| memory of a directory, with 50 files | %d bytes | – |" % ((many - few) / 1000))
+        if os.path.exists("/usr/bin/time"):
+            few, many = (memory(fcore, folder, of_objects(70, files)) for files in (5, 75))
+            print("| memory of a file | %d bytes | – |" % ((many - few) / (70 * 70)))
+            few, many = (memory(fcore, folder, large_image.with_directories(count)) for count in (200, 1200))
+            print("| memory of a directory with 50 files, and of these | %d bytes | – |" % ((many - few) / 1000))
 
 
 if __name__ == "__main__":
