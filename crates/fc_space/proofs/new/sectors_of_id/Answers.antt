@@ -41,7 +41,7 @@ returns-clause-place c =
 pub loop-need-preserved-then-skip-extent : goal.loop-need-preserved-then-skip-extent
 loop-need-preserved-then-skip-extent c = record {
   searches = run_passed c.args.map.now c.args.id c.args.skip c.args.need c.loop-need.place.items c.loop-need.cursor c.next.new.self c.loop-need.skip c.loop-need.need c.next.result
-    (c.in-Some.z, c.in-Some.run') c.extent_of-extent.result c.loop-need.invariant.searches c.next.ensures.value c.in-Some.is
-    (c.extent_of-extent.ensures ∙ ap (λ h. extent_of h (c.in-Some.z, c.in-Some.run')) c.geometry.ensures.value) c.if-skip-extent.true;
+      (c.in-Some.z, c.in-Some.run') c.extent_of-extent.result c.loop-need.invariant.searches c.next.ensures.value c.in-Some.is
+      (c.extent_of-extent.ensures ∙ ap (λ h. extent_of h (c.in-Some.z, c.in-Some.run')) c.geometry.ensures.value) c.if-skip-extent.true;
   each = c.loop-need.invariant.each;
 }
