@@ -1,6 +1,7 @@
 -- An index of a new map: the sectors of its runs by their identifiers.
-use Rattle.std.specs.Prelude.{◌≡◌, ◌<◌, ℕ, ◌+◌, ◌^◌, Bool, ◌==◌, nat_le, nat_lt, true, false, if◌then◌else◌, List, [], ◌∷◌, map, filter, All}
+use Rattle.std.specs.Prelude.{◌≡◌, ◌<◌, ℕ, ◌+◌, ◌^◌, Bool, ◌==◌, nat_le, nat_lt, true, false, if◌then◌else◌, List, [], ◌∷◌, map, filter, Option, Some, None, All}
 use Rattle.std.specs.List.{flat_map}
+use Rattle.std.specs.Global.{Vec}
 use Rattle.std.specs.List.Sorted.{IsNonDecreasingBy}
 use Rattle.fc_device.specs.declared.disk.Extent.{Extent}
 use Rattle.fc_record.specs.declared.Geometry.{Geometry}
@@ -31,10 +32,11 @@ pub record IsIndex (m : Map) (rows : List IdRow) : Type 0 where
   pub rising : IsNonDecreasingBy (λ (r : IdRow). r.id) rows
   pub low : All IsLow rows
 
--- An index of a space: old maps have none.
-abbrev pub IsIndexOf : Space → List IdRow → Type 0
-IsIndexOf (OldMapped map) rows = Unit {0}
-IsIndexOf (NewMapped map) rows = IsIndex map rows
+-- If there is an index, it is that of a new map.
+abbrev pub IsIndexOf : Option (Vec IdRow) → Space → Type 0
+IsIndexOf None space = Unit {0}
+IsIndexOf (Some rows) (OldMapped map) = Unit {0}
+IsIndexOf (Some rows) (NewMapped map) = IsIndex map rows.items
 
 -- ---- while an index is made
 

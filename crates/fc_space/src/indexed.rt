@@ -4,7 +4,7 @@ ghost use Rattle.std.specs.Prelude.{◌≡◌, None, Some, IfOk, IsErrOf, All, d
 ghost use Rattle.fc_image.specs.Layout.{Layout, first_part, new_sectors};
 ghost use Rattle.fc_objects.specs.Extents.{sectors_in};
 ghost use Rattle.fc_space.specs.Index.{IsIndex, IsLow, places_in};
-ghost use Rattle.fc_space.specs.Space.{Suffice};
+ghost use Rattle.fc_space.specs.Space.{HaveSectors, Suffice};
 
 use crate::PlaceError;
 use crate::index::{IdRow, rows_of};
@@ -22,6 +22,7 @@ fn sectors_of_rows(
 ) -> Result<Vec<Extent>, PlaceError>
     requires { All IsLow rows.now }
     ensures place { IfOk result (λ place. first_part need (drop skip (sectors_in (places_in rows.now))) ≡ Some (sectors_in place.items)) }
+    ensures each { IfOk result (λ place. HaveSectors place.items) }
     ensures outside { IsErrOf result PlaceError.Outside → first_part need (drop skip (sectors_in (places_in rows.now))) ≡ None }
 {
     let mut before = skip;
@@ -55,6 +56,7 @@ pub fn indexed_place(
     requires { IsIndex map.now rows.now }
     ensures place { IfOk result (λ place. new_sectors map.now address bytes ≡ Some (sectors_in place.items)) }
     ensures suffice { IfOk result (λ place. Suffice (Layout.New map.now) bytes (sectors_in place.items)) }
+    ensures each { IfOk result (λ place. HaveSectors place.items) }
     ensures outside { IsErrOf result PlaceError.Outside → new_sectors map.now address bytes ≡ None }
 {
     let id = address / 256;

@@ -1,10 +1,10 @@
 // Places on discs with new maps.
 
-ghost use Rattle.std.specs.Prelude.{◌≡◌, ◌<◌, ◌≤◌, ◌^◌, ◌+◌, None, Some, IfOk, IsErrOf, take, drop, length, slice_get};
+ghost use Rattle.std.specs.Prelude.{◌≡◌, ◌<◌, ◌^◌, ◌+◌, ◌-◌, None, Some, IfOk, IsErrOf, take, drop, length, min, slice_get};
 ghost use Rattle.fc_image.specs.Layout.{Layout, first_part, id_sectors, is_object_id, low_start, new_sectors};
 ghost use Rattle.fc_newmap.specs.NewMap.{IsNewMap};
 ghost use Rattle.fc_objects.specs.Extents.{extent_sectors, sectors_in};
-ghost use Rattle.fc_space.specs.Space.{Suffice};
+ghost use Rattle.fc_space.specs.Space.{HaveSectors, Suffice};
 
 use crate::PlaceError;
 use fc_device::Extent;
@@ -15,7 +15,7 @@ use std::alloc::Global;
 pub fn part_of(extent: Extent, skip: u64, need: u64) -> Extent
     requires { extent.first + extent.sectors < 2 ^ 64 }
     ensures sectors { extent_sectors result ≡ take need (drop skip (extent_sectors extent)) }
-    ensures few { result.sectors ≤ need }
+    ensures count { result.sectors ≡ min need (extent.sectors - skip) }
 {
     let passed = skip.min(extent.sectors);
     Extent {
@@ -24,7 +24,7 @@ pub fn part_of(extent: Extent, skip: u64, need: u64) -> Extent
     }
 }
 
-// Whether an object may use this identifier.
+/// Whether an object may use this identifier.
 pub fn is_object_id(map: &NewMap, id: u32) -> bool
     ensures { result ≡ is_object_id map.now id }
 {
@@ -33,7 +33,7 @@ pub fn is_object_id(map: &NewMap, id: u32) -> bool
     id >= 2 && u64::from(id) < ids.min(1 << g.idlen)
 }
 
-// How many sectors into its identifier an object of this low byte begins.
+/// How many sectors into its identifier an object of this low byte of an indirect address begins.
 pub fn low_start(map: &NewMap, low: u32) -> u64
     requires { low < 256 }
     ensures value { result ≡ low_start map.now low }
@@ -53,6 +53,7 @@ fn sectors_of_id(
     need: u64,
 ) -> Result<Vec<Extent>, PlaceError>
     ensures place { IfOk result (λ place. first_part need (drop skip (id_sectors map.now id)) ≡ Some (sectors_in place.items)) }
+    ensures each { IfOk result (λ place. HaveSectors place.items) }
     ensures outside { IsErrOf result PlaceError.Outside → first_part need (drop skip (id_sectors map.now id)) ≡ None }
 {
     let mut skip = skip;
@@ -87,6 +88,7 @@ pub fn new_place(
 ) -> Result<Vec<Extent>, PlaceError>
     ensures place { IfOk result (λ place. new_sectors map.now address bytes ≡ Some (sectors_in place.items)) }
     ensures suffice { IfOk result (λ place. Suffice (Layout.New map.now) bytes (sectors_in place.items)) }
+    ensures each { IfOk result (λ place. HaveSectors place.items) }
     ensures outside { IsErrOf result PlaceError.Outside → new_sectors map.now address bytes ≡ None }
 {
     let id = address / 256;
@@ -98,7 +100,8 @@ pub fn new_place(
     sectors_of_id(alloc, map, id, skip, need)
 }
 
-// The sector of a number among those of an identifier, in the order of its runs, if it has so many.
+/// The sector of a number, from 0, among those of an identifier, in the order of its runs, if it has so many. Takes no
+/// memory.
 pub fn sector_of_id(map: &NewMap, id: u32, number: u64) -> Option<u64>
     ensures { result ≡ slice_get (id_sectors map.now id) number }
 {

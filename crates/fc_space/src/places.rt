@@ -1,25 +1,27 @@
 // The map of a disc with an index, for the places of many objects.
 
-ghost use Rattle.std.specs.Prelude.{◌≡◌, None, Some, IfOk, IsErrOf};
+ghost use Rattle.std.specs.Prelude.{◌≡◌, ◌<◌, None, Some, IfOk, IsErrOf};
+ghost use Rattle.std.specs.Borrow.{Lends, sem};
 ghost use Rattle.fc_image.specs.Layout.{dir_form, sector_bytes, sectors_at};
 ghost use Rattle.fc_objects.specs.Extents.{sectors_in};
-ghost use Rattle.fc_space.specs.Space.{PlacesSuffice, Suffice, layout_of};
+ghost use Rattle.fc_space.specs.Space.{HaveSectors, PlacesSuffice, Suffice, layout_of};
+ghost use Rattle.fc_space.specs.contracts.places.Places.{the_row};
+ghost use Rattle.fc_space.specs.contracts.space.Space.{the_row as space_row};
 
 use crate::index::{IdRow, index_of};
 use crate::indexed::indexed_place;
-use crate::old::old_place;
 use crate::{PlaceError, Space};
 use fc_device::{Extent, NoMemory};
 use fc_names::NameForm;
 use std::alloc::Global;
 use std::marker::Model;
 
-/// A map with an index of its runs: a new map is walked over twice when it is made, and then each place costs a search.
-/// Contracts see the map.
+/// A map that can have an index of its runs: a new map is walked over twice when the index is made, and then each place
+/// costs a search. With no index the map itself is searched. Contracts see the map.
 #[derive(Drop)]
 pub struct Places {
     space: Space,
-    rows: Vec<IdRow>,
+    index: Option<Vec<IdRow>>,
 }
 
 impl Model for Places {
@@ -30,19 +32,27 @@ impl Model for Places {
 
     ghost view = { λ p. p.space };
 
-    ghost invariant = { λ p. IsIndexOf p.space p.rows.items };
+    ghost invariant = { λ p. IsIndexOf p.index p.space };
 }
 
 impl Places {
-    /// Makes the index of a map.
-    pub fn new(alloc: Global, space: Space) -> Result<Places, NoMemory>
-        ensures { IfOk result (λ places. places ≡ space) }
+    /// A map, with no index yet. Takes no memory.
+    pub fn new(space: Space) -> Places
+        ensures { result ≡ space }
     {
-        let rows = match &space {
-            Space::OldMapped(_) => Vec::new(alloc),
-            Space::NewMapped(map) => index_of(alloc, map)?,
+        Places { space, index: None }
+    }
+
+    /// Makes the index of a new map. If memory is short, places are found as before.
+    pub fn index(&mut self, alloc: Global) -> Result<(), NoMemory>
+        ensures { self.new ≡ self.old }
+    {
+        let Space::NewMapped(map) = &self.space else {
+            return Ok(());
         };
-        Ok(Places { space, rows })
+        let rows = index_of(alloc, map)?;
+        self.index = Some(rows);
+        Ok(())
     }
 
     /// The map.
@@ -50,6 +60,15 @@ impl Places {
         ensures { result.now ≡ self.now }
     {
         &self.space
+    }
+
+    /// The map, to be changed. The index is dropped: until it is made again, the map itself is searched.
+    pub fn edit(&mut self) -> &mut Space
+        ensures* lends { sem 𝓛 (Lends the_row space_row self.entry result (λ space. space)) }
+        ensures value { result.now ≡ self.old }
+    {
+        self.index = None;
+        &mut self.space
     }
 
     /// The bytes of a sector.
@@ -73,7 +92,7 @@ impl Places {
         self.space.places_suffice();
     }
 
-    /// What `Space::place_of` answers, by a search in the index.
+    /// What `Space::place_of` answers, by a search in the index if there is one.
     pub fn place_of(
         &self,
         alloc: Global,
@@ -82,14 +101,14 @@ impl Places {
     ) -> Result<Vec<Extent>, PlaceError>
         ensures place { IfOk result (λ place. sectors_at (layout_of self.now) address bytes ≡ Some (sectors_in place.items)) }
         ensures suffice { IfOk result (λ place. Suffice (layout_of self.now) bytes (sectors_in place.items)) }
+        ensures each { IfOk result (λ place. HaveSectors place.items) }
         ensures outside { IsErrOf result PlaceError.Outside → sectors_at (layout_of self.now) address bytes ≡ None }
     {
-        if bytes == 0 {
-            return Ok(Vec::new(alloc));
-        }
-        match &self.space {
-            Space::OldMapped(map) => old_place(alloc, map, address, bytes),
-            Space::NewMapped(map) => indexed_place(alloc, map, &self.rows, address, bytes),
+        match (&self.index, &self.space) {
+            (Some(rows), Space::NewMapped(map)) if bytes > 0 => {
+                indexed_place(alloc, map, rows, address, bytes)
+            }
+            _ => self.space.place_of(alloc, address, bytes),
         }
     }
 }

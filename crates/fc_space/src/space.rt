@@ -3,7 +3,7 @@
 ghost use Rattle.std.specs.Prelude.{◌≡◌, ◌≤◌, ◌↔◌, ◌<◌, ◌^◌, None, Some, IfOk, IsErrOf, IsSome};
 ghost use Rattle.fc_image.specs.Layout.{dir_form, disc_sectors, sector_bytes, sectors_at};
 ghost use Rattle.fc_objects.specs.Extents.{sectors_in};
-ghost use Rattle.fc_space.specs.Space.{PlacesSuffice, Suffice, layout_of, nth_sector};
+ghost use Rattle.fc_space.specs.Space.{HaveSectors, PlacesSuffice, Suffice, layout_of, nth_sector};
 
 use crate::PlaceError;
 use crate::new::{low_start, new_place, sector_of_id};
@@ -59,8 +59,8 @@ impl Space {
     }
 
     /// The whole sectors that the first `bytes` bytes from an address take, in their order; none at all for no bytes,
-    /// whatever the address. They lie on the disc. The address is an indirect disc address on a new map, and counts units of 256 bytes on an
-    /// old one. `Outside` exactly where the bytes pass the object's end or the disc's, where no object can have the
+    /// whatever the address. They lie on the disc, and no extent is empty. The address is an indirect disc address on a new
+    /// map, and counts units of 256 bytes on an old one. `Outside` exactly where the bytes pass the object's end or the disc's, where no object can have the
     /// address's identifier, and, on an old map, where the address is no sector boundary.
     pub fn place_of(
         &self,
@@ -70,6 +70,7 @@ impl Space {
     ) -> Result<Vec<Extent>, PlaceError>
         ensures place { IfOk result (λ place. sectors_at (layout_of self.now) address bytes ≡ Some (sectors_in place.items)) }
         ensures suffice { IfOk result (λ place. Suffice (layout_of self.now) bytes (sectors_in place.items)) }
+        ensures each { IfOk result (λ place. HaveSectors place.items) }
         ensures outside { IsErrOf result PlaceError.Outside → sectors_at (layout_of self.now) address bytes ≡ None }
     {
         if bytes == 0 {

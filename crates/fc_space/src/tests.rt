@@ -164,9 +164,10 @@ fn wrong_rows(
     rows: &[Row],
     outside: &[(u32, u64)],
 ) -> (Option<usize>, Option<usize>) {
-    let Ok(places) = Places::new(alloc, space) else {
+    let mut places = Places::new(space);
+    if places.index(alloc).is_err() {
         return (Some(0), Some(0));
-    };
+    }
     (
         rows.iter().position(|row| !is_right(alloc, &places, row)),
         outside.iter().position(|(address, bytes)| !is_outside(alloc, &places, *address, *bytes)),

@@ -108,7 +108,7 @@ fn holding(alloc: Global, image: Vec<u8>) -> Result<MemoryDisk, Fail> {
 fn map(alloc: Global) -> Option<Places> {
     let mut bytes = [0; 512];
     filled(&mut bytes, DISC);
-    Places::new(alloc, Space::OldMapped(OldMap::read(&bytes, 1).ok()?)).ok()
+    Some(Places::new(Space::OldMapped(OldMap::read(&bytes, 1).ok()?)))
 }
 
 // The map of the disc with long names.
@@ -122,7 +122,9 @@ fn long_map(alloc: Global) -> Option<Places> {
     }
     let mut zones = Vec::new(alloc);
     zones.extend_from_slice(&bytes).ok()?;
-    Places::new(alloc, Space::NewMapped(NewMap::load(zones, g).ok()?)).ok()
+    let mut places = Places::new(Space::NewMapped(NewMap::load(zones, g).ok()?));
+    places.index(alloc).ok()?;
+    Some(places)
 }
 
 // Walks a disk of sectors of this size, if it may.

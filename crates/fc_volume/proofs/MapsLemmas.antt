@@ -13,8 +13,8 @@ use Rattle.fc_zone.specs.declared.ZoneFault.{ZoneFault}
 use Rattle.fc_newmap.specs.declared.MapError.{MapError}
 use Rattle.fc_newmap.specs.declared.MapError.TheVariants.{Zone}
 use Rattle.fc_newmap.specs.Map.{Map, first_fault, zone_numbers, zones_in}
-use Rattle.fc_newmap.specs.NewMap.{IsOfRecord}
-use Rattle.fc_newmap.specs.Loaded.{unless_fault}
+use Rattle.fc_newmap.specs.NewMap.{IsOfRecord, map_in as held_map}
+use Rattle.fc_newmap.specs.Loaded.{loaded, unless_fault}
 use Rattle.std.proofs.Math.Nat.{le-div_iff_mul-le, div-mul-le_self}
 use Rattle.fc_newmap.proofs.GeometryLemmas.{facts_of_valid, geometry_of_valid}
 use Rattle.fc_newmap.proofs.HeldLemmas.{geometry_facts, place_fits, sector_is}
@@ -25,8 +25,11 @@ use Rattle.fc_image.specs.Opening.{MapAndRoot, agreement, copy_or, difference, n
 use Rattle.fc_copies.specs.declared.Which.{Which}
 use Rattle.fc_copies.specs.Copies.{chosen, copy_of}
 use Rattle.fc_volume.specs.declared.lines.MountError.{MountError}
+use Rattle.fc_volume.specs.declared.copies.Copies.{Copies}
+use Rattle.fc_volume.specs.declared.copies.Copies.TheVariants.{Chosen}
 use Rattle.fc_volume.specs.Answers.{IsFaultOf}
 use Rattle.fc_volume.specs.Maps.{zone_fault, zones_layout}
+use Rattle.fc_volume.specs.Volume.{CountsAs, HasCopies}
 
 -- a search stands at a place
 pub found_at : (p : ℕ → Bool) (xs : List ℕ) (i x : ℕ) → i < length xs → find p xs ≡ find p (drop i xs) → x ≡ get_or xs i 0 → p x ≡ true → find p xs ≡ Some x
@@ -66,6 +69,18 @@ first_zone_fits g bytes of_g whole =
     least (inl a) = omega arith
     least (inr (inl b)) = omega arith
     least (inr (inr d)) = omega arith
+
+-- the map that is loaded is that of the zones
+pub held_same : (g : Geometry) (bytes : List ℕ) (m : Map) → loaded g bytes ≡ Ok m → m ≡ held_map g bytes
+held_same g bytes m e = by (first_fault g (zip (zone_numbers g) (zones_in g bytes))) e
+  where
+    by : (fault : Option ZoneFault) → unless_fault (held_map g bytes) fault ≡ Ok m → m ≡ held_map g bytes
+    by None h = sym (cc)
+    by (Some f) h = absurd (cc)
+
+-- the copy that was chosen counts, and has the map's zones
+pub counted : (copies : Copies) (layout : Layout) (which : Which) (m : Map) (image : List ℕ) → copies ≡ Chosen which → layout ≡ Layout.New m → CountsAs m which image → HasCopies copies layout image
+counted copies layout which m image c l is = subst (λ (k : Copies). HasCopies k layout image) (sym c) (subst (λ (n : Layout). HasCopies (Chosen which) n image) (sym l) is)
 
 module _ (r : DiscRecord) (zones : List (List ℕ)) (sector : List ℕ) (first : sector ≡ slice_index_or zones 0 []) where
   pub own_fault : (fault : ImageFault) → agreement r (map_record sector) (difference r (map_record sector)) ≡ Err fault → zones_layout r zones ≡ Err fault

@@ -187,7 +187,7 @@ module _ (owners : List Owner) (nodes : FinMap nat_cmp Node) (layout : Layout) (
       by true e rest = rw e (ap (λ b. (id_of o.entry.address == id) || b) rest)
       by false e rest = rw e rest
 
-  id_owned : (id : ℕ) → is_id_owned owners id ≡ list_any (is_owner_of id) objects
+  pub id_owned : (id : ℕ) → is_id_owned owners id ≡ list_any (is_owner_of id) objects
   id_owned id = list_any-IsPermutation (owns id) owners (map (owner_of nodes layout) (filter has_sectors objects)) owned ∙ each_owner id objects
 
   loose_same : (kind : RunKind) → is_loose owners kind ≡ is_hole_or_movable objects kind

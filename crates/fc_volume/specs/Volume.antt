@@ -1,18 +1,30 @@
 -- Volumes, and when one stands for a disk.
-use Rattle.std.specs.Prelude.{◌≡◌, ◌≤◌, Bool, List}
+use Rattle.std.specs.Prelude.{◌≡◌, ◌≤◌, ◌+◌, ◌*◌, Bool, ℕ, List, Ok}
+use Rattle.std.specs.Option.{ForSome}
 use Rattle.fc_device.specs.declared.disk.Disk.{Ghosts}
 use Rattle.fc_device.specs.Calls.{StopsAsBefore}
 use Rattle.fc_device.specs.Stops.{StillLeaves}
+use Rattle.fc_record.specs.declared.Kind.{Kind}
+use Rattle.fc_newmap.specs.Map.{Map}
+use Rattle.fc_copies.specs.declared.Which.{Which}
+use Rattle.fc_copies.specs.Copies.{chosen, copy_of}
 use Rattle.fc_alloc.specs.declared.owner.Owner.{Owner}
+use Rattle.fc_image.specs.Layout.{Layout, disc_sectors, sector_bytes}
+use Rattle.fc_image.specs.Stays.{HasEqualCopies}
 use Rattle.fc_space.specs.declared.space.Space.{Space}
 use Rattle.fc_space.specs.Space.{layout_of}
+use Rattle.fc_tree.specs.Agree.{Agree}
 use Rattle.fc_tree.specs.Nodes.{Numbers, nodes_of}
 use Rattle.fc_tree.specs.Parts.{Parts}
-use Rattle.fc_tree.specs.Stands.{StandFor}
+use Rattle.fc_tree.specs.Stands.{StandsForImage}
+use Rattle.fc_volume.specs.declared.copies.Copies.{Copies}
+use Rattle.fc_volume.specs.declared.copies.Copies.TheVariants.{Equal, Chosen}
 
--- a volume: its map, its objects, who owns which identifier, and whether it may be changed, and used at all
+-- a volume: its map, what is known of the map's copies, its objects, who owns which identifier, and whether it may be changed, and
+-- used at all
 pub record Volume : Type 0 where
   pub space : Space
+  pub copies : Copies
   pub tree : Numbers
   pub owners : List Owner
   pub read_only : Bool
@@ -22,9 +34,31 @@ pub record Volume : Type 0 where
 abbrev pub parts_of : Volume → Parts
 parts_of v = record { layout = layout_of v.space; nodes = nodes_of v.tree; owners = v.owners }
 
--- The volume stands for the disk.
-abbrev pub StandsFor : {D : Type 0} → Ghosts D → Volume → D → Type 0
-StandsFor d v disk = StandFor (parts_of v) (d.sector_size disk) (d.sectors disk) (d.bytes disk)
+-- The copy that counts is this one, and has the map's zones.
+pub record CountsAs (m : Map) (which : Which) (image : List ℕ) : Type 0 where
+  pub counts : chosen m.geometry image ≡ Ok which
+  pub content : copy_of m.geometry which image ≡ m.zones
+
+-- What is known of the copies is so in this image.
+abbrev pub HasCopies : Copies → Layout → List ℕ → Type 0
+HasCopies Equal layout image = HasEqualCopies image layout
+HasCopies (Chosen which) (Layout.New m) image = CountsAs m which image
+HasCopies (Chosen which) (Layout.Old space) image = ⊥
+
+-- The copies of a new map lie within so many sectors.
+abbrev pub HoldsMap : Layout → ℕ → Type 0
+HoldsMap (Layout.New m) sectors = m.geometry.map_sector + 2 * m.geometry.zones ≤ sectors
+HoldsMap (Layout.Old space) sectors = Unit {0}
+
+-- The volume stands for the disk: the disk has the volume's sectors, as many as its disc and its map take at least; the parts agree with each
+-- other; and if the disk tells its bytes, these are the parts of its image, and its copies are as they are known to be.
+pub record StandsFor {D : Type 0} (d : Ghosts D) (v : Volume) (disk : D) : Type 0 where
+  pub size : d.sector_size disk ≡ sector_bytes (parts_of v).layout
+  pub room : disc_sectors (parts_of v).layout ≤ d.sectors disk
+  pub map_room : HoldsMap (layout_of v.space) (d.sectors disk)
+  pub agree : (kind : Kind) × Agree kind (parts_of v)
+  pub image : StandsForImage (parts_of v) (d.bytes disk)
+  pub copies : ForSome (d.bytes disk) (HasCopies v.copies (layout_of v.space))
 
 -- What stays of a disk that is read, and of which the size of sectors may be set.
 pub record OnlyShapes {D : Type 0} (d : Ghosts D) (old new : D) : Type 0 where

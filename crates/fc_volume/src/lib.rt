@@ -1,6 +1,7 @@
 //! Volumes: the filing system over one disk.
 #![tactic(auto)]
 
+mod copies;
 mod lines;
 mod maps;
 mod misplaced;
@@ -10,5 +11,6 @@ mod pieces;
 mod reading;
 mod volume;
 
+pub use copies::Copies;
 pub use lines::{CommandError, FileRef, Line, Listed, MountError};
 pub use volume::Volume;

@@ -9,15 +9,16 @@ ghost use Rattle.fc_record.specs.Kinds.{IsKind, disc_size, fits_kind, is_old_map
 ghost use Rattle.fc_newmap.specs.Map.{zones_in};
 ghost use Rattle.fc_newmap.specs.NewMap.{IsOfRecord};
 ghost use Rattle.fc_copies.specs.Copies.{chosen, copy_of};
-ghost use Rattle.fc_copies.specs.declared.Which.{Which};
-ghost use Rattle.fc_image.specs.Layout.{disc_sectors, sector_bytes};
+ghost use Rattle.fc_newmap.specs.NewMap.{map_in as held_map};
+ghost use Rattle.fc_image.specs.Layout.{Layout, disc_sectors, sector_bytes};
 ghost use Rattle.fc_image.specs.Opening.{agreement, byte_compared, copy_or, difference, map_and_root, new_layout, old_layout};
 ghost use Rattle.fc_space.specs.Space.{layout_of};
 ghost use Rattle.fc_volume.specs.Answers.{IsFaultOf};
 ghost use Rattle.fc_volume.specs.Maps.{Finds, found_of, zone_fault, zones_layout};
+ghost use Rattle.fc_volume.specs.Volume.{HasCopies, HoldsMap};
 
-use crate::MountError;
-use fc_copies::{CopyError, fetch};
+use crate::{Copies, MountError};
+use fc_copies::{CopyError, Which, fetch};
 use fc_device::{Disk, DiskFault};
 use fc_image::ImageFault;
 use fc_newmap::{MapError, NewMap};
@@ -27,12 +28,20 @@ use fc_record::{DiscRecord, Geometry, Kind, is_root_right, is_root_size_right, p
 use fc_space::Space;
 use std::alloc::Global;
 
-/// A map, the root's address, and the size in bytes of a big root.
+/// A map, what is known of its copies, the root's address, and the size in bytes of a big root.
 #[derive(Drop)]
 pub struct MapFound {
     pub space: Space,
+    pub copies: Copies,
     pub root: u32,
     pub root_size: u32,
+}
+
+/// The copy of a map that counts: which it is, and its bytes.
+#[derive(Drop)]
+struct CopyRead {
+    which: Which,
+    zones: Vec<u8>,
 }
 
 /// The bytes in which a map's record and the kind's have to agree.
@@ -90,18 +99,22 @@ fn zone_fault(fault: MapError) -> ImageFault
     }
 }
 
-// The map in the bytes of the copy that counts.
-fn map_in(bytes: Vec<u8>, r: &DiscRecord) -> Result<MapFound, ImageFault>
+// The map in the copy that counts.
+fn map_in(copy: CopyRead, r: &DiscRecord) -> Result<MapFound, ImageFault>
     requires record { IsRecord r.now }
-    requires whole { length bytes.items ≡ (geometry r.now).zones * (geometry r.now).sector }
-    ensures found { Finds (zones_layout r.now (zones_in (geometry r.now) bytes.items)) result }
+    requires whole { length copy.zones.items ≡ (geometry r.now).zones * (geometry r.now).sector }
+    ensures found { Finds (zones_layout r.now (zones_in (geometry r.now) copy.zones.items)) result }
+    ensures map { IfOk result (λ found. layout_of found.space ≡ Layout.New (held_map (geometry r.now) copy.zones.items)) }
+    ensures copies { IfOk result (λ found. found.copies ≡ Copies.Chosen copy.which) }
     ensures geometry { IfOk result (λ found. (sector_bytes (layout_of found.space) ≡ (geometry r.now).sector) × (disc_sectors (layout_of found.space) ≡ (geometry r.now).disc_bits * (geometry r.now).bit_bytes / (geometry r.now).sector)) }
 {
     let g = geometry(r);
-    let own = own_record(r, &bytes[..g.sector as usize])?;
-    match NewMap::load(bytes, g) {
+    let CopyRead { which, zones } = copy;
+    let own = own_record(r, &zones[..g.sector as usize])?;
+    match NewMap::load(zones, g) {
         Ok(map) => Ok(MapFound {
             space: Space::NewMapped(map),
+            copies: Copies::Chosen(which),
             root: own.root,
             root_size: own.root_size,
         }),
@@ -109,23 +122,23 @@ fn map_in(bytes: Vec<u8>, r: &DiscRecord) -> Result<MapFound, ImageFault>
     }
 }
 
-// The bytes of the copy that counts.
-fn read_copy<D: Disk>(alloc: Global, disk: &mut D, g: &Geometry) -> Result<Vec<u8>, MountError>
+// The copy that counts.
+fn read_copy<D: Disk>(alloc: Global, disk: &mut D, g: &Geometry) -> Result<CopyRead, MountError>
     requires attached { IsTrue (D.attached disk.old) }
     requires geometry { IsOfRecord g.now }
     requires size { D.sector_size disk.old ≡ g.now.sector }
     requires on_disk { g.now.map_sector + 2 * g.now.zones ≤ D.sectors disk.old }
-    ensures whole { IfOk result (λ bytes. length bytes.items ≡ g.now.zones * g.now.sector) }
-    ensures copy { IfOk result (λ bytes. ForSome (D.bytes disk.old) (λ image. (which : Which) × (chosen g.now image ≡ Ok which) × (zones_in g.now bytes.items ≡ copy_of g.now which image))) }
+    ensures whole { IfOk result (λ copy. length copy.zones.items ≡ g.now.zones * g.now.sector) }
+    ensures copy { IfOk result (λ copy. ForSome (D.bytes disk.old) (λ image. (chosen g.now image ≡ Ok copy.which) × (zones_in g.now copy.zones.items ≡ copy_of g.now copy.which image))) }
     ensures fault { IfErr result (λ e. ForSome (D.bytes disk.old) (λ image. IsFaultOf (copy_or (chosen g.now image)) e)) }
     ensures reads { OnlyReads D.Disk disk.old disk.new }
     ensures cause { result ≡ Err MountError.DiskFault → Rose (D.faults disk.old) (D.faults disk.new) }
 {
-    let Ok(mut bytes) = vec![in alloc; 0u8; usize::from(g.zones) * g.sector as usize] else {
+    let Ok(mut zones) = vec![in alloc; 0u8; usize::from(g.zones) * g.sector as usize] else {
         return Err(MountError::NoMemory);
     };
-    match fetch(disk, g, &mut bytes) {
-        Ok(_which) => Ok(bytes),
+    match fetch(disk, g, &mut zones) {
+        Ok(which) => Ok(CopyRead { which, zones }),
         Err(CopyError::BothBad { c1, c2 }) => {
             Err(MountError::Image(ImageFault::Copies { c1, c2 }))
         }
@@ -140,18 +153,20 @@ fn read_new<D: Disk>(alloc: Global, disk: &mut D, r: &DiscRecord) -> Result<MapF
     requires size { D.sector_size disk.old ≡ (geometry r.now).sector }
     requires long { r.now.size ≤ D.image_length disk.old }
     ensures found { IfOk result (λ found. ForSome (D.bytes disk.old) (λ image. new_layout image r.now ≡ Ok (found_of found))) }
+    ensures copies { IfOk result (λ found. ForSome (D.bytes disk.old) (HasCopies found.copies (layout_of found.space))) }
     ensures size { IfOk result (λ found. sector_bytes (layout_of found.space) ≡ D.sector_size disk.old) }
     ensures room { IfOk result (λ found. disc_sectors (layout_of found.space) ≤ D.sectors disk.old) }
+    ensures map_room { IfOk result (λ found. HoldsMap (layout_of found.space) (D.sectors disk.old)) }
     ensures fault { IfErr result (λ e. ForSome (D.bytes disk.old) (λ image. IsFaultOf (new_layout image r.now) e)) }
     ensures reads { OnlyReads D.Disk disk.old disk.new }
     ensures cause { result ≡ Err MountError.DiskFault → Rose (D.faults disk.old) (D.faults disk.new) }
 {
     let g = geometry(r);
-    let bytes = match read_copy(alloc, disk, &g) {
-        Ok(bytes) => bytes,
+    let copy = match read_copy(alloc, disk, &g) {
+        Ok(copy) => copy,
         Err(error) => return Err(error),
     };
-    match map_in(bytes, r) {
+    match map_in(copy, r) {
         Ok(found) => Ok(found),
         Err(fault) => Err(MountError::Image(fault)),
     }
@@ -214,8 +229,10 @@ fn read_old<D: Disk>(
     requires long { 256 * units ≤ D.image_length disk.old }
     requires fits { ForSome (D.bytes disk.old) (λ image. IsTrue (is_old_map image && (old_units image == units))) }
     ensures found { IfOk result (λ found. ForSome (D.bytes disk.old) (λ image. old_layout image sector_units root ≡ Ok (found_of found))) }
+    ensures copies { IfOk result (λ found. ForSome (D.bytes disk.old) (HasCopies found.copies (layout_of found.space))) }
     ensures size { IfOk result (λ found. sector_bytes (layout_of found.space) ≡ D.sector_size disk.old) }
     ensures room { IfOk result (λ found. disc_sectors (layout_of found.space) ≤ D.sectors disk.old) }
+    ensures map_room { IfOk result (λ found. HoldsMap (layout_of found.space) (D.sectors disk.old)) }
     ensures fault { IfErr result (λ e. ForSome (D.bytes disk.old) (λ image. IsFaultOf (old_layout image sector_units root) e)) }
     ensures reads { OnlyReads D.Disk disk.old disk.new }
     ensures cause { result ≡ Err MountError.DiskFault → Rose (D.faults disk.old) (D.faults disk.new) }
@@ -227,6 +244,7 @@ fn read_old<D: Disk>(
     match old_map_in(&front, units, sector_units) {
         Ok(map) => Ok(MapFound {
             space: Space::OldMapped(map),
+            copies: Copies::Equal,
             root,
             root_size: 0,
         }),
@@ -246,8 +264,10 @@ pub fn read_map<D: Disk>(alloc: Global, disk: &mut D, kind: &Kind) -> Result<Map
     requires long { disc_size kind.now ≤ D.image_length disk.old }
     requires fits { ForSome (D.bytes disk.old) (λ image. IsTrue (fits_kind image kind.now)) }
     ensures found { IfOk result (λ found. ForSome (D.bytes disk.old) (λ image. map_and_root image kind.now ≡ Ok (found_of found))) }
+    ensures copies { IfOk result (λ found. ForSome (D.bytes disk.old) (HasCopies found.copies (layout_of found.space))) }
     ensures size { IfOk result (λ found. sector_bytes (layout_of found.space) ≡ D.sector_size disk.old) }
     ensures room { IfOk result (λ found. disc_sectors (layout_of found.space) ≤ D.sectors disk.old) }
+    ensures map_room { IfOk result (λ found. HoldsMap (layout_of found.space) (D.sectors disk.old)) }
     ensures fault { IfErr result (λ e. ForSome (D.bytes disk.old) (λ image. IsFaultOf (map_and_root image kind.now) e)) }
     ensures reads { OnlyReads D.Disk disk.old disk.new }
     ensures cause { result ≡ Err MountError.DiskFault → Rose (D.faults disk.old) (D.faults disk.new) }

@@ -20,11 +20,11 @@ use crate::maps::{MapFound, read_map};
 use crate::misplaced::{misplaced_sector, reserved_rows};
 use crate::owners::owners_of;
 use crate::{MountError, Volume};
-use fc_device::Disk;
+use fc_device::{Disk, NoMemory};
 use fc_image::ImageFault;
 use fc_record::kinds::kind;
 use fc_record::{Kind, KindError};
-use fc_space::Places;
+use fc_space::{Places, Space};
 use fc_tree::{TreeError, load};
 use std::alloc::Global;
 
@@ -77,6 +77,15 @@ fn mount_error(error: TreeError) -> MountError
     }
 }
 
+// A map with its index.
+fn with_index(alloc: Global, space: Space) -> Result<Places, NoMemory>
+    ensures { IfOk result (λ places. places ≡ space) }
+{
+    let mut places = Places::new(space);
+    places.index(alloc)?;
+    Ok(places)
+}
+
 // The volume of a disk whose map was found.
 fn volume_of<D: Disk>(
     alloc: Global,
@@ -89,6 +98,7 @@ fn volume_of<D: Disk>(
     requires size { sector_bytes (layout_of found.space) ≡ D.sector_size disk.old }
     requires room { disc_sectors (layout_of found.space) ≤ D.sectors disk.old }
     ensures space { IfOk result (λ v. v.space ≡ found.space) }
+    ensures copies { IfOk result (λ v. v.copies ≡ found.copies) }
     ensures parts { IfOk result (λ v. AreMounted kind.now found.root found.root_size (parts_of v) (D.bytes disk.old)) }
     ensures ready { IfOk result (λ v. (v.fit ≡ true) × (v.read_only ≡ read_only)) }
     ensures fault { IfErr result (λ e. ForSome (D.bytes disk.old) (λ image. IsFaultOf (opened_with image kind.now (found_of found)) e)) }
@@ -96,7 +106,7 @@ fn volume_of<D: Disk>(
     ensures cause { result ≡ Err MountError.DiskFault → Rose (D.faults disk.old) (D.faults disk.new) }
 {
     fc_image::walking();
-    let Ok(places) = Places::new(alloc, found.space) else {
+    let Ok(places) = with_index(alloc, found.space) else {
         return Err(MountError::NoMemory);
     };
     let space = places.space();
@@ -111,6 +121,7 @@ fn volume_of<D: Disk>(
     match misplaced_sector(kind, space, &owners) {
         None => Ok(Volume {
             places,
+            copies: found.copies,
             tree,
             owners,
             read_only,

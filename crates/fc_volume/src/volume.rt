@@ -1,6 +1,7 @@
 // Volumes and their parts.
 ghost use Rattle.std.specs.Prelude.{◌≡◌};
 
+use crate::Copies;
 use fc_alloc::Owners;
 use fc_space::{Places, Space};
 use fc_tree::Tree;
@@ -11,6 +12,7 @@ use std::marker::Model;
 #[derive(Drop)]
 pub struct Volume {
     pub(crate) places: Places,
+    pub(crate) copies: Copies,
     pub(crate) tree: Tree,
     pub(crate) owners: Owners,
     pub(crate) read_only: bool,
@@ -22,7 +24,7 @@ impl Model for Volume {
 
     ghost Value = { volume.Volume };
 
-    ghost view = { λ v. record { space = v.places; tree = v.tree; owners = v.owners; read_only = v.read_only; fit = v.fit } };
+    ghost view = { λ v. record { space = v.places; copies = v.copies; tree = v.tree; owners = v.owners; read_only = v.read_only; fit = v.fit } };
 }
 
 impl Volume {
@@ -38,6 +40,13 @@ impl Volume {
         ensures { result.now ≡ self.now.space }
     {
         self.places.space()
+    }
+
+    /// What is known of the copies of a new map.
+    pub fn copies(&self) -> Copies
+        ensures { result ≡ self.now.copies }
+    {
+        self.copies
     }
 
     /// The owners of identifiers.

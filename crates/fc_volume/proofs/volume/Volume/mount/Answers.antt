@@ -8,7 +8,8 @@ use Rattle.fc_image.specs.Layout.{disc_sectors, sector_bytes}
 use Rattle.fc_space.specs.declared.space.Space.{Space}
 use Rattle.fc_space.specs.Space.{layout_of}
 use Rattle.fc_volume.specs.Maps.{found_of}
-use Rattle.fc_volume.specs.Volume.{parts_of}
+use Rattle.fc_volume.specs.declared.copies.Copies.{Copies}
+use Rattle.fc_volume.specs.Volume.{HasCopies, HoldsMap, parts_of}
 use Rattle.fc_volume.proofs.MountLemmas.{agrees, are_parts, no_map, no_parts, opens, opens_as, shapes_then, view}
 use Rattle.fc_volume.proofs.volume.Volume.mount.Goals as goal
 
@@ -67,6 +68,8 @@ returns-in-Ok-volume_of-clause-stands g c =
     record {
       size = reads.form.size_stays ∙ sym c.in-Ok-read_map.ensures.size ∙ sym (ap (λ (s : Space). sector_bytes (layout_of s)) space);
       room = subst (λ (n : ℕ). disc_sectors (layout_of v.space) ≤ n) (sym reads.form.sectors_stay) room;
+      map_room = subst (λ (n : ℕ). HoldsMap (layout_of v.space) n) (sym reads.form.sectors_stay)
+          (subst (λ (s : Space). HoldsMap (layout_of s) (g.D.Disk.sectors c.shape.new.self)) (sym space) c.in-Ok-read_map.ensures.map_room);
       agree = (kind, agrees kind _ _ (parts_of v) _ m);
       image = λ image told.
           let shaped = sym reads.bytes ∙ told in
@@ -80,4 +83,8 @@ returns-in-Ok-volume_of-clause-stands g c =
             record { kind_right = c.in-Ok.ensures.kind; opened = opens_as kind _ _ (parts_of v) _ m c.opens.ensures image read (c.in-Ok.ensures.fits image before) found.1 here },
             are_parts kind _ _ (parts_of v) _ m,
           );
+      copies = λ image told.
+          let shaped = sym reads.bytes ∙ told in
+          subst (λ (k : Copies). HasCopies k (layout_of v.space) image) (sym c.in-Ok-volume_of.ensures.copies)
+          (subst (λ (s : Space). HasCopies c.in-Ok-read_map.found.copies (layout_of s) image) (sym space) (c.in-Ok-read_map.ensures.copies image shaped));
     }
