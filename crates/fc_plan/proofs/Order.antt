@@ -44,7 +44,7 @@ order-append : (xs ys : List ZoneRun) → AreInOrder xs → AreInOrder ys → Al
 order-append [] ys a b c = b
 order-append (x ∷ xs) ys a b c = (both_all (EndsBefore x) xs ys a.0 c.0, order-append xs ys a.1 b c.1)
 
-order-filter : (t : ZoneRun → Bool) (xs : List ZoneRun) → AreInOrder xs → AreInOrder (filter t xs)
+pub order-filter : (t : ZoneRun → Bool) (xs : List ZoneRun) → AreInOrder xs → AreInOrder (filter t xs)
 order-filter t [] a = tt
 order-filter t (x ∷ xs) a =
     cond_both (t x) (x ∷ filter t xs) (filter t xs) AreInOrder
@@ -109,7 +109,7 @@ same_place p q e =
     let h = and_parts (p.0 == q.0) (p.1.start == q.1.start) e in
     (eqb-true p.0 q.0 h.0, eqb-true p.1.start q.1.start h.1)
 
-ends_then_begins : (p q : ZoneRun) → 0 < p.1.len → EndsBefore p q → BeginsBefore p q
+pub ends_then_begins : (p q : ZoneRun) → 0 < p.1.len → EndsBefore p q → BeginsBefore p q
 ends_then_begins p q some (inl low) = inl low
 ends_then_begins p q some (inr (same, low)) = inr (same, omega arith)
 
@@ -222,12 +222,12 @@ stands_in [] hole p (k, in', e) test = absurd (omega arith)
 stands_in (h ∷ holes) hole p (zero, in', e) test = let same : h ≡ hole = e in inl (ap (λ (x : ZoneRun). stands_at x p) same ∙ test)
 stands_in (h ∷ holes) hole p (suc k, in', e) test = inr (stands_in holes hole p (k, omega arith, e) test)
 
-later_than : (h p : ZoneRun) (holes : List ZoneRun) → 0 < h.1.len → AllByRecursion (EndsBefore h) holes → StandsIn holes p → BeginsBefore h p
+pub later_than : (h p : ZoneRun) (holes : List ZoneRun) → 0 < h.1.len → AllByRecursion (EndsBefore h) holes → StandsIn holes p → BeginsBefore h p
 later_than h p [] some a s = absurd s
 later_than h p (k ∷ holes) some a (inl here) = begins_until h k p here (ends_then_begins h k some a.0)
 later_than h p (k ∷ holes) some a (inr more) = later_than h p holes some a.1 more
 
-find_nothing : (t : ZoneRun → Bool) (ps : List ZoneRun) → AllByRecursion (λ (p : ZoneRun). t p ≡ false) ps → find t ps ≡ None
+pub find_nothing : (t : ZoneRun → Bool) (ps : List ZoneRun) → AllByRecursion (λ (p : ZoneRun). t p ≡ false) ps → find t ps ≡ None
 find_nothing t [] a = refl
 find_nothing t (p ∷ ps) a = ap (λ (b : Bool). cond b (Some p) (find t ps)) a.0 ∙ find_nothing t ps a.1
 
@@ -241,7 +241,7 @@ left_nothing : (holes : List ZoneRun) → holes_left holes [] ≡ holes
 left_nothing [] = refl
 left_nothing (h ∷ holes) = ap (λ (hs : List ZoneRun). h ∷ hs) (left_nothing holes)
 
-abbrev ArePositive : List ZoneRun → Type 0
+abbrev pub ArePositive : List ZoneRun → Type 0
 ArePositive holes = AllByRecursion (λ (p : ZoneRun). 0 < p.1.len) holes
 
 pub left_is : (holes parts : List ZoneRun) → ArePositive holes → AreInOrder holes → Rising parts → AllByRecursion (StandsIn holes) parts → holes_left holes parts ≡ left_of_both holes parts

@@ -1,9 +1,9 @@
 -- Laws of taking space.
-use Rattle.std.specs.Prelude.{◌<◌, ◌%◌, ◌≡◌, ◌≤◌, ◌^◌, ℕ, ◌+◌, ◌*◌, Bool, not, nat_lt, List, [], ◌∷◌, length, Contains, AllPairs, None, if◌then◌else◌}
+use Rattle.std.specs.Prelude.{◌⊎◌, All, true, false, ◌<◌, ◌%◌, ◌≡◌, ◌≤◌, ◌^◌, ℕ, ◌+◌, ◌*◌, Bool, not, nat_lt, List, [], ◌∷◌, length, Contains, AllPairs, None, if◌then◌else◌}
 use Rattle.std.specs.Option.{option_map_or}
 use Rattle.std.specs.List.Sorted.{IsPermutation}
 use Rattle.fc_record.specs.declared.Geometry.{Geometry}
-use Rattle.fc_newmap.specs.Map.{Map, ZoneRun, bits_in, hole_runs}
+use Rattle.fc_newmap.specs.Map.{Map, ZoneRun, bits_in, hole_runs, is_used}
 use Rattle.fc_newmap.specs.NewMap.{IsNewMap}
 use Rattle.fc_model.specs.Command.{Command}
 use Rattle.fc_image.specs.Layout.{Layout}
@@ -12,7 +12,12 @@ use Rattle.fc_image.specs.Opening.{Opened}
 use Rattle.fc_effects.specs.Placed.{IsPlan, IsTaken, holes_left}
 use Rattle.fc_effects.specs.Sharing.{new_ids, units}
 use Rattle.fc_effects.specs.Short.{growth_units, is_alone, moved_growth, object_units, one_if, short}
+use Rattle.fc_effects.specs.Steady.{goes_back, runs_that}
+use Rattle.fc_plan.specs.Applied.{CanTakePlan}
+use Rattle.fc_plan.specs.Giving.{is_one_of}
+use Rattle.fc_plan.specs.Parts.{fronts}
 use Rattle.fc_plan.specs.Plan.{AreApart, AreParts}
+use Rattle.fc_plan.specs.declared.plan.Plan.{Plan}
 use Rattle.fc_plan.specs.Taking.{as_runs}
 
 -- The runs that the parts become are a taking too, in whatever order they are met.
@@ -54,6 +59,31 @@ pub record AreNewIds (m : Map) : Type 0 where
 
 abbrev pub NewIdsLaw : Type 0
 NewIdsLaw = (m : Map) → AreNewIds m
+
+-- A plan with one of a map's new identifiers can be carried out where its holes are, and the identifier has no run.
+abbrev pub CanLaw : Type 0
+CanLaw = (m : Map) (holes : List ZoneRun) (bits : ℕ) (plan : Plan) → IsPlan m.geometry holes bits (fronts plan.parts.items) → Contains (new_ids m) plan.id
+    → CanTakePlan m.geometry holes plan × (is_used m plan.id ≡ false)
+
+-- The runs have no bit in common.
+abbrev pub AreDisjoint : ZoneRun → ZoneRun → Type 0
+AreDisjoint p q = (p.0 ≡ q.0 → ⊥) ⊎ ((p.1.start + p.1.len ≤ q.1.start) ⊎ (q.1.start + q.1.len ≤ p.1.start))
+
+-- Two plans have no bit in common, and other identifiers.
+pub record AreTwo (object dir : Plan) : Type 0 where
+  pub parts : All (λ p. All (AreDisjoint p) (fronts dir.parts.items)) (fronts object.parts.items)
+  pub ids : object.id ≡ dir.id → ⊥
+
+-- So it is with a plan, and one that is made after it in what it left.
+abbrev pub TwoLaw : Type 0
+TwoLaw = (m : Map) (first second : ℕ) (object dir : Plan) (rest : List ℕ) → IsNewMap m → IsPlan m.geometry (hole_runs m) first (fronts object.parts.items)
+    → IsPlan m.geometry (holes_left (hole_runs m) (fronts object.parts.items)) second (fronts dir.parts.items) → new_ids m ≡ object.id ∷ rest → Contains rest dir.id → AreTwo object dir
+
+-- What `apply` gives back is what a command gives back, where the identifiers `gone` are those of the map's whose space it gives
+-- back.
+abbrev pub BackLaw : Type 0
+BackLaw = (m : Map) (v w : Opened) (c : Command) (gone : List ℕ) → ((id : ℕ) → is_used m id ≡ true → is_one_of gone id ≡ goes_back v w c id)
+    → runs_that (is_one_of gone) m ≡ runs_that (goes_back v w c) m
 
 -- the new identifiers that a grown directory needs, when the object has its own
 abbrev pub growth_ids : Opened → Command → ℕ

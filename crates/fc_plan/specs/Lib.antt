@@ -1,3 +1,4 @@
+pub mod Parts
 pub mod Plan
 pub mod Supply
 pub mod Taking

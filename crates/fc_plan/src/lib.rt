@@ -2,19 +2,23 @@
 #![tactic(auto)]
 
 mod applying;
+mod changing;
 mod giving;
 mod laws;
+mod plan;
 mod planning;
 mod supply;
 mod taking;
 
 pub use applying::apply;
+pub use changing::changed_zones;
 pub use giving::give_back;
 pub use laws::{
-    any_order, apart_parts, cut_plans, new_ids_rise, nothing_taken, plans_exist, same_rest,
-    second_taking, whole_units,
+    any_order, apart_parts, cut_plans, given_back, new_ids_rise, nothing_taken, plans_can_be_taken,
+    plans_exist, same_rest, second_taking, two_plans, whole_units,
 };
-pub use supply::{Plan, PlanError, Supply, id_limit};
+pub use plan::{Part, Plan};
+pub use supply::{PlanError, Supply, id_limit};
 pub use taking::take;
 
 #[cfg(test)]

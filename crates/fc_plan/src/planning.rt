@@ -117,13 +117,6 @@ fn rising_parts(holes: Vec<(u16, Run)>, bits: u64, g: &Geometry) -> Option<Vec<(
     Some(parts)
 }
 
-// The first of some parts that stands at a hole.
-pub fn found_at(hole: (u16, Run), taken: &[(u16, Run)]) -> Option<(u16, Run)>
-    ensures { result ≡ find (stands_at hole) taken.now }
-{
-    taken.iter().copied().find(|part| stands_at(hole, *part))
-}
-
 // What a part of a hole leaves of it.
 fn left_behind(hole: (u16, Run), found: Option<(u16, Run)>) -> Option<(u16, Run)>
     requires start { hole.1.start ≤ 8192 }

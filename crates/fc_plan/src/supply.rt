@@ -6,24 +6,20 @@ ghost use Rattle.fc_newmap.specs.Map.{all_runs, bits_in, is_hole};
 ghost use Rattle.fc_newmap.specs.NewMap.{IsOfRecord};
 ghost use Rattle.fc_effects.specs.Placed.{IsPlan, holes_left};
 ghost use Rattle.fc_effects.specs.Sharing.{units};
+ghost use Rattle.fc_plan.specs.Parts.{fronts};
 ghost use Rattle.fc_plan.specs.Plan.{AreFreeRuns, AreParts};
 ghost use Rattle.fc_plan.specs.Supply.{IsSurvey, marked, stock_of, unused_from};
 ghost use Rattle.fc_plan.specs.declared.supply.PlanError.TheVariants as errors;
 
-use crate::planning::{Taking, fewest};
+use crate::plan::as_parts;
+use crate::planning::fewest;
+use crate::{Part, Plan};
 use fc_device::NoMemory;
 use fc_newmap::{NewMap, Walk};
 use fc_record::Geometry;
 use fc_zone::{Run, RunKind};
 use std::alloc::Global;
 use std::marker::Model;
-
-/// Where a new object is to lie: an identifier that no run has, and the fronts of holes that become its runs.
-#[derive(Drop)]
-pub struct Plan {
-    pub id: u32,
-    pub parts: Vec<(u16, Run)>,
-}
 
 /// Why there is no plan.
 #[derive(Clone, Copy, Debug, PartialEq, Eq)]
@@ -134,28 +130,34 @@ fn next_unused(used: &[bool], from: usize) -> Option<usize>
     None
 }
 
+// Parts that are taken from holes, and what they leave.
+#[derive(Drop)]
+struct Cut {
+    parts: Vec<Part>,
+    left: Vec<(u16, Run)>,
+}
+
 // Takes the bits of so many bytes from holes.
-fn taking(
-    alloc: Global,
-    holes: &[(u16, Run)],
-    g: &Geometry,
-    bytes: u64,
-) -> Result<Taking, PlanError>
+fn cut_from(alloc: Global, holes: &[(u16, Run)], g: &Geometry, bytes: u64) -> Result<Cut, PlanError>
     requires some { 0 < bytes }
     requires few { bytes < 2 ^ 63 }
     requires record { IsOfRecord g.now }
     requires holes { AreFreeRuns g.now holes.now }
-    ensures plan { IfOk result (λ t. IsPlan g.now holes.now (units g.now bytes) t.parts.items) }
-    ensures cut { IfOk result (λ t. AreParts g.now holes.now t.parts.items) }
-    ensures left { IfOk result (λ t. t.left.items ≡ holes_left holes.now t.parts.items) }
+    ensures plan { IfOk result (λ t. IsPlan g.now holes.now (units g.now bytes) (fronts t.parts.items)) }
+    ensures cut { IfOk result (λ t. AreParts g.now holes.now (fronts t.parts.items)) }
+    ensures left { IfOk result (λ t. t.left.items ≡ holes_left holes.now (fronts t.parts.items)) }
     ensures free { IfOk result (λ t. AreFreeRuns g.now t.left.items) }
     ensures full { IsErrOf result PlanError.DiscFull → bits_in holes.now < units g.now bytes }
     ensures ids { IsErrOf result PlanError.IdsFull → ⊥ }
 {
-    match fewest(alloc, holes, units(g, bytes), g)? {
-        Some(taking) => Ok(taking),
-        None => Err(PlanError::DiscFull),
-    }
+    let Some(taking) = fewest(alloc, holes, units(g, bytes), g)? else {
+        return Err(PlanError::DiscFull);
+    };
+    let parts = as_parts(alloc, &taking.parts)?;
+    Ok(Cut {
+        parts,
+        left: taking.left,
+    })
 }
 
 impl Supply {
@@ -175,19 +177,19 @@ impl Supply {
 
     /// Plans parts for so many bytes, without an identifier: as few holes as can be, no rest shorter than a run may be.
     /// `DiscFull` exactly where the holes together have too few bits.
-    pub fn take_parts(&mut self, alloc: Global, bytes: u64) -> Result<Vec<(u16, Run)>, PlanError>
+    pub fn take_parts(&mut self, alloc: Global, bytes: u64) -> Result<Vec<Part>, PlanError>
         requires some { 0 < bytes }
         requires few { bytes < 2 ^ 63 }
-        ensures plan { IfOk result (λ parts. IsPlan self.old.geometry self.old.holes (units self.old.geometry bytes) parts.items) }
-        ensures cut { IfOk result (λ parts. AreParts self.old.geometry self.old.holes parts.items) }
-        ensures rest { IfOk result (λ parts. self.new ≡ record self.old { holes = holes_left self.old.holes parts.items }) }
+        ensures plan { IfOk result (λ parts. IsPlan self.old.geometry self.old.holes (units self.old.geometry bytes) (fronts parts.items)) }
+        ensures cut { IfOk result (λ parts. AreParts self.old.geometry self.old.holes (fronts parts.items)) }
+        ensures rest { IfOk result (λ parts. self.new ≡ record self.old { holes = holes_left self.old.holes (fronts parts.items) }) }
         ensures full { IsErrOf result PlanError.DiscFull → bits_in self.old.holes < units self.old.geometry bytes }
         ensures ids { IsErrOf result PlanError.IdsFull → ⊥ }
         ensures err { OnErr result (self.new ≡ self.old) }
     {
-        let taking = taking(alloc, &self.holes, &self.geometry, bytes)?;
-        self.holes = taking.left;
-        Ok(taking.parts)
+        let cut = cut_from(alloc, &self.holes, &self.geometry, bytes)?;
+        self.holes = cut.left;
+        Ok(cut.parts)
     }
 
     /// Plans an object of so many bytes: the least identifier that is left, and parts. `IdsFull` exactly where no
@@ -195,10 +197,10 @@ impl Supply {
     pub fn plan(&mut self, alloc: Global, bytes: u64) -> Result<Plan, PlanError>
         requires some { 0 < bytes }
         requires few { bytes < 2 ^ 63 }
-        ensures plan { IfOk result (λ plan. IsPlan self.old.geometry self.old.holes (units self.old.geometry bytes) plan.parts.items) }
-        ensures cut { IfOk result (λ plan. AreParts self.old.geometry self.old.holes plan.parts.items) }
+        ensures plan { IfOk result (λ plan. IsPlan self.old.geometry self.old.holes (units self.old.geometry bytes) (fronts plan.parts.items)) }
+        ensures cut { IfOk result (λ plan. AreParts self.old.geometry self.old.holes (fronts plan.parts.items)) }
         ensures id { IfOk result (λ plan. self.old.ids ≡ plan.id ∷ self.new.ids) }
-        ensures rest { IfOk result (λ plan. self.new ≡ record self.old { holes = holes_left self.old.holes plan.parts.items; ids = self.new.ids }) }
+        ensures rest { IfOk result (λ plan. self.new ≡ record self.old { holes = holes_left self.old.holes (fronts plan.parts.items); ids = self.new.ids }) }
         ensures ids { IsErrOf result PlanError.IdsFull → self.old.ids ≡ [] }
         ensures full { IsErrOf result PlanError.DiscFull → (self.old.ids ≡ [] → ⊥) × (bits_in self.old.holes < units self.old.geometry bytes) }
         ensures err { OnErr result (self.new ≡ self.old) }
@@ -206,12 +208,12 @@ impl Supply {
         let Some(id) = next_unused(&self.used, self.next) else {
             return Err(PlanError::IdsFull);
         };
-        let taking = taking(alloc, &self.holes, &self.geometry, bytes)?;
-        self.holes = taking.left;
+        let cut = cut_from(alloc, &self.holes, &self.geometry, bytes)?;
+        self.holes = cut.left;
         self.next = id + 1;
         Ok(Plan {
             id: id as u32,
-            parts: taking.parts,
+            parts: cut.parts,
         })
     }
 }

@@ -1,12 +1,11 @@
 // Plans on small maps, and space taken and given back on a fresh E disc.
 ghost use Rattle.std.specs.Prelude.{◌≡◌, ◌≤◌, length};
 
-use crate::{Plan, PlanError, Supply, give_back, take};
+use crate::{Part, Plan, PlanError, Supply, changed_zones, give_back, take};
 use fc_bytes::put_bits;
 use fc_newmap::NewMap;
 use fc_record::measures::geometry;
 use fc_record::read_record;
-use fc_zone::{Run, RunKind};
 use std::alloc::Global;
 use std::test::Fail;
 
@@ -66,13 +65,25 @@ fn fresh_e() -> [u8; 1024] {
     zone
 }
 
-// The places of parts.
-fn are_parts(parts: &[(u16, Run)], want: &[(u32, u32)]) -> bool {
+// The places of parts in zone 0.
+fn are_parts(parts: &[Part], want: &[(u32, u32)]) -> bool {
     parts.len() == want.len()
-        && parts.iter().zip(want).all(|(part, w)| part.0 == 0
-            && part.1.start == w.0
-            && part.1.len == w.1)
+        && parts.iter().zip(want).all(|(part, w)| part.zone == 0
+            && part.start == w.0
+            && part.len == w.1)
 }
+
+// The lengths of holes, the bytes of an object, and the places and lengths of its parts.
+type Row = (&'static [u32], u64, &'static [(u32, u32)]);
+
+const PLANS: &[Row] = &[
+    (&[18, 18], 5120, &[(544, 18), (578, 18)]),
+    (&[18, 18], 4096, &[(544, 18)]),
+    (&[18, 18], 1, &[(544, 18)]),
+    (&[16, 16, 64], 17_920, &[(544, 16), (608, 64)]),
+    (&[16, 16, 64], 4096, &[(544, 16)]),
+    (&[16, 40, 64], 4352, &[(576, 18)]),
+];
 
 // Whether an object of so many bytes gets these parts on a map of these holes.
 fn is_planned(alloc: Global, lens: &[u32], bytes: u64, want: &[(u32, u32)]) -> bool {
@@ -94,9 +105,9 @@ fn is_planned(alloc: Global, lens: &[u32], bytes: u64, want: &[(u32, u32)]) -> b
 #[test]
 fn takes_the_fewest_holes(rt: HostRuntime) -> Result<(), Fail> {
     let alloc = rt.alloc();
-    assert!(rt; is_planned(alloc, &[18, 18], 5120, &[(544, 18), (578, 18)]));
-    assert!(rt; is_planned(alloc, &[18, 18], 1, &[(544, 18)]));
-    assert!(rt; is_planned(alloc, &[16, 16, 64], 17_920, &[(544, 16), (608, 64)]));
+    for (i, (holes, bytes, parts)) in PLANS.iter().enumerate() {
+        assert!(rt; is_planned(alloc, holes, *bytes, parts), "row {i}");
+    }
     Ok(())
 }
 
@@ -190,7 +201,12 @@ fn takes_and_gives_back(rt: HostRuntime) -> Result<(), Fail> {
     };
     assert!(rt; plan.id == 3 && are_parts(&plan.parts, &[(544, 16)]));
     assert!(rt; map.free_bits() == 6352);
+    map.seal(0);
+    assert!(rt; map.bytes(0).get(1..3) == Some(b"\x28\x82".as_slice()));
+    assert!(rt; map.bytes(0).get(64..70) == Some(b"\x02\0\0\x80\x03\x80".as_slice()));
     give_back(&mut map, &[3], &[]);
+    map.seal(0);
+    assert!(rt; map.bytes(0) == fresh.as_slice());
     assert!(rt; map.free_bits() == 6368);
     assert!(rt; save(alloc, &mut map, 815_105).is_none());
     assert!(rt; save(alloc, &mut map, 815_104).is_some());

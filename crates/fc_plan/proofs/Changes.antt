@@ -1,0 +1,92 @@
+-- Which zones change, as a list.
+use Rattle.std.proofs.Common.{◌≡◌, ◌<◌, ℕ, zero, suc, ◌+◌, ◌-◌, Bool, true, false, cond, List, [], ◌∷◌, ◌++◌, length, Contains, inl, inr, refl, sym, ap, ap₂, subst, ◌∙◌, arith, append_assoc}
+use Rattle.std.specs.Prelude.{filter, ◌||◌, OnOk, Result, Ok, Err}
+use Rattle.std.specs.List.{list_any, range_with_len}
+use Rattle.std.proofs.lemmas.List.{append-nil}
+use Rattle.std.proofs.lemmas.List.FromFn.{get_or-range_with_len, length-range_with_len}
+use Rattle.std.proofs.lemmas.List.Elements.{Contains-append_right}
+use Rattle.fc_zone.specs.declared.Run.{Run}
+use Rattle.fc_newmap.specs.Map.{ZoneRun}
+use Rattle.fc_newmap.specs.RunsLaw.{placed}
+use Rattle.fc_effects.specs.Steady.{has_id_that}
+use Rattle.fc_plan.specs.Giving.{has_run_of, is_one_of}
+use Rattle.fc_plan.proofs.MapLemmas.{either_test}
+
+-- ---- the runs of a zone
+
+abbrev pub goes : List ℕ → ZoneRun → Bool
+goes ids p = has_id_that (is_one_of ids) p.1.kind
+
+pub any_placed : (ids : List ℕ) (z : ℕ) (runs : List Run) → list_any (goes ids) (placed z runs ++ []) ≡ has_run_of ids runs
+any_placed ids z [] = refl
+any_placed ids z (run ∷ runs) = ap (λ (b : Bool). has_id_that (is_one_of ids) run.kind || b) (any_placed ids z runs)
+
+-- ---- a row of numbers
+
+range_first : (a n k : ℕ) → n ≡ k + 1 → range_with_len a n ≡ a ∷ range_with_len (a + 1) k
+range_first a zero k e = absurd (omega arith)
+range_first a (suc zero) zero e = refl
+range_first a (suc zero) (suc k) e = absurd (omega arith)
+range_first a (suc (suc n)) zero e = absurd (omega arith)
+range_first a (suc (suc n)) (suc k) e = ap (λ (j : ℕ). a ∷ range_with_len (a + 1) j) (let h : suc n ≡ suc k = omega arith in h)
+
+-- the numbers so far that pass a test
+pub record ArePassed (t : ℕ → Bool) (n at : ℕ) (old now : List ℕ) : Type 0 where
+  pub more : List ℕ
+  pub is : now ≡ old ++ more
+  pub rest : more ++ filter t (range_with_len at (n - at)) ≡ filter t (range_with_len 0 n)
+
+pub none_passed : (t : ℕ → Bool) (n : ℕ) (old : List ℕ) → ArePassed t n 0 old old
+none_passed t n old = record { more = []; is = sym (append-nil old); rest = ap (λ (k : ℕ). filter t (range_with_len 0 k)) (let e : n - 0 ≡ n = omega arith in e) }
+
+pub one_passed : (t : ℕ → Bool) (n at : ℕ) (old now then : List ℕ) → ArePassed t n at old now → at < n → t at ≡ true → then ≡ now ++ at ∷ [] → ArePassed t n (at + 1) old then
+one_passed t n at old now then so_far low test is = record {
+  more = so_far.more ++ at ∷ [];
+  is = is ∙ ap (λ (xs : List ℕ). xs ++ at ∷ []) so_far.is ∙ append_assoc old so_far.more (at ∷ []);
+  rest = append_assoc so_far.more (at ∷ []) (filter t (range_with_len (at + 1) (n - (at + 1))))
+      ∙ ap (λ (xs : List ℕ). so_far.more ++ xs) (sym (ap (filter t) (range_first at (n - at) (n - (at + 1)) (omega arith)) ∙ ap (λ (b : Bool). cond b (at ∷ filter t (range_with_len (at + 1) (n - (at + 1)))) (filter t (range_with_len (at + 1) (n - (at + 1))))) test))
+      ∙ so_far.rest;
+}
+
+pub one_missed : (t : ℕ → Bool) (n at : ℕ) (old now : List ℕ) → ArePassed t n at old now → at < n → t at ≡ false → ArePassed t n (at + 1) old now
+one_missed t n at old now so_far low test = record {
+  more = so_far.more;
+  is = so_far.is;
+  rest = ap (λ (xs : List ℕ). so_far.more ++ xs) (sym (ap (filter t) (range_first at (n - at) (n - (at + 1)) (omega arith)) ∙ ap (λ (b : Bool). cond b (at ∷ filter t (range_with_len (at + 1) (n - (at + 1)))) (filter t (range_with_len (at + 1) (n - (at + 1))))) test))
+      ∙ so_far.rest;
+}
+
+pub step_passed : (t : ℕ → Bool) (n at : ℕ) (old now then : List ℕ) (b : Bool) → ArePassed t n at old now → at < n → b ≡ t at → then ≡ cond b (now ++ at ∷ []) now → ArePassed t n (at + 1) old then
+step_passed t n at old now then true so_far low test is = one_passed t n at old now then so_far low (sym test) is
+step_passed t n at old now then false so_far low test is = subst (λ (xs : List ℕ). ArePassed t n (at + 1) old xs) (sym is) (one_missed t n at old now so_far low (sym test))
+
+pub on_ok : {A E : Type 0} (P Q : Type 0) (r : Result A E) → (P → Q) → OnOk r P → OnOk r Q
+on_ok P Q (Ok x) f h = f h
+on_ok P Q (Err e) f h = tt
+
+pub all_passed : (t : ℕ → Bool) (n at : ℕ) (old now : List ℕ) → ArePassed t n at old now → n - at ≡ 0 → now ≡ old ++ filter t (range_with_len 0 n)
+all_passed t n at old now so_far none =
+    so_far.is ∙ ap (λ (xs : List ℕ). old ++ xs) (sym (append-nil so_far.more) ∙ ap (λ (k : ℕ). so_far.more ++ filter t (range_with_len at k)) (sym none) ∙ so_far.rest)
+
+-- what is not listed fails the test
+in_filter_of : (t : ℕ → Bool) (xs : List ℕ) (x : ℕ) → Contains xs x → t x ≡ true → Contains (filter t xs) x
+in_filter_of t [] x (k, h, e) test = absurd (omega arith)
+in_filter_of t (y ∷ xs) x (zero, h, e) test =
+    (let same : y ≡ x = e in
+    let here : t y ≡ true = ap t same ∙ test in
+    let whole : filter t (y ∷ xs) ≡ y ∷ filter t xs = ap (λ (b : Bool). cond b (y ∷ filter t xs) (filter t xs)) here in
+    rw whole (0, omega arith, same))
+in_filter_of t (y ∷ xs) x (suc k, h, e) test = by (t y) (in_filter_of t xs x (k, omega arith, e) test)
+  where
+    by : (b : Bool) → Contains (filter t xs) x → Contains (cond b (y ∷ filter t xs) (filter t xs)) x
+    by true c = (suc c.0, (let low = c.1 in omega arith), c.2)
+    by false c = c
+
+pub not_listed : (t : ℕ → Bool) (n z : ℕ) (old now : List ℕ) → now ≡ old ++ filter t (range_with_len 0 n) → z < n → (Contains now z → ⊥) → t z ≡ false
+not_listed t n z old now is low none = elim (either_test (t z)) [
+  | inl listed ↦ absurd (none (rw is (Contains-append_right old (filter t (range_with_len 0 n)) z (in_filter_of t (range_with_len 0 n) z (z, in_row, get_or-range_with_len 0 n z z low ∙ (let e : 0 + z ≡ z = omega arith in e)) listed))))
+  | inr other ↦ other
+]
+  where
+    in_row : z < length (range_with_len 0 n)
+    in_row = let h = length-range_with_len 0 n in omega arith
