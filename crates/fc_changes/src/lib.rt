@@ -1,0 +1,9 @@
+//! From what the calls of a command leave on a disc with a new map, to what the command promises.
+#![tactic(auto)]
+
+ghost use Rattle.fc_changes.specs.Laws.{RewordedLaw};
+
+/// After `set` and `mark` the disc is as they promise.
+pub fn reworded()
+    ensures { RewordedLaw }
+{}
