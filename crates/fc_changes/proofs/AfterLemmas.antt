@@ -41,7 +41,7 @@ use Rattle.fc_effects.specs.Steady.{MapOutside, SameSectors, ZoneSteady, expecte
 use Rattle.fc_changes.specs.Owed.{IsMapAfter, IsWritten}
 use Rattle.fc_changes.proofs.BasicLemmas.{any_in, cases_cons, clash, first_in, in_any, next_in, unless}
 use Rattle.fc_changes.proofs.BeforeLemmas.{HeldBy, address_by, boot_stays, had, held_by, parts, sound}
-use Rattle.fc_changes.proofs.DirectoriesLemmas.{Stays}
+use Rattle.fc_changes.proofs.DirectoriesLemmas.{Lasts}
 use Rattle.fc_changes.proofs.OutsideLemmas.{AreBusy, idle_stay, same_behind}
 
 new_size : (kind : Kind) (r : DiscRecord) → IsNewKind kind r → disc_size kind ≡ r.size
@@ -119,7 +119,7 @@ module _ (kind : Kind) (r : DiscRecord) (image : List ℕ) (m : Map) (ls : List 
 
     -- a directory's holder has the address that it had
     pub holder_stays : (own : DiscRecord) → (e : IsMapEdit kind r own image image' before_it m m' (had kind r image m ls new opens).root)
-        → (l : Listing) → Contains ls l → ((k : Listing) → Contains ls k → (k ≡ l) ⊎ Contains k.children l.object → Stays image image' m m' found k)
+        → (l : Listing) → Contains ls l → ((k : Listing) → Contains ls k → (k ≡ l) ⊎ Contains k.children l.object → Lasts found k)
         → holder_address found l.object.path ≡ holder_address ls l.object.path
     holder_stays own e l at stays =
         let h = held_by kind r image m ls new opens own image' m' e l at in

@@ -1,11 +1,14 @@
 -- Tests, lists and paths.
-use Rattle.std.proofs.Common.{◌≡◌, ◌<◌, ◌⊎◌, inl, inr, ℕ, zero, suc, ◌+◌, ◌-◌, Bool, true, false, cond, List, [], ◌∷◌, ◌++◌, length, map, take, refl, sym, ap, ap₂, subst, ◌∙◌, arith, Some, None, Option}
-use Rattle.std.specs.Prelude.{Contains, filter, ◌&&◌, ◌||◌, not}
+use Rattle.std.proofs.Common.{◌≡◌, ◌<◌, ◌⊎◌, inl, inr, ℕ, zero, suc, ◌+◌, ◌-◌, Bool, true, false, cond, List, [], ◌∷◌, ◌++◌, length, map, take, drop, get_or, refl, sym, ap, ap₂, subst, ◌∙◌, arith, Some, None, Option}
+use Rattle.std.specs.Prelude.{Contains, IsPermutation, filter, remove, slice_get, slice_set, ◌&&◌, ◌||◌, not}
 use Rattle.std.specs.List.{flat_map, list_any}
 use Rattle.std.specs.Option.{option_map_or, option_and_then}
+use Rattle.std.proofs.lemmas.List.{set_split}
 use Rattle.std.proofs.lemmas.List.Elements.{Contains-append_cases}
+use Rattle.std.proofs.lemmas.List.Sorted.{IsPermutation-middle, IsPermutation-remove}
 use Rattle.fc_names.specs.Names.{Path, is_same_path}
 use Rattle.fc_model.specs.Tree.{holder}
+use Rattle.fc_image.proofs.EntriesLemmas.{same_some}
 
 -- ---- tests
 
@@ -102,3 +105,18 @@ take_front (x ∷ path) name = ap (λ (p : Path). x ∷ p) (take_front path name
 pub holder_pushed : (path : Path) (name : List ℕ) → holder (path ++ name ∷ []) ≡ path
 holder_pushed path name =
     ap (λ (n : ℕ). take n (path ++ name ∷ [])) (let long = long_pushed path name in let e : length (path ++ name ∷ []) - 1 ≡ length path = omega (arith, long) in e) ∙ take_front path name
+
+-- ---- elements by number
+
+place_of : {X : Type 0} (xs : List X) (i : ℕ) (x : X) → slice_get xs i ≡ Some x → (i < length xs) × (x ≡ get_or xs i x)
+place_of [] i x e = absurd (cc)
+place_of (y ∷ xs) zero x e = (omega arith, sym (same_some y x e))
+place_of (y ∷ xs) (suc i) x e = let r = place_of xs i x e in (omega (arith, r.0), r.1)
+
+pub without_it : {X : Type 0} (xs : List X) (i : ℕ) (x : X) → slice_get xs i ≡ Some x → IsPermutation xs (x ∷ remove xs i)
+without_it xs i x at = let place = place_of xs i x at in IsPermutation-remove xs i x place.0 place.1
+
+pub with_other : {X : Type 0} (xs : List X) (i : ℕ) (x y : X) → slice_get xs i ≡ Some x → IsPermutation (slice_set xs i y) (y ∷ remove xs i)
+with_other xs i x y at =
+    let place = place_of xs i x at in
+    subst (λ (ys : List _). IsPermutation ys (y ∷ remove xs i)) (sym (set_split xs i y place.0)) (IsPermutation-middle (take i xs) y (drop (suc i) xs))

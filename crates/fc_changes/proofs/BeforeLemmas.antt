@@ -37,7 +37,7 @@ use Rattle.fc_image.proofs.OrderLemmas.{order_law}
 use Rattle.fc_image.proofs.OpenedLemmas.{edited_image_law}
 use Rattle.fc_image.proofs.ShuffleLemmas.{same_first}
 use Rattle.fc_image.proofs.EntriesLemmas.{from_filter, from_map, in_mapped}
-use Rattle.fc_image.proofs.MapEditLemmas.{all_listed, is_file, listed_old, listed_object}
+use Rattle.fc_image.proofs.MapEditLemmas.{all_listed, held_in, is_file, listed_old}
 use Rattle.fc_image.proofs.RenameLemmas.{alone, child_path}
 use Rattle.fc_image.proofs.LookupLemmas.{lookup_law}
 use Rattle.fc_image.proofs.TreeLemmas.{tree_edit_law}
@@ -121,6 +121,29 @@ module _ (kind : Kind) (r : DiscRecord) (image : List ℕ) (m : Map) (ls : List 
       Each-contains (Lies (Layout.New m) reserved) (objects_of ls) o
       (Each-objects (Lies (Layout.New m) reserved) ls (walk_lies (reader_of image (Layout.New m)) (Layout.New m) reserved parts.root parts.size ls parts.walked)) at
 
+  -- a listed directory is an object
+  pub listed_in : (l : Listing) → Contains ls l → Contains (objects_of ls) l.object
+  listed_in l at =
+      subst (λ (os : List Object). Contains os l.object) (sym had.objects)
+      (elim (cases_cons had.root (directories (held ls)) l.object
+      (Contains-permutation (listed ls) (had.root ∷ directories (held ls)) l.object had.all.all (in_mapped (λ (x : Listing). x.object) ls l at))) [
+        | inl top ↦ subst (λ (o : Object). Contains (had.root ∷ held ls) o) top (first_in had.root (held ls))
+        | inr kept ↦ next_in had.root l.object (held ls) (from_filter is_directory_object (held ls) l.object kept)
+      ])
+
+  -- and so is what a listed directory holds
+  pub child_in : (l : Listing) (o : Object) → Contains ls l → Contains l.children o → Contains (objects_of ls) o
+  child_in l o at child = subst (λ (os : List Object). Contains os o) (sym had.objects) (next_in had.root o (held ls) (held_in ls l o at child))
+
+  -- an object is a listed directory's, or is held by one
+  pub object_from : (o : Object) → Contains (objects_of ls) o → ((l : Listing) × Contains ls l × (l.object ≡ o)) ⊎ ((l : Listing) × Contains ls l × Contains l.children o)
+  object_from o at = elim (cases_cons had.root (held ls) o (subst (λ (os : List Object). Contains os o) had.objects at)) [
+    | inl top ↦ (let l = from_map (λ (x : Listing). x.object) ls had.root
+      (Contains-permutation (had.root ∷ directories (held ls)) (listed ls) had.root (IsPermutation-sym (listed ls) (had.root ∷ directories (held ls)) had.all.all) (first_in had.root (directories (held ls)))) in
+      inl (l.0, l.1, l.2 ∙ top))
+    | inr kept ↦ inr (in_flat (λ (x : Listing). x.children) ls o kept)
+  ]
+
   -- the new map
   pub map_edit : (m' : Map) (image' : List ℕ) → IsNewMap m' → m'.geometry ≡ m.geometry → HoldsCopies m.geometry m'.zones image' → map_record (sector_of m' 0) ≡ map_record (sector_of m 0)
       → length image' ≡ length image → HasSectorsOf m.geometry.sector (boot_place kind m.geometry.sector) image image'
@@ -155,9 +178,6 @@ module _ (kind : Kind) (r : DiscRecord) (image : List ℕ) (m : Map) (ls : List 
   module _ (own : DiscRecord) (image' : List ℕ) (m' : Map) (e : IsMapEdit kind r own image image' old m m' had.root) where
     pub says_old : (l : Listing) → Contains ls l → IsListing (reader_of image (Layout.New m)) (Layout.New m) l
     says_old l at = listed_old kind r own image image' old m m' had.root e l at
-
-    pub listed_there : (l : Listing) → Contains ls l → Contains (objects_of ls) l.object
-    listed_there l at = listed_object kind r own image image' old m m' had.root e l at
 
     -- no other directory has its path
     pub other_path : (l k : Listing) (others : List Listing) → IsPermutation ls (l ∷ others) → Contains others k → is_same_path l.object.path k.object.path ≡ false

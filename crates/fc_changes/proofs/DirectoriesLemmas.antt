@@ -63,14 +63,19 @@ module _ (v w : Opened) (c : Command) (none : growth_in v c ≡ None) where
 
 -- ---- one directory
 
--- a directory that the command doesn't name, in the new image
-pub record Stays (image image' : List ℕ) (m m' : Map) (found : List Listing) (k : Listing) : Type 0 where
+-- a directory in the new image: it has the path, the address and the sectors that it had
+pub record Lasts (found : List Listing) (k : Listing) : Type 0 where
   pub now : Listing
   pub there : Contains found now
   pub path : now.object.path ≡ k.object.path
   pub address : now.object.entry.address ≡ k.object.entry.address
-  pub content : now.content ≡ k.content
-  pub bytes : object_bytes image' (Layout.New m') now.object ≡ object_bytes image (Layout.New m) k.object
+  pub sectors : now.object.sectors ≡ k.object.sectors
+
+-- one that the command doesn't name
+pub record Stays (image image' : List ℕ) (m m' : Map) (found : List Listing) (k : Listing) : Type 0 where
+  pub lasts : Lasts found k
+  pub content : lasts.now.content ≡ k.content
+  pub bytes : object_bytes image' (Layout.New m') lasts.now.object ≡ object_bytes image (Layout.New m) k.object
 
 module _ (kind : Kind) (image image' : List ℕ) (m m' : Map) (ls found : List Listing) (c : Command) where
   abbrev pub before_it : Opened
@@ -91,7 +96,7 @@ module _ (kind : Kind) (image image' : List ℕ) (m m' : Map) (ls found : List L
     has_name path (Directory.Big dir) = plain.big path dir
 
     -- a directory that isn't named keeps all
-    pub kept_steady : (k : Listing) (s : Stays image image' m m' found k) → holds_named c k.object.path ≡ false → IsSteady k s.now
+    pub kept_steady : (k : Listing) (s : Stays image image' m m' found k) → holds_named c k.object.path ≡ false → IsSteady k s.lasts.now
     kept_steady k s other = record {
       entries = ap entries_of s.content ∙ sym (plain.elsewhere k.object.path (named_entry after_it c) (entries_of k.content) other) ∙ sym (entries_now before_it after_it c none k);
       head = inl (record {
@@ -135,6 +140,6 @@ module _ (kind : Kind) (image image' : List ℕ) (m m' : Map) (ls found : List L
             | inl is ↦ subst (λ (x : Listing). IsSomeAnd (listing_at found (path_after c x.object.path)) (IsSteady x)) is
               (some_steady (listing_at found (path_after c l.object.path)) l now (found_at sound l now there (ap (λ (o : Object). o.path) same)) steady)
             | inr further ↦ (let s = stays k further in
-              some_steady (listing_at found (path_after c k.object.path)) k s.now (found_at sound k s.now s.there s.path) (kept_steady k s (other k further)))
+              some_steady (listing_at found (path_after c k.object.path)) k s.lasts.now (found_at sound k s.lasts.now s.lasts.there s.lasts.path) (kept_steady k s (other k further)))
           ])
         ]

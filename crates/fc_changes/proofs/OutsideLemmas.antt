@@ -1,7 +1,7 @@
 -- What a change leaves outside its directory, its object and the map's runs.
 use Rattle.std.proofs.Common.{◌≡◌, ◌<◌, ◌≤◌, ◌⊎◌, inl, inr, ℕ, zero, suc, ◌+◌, ◌-◌, ◌*◌, ◌/◌, Bool, true, false, cond, List, [], ◌∷◌, ◌++◌, length, take, drop, refl, sym, ap, ap₂, subst, ◌∙◌, arith, Some, None, Option, eq-eqb}
 use Rattle.std.specs.Prelude.{Result, Ok, Err, Contains, filter, not, ◌==◌, ◌&&◌, ◌||◌, nat_lt, All}
-use Rattle.std.proofs.lemmas.Bool.{eqb-true, lt-ltb}
+use Rattle.std.proofs.lemmas.Bool.{eqb-true, lt-ltb, ltb-true}
 use Rattle.std.proofs.lemmas.List.{drop-drop, drop_all, take-append-drop, length-drop}
 use Rattle.fc_device.specs.Sectors.{sector_at}
 use Rattle.fc_record.specs.declared.Geometry.{Geometry}
@@ -15,10 +15,12 @@ use Rattle.fc_image.specs.Layout.{Layout, hole_sectors, id_of, id_sectors, is_am
 use Rattle.fc_image.specs.Walk.{Object}
 use Rattle.fc_image.specs.Objects.{has_sectors, is_lost, is_owned, is_owner_of}
 use Rattle.fc_image.specs.Written.{WritesOnly}
+use Rattle.fc_image.specs.Edits.{IsAt}
 use Rattle.fc_image.proofs.HolesLemmas.{in_id}
+use Rattle.fc_image.proofs.OneZoneLemmas.{and_first, and_second}
 use Rattle.fc_image.proofs.MoveLemmas.{all_filter, not_true}
 use Rattle.fc_effects.specs.Steady.{SameSectors, is_idle}
-use Rattle.fc_changes.proofs.BasicLemmas.{any_in, clash, unless}
+use Rattle.fc_changes.proofs.BasicLemmas.{any_in, clash, in_any, unless}
 use Rattle.fc_changes.proofs.BeforeLemmas.{id_high}
 
 -- ---- sectors that are somebody's
@@ -51,6 +53,19 @@ object_owns objects o s at h =
     or_true : (b : Bool) → (b || true) ≡ true
     or_true true = refl
     or_true false = refl
+
+-- no object owns identifier 1
+pub no_owner_one : (m : Map) (objects : List Object) → ((o : Object) → Contains objects o → IsAt (Layout.New m) o) → is_owned objects 1 ≡ false
+no_owner_one m objects placed = unless (is_owned objects 1) (λ own.
+    let p = in_any (is_owner_of 1) objects own in
+    let one = eqb-true (id_of p.0.entry.address) 1 (and_second (has_sectors p.0) (id_of p.0.entry.address == 1) p.2) in
+    let s = a_sector p.0.sectors (and_first (has_sectors p.0) (id_of p.0.entry.address == 1) p.2) in
+    let high = id_high m p.0.entry.address _ p.0.sectors s.0 (placed p.0 p.1) s.1 in
+    omega (arith, one, high))
+  where
+    a_sector : (sectors : List ℕ) → nat_lt 0 (length sectors) ≡ true → (s : ℕ) × (is_among sectors s ≡ true)
+    a_sector [] h = absurd (let low = ltb-true 0 0 h in omega arith)
+    a_sector (x ∷ sectors) h = (x, ap (λ b. b || is_among sectors x) (eq-eqb x x refl))
 
 module _ (m : Map) (objects : List Object) (some : 1 ≤ m.geometry.zones) where
   pub object_busy : (o : Object) (bytes : ℕ) → Contains objects o → sectors_at (Layout.New m) o.entry.address bytes ≡ Some o.sectors → AreBusy m objects o.sectors

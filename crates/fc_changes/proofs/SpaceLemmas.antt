@@ -12,8 +12,9 @@ use Rattle.fc_image.specs.Layout.{Layout}
 use Rattle.fc_image.specs.Walk.{Object}
 use Rattle.fc_image.specs.Objects.{is_lost, is_movable, is_owned, is_owner_of, objects_of}
 use Rattle.fc_image.specs.Opening.{Opened}
-use Rattle.fc_effects.specs.Short.{growth_in}
-use Rattle.fc_effects.specs.Placed.{holes_left}
+use Rattle.fc_effects.specs.Short.{growth_in, moved_growth}
+use Rattle.fc_effects.specs.Placed.{holes_left, made_object, object_parts}
+use Rattle.fc_plan.proofs.Left.{left_of_none}
 use Rattle.fc_effects.specs.Steady.{NewMapSteady, back_runs, goes_back, has_id_that, holes_untaken, holes_with, is_given_back, is_left_by_growth, keeps_runs, runs_that, zone_holes}
 use Rattle.fc_plan.specs.Giving.{is_one_of}
 use Rattle.fc_plan.specs.Applied.{unless_gone}
@@ -82,6 +83,12 @@ module _ (m m' : Map) (id : ℕ) (parts : List ZoneRun) (gone : List ℕ) (space
       by false unused = none_stay k unused other ∙ sym (no_runs m k some unused)
 
 -- ---- the map is steady
+
+-- the holes that are left when nothing grows
+pub untaken_is : (v w : Opened) (c : Command) (m m' : Map) (parts : List ZoneRun) → growth_in v c ≡ None → object_parts m m' v c (made_object w c) ≡ parts
+    → holes_untaken v w c m m' ≡ holes_left (hole_runs m) parts
+untaken_is v w c m m' parts none made =
+    ap₂ (λ (ps gs : List ZoneRun). holes_left (holes_left (hole_runs m) ps) gs) made (map_or_none _ (moved_growth v c) [] (moved_none v w c none)) ∙ left_of_none (holes_left (hole_runs m) parts)
 
 pub space_steady : (v w : Opened) (c : Command) (m m' : Map) (id : ℕ) (parts : List ZoneRun) (gone : List ℕ) → IsSpaceEdit m m' id parts gone → 1 ≤ m.geometry.zones
     → (0 < length parts → (is_used m id ≡ false) × (is_owned (objects_of w.listings) id ≡ true) × (3 ≤ id))
