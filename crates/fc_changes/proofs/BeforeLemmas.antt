@@ -84,6 +84,13 @@ address_by layout found p dir is at same =
 
 -- ---- the disc before
 
+-- what is opened is of this kind and has this map
+pub opened_as : (kind : Kind) (r : DiscRecord) (image : List ℕ) (v : Opened) (m : Map) → IsNewKind kind r → OpensAs image kind v → v.layout ≡ Layout.New m
+    → (let u : Opened = record { kind = kind; layout = Layout.New m; listings = v.listings } in u) ≡ v
+opened_as kind r image v m new opens layout =
+    let o = open_by image kind r v m new opens layout in
+    λ j. record { kind = sym o.kind_is j; layout = sym layout j; listings = v.listings }
+
 module _ (kind : Kind) (r : DiscRecord) (image : List ℕ) (m : Map) (ls : List Listing) (new : IsNewKind kind r)
     (opens : OpensAs image kind (record { kind = kind; layout = Layout.New m; listings = ls })) where
   abbrev pub old : Opened

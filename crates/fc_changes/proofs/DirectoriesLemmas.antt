@@ -8,7 +8,7 @@ use Rattle.fc_names.specs.Names.{Path, is_same_path}
 use Rattle.fc_record.specs.declared.DiscRecord.{DiscRecord}
 use Rattle.fc_record.specs.declared.Kind.{Kind}
 use Rattle.fc_newmap.specs.Map.{Map}
-use Rattle.fc_model.specs.Tree.{holder}
+use Rattle.fc_model.specs.Tree.{holder, last_name}
 use Rattle.fc_model.specs.Command.{Command}
 use Rattle.fc_dirs.specs.declared.Entry.{Entry}
 use Rattle.fc_dirs.specs.Big.{BigDir}
@@ -22,7 +22,7 @@ use Rattle.fc_image.specs.Sound.{AreSound}
 use Rattle.fc_image.proofs.LookupLemmas.{lookup_law}
 use Rattle.fc_image.proofs.PathsLemmas.{itself}
 use Rattle.fc_effects.specs.Short.{growth_in, moved_growth}
-use Rattle.fc_effects.specs.Steady.{AreWritten, BigNameAfter, DirectoriesSteady, DirectorySteady, HasName, IsRewritten, edited, entries_after, gets_parent, grown_object, has_new_holder, holds_named, is_gone, is_renamed_by, may_be_rewritten, named_entry, path_after, regrown_entry, small_name_after, with_made}
+use Rattle.fc_effects.specs.Steady.{AreWritten, BigNameAfter, DirectoriesSteady, DirectorySteady, HasName, IsRewritten, edited, entries_after, gets_parent, grown_object, has_new_holder, holds_named, is_gone, is_renamed_by, may_be_rewritten, named_entry, path_after, regrown_entry, small_name_after, with_made, without_name}
 use Rattle.fc_changes.proofs.BasicLemmas.{and_then_none, cases_cons, clash, map_or_none, map_same, or_left}
 
 -- ---- commands that change no path
@@ -42,6 +42,24 @@ plain_set path load exec access = record {
   small = λ p name. refl;
   big = λ p dir. refl;
   elsewhere = λ p made es h. ap (λ (b : Bool). cond b (with_made made es) es) h;
+}
+
+pub plain_mark : (path : Path) (attrs : ℕ) → IsPlain (Command.Mark path attrs)
+plain_mark path attrs = record {
+  path = λ p. refl;
+  renamed = λ p. refl;
+  small = λ p name. refl;
+  big = λ p dir. refl;
+  elsewhere = λ p made es h. ap (λ (b : Bool). cond b (with_made made es) es) h;
+}
+
+pub plain_delete : (path : Path) → IsPlain (Command.Delete path)
+plain_delete path = record {
+  path = λ p. refl;
+  renamed = λ p. refl;
+  small = λ p name. refl;
+  big = λ p dir. refl;
+  elsewhere = λ p made es h. ap (λ (b : Bool). cond b (without_name (last_name path) es) es) h;
 }
 
 -- ---- where nothing grows

@@ -21,8 +21,10 @@ use Rattle.fc_image.specs.Edits.{AreChildren}
 use Rattle.fc_image.proofs.OneZoneLemmas.{and_first, and_second}
 use Rattle.fc_image.proofs.PathsLemmas.{cut, itself, root_other, same_last}
 use Rattle.fc_image.proofs.RenameLemmas.{last_pushed}
+use Rattle.fc_image.proofs.CommandLemmas.{same_by_folds}
+use Rattle.fc_image.proofs.TreeLemmas.{folds_alike}
 use Rattle.fc_effects.specs.Steady.{AreWritten, IsRewritten, replaced_entry, with_made, without_name}
-use Rattle.fc_changes.proofs.BasicLemmas.{holder_pushed}
+use Rattle.fc_changes.proofs.BasicLemmas.{clash, holder_pushed, unless}
 
 -- ---- reading back
 
@@ -106,6 +108,11 @@ lies_in (x ∷ path) dir name same =
       holds = ap (λ (p : Path). is_same_path (holder p) dir) c.is ∙ ap (λ (p : Path). is_same_path p dir) (holder_pushed c.front c.last) ∙ and_first (is_same_path c.front dir) (is_same_name c.last name) both;
       named = ap (λ (p : Path). is_same_name (last_name p) name) c.is ∙ ap (λ (n : List ℕ). is_same_name n name) (last_pushed c.front c.last) ∙ and_second (is_same_path c.front dir) (is_same_name c.last name) both;
     }
+
+-- a path that is that of one directory is that of no other
+pub other_dir : (p a b : Path) → is_same_path p a ≡ true → is_same_path a b ≡ false → is_same_path p b ≡ false
+other_dir p a b same other =
+    unless (is_same_path p b) (λ too. clash (is_same_path a b) (same_by_folds a b (sym (folds_alike p a same) ∙ folds_alike p b too)) other)
 
 pub same_name_itself : (name : List ℕ) → is_same_name name name ≡ true
 same_name_itself name = and_second (is_same_path [] []) (is_same_name name name) (sym (same_last [] [] name name) ∙ itself (name ∷ []))

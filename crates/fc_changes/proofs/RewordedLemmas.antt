@@ -51,17 +51,17 @@ use Rattle.fc_plan.proofs.Left.{left_of_none}
 use Rattle.fc_effects.specs.Effect.{Changes, copies_file}
 use Rattle.fc_effects.specs.Short.{growth_in}
 use Rattle.fc_effects.specs.Placed.{Placed, holes_left, made_object, object_parts}
-use Rattle.fc_effects.specs.Steady.{AreWritten, DirectoriesSteady, EntrySteady, IsDirLength, IsRewritten, MapOutside, NewMapSteady, edited, expected_zone, has_id_that, holds_named, holes_untaken, holes_with, idle_sectors, is_given_back, is_gone, named_entry, runs_that, with_made, zone_holes}
+use Rattle.fc_effects.specs.Steady.{AreWritten, DirectoriesSteady, EntrySteady, HasSameAddress, IsDirLength, IsRewritten, MapOutside, NewMapSteady, edited, expected_zone, has_id_that, holds_named, holes_untaken, holes_with, idle_sectors, is_given_back, is_gone, named_entry, runs_that, with_made, zone_holes}
 use Rattle.fc_plan.specs.Giving.{is_one_of}
 use Rattle.fc_changes.specs.Owed.{GivesBack, IsMapAfter, IsSpaceEdit, IsWritten}
 use Rattle.fc_changes.specs.Changed.{IsChanged, IsRewordChange}
 use Rattle.fc_changes.specs.Laws.{RewordedLaw}
 use Rattle.fc_changes.proofs.BasicLemmas.{cases_cons, first_in, next_in, nothing_in, with_other, without_it}
-use Rattle.fc_changes.proofs.BeforeLemmas.{Had, boot_stays, child_in, had, listed_in, map_edit, object_from, object_lies, other_path, parts, says_old, sound}
-use Rattle.fc_changes.proofs.DirectoriesLemmas.{IsPlain, Lasts, Stays, all_steady, plain_set, written_steady}
+use Rattle.fc_changes.proofs.BeforeLemmas.{Had, boot_stays, opened_as, child_in, had, listed_in, map_edit, object_from, object_lies, other_path, parts, says_old, sound}
+use Rattle.fc_changes.proofs.DirectoriesLemmas.{IsPlain, Lasts, Stays, all_steady, plain_mark, plain_set, written_steady}
 use Rattle.fc_changes.proofs.OutsideLemmas.{AreBusy, no_owner_one, object_busy}
 use Rattle.fc_changes.proofs.SpaceLemmas.{space_steady, untaken_is}
-use Rattle.fc_changes.proofs.ReadsLemmas.{changed_entry, entry_at, lies_in, reads_back}
+use Rattle.fc_changes.proofs.ReadsLemmas.{changed_entry, entry_at, lies_in, other_dir, reads_back}
 use Rattle.fc_changes.proofs.AfterLemmas.{behind_stays, holder_stays, outside_steady, still_owns, tells_now}
 
 -- ---- lists that g maps
@@ -113,10 +113,10 @@ module _ (kind : Kind) (r : DiscRecord) (image image' : List ℕ) (m : Map) (ls 
   abbrev v : Opened
   v = record { kind = kind; layout = Layout.New m; listings = ls }
 
-  new : IsNewKind kind r
+  abbrev new : IsNewKind kind r
   new = e.before.new_kind
 
-  opens : OpensAs image kind v
+  abbrev opens : OpensAs image kind v
   opens = e.before.opens
 
   l_in : Contains ls l
@@ -305,7 +305,216 @@ module _ (kind : Kind) (r : DiscRecord) (image image' : List ℕ) (m : Map) (ls 
           len_same Ten = inl (is.len o)
           len_same Seven = inl (is.len o)
 
+-- ---- both commands
+
+-- the command gives the object at the path another entry
+pub record NamesObject (c : Command) (path : Path) : Type 0 where
+  pub plain : IsPlain c
+  pub none : (v : Opened) → growth_in v c ≡ None
+  pub holds : (p : Path) → holds_named c p ≡ is_same_path (holder path) p
+  pub kept : (p : Path) → is_gone c p ≡ false
+  pub edits : (p : Path) (made : Option Entry) (es : List Entry) → edited c p made es ≡ cond (is_same_path (holder path) p) (with_made made es) es
+  pub entry : (w : Opened) (x : Object) → object_at w.listings path ≡ Some x → named_entry w c ≡ Some x.entry
+  pub makes : (w : Opened) → made_object w c ≡ None
+
+same_address : (a b : Option Object) (x y : Object) → a ≡ Some x → b ≡ Some y → y.entry.address ≡ x.entry.address → HasSameAddress a b
+same_address a b x y was is same = subst (λ (p : Option Object). HasSameAddress p b) (sym was) (subst (λ (p : Option Object). HasSameAddress (Some x) p) (sym is) same)
+
+entry_stays : (form : NameForm) (a b : Option Object) (x y : Object) → a ≡ Some x → b ≡ Some y → EntrySteady form false (Some x) y → IfSome b (EntrySteady form false a)
+entry_stays form a b x y was is same = subst (λ (p : Option Object). IfSome p (EntrySteady form false a)) (sym is) (subst (λ (p : Option Object). EntrySteady form false p y) (sym was) same)
+
+module _ (kind : Kind) (r : DiscRecord) (image image' : List ℕ) (m : Map) (ls : List Listing) (c : Command) (rest : List Listing) (l : Listing) (content : Directory) (i : ℕ) (o : Object)
+    (g : Object → Object) (path : Path) (is : IsRewording o.path g) (e : IsRewordChange kind r image image' (record { kind = kind; layout = Layout.New m; listings = ls }) m c rest l content i o g)
+    (same : is_same_path path o.path ≡ true) (names : NamesObject c path) (keeps_last : (g o).entry.last ≡ o.entry.last) (rest' : List Listing) (listed : AreListedBy g rest rest') (t : Tree)
+    (w : OpensWithTree kind image' m (says_now l content (slice_set l.children i (g o)) ∷ rest') t) where
+  abbrev was : Opened
+  was = record { kind = kind; layout = Layout.New m; listings = ls }
+
+  abbrev view : Opened
+  view = record { kind = kind; layout = Layout.New m; listings = w.found }
+
+  old_there : object_at ls path ≡ Some o
+  old_there = lookup_law.object (Layout.New m) ls path o (sound kind r image m ls e.before.new_kind e.before.opens) (o_in kind r image image' m ls c rest l content i o g is e rest' listed t w) same
+
+  now_there : object_at w.found path ≡ Some (g o)
+  now_there =
+      lookup_law.object (Layout.New m) w.found path (g o) (sound_now kind r image image' m ls c rest l content i o g is e rest' listed t w)
+      (go_in kind r image image' m ls c rest l content i o g is e rest' listed t w) (ap (λ (p : Path). is_same_path path p) (is.same_path o) ∙ same)
+
+  dir_in : Contains ls l
+  dir_in = l_in kind r image image' m ls c rest l content i o g is e
+
+  o_path : o.path ≡ l.object.path ++ o.entry.name ∷ []
+  o_path =
+      child_path (Layout.New m) l.object.path (entries_of l.content) l.children o (says kind r image image' m ls c rest l content i o g is e l dir_in).1
+      (Contains-permutation (o ∷ remove l.children i) l.children o (IsPermutation-sym l.children (o ∷ remove l.children i) (without_it l.children i o e.at)) (first_in o (remove l.children i)))
+
+  holds : is_same_path (holder path) l.object.path ≡ true
+  holds = (lies_in path l.object.path o.entry.name (ap (λ (p : Path). is_same_path path p) (sym o_path) ∙ same)).holds
+
+  entries_are : entries_of content ≡ edited c l.object.path (named_entry view c) (entries_of l.content)
+  entries_are =
+      e.entries
+      ∙ changed_entry (entries_of l.content) i o.entry (g o).entry ((sound kind r image m ls e.before.new_kind e.before.opens).apart l dir_in)
+      (entry_at (Layout.New m) l.object.path (entries_of l.content) l.children i o (says kind r image image' m ls c rest l content i o g is e l dir_in).1 e.at) (is.name o)
+      ∙ sym (names.edits l.object.path (named_entry view c) (entries_of l.content)
+      ∙ ap₂ (λ (b : Bool) (q : Option Entry). cond b (with_made q (entries_of l.content)) (entries_of l.content)) holds (names.entry view (g o) now_there))
+
+  elsewhere : (k : Listing) → is_same_path l.object.path k.object.path ≡ false → holds_named c k.object.path ≡ false
+  elsewhere k other = names.holds k.object.path ∙ other_dir (holder path) l.object.path k.object.path holds other
+
+  pub dirs : DirectoriesSteady image image' was view c
+  dirs = directories kind r image image' m ls c rest l content i o g is e rest' listed t w names.plain (names.none was) (names.holds l.object.path ∙ holds) elsewhere names.kept entries_are keeps_last
+
+  pub space_now : NewMapSteady was view c m m
+  space_now = space kind r image image' m ls c rest l content i o g is e rest' listed t w names.plain (names.none was) (names.holds l.object.path ∙ holds) elsewhere names.kept entries_are keeps_last
+      (ap (object_parts m m was c) (names.makes view))
+
+  pub outside_now : MapOutside image image' kind (expected_zone was view c m) (idle_sectors was m) m m
+  outside_now = outside kind r image image' m ls c rest l content i o g is e rest' listed t w names.plain (names.none was) (names.holds l.object.path ∙ holds) elsewhere names.kept entries_are keeps_last
+
+  pub behind_now : drop (disc_size kind) image' ≡ drop (disc_size kind) image
+  behind_now = behind kind r image image' m ls c rest l content i o g is e rest' listed t w names.plain (names.none was) (names.holds l.object.path ∙ holds) elsewhere names.kept entries_are keeps_last
+
+  pub address_stays : HasSameAddress (object_at ls path) (object_at w.found path)
+  address_stays = same_address (object_at ls path) (object_at w.found path) o (g o) old_there now_there (is.address o)
+
+  pub entry_now : IfSome (object_at w.found path) (EntrySteady (dir_form (Layout.New m)) false (object_at ls path))
+  entry_now = entry_stays (dir_form (Layout.New m)) (object_at ls path) (object_at w.found path) o (g o) old_there now_there
+      (same_entry kind r image image' m ls c rest l content i o g is e rest' listed t w names.plain (names.none was) (names.holds l.object.path ∙ holds) elsewhere names.kept entries_are keeps_last (dir_form (Layout.New m)))
+
 -- ---- set
 
-named_set : (w : Opened) (path : Path) (load exec access : ℕ) (x : Object) → object_at w.listings path ≡ Some x → named_entry w (Command.Set path load exec access) ≡ Some x.entry
-named_set w path load exec access x h = rw h refl
+names_set : (path : Path) (load exec access : ℕ) → NamesObject (Command.Set path load exec access) path
+names_set path load exec access = record {
+  plain = plain_set path load exec access;
+  none = λ v. refl;
+  holds = λ p. refl;
+  kept = λ p. refl;
+  edits = λ p made es. refl;
+  entry = λ w x h. rw h refl;
+  makes = λ w. refl;
+}
+
+last_set : (path : Path) (load exec access : ℕ) (o : Object) → (set_object path load exec access o).entry.last ≡ o.entry.last
+last_set path load exec access o = by (is_same_path path o.path)
+  where
+    by : (b : Bool) → (cond b (record o { entry = record o.entry { load = load; exec = exec; attrs = o.entry.attrs / 8 * 8 + access } }) o).entry.last ≡ o.entry.last
+    by true = refl
+    by false = refl
+
+set_at : (kind : Kind) (r : DiscRecord) (image image' : List ℕ) (m : Map) (ls rest : List Listing) (l : Listing) (content : Directory) (i : ℕ) (o : Object) (path : Path) (load exec access : ℕ)
+    → access < 8 → is_same_path path o.path ≡ true
+    → IsRewordChange kind r image image' (record { kind = kind; layout = Layout.New m; listings = ls }) m (Command.Set path load exec access) rest l content i o (set_object o.path load exec access)
+    → (rest' : List Listing) × AreListedBy (set_object o.path load exec access) rest rest'
+    × IsChanged kind image image' (record { kind = kind; layout = Layout.New m; listings = ls }) m (says_now l content (slice_set l.children i (set_object o.path load exec access o)) ∷ rest') (Command.Set path load exec access)
+set_at kind r image image' m ls rest l content i o path load exec access low same e =
+    let v : Opened = record { kind = kind; layout = Layout.New m; listings = ls } in
+    let c : Command = Command.Set path load exec access in
+    let g : Object → Object = set_object o.path load exec access in
+    let is = reword_law.set o.path load exec access low in
+    let own = edit kind r image image' m ls c rest l content i o g is e in
+    let answer = answered_law.set kind r own.0 image image' v m m (had kind r image m ls e.before.new_kind e.before.opens).root rest l content i o path load exec access low same
+    (reword kind r image image' m ls c rest l content i o g is e) in
+    let names = names_set path load exec access in
+    let keeps = last_set o.path load exec access o in
+    let w = answer.2 in
+    let t = changed (tree_of image (Layout.New m) ls) c in (
+      answer.0,
+      answer.1,
+      record {
+        found = w.found;
+        order = w.order;
+        changes = record {
+          opens = record { opens = w.opens; copies = copies_now kind r image image' m ls c rest l content i o g is e };
+          tree = w.tree;
+          placed = record { object = λ some. absurd (omega (arith, some)); empty = λ h. absurd (cc); growth = tt };
+          steady = record {
+            directories = dirs kind r image image' m ls c rest l content i o g path is e same names keeps answer.0 answer.1 t w;
+            named = address_stays kind r image image' m ls c rest l content i o g path is e same names keeps answer.0 answer.1 t w;
+            entry = entry_now kind r image image' m ls c rest l content i o g path is e same names keeps answer.0 answer.1 t w;
+            made = tt;
+            space = space_now kind r image image' m ls c rest l content i o g path is e same names keeps answer.0 answer.1 t w;
+            outside = outside_now kind r image image' m ls c rest l content i o g path is e same names keeps answer.0 answer.1 t w;
+            behind = behind_now kind r image image' m ls c rest l content i o g path is e same names keeps answer.0 answer.1 t w;
+          };
+        };
+      },
+    )
+
+-- ---- mark
+
+names_mark : (path : Path) (attrs : ℕ) → NamesObject (Command.Mark path attrs) path
+names_mark path attrs = record {
+  plain = plain_mark path attrs;
+  none = λ v. refl;
+  holds = λ p. refl;
+  kept = λ p. refl;
+  edits = λ p made es. refl;
+  entry = λ w x h. rw h refl;
+  makes = λ w. refl;
+}
+
+last_mark : (path : Path) (attrs : ℕ) (o : Object) → (mark_object path attrs o).entry.last ≡ o.entry.last
+last_mark path attrs o = by (is_same_path path o.path)
+  where
+    by : (b : Bool) → (cond b (record o { entry = record o.entry { attrs = attrs / 16 * 16 + 8 * (o.entry.attrs / 8 % 2) + attrs % 8 } }) o).entry.last ≡ o.entry.last
+    by true = refl
+    by false = refl
+
+mark_at : (kind : Kind) (r : DiscRecord) (image image' : List ℕ) (m : Map) (ls rest : List Listing) (l : Listing) (content : Directory) (i : ℕ) (o : Object) (path : Path) (attrs : ℕ)
+    → is_same_path path o.path ≡ true
+    → IsRewordChange kind r image image' (record { kind = kind; layout = Layout.New m; listings = ls }) m (Command.Mark path attrs) rest l content i o (mark_object o.path attrs)
+    → (rest' : List Listing) × AreListedBy (mark_object o.path attrs) rest rest'
+    × IsChanged kind image image' (record { kind = kind; layout = Layout.New m; listings = ls }) m (says_now l content (slice_set l.children i (mark_object o.path attrs o)) ∷ rest') (Command.Mark path attrs)
+mark_at kind r image image' m ls rest l content i o path attrs same e =
+    let v : Opened = record { kind = kind; layout = Layout.New m; listings = ls } in
+    let c : Command = Command.Mark path attrs in
+    let g : Object → Object = mark_object o.path attrs in
+    let is = reword_law.mark o.path attrs in
+    let own = edit kind r image image' m ls c rest l content i o g is e in
+    let answer = answered_law.mark kind r own.0 image image' v m m (had kind r image m ls e.before.new_kind e.before.opens).root rest l content i o path attrs same
+    (reword kind r image image' m ls c rest l content i o g is e) in
+    let names = names_mark path attrs in
+    let keeps = last_mark o.path attrs o in
+    let w = answer.2 in
+    let t = changed (tree_of image (Layout.New m) ls) c in (
+      answer.0,
+      answer.1,
+      record {
+        found = w.found;
+        order = w.order;
+        changes = record {
+          opens = record { opens = w.opens; copies = copies_now kind r image image' m ls c rest l content i o g is e };
+          tree = w.tree;
+          placed = record { object = λ some. absurd (omega (arith, some)); empty = λ h. absurd (cc); growth = tt };
+          steady = record {
+            directories = dirs kind r image image' m ls c rest l content i o g path is e same names keeps answer.0 answer.1 t w;
+            named = address_stays kind r image image' m ls c rest l content i o g path is e same names keeps answer.0 answer.1 t w;
+            entry = entry_now kind r image image' m ls c rest l content i o g path is e same names keeps answer.0 answer.1 t w;
+            made = tt;
+            space = space_now kind r image image' m ls c rest l content i o g path is e same names keeps answer.0 answer.1 t w;
+            outside = outside_now kind r image image' m ls c rest l content i o g path is e same names keeps answer.0 answer.1 t w;
+            behind = behind_now kind r image image' m ls c rest l content i o g path is e same names keeps answer.0 answer.1 t w;
+          };
+        };
+      },
+    )
+
+-- ---- the law
+
+pub reworded_law : RewordedLaw
+reworded_law = record {
+  set = λ kind r image image' v m rest l content i o path load exec access low same e.
+      subst (λ (u : Opened). IsRewordChange kind r image image' u m (Command.Set path load exec access) rest l content i o (set_object o.path load exec access)
+        → (rest' : List Listing) × AreListedBy (set_object o.path load exec access) rest rest'
+        × IsChanged kind image image' u m (says_now l content (slice_set l.children i (set_object o.path load exec access o)) ∷ rest') (Command.Set path load exec access))
+      (opened_as kind r image v m e.before.new_kind e.before.opens e.before.layout)
+      (set_at kind r image image' m v.listings rest l content i o path load exec access low same) e;
+  mark = λ kind r image image' v m rest l content i o path attrs same e.
+      subst (λ (u : Opened). IsRewordChange kind r image image' u m (Command.Mark path attrs) rest l content i o (mark_object o.path attrs)
+        → (rest' : List Listing) × AreListedBy (mark_object o.path attrs) rest rest'
+        × IsChanged kind image image' u m (says_now l content (slice_set l.children i (mark_object o.path attrs o)) ∷ rest') (Command.Mark path attrs))
+      (opened_as kind r image v m e.before.new_kind e.before.opens e.before.layout)
+      (mark_at kind r image image' m v.listings rest l content i o path attrs same) e;
+}
