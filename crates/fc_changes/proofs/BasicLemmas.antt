@@ -1,6 +1,6 @@
 -- Tests, lists and paths.
 use Rattle.std.proofs.Common.{◌≡◌, ◌<◌, ◌⊎◌, inl, inr, ℕ, zero, suc, ◌+◌, ◌-◌, Bool, true, false, cond, List, [], ◌∷◌, ◌++◌, length, map, take, drop, get_or, refl, sym, ap, ap₂, subst, ◌∙◌, arith, Some, None, Option}
-use Rattle.std.specs.Prelude.{Contains, IsPermutation, filter, remove, slice_get, slice_set, ◌&&◌, ◌||◌, not}
+use Rattle.std.specs.Prelude.{Contains, IsPermutation, filter, remove, slice_get, slice_set, ◌&&◌, ◌||◌, ◌==◌, not}
 use Rattle.std.specs.List.{flat_map, list_any}
 use Rattle.std.specs.Option.{option_map_or, option_and_then}
 use Rattle.std.proofs.lemmas.List.{set_split}
@@ -31,6 +31,18 @@ and_false false = refl
 pub or_left : (a b : Bool) → a ≡ true → (a || b) ≡ true
 or_left true b h = refl
 or_left false b h = absurd (cc)
+
+pub or_second : (a b : Bool) → b ≡ true → (a || b) ≡ true
+or_second true b h = refl
+or_second false b h = h
+
+pub or_cases : (a b : Bool) → (a || b) ≡ true → (a ≡ true → ⊥) → (b ≡ true → ⊥) → ⊥
+or_cases true b h first second = first refl
+or_cases false b h first second = second h
+
+pub not_zero : (n : ℕ) → (n == 0) ≡ false → 0 < n
+not_zero zero h = absurd (cc)
+not_zero (suc n) h = omega arith
 
 pub and_then_none : {X Y : Type 0} (f : X → Option Y) (o : Option X) → o ≡ None → option_and_then f o ≡ None
 and_then_none f None e = refl

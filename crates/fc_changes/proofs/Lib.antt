@@ -6,3 +6,4 @@ pub mod SpaceLemmas
 pub mod ReadsLemmas
 pub mod AfterLemmas
 pub mod RewordedLemmas
+pub mod ChangeLemmas

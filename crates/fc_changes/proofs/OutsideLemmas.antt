@@ -1,7 +1,8 @@
 -- What a change leaves outside its directory, its object and the map's runs.
 use Rattle.std.proofs.Common.{◌≡◌, ◌<◌, ◌≤◌, ◌⊎◌, inl, inr, ℕ, zero, suc, ◌+◌, ◌-◌, ◌*◌, ◌/◌, Bool, true, false, cond, List, [], ◌∷◌, ◌++◌, length, take, drop, refl, sym, ap, ap₂, subst, ◌∙◌, arith, Some, None, Option, eq-eqb}
-use Rattle.std.specs.Prelude.{Result, Ok, Err, Contains, filter, not, ◌==◌, ◌&&◌, ◌||◌, nat_lt, All}
-use Rattle.std.proofs.lemmas.Bool.{eqb-true, lt-ltb, ltb-true}
+use Rattle.std.specs.Prelude.{Result, Ok, Err, Contains, filter, not, ◌==◌, ◌&&◌, ◌||◌, nat_le, nat_lt, All}
+use Rattle.std.specs.List.{list_any}
+use Rattle.std.proofs.lemmas.Bool.{cases_lt, eqb-true, leb-false, lt-ltb, ltb-true}
 use Rattle.std.proofs.lemmas.List.{drop-drop, drop_all, take-append-drop, length-drop}
 use Rattle.fc_device.specs.Sectors.{sector_at}
 use Rattle.fc_record.specs.declared.Geometry.{Geometry}
@@ -54,18 +55,31 @@ object_owns objects o s at h =
     or_true true = refl
     or_true false = refl
 
--- no object owns identifier 1
-pub no_owner_one : (m : Map) (objects : List Object) → ((o : Object) → Contains objects o → IsAt (Layout.New m) o) → is_owned objects 1 ≡ false
-no_owner_one m objects placed = unless (is_owned objects 1) (λ own.
-    let p = in_any (is_owner_of 1) objects own in
-    let one = eqb-true (id_of p.0.entry.address) 1 (and_second (has_sectors p.0) (id_of p.0.entry.address == 1) p.2) in
-    let s = a_sector p.0.sectors (and_first (has_sectors p.0) (id_of p.0.entry.address == 1) p.2) in
+-- no object owns identifiers 0 and 1
+pub no_owner_low : (m : Map) (objects : List Object) → ((o : Object) → Contains objects o → IsAt (Layout.New m) o) → (id : ℕ) → id < 2 → is_owned objects id ≡ false
+no_owner_low m objects placed id low = unless (is_owned objects id) (λ own.
+    let p = in_any (is_owner_of id) objects (not_two (id == 2) refl own) in
+    let one = eqb-true (id_of p.0.entry.address) id (and_second (has_sectors p.0) (id_of p.0.entry.address == id) p.2) in
+    let s = a_sector p.0.sectors (and_first (has_sectors p.0) (id_of p.0.entry.address == id) p.2) in
     let high = id_high m p.0.entry.address _ p.0.sectors s.0 (placed p.0 p.1) s.1 in
-    omega (arith, one, high))
+    omega (arith, one, high, low))
   where
     a_sector : (sectors : List ℕ) → nat_lt 0 (length sectors) ≡ true → (s : ℕ) × (is_among sectors s ≡ true)
     a_sector [] h = absurd (let low = ltb-true 0 0 h in omega arith)
     a_sector (x ∷ sectors) h = (x, ap (λ b. b || is_among sectors x) (eq-eqb x x refl))
+
+    not_two : (b : Bool) → (id == 2) ≡ b → (b || list_any (is_owner_of id) objects) ≡ true → list_any (is_owner_of id) objects ≡ true
+    not_two true e h = absurd (let two = eqb-true id 2 e in omega (arith, two, low))
+    not_two false e h = h
+
+-- below 3, 2 alone is owned
+pub low_owned : (m : Map) (objects : List Object) → ((o : Object) → Contains objects o → IsAt (Layout.New m) o) → (id : ℕ) → is_owned objects id ≡ true → nat_le 3 id ≡ false → id ≡ 2
+low_owned m objects placed id own low =
+    let below = leb-false 3 id low in
+    elim (cases_lt id 2) [
+      | inl less ↦ absurd (clash (is_owned objects id) own (no_owner_low m objects placed id less))
+      | inr more ↦ omega (arith, below, more)
+    ]
 
 module _ (m : Map) (objects : List Object) (some : 1 ≤ m.geometry.zones) where
   pub object_busy : (o : Object) (bytes : ℕ) → Contains objects o → sectors_at (Layout.New m) o.entry.address bytes ≡ Some o.sectors → AreBusy m objects o.sectors

@@ -59,7 +59,7 @@ use Rattle.fc_changes.specs.Laws.{RewordedLaw}
 use Rattle.fc_changes.proofs.BasicLemmas.{cases_cons, first_in, next_in, nothing_in, with_other, without_it}
 use Rattle.fc_changes.proofs.BeforeLemmas.{Had, boot_stays, opened_as, child_in, had, listed_in, map_edit, object_from, object_lies, other_path, parts, says_old, sound}
 use Rattle.fc_changes.proofs.DirectoriesLemmas.{IsPlain, Lasts, Stays, all_steady, plain_mark, plain_set, written_steady}
-use Rattle.fc_changes.proofs.OutsideLemmas.{AreBusy, no_owner_one, object_busy}
+use Rattle.fc_changes.proofs.OutsideLemmas.{AreBusy, no_owner_low, object_busy}
 use Rattle.fc_changes.proofs.SpaceLemmas.{space_steady, untaken_is}
 use Rattle.fc_changes.proofs.ReadsLemmas.{changed_entry, entry_at, lies_in, other_dir, reads_back}
 use Rattle.fc_changes.proofs.AfterLemmas.{behind_stays, holder_stays, outside_steady, still_owns, tells_now}
@@ -288,7 +288,7 @@ module _ (kind : Kind) (r : DiscRecord) (image image' : List ℕ) (m : Map) (ls 
       space : object_parts m m v c (made_object now c) ≡ [] → NewMapSteady v now c m m
       space made =
           space_steady v now c m m 0 [] [] (no_space_edit m) (parts kind r image m ls new opens).some (λ some. absurd (omega (arith, some))) gives none
-          (no_owner_one m (objects_of ls) (λ p at. (object_lies kind r image m ls new opens p at).placed)) (untaken_is v now c m m [] none made) refl
+          (no_owner_low m (objects_of ls) (λ p at. (object_lies kind r image m ls new opens p at).placed) 1 (omega arith)) (untaken_is v now c m m [] none made) refl
 
       behind : drop (disc_size kind) image' ≡ drop (disc_size kind) image
       behind = behind_stays kind r image m ls new opens image' l.object.sectors e.written busy
