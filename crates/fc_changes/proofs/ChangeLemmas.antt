@@ -27,22 +27,25 @@ use Rattle.fc_image.specs.Objects.{has_sectors, is_movable, is_owned, is_owner_o
 use Rattle.fc_image.specs.Opening.{Opened, reserved_in}
 use Rattle.fc_image.specs.Stays.{IsNewKind, OpensAs}
 use Rattle.fc_image.specs.Edits.{IsAt, IsListing}
-use Rattle.fc_image.specs.Order.{held}
+use Rattle.fc_image.specs.Order.{directories, held, listed}
 use Rattle.fc_image.specs.Sound.{AreSound}
 use Rattle.fc_image.specs.MapEdits.{IsDirectoryEdit, IsMapEdit, KeepsPlace}
 use Rattle.fc_image.specs.InPlace.{IsInPlace}
 use Rattle.fc_image.specs.Answered.{OpensWithTree}
 use Rattle.fc_image.proofs.HolesLemmas.{Lies, apart_at, apart_from, in_id}
 use Rattle.fc_image.proofs.LookupLemmas.{lookup_law}
-use Rattle.fc_image.proofs.MapEditLemmas.{file_stays}
+use Rattle.fc_image.proofs.MapEditLemmas.{file_stays, held_in}
+use Rattle.fc_image.proofs.EntriesLemmas.{from_filter, from_map, in_mapped, same_some}
+use Rattle.fc_image.proofs.PathsLemmas.{itself}
+use Rattle.fc_image.proofs.RenameLemmas.{child_path}
 use Rattle.fc_image.proofs.OneZoneLemmas.{and_first, and_second}
 use Rattle.fc_image.proofs.ShuffleLemmas.{IsPermutation-flat_map, IsPermutation-swap_lists, IsPermutation-unappend, flat_map-append, same_lists}
 use Rattle.fc_effects.specs.Short.{growth_in}
-use Rattle.fc_effects.specs.Placed.{made_object, object_parts}
-use Rattle.fc_effects.specs.Steady.{DirectoriesSteady, IsRewritten, MapOutside, NewMapSteady, edited, expected_zone, holds_named, idle_sectors, is_given_back, is_gone, named_entry}
+use Rattle.fc_effects.specs.Placed.{holes_left}
+use Rattle.fc_effects.specs.Steady.{AreWritten, DirectoriesSteady, IsRewritten, holes_untaken, MapOutside, NewMapSteady, edited, expected_zone, holds_named, idle_sectors, is_given_back, is_gone, named_entry}
 use Rattle.fc_plan.specs.Giving.{is_one_of}
 use Rattle.fc_changes.specs.Owed.{GivesBack, IsBefore, IsDirectoryWritten, IsMapAfter, IsSpaceEdit, IsWritten}
-use Rattle.fc_changes.proofs.BasicLemmas.{and_false, any_in, cases_cons, clash, first_in, in_any, next_in, not_zero, nothing_in, or_cases, or_second, unless}
+use Rattle.fc_changes.proofs.BasicLemmas.{and_false, any_in, cases_cons, clash, first_in, in_any, long_pushed, next_in, not_zero, nothing_in, or_cases, or_second, unless}
 use Rattle.fc_changes.proofs.BeforeLemmas.{Had, boot_stays, had, listed_in, map_edit, object_from, object_lies, other_path, parts, says_old, sound}
 use Rattle.fc_changes.proofs.DirectoriesLemmas.{IsPlain, Lasts, Stays, all_steady, written_steady}
 use Rattle.fc_changes.proofs.OutsideLemmas.{AreBusy, both_busy, low_owned, no_owner_low, object_busy, object_owns}
@@ -130,13 +133,13 @@ module _ (e : Change) where
   abbrev v : Opened
   v = opened e.kind e.m e.ls
 
-  l_in : Contains e.ls e.l
+  pub l_in : Contains e.ls e.l
   l_in = Contains-permutation (e.out ++ e.l ∷ e.rest) e.ls e.l (IsPermutation-sym e.ls (e.out ++ e.l ∷ e.rest) e.found) (Contains-append_right e.out (e.l ∷ e.rest) e.l (first_in e.l e.rest))
 
   found_first : IsPermutation e.ls (e.l ∷ (e.out ++ e.rest))
   found_first = IsPermutation-trans e.ls (e.out ++ e.l ∷ e.rest) (e.l ∷ (e.out ++ e.rest)) e.found (IsPermutation-middle e.out e.l e.rest)
 
-  abbrev top : Had e.kind e.r e.image e.m e.ls e.before.new_kind e.before.opens
+  abbrev pub top : Had e.kind e.r e.image e.m e.ls e.before.new_kind e.before.opens
   top = had e.kind e.r e.image e.m e.ls e.before.new_kind e.before.opens
 
   pub l_object : Contains (objects_of e.ls) e.l.object
@@ -314,3 +317,111 @@ module _ (e : Change) (d : Edited e) where
       | inr further ↦ rest_lasts k further
     ])
   ]
+
+  -- the same object is listed
+  same_listing : (k : Listing) → Contains e.ls k → (Contains e.out k → ⊥) → (n : Listing) × Contains d.answer.found n × (n.object ≡ k.object)
+  same_listing k at stays = elim (Contains-append_cases e.out (e.l ∷ e.rest) k (Contains-permutation e.ls (e.out ++ e.l ∷ e.rest) k e.found at)) [
+    | inl went ↦ absurd (stays went)
+    | inr left ↦ (elim (cases_cons e.l e.rest k left) [
+      | inl is ↦ (d.l', l_there, d.is.object ∙ ap (λ (x : Listing). x.object) is)
+      | inr further ↦ (k, rest_there k further, refl)
+    ])
+  ]
+
+  -- ---- the objects
+
+  abbrev old_root : Object
+  old_root = (top e).root
+
+  abbrev now_had : Had e.kind e.r e.image' e.m' d.answer.found e.before.new_kind d.answer.opens
+  now_had = had e.kind e.r e.image' e.m' d.answer.found e.before.new_kind d.answer.opens
+
+  no_root : (k : Listing) → Contains e.out k → k.object.path ≡ [] → ⊥
+  no_root k went none =
+      let gone' = from_filter is_directory_object e.leave k.object (subst (λ (os : List Object). Contains os k.object) d.is.out_gone (in_mapped (λ (x : Listing). x.object) e.out k went)) in
+      let child = Contains-permutation (e.leave ++ e.kids) e.l.children k.object (IsPermutation-sym e.l.children (e.leave ++ e.kids) e.holds) (Contains-append_left e.leave e.kids k.object gone') in
+      let path = child_path (Layout.New e.m) e.l.object.path (entries_of e.l.content) e.l.children k.object (says e e.l (l_in e)).1 child in
+      let long = ap (λ (p : Path). length p) (sym path ∙ none) in
+      let pushed = long_pushed e.l.object.path k.object.entry.name in
+      omega (arith, long, pushed)
+
+  root_stays : now_had.root ≡ old_root
+  root_stays =
+      let k = from_map (λ (x : Listing). x.object) e.ls old_root
+      (Contains-permutation (old_root ∷ directories (held e.ls)) (listed e.ls) old_root (IsPermutation-sym (listed e.ls) (old_root ∷ directories (held e.ls)) (top e).all.all) (first_in old_root (directories (held e.ls)))) in
+      let n = same_listing k.0 k.1 (λ went. no_root k.0 went (ap (λ (o : Object). o.path) k.2 ∙ (top e).is_root.path)) in
+      let there : Contains (objects_of d.answer.found) old_root =
+      subst (λ (o : Object). Contains (objects_of d.answer.found) o) (n.2 ∙ k.2) (listed_in e.kind e.r e.image' e.m' d.answer.found e.before.new_kind d.answer.opens n.0 n.1) in
+      let first : Contains (objects_of d.answer.found) now_had.root = subst (λ (os : List Object). Contains os now_had.root) (sym now_had.objects) (first_in now_had.root (held d.answer.found)) in
+      same_some now_had.root old_root
+      (sym (lookup_law.object (Layout.New e.m') d.answer.found [] now_had.root sound_now first (ap (λ (p : Path). is_same_path [] p) now_had.is_root.path ∙ itself []))
+      ∙ lookup_law.object (Layout.New e.m') d.answer.found [] old_root sound_now there (ap (λ (p : Path). is_same_path [] p) (top e).is_root.path ∙ itself []))
+
+  pub objects_now : IsPermutation (objects_of d.answer.found) (e.come ++ e.stay)
+  objects_now =
+      let others : List Object = e.kids ++ held e.rest in
+      let parted : held (d.into ++ d.l' ∷ e.rest) ≡ d.l'.children ++ held e.rest =
+      flat_map-append (λ (x : Listing). x.children) d.into (d.l' ∷ e.rest) ∙ ap (λ (xs : List Object). xs ++ (d.l'.children ++ held e.rest)) d.is.into_empty in
+      let all : IsPermutation (held d.answer.found) (e.come ++ others) =
+      IsPermutation-trans (held d.answer.found) (held (d.into ++ d.l' ∷ e.rest)) (e.come ++ others)
+      (IsPermutation-flat_map (λ (x : Listing). x.children) d.answer.found (d.into ++ d.l' ∷ e.rest) (IsPermutation-sym (d.into ++ d.l' ∷ e.rest) d.answer.found d.answer.order))
+      (subst (λ (xs : List Object). IsPermutation xs (e.come ++ others)) (sym parted)
+      (subst (λ (xs : List Object). IsPermutation (d.l'.children ++ held e.rest) xs) (append_assoc e.come e.kids (held e.rest))
+      (IsPermutation-append_left (held e.rest) d.l'.children (e.come ++ e.kids) d.is.holds_now))) in
+      subst (λ (xs : List Object). IsPermutation xs (e.come ++ e.stay)) (ap (λ (o : Object). o ∷ held d.answer.found) (sym root_stays) ∙ sym now_had.objects)
+      (IsPermutation-trans (old_root ∷ held d.answer.found) (old_root ∷ (e.come ++ others)) (e.come ++ e.stay)
+      (IsPermutation-cons old_root (held d.answer.found) (e.come ++ others) all)
+      (IsPermutation-trans (old_root ∷ (e.come ++ others)) (e.come ++ old_root ∷ others) (e.come ++ e.stay)
+      (IsPermutation-sym (e.come ++ old_root ∷ others) (old_root ∷ (e.come ++ others)) (IsPermutation-middle e.come old_root others))
+      (IsPermutation-append_right e.come (old_root ∷ others) e.stay (IsPermutation-sym e.stay (old_root ∷ others) (stay_is e)))))
+
+  gives_now : GivesBack e.m e.gone (objects_of e.ls) (objects_of d.answer.found)
+  gives_now = record {
+    exactly = λ id used.
+        e.gives.exactly id used
+        ∙ given_same (objects_of e.ls) (e.come ++ e.stay) (objects_of d.answer.found) id (IsPermutation-sym (objects_of d.answer.found) (e.come ++ e.stay) objects_now);
+  }
+
+  -- ---- what is promised
+
+  module _ (none : growth_in (opened e.kind e.m e.ls) e.c ≡ None) where
+    busy : AreBusy e.m (objects_of e.ls) (e.l.object.sectors ++ e.more)
+    busy =
+        both_busy e.m (objects_of e.ls) (parts e.kind e.r e.image e.m e.ls e.before.new_kind e.before.opens).some e.l.object.sectors e.more
+        (object_busy e.m (objects_of e.ls) (parts e.kind e.r e.image e.m e.ls e.before.new_kind e.before.opens).some e.l.object _ (l_object e) (lies e e.l.object (l_object e)).placed) e.more_busy
+
+    pub space_now : holes_untaken (opened e.kind e.m e.ls) view e.c e.m e.m' ≡ holes_left (hole_runs e.m) e.parts → NewMapSteady (opened e.kind e.m e.ls) view e.c e.m e.m'
+    space_now untaken =
+        space_steady (opened e.kind e.m e.ls) view e.c e.m e.m' e.id e.parts e.gone e.space (parts e.kind e.r e.image e.m e.ls e.before.new_kind e.before.opens).some
+        (λ some. (e.fresh some, owned_same (objects_of d.answer.found) (e.come ++ e.stay) e.id objects_now ∙ (e.owned some).0, (e.owned some).1)) gives_now none
+        (no_owner_low e.m (objects_of e.ls) (λ o at. (lies e o at).placed) 1 (omega arith)) untaken e.map.geometry
+
+    pub outside_now : MapOutside e.image e.image' e.kind (expected_zone (opened e.kind e.m e.ls) view e.c e.m) (idle_sectors (opened e.kind e.m e.ls) e.m) e.m e.m'
+    outside_now =
+        outside_steady e.kind e.r e.image e.m e.ls e.before.new_kind e.before.opens e.m' e.image' e.map d.answer.found d.answer.opens e.c (e.l.object.sectors ++ e.more) none e.written busy (free e)
+
+    pub behind_now : drop (disc_size e.kind) e.image' ≡ drop (disc_size e.kind) e.image
+    behind_now = behind_stays e.kind e.r e.image e.m e.ls e.before.new_kind e.before.opens e.image' (e.l.object.sectors ++ e.more) e.written busy
+
+    -- the holder of the directory has its address
+    holder_now : holder_address d.answer.found e.l.object.path ≡ holder_address e.ls e.l.object.path
+    holder_now =
+        holder_stays e.kind e.r e.image e.m e.ls e.before.new_kind e.before.opens e.m' e.image' e.map d.answer.found d.answer.opens (edit e).0 (edit e).1 e.l (l_in e)
+        (λ k at role. elim role [
+          | inl is ↦ subst (Lasts d.answer.found) (sym is) l_lasts
+          | inr child ↦ lasts k at (λ went. nothing_in e.l.object (subst (λ (os : List Object). Contains os e.l.object) e.out_empty (held_in e.out k e.l.object went child)))
+        ])
+
+    pub directories_now : IsPlain e.c → holds_named e.c e.l.object.path ≡ true
+        → ((k : Listing) → is_same_path e.l.object.path k.object.path ≡ false → holds_named e.c k.object.path ≡ false)
+        → ((k : Listing) → Contains e.out k → is_gone e.c k.object.path ≡ true)
+        → entries_of e.content ≡ edited e.c e.l.object.path (named_entry view e.c) (entries_of e.l.content)
+        → DirectoriesSteady e.image e.image' (opened e.kind e.m e.ls) view e.c
+    directories_now plain named elsewhere gone' entries =
+        all_steady e.kind e.image e.image' e.m e.m' e.ls d.answer.found e.c plain none e.out e.rest e.l d.l' sound_now e.found gone' stays_in
+        (λ k at. elsewhere k (other_path e.kind e.r e.image e.m e.ls e.before.new_kind e.before.opens (edit e).0 e.image' e.m' (edit e).1 e.l k (e.out ++ e.rest) (found_first e) (Contains-append_right e.out e.rest k at)))
+        l_there d.is.object
+        (written_steady e.kind e.image e.image' e.m e.m' e.ls d.answer.found e.c plain none e.l d.l' d.is.object named (ap entries_of d.content_is ∙ entries)
+        (subst (λ (x : Directory). IsRewritten e.c e.l.object.path (holder_address d.answer.found e.l.object.path) e.l.content x) (sym d.content_is)
+        (subst (λ (a : ℕ). IsRewritten e.c e.l.object.path a e.l.content e.content) (sym holder_now) e.directory.says))
+        (subst (λ (x : Directory). AreWritten (object_bytes e.image' (Layout.New e.m') e.l.object) x) (sym d.content_is) e.directory.bytes))

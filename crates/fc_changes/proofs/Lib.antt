@@ -7,3 +7,4 @@ pub mod ReadsLemmas
 pub mod AfterLemmas
 pub mod RewordedLemmas
 pub mod ChangeLemmas
+pub mod DeletedLemmas

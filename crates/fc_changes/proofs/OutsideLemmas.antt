@@ -12,17 +12,20 @@ use Rattle.fc_newmap.specs.Map.{Map, ZoneRun, all_runs, has_id, hole_runs, id_ru
 use Rattle.fc_newmap.specs.RunsLaw.{HasZones, HoldsSector, IsGeometry}
 use Rattle.fc_newmap.proofs.PlaceLemmas.{filter_in, holder_of, id_run_in, in_either}
 use Rattle.fc_newmap.proofs.RunsLemmas.{runs_apart}
-use Rattle.fc_image.specs.Layout.{Layout, hole_sectors, id_of, id_sectors, is_among, map_place, sectors_at}
+use Rattle.fc_image.specs.Layout.{Layout, hole_sectors, id_of, id_sectors, is_among, is_apart, map_place, sectors_at}
 use Rattle.fc_image.specs.Walk.{Object}
 use Rattle.fc_image.specs.Objects.{has_sectors, is_lost, is_owned, is_owner_of}
 use Rattle.fc_image.specs.Written.{WritesOnly}
 use Rattle.fc_image.specs.Edits.{IsAt}
-use Rattle.fc_image.proofs.HolesLemmas.{in_id}
+use Rattle.fc_image.proofs.HolesLemmas.{apart_from, in_id}
 use Rattle.fc_image.proofs.OneZoneLemmas.{and_first, and_second}
 use Rattle.fc_image.proofs.MoveLemmas.{all_filter, not_true}
 use Rattle.fc_effects.specs.Steady.{SameSectors, is_idle}
 use Rattle.fc_changes.proofs.BasicLemmas.{any_in, clash, in_any, unless}
 use Rattle.fc_changes.proofs.BeforeLemmas.{id_high}
+
+pub no_sectors : (xs : List ℕ) → is_apart xs [] ≡ true
+no_sectors xs = apart_from xs [] (λ s a b. absurd (cc))
 
 -- ---- sectors that are somebody's
 

@@ -124,3 +124,8 @@ changed_entry entries i e new once at same =
     let named : is_same_name e.name new.name ≡ true = ap (λ (n : List ℕ). is_same_name e.name n) same ∙ same_name_itself e.name in
     edit_law.changed entries i e new once at named
     ∙ sym (ap (λ (b : Bool). cond b (map (replaced_entry new) entries) (with_entry new entries)) (edit_law.there entries i e new.name at named))
+
+pub same_name_turned : (a b : List ℕ) → is_same_name a b ≡ true → is_same_name b a ≡ true
+same_name_turned a b h =
+    let there : is_same_path (a ∷ []) (b ∷ []) ≡ true = same_last [] [] a b ∙ ap₂ (λ (x y : Bool). x && y) (itself []) h in
+    and_second (is_same_path [] []) (is_same_name b a) (sym (same_last [] [] b a) ∙ same_by_folds (b ∷ []) (a ∷ []) (sym (folds_alike (a ∷ []) (b ∷ []) there)))

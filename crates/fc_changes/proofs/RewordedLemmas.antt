@@ -59,7 +59,7 @@ use Rattle.fc_changes.specs.Laws.{RewordedLaw}
 use Rattle.fc_changes.proofs.BasicLemmas.{cases_cons, first_in, next_in, nothing_in, with_other, without_it}
 use Rattle.fc_changes.proofs.BeforeLemmas.{Had, boot_stays, opened_as, child_in, had, listed_in, map_edit, object_from, object_lies, other_path, parts, says_old, sound}
 use Rattle.fc_changes.proofs.DirectoriesLemmas.{IsPlain, Lasts, Stays, all_steady, plain_mark, plain_set, written_steady}
-use Rattle.fc_changes.proofs.OutsideLemmas.{AreBusy, no_owner_low, object_busy}
+use Rattle.fc_changes.proofs.OutsideLemmas.{AreBusy, no_sectors, no_owner_low, object_busy}
 use Rattle.fc_changes.proofs.SpaceLemmas.{space_steady, untaken_is}
 use Rattle.fc_changes.proofs.ReadsLemmas.{changed_entry, entry_at, lies_in, other_dir, reads_back}
 use Rattle.fc_changes.proofs.AfterLemmas.{behind_stays, holder_stays, outside_steady, still_owns, tells_now}
@@ -82,9 +82,6 @@ mapped g (x ∷ xs) (y ∷ ys) k listed at = elim (cases_cons x xs k at) [
 
 ok_same : (x y : Directory) → (let q : Result Directory DirFault = Ok x in q) ≡ Ok y → x ≡ y
 ok_same x y h = cc
-
-no_sectors : (xs : List ℕ) → is_apart xs [] ≡ true
-no_sectors xs = apart_from xs [] (λ s a b. absurd (cc))
 
 -- ---- an edit of space that does nothing
 

@@ -1,5 +1,5 @@
 -- The laws from what calls leave to what commands promise, on discs with new maps.
-use Rattle.std.specs.Prelude.{◌≡◌, ◌<◌, ℕ, true, List, ◌∷◌, slice_set}
+use Rattle.std.specs.Prelude.{◌≡◌, ◌<◌, ℕ, true, List, ◌∷◌, remove, slice_set}
 use Rattle.fc_names.specs.Names.{Path, is_same_path}
 use Rattle.fc_record.specs.declared.DiscRecord.{DiscRecord}
 use Rattle.fc_record.specs.declared.Kind.{Kind}
@@ -11,7 +11,7 @@ use Rattle.fc_image.specs.Opening.{Opened}
 use Rattle.fc_image.specs.EditedWalk.{AreListedBy}
 use Rattle.fc_image.specs.InPlace.{says_now}
 use Rattle.fc_image.specs.Commanded.{set_object, mark_object}
-use Rattle.fc_changes.specs.Changed.{IsChanged, IsRewordChange}
+use Rattle.fc_changes.specs.Changed.{IsChanged, IsDeleteChange, IsRewordChange}
 
 -- `set` and `mark`: the other directories are listed as they were, but for the object itself where it is a directory.
 pub record RewordedLaw : Type 0 where
@@ -25,3 +25,9 @@ pub record RewordedLaw : Type 0 where
       → IsRewordChange kind r image image' v m (Command.Mark path attrs) rest l content i o (mark_object o.path attrs)
       → (rest' : List Listing) × AreListedBy (mark_object o.path attrs) rest rest'
       × IsChanged kind image image' v m (says_now l content (slice_set l.children i (mark_object o.path attrs o)) ∷ rest') (Command.Mark path attrs)
+
+-- `delete` of a file or an empty directory
+abbrev pub DeletedLaw : Type 0
+DeletedLaw = (kind : Kind) (r : DiscRecord) (image image' : List ℕ) (v : Opened) (m m' : Map) (path : Path) (out rest : List Listing) (l : Listing) (content : Directory)
+    (i : ℕ) (o : Object) (stay : List Object) (gone : List ℕ) → IsDeleteChange kind r image image' v m m' path out rest l content i o stay gone
+    → IsChanged kind image image' v m' (says_now l content (remove l.children i) ∷ rest) (Command.Delete path)

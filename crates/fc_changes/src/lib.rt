@@ -1,9 +1,14 @@
 //! From what the calls of a command leave on a disc with a new map, to what the command promises.
 #![tactic(auto)]
 
-ghost use Rattle.fc_changes.specs.Laws.{RewordedLaw};
+ghost use Rattle.fc_changes.specs.Laws.{DeletedLaw, RewordedLaw};
 
 /// After `set` and `mark` the disc is as they promise.
 pub fn reworded()
     ensures { RewordedLaw }
+{}
+
+/// After `delete` the disc is as it promises.
+pub fn deleted()
+    ensures { DeletedLaw }
 {}
