@@ -8,3 +8,4 @@ pub mod AfterLemmas
 pub mod RewordedLemmas
 pub mod ChangeLemmas
 pub mod DeletedLemmas
+pub mod PlacedLemmas
