@@ -62,6 +62,33 @@ plain_delete path = record {
   elsewhere = λ p made es h. ap (λ (b : Bool). cond b (without_name (last_name path) es) es) h;
 }
 
+pub plain_save : (path : Path) (load exec : ℕ) (bytes : List ℕ) → IsPlain (Command.Save path load exec bytes)
+plain_save path load exec bytes = record {
+  path = λ p. refl;
+  renamed = λ p. refl;
+  small = λ p name. refl;
+  big = λ p dir. refl;
+  elsewhere = λ p made es h. ap (λ (b : Bool). cond b (with_made made es) es) h;
+}
+
+pub plain_create : (path : Path) (load exec len : ℕ) → IsPlain (Command.Create path load exec len)
+plain_create path load exec len = record {
+  path = λ p. refl;
+  renamed = λ p. refl;
+  small = λ p name. refl;
+  big = λ p dir. refl;
+  elsewhere = λ p made es h. ap (λ (b : Bool). cond b (with_made made es) es) h;
+}
+
+pub plain_cdir : (path : Path) → IsPlain (Command.Cdir path)
+plain_cdir path = record {
+  path = λ p. refl;
+  renamed = λ p. refl;
+  small = λ p name. refl;
+  big = λ p dir. refl;
+  elsewhere = λ p made es h. ap (λ (b : Bool). cond b (with_made made es) es) h;
+}
+
 -- ---- where nothing grows
 
 module _ (v w : Opened) (c : Command) (none : growth_in v c ≡ None) where

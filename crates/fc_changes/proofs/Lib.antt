@@ -9,3 +9,5 @@ pub mod RewordedLemmas
 pub mod ChangeLemmas
 pub mod DeletedLemmas
 pub mod PlacedLemmas
+pub mod NewPlaceLemmas
+pub mod FiledLemmas

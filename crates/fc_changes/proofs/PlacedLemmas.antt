@@ -50,7 +50,7 @@ use Rattle.fc_changes.proofs.ChangeLemmas.{a_sector}
 
 -- ---- lists
 
-filter_test : {X : Type 0} (t : X → Bool) (xs : List X) (x : X) → Contains (filter t xs) x → t x ≡ true
+pub filter_test : {X : Type 0} (t : X → Bool) (xs : List X) (x : X) → Contains (filter t xs) x → t x ≡ true
 filter_test t [] x at = absurd (nothing_in x at)
 filter_test t (y ∷ xs) x at = by (t y) refl at (filter_test t xs x)
   where
@@ -65,7 +65,7 @@ range_bounds from (suc n) x at = elim (cases_cons from (range_with_len (from + 1
   | inr later ↦ (let r = range_bounds (from + 1) n x later in (omega (arith, r.0), omega (arith, r.1)))
 ]
 
-found_in : {X : Type 0} (t : X → Bool) (xs : List X) (x : X) → find t xs ≡ Some x → Contains xs x × (t x ≡ true)
+pub found_in : {X : Type 0} (t : X → Bool) (xs : List X) (x : X) → find t xs ≡ Some x → Contains xs x × (t x ≡ true)
 found_in t [] x h = absurd (cc)
 found_in t (y ∷ xs) x h = by (t y) refl h (found_in t xs x)
   where
@@ -156,18 +156,18 @@ module _ (m m' : Map) (n low id : ℕ) (parts : List ZoneRun) (gone : List ℕ) 
 -- ---- in slack
 
 -- what is known of a share in slack
-record IsShared (m : Map) (objects : List Object) (n : ℕ) (share : ℕ × ℕ) : Type 0 where
-  high : 3 ≤ share.0
-  low : share.1 < 256
-  some : 0 < n
-  owner : Object
-  owner_in : Contains objects owner
-  owns : is_owner_of share.0 owner ≡ true
-  sectors : List ℕ
-  at : new_sectors m (256 * share.0 + share.1) n ≡ Some sectors
-  apart : (p : Object) → Contains objects p → is_owner_of share.0 p ≡ true → is_apart sectors p.sectors ≡ true
+pub record IsShared (m : Map) (objects : List Object) (n : ℕ) (share : ℕ × ℕ) : Type 0 where
+  pub high : 3 ≤ share.0
+  pub low : share.1 < 256
+  pub some : 0 < n
+  pub owner : Object
+  pub owner_in : Contains objects owner
+  pub owns : is_owner_of share.0 owner ≡ true
+  pub sectors : List ℕ
+  pub at : new_sectors m (256 * share.0 + share.1) n ≡ Some sectors
+  pub apart : (p : Object) → Contains objects p → is_owner_of share.0 p ≡ true → is_apart sectors p.sectors ≡ true
 
-is_shared : (m : Map) (objects : List Object) (dir : Path) (n : ℕ) (share : ℕ × ℕ) → slack m objects dir n ≡ Some share → IsShared m objects n share
+pub is_shared : (m : Map) (objects : List Object) (dir : Path) (n : ℕ) (share : ℕ × ℕ) → slack m objects dir n ≡ Some share → IsShared m objects n share
 unfolding slack_among
 is_shared m objects dir n share h = by (n == 0) refl h
   where

@@ -1,5 +1,5 @@
 -- What a written directory reads as, and edits of entries by name.
-use Rattle.std.proofs.Common.{◌≡◌, ◌<◌, ℕ, zero, suc, Bool, true, false, cond, List, [], ◌∷◌, ◌++◌, refl, sym, ap, ap₂, subst, ◌∙◌, arith, Some, None, Option}
+use Rattle.std.proofs.Common.{◌≡◌, ◌<◌, ◌⊎◌, inl, inr, ℕ, zero, suc, Bool, true, false, cond, List, [], ◌∷◌, ◌++◌, refl, sym, ap, ap₂, subst, ◌∙◌, arith, Some, None, Option}
 use Rattle.std.specs.Prelude.{Result, Ok, Err, Contains, slice_get, slice_set, map, IsTrue, ◌&&◌}
 use Rattle.fc_names.specs.declared.name.NameForm.{NameForm}
 use Rattle.fc_names.specs.declared.name.NameForm.TheVariants.{Seven, Ten, Long}
@@ -24,7 +24,7 @@ use Rattle.fc_image.proofs.RenameLemmas.{last_pushed}
 use Rattle.fc_image.proofs.CommandLemmas.{same_by_folds}
 use Rattle.fc_image.proofs.TreeLemmas.{folds_alike}
 use Rattle.fc_effects.specs.Steady.{AreWritten, IsRewritten, replaced_entry, with_made, without_name}
-use Rattle.fc_changes.proofs.BasicLemmas.{clash, holder_pushed, unless}
+use Rattle.fc_changes.proofs.BasicLemmas.{cases_cons, clash, first_in, holder_pushed, next_in, nothing_in, unless}
 
 -- ---- reading back
 
@@ -129,3 +129,22 @@ pub same_name_turned : (a b : List ℕ) → is_same_name a b ≡ true → is_sam
 same_name_turned a b h =
     let there : is_same_path (a ∷ []) (b ∷ []) ≡ true = same_last [] [] a b ∙ ap₂ (λ (x y : Bool). x && y) (itself []) h in
     and_second (is_same_path [] []) (is_same_name b a) (sym (same_last [] [] b a) ∙ same_by_folds (b ∷ []) (a ∷ []) (sym (folds_alike (a ∷ []) (b ∷ []) there)))
+
+-- the object of an entry
+pub object_of_entry : (layout : Layout) (path : Path) (entries : List Entry) (objects : List Object) (d : Entry) → AreChildren layout path entries objects → Contains entries d
+    → (o : Object) × Contains objects o × (o.path ≡ path ++ d.name ∷ [])
+object_of_entry layout path [] [] d c at = absurd (nothing_in d at)
+object_of_entry layout path (e ∷ entries) [] d c at = absurd c
+object_of_entry layout path [] (p ∷ objects) d c at = absurd c
+object_of_entry layout path (e ∷ entries) (p ∷ objects) d c at = elim (cases_cons e entries d at) [
+  | inl is ↦ (p, first_in p objects, c.0 ∙ ap (λ (x : Entry). path ++ x.name ∷ []) is)
+  | inr later ↦ (let r = object_of_entry layout path entries objects d c.3 later in (r.0, next_in p r.0 objects r.1, r.2))
+]
+
+-- a path of a directory and a name is that of the directory and a name that folds alike
+pub same_path_of : (path dir : Path) (name other : List ℕ) (there : Path) → is_same_path path (dir ++ name ∷ []) ≡ true → is_same_name name other ≡ true → there ≡ dir ++ other ∷ []
+    → is_same_path path there ≡ true
+same_path_of path dir name other there same alike is =
+    let names : is_same_path (dir ++ name ∷ []) (dir ++ other ∷ []) ≡ true = same_last dir dir name other ∙ ap₂ (λ (x y : Bool). x && y) (itself dir) alike in
+    ap (λ (p : Path). is_same_path path p) is
+    ∙ same_by_folds path (dir ++ other ∷ []) (folds_alike path (dir ++ name ∷ []) same ∙ folds_alike (dir ++ name ∷ []) (dir ++ other ∷ []) names)

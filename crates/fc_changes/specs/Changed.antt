@@ -1,5 +1,5 @@
 -- What each command's calls leave, one directory written to its old place, and that the command then does what it promises.
-use Rattle.std.specs.Prelude.{◌≡◌, ◌<◌, ◌⊎◌, ℕ, ◌+◌, ◌*◌, true, false, List, [], ◌∷◌, ◌++◌, length, replicate, slice_get, slice_set, remove, Option, Some, None, Contains, IsPermutation}
+use Rattle.std.specs.Prelude.{◌≡◌, ◌<◌, ◌⊎◌, ℕ, ◌+◌, ◌*◌, true, false, List, [], ◌∷◌, ◌++◌, length, replicate, slice_get, slice_set, insert, remove, Option, Some, None, Contains, IsPermutation}
 use Rattle.std.specs.Option.{option_to_list}
 use Rattle.fc_names.specs.Names.{Path, is_same_path}
 use Rattle.fc_record.specs.declared.DiscRecord.{DiscRecord}
@@ -10,7 +10,7 @@ use Rattle.fc_model.specs.Tree.{holder, last_name}
 use Rattle.fc_model.specs.Command.{Command}
 use Rattle.fc_model.specs.Answer.{changed}
 use Rattle.fc_dirs.specs.declared.Entry.{Entry}
-use Rattle.fc_dirs.specs.Entries.{with_entry, without_entry}
+use Rattle.fc_dirs.specs.Entries.{entry_place, with_entry, without_entry}
 use Rattle.fc_dirs.specs.Directory.{Directory, entries_of}
 use Rattle.fc_image.specs.Layout.{Layout, dir_form}
 use Rattle.fc_image.specs.Walk.{Object, Listing, object_bytes, is_directory_object}
@@ -117,6 +117,11 @@ IsEntryMade None path l content i e =
 IsEntryMade (Some p) path l content i e =
     (entries_of content ≡ slice_set (entries_of l.content) i e) × (slice_get l.children i ≡ Some p) × (is_directory_object p ≡ false)
     × (e.name ≡ p.entry.name) × (e.attrs ≡ p.entry.attrs) × (e.last ≡ p.entry.last)
+
+-- the objects of the directory with it
+abbrev pub children_with : Option Object → Listing → ℕ → Object → List Object
+children_with None l i o = insert l.children (entry_place o.entry.name (entries_of l.content)) o
+children_with (Some p) l i o = slice_set l.children i o
 
 -- Directory l has the file o, new or in the place of `old`. `stay` are all objects that were there but `old`.
 pub record IsFileChange (kind : Kind) (r : DiscRecord) (image image' : List ℕ) (v : Opened) (m m' : Map) (c : Command) (path : Path) (load exec : ℕ) (bytes : List ℕ)

@@ -1,9 +1,9 @@
 -- The laws from what calls leave to what commands promise, on discs with new maps.
-use Rattle.std.specs.Prelude.{◌≡◌, ◌<◌, ℕ, true, List, ◌∷◌, remove, slice_set}
+use Rattle.std.specs.Prelude.{◌≡◌, ◌<◌, ℕ, true, List, ◌∷◌, remove, slice_set, Option}
 use Rattle.fc_names.specs.Names.{Path, is_same_path}
 use Rattle.fc_record.specs.declared.DiscRecord.{DiscRecord}
 use Rattle.fc_record.specs.declared.Kind.{Kind}
-use Rattle.fc_newmap.specs.Map.{Map}
+use Rattle.fc_newmap.specs.Map.{Map, ZoneRun}
 use Rattle.fc_model.specs.Command.{Command}
 use Rattle.fc_dirs.specs.Directory.{Directory}
 use Rattle.fc_image.specs.Walk.{Object, Listing}
@@ -11,7 +11,7 @@ use Rattle.fc_image.specs.Opening.{Opened}
 use Rattle.fc_image.specs.EditedWalk.{AreListedBy}
 use Rattle.fc_image.specs.InPlace.{says_now}
 use Rattle.fc_image.specs.Commanded.{set_object, mark_object}
-use Rattle.fc_changes.specs.Changed.{IsChanged, IsDeleteChange, IsRewordChange}
+use Rattle.fc_changes.specs.Changed.{IsChanged, IsDeleteChange, IsFileChange, IsRewordChange, children_with}
 
 -- `set` and `mark`: the other directories are listed as they were, but for the object itself where it is a directory.
 pub record RewordedLaw : Type 0 where
@@ -31,3 +31,10 @@ abbrev pub DeletedLaw : Type 0
 DeletedLaw = (kind : Kind) (r : DiscRecord) (image image' : List ℕ) (v : Opened) (m m' : Map) (path : Path) (out rest : List Listing) (l : Listing) (content : Directory)
     (i : ℕ) (o : Object) (stay : List Object) (gone : List ℕ) → IsDeleteChange kind r image image' v m m' path out rest l content i o stay gone
     → IsChanged kind image image' v m' (says_now l content (remove l.children i) ∷ rest) (Command.Delete path)
+
+-- `save` and `create` of a new file, or over a file
+abbrev pub FiledLaw : Type 0
+FiledLaw = (kind : Kind) (r : DiscRecord) (image image' : List ℕ) (v : Opened) (m m' : Map) (c : Command) (path : Path) (load exec : ℕ) (bytes : List ℕ)
+    (rest : List Listing) (l : Listing) (content : Directory) (i : ℕ) (old : Option Object) (o : Object) (stay : List Object) (id : ℕ) (parts : List ZoneRun) (gone : List ℕ)
+    → IsFileChange kind r image image' v m m' c path load exec bytes rest l content i old o stay id parts gone
+    → IsChanged kind image image' v m' (says_now l content (children_with old l i o) ∷ rest) c

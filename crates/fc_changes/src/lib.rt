@@ -1,7 +1,7 @@
 //! From what the calls of a command leave on a disc with a new map, to what the command promises.
 #![tactic(auto)]
 
-ghost use Rattle.fc_changes.specs.Laws.{DeletedLaw, RewordedLaw};
+ghost use Rattle.fc_changes.specs.Laws.{DeletedLaw, FiledLaw, RewordedLaw};
 
 /// After `set` and `mark` the disc is as they promise.
 pub fn reworded()
@@ -11,4 +11,9 @@ pub fn reworded()
 /// After `delete` the disc is as it promises.
 pub fn deleted()
     ensures { DeletedLaw }
+{}
+
+/// After `save` and `create` the disc is as they promise.
+pub fn filed()
+    ensures { FiledLaw }
 {}
