@@ -51,6 +51,7 @@ use Rattle.fc_changes.proofs.BasicLemmas.{any_in, cases_cons, clash, first_in, m
 use Rattle.fc_changes.proofs.BeforeLemmas.{child_in, opened_as, parts, sound}
 use Rattle.fc_changes.proofs.DirectoriesLemmas.{IsPlain, moved_none, plain_create, plain_save}
 use Rattle.fc_changes.proofs.NewPlaceLemmas.{NewPlace, file_place}
+use Rattle.fc_changes.proofs.MadeLemmas.{file_low_small, free_name, no_slack, stands_new, turned}
 use Rattle.fc_changes.proofs.PlacedLemmas.{IsShared, found_in, id_is, is_shared, low_is, runs_are, same_bits, same_left, some_parts, taken}
 use Rattle.fc_changes.proofs.ReadsLemmas.{LiesIn, changed_entry, entry_at, lies_in, object_of_entry, other_dir, same_path_of}
 use Rattle.fc_changes.proofs.ChangeLemmas.{Change, Edited, behind_now, directories_now, edit, in_place, l_in, objects_now, opened, outside_now, says, sound_now, space_now, stay_in, stay_is, top}
@@ -104,47 +105,6 @@ makes_create path load exec len = record {
   no_dir = λ after w. tt;
   stays = λ v w b. tt;
 }
-
-turned : (xs ys : List ℕ) → is_apart xs ys ≡ true → is_apart ys xs ≡ true
-turned xs ys e = apart_from ys xs (λ s i j. let no' = apart_at xs ys s e j in cc)
-
-file_low_small : (g : Geometry) (space n : ℕ) → file_low g space n < 256
-file_low_small g space n = one_or_none (has_spare_share g space n)
-  where
-    one_or_none : (b : Bool) → cond b 1 0 < 256
-    one_or_none true = omega arith
-    one_or_none false = omega arith
-
-no_slack : (m : Map) (objects : List Object) (dir : Path) (n : ℕ) → n ≡ 0 → slack m objects dir n ≡ None
-unfolding slack_among
-no_slack m objects dir n none = if_true' (n == 0) _ _ (eq-eqb n 0 none)
-  where
-    if_true' : (b : Bool) (x y : Option (ℕ × ℕ)) → b ≡ true → cond b x y ≡ x
-    if_true' true x y h = refl
-    if_true' false x y h = absurd (cc)
-
--- an object in new space, by its low byte
-stands_new : (m m' : Map) (n low id : ℕ) (parts : List ZoneRun) (gone : List ℕ) (o : Object) → (is : IsNewMap m) → (same : m'.geometry ≡ m.geometry) → (small : low < 256)
-    → (new : IsInNewSpace m n low id parts o) → (space : IsSpaceEdit m m' id parts gone) → first_low m' o (id_runs m' (id_of o.entry.address)) ≡ low → StandsInNewSpace m m' n o
-stands_new m m' n low id parts gone o is same small new space right =
-    let its = id_is m m' n low id parts gone o is same small new space in
-    record {
-      id = subst (λ (k : ℕ). IsNewId m m' k) (sym its) (record { free = new.is_new; used = used_now });
-      space = subst (λ (k : ℕ). IsTaken m.geometry (hole_runs m) (units m.geometry n) (id_runs m' k)) (sym its) (taken m m' n low id parts gone o is same small new space);
-      low = low_is m m' n low id parts gone o is same small new space ∙ sym right;
-    }
-  where
-    head : (ps : List ZoneRun) → 0 < length ps → (p : ZoneRun) × Contains ps p
-    head [] h = absurd (omega (arith, h))
-    head (p ∷ ps) h = (p, first_in p ps)
-
-    used_now : is_used m' id ≡ true
-    used_now =
-        let one = head parts (some_parts m m' n low id parts gone o is same small new space) in
-        let there = Contains-permutation (as_runs id parts) (id_runs m' id) (with_id id one.0) (runs_are m m' n low id parts gone o is same small new space) (in_mapped (with_id id) parts one.0 one.1) in
-        let some : 1 ≤ m'.geometry.zones = subst (λ (g : Geometry). 1 ≤ g.zones) (sym same) (geometry_facts m.geometry is.of_record).zones in
-        let in_map = id_run_in m' id (with_id id one.0) some there in
-        any_in (λ (q : ZoneRun). has_id id q.1.kind) (all_runs m') (with_id id one.0) in_map.0 in_map.1
 
 -- ---- by whether there was a file
 
@@ -300,29 +260,10 @@ module _ (kind : Kind) (r : DiscRecord) (image image' : List ℕ) (m m' : Map) (
   lies_there : LiesIn path l.object.path o.entry.name
   lies_there = lies_in path l.object.path o.entry.name (ap (λ (p : Path). is_same_path path p) (sym e.path_now) ∙ e.path_is)
 
-  -- no entry has the name, if the path was free
-  free_name : object_at ls path ≡ None → has_name (entries_of l.content) o.entry.name ≡ false
-  unfolding change
-  free_name none = unless (has_name (entries_of l.content) o.entry.name) (λ there.
-      let d = some_entry (entry_named (entries_of l.content) o.entry.name) refl there in
-      let f = found_in (λ (x : Entry). is_same_name o.entry.name x.name) (entries_of l.content) d.0 d.1 in
-      let kid = object_of_entry (Layout.New m) l.object.path (entries_of l.content) l.children d.0 (says change l dir_in).1 f.0 in
-      let at_path : is_same_path path kid.0.path ≡ true =
-      same_path_of path l.object.path o.entry.name d.0.name kid.0.path (ap (λ (p : Path). is_same_path path p) (sym e.path_now) ∙ e.path_is) f.1 kid.2 in
-      let there' = lookup_law.object (Layout.New m) ls path kid.0 (sound kind r image m ls e.before.new_kind e.before.opens) (child_in kind r image m ls e.before.new_kind e.before.opens l kid.0 dir_in kid.1) at_path in
-      none_some kid.0 (sym none ∙ there'))
-    where
-      none_some : (x : Object) → (let q : Option Object = None in q) ≡ Some x → ⊥
-      none_some x h = cc
-
-      some_entry : (q : Option Entry) → entry_named (entries_of l.content) o.entry.name ≡ q → is_some q ≡ true → (x : Entry) × (entry_named (entries_of l.content) o.entry.name ≡ Some x)
-      some_entry None h g = absurd (cc)
-      some_entry (Some x) h g = (x, h)
-
   with_it : (q : Option Object) → object_at ls path ≡ q → IsEntryMade q path l content i o.entry → entries_of content ≡ with_made (Some o.entry) (entries_of l.content)
   unfolding change
   with_it None none made =
-      made.0 ∙ sym (ap (λ (b : Bool). cond b (map (replaced_entry o.entry) (entries_of l.content)) (with_entry o.entry (entries_of l.content))) (free_name none))
+      made.0 ∙ sym (ap (λ (b : Bool). cond b (map (replaced_entry o.entry) (entries_of l.content)) (with_entry o.entry (entries_of l.content))) (free_name kind r image m ls e.before.new_kind e.before.opens l dir_in (says change l dir_in) path o.entry.name (ap (λ (p : Path). is_same_path path p) (sym e.path_now) ∙ e.path_is) none))
   with_it (Some p) there made =
       made.0 ∙ changed_entry (entries_of l.content) i p.entry o.entry ((sound kind r image m ls e.before.new_kind e.before.opens).apart l dir_in)
       (entry_at (Layout.New m) l.object.path (entries_of l.content) l.children i p (says change l dir_in).1 made.1) made.3

@@ -10,4 +10,6 @@ pub mod ChangeLemmas
 pub mod DeletedLemmas
 pub mod PlacedLemmas
 pub mod NewPlaceLemmas
+pub mod MadeLemmas
 pub mod FiledLemmas
+pub mod CdirLemmas

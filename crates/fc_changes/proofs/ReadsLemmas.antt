@@ -35,7 +35,7 @@ said None dir content h = same dir content h
     same x y g = cc
 said (Some fault) dir content h = absurd (cc)
 
-told : (fault : Option DirFault) (dir content : Directory) → fault ≡ None → dir ≡ content → read_or fault dir ≡ Ok content
+pub told : (fault : Option DirFault) (dir content : Directory) → fault ≡ None → dir ≡ content → read_or fault dir ≡ Ok content
 told None dir content e is = ap (λ (d : Directory). let q : Result Directory DirFault = Ok d in q) is
 told (Some fault) dir content e is = absurd (cc)
 
