@@ -13,3 +13,4 @@ pub mod NewPlaceLemmas
 pub mod MadeLemmas
 pub mod FiledLemmas
 pub mod CdirLemmas
+pub mod CommittedLemmas

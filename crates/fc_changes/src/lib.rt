@@ -1,7 +1,7 @@
 //! From what the calls of a command leave on a disc with a new map, to what the command promises.
 #![tactic(auto)]
 
-ghost use Rattle.fc_changes.specs.Laws.{DeletedLaw, DirectoryMadeLaw, FiledLaw, RewordedLaw};
+ghost use Rattle.fc_changes.specs.Laws.{CommittedLaw, DeletedLaw, DirectoryMadeLaw, FiledLaw, RewordedLaw, SpaceLaw};
 
 /// After `set` and `mark` the disc is as they promise.
 pub fn reworded()
@@ -21,4 +21,14 @@ pub fn filed()
 /// After `cdir` the disc is as it promises.
 pub fn directory_made()
     ensures { DirectoryMadeLaw }
+{}
+
+/// What edits of a map and its commit leave is what a change of it owes.
+pub fn committed()
+    ensures { CommittedLaw }
+{}
+
+/// What giving and taking leave is what a change of space owes.
+pub fn spaces()
+    ensures { SpaceLaw }
 {}
