@@ -14,3 +14,4 @@ pub mod MadeLemmas
 pub mod FiledLemmas
 pub mod CdirLemmas
 pub mod CommittedLemmas
+pub mod RenamedLemmas

@@ -66,13 +66,13 @@ use Rattle.fc_changes.proofs.AfterLemmas.{behind_stays, holder_stays, outside_st
 
 -- ---- lists that g maps
 
-record Mapped (g : Object → Object) (ys : List Listing) (k : Listing) : Type 0 where
-  now : Listing
-  there : Contains ys now
-  object : now.object ≡ g k.object
-  children : now.children ≡ map g k.children
+pub record Mapped (g : Object → Object) (ys : List Listing) (k : Listing) : Type 0 where
+  pub now : Listing
+  pub there : Contains ys now
+  pub object : now.object ≡ g k.object
+  pub children : now.children ≡ map g k.children
 
-mapped : (g : Object → Object) (xs ys : List Listing) (k : Listing) → AreListedBy g xs ys → Contains xs k → Mapped g ys k
+pub mapped : (g : Object → Object) (xs ys : List Listing) (k : Listing) → AreListedBy g xs ys → Contains xs k → Mapped g ys k
 mapped g [] ys k listed at = absurd (nothing_in k at)
 mapped g (x ∷ xs) [] k listed at = absurd listed
 mapped g (x ∷ xs) (y ∷ ys) k listed at = elim (cases_cons x xs k at) [
@@ -80,7 +80,7 @@ mapped g (x ∷ xs) (y ∷ ys) k listed at = elim (cases_cons x xs k at) [
   | inr later ↦ (let r = mapped g xs ys k listed.2 later in record { now = r.now; there = next_in y r.now ys r.there; object = r.object; children = r.children })
 ]
 
-ok_same : (x y : Directory) → (let q : Result Directory DirFault = Ok x in q) ≡ Ok y → x ≡ y
+pub ok_same : (x y : Directory) → (let q : Result Directory DirFault = Ok x in q) ≡ Ok y → x ≡ y
 ok_same x y h = cc
 
 -- ---- an edit of space that does nothing
@@ -314,10 +314,10 @@ pub record NamesObject (c : Command) (path : Path) : Type 0 where
   pub entry : (w : Opened) (x : Object) → object_at w.listings path ≡ Some x → named_entry w c ≡ Some x.entry
   pub makes : (w : Opened) → made_object w c ≡ None
 
-same_address : (a b : Option Object) (x y : Object) → a ≡ Some x → b ≡ Some y → y.entry.address ≡ x.entry.address → HasSameAddress a b
+pub same_address : (a b : Option Object) (x y : Object) → a ≡ Some x → b ≡ Some y → y.entry.address ≡ x.entry.address → HasSameAddress a b
 same_address a b x y was is same = subst (λ (p : Option Object). HasSameAddress p b) (sym was) (subst (λ (p : Option Object). HasSameAddress (Some x) p) (sym is) same)
 
-entry_stays : (form : NameForm) (a b : Option Object) (x y : Object) → a ≡ Some x → b ≡ Some y → EntrySteady form false (Some x) y → IfSome b (EntrySteady form false a)
+pub entry_stays : (form : NameForm) (a b : Option Object) (x y : Object) → a ≡ Some x → b ≡ Some y → EntrySteady form false (Some x) y → IfSome b (EntrySteady form false a)
 entry_stays form a b x y was is same = subst (λ (p : Option Object). IfSome p (EntrySteady form false a)) (sym is) (subst (λ (p : Option Object). EntrySteady form false p y) (sym was) same)
 
 module _ (kind : Kind) (r : DiscRecord) (image image' : List ℕ) (m : Map) (ls : List Listing) (c : Command) (rest : List Listing) (l : Listing) (content : Directory) (i : ℕ) (o : Object)

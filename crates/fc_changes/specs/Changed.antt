@@ -1,5 +1,5 @@
 -- What each command's calls leave, one directory written to its old place, and that the command then does what it promises.
-use Rattle.std.specs.Prelude.{◌≡◌, ◌<◌, ◌⊎◌, ℕ, ◌+◌, ◌*◌, true, false, List, [], ◌∷◌, ◌++◌, length, replicate, slice_get, slice_set, insert, remove, Option, Some, None, Contains, IsPermutation}
+use Rattle.std.specs.Prelude.{◌≡◌, ◌<◌, ◌⊎◌, ℕ, ◌+◌, ◌*◌, true, false, List, [], ◌∷◌, ◌++◌, length, replicate, slice_get, slice_set, insert, remove, if◌then◌else◌, Option, Some, None, Contains, IsPermutation}
 use Rattle.std.specs.Option.{option_to_list}
 use Rattle.fc_names.specs.Names.{Path, is_same_path}
 use Rattle.fc_record.specs.declared.DiscRecord.{DiscRecord}
@@ -10,7 +10,7 @@ use Rattle.fc_model.specs.Tree.{holder, last_name}
 use Rattle.fc_model.specs.Command.{Command}
 use Rattle.fc_model.specs.Answer.{changed}
 use Rattle.fc_dirs.specs.declared.Entry.{Entry}
-use Rattle.fc_dirs.specs.Entries.{entry_place, with_entry, without_entry}
+use Rattle.fc_dirs.specs.Entries.{entry_place, has_name, with_entry, without_entry}
 use Rattle.fc_dirs.specs.Directory.{Directory, entries_of}
 use Rattle.fc_image.specs.Layout.{Layout, dir_form}
 use Rattle.fc_image.specs.Walk.{Object, Listing, object_bytes, is_directory_object}
@@ -181,3 +181,25 @@ pub record IsDirectoryChange (kind : Kind) (r : DiscRecord) (image image' : List
   pub written : IsWritten m (l.object.sectors ++ d.object.sectors) image image'
   pub map : IsMapAfter m m' image'
   pub space : IsSpaceEdit m m' id parts []
+
+-- ---- rename within a directory
+
+-- Entry i of directory l has another name and place, and l holds the object o as before. A directory o is rewritten, and says `now`;
+-- what lies in it is not written. The map stays as it is.
+pub record IsRenameChange (kind : Kind) (r : DiscRecord) (image image' : List ℕ) (v : Opened) (m : Map) (from to : Path) (rest : List Listing) (l : Listing) (content : Directory)
+    (i : ℕ) (o : Object) (now : Directory) : Type 0 where
+  pub before : IsBefore kind r image v m
+  pub copies : HoldsCopies m.geometry m.zones image
+  pub found : IsPermutation v.listings (l ∷ rest)
+  pub at : slice_get l.children i ≡ Some o
+  pub from_is : is_same_path from o.path ≡ true
+  pub to_is : is_same_path to (l.object.path ++ last_name to ∷ []) ≡ true
+  pub no_growth : growth_in v (Command.Rename from to) ≡ None
+  -- `rename`: `absent` is its condition
+  pub absent : has_name (without_entry i (entries_of l.content)) (last_name to) ≡ false
+  pub entries : entries_of content ≡ with_entry (record o.entry { name = last_name to }) (without_entry i (entries_of l.content))
+  pub directory : IsDirectoryWritten image' v m (Command.Rename from to) l content
+  -- `set_name`, `set_parent`, `touch`
+  pub own : (d : Listing) → Contains rest d → d.object ≡ o → IsDirectoryWritten image' v m (Command.Rename from to) d now × (entries_of now ≡ entries_of d.content)
+  pub written : IsWritten m (l.object.sectors ++ (if is_directory_object o then o.sectors else [])) image image'
+  pub map_stays : HasSectorsOf m.geometry.sector (map_sectors m.geometry) image image'

@@ -7,12 +7,13 @@ use Rattle.fc_newmap.specs.Map.{Map, ZoneRun, all_runs, hole_runs, id_runs, runs
 use Rattle.fc_newmap.specs.Edits.{AreEdits, KeepsRuns}
 use Rattle.fc_copies.specs.Copies.{CommitEnds}
 use Rattle.fc_copies.specs.Committing.{KeepsContents}
+use Rattle.fc_model.specs.Tree.{last_name}
 use Rattle.fc_model.specs.Command.{Command}
 use Rattle.fc_dirs.specs.Entries.{entry_place}
 use Rattle.fc_dirs.specs.Directory.{Directory, entries_of}
 use Rattle.fc_image.specs.Walk.{Object, Listing}
 use Rattle.fc_image.specs.Opening.{Opened}
-use Rattle.fc_image.specs.EditedWalk.{AreListedBy}
+use Rattle.fc_image.specs.EditedWalk.{AreListedBy, moved_object}
 use Rattle.fc_image.specs.InPlace.{says_now}
 use Rattle.fc_image.specs.Commanded.{set_object, mark_object}
 use Rattle.fc_effects.specs.Placed.{holes_left}
@@ -20,7 +21,7 @@ use Rattle.fc_effects.specs.Steady.{holes_with, zone_holes}
 use Rattle.fc_plan.specs.Giving.{is_given, is_one_of, stays_given}
 use Rattle.fc_plan.specs.Taking.{as_runs, runs_taken}
 use Rattle.fc_changes.specs.Owed.{IsMapAfter, IsSpaceEdit}
-use Rattle.fc_changes.specs.Changed.{IsChanged, IsDeleteChange, IsDirectoryChange, IsFileChange, IsRewordChange, children_with}
+use Rattle.fc_changes.specs.Changed.{IsChanged, IsDeleteChange, IsDirectoryChange, IsFileChange, IsRenameChange, IsRewordChange, children_with}
 
 -- ---- maps
 
@@ -81,3 +82,11 @@ abbrev pub DirectoryMadeLaw : Type 0
 DirectoryMadeLaw = (kind : Kind) (r : DiscRecord) (image image' : List ℕ) (v : Opened) (m m' : Map) (path : Path) (rest : List Listing) (l : Listing) (content : Directory) (d : Listing)
     (id : ℕ) (parts : List ZoneRun) → IsDirectoryChange kind r image image' v m m' path rest l content d id parts
     → IsChanged kind image image' v m' (d ∷ says_now l content (insert l.children (entry_place d.object.entry.name (entries_of l.content)) d.object) ∷ rest) (Command.Cdir path)
+
+-- `rename` within a directory, of a file or of a directory with its contents
+abbrev pub RenamedLaw : Type 0
+RenamedLaw = (kind : Kind) (r : DiscRecord) (image image' : List ℕ) (v : Opened) (m : Map) (from to : Path) (rest : List Listing) (l : Listing) (content : Directory) (i : ℕ) (o : Object)
+    (now : Directory) → IsRenameChange kind r image image' v m from to rest l content i o now
+    → (rest' : List Listing) × AreListedBy (moved_object o.path (l.object.path ++ last_name to ∷ [])) rest rest'
+    × IsChanged kind image image' v m (says_now l content
+    (insert (remove l.children i) (entry_place (last_name to) (remove (entries_of l.content) i)) (moved_object o.path (l.object.path ++ last_name to ∷ []) o)) ∷ rest') (Command.Rename from to)
