@@ -67,6 +67,8 @@ use Rattle.fc_changes.proofs.AfterLemmas.{behind_stays, holder_stays, outside_st
 use Rattle.fc_image.specs.EditedWalk.{moved_object}
 use Rattle.fc_image.specs.Commanded.{moved_name, moved_path}
 use Rattle.fc_image.specs.Objects.{listing_at}
+use Rattle.fc_image.specs.Layout.{id_of}
+use Rattle.fc_newmap.specs.Map.{id_runs}
 use Rattle.fc_dirs.specs.Entries.{padded_name}
 use Rattle.std.specs.Prelude.{◌||◌, ◌-◌, suc}
 use Rattle.fc_image.specs.Edits.{IsApartFrom}
@@ -91,10 +93,10 @@ use Rattle.std.specs.Option.{option_map_or}
 use Rattle.std.proofs.lemmas.List.{length-take}
 use Rattle.std.proofs.lemmas.List.Elements.{Contains-append_left, Contains-append_right}
 use Rattle.std.proofs.lemmas.List.Sorted.{IsPermutation-insert}
-use Rattle.fc_effects.specs.Short.{moved_growth, new_length, object_units, is_copied}
-use Rattle.fc_effects.specs.Placed.{NewObjectPlaced}
+use Rattle.fc_effects.specs.Short.{Growth, is_copied, is_sharing, moved_growth, new_length, object_units}
+use Rattle.fc_effects.specs.Placed.{GrowthPlacedIn, NewObjectPlaced}
 use Rattle.fc_effects.specs.Sharing.{units}
-use Rattle.fc_effects.specs.Steady.{DirectorySteady, HasName, IsKept, IsWrittenAnew, NamedStays, RenamedHead, gets_parent, has_new_holder, is_renamed_by, path_after, replaced_entry, without_name}
+use Rattle.fc_effects.specs.Steady.{is_moved_by, DirectorySteady, HasName, IsKept, IsWrittenAnew, NamedStays, RenamedHead, gets_parent, has_new_holder, is_renamed_by, path_after, replaced_entry, without_name}
 use Rattle.fc_changes.proofs.BasicLemmas.{and_false, clash, in_flat, long_pushed, map_or_none, or_left, or_second, holder_pushed, unless}
 use Rattle.fc_changes.proofs.BeforeLemmas.{address_by, held_by, opened_as}
 use Rattle.fc_changes.proofs.ChangeLemmas.{opened}
@@ -501,3 +503,108 @@ module _ (kind : Kind) (r : DiscRecord) (image image' : List ℕ) (m : Map) (ls 
     where
       some_steady : (q : Option Listing) (k n : Listing) → q ≡ Some n → DirectorySteady image image' v view c k n → IsSomeAnd q (DirectorySteady image image' v view c k)
       some_steady q k n h d = subst (λ (x : Option Listing). IsSomeAnd x (DirectorySteady image image' v view c k)) (sym h) d
+
+  -- ---- owners and space
+
+  listed_now : (k : Listing) → Contains ls k → (n : Listing) × Contains answer.found n × (n.object.sectors ≡ k.object.sectors) × (n.object.entry.address ≡ k.object.entry.address)
+  listed_now k at = elim (cases_cons l rest k (Contains-permutation ls (l ∷ rest) k e.found at)) [
+    | inl is ↦ (l', l_there, ap (λ (x : Listing). x.object.sectors) is, ap (λ (x : Listing). x.object.entry.address) is)
+    | inr later ↦ ((place k later).now, place_there k later, ap (λ (p : Object). p.sectors) (place k later).object, ap (λ (p : Object). p.entry.address) (place k later).object)
+  ]
+
+  each_has : (p : Object) → Contains (objects_of ls) p → (q : Object) × Contains (objects_of answer.found) q × (q.sectors ≡ p.sectors) × (q.entry.address ≡ p.entry.address)
+  each_has p at = elim (object_from kind r image m ls new opens p at) [
+    | inl top ↦ (let n = listed_now top.0 top.1 in
+      (n.0.object, listed_in kind r image' m answer.found new answer.opens n.0 n.1, n.2 ∙ ap (λ (x : Object). x.sectors) top.2, n.3 ∙ ap (λ (x : Object). x.entry.address) top.2))
+    | inr kid ↦ (elim (cases_cons l rest kid.0 (Contains-permutation ls (l ∷ rest) kid.0 e.found kid.1)) [
+      | inl is ↦ here_has (subst (λ (k : Listing). Contains k.children p) (sym is) kid.2)
+      | inr later ↦ (g p, child_in kind r image' m answer.found new answer.opens (place kid.0 later).now (g p) (place_there kid.0 later)
+        (subst (λ (os : List Object). Contains os (g p)) (sym (place kid.0 later).children) (in_mapped g kid.0.children p kid.2)), refl, refl)
+    ])
+  ]
+    where
+      here_has : Contains l.children p → (q : Object) × Contains (objects_of answer.found) q × (q.sectors ≡ p.sectors) × (q.entry.address ≡ p.entry.address)
+      here_has kid = elim (cases_cons o (remove l.children i) p (Contains-permutation l.children (o ∷ remove l.children i) p (without_it l.children i o e.at) kid)) [
+        | inl is ↦ (g o, go_in, ap (λ (x : Object). x.sectors) is, ap (λ (x : Object). x.entry.address) is)
+        | inr other ↦ (p, now_child p (Contains-permutation (g o ∷ remove l.children i) l'.children p children_are (next_in (g o) p (remove l.children i) other)), refl, refl)
+      ]
+
+  gives : GivesBack m [] (objects_of ls) (objects_of answer.found)
+  gives = record { exactly = λ id used. by id (is_owned (objects_of ls) id) refl }
+    where
+      by : (id : ℕ) (b : Bool) → is_owned (objects_of ls) id ≡ b → false ≡ (b && not (is_owned (objects_of answer.found) id))
+      by id false h = refl
+      by id true h = sym (ap not (still_owns (objects_of ls) (objects_of answer.found) each_has id h))
+
+  -- a file that stays in its directory isn't copied
+  not_copied : is_copied v from to o ≡ false
+  not_copied =
+      let dirs = same_by_folds (holder from) (holder to) (folds_alike (holder from) l.object.path from_holds ∙ sym (folds_alike (holder to) l.object.path to_holds)) in
+      ap (λ (b : Bool). not (is_directory_object o) && not b && is_sharing (Layout.New m) (objects_of ls) o) dirs ∙ none (not (is_directory_object o))
+    where
+      none : (b : Bool) → (b && false && is_sharing (Layout.New m) (objects_of ls) o) ≡ false
+      none true = refl
+      none false = refl
+
+  no_length : new_length v c ≡ 0
+  no_length =
+      ap (λ (q : Option Object). option_map_or (λ (x : Object). cond (is_copied v from to x) x.entry.len 0) q 0) old_there ∙ ap (λ (b : Bool). cond b o.entry.len 0) not_copied
+
+  no_copy : copies_file v c ≡ false
+  no_copy = ap (λ (q : Option Object). option_map_or (is_copied v from to) q false) old_there ∙ not_copied
+
+  made : object_parts m m v c (made_object view c) ≡ []
+  made =
+      ap (λ (q : Option Object). object_parts m m v c q) now_there
+      ∙ ap (λ (k : ℕ). cond (nat_lt 0 (units m.geometry k)) (id_runs m (id_of (g o).entry.address)) []) no_length
+
+  space : NewMapSteady v view c m m
+  space =
+      space_steady v view c m m 0 [] [] (no_space_edit m) (parts kind r image m ls new opens).some (λ some. absurd (omega (arith, some))) gives e.no_growth
+      (no_owner_low m (objects_of ls) (λ p at. (lies p at).placed) 1 (omega arith)) (untaken_is v view c m m [] e.no_growth made) refl
+
+  entry_same : (form : NameForm) → EntrySteady form (is_moved_by c) (Some o) (g o)
+  entry_same form = record { last = inl refl; len = λ dir. by form }
+    where
+      by : (f : NameForm) → IsDirLength f o.entry.len (g o).entry.len
+      by Long = refl
+      by Ten = inl refl
+      by Seven = inl refl
+
+  renamed_at : (rest' : List Listing) × AreListedBy g rest rest' × IsChanged kind image image' v m (l' ∷ rest') c
+  renamed_at = (
+    moving.0,
+    moving.1,
+    record {
+      found = answer.found;
+      order = answer.order;
+      changes = record {
+        opens = record { opens = answer.opens; copies = copies_now };
+        tree = answer.tree;
+        placed = record {
+          object = subst (λ (k : ℕ). NewObjectPlaced m m k None (made_object view c)) (sym no_length) (λ some. absurd (omega (arith, some)));
+          empty = λ h. absurd (cc);
+          growth = subst (λ (q : Option Growth). GrowthPlacedIn v view c q) (sym e.no_growth) tt;
+        };
+        steady = record {
+          directories = directories;
+          named = subst (λ (b : Bool). NamedStays v view c b) (sym no_copy) (same_address (object_at ls from) (object_at answer.found to) o (g o) old_there now_there refl);
+          entry = subst (λ (q : Option Object). IfSome q (EntrySteady (dir_form (Layout.New m)) (is_moved_by c) (object_at ls from))) (sym now_there)
+              (subst (λ (q : Option Object). EntrySteady (dir_form (Layout.New m)) (is_moved_by c) q (g o)) (sym old_there) (entry_same (dir_form (Layout.New m))));
+          made = tt;
+          space = space;
+          outside = outside_steady kind r image m ls new opens m image' after answer.found answer.opens c (l.object.sectors ++ own) e.no_growth e.written busy free;
+          behind = behind_stays kind r image m ls new opens image' (l.object.sectors ++ own) e.written busy;
+        };
+      };
+    },
+  )
+
+pub renamed_law : RenamedLaw
+renamed_law kind r image image' v m from to rest l content i o now e =
+    subst (λ (u : Opened). IsRenameChange kind r image image' u m from to rest l content i o now
+      → (rest' : List Listing) × AreListedBy (moved_object o.path (l.object.path ++ last_name to ∷ [])) rest rest'
+      × IsChanged kind image image' u m (says_now l content
+      (insert (remove l.children i) (entry_place (last_name to) (remove (entries_of l.content) i)) (moved_object o.path (l.object.path ++ last_name to ∷ []) o)) ∷ rest') (Command.Rename from to))
+    (opened_as kind r image v m e.before.new_kind e.before.opens e.before.layout)
+    (renamed_at kind r image image' m v.listings from to rest l content i o now) e

@@ -1,7 +1,7 @@
 //! From what the calls of a command leave on a disc with a new map, to what the command promises.
 #![tactic(auto)]
 
-ghost use Rattle.fc_changes.specs.Laws.{CommittedLaw, DeletedLaw, DirectoryMadeLaw, FiledLaw, RewordedLaw, SpaceLaw};
+ghost use Rattle.fc_changes.specs.Laws.{CommittedLaw, DeletedLaw, DirectoryMadeLaw, FiledLaw, RenamedLaw, RewordedLaw, SpaceLaw};
 
 /// After `set` and `mark` the disc is as they promise.
 pub fn reworded()
@@ -31,4 +31,9 @@ pub fn committed()
 /// What giving and taking leave is what a change of space owes.
 pub fn spaces()
     ensures { SpaceLaw }
+{}
+
+/// After `rename` within a directory the disc is as it promises.
+pub fn renamed()
+    ensures { RenamedLaw }
 {}
