@@ -1,6 +1,6 @@
 -- Commands on discs with new maps whose directories are written to their old places: the new image opens, with the tree that the model
 -- gives.
-use Rattle.std.specs.Prelude.{◌≡◌, ◌<◌, ℕ, true, List, [], ◌∷◌, ◌++◌, replicate, IsPermutation}
+use Rattle.std.specs.Prelude.{◌≡◌, ◌<◌, ℕ, true, List, [], ◌∷◌, ◌++◌, replicate, slice_set, IsPermutation}
 use Rattle.fc_names.specs.Names.{Path, is_same_path}
 use Rattle.fc_record.specs.declared.DiscRecord.{DiscRecord}
 use Rattle.fc_record.specs.declared.Kind.{Kind}
@@ -15,7 +15,9 @@ use Rattle.fc_image.specs.Objects.{tree_of}
 use Rattle.fc_image.specs.Opening.{Opened}
 use Rattle.fc_image.specs.Stays.{OpensAs}
 use Rattle.fc_image.specs.Commanded.{AreAt, IsFileMade, IsDirectoryMade, set_object, mark_object}
+use Rattle.fc_image.specs.EditedWalk.{AreListedBy}
 use Rattle.fc_image.specs.MapEdits.{IsDirectoryEdit, IsMovingEdit}
+use Rattle.fc_image.specs.InPlace.{says_now}
 use Rattle.fc_image.specs.Rewords.{IsReword}
 
 -- The image opens with this map and these listings, in some order, and has this tree.
@@ -46,7 +48,9 @@ pub record AnsweredLaw : Type 0 where
   pub set : (kind : Kind) (r own : DiscRecord) (image image' : List ℕ) (v : Opened) (m m' : Map) (root : Object) (rest : List Listing) (l : Listing) (content : Directory) (i : ℕ) (o : Object)
       (path : Path) (load exec access : ℕ) → access < 8 → is_same_path path o.path ≡ true
       → IsReword kind r own image image' v m m' root rest l content i o (set_object o.path load exec access)
-      → (listings' : List Listing) × OpensWithTree kind image' m' listings' (changed (tree_of image v.layout v.listings) (Command.Set path load exec access))
+      → (rest' : List Listing) × AreListedBy (set_object o.path load exec access) rest rest'
+      × OpensWithTree kind image' m' (says_now l content (slice_set l.children i (set_object o.path load exec access o)) ∷ rest') (changed (tree_of image v.layout v.listings) (Command.Set path load exec access))
   pub mark : (kind : Kind) (r own : DiscRecord) (image image' : List ℕ) (v : Opened) (m m' : Map) (root : Object) (rest : List Listing) (l : Listing) (content : Directory) (i : ℕ) (o : Object)
       (path : Path) (attrs : ℕ) → is_same_path path o.path ≡ true → IsReword kind r own image image' v m m' root rest l content i o (mark_object o.path attrs)
-      → (listings' : List Listing) × OpensWithTree kind image' m' listings' (changed (tree_of image v.layout v.listings) (Command.Mark path attrs))
+      → (rest' : List Listing) × AreListedBy (mark_object o.path attrs) rest rest'
+      × OpensWithTree kind image' m' (says_now l content (slice_set l.children i (mark_object o.path attrs o)) ∷ rest') (changed (tree_of image v.layout v.listings) (Command.Mark path attrs))

@@ -15,7 +15,9 @@ use Rattle.fc_image.specs.Stays.{HasSectorsOf}
 use Rattle.fc_image.specs.Order.{held}
 use Rattle.fc_image.specs.TreeEdits.{IsObjectEdit}
 use Rattle.fc_image.specs.Commanded.{set_object, mark_object}
+use Rattle.fc_image.specs.EditedWalk.{AreListedBy}
 use Rattle.fc_image.specs.MapEdits.{KeepsPlace, IsMapEdit, OpensEdited}
+use Rattle.fc_image.specs.InPlace.{says_now}
 
 -- Only the object at the path may change, and only in its entry. It keeps name, address and length, and stays a file or a directory.
 pub record IsRewording (path : Path) (g : Object → Object) : Type 0 where
@@ -42,10 +44,12 @@ pub record IsReword (kind : Kind) (r own : DiscRecord) (image image' : List ℕ)
   pub files : (p : Object) → Contains (held v.listings) p → is_directory_object p ≡ false → HasSectorsOf m.geometry.sector p.sectors image image'
   pub fixed : (k : ℕ) → is_movable (objects_of v.listings) k ≡ false → is_used m k ≡ true → id_runs m' k ≡ id_runs m k
 
+-- The new image opens with the listing of l and with the others, of which each directory and each object is changed by g. What they
+-- say is what their bytes tell.
 pub record RewordLaw : Type 0 where
   pub set : (path : Path) (load exec access : ℕ) → access < 8 → IsRewording path (set_object path load exec access)
   pub mark : (path : Path) (attrs : ℕ) → IsRewording path (mark_object path attrs)
   pub opens : (kind : Kind) (r own : DiscRecord) (image image' : List ℕ) (v : Opened) (m m' : Map) (root : Object) (rest : List Listing) (l : Listing) (content : Directory)
       (i : ℕ) (o : Object) (g : Object → Object) → IsRewording o.path g → IsReword kind r own image image' v m m' root rest l content i o g
-      → (listings' : List Listing) × (w : OpensEdited kind image' (Layout.New m') listings')
+      → (rest' : List Listing) × AreListedBy g rest rest' × (w : OpensEdited kind image' (Layout.New m') (says_now l content (slice_set l.children i (g o)) ∷ rest'))
       × IsObjectEdit image image' v.layout (Layout.New m') v.listings w.found (o ∷ []) (g o ∷ [])

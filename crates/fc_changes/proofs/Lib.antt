@@ -1,0 +1,17 @@
+pub mod BasicLemmas
+pub mod BeforeLemmas
+pub mod DirectoriesLemmas
+pub mod OutsideLemmas
+pub mod SpaceLemmas
+pub mod ReadsLemmas
+pub mod AfterLemmas
+pub mod RewordedLemmas
+pub mod ChangeLemmas
+pub mod DeletedLemmas
+pub mod PlacedLemmas
+pub mod NewPlaceLemmas
+pub mod MadeLemmas
+pub mod FiledLemmas
+pub mod CdirLemmas
+pub mod CommittedLemmas
+pub mod RenamedLemmas
