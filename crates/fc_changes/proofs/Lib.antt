@@ -15,3 +15,4 @@ pub mod FiledLemmas
 pub mod CdirLemmas
 pub mod CommittedLemmas
 pub mod RenamedLemmas
+pub mod MovedLemmas

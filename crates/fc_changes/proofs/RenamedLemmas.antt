@@ -106,18 +106,18 @@ use Rattle.fc_changes.proofs.OutsideLemmas.{both_busy}
 use Rattle.fc_changes.proofs.ReadsLemmas.{same_name_turned}
 use Rattle.fc_changes.proofs.RewordedLemmas.{Mapped, entry_stays, mapped, no_space_edit, ok_same, same_address}
 
-each_apart : (taken : List ℕ) (objects : List Object) (o p : Object) → IsApartFrom taken objects o → Contains objects p → is_apart o.sectors p.sectors ≡ true
+pub each_apart : (taken : List ℕ) (objects : List Object) (o p : Object) → IsApartFrom taken objects o → Contains objects p → is_apart o.sectors p.sectors ≡ true
 each_apart taken [] o p a at = absurd (nothing_in p at)
 each_apart taken (q ∷ objects) o p a at = elim (cases_cons q objects p at) [
   | inl is ↦ subst (λ (x : Object). is_apart o.sectors x.sectors ≡ true) is a.0
   | inr later ↦ each_apart taken objects o p a.1 later
 ]
 
-folds_append : (xs ys : Path) → folded_path (xs ++ ys) ≡ folded_path xs ++ folded_path ys
+pub folds_append : (xs ys : Path) → folded_path (xs ++ ys) ≡ folded_path xs ++ folded_path ys
 folds_append [] ys = refl
 folds_append (x ∷ xs) ys = ap (λ (zs : Path). folded x ∷ zs) (folds_append xs ys)
 
-same_turned : (p q : Path) → is_same_path p q ≡ true → is_same_path q p ≡ true
+pub same_turned : (p q : Path) → is_same_path p q ≡ true → is_same_path q p ≡ true
 same_turned p q h = same_by_folds q p (sym (folds_alike p q h))
 
 module _ (kind : Kind) (r : DiscRecord) (image image' : List ℕ) (m : Map) (ls : List Listing) (from to : Path) (rest : List Listing) (l : Listing) (content : Directory) (i : ℕ) (o : Object)

@@ -21,7 +21,7 @@ use Rattle.fc_effects.specs.Steady.{holes_with, zone_holes}
 use Rattle.fc_plan.specs.Giving.{is_given, is_one_of, stays_given}
 use Rattle.fc_plan.specs.Taking.{as_runs, runs_taken}
 use Rattle.fc_changes.specs.Owed.{IsMapAfter, IsSpaceEdit}
-use Rattle.fc_changes.specs.Changed.{IsChanged, IsDeleteChange, IsDirectoryChange, IsFileChange, IsRenameChange, IsRewordChange, children_with}
+use Rattle.fc_changes.specs.Changed.{IsChanged, IsDeleteChange, IsDirectoryChange, IsFileChange, IsMoveChange, IsRenameChange, IsRewordChange, children_with}
 
 -- ---- maps
 
@@ -90,3 +90,11 @@ RenamedLaw = (kind : Kind) (r : DiscRecord) (image image' : List ℕ) (v : Opene
     → (rest' : List Listing) × AreListedBy (moved_object o.path (l.object.path ++ last_name to ∷ [])) rest rest'
     × IsChanged kind image image' v m (says_now l content
     (insert (remove l.children i) (entry_place (last_name to) (remove (entries_of l.content) i)) (moved_object o.path (l.object.path ++ last_name to ∷ []) o)) ∷ rest') (Command.Rename from to)
+
+-- `rename` to another directory, of a file that isn't copied or of a directory with its contents
+abbrev pub MovedLaw : Type 0
+MovedLaw = (kind : Kind) (r : DiscRecord) (image image' : List ℕ) (v : Opened) (m : Map) (from to : Path) (rest : List Listing) (k l : Listing) (k_content l_content : Directory) (i : ℕ) (o : Object)
+    (now : Directory) → IsMoveChange kind r image image' v m from to rest k l k_content l_content i o now
+    → (rest' : List Listing) × AreListedBy (moved_object o.path (l.object.path ++ last_name to ∷ [])) rest rest'
+    × IsChanged kind image image' v m (says_now k k_content (remove k.children i)
+    ∷ says_now l l_content (insert l.children (entry_place (last_name to) (entries_of l.content)) (moved_object o.path (l.object.path ++ last_name to ∷ []) o)) ∷ rest') (Command.Rename from to)
