@@ -1,6 +1,7 @@
 //! From what the calls of a command leave on a disc with a new map, to what the command promises.
 #![tactic(auto)]
 
+ghost use Rattle.fc_changes.specs.Rows.{OwedRows};
 ghost use Rattle.fc_changes.specs.Laws.{CommittedLaw, DeletedLaw, DirectoryMadeLaw, FiledLaw, MovedLaw, RenamedLaw, RewordedLaw, SpaceLaw};
 
 /// After `set` and `mark` the disc is as they promise.
@@ -41,4 +42,9 @@ pub fn renamed()
 /// After `rename` to another directory the disc is as it promises.
 pub fn moved()
     ensures { MovedLaw }
+{}
+
+/// What changes owe, on a small map, worked out.
+pub fn rows()
+    ensures { OwedRows }
 {}
