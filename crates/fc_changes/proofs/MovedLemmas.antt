@@ -1,27 +1,22 @@
 -- Rename to another directory.
-use Rattle.std.proofs.Common.{◌≡◌, ◌<◌, ◌≤◌, ◌⊎◌, inl, inr, zero, ℕ, ◌+◌, ◌*◌, ◌/◌, ◌%◌, Bool, true, false, cond, List, [], ◌∷◌, ◌++◌, length, map, refl, sym, ap, ap₂, subst, ◌∙◌, arith, Some, None, Option}
-use Rattle.std.specs.Prelude.{Result, Ok, Contains, IsPermutation, IfSome, IsSomeAnd, remove, slice_get, slice_set, not, filter, drop, ◌&&◌}
-use Rattle.std.proofs.lemmas.List.{append-nil}
+use Rattle.std.proofs.Common.{◌≡◌, ◌≤◌, ◌⊎◌, inl, inr, zero, ℕ, Bool, true, false, cond, List, [], ◌∷◌, ◌++◌, length, map, refl, sym, ap, ap₂, subst, ◌∙◌, arith, Some, None, Option}
+use Rattle.std.specs.Prelude.{Ok, Contains, IsPermutation, IfSome, IsSomeAnd, remove, not, filter, drop, ◌&&◌}
 use Rattle.std.proofs.lemmas.List.Sorted.{Contains-permutation, IsPermutation-sym, IsPermutation-trans}
 use Rattle.fc_names.specs.declared.name.NameForm.{NameForm}
 use Rattle.fc_names.specs.declared.name.NameForm.TheVariants.{Seven, Ten, Long}
 use Rattle.fc_names.specs.Names.{Path, is_same_path}
 use Rattle.fc_record.specs.declared.DiscRecord.{DiscRecord}
 use Rattle.fc_record.specs.declared.Kind.{Kind}
-use Rattle.fc_record.specs.Kinds.{disc_size}
-use Rattle.fc_zone.specs.declared.RunKind.{RunKind}
-use Rattle.fc_zone.specs.declared.RunKind.TheVariants as kinds
-use Rattle.fc_newmap.specs.Map.{Map, ZoneRun, all_runs, hole_runs, map_sectors}
+use Rattle.fc_newmap.specs.Map.{Map}
 use Rattle.fc_newmap.proofs.ComposeLemmas.{edits_none}
 use Rattle.fc_copies.specs.declared.Which.TheVariants.{One, Two}
 use Rattle.fc_copies.specs.Copies.{HoldsCopies}
-use Rattle.fc_model.specs.Tree.{Tree, holder}
+use Rattle.fc_model.specs.Tree.{holder}
 use Rattle.fc_model.specs.Command.{Command}
 use Rattle.fc_model.specs.Answer.{changed}
 use Rattle.fc_dirs.specs.declared.Entry.{Entry}
-use Rattle.fc_dirs.specs.declared.DirFault.{DirFault}
-use Rattle.fc_dirs.specs.Directory.{Directory, directory_of, directory_size, entries_of}
-use Rattle.fc_image.specs.Layout.{Layout, is_among, bytes_in, dir_form, is_apart, sector_bytes}
+use Rattle.fc_dirs.specs.Directory.{Directory, directory_of, entries_of}
+use Rattle.fc_image.specs.Layout.{Layout, is_among, dir_form, is_apart}
 use Rattle.fc_image.specs.Report.{holder_address}
 use Rattle.fc_image.specs.Walk.{Listing, Object, is_directory_object, object_bytes, reader_of}
 use Rattle.fc_image.specs.Objects.{is_owned, object_at, objects_of, tree_of}
@@ -30,12 +25,9 @@ use Rattle.fc_image.specs.Stays.{HasSectorsOf, IsNewKind, OpensAs}
 use Rattle.fc_image.specs.Edits.{IsListing}
 use Rattle.fc_image.specs.Order.{held}
 use Rattle.fc_image.specs.Sound.{AreSound}
-use Rattle.fc_image.specs.Commanded.{mark_object, set_object}
 use Rattle.fc_image.specs.EditedWalk.{AreListedBy}
 use Rattle.fc_image.specs.MapEdits.{IsMapEdit}
 use Rattle.fc_image.specs.InPlace.{says_now}
-use Rattle.fc_image.specs.Rewords.{IsReword, IsRewording}
-use Rattle.fc_image.specs.Written.{WritesOnly}
 use Rattle.fc_image.specs.Answered.{OpensWithTree}
 use Rattle.fc_image.proofs.AnsweredLemmas.{answered_law}
 use Rattle.fc_image.proofs.EntriesLemmas.{in_mapped}
@@ -45,26 +37,20 @@ use Rattle.fc_image.proofs.LookupLemmas.{lookup_law}
 use Rattle.fc_image.proofs.MapEditLemmas.{file_stays}
 use Rattle.fc_image.proofs.PathsLemmas.{itself}
 use Rattle.fc_image.proofs.RenameLemmas.{child_path}
-use Rattle.fc_image.proofs.RewordLemmas.{reword_law}
 use Rattle.fc_image.proofs.WrittenLemmas.{written_law}
-use Rattle.fc_plan.proofs.Left.{left_of_none}
-use Rattle.fc_effects.specs.Effect.{Changes, copies_file}
-use Rattle.fc_effects.specs.Short.{growth_in}
-use Rattle.fc_effects.specs.Placed.{Placed, holes_left, made_object, object_parts}
-use Rattle.fc_effects.specs.Steady.{AreWritten, DirectoriesSteady, EntrySteady, HasSameAddress, IsDirLength, IsRewritten, MapOutside, NewMapSteady, edited, expected_zone, has_id_that, holds_named, holes_untaken, holes_with, idle_sectors, is_given_back, is_gone, named_entry, runs_that, with_made, zone_holes}
-use Rattle.fc_plan.specs.Giving.{is_one_of}
+use Rattle.fc_effects.specs.Effect.{copies_file}
+use Rattle.fc_effects.specs.Placed.{made_object, object_parts}
+use Rattle.fc_effects.specs.Steady.{AreWritten, DirectoriesSteady, EntrySteady, IsDirLength, IsRewritten, NewMapSteady, edited, holds_named, named_entry, with_made}
 use Rattle.fc_image.proofs.ShuffleLemmas.{flipped}
-use Rattle.fc_changes.specs.Owed.{IsDirectoryWritten, GivesBack, IsMapAfter, IsSpaceEdit, IsWritten}
+use Rattle.fc_changes.specs.Owed.{IsDirectoryWritten, GivesBack, IsMapAfter}
 use Rattle.fc_changes.specs.Changed.{IsChanged, IsMoveChange}
 use Rattle.fc_changes.specs.Laws.{MovedLaw}
-use Rattle.fc_changes.proofs.BasicLemmas.{cases_cons, first_in, next_in, nothing_in, with_other, without_it}
-use Rattle.fc_changes.proofs.BeforeLemmas.{Had, boot_stays, opened_as, child_in, had, listed_in, map_edit, object_from, object_lies, other_path, parts, says_old, sound}
-use Rattle.fc_changes.proofs.DirectoriesLemmas.{IsPlain, Lasts, Stays, all_steady, plain_mark, plain_set, written_steady}
+use Rattle.fc_changes.proofs.BasicLemmas.{cases_cons, first_in, next_in, without_it}
+use Rattle.fc_changes.proofs.BeforeLemmas.{boot_stays, opened_as, child_in, had, listed_in, map_edit, object_from, object_lies, other_path, parts, says_old, sound}
 use Rattle.fc_changes.proofs.OutsideLemmas.{AreBusy, no_sectors, no_owner_low, object_busy}
 use Rattle.fc_changes.proofs.SpaceLemmas.{space_steady, untaken_is}
-use Rattle.fc_changes.proofs.ReadsLemmas.{changed_entry, entry_at, lies_in, other_dir, reads_back}
-use Rattle.fc_changes.proofs.AfterLemmas.{behind_stays, holder_stays, outside_steady, still_owns, tells_now}
-
+use Rattle.fc_changes.proofs.ReadsLemmas.{entry_at, lies_in, other_dir, reads_back}
+use Rattle.fc_changes.proofs.AfterLemmas.{behind_stays, outside_steady, still_owns, tells_now}
 use Rattle.fc_image.specs.EditedWalk.{moved_object}
 use Rattle.fc_image.specs.Commanded.{moved_name, moved_path}
 use Rattle.fc_image.specs.Objects.{listing_at}
@@ -87,29 +73,28 @@ use Rattle.fc_image.proofs.WrittenLemmas.{cut}
 use Rattle.fc_names.specs.Names.{folded_path, folded}
 use Rattle.fc_newmap.proofs.PlaceLemmas.{in_either}
 use Rattle.fc_model.specs.Tree.{is_prefix, last_name}
-use Rattle.fc_dirs.specs.Entries.{entry_place, has_name, with_entry, without_entry}
+use Rattle.fc_dirs.specs.Entries.{entry_place, with_entry}
 use Rattle.fc_dirs.proofs.EditLemmas.{edit_law}
 use Rattle.std.specs.Prelude.{Err, insert, take, drop, nat_lt}
 use Rattle.std.specs.Option.{option_map_or}
 use Rattle.std.proofs.lemmas.List.{length-take}
 use Rattle.std.proofs.lemmas.List.Elements.{Contains-append_left, Contains-append_right}
 use Rattle.std.proofs.lemmas.List.Sorted.{IsPermutation-insert}
-use Rattle.fc_effects.specs.Short.{Growth, is_copied, is_sharing, moved_growth, new_length, object_units}
+use Rattle.fc_effects.specs.Short.{Growth, is_copied, new_length}
 use Rattle.fc_effects.specs.Placed.{GrowthPlacedIn, NewObjectPlaced}
 use Rattle.fc_effects.specs.Sharing.{units}
-use Rattle.fc_effects.specs.Steady.{is_moved_by, DirectorySteady, HasName, IsKept, IsWrittenAnew, NamedStays, RenamedHead, gets_parent, has_new_holder, is_renamed_by, path_after, replaced_entry, without_name}
-use Rattle.fc_changes.proofs.BasicLemmas.{and_false, clash, in_flat, long_pushed, map_or_none, or_left, or_second, holder_pushed, unless}
+use Rattle.fc_effects.specs.Steady.{is_moved_by, DirectorySteady, HasName, IsKept, IsWrittenAnew, NamedStays, RenamedHead, gets_parent, is_renamed_by, path_after, replaced_entry, without_name}
+use Rattle.fc_changes.proofs.BasicLemmas.{clash, long_pushed, or_left, or_second, holder_pushed, unless}
 use Rattle.fc_changes.proofs.BeforeLemmas.{address_by, held_by, opened_as}
 use Rattle.fc_changes.proofs.ChangeLemmas.{opened}
-use Rattle.fc_changes.proofs.DirectoriesLemmas.{entries_now, moved_none, no_new_holder}
+use Rattle.fc_changes.proofs.DirectoriesLemmas.{entries_now, no_new_holder}
 use Rattle.fc_changes.proofs.MadeLemmas.{turned}
 use Rattle.fc_changes.proofs.OutsideLemmas.{both_busy}
 use Rattle.fc_changes.proofs.ReadsLemmas.{same_name_turned}
-use Rattle.fc_changes.proofs.RewordedLemmas.{Mapped, entry_stays, mapped, no_space_edit, ok_same, same_address}
-
+use Rattle.fc_changes.proofs.RewordedLemmas.{Mapped, mapped, no_space_edit, ok_same, same_address}
 use Rattle.fc_image.proofs.CommandLemmas.{is_prefix_of, prefix_is}
 use Rattle.std.proofs.lemmas.List.{take-take}
-use Rattle.fc_changes.proofs.RenamedLemmas.{each_apart, folds_append, same_turned}
+use Rattle.fc_changes.proofs.RenamedLemmas.{each_apart, folds_append}
 
 -- both parts are apart
 both_apart : (xs ys zs : List ℕ) → is_apart xs ys ≡ true → is_apart xs zs ≡ true → is_apart xs (ys ++ zs) ≡ true
@@ -227,8 +212,8 @@ module _ (kind : Kind) (r : DiscRecord) (image image' : List ℕ) (m : Map) (ls 
           elim (cases_cons d.0 parted.0 k (Contains-permutation ls (d.0 ∷ parted.0) k parted.1 at)) [
             | inl is ↦ absurd (clash (is_same_path o.path k.object.path) (ap (λ (p : Path). is_same_path o.path p) (ap (λ (x : Listing). x.object.path) (sym is) ∙ ap (λ (x : Object). x.path) d.2) ∙ itself o.path) other)
             | inr later ↦ subst (λ (x : Object). is_apart k.object.sectors x.sectors ≡ true) d.2
-              (turned d.0.object.sectors k.object.sectors (each_apart (reserved_in kind (Layout.New m)) (listed parted.0 ++ filter is_file (held ls)) d.0.object k.object (cut kind r image image' v m parted.0 d.0 new opens refl parted.1)
-              (Contains-append_left (listed parted.0) (filter is_file (held ls)) k.object (in_mapped (λ (x : Listing). x.object) parted.0 k later))))
+                (turned d.0.object.sectors k.object.sectors (each_apart (reserved_in kind (Layout.New m)) (listed parted.0 ++ filter is_file (held ls)) d.0.object k.object (cut kind r image image' v m parted.0 d.0 new opens refl parted.1)
+                (Contains-append_left (listed parted.0) (filter is_file (held ls)) k.object (in_mapped (λ (x : Listing). x.object) parted.0 k later))))
           ]
 
   own_files : (p : Object) → Contains (held ls) p → is_directory_object p ≡ false → is_apart p.sectors own ≡ true
@@ -456,12 +441,12 @@ module _ (kind : Kind) (r : DiscRecord) (image image' : List ℕ) (m : Map) (ls 
       let before = address_by (Layout.New m) ls k.object.path h.dir old_sound h.there here in
       elim (cases_cons src (l ∷ rest) h.dir (Contains-permutation ls all h.dir e.found h.there)) [
         | inl is ↦ (address_by (Layout.New m) answer.found k.object.path src' sound_now src_there (ap (λ (x : Listing). is_same_path (holder k.object.path) x.object.path) is ∙ here)
-          ∙ ap (λ (x : Listing). x.object.entry.address) is ∙ sym before)
+            ∙ ap (λ (x : Listing). x.object.entry.address) is ∙ sym before)
         | inr later ↦ (elim (cases_cons l rest h.dir later) [
           | inl is ↦ (holder_now k.object.path (ap (λ (x : Listing). is_same_path (holder k.object.path) x.object.path) is ∙ here) ∙ ap (λ (x : Listing). x.object.entry.address) is ∙ sym before)
           | inr further ↦ (address_by (Layout.New m) answer.found k.object.path (place h.dir further).now sound_now (place_there h.dir further)
-            (ap (λ (p : Path). is_same_path (holder k.object.path) p) (path_now h.dir further ∙ still_there h.dir.object.path (ap (λ (p : Path). is_prefix (folded_path o.path) (folded_path p)) (sym h.same) ∙ stays)) ∙ here)
-            ∙ ap (λ (x : Object). x.entry.address) (place h.dir further).object ∙ sym before)
+              (ap (λ (p : Path). is_same_path (holder k.object.path) p) (path_now h.dir further ∙ still_there h.dir.object.path (ap (λ (p : Path). is_prefix (folded_path o.path) (folded_path p)) (sym h.same) ∙ stays)) ∙ here)
+              ∙ ap (λ (x : Object). x.entry.address) (place h.dir further).object ∙ sym before)
         ])
       ]
 
@@ -588,10 +573,10 @@ module _ (kind : Kind) (r : DiscRecord) (image image' : List ℕ) (m : Map) (ls 
   directories : DirectoriesSteady image image' v view c
   directories k at stands = elim (cases_cons src (l ∷ rest) k (Contains-permutation ls all k e.found at)) [
     | inl is ↦ subst (λ (x : Listing). IsSomeAnd (listing_at answer.found (path_after c x.object.path)) (DirectorySteady image image' v view c x)) is
-      (some_steady src src' src_there (sym (still_there src.object.path (not_above src.object.path (omega arith)))) src_steady)
+        (some_steady src src' src_there (sym (still_there src.object.path (not_above src.object.path (omega arith)))) src_steady)
     | inr later ↦ (elim (cases_cons l rest k later) [
       | inl is ↦ subst (λ (x : Listing). IsSomeAnd (listing_at answer.found (path_after c x.object.path)) (DirectorySteady image image' v view c x)) is
-        (some_steady l l' l_there (sym (still_there l.object.path e.not_into)) l_steady)
+          (some_steady l l' l_there (sym (still_there l.object.path e.not_into)) l_steady)
       | inr further ↦ some_steady k (place k further).now (place_there k further) (path_now k further) (rest_steady k further)
     ])
   ]
@@ -610,13 +595,18 @@ module _ (kind : Kind) (r : DiscRecord) (image image' : List ℕ) (m : Map) (ls 
   each_has : (p : Object) → Contains (objects_of ls) p → (q : Object) × Contains (objects_of answer.found) q × (q.sectors ≡ p.sectors) × (q.entry.address ≡ p.entry.address)
   each_has p at = elim (object_from kind r image m ls new opens p at) [
     | inl top ↦ (let n = listed_now top.0 top.1 in
-      (n.0.object, listed_in kind r image' m answer.found new answer.opens n.0 n.1, n.2 ∙ ap (λ (x : Object). x.sectors) top.2, n.3 ∙ ap (λ (x : Object). x.entry.address) top.2))
+        (n.0.object, listed_in kind r image' m answer.found new answer.opens n.0 n.1, n.2 ∙ ap (λ (x : Object). x.sectors) top.2, n.3 ∙ ap (λ (x : Object). x.entry.address) top.2))
     | inr kid ↦ (elim (cases_cons src (l ∷ rest) kid.0 (Contains-permutation ls all kid.0 e.found kid.1)) [
       | inl is ↦ src_has (subst (λ (k : Listing). Contains k.children p) (sym is) kid.2)
       | inr later ↦ (elim (cases_cons l rest kid.0 later) [
         | inl is ↦ (p, now_child p (Contains-permutation (g o ∷ l.children) l'.children p children_are (next_in (g o) p l.children (subst (λ (k : Listing). Contains k.children p) (sym is) kid.2))), refl, refl)
-        | inr further ↦ (g p, child_in kind r image' m answer.found new answer.opens (place kid.0 further).now (g p) (place_there kid.0 further)
-          (subst (λ (os : List Object). Contains os (g p)) (sym (place kid.0 further).children) (in_mapped g kid.0.children p kid.2)), refl, refl)
+        | inr further ↦ (
+          g p,
+          child_in kind r image' m answer.found new answer.opens (place kid.0 further).now (g p) (place_there kid.0 further)
+              (subst (λ (os : List Object). Contains os (g p)) (sym (place kid.0 further).children) (in_mapped g kid.0.children p kid.2)),
+          refl,
+          refl,
+        )
       ])
     ])
   ]
@@ -691,8 +681,8 @@ module _ (kind : Kind) (r : DiscRecord) (image image' : List ℕ) (m : Map) (ls 
 pub moved_law : MovedLaw
 moved_law kind r image image' v m from to rest k l k_content l_content i o now e =
     subst (λ (u : Opened). IsMoveChange kind r image image' u m from to rest k l k_content l_content i o now
-      → (rest' : List Listing) × AreListedBy (moved_object o.path (l.object.path ++ last_name to ∷ [])) rest rest'
-      × IsChanged kind image image' u m (says_now k k_content (remove k.children i)
-      ∷ says_now l l_content (insert l.children (entry_place (last_name to) (entries_of l.content)) (moved_object o.path (l.object.path ++ last_name to ∷ []) o)) ∷ rest') (Command.Rename from to))
+    → (rest' : List Listing) × AreListedBy (moved_object o.path (l.object.path ++ last_name to ∷ [])) rest rest'
+    × IsChanged kind image image' u m (says_now k k_content (remove k.children i)
+    ∷ says_now l l_content (insert l.children (entry_place (last_name to) (entries_of l.content)) (moved_object o.path (l.object.path ++ last_name to ∷ []) o)) ∷ rest') (Command.Rename from to))
     (opened_as kind r image v m e.before.new_kind e.before.opens e.before.layout)
     (moved_at kind r image image' m v.listings from to rest k l k_content l_content i o now) e

@@ -1,5 +1,5 @@
 -- What each command's calls leave, one directory written to its old place, and that the command then does what it promises.
-use Rattle.std.specs.Prelude.{◌≡◌, ◌<◌, ◌⊎◌, ℕ, ◌+◌, ◌*◌, true, false, List, [], ◌∷◌, ◌++◌, length, replicate, slice_get, slice_set, insert, remove, if◌then◌else◌, Option, Some, None, Contains, IsPermutation}
+use Rattle.std.specs.Prelude.{◌≡◌, ◌<◌, ◌⊎◌, ℕ, ◌+◌, ◌*◌, true, false, List, [], ◌∷◌, ◌++◌, length, replicate, slice_get, slice_set, insert, if◌then◌else◌, Option, Some, None, Contains, IsPermutation}
 use Rattle.std.specs.Option.{option_to_list}
 use Rattle.fc_names.specs.Names.{Path, folded_path, is_same_path}
 use Rattle.fc_record.specs.declared.DiscRecord.{DiscRecord}
@@ -18,9 +18,6 @@ use Rattle.fc_image.specs.Objects.{objects_of, object_at, tree_of}
 use Rattle.fc_image.specs.Opening.{Opened}
 use Rattle.fc_image.specs.Stays.{HasSectorsOf}
 use Rattle.fc_image.specs.Edits.{IsAt}
-use Rattle.fc_image.specs.EditedWalk.{AreListedBy}
-use Rattle.fc_image.specs.InPlace.{says_now}
-use Rattle.fc_image.specs.Commanded.{set_object, mark_object}
 use Rattle.fc_effects.specs.Effect.{Changes}
 use Rattle.fc_effects.specs.Sharing.{new_ids, slack, units}
 use Rattle.fc_effects.specs.Short.{growth_in, is_copied, new_dir_size}

@@ -1,9 +1,8 @@
 -- Premises on a small map, right and spoilt.
-use Rattle.std.specs.Prelude.{◌≡◌, ℕ, List, [], ◌∷◌}
+use Rattle.std.specs.Prelude.{[], ◌∷◌}
 use Rattle.fc_image.specs.Rows.{fresh_sector}
-use Rattle.fc_image.specs.Walk.{Object, Listing}
+use Rattle.fc_image.specs.Walk.{Object}
 use Rattle.fc_newmap.specs.Map.{Map}
-use Rattle.fc_dirs.specs.declared.Entry.{Entry}
 use Rattle.fc_effects.specs.WrittenRows.{map_with, used}
 use Rattle.fc_changes.specs.Owed.{GivesBack, IsSpaceEdit}
 
