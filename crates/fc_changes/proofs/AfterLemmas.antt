@@ -55,7 +55,7 @@ module _ (kind : Kind) (r : DiscRecord) (image : List ℕ) (m : Map) (ls : List 
   abbrev before_it : Opened
   before_it = record { kind = kind; layout = Layout.New m; listings = ls }
 
-  -- what lies behind the disc in the image
+  -- what comes after the disc in the image
   pub behind_stays : (image' sectors : List ℕ) → IsWritten m sectors image image' → AreBusy m (objects_of ls) sectors → drop (disc_size kind) image' ≡ drop (disc_size kind) image
   behind_stays image' sectors written busy =
       let o = parts kind r image m ls new opens in
@@ -124,7 +124,7 @@ module _ (kind : Kind) (r : DiscRecord) (image : List ℕ) (m : Map) (ls : List 
 
 -- ---- owners
 
--- where each object has one of its place afterwards, no identifier loses its owners
+-- if each object has one of its place afterwards, no identifier loses its owners
 pub still_owns : (before after : List Object) → ((p : Object) → Contains before p → (q : Object) × Contains after q × (q.sectors ≡ p.sectors) × (q.entry.address ≡ p.entry.address))
     → (id : ℕ) → is_owned before id ≡ true → is_owned after id ≡ true
 still_owns before after each id own = by (id == 2) own

@@ -61,7 +61,7 @@ same_part (suc a) n [] (y ∷ ys) long same = absurd (omega (arith, long))
 same_part (suc a) n (x ∷ xs) [] long same = absurd (omega (arith, long))
 same_part (suc a) n (x ∷ xs) (y ∷ ys) long same = same_part a n xs ys (omega (arith, long)) (λ k h g. same (suc k) (omega (arith, h)) (omega (arith, g)))
 
--- what agrees from one place on agrees in each part behind it
+-- what agrees from one place on agrees in each part after it
 part_behind : (a from n : ℕ) (xs ys : List ℕ) → a ≤ from → drop a ys ≡ drop a xs → take n (drop from ys) ≡ take n (drop from xs)
 part_behind a from n xs ys low same =
     let at : a + (from - a) ≡ from = omega (arith, low) in

@@ -87,7 +87,7 @@ plain_cdir path = record {
   elsewhere = λ p made es h. ap (λ (b : Bool). cond b (with_made made es) es) h;
 }
 
--- ---- where nothing grows
+-- ---- if nothing grows
 
 module _ (v w : Opened) (c : Command) (none : growth_in v c ≡ None) where
   pub moved_none : moved_growth v c ≡ None

@@ -16,3 +16,4 @@ pub mod CdirLemmas
 pub mod CommittedLemmas
 pub mod RenamedLemmas
 pub mod MovedLemmas
+pub mod StepsLemmas

@@ -122,7 +122,7 @@ module _ (m : Map) (objects : List Object) (some : 1 ≤ m.geometry.zones) where
       clash (is_idle objects b.0.1.kind) (subst (λ (p : ZoneRun). is_idle objects p.1.kind ≡ true) same in_map.1) b.3))
       (not_true (is_among (map_sectors m.geometry) s) h))
 
--- ---- behind the disc
+-- ---- after the disc
 
 -- from a sector on, all sectors are the same, and so are the bytes
 pub same_behind : (size : ℕ) (image image' : List ℕ) → 0 < size → length image' ≡ length image → (fuel n : ℕ) → length image ≤ n * size + fuel

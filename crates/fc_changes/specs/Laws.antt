@@ -1,5 +1,6 @@
 -- The laws from what calls leave to what commands promise, on discs with new maps.
-use Rattle.std.specs.Prelude.{◌≡◌, ◌<◌, ◌++◌, ℕ, true, false, filter, length, IsPermutation, List, [], ◌∷◌, insert, remove, slice_set, Option}
+use Rattle.std.specs.Prelude.{◌≡◌, ◌<◌, ◌++◌, ℕ, true, false, filter, length, IsPermutation, List, [], ◌∷◌, insert, remove, slice_set, Option, ◌+◌, ◌*◌, ◌≤◌}
+use Rattle.fc_device.specs.Sectors.{with_sector}
 use Rattle.fc_names.specs.Names.{Path, is_same_path}
 use Rattle.fc_record.specs.declared.DiscRecord.{DiscRecord}
 use Rattle.fc_record.specs.declared.Kind.{Kind}
@@ -20,7 +21,7 @@ use Rattle.fc_effects.specs.Placed.{holes_left}
 use Rattle.fc_effects.specs.Steady.{holes_with, zone_holes}
 use Rattle.fc_plan.specs.Giving.{is_given, is_one_of, stays_given}
 use Rattle.fc_plan.specs.Taking.{as_runs, runs_taken}
-use Rattle.fc_changes.specs.Owed.{IsMapAfter, IsSpaceEdit}
+use Rattle.fc_changes.specs.Owed.{IsMapAfter, IsSpaceEdit, IsWritten}
 use Rattle.fc_changes.specs.Changed.{IsChanged, IsDeleteChange, IsDirectoryChange, IsFileChange, IsMoveChange, IsRenameChange, IsRewordChange, children_with}
 
 -- ---- maps
@@ -49,9 +50,19 @@ pub record SpaceLaw : Type 0 where
   pub taken : (m first mid m' : Map) (id : ℕ) (parts : List ZoneRun) (gone : List ℕ) → 0 < length parts → is_one_of gone id ≡ false → Took m first parts id → GaveBack first mid gone → KeepsRuns mid m'
       → IsSpaceEdit m m' id parts gone
 
+-- ---- what is written
+
+-- Nothing, one write after another, a commit, and one sector (`Disk::write`).
+pub record WritesLaw : Type 0 where
+  pub none : (m : Map) (image : List ℕ) → IsWritten m [] image image
+  pub then : (m : Map) (xs ys first second third : List ℕ) → IsWritten m xs first second → IsWritten m ys second third → IsWritten m (xs ++ ys) first third
+  pub committed : (m : Map) (zones : List (List ℕ)) (start image : List ℕ) → CommitEnds m.geometry start zones image → IsWritten m [] start image
+  pub sector : (m : Map) (n : ℕ) (bytes image : List ℕ) → length bytes ≡ m.geometry.sector → n * m.geometry.sector + m.geometry.sector ≤ length image
+      → IsWritten m (n ∷ []) image (with_sector m.geometry.sector image n bytes)
+
 -- ---- commands
 
--- `set` and `mark`: the other directories are listed as they were, but for the object itself where it is a directory.
+-- `set` and `mark`: the other directories are listed as they were, but for the object itself if it is a directory.
 pub record RewordedLaw : Type 0 where
   pub set : (kind : Kind) (r : DiscRecord) (image image' : List ℕ) (v : Opened) (m : Map) (rest : List Listing) (l : Listing) (content : Directory) (i : ℕ) (o : Object)
       (path : Path) (load exec access : ℕ) → access < 8 → is_same_path path o.path ≡ true

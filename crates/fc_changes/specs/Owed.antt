@@ -64,7 +64,7 @@ pub record IsMapAfter (m m' : Map) (image' : List ℕ) : Type 0 where
 -- ---- its runs
 
 -- The parts, cut from the fronts of holes, are runs of the identifier `id`, and the runs that the identifiers `gone` had are holes.
--- Where nothing is taken, `parts` is empty and `id` means nothing.
+-- If nothing is taken, `parts` is empty and `id` means nothing.
 pub record IsSpaceEdit (m m' : Map) (id : ℕ) (parts : List ZoneRun) (gone : List ℕ) : Type 0 where
   -- `give_back`, `apply`: `holes`
   pub holes : (z : ℕ) → z < m.geometry.zones

@@ -2,7 +2,7 @@
 #![tactic(auto)]
 
 ghost use Rattle.fc_changes.specs.Rows.{OwedRows};
-ghost use Rattle.fc_changes.specs.Laws.{CommittedLaw, DeletedLaw, DirectoryMadeLaw, FiledLaw, MovedLaw, RenamedLaw, RewordedLaw, SpaceLaw};
+ghost use Rattle.fc_changes.specs.Laws.{CommittedLaw, DeletedLaw, DirectoryMadeLaw, FiledLaw, MovedLaw, RenamedLaw, RewordedLaw, SpaceLaw, WritesLaw};
 
 /// After `set` and `mark` the disc is as they promise.
 pub fn reworded()
@@ -47,4 +47,9 @@ pub fn moved()
 /// What changes owe, on a small map, worked out.
 pub fn rows()
     ensures { OwedRows }
+{}
+
+/// Writes put together: which sectors they may change.
+pub fn writes()
+    ensures { WritesLaw }
 {}
