@@ -1,13 +1,12 @@
 -- What an opened disc has after a change, outside its directories.
-use Rattle.std.proofs.Common.{◌≡◌, ◌<◌, ◌≤◌, ◌⊎◌, inl, inr, ℕ, zero, suc, ◌+◌, ◌-◌, ◌*◌, ◌/◌, Bool, true, false, cond, List, [], ◌∷◌, ◌++◌, length, drop, refl, sym, ap, ap₂, subst, ◌∙◌, arith, Some, None, Option}
-use Rattle.std.specs.Prelude.{Result, Ok, Contains, IsPermutation, ◌==◌, ◌||◌, ◌&&◌, nat_lt, All}
+use Rattle.std.proofs.Common.{◌≡◌, ◌<◌, ◌≤◌, ◌⊎◌, ℕ, ◌+◌, ◌-◌, ◌*◌, ◌/◌, Bool, true, false, cond, List, [], ◌∷◌, length, drop, refl, sym, ap, ap₂, subst, ◌∙◌, arith, None, Option}
+use Rattle.std.specs.Prelude.{Contains, ◌==◌, ◌||◌, ◌&&◌, nat_lt}
 use Rattle.std.specs.List.{list_any}
 use Rattle.std.proofs.Math.Nat.{div-mul-le_self}
 use Rattle.std.proofs.lemmas.Nat.{le-div}
 use Rattle.std.proofs.lemmas.Bool.{eqb-true, eq-eqb}
 use Rattle.std.proofs.lemmas.List.{drop-drop}
 use Rattle.std.proofs.lemmas.List.Elements.{All-nil, All-cons}
-use Rattle.std.proofs.lemmas.List.Sorted.{Contains-permutation, IsPermutation-sym}
 use Rattle.fc_device.specs.Sectors.{sector_at}
 use Rattle.fc_names.specs.Names.{Path, is_same_path}
 use Rattle.fc_record.specs.declared.DiscRecord.{DiscRecord}
@@ -21,26 +20,21 @@ use Rattle.fc_newmap.proofs.CoverLemmas.{run_on_disc}
 use Rattle.fc_newmap.proofs.PlaceLemmas.{in_back, range_in}
 use Rattle.fc_model.specs.Tree.{holder}
 use Rattle.fc_model.specs.Command.{Command}
-use Rattle.fc_dirs.specs.Directory.{Directory}
-use Rattle.fc_dirs.specs.declared.DirFault.{DirFault}
 use Rattle.fc_image.specs.Layout.{Layout, id_of, is_among, is_apart}
 use Rattle.fc_image.specs.Report.{holder_address}
-use Rattle.fc_image.specs.Walk.{Listing, Object, is_directory_object, reader_of}
+use Rattle.fc_image.specs.Walk.{Listing, Object, reader_of}
 use Rattle.fc_image.specs.Objects.{is_owned, is_owner_of, objects_of}
 use Rattle.fc_image.specs.Opening.{Opened, boot_place, reserved_in}
 use Rattle.fc_image.specs.Stays.{HasSectorsOf, IsNewKind, OpensAs}
 use Rattle.fc_image.specs.Laws.{Tells}
-use Rattle.fc_image.specs.Order.{held}
-use Rattle.fc_image.specs.Sound.{AreSound}
 use Rattle.fc_image.specs.MapEdits.{IsMapEdit}
 use Rattle.fc_image.proofs.WalkLemmas.{walk-Tells}
-use Rattle.fc_image.proofs.LookupLemmas.{lookup_law}
 use Rattle.fc_image.proofs.PathsLemmas.{itself}
 use Rattle.fc_effects.specs.Short.{Growth, growth_in}
 use Rattle.fc_effects.specs.Steady.{MapOutside, SameSectors, ZoneSteady, expected_zone, idle_sectors, zone0_after}
 use Rattle.fc_changes.specs.Owed.{IsMapAfter, IsWritten}
-use Rattle.fc_changes.proofs.BasicLemmas.{any_in, cases_cons, clash, first_in, in_any, next_in, unless}
-use Rattle.fc_changes.proofs.BeforeLemmas.{HeldBy, address_by, boot_stays, had, held_by, parts, sound}
+use Rattle.fc_changes.proofs.BasicLemmas.{any_in, in_any, unless}
+use Rattle.fc_changes.proofs.BeforeLemmas.{address_by, boot_stays, had, held_by, parts, sound}
 use Rattle.fc_changes.proofs.DirectoriesLemmas.{Lasts}
 use Rattle.fc_changes.proofs.OutsideLemmas.{AreBusy, idle_stay, same_behind}
 
@@ -61,7 +55,7 @@ module _ (kind : Kind) (r : DiscRecord) (image : List ℕ) (m : Map) (ls : List 
   abbrev before_it : Opened
   before_it = record { kind = kind; layout = Layout.New m; listings = ls }
 
-  -- what lies behind the disc in the image
+  -- what comes after the disc in the image
   pub behind_stays : (image' sectors : List ℕ) → IsWritten m sectors image image' → AreBusy m (objects_of ls) sectors → drop (disc_size kind) image' ≡ drop (disc_size kind) image
   behind_stays image' sectors written busy =
       let o = parts kind r image m ls new opens in
@@ -130,7 +124,7 @@ module _ (kind : Kind) (r : DiscRecord) (image : List ℕ) (m : Map) (ls : List 
 
 -- ---- owners
 
--- where each object has one of its place afterwards, no identifier loses its owners
+-- if each object has one of its place afterwards, no identifier loses its owners
 pub still_owns : (before after : List Object) → ((p : Object) → Contains before p → (q : Object) × Contains after q × (q.sectors ≡ p.sectors) × (q.entry.address ≡ p.entry.address))
     → (id : ℕ) → is_owned before id ≡ true → is_owned after id ≡ true
 still_owns before after each id own = by (id == 2) own

@@ -1,12 +1,12 @@
 -- Tests, lists and paths.
-use Rattle.std.proofs.Common.{◌≡◌, ◌<◌, ◌⊎◌, inl, inr, ℕ, zero, suc, ◌+◌, ◌-◌, Bool, true, false, cond, List, [], ◌∷◌, ◌++◌, length, map, take, drop, get_or, refl, sym, ap, ap₂, subst, ◌∙◌, arith, Some, None, Option}
-use Rattle.std.specs.Prelude.{Contains, IsPermutation, filter, remove, slice_get, slice_set, ◌&&◌, ◌||◌, ◌==◌, not}
+use Rattle.std.proofs.Common.{◌≡◌, ◌<◌, ◌⊎◌, inl, inr, ℕ, zero, suc, ◌-◌, Bool, true, false, cond, List, [], ◌∷◌, ◌++◌, length, map, take, drop, get_or, refl, sym, ap, ap₂, subst, ◌∙◌, arith, Some, None, Option}
+use Rattle.std.specs.Prelude.{Contains, IsPermutation, filter, remove, slice_get, slice_set, ◌&&◌, ◌||◌, ◌==◌}
 use Rattle.std.specs.List.{flat_map, list_any}
 use Rattle.std.specs.Option.{option_map_or, option_and_then}
 use Rattle.std.proofs.lemmas.List.{set_split}
 use Rattle.std.proofs.lemmas.List.Elements.{Contains-append_cases}
 use Rattle.std.proofs.lemmas.List.Sorted.{IsPermutation-middle, IsPermutation-remove}
-use Rattle.fc_names.specs.Names.{Path, is_same_path}
+use Rattle.fc_names.specs.Names.{Path}
 use Rattle.fc_model.specs.Tree.{holder}
 use Rattle.fc_image.proofs.EntriesLemmas.{same_some}
 

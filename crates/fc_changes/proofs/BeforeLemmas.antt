@@ -1,11 +1,11 @@
 -- What an opened disc with a new map has, and the map that comes after it.
-use Rattle.std.proofs.Common.{◌≡◌, ◌<◌, ◌≤◌, ◌⊎◌, inl, inr, ℕ, zero, suc, ◌+◌, ◌*◌, ◌/◌, Bool, true, false, cond, List, [], ◌∷◌, ◌++◌, length, take, drop, refl, sym, ap, ap₂, subst, ◌∙◌, arith, Some, None, Option}
+use Rattle.std.proofs.Common.{◌≡◌, ◌≤◌, ◌⊎◌, inl, inr, ℕ, Bool, true, false, cond, List, [], ◌∷◌, ◌++◌, length, drop, refl, sym, ap, subst, ◌∙◌, Some, None, Option}
 use Rattle.std.specs.Option.{option_map_or}
-use Rattle.std.specs.Prelude.{Result, Ok, Err, Contains, IsPermutation, filter, ◌==◌, ◌&&◌, nat_le, nat_lt}
+use Rattle.std.specs.Prelude.{Contains, IsPermutation, filter, ◌==◌, ◌&&◌, nat_le}
 use Rattle.std.specs.Int.{div_ceil}
 use Rattle.std.proofs.lemmas.Bool.{leb-true}
-use Rattle.std.proofs.lemmas.List.Elements.{Contains-append_left, Contains-append_right}
-use Rattle.std.proofs.lemmas.List.Sorted.{Contains-permutation, IsPermutation-sym, IsPermutation-trans, IsPermutation-middle, IsPermutation-cons}
+use Rattle.std.proofs.lemmas.List.Elements.{Contains-append_left}
+use Rattle.std.proofs.lemmas.List.Sorted.{Contains-permutation, IsPermutation-sym}
 use Rattle.fc_names.specs.Names.{Path, is_same_path}
 use Rattle.fc_record.specs.declared.DiscRecord.{DiscRecord}
 use Rattle.fc_record.specs.declared.Geometry.{Geometry}
@@ -14,21 +14,20 @@ use Rattle.fc_record.specs.Kinds.{map_record}
 use Rattle.fc_newmap.specs.Map.{Map, IsMap, map_sectors, sector_of}
 use Rattle.fc_newmap.specs.NewMap.{IsNewMap}
 use Rattle.fc_newmap.proofs.MapLemmas.{map_of_no_fault, no_fault_of_zones}
-use Rattle.fc_newmap.proofs.PlaceLemmas.{in_back, in_either}
+use Rattle.fc_newmap.proofs.PlaceLemmas.{in_back}
 use Rattle.fc_copies.specs.declared.Which.TheVariants.{One}
 use Rattle.fc_copies.specs.Copies.{Chooses, HoldsCopies, chosen, copy_of, is_sound}
 use Rattle.fc_model.specs.Tree.{holder}
 use Rattle.fc_dirs.specs.Directory.{entries_of}
-use Rattle.fc_image.specs.Layout.{Layout, first_part, id_of, id_sectors, is_among, is_apart, is_object_id, low_of, low_start, map_place, sectors_at}
+use Rattle.fc_image.specs.Layout.{Layout, first_part, id_of, id_sectors, is_among, is_apart, low_of, low_start, map_place, sectors_at}
 use Rattle.fc_image.specs.Report.{holder_address}
-use Rattle.fc_image.specs.Walk.{Listing, Object, is_directory_object, object_bytes, object_size, reader_of}
-use Rattle.fc_image.specs.Objects.{first_object, listing_at, objects_of}
+use Rattle.fc_image.specs.Walk.{Listing, Object, is_directory_object, reader_of}
+use Rattle.fc_image.specs.Objects.{first_object, objects_of}
 use Rattle.fc_image.specs.Opening.{Opened, agreement, boot_place, difference, reserved_in}
 use Rattle.fc_image.specs.Stays.{HasSectorsOf, IsNewKind, OpensAs}
-use Rattle.fc_image.specs.Edits.{Apart, IsAt, IsListing, IsRoot}
+use Rattle.fc_image.specs.Edits.{IsListing, IsRoot}
 use Rattle.fc_image.specs.Order.{AreListings, directories, held, listed}
 use Rattle.fc_image.specs.Sound.{AreSound}
-use Rattle.fc_image.specs.EditedImage.{HasMap}
 use Rattle.fc_image.specs.MapEdits.{IsMapEdit}
 use Rattle.fc_image.specs.Written.{WritesOnly}
 use Rattle.fc_image.proofs.HolesLemmas.{Each-contains, Each-objects, Lies, OpenMap, apart_at, none_loose, walk_lies}
@@ -41,9 +40,7 @@ use Rattle.fc_image.proofs.MapEditLemmas.{all_listed, held_in, is_file, listed_o
 use Rattle.fc_image.proofs.RenameLemmas.{alone, child_path}
 use Rattle.fc_image.proofs.LookupLemmas.{lookup_law}
 use Rattle.fc_image.proofs.TreeLemmas.{tree_edit_law}
-use Rattle.fc_image.proofs.PathsLemmas.{itself}
-use Rattle.fc_changes.specs.Owed.{IsMapAfter, IsWritten}
-use Rattle.fc_changes.proofs.BasicLemmas.{cases_cons, clash, first_in, holder_pushed, in_flat, next_in, nothing_in, unless}
+use Rattle.fc_changes.proofs.BasicLemmas.{cases_cons, clash, first_in, holder_pushed, in_flat, next_in, unless}
 
 -- ---- copies
 
@@ -146,8 +143,8 @@ module _ (kind : Kind) (r : DiscRecord) (image : List ℕ) (m : Map) (ls : List 
   pub object_from : (o : Object) → Contains (objects_of ls) o → ((l : Listing) × Contains ls l × (l.object ≡ o)) ⊎ ((l : Listing) × Contains ls l × Contains l.children o)
   object_from o at = elim (cases_cons had.root (held ls) o (subst (λ (os : List Object). Contains os o) had.objects at)) [
     | inl top ↦ (let l = from_map (λ (x : Listing). x.object) ls had.root
-      (Contains-permutation (had.root ∷ directories (held ls)) (listed ls) had.root (IsPermutation-sym (listed ls) (had.root ∷ directories (held ls)) had.all.all) (first_in had.root (directories (held ls)))) in
-      inl (l.0, l.1, l.2 ∙ top))
+        (Contains-permutation (had.root ∷ directories (held ls)) (listed ls) had.root (IsPermutation-sym (listed ls) (had.root ∷ directories (held ls)) had.all.all) (first_in had.root (directories (held ls)))) in
+        inl (l.0, l.1, l.2 ∙ top))
     | inr kept ↦ inr (in_flat (λ (x : Listing). x.children) ls o kept)
   ]
 
@@ -204,8 +201,8 @@ module _ (kind : Kind) (r : DiscRecord) (image : List ℕ) (m : Map) (ls : List 
         let among = Contains-permutation (listed ls) (had.root ∷ directories (held ls)) l.object had.all.all (in_mapped (λ (x : Listing). x.object) ls l at) in
         elim (cases_cons had.root (directories (held ls)) l.object among) [
           | inl top ↦ (let none : l.object.path ≡ [] = ap (λ (o : Object). o.path) (sym top) ∙ had.is_root.path in
-            record { dir = l; there = at; same = ap holder none ∙ sym none; child = inl refl })
+              record { dir = l; there = at; same = ap holder none ∙ sym none; child = inl refl })
           | inr kept ↦ (let r' = in_flat (λ (x : Listing). x.children) ls l.object (from_filter is_directory_object (held ls) l.object kept) in
-            let path = child_path (Layout.New m) r'.0.object.path (entries_of r'.0.content) r'.0.children l.object (says_old r'.0 r'.1).1 r'.2 in
-            record { dir = r'.0; there = r'.1; same = ap holder path ∙ holder_pushed r'.0.object.path l.object.entry.name; child = inr r'.2 })
+              let path = child_path (Layout.New m) r'.0.object.path (entries_of r'.0.content) r'.0.children l.object (says_old r'.0 r'.1).1 r'.2 in
+              record { dir = r'.0; there = r'.1; same = ap holder path ∙ holder_pushed r'.0.object.path l.object.entry.name; child = inr r'.2 })
         ]

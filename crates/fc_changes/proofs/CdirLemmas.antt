@@ -1,7 +1,6 @@
 -- Cdir: an empty directory comes.
-use Rattle.std.proofs.Common.{◌≡◌, ◌<◌, ◌≤◌, ◌⊎◌, inl, inr, ℕ, ◌+◌, ◌*◌, Bool, true, false, cond, List, [], ◌∷◌, ◌++◌, length, map, refl, sym, ap, ap₂, subst, ◌∙◌, arith, Some, None, Option}
-use Rattle.std.specs.Prelude.{Result, Ok, Contains, IsPermutation, IfSome, IsSomeAnd, insert, not, ◌==◌, ◌&&◌, ◌||◌, nat_lt}
-use Rattle.std.specs.List.{list_any}
+use Rattle.std.proofs.Common.{◌≡◌, inl, inr, ℕ, ◌*◌, Bool, true, false, cond, List, [], ◌∷◌, ◌++◌, map, refl, sym, ap, ap₂, subst, ◌∙◌, arith, Some, None, Option}
+use Rattle.std.specs.Prelude.{Ok, Contains, IfSome, IsSomeAnd, insert, not, ◌==◌, ◌&&◌}
 use Rattle.std.proofs.lemmas.Bool.{lt-ltb}
 use Rattle.std.proofs.lemmas.List.Sorted.{Contains-permutation, IsPermutation-refl, IsPermutation-sym}
 use Rattle.fc_names.specs.declared.name.NameForm.{NameForm}
@@ -10,37 +9,33 @@ use Rattle.fc_names.specs.Names.{Path, is_directory, is_same_path}
 use Rattle.fc_record.specs.declared.DiscRecord.{DiscRecord}
 use Rattle.fc_record.specs.declared.Geometry.{Geometry}
 use Rattle.fc_record.specs.declared.Kind.{Kind}
-use Rattle.fc_newmap.specs.Map.{Map, ZoneRun, bits_in, hole_runs, id_runs, is_used}
+use Rattle.fc_newmap.specs.Map.{Map, ZoneRun, bits_in, hole_runs, id_runs}
 use Rattle.fc_copies.specs.Copies.{HoldsCopies}
 use Rattle.fc_model.specs.Tree.{holder, last_name}
 use Rattle.fc_model.specs.Command.{Command}
 use Rattle.fc_model.specs.Answer.{changed}
 use Rattle.fc_dirs.specs.declared.Entry.{Entry}
-use Rattle.fc_dirs.specs.declared.DirFault.{DirFault}
 use Rattle.fc_dirs.specs.declared.SmallForm.TheVariants.{Bytes1280, Bytes2048}
-use Rattle.fc_dirs.specs.Entries.{entry_place, has_name, with_entry}
+use Rattle.fc_dirs.specs.Entries.{entry_place, with_entry}
 use Rattle.fc_dirs.specs.Small.{empty_small, small_dir, small_fault}
 use Rattle.fc_dirs.specs.Big.{big_dir, big_fault, empty_big}
-use Rattle.fc_dirs.specs.Directory.{Directory, directory_of, directory_size, entries_of, read_or}
-use Rattle.fc_image.specs.Layout.{Layout, dir_form, id_of, sectors_at}
-use Rattle.fc_image.specs.Report.{holder_address}
+use Rattle.fc_dirs.specs.Directory.{Directory, directory_of, directory_size, entries_of}
+use Rattle.fc_image.specs.Layout.{Layout, dir_form, id_of}
 use Rattle.fc_image.specs.Walk.{Listing, Object, is_directory_object, object_bytes, object_size, reader_of}
-use Rattle.fc_image.specs.Objects.{is_owned, is_owner_of, listing_at, object_at, objects_of, tree_of}
+use Rattle.fc_image.specs.Objects.{is_owned, is_owner_of, object_at, objects_of, tree_of}
 use Rattle.fc_image.specs.Opening.{Opened, reserved_in}
 use Rattle.fc_image.specs.Edits.{AreChildren, IsListing}
 use Rattle.fc_image.specs.Order.{held}
-use Rattle.fc_image.specs.Commanded.{IsDirectoryMade}
 use Rattle.fc_image.specs.InPlace.{ComesTo, says_now}
 use Rattle.fc_image.proofs.AnsweredLemmas.{answered_law}
 use Rattle.fc_image.proofs.InPlaceLemmas.{in_place_law}
 use Rattle.fc_image.proofs.LookupLemmas.{lookup_law}
-use Rattle.fc_image.proofs.PathsLemmas.{itself}
 use Rattle.fc_image.proofs.RelistLemmas.{edited_apart_law}
 use Rattle.fc_plan.proofs.Left.{left_of_none}
 use Rattle.fc_plan.proofs.Units.{units_some}
 use Rattle.fc_effects.specs.Sharing.{units}
-use Rattle.fc_effects.specs.Short.{Growth, growth_in, moved_growth, new_dir_size}
-use Rattle.fc_effects.specs.Placed.{GrowthPlacedIn, NewObjectPlaced, file_low, first_low, holes_left, made_object, object_parts}
+use Rattle.fc_effects.specs.Short.{Growth, moved_growth, new_dir_size}
+use Rattle.fc_effects.specs.Placed.{GrowthPlacedIn, NewObjectPlaced, file_low, holes_left, made_object, object_parts}
 use Rattle.fc_effects.specs.Steady.{AreWritten, EntrySteady, IsMadeDirectory, NewDirectory, edited, holes_untaken, named_entry, new_directory, replaced_entry, with_made}
 use Rattle.fc_changes.specs.Owed.{GivesBack}
 use Rattle.fc_changes.specs.Changed.{IsChanged, IsDirectoryChange}
@@ -53,7 +48,7 @@ use Rattle.fc_changes.proofs.MadeLemmas.{free_name, stands_new, turned}
 use Rattle.fc_changes.proofs.NewPlaceLemmas.{NewPlace, new_place}
 use Rattle.fc_changes.proofs.PlacedLemmas.{id_is, same_left}
 use Rattle.fc_changes.proofs.ReadsLemmas.{LiesIn, lies_in, other_dir, told}
-use Rattle.fc_changes.proofs.ChangeLemmas.{Change, Edited, behind_now, directories_now, edit, in_place, l_in, l_there, objects_now, opened, outside_now, says, sound_now, space_now, stay_in, stay_is, top}
+use Rattle.fc_changes.proofs.ChangeLemmas.{Change, Edited, behind_now, directories_now, edit, in_place, l_in, l_there, objects_now, opened, outside_now, says, sound_now, space_now, stay_is, top}
 
 -- a new directory is read as it was written
 new_reads : (form : NameForm) (bytes : List ℕ) (parent : ℕ) (name : List ℕ) → AreWritten bytes (new_directory form parent name) → directory_of form bytes ≡ Ok (new_directory form parent name)
@@ -161,18 +156,19 @@ module _ (kind : Kind) (r : DiscRecord) (image image' : List ℕ) (m m' : Map) (
     placed = e.at;
     apart = edited_apart_law.from (reserved_in kind (Layout.New m)) ((top change).root ∷ (l.children ++ held rest)) o its_place.free
         (λ p at. turned p.sectors o.sectors (its_place.apart p
-          (Contains-permutation ((top change).root ∷ (l.children ++ held rest)) (objects_of ls) p (IsPermutation-sym (objects_of ls) ((top change).root ∷ (l.children ++ held rest)) (stay_is change)) at)));
+        (Contains-permutation ((top change).root ∷ (l.children ++ held rest)) (objects_of ls) p (IsPermutation-sym (objects_of ls) ((top change).root ∷ (l.children ++ held rest)) (stay_is change)) at)));
   }
 
   -- what the new directory says
   listed_now : IsListing (reader_of image' (Layout.New m')) (Layout.New m') d
-  listed_now =
-      (subst (λ (f : NameForm). directory_of f (object_bytes image' (Layout.New m') o) ≡ Ok d.content) form_same
-      (subst (λ (x : Directory). directory_of (dir_form (Layout.New m)) (object_bytes image' (Layout.New m') o) ≡ Ok x) (sym e.says)
-      (new_reads (dir_form (Layout.New m)) (object_bytes image' (Layout.New m') o) l.object.entry.address (last_name path)
-      (subst (λ (x : Directory). AreWritten (object_bytes image' (Layout.New m') o) x) e.says e.stored))),
-      subst (λ (es : List Entry). AreChildren (Layout.New m') o.path es d.children) (sym (ap entries_of e.says ∙ none_in_new (dir_form (Layout.New m)) l.object.entry.address (last_name path)))
-      (subst (λ (os : List Object). AreChildren (Layout.New m') o.path [] os) (sym e.empty) tt))
+  listed_now = (
+    subst (λ (f : NameForm). directory_of f (object_bytes image' (Layout.New m') o) ≡ Ok d.content) form_same
+        (subst (λ (x : Directory). directory_of (dir_form (Layout.New m)) (object_bytes image' (Layout.New m') o) ≡ Ok x) (sym e.says)
+        (new_reads (dir_form (Layout.New m)) (object_bytes image' (Layout.New m') o) l.object.entry.address (last_name path)
+        (subst (λ (x : Directory). AreWritten (object_bytes image' (Layout.New m') o) x) e.says e.stored))),
+    subst (λ (es : List Entry). AreChildren (Layout.New m') o.path es d.children) (sym (ap entries_of e.says ∙ none_in_new (dir_form (Layout.New m)) l.object.entry.address (last_name path)))
+        (subst (λ (os : List Object). AreChildren (Layout.New m') o.path [] os) (sym e.empty) tt),
+  )
 
   abbrev l' : Listing
   l' = says_now l content (insert l.children (entry_place o.entry.name (entries_of l.content)) o)
@@ -271,6 +267,6 @@ module _ (kind : Kind) (r : DiscRecord) (image image' : List ℕ) (m m' : Map) (
 pub directory_made_law : DirectoryMadeLaw
 directory_made_law kind r image image' v m m' path rest l content d id parts e =
     subst (λ (u : Opened). IsDirectoryChange kind r image image' u m m' path rest l content d id parts
-      → IsChanged kind image image' u m' (d ∷ says_now l content (insert l.children (entry_place d.object.entry.name (entries_of l.content)) d.object) ∷ rest) (Command.Cdir path))
+    → IsChanged kind image image' u m' (d ∷ says_now l content (insert l.children (entry_place d.object.entry.name (entries_of l.content)) d.object) ∷ rest) (Command.Cdir path))
     (opened_as kind r image v m e.before.new_kind e.before.opens e.before.layout)
     (cdir_at kind r image image' m m' v.listings path rest l content d id parts) e

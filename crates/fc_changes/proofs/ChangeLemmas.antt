@@ -1,13 +1,13 @@
 -- A change of one directory in place: objects leave it and come into it, and runs of the map are taken and go back.
-use Rattle.std.proofs.Common.{◌≡◌, ◌<◌, ◌≤◌, ◌⊎◌, inl, inr, ℕ, zero, suc, ◌+◌, ◌*◌, ◌/◌, Bool, true, false, cond, List, [], ◌∷◌, ◌++◌, length, take, drop, refl, sym, ap, ap₂, subst, ◌∙◌, arith, Some, None, Option, eq-eqb}
-use Rattle.std.specs.Prelude.{Result, Ok, Err, Contains, IsPermutation, filter, not, ◌==◌, ◌&&◌, ◌||◌, nat_le, nat_lt}
-use Rattle.std.specs.List.{flat_map, list_any}
+use Rattle.std.proofs.Common.{◌≡◌, ◌<◌, ◌≤◌, inl, inr, ℕ, zero, suc, ◌*◌, Bool, true, false, cond, List, [], ◌∷◌, ◌++◌, length, take, drop, refl, sym, ap, subst, ◌∙◌, arith, Some, None, eq-eqb}
+use Rattle.std.specs.Prelude.{Ok, Err, Contains, IsPermutation, ◌==◌, ◌&&◌, ◌||◌, nat_le}
+use Rattle.std.specs.List.{list_any}
 use Rattle.std.specs.Int.{div_ceil}
 use Rattle.std.proofs.lemmas.Bool.{eqb-true, leb-true}
 use Rattle.std.proofs.lemmas.Grind.{div_ceil_times}
 use Rattle.std.proofs.lemmas.List.{append_assoc}
 use Rattle.std.proofs.lemmas.List.Elements.{Contains-append_cases, Contains-append_left, Contains-append_right}
-use Rattle.std.proofs.lemmas.List.Sorted.{Contains-permutation, IsPermutation-refl, IsPermutation-sym, IsPermutation-trans, IsPermutation-middle, IsPermutation-cons, IsPermutation-append_left, IsPermutation-append_right}
+use Rattle.std.proofs.lemmas.List.Sorted.{Contains-permutation, IsPermutation-sym, IsPermutation-trans, IsPermutation-middle, IsPermutation-cons, IsPermutation-append_left, IsPermutation-append_right}
 use Rattle.fc_names.specs.Names.{Path, is_same_path}
 use Rattle.fc_record.specs.declared.DiscRecord.{DiscRecord}
 use Rattle.fc_names.specs.declared.name.NameForm.{NameForm}
@@ -23,10 +23,9 @@ use Rattle.fc_dirs.specs.Directory.{Directory, directory_of, entries_of}
 use Rattle.fc_image.specs.Layout.{Layout, dir_form, first_part, id_of, id_sectors, is_among, is_apart, is_object_id, low_of, low_start, sectors_at}
 use Rattle.fc_image.specs.Report.{holder_address}
 use Rattle.fc_image.specs.Walk.{Listing, Object, is_directory_object, object_bytes, object_size, reader_of}
-use Rattle.fc_image.specs.Objects.{has_sectors, is_movable, is_owned, is_owner_of, object_at, objects_of}
+use Rattle.fc_image.specs.Objects.{is_movable, is_owned, is_owner_of, objects_of}
 use Rattle.fc_image.specs.Opening.{Opened, reserved_in}
-use Rattle.fc_image.specs.Stays.{IsNewKind, OpensAs}
-use Rattle.fc_image.specs.Edits.{IsAt, IsListing}
+use Rattle.fc_image.specs.Edits.{IsListing}
 use Rattle.fc_image.specs.Order.{directories, held, listed}
 use Rattle.fc_image.specs.Sound.{AreSound}
 use Rattle.fc_image.specs.MapEdits.{IsDirectoryEdit, IsMapEdit, KeepsPlace}
@@ -38,18 +37,16 @@ use Rattle.fc_image.proofs.MapEditLemmas.{file_stays, held_in}
 use Rattle.fc_image.proofs.EntriesLemmas.{from_filter, from_map, in_mapped, same_some}
 use Rattle.fc_image.proofs.PathsLemmas.{itself}
 use Rattle.fc_image.proofs.RenameLemmas.{child_path}
-use Rattle.fc_image.proofs.OneZoneLemmas.{and_first, and_second}
-use Rattle.fc_image.proofs.ShuffleLemmas.{IsPermutation-flat_map, IsPermutation-swap_lists, IsPermutation-unappend, flat_map-append, same_lists}
+use Rattle.fc_image.proofs.ShuffleLemmas.{IsPermutation-flat_map, IsPermutation-unappend, flat_map-append}
 use Rattle.fc_effects.specs.Short.{growth_in}
 use Rattle.fc_effects.specs.Placed.{holes_left}
 use Rattle.fc_effects.specs.Steady.{AreWritten, DirectoriesSteady, IsRewritten, holes_untaken, MapOutside, NewMapSteady, edited, expected_zone, holds_named, idle_sectors, is_given_back, is_gone, named_entry}
-use Rattle.fc_plan.specs.Giving.{is_one_of}
 use Rattle.fc_changes.specs.Owed.{GivesBack, IsBefore, IsDirectoryWritten, IsMapAfter, IsSpaceEdit, IsWritten}
 use Rattle.fc_changes.proofs.BasicLemmas.{and_false, any_in, cases_cons, clash, first_in, in_any, long_pushed, next_in, not_zero, nothing_in, or_cases, or_second, unless}
-use Rattle.fc_changes.proofs.BeforeLemmas.{Had, boot_stays, had, listed_in, map_edit, object_from, object_lies, other_path, parts, says_old, sound}
+use Rattle.fc_changes.proofs.BeforeLemmas.{Had, boot_stays, had, listed_in, map_edit, object_lies, other_path, parts, says_old, sound}
 use Rattle.fc_changes.proofs.DirectoriesLemmas.{IsPlain, Lasts, Stays, all_steady, written_steady}
 use Rattle.fc_changes.proofs.OutsideLemmas.{AreBusy, both_busy, low_owned, no_owner_low, object_busy, object_owns}
-use Rattle.fc_changes.proofs.SpaceLemmas.{given_same, not_given, owned_same, runs_stay, space_steady, still_owned, untaken_is}
+use Rattle.fc_changes.proofs.SpaceLemmas.{given_same, not_given, owned_same, runs_stay, space_steady, still_owned}
 use Rattle.fc_changes.proofs.ReadsLemmas.{reads_back}
 use Rattle.fc_changes.proofs.AfterLemmas.{behind_stays, holder_stays, outside_steady}
 

@@ -1,9 +1,8 @@
 -- The map after a commit.
-use Rattle.std.proofs.Common.{◌≡◌, ◌<◌, ◌≤◌, ◌⊎◌, inl, inr, ℕ, zero, suc, ◌+◌, ◌-◌, ◌*◌, ◌^◌, Bool, true, false, cond, List, [], ◌∷◌, ◌++◌, length, take, drop, refl, sym, ap, ap₂, subst, ◌∙◌, arith, Some, None, Option}
-use Rattle.std.specs.Prelude.{Contains, IsPermutation, filter, slice_index, slice_range, ◌==◌}
-use Rattle.std.specs.List.{flat_map, AllByRecursion}
-use Rattle.std.proofs.lemmas.List.{length-drop, drop-drop}
-use Rattle.std.proofs.lemmas.Bool.{cases_lt}
+use Rattle.std.proofs.Common.{◌≡◌, ◌<◌, ◌≤◌, ◌⊎◌, inl, inr, ℕ, zero, suc, ◌+◌, ◌-◌, ◌*◌, ◌^◌, false, List, [], ◌∷◌, ◌++◌, length, take, drop, refl, sym, ap, ap₂, subst, ◌∙◌, arith}
+use Rattle.std.specs.Prelude.{Contains, IsPermutation, filter, slice_index, slice_range}
+use Rattle.std.specs.List.{AllByRecursion}
+use Rattle.std.proofs.lemmas.List.{drop-drop}
 use Rattle.fc_bytes.specs.Bits.{bits, num}
 use Rattle.fc_bytes.specs.BitLaws.{bits-drop, bits-take, length-bits}
 use Rattle.fc_record.specs.declared.Geometry.{Geometry}
@@ -14,18 +13,15 @@ use Rattle.fc_zone.specs.declared.RunKind.{RunKind}
 use Rattle.fc_zone.specs.declared.RunKind.TheVariants as kinds
 use Rattle.fc_zone.specs.declared.ZoneShape.{ZoneShape}
 use Rattle.fc_zone.specs.Zone.{Spells, field_at, hole_starts, start_if_hole}
-use Rattle.fc_zone.specs.Edits.{KeepsLinks}
-use Rattle.fc_newmap.specs.Map.{Map, ZoneRun, all_runs, has_id, hole_runs, id_runs, is_hole, runs_in, runs_of, search_order, sector_of, shape, zone_numbers}
-use Rattle.fc_newmap.specs.NewMap.{IsNewMap}
+use Rattle.fc_newmap.specs.Map.{Map, ZoneRun, has_id, hole_runs, id_runs, is_hole, runs_in, runs_of, search_order, sector_of, shape, zone_numbers}
 use Rattle.fc_newmap.specs.Edits.{AreEdits, KeepsRuns}
 use Rattle.fc_newmap.proofs.GeometryLemmas.{geometry_of_valid, header_high}
 use Rattle.fc_newmap.proofs.HeldLemmas.{geometry_facts}
 use Rattle.fc_newmap.specs.RunsLaw.{IsGeometry, placed}
 use Rattle.fc_copies.specs.Copies.{CommitEnds}
 use Rattle.fc_copies.specs.Committing.{KeepsContents}
-use Rattle.fc_effects.specs.Placed.{holes_left}
-use Rattle.fc_effects.specs.Steady.{KeepsOrWritesLinks, ZoneSteady, holes_with, runs_that, zone_holes}
-use Rattle.fc_plan.specs.Giving.{is_given, is_one_of, stays_given}
+use Rattle.fc_effects.specs.Steady.{KeepsOrWritesLinks, ZoneSteady, holes_with, zone_holes}
+use Rattle.fc_plan.specs.Giving.{is_one_of}
 use Rattle.fc_plan.specs.Applied.{unless_gone}
 use Rattle.fc_plan.specs.Taking.{as_runs}
 use Rattle.fc_plan.proofs.Applies.{no_parts, stays_whole, staying}
@@ -65,7 +61,7 @@ same_part (suc a) n [] (y ∷ ys) long same = absurd (omega (arith, long))
 same_part (suc a) n (x ∷ xs) [] long same = absurd (omega (arith, long))
 same_part (suc a) n (x ∷ xs) (y ∷ ys) long same = same_part a n xs ys (omega (arith, long)) (λ k h g. same (suc k) (omega (arith, h)) (omega (arith, g)))
 
--- what agrees from one place on agrees in each part behind it
+-- what agrees from one place on agrees in each part after it
 part_behind : (a from n : ℕ) (xs ys : List ℕ) → a ≤ from → drop a ys ≡ drop a xs → take n (drop from ys) ≡ take n (drop from xs)
 part_behind a from n xs ys low same =
     let at : a + (from - a) ≡ from = omega (arith, low) in
@@ -174,7 +170,7 @@ module _ (m mid m' : Map) (start image' : List ℕ) (edits : AreEdits m mid) (ke
         both_each (at ∷ ats) a b =
             let first = header_high z in
             let same = field_kept at (let from = b.0 in omega (arith, first, from)) in
-            ((elim a.0 [ | inl is ↦ inl (is.0, same ∙ is.1) | inr small ↦ inr (subst (λ (n : ℕ). n < 2 ^ 15) (sym same) small) ]), both_each ats a.1 b.1)
+            ((elim a.0 [ inl is ↦ inl (is.0, same ∙ is.1) | inr small ↦ inr (subst (λ (n : ℕ). n < 2 ^ 15) (sym same) small) ]), both_each ats a.1 b.1)
 
   record_same : map_record (sector_of m' 0) ≡ map_record (sector_of m 0)
   record_same =

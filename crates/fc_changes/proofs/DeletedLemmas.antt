@@ -1,13 +1,13 @@
 -- Delete: a file or an empty directory goes.
-use Rattle.std.proofs.Common.{◌≡◌, ◌<◌, ◌≤◌, ◌⊎◌, inl, inr, ℕ, Bool, true, false, cond, List, [], ◌∷◌, ◌++◌, length, refl, sym, ap, ap₂, subst, ◌∙◌, arith, Some, None, Option}
-use Rattle.std.specs.Prelude.{Contains, IsPermutation, remove, slice_get, ◌&&◌}
+use Rattle.std.proofs.Common.{◌≡◌, inl, inr, ℕ, Bool, true, cond, List, [], ◌∷◌, ◌++◌, refl, sym, ap, subst, ◌∙◌, arith, Some, None, Option}
+use Rattle.std.specs.Prelude.{Contains, remove, slice_get}
 use Rattle.std.proofs.lemmas.List.{append-nil}
-use Rattle.fc_names.specs.Names.{Path, is_same_name, is_same_path}
+use Rattle.fc_names.specs.Names.{Path, is_same_path}
 use Rattle.fc_record.specs.declared.DiscRecord.{DiscRecord}
 use Rattle.fc_record.specs.declared.Geometry.{Geometry}
 use Rattle.fc_record.specs.declared.Kind.{Kind}
 use Rattle.fc_copies.specs.Copies.{HoldsCopies}
-use Rattle.fc_newmap.specs.Map.{Map, ZoneRun}
+use Rattle.fc_newmap.specs.Map.{Map}
 use Rattle.fc_model.specs.Tree.{holder, last_name}
 use Rattle.fc_model.specs.Command.{Command}
 use Rattle.fc_model.specs.Answer.{changed}
@@ -16,7 +16,7 @@ use Rattle.fc_dirs.specs.Directory.{Directory, entries_of}
 use Rattle.fc_dirs.proofs.EditLemmas.{edit_law}
 use Rattle.fc_image.specs.Layout.{Layout}
 use Rattle.fc_image.specs.Walk.{Listing, Object, is_directory_object}
-use Rattle.fc_image.specs.Objects.{objects_of, tree_of}
+use Rattle.fc_image.specs.Objects.{tree_of}
 use Rattle.fc_image.specs.Opening.{Opened}
 use Rattle.fc_image.specs.Order.{held}
 use Rattle.fc_image.specs.Written.{WritesOnly}
@@ -25,10 +25,9 @@ use Rattle.fc_image.specs.InPlace.{IsInPlace, says_now}
 use Rattle.fc_image.proofs.AnsweredLemmas.{answered_law}
 use Rattle.fc_image.proofs.InPlaceLemmas.{in_place_law}
 use Rattle.fc_image.proofs.RenameLemmas.{child_path}
-use Rattle.fc_image.proofs.EntriesLemmas.{entries_law}
 use Rattle.std.proofs.lemmas.List.Sorted.{Contains-permutation, IsPermutation-sym}
-use Rattle.fc_effects.specs.Steady.{edited, holds_named, is_gone, named_entry, without_name}
-use Rattle.fc_changes.specs.Owed.{GoesAlone, IsWritten}
+use Rattle.fc_effects.specs.Steady.{edited, without_name}
+use Rattle.fc_changes.specs.Owed.{GoesAlone}
 use Rattle.fc_changes.specs.Changed.{IsChanged, IsDeleteChange}
 use Rattle.fc_changes.specs.Laws.{DeletedLaw}
 use Rattle.fc_changes.proofs.BasicLemmas.{cases_cons, first_in, nothing_in, without_it}

@@ -1,18 +1,16 @@
 -- The directories after a command that writes one of them to its old place, and no path of which changes.
-use Rattle.std.proofs.Common.{◌≡◌, ◌⊎◌, inl, inr, ℕ, Bool, true, false, cond, List, [], ◌∷◌, ◌++◌, map, refl, sym, ap, ap₂, subst, ◌∙◌, arith, Some, None, Option}
-use Rattle.std.specs.Prelude.{Contains, IsPermutation, IsSomeAnd, ◌||◌, ◌&&◌, not}
-use Rattle.std.specs.Option.{option_map_or}
+use Rattle.std.proofs.Common.{◌≡◌, inl, inr, ℕ, Bool, true, false, cond, List, ◌∷◌, ◌++◌, map, refl, sym, ap, ap₂, subst, ◌∙◌, Some, None, Option}
+use Rattle.std.specs.Prelude.{Contains, IsPermutation, IsSomeAnd, ◌||◌}
 use Rattle.std.proofs.lemmas.List.Elements.{Contains-append_cases}
 use Rattle.std.proofs.lemmas.List.Sorted.{Contains-permutation}
 use Rattle.fc_names.specs.Names.{Path, is_same_path}
-use Rattle.fc_record.specs.declared.DiscRecord.{DiscRecord}
 use Rattle.fc_record.specs.declared.Kind.{Kind}
 use Rattle.fc_newmap.specs.Map.{Map}
-use Rattle.fc_model.specs.Tree.{holder, last_name}
+use Rattle.fc_model.specs.Tree.{last_name}
 use Rattle.fc_model.specs.Command.{Command}
 use Rattle.fc_dirs.specs.declared.Entry.{Entry}
 use Rattle.fc_dirs.specs.Big.{BigDir}
-use Rattle.fc_dirs.specs.Directory.{Directory, entries_of, parent_of}
+use Rattle.fc_dirs.specs.Directory.{Directory, entries_of}
 use Rattle.fc_image.specs.Layout.{Layout}
 use Rattle.fc_image.specs.Report.{holder_address}
 use Rattle.fc_image.specs.Walk.{Object, Listing, object_bytes}
@@ -22,7 +20,7 @@ use Rattle.fc_image.specs.Sound.{AreSound}
 use Rattle.fc_image.proofs.LookupLemmas.{lookup_law}
 use Rattle.fc_image.proofs.PathsLemmas.{itself}
 use Rattle.fc_effects.specs.Short.{growth_in, moved_growth}
-use Rattle.fc_effects.specs.Steady.{AreWritten, BigNameAfter, DirectoriesSteady, DirectorySteady, HasName, IsRewritten, edited, entries_after, gets_parent, grown_object, has_new_holder, holds_named, is_gone, is_renamed_by, may_be_rewritten, named_entry, path_after, regrown_entry, small_name_after, with_made, without_name}
+use Rattle.fc_effects.specs.Steady.{AreWritten, BigNameAfter, DirectoriesSteady, DirectorySteady, HasName, IsRewritten, edited, entries_after, gets_parent, grown_object, has_new_holder, holds_named, is_gone, is_renamed_by, named_entry, path_after, regrown_entry, small_name_after, with_made, without_name}
 use Rattle.fc_changes.proofs.BasicLemmas.{and_then_none, cases_cons, clash, map_or_none, map_same, or_left}
 
 -- ---- commands that change no path
@@ -89,7 +87,7 @@ plain_cdir path = record {
   elsewhere = λ p made es h. ap (λ (b : Bool). cond b (with_made made es) es) h;
 }
 
--- ---- where nothing grows
+-- ---- if nothing grows
 
 module _ (v w : Opened) (c : Command) (none : growth_in v c ≡ None) where
   pub moved_none : moved_growth v c ≡ None
@@ -183,8 +181,8 @@ module _ (kind : Kind) (image image' : List ℕ) (m m' : Map) (ls found : List L
           | inl went ↦ absurd (clash (is_gone c k.object.path) (gone k went) stands)
           | inr left ↦ (elim (cases_cons l rest k left) [
             | inl is ↦ subst (λ (x : Listing). IsSomeAnd (listing_at found (path_after c x.object.path)) (IsSteady x)) is
-              (some_steady (listing_at found (path_after c l.object.path)) l now (found_at sound l now there (ap (λ (o : Object). o.path) same)) steady)
+                (some_steady (listing_at found (path_after c l.object.path)) l now (found_at sound l now there (ap (λ (o : Object). o.path) same)) steady)
             | inr further ↦ (let s = stays k further in
-              some_steady (listing_at found (path_after c k.object.path)) k s.lasts.now (found_at sound k s.lasts.now s.lasts.there s.lasts.path) (kept_steady k s (other k further)))
+                some_steady (listing_at found (path_after c k.object.path)) k s.lasts.now (found_at sound k s.lasts.now s.lasts.there s.lasts.path) (kept_steady k s (other k further)))
           ])
         ]

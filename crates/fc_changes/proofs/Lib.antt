@@ -15,3 +15,5 @@ pub mod FiledLemmas
 pub mod CdirLemmas
 pub mod CommittedLemmas
 pub mod RenamedLemmas
+pub mod MovedLemmas
+pub mod StepsLemmas

@@ -1,59 +1,37 @@
 -- A new object: what it is called, and where it lies.
-use Rattle.std.proofs.Common.{◌≡◌, ◌<◌, ◌≤◌, ◌⊎◌, inl, inr, ℕ, ◌+◌, ◌*◌, Bool, true, false, cond, List, [], ◌∷◌, ◌++◌, length, map, replicate, refl, sym, ap, ap₂, subst, ◌∙◌, arith, Some, None, Option}
-use Rattle.std.specs.Prelude.{Contains, IsPermutation, IfSome, IsSomeAnd, find, insert, remove, slice_get, slice_set, is_some, ◌==◌, ◌&&◌, nat_lt}
-use Rattle.std.specs.Option.{option_map_or, option_to_list}
-use Rattle.std.proofs.lemmas.Bool.{eq-eqb, eqb-true, lt-ltb}
-use Rattle.std.proofs.lemmas.List.Sorted.{Contains-permutation, IsPermutation-refl, IsPermutation-sym, IsPermutation-insert}
-use Rattle.fc_names.specs.declared.name.NameForm.{NameForm}
-use Rattle.fc_names.specs.declared.name.NameForm.TheVariants.{Seven, Ten, Long}
-use Rattle.fc_names.specs.Names.{Path, is_directory, is_same_name, is_same_path}
+use Rattle.std.proofs.Common.{◌≡◌, ◌<◌, ◌≤◌, ℕ, Bool, true, false, cond, List, [], ◌∷◌, ◌++◌, length, refl, sym, subst, ◌∙◌, arith, Some, None, Option}
+use Rattle.std.specs.Prelude.{Contains, is_some, ◌==◌}
+use Rattle.std.proofs.lemmas.Bool.{eq-eqb}
+use Rattle.std.proofs.lemmas.List.Sorted.{Contains-permutation}
+use Rattle.fc_names.specs.Names.{Path, is_same_name, is_same_path}
 use Rattle.fc_record.specs.declared.DiscRecord.{DiscRecord}
 use Rattle.fc_record.specs.declared.Geometry.{Geometry}
 use Rattle.fc_record.specs.declared.Kind.{Kind}
-use Rattle.fc_newmap.specs.Map.{Map, ZoneRun, all_runs, bits_in, has_id, hole_runs, id_runs, is_used}
+use Rattle.fc_newmap.specs.Map.{Map, ZoneRun, all_runs, has_id, hole_runs, id_runs, is_used}
 use Rattle.fc_newmap.specs.NewMap.{IsNewMap}
 use Rattle.fc_newmap.proofs.HeldLemmas.{geometry_facts}
 use Rattle.fc_newmap.proofs.PlaceLemmas.{id_run_in}
-use Rattle.fc_copies.specs.Copies.{HoldsCopies}
-use Rattle.fc_model.specs.Tree.{holder, last_name}
-use Rattle.fc_model.specs.Command.{Command}
-use Rattle.fc_model.specs.Answer.{changed}
 use Rattle.fc_dirs.specs.declared.Entry.{Entry}
-use Rattle.fc_dirs.specs.Entries.{entry_named, entry_place, has_name, with_entry}
-use Rattle.fc_dirs.specs.Directory.{Directory, directory_size, entries_of}
-use Rattle.fc_image.specs.Layout.{Layout, dir_form, id_of, is_apart, low_of}
-use Rattle.fc_image.specs.Walk.{Listing, Object, is_directory_object, object_bytes, object_size, reader_of}
-use Rattle.fc_image.specs.Objects.{is_owner_of, object_at, objects_of, tree_of}
-use Rattle.fc_image.specs.Opening.{Opened, reserved_in}
+use Rattle.fc_dirs.specs.Entries.{entry_named, has_name}
+use Rattle.fc_dirs.specs.Directory.{entries_of}
+use Rattle.fc_image.specs.Layout.{Layout, id_of, is_apart}
+use Rattle.fc_image.specs.Walk.{Listing, Object, reader_of}
+use Rattle.fc_image.specs.Objects.{object_at}
 use Rattle.fc_image.specs.Edits.{IsListing}
 use Rattle.fc_image.specs.Stays.{IsNewKind, OpensAs}
-use Rattle.fc_image.specs.Order.{held}
-use Rattle.fc_image.specs.Commanded.{AreAt, IsFileMade}
-use Rattle.fc_image.specs.MapEdits.{IsDirectoryEdit}
-use Rattle.fc_image.specs.InPlace.{ComesTo, IsInPlace, says_now}
-use Rattle.fc_image.specs.Answered.{OpensWithTree}
-use Rattle.fc_image.proofs.AnsweredLemmas.{answered_law}
-use Rattle.fc_image.proofs.RelistLemmas.{edited_apart_law}
 use Rattle.fc_image.proofs.HolesLemmas.{apart_at, apart_from}
-use Rattle.fc_image.proofs.InPlaceLemmas.{in_place_law}
 use Rattle.fc_image.proofs.LookupLemmas.{lookup_law}
 use Rattle.fc_plan.specs.Taking.{as_runs, with_id}
-use Rattle.fc_plan.proofs.Left.{left_of_none}
-use Rattle.fc_plan.proofs.Units.{units_some}
 use Rattle.fc_image.proofs.EntriesLemmas.{in_mapped}
 use Rattle.fc_effects.specs.Sharing.{slack, slack_among, units}
-use Rattle.fc_effects.specs.Short.{Growth, growth_in, moved_growth, new_length, object_units, slack_for}
-use Rattle.fc_effects.specs.Placed.{GrowthPlacedIn, HasAddress, IsNewId, IsTaken, has_spare_share, NewObjectPlaced, StandsInNewSpace, file_low, first_low, holes_left, is_written_empty, made_object, object_parts}
-use Rattle.fc_effects.specs.Steady.{EntrySteady, IsDirLength, NamedStays, NewDirectory, edited, holds_named, holes_untaken, is_gone, is_moved_by, named_entry, named_object, replaced_entry, source_object, with_made}
-use Rattle.fc_changes.specs.Owed.{GivesBack, IsSpaceEdit}
-use Rattle.fc_changes.specs.Changed.{IsChanged, IsEntryMade, IsFileAt, IsFileChange, IsInNewSpace, IsInSlack, IsNowhere, MakesFile, children_with}
-use Rattle.fc_changes.proofs.BasicLemmas.{any_in, cases_cons, clash, first_in, map_or_none, nothing_in, unless, without_it}
-use Rattle.fc_changes.proofs.BeforeLemmas.{child_in, opened_as, parts, sound}
-use Rattle.fc_changes.proofs.DirectoriesLemmas.{IsPlain, moved_none, plain_create, plain_save}
-use Rattle.fc_changes.proofs.NewPlaceLemmas.{NewPlace, file_place}
-use Rattle.fc_changes.proofs.PlacedLemmas.{IsShared, found_in, id_is, is_shared, low_is, runs_are, same_bits, same_left, some_parts, taken}
-use Rattle.fc_changes.proofs.ReadsLemmas.{LiesIn, changed_entry, entry_at, lies_in, object_of_entry, other_dir, same_path_of}
-use Rattle.fc_changes.proofs.ChangeLemmas.{Change, Edited, behind_now, directories_now, edit, in_place, l_in, objects_now, opened, outside_now, says, sound_now, space_now, stay_in, stay_is, top}
+use Rattle.fc_effects.specs.Placed.{IsNewId, IsTaken, has_spare_share, StandsInNewSpace, file_low, first_low}
+use Rattle.fc_changes.specs.Owed.{IsSpaceEdit}
+use Rattle.fc_changes.specs.Changed.{IsInNewSpace}
+use Rattle.fc_changes.proofs.BasicLemmas.{any_in, first_in, unless}
+use Rattle.fc_changes.proofs.BeforeLemmas.{child_in, parts, sound}
+use Rattle.fc_changes.proofs.PlacedLemmas.{found_in, id_is, low_is, runs_are, some_parts, taken}
+use Rattle.fc_changes.proofs.ReadsLemmas.{object_of_entry, same_path_of}
+use Rattle.fc_changes.proofs.ChangeLemmas.{opened, says}
 
 -- ---- names
 

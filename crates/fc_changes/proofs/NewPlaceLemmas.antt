@@ -1,6 +1,6 @@
 -- What a change may rest on where a new object lies.
-use Rattle.std.proofs.Common.{◌≡◌, ◌<◌, ◌≤◌, ◌⊎◌, inl, inr, ℕ, zero, suc, ◌+◌, ◌*◌, ◌/◌, Bool, true, false, cond, List, [], ◌∷◌, ◌++◌, length, refl, sym, ap, ap₂, subst, ◌∙◌, arith, Some, None, Option, eq-eqb}
-use Rattle.std.specs.Prelude.{Contains, ◌==◌, ◌&&◌, ◌||◌, nat_le, nat_lt}
+use Rattle.std.proofs.Common.{◌≡◌, ◌<◌, ◌≤◌, inl, inr, ℕ, ◌+◌, ◌*◌, ◌/◌, Bool, true, false, cond, List, [], ◌∷◌, length, refl, sym, ap, ap₂, subst, ◌∙◌, arith, Some, eq-eqb}
+use Rattle.std.specs.Prelude.{Contains, ◌==◌, ◌&&◌, ◌||◌, nat_lt}
 use Rattle.std.specs.List.{list_any}
 use Rattle.std.proofs.lemmas.Bool.{eqb-true, le-leb, lt-ltb, ltb-true}
 use Rattle.fc_names.specs.Names.{Path}
@@ -27,13 +27,12 @@ use Rattle.fc_image.proofs.MapEditLemmas.{places_law}
 use Rattle.fc_image.proofs.MoveLemmas.{id_loose}
 use Rattle.fc_image.proofs.OneZoneLemmas.{and_first, and_second}
 use Rattle.fc_effects.specs.Placed.{file_low, has_spare_share}
-use Rattle.fc_effects.specs.Sharing.{slack}
 use Rattle.fc_changes.specs.Owed.{GivesBack, IsSpaceEdit}
 use Rattle.fc_changes.specs.Changed.{IsFileAt, IsInNewSpace, IsInSlack, IsNowhere}
-use Rattle.fc_changes.proofs.BasicLemmas.{any_in, clash, first_in, next_in, nothing_in, or_second, unless}
+use Rattle.fc_changes.proofs.BasicLemmas.{any_in, clash, first_in, or_second}
 use Rattle.fc_changes.proofs.BeforeLemmas.{object_lies, parts}
 use Rattle.fc_changes.proofs.ChangeLemmas.{a_sector, opened}
-use Rattle.fc_changes.proofs.OutsideLemmas.{AreBusy, holes_busy, no_sectors, object_owns, owned_busy}
+use Rattle.fc_changes.proofs.OutsideLemmas.{AreBusy, holes_busy, object_owns, owned_busy}
 use Rattle.fc_changes.proofs.PlacedLemmas.{IsShared, high, id_is, in_holes, is_shared, unused}
 use Rattle.fc_changes.proofs.SpaceLemmas.{runs_stay, still_owned}
 

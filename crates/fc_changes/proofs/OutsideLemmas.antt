@@ -1,20 +1,19 @@
 -- What a change leaves outside its directory, its object and the map's runs.
-use Rattle.std.proofs.Common.{◌≡◌, ◌<◌, ◌≤◌, ◌⊎◌, inl, inr, ℕ, zero, suc, ◌+◌, ◌-◌, ◌*◌, ◌/◌, Bool, true, false, cond, List, [], ◌∷◌, ◌++◌, length, take, drop, refl, sym, ap, ap₂, subst, ◌∙◌, arith, Some, None, Option, eq-eqb}
-use Rattle.std.specs.Prelude.{Result, Ok, Err, Contains, filter, not, ◌==◌, ◌&&◌, ◌||◌, nat_le, nat_lt, All}
+use Rattle.std.proofs.Common.{◌≡◌, ◌<◌, ◌≤◌, inl, inr, ℕ, zero, suc, ◌+◌, ◌*◌, Bool, true, false, List, [], ◌∷◌, ◌++◌, length, take, drop, refl, sym, ap, ap₂, subst, ◌∙◌, arith, Some, eq-eqb}
+use Rattle.std.specs.Prelude.{Ok, Err, Contains, filter, not, ◌==◌, ◌&&◌, ◌||◌, nat_le, nat_lt}
 use Rattle.std.specs.List.{list_any}
 use Rattle.std.proofs.lemmas.Bool.{cases_lt, eqb-true, leb-false, lt-ltb, ltb-true}
-use Rattle.std.proofs.lemmas.List.{drop-drop, drop_all, take-append-drop, length-drop}
+use Rattle.std.proofs.lemmas.List.{drop-drop, drop_all, take-append-drop}
 use Rattle.fc_device.specs.Sectors.{sector_at}
-use Rattle.fc_record.specs.declared.Geometry.{Geometry}
 use Rattle.fc_zone.specs.declared.RunKind.{RunKind}
 use Rattle.fc_zone.specs.declared.RunKind.TheVariants as kinds
 use Rattle.fc_newmap.specs.Map.{Map, ZoneRun, all_runs, has_id, hole_runs, id_runs, is_hole, map_sectors, sectors_of}
 use Rattle.fc_newmap.specs.RunsLaw.{HasZones, HoldsSector, IsGeometry}
 use Rattle.fc_newmap.proofs.PlaceLemmas.{filter_in, holder_of, id_run_in, in_either}
 use Rattle.fc_newmap.proofs.RunsLemmas.{runs_apart}
-use Rattle.fc_image.specs.Layout.{Layout, hole_sectors, id_of, id_sectors, is_among, is_apart, map_place, sectors_at}
+use Rattle.fc_image.specs.Layout.{Layout, hole_sectors, id_of, is_among, is_apart, map_place, sectors_at}
 use Rattle.fc_image.specs.Walk.{Object}
-use Rattle.fc_image.specs.Objects.{has_sectors, is_lost, is_owned, is_owner_of}
+use Rattle.fc_image.specs.Objects.{has_sectors, is_owned, is_owner_of}
 use Rattle.fc_image.specs.Written.{WritesOnly}
 use Rattle.fc_image.specs.Edits.{IsAt}
 use Rattle.fc_image.proofs.HolesLemmas.{apart_from, in_id}
@@ -96,7 +95,7 @@ module _ (m : Map) (objects : List Object) (some : 1 ≤ m.geometry.zones) where
   none_busy s h = absurd (cc)
 
   pub both_busy : (xs ys : List ℕ) → AreBusy m objects xs → AreBusy m objects ys → AreBusy m objects (xs ++ ys)
-  both_busy xs ys a b s h = elim (in_either xs ys s h) [ | Ok first ↦ a s first | Err second ↦ b s second ]
+  both_busy xs ys a b s h = elim (in_either xs ys s h) [ Ok first ↦ a s first | Err second ↦ b s second ]
 
   pub holes_busy : (sectors : List ℕ) → ((s : ℕ) → is_among sectors s ≡ true → is_among (hole_sectors (Layout.New m)) s ≡ true) → AreBusy m objects sectors
   holes_busy sectors within s h =
@@ -123,7 +122,7 @@ module _ (m : Map) (objects : List Object) (some : 1 ≤ m.geometry.zones) where
       clash (is_idle objects b.0.1.kind) (subst (λ (p : ZoneRun). is_idle objects p.1.kind ≡ true) same in_map.1) b.3))
       (not_true (is_among (map_sectors m.geometry) s) h))
 
--- ---- behind the disc
+-- ---- after the disc
 
 -- from a sector on, all sectors are the same, and so are the bytes
 pub same_behind : (size : ℕ) (image image' : List ℕ) → 0 < size → length image' ≡ length image → (fuel n : ℕ) → length image ≤ n * size + fuel

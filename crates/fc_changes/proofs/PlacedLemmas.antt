@@ -1,37 +1,30 @@
 -- Where a new object lies: in new space, in slack or nowhere.
-use Rattle.std.proofs.Common.{◌≡◌, ◌<◌, ◌≤◌, ◌⊎◌, inl, inr, ℕ, zero, suc, ◌+◌, ◌-◌, ◌*◌, ◌/◌, ◌%◌, Bool, true, false, cond, List, [], ◌∷◌, ◌++◌, length, map, take, drop, refl, sym, ap, ap₂, subst, ◌∙◌, arith, Some, None, Option, eq-eqb}
-use Rattle.std.specs.Prelude.{Result, Ok, Err, Contains, IsPermutation, All, filter, find, not, ◌==◌, ◌&&◌, ◌||◌, nat_le, nat_lt}
-use Rattle.std.specs.List.{flat_map, fold, list_any, list_all, range_with_len, sum_by}
+use Rattle.std.proofs.Common.{◌≡◌, ◌<◌, ◌≤◌, inl, inr, ℕ, zero, suc, ◌+◌, ◌-◌, ◌*◌, ◌/◌, ◌%◌, Bool, true, false, cond, List, [], ◌∷◌, ◌++◌, length, map, refl, sym, ap, ap₂, subst, ◌∙◌, arith, Some, None, Option}
+use Rattle.std.specs.Prelude.{Contains, IsPermutation, filter, find, not, ◌==◌, ◌&&◌, nat_lt}
+use Rattle.std.specs.List.{flat_map, fold, list_all, range_with_len}
 use Rattle.std.specs.Option.{option_map_or}
 use Rattle.std.proofs.Math.Nat.{div-mul-le_self, mul-le-mul_right}
 use Rattle.std.proofs.lemmas.Nat.{le-div}
-use Rattle.std.proofs.lemmas.Bool.{eqb-true, le-leb, lt-ltb, ltb-true}
+use Rattle.std.proofs.lemmas.Bool.{ltb-true}
 use Rattle.std.proofs.lemmas.List.Elements.{All-contains}
 use Rattle.std.proofs.lemmas.List.Sorted.{Contains-permutation, IsPermutation-sym, sum_by-IsPermutation}
 use Rattle.fc_names.specs.Names.{Path, is_same_path}
-use Rattle.fc_record.specs.declared.DiscRecord.{DiscRecord}
 use Rattle.fc_record.specs.declared.Geometry.{Geometry}
-use Rattle.fc_record.specs.declared.Kind.{Kind}
 use Rattle.fc_record.specs.Record.{base, first_bit, id_limit}
-use Rattle.fc_newmap.specs.Map.{Map, ZoneRun, all_runs, bits_in, first_sector, has_id, hole_runs, id_runs, is_used, sector_count}
+use Rattle.fc_newmap.specs.Map.{Map, ZoneRun, bits_in, first_sector, hole_runs, id_runs, is_used, sector_count}
 use Rattle.fc_newmap.specs.NewMap.{IsNewMap}
 use Rattle.fc_newmap.specs.RunsLaw.{HoldsSector}
 use Rattle.fc_newmap.proofs.HeldLemmas.{geometry_facts}
-use Rattle.fc_newmap.proofs.PlaceLemmas.{held_in, holder_of, id_run_in, in_back, in_front}
-use Rattle.fc_newmap.proofs.RunsLemmas.{runs_apart}
-use Rattle.fc_image.specs.Layout.{Layout, dir_form, hole_sectors, id_of, id_sectors, is_among, is_apart, is_object_id, low_of, new_sectors, sectors_at}
-use Rattle.fc_image.specs.Walk.{Listing, Object, is_directory_object, object_size}
-use Rattle.fc_image.specs.Objects.{has_sectors, is_movable, is_owned, is_owner_of, objects_of}
-use Rattle.fc_image.specs.Opening.{reserved_in}
-use Rattle.fc_image.specs.Stays.{IsNewKind, OpensAs}
-use Rattle.fc_image.specs.Edits.{IsAt}
+use Rattle.fc_newmap.proofs.PlaceLemmas.{held_in, holder_of, in_back, in_front}
+use Rattle.fc_image.specs.Layout.{Layout, hole_sectors, id_of, id_sectors, is_among, is_apart, low_of, new_sectors}
+use Rattle.fc_image.specs.Walk.{Object}
+use Rattle.fc_image.specs.Objects.{has_sectors, is_owner_of}
 use Rattle.fc_image.proofs.EntriesLemmas.{from_filter, from_map, in_filter, in_mapped, same_some}
-use Rattle.fc_image.proofs.HolesLemmas.{apart_at, apart_from, holes_law, in_id, loose_sectors, no_hole_in, none_loose}
-use Rattle.fc_image.proofs.MapEditLemmas.{places_law}
-use Rattle.fc_image.proofs.MoveLemmas.{id_loose, not_true}
+use Rattle.fc_image.proofs.HolesLemmas.{apart_at, apart_from}
+use Rattle.fc_image.proofs.MoveLemmas.{not_true}
 use Rattle.fc_image.proofs.OneZoneLemmas.{and_first, and_second}
-use Rattle.fc_effects.specs.Sharing.{Holding, holding_of, holdings_in, is_shareable, is_spare, may_share_with, new_ids, shares, slack, slack_among, units}
-use Rattle.fc_effects.specs.Placed.{HasRunLength, IsFront, IsPlan, IsTaken, holes_left, stands_at}
+use Rattle.fc_effects.specs.Sharing.{Holding, holding_of, holdings_in, is_shareable, is_spare, may_share_with, shares, slack, slack_among, units}
+use Rattle.fc_effects.specs.Placed.{IsFront, IsTaken, holes_left}
 use Rattle.fc_plan.specs.Plan.{AreApart}
 use Rattle.fc_plan.specs.Taking.{as_runs, with_id}
 use Rattle.fc_plan.proofs.Composed.{left_in_order}
@@ -40,13 +33,10 @@ use Rattle.fc_plan.proofs.Order.{same_place}
 use Rattle.fc_plan.proofs.Ordered.{taken_in_order}
 use Rattle.fc_plan.proofs.Plans.{cut_of_plan}
 use Rattle.fc_plan.proofs.Units.{units_some}
-use Rattle.fc_changes.specs.Owed.{GivesBack, IsSpaceEdit}
-use Rattle.fc_changes.specs.Changed.{IsFileAt, IsInNewSpace, IsInSlack, IsNowhere}
-use Rattle.fc_changes.proofs.BasicLemmas.{any_in, cases_cons, clash, first_in, in_any, in_flat, next_in, not_zero, nothing_in, or_second, unless}
-use Rattle.fc_changes.proofs.BeforeLemmas.{object_lies, parts}
-use Rattle.fc_changes.proofs.OutsideLemmas.{AreBusy, holes_busy, no_sectors, object_owns, owned_busy}
-use Rattle.fc_changes.proofs.SpaceLemmas.{no_runs, runs_stay, still_owned}
-use Rattle.fc_changes.proofs.ChangeLemmas.{a_sector}
+use Rattle.fc_changes.specs.Owed.{IsSpaceEdit}
+use Rattle.fc_changes.specs.Changed.{IsInNewSpace}
+use Rattle.fc_changes.proofs.BasicLemmas.{cases_cons, clash, first_in, in_flat, next_in, not_zero, nothing_in}
+use Rattle.fc_changes.proofs.SpaceLemmas.{no_runs}
 
 -- ---- lists
 
@@ -55,7 +45,7 @@ filter_test t [] x at = absurd (nothing_in x at)
 filter_test t (y ∷ xs) x at = by (t y) refl at (filter_test t xs x)
   where
     by : (b : Bool) → t y ≡ b → Contains (cond b (y ∷ filter t xs) (filter t xs)) x → (Contains (filter t xs) x → t x ≡ true) → t x ≡ true
-    by true e at' more = elim (cases_cons y (filter t xs) x at') [ | inl is ↦ ap t (sym is) ∙ e | inr later ↦ more later ]
+    by true e at' more = elim (cases_cons y (filter t xs) x at') [ inl is ↦ ap t (sym is) ∙ e | inr later ↦ more later ]
     by false e at' more = more at'
 
 range_bounds : (from n x : ℕ) → Contains (range_with_len from n) x → (from ≤ x) × (x < from + n)

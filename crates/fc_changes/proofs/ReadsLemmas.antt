@@ -1,6 +1,6 @@
 -- What a written directory reads as, and edits of entries by name.
-use Rattle.std.proofs.Common.{◌≡◌, ◌<◌, ◌⊎◌, inl, inr, ℕ, zero, suc, Bool, true, false, cond, List, [], ◌∷◌, ◌++◌, refl, sym, ap, ap₂, subst, ◌∙◌, arith, Some, None, Option}
-use Rattle.std.specs.Prelude.{Result, Ok, Err, Contains, slice_get, slice_set, map, IsTrue, ◌&&◌}
+use Rattle.std.proofs.Common.{◌≡◌, inl, inr, ℕ, zero, suc, Bool, true, false, cond, List, [], ◌∷◌, ◌++◌, sym, ap, ap₂, subst, ◌∙◌, Some, None, Option}
+use Rattle.std.specs.Prelude.{Result, Ok, Contains, slice_get, slice_set, map, ◌&&◌}
 use Rattle.fc_names.specs.declared.name.NameForm.{NameForm}
 use Rattle.fc_names.specs.declared.name.NameForm.TheVariants.{Seven, Ten, Long}
 use Rattle.fc_names.specs.Names.{Path, is_same_name, is_same_path}
@@ -10,10 +10,10 @@ use Rattle.fc_dirs.specs.declared.Entry.{Entry}
 use Rattle.fc_dirs.specs.declared.DirFault.{DirFault}
 use Rattle.fc_dirs.specs.declared.SmallForm.{SmallForm}
 use Rattle.fc_dirs.specs.declared.SmallForm.TheVariants.{Bytes1280, Bytes2048}
-use Rattle.fc_dirs.specs.Entries.{first_twin, has_name, with_entry}
+use Rattle.fc_dirs.specs.Entries.{first_twin, with_entry}
 use Rattle.fc_dirs.specs.Small.{SmallDir, small_dir, small_fault}
 use Rattle.fc_dirs.specs.Big.{BigDir, big_dir, big_fault}
-use Rattle.fc_dirs.specs.Directory.{Directory, directory_of, entries_of, read_or}
+use Rattle.fc_dirs.specs.Directory.{Directory, directory_of, read_or}
 use Rattle.fc_dirs.proofs.EditLemmas.{edit_law}
 use Rattle.fc_image.specs.Layout.{Layout}
 use Rattle.fc_image.specs.Walk.{Object}
@@ -23,7 +23,7 @@ use Rattle.fc_image.proofs.PathsLemmas.{cut, itself, root_other, same_last}
 use Rattle.fc_image.proofs.RenameLemmas.{last_pushed}
 use Rattle.fc_image.proofs.CommandLemmas.{same_by_folds}
 use Rattle.fc_image.proofs.TreeLemmas.{folds_alike}
-use Rattle.fc_effects.specs.Steady.{AreWritten, IsRewritten, replaced_entry, with_made, without_name}
+use Rattle.fc_effects.specs.Steady.{AreWritten, IsRewritten, replaced_entry, with_made}
 use Rattle.fc_changes.proofs.BasicLemmas.{cases_cons, clash, first_in, holder_pushed, next_in, nothing_in, unless}
 
 -- ---- reading back

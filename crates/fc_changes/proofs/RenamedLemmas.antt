@@ -1,27 +1,22 @@
 -- Rename within a directory.
-use Rattle.std.proofs.Common.{◌≡◌, ◌<◌, ◌≤◌, ◌⊎◌, inl, inr, ℕ, ◌+◌, ◌*◌, ◌/◌, ◌%◌, Bool, true, false, cond, List, [], ◌∷◌, ◌++◌, length, map, refl, sym, ap, ap₂, subst, ◌∙◌, arith, Some, None, Option}
-use Rattle.std.specs.Prelude.{Result, Ok, Contains, IsPermutation, IfSome, IsSomeAnd, remove, slice_get, slice_set, not, filter, drop, ◌&&◌}
-use Rattle.std.proofs.lemmas.List.{append-nil}
+use Rattle.std.proofs.Common.{◌≡◌, ◌≤◌, ◌⊎◌, inl, inr, ℕ, Bool, true, false, cond, List, [], ◌∷◌, ◌++◌, length, map, refl, sym, ap, ap₂, subst, ◌∙◌, arith, Some, None, Option}
+use Rattle.std.specs.Prelude.{Ok, Contains, IsPermutation, IfSome, IsSomeAnd, remove, not, filter, drop, ◌&&◌}
 use Rattle.std.proofs.lemmas.List.Sorted.{Contains-permutation, IsPermutation-sym}
 use Rattle.fc_names.specs.declared.name.NameForm.{NameForm}
 use Rattle.fc_names.specs.declared.name.NameForm.TheVariants.{Seven, Ten, Long}
 use Rattle.fc_names.specs.Names.{Path, is_same_path}
 use Rattle.fc_record.specs.declared.DiscRecord.{DiscRecord}
 use Rattle.fc_record.specs.declared.Kind.{Kind}
-use Rattle.fc_record.specs.Kinds.{disc_size}
-use Rattle.fc_zone.specs.declared.RunKind.{RunKind}
-use Rattle.fc_zone.specs.declared.RunKind.TheVariants as kinds
-use Rattle.fc_newmap.specs.Map.{Map, ZoneRun, all_runs, hole_runs, map_sectors}
+use Rattle.fc_newmap.specs.Map.{Map}
 use Rattle.fc_newmap.proofs.ComposeLemmas.{edits_none}
 use Rattle.fc_copies.specs.declared.Which.TheVariants.{One, Two}
 use Rattle.fc_copies.specs.Copies.{HoldsCopies}
-use Rattle.fc_model.specs.Tree.{Tree, holder}
+use Rattle.fc_model.specs.Tree.{holder}
 use Rattle.fc_model.specs.Command.{Command}
 use Rattle.fc_model.specs.Answer.{changed}
 use Rattle.fc_dirs.specs.declared.Entry.{Entry}
-use Rattle.fc_dirs.specs.declared.DirFault.{DirFault}
-use Rattle.fc_dirs.specs.Directory.{Directory, directory_of, directory_size, entries_of}
-use Rattle.fc_image.specs.Layout.{Layout, is_among, bytes_in, dir_form, is_apart, sector_bytes}
+use Rattle.fc_dirs.specs.Directory.{Directory, directory_of, entries_of}
+use Rattle.fc_image.specs.Layout.{Layout, is_among, dir_form, is_apart}
 use Rattle.fc_image.specs.Report.{holder_address}
 use Rattle.fc_image.specs.Walk.{Listing, Object, is_directory_object, object_bytes, reader_of}
 use Rattle.fc_image.specs.Objects.{is_owned, object_at, objects_of, tree_of}
@@ -30,12 +25,9 @@ use Rattle.fc_image.specs.Stays.{HasSectorsOf, IsNewKind, OpensAs}
 use Rattle.fc_image.specs.Edits.{IsListing}
 use Rattle.fc_image.specs.Order.{held}
 use Rattle.fc_image.specs.Sound.{AreSound}
-use Rattle.fc_image.specs.Commanded.{mark_object, set_object}
 use Rattle.fc_image.specs.EditedWalk.{AreListedBy}
 use Rattle.fc_image.specs.MapEdits.{IsMapEdit}
 use Rattle.fc_image.specs.InPlace.{says_now}
-use Rattle.fc_image.specs.Rewords.{IsReword, IsRewording}
-use Rattle.fc_image.specs.Written.{WritesOnly}
 use Rattle.fc_image.specs.Answered.{OpensWithTree}
 use Rattle.fc_image.proofs.AnsweredLemmas.{answered_law}
 use Rattle.fc_image.proofs.EntriesLemmas.{in_mapped}
@@ -45,25 +37,19 @@ use Rattle.fc_image.proofs.LookupLemmas.{lookup_law}
 use Rattle.fc_image.proofs.MapEditLemmas.{file_stays}
 use Rattle.fc_image.proofs.PathsLemmas.{itself}
 use Rattle.fc_image.proofs.RenameLemmas.{child_path}
-use Rattle.fc_image.proofs.RewordLemmas.{reword_law}
 use Rattle.fc_image.proofs.WrittenLemmas.{written_law}
-use Rattle.fc_plan.proofs.Left.{left_of_none}
-use Rattle.fc_effects.specs.Effect.{Changes, copies_file}
-use Rattle.fc_effects.specs.Short.{growth_in}
-use Rattle.fc_effects.specs.Placed.{Placed, holes_left, made_object, object_parts}
-use Rattle.fc_effects.specs.Steady.{AreWritten, DirectoriesSteady, EntrySteady, HasSameAddress, IsDirLength, IsRewritten, MapOutside, NewMapSteady, edited, expected_zone, has_id_that, holds_named, holes_untaken, holes_with, idle_sectors, is_given_back, is_gone, named_entry, runs_that, with_made, zone_holes}
-use Rattle.fc_plan.specs.Giving.{is_one_of}
-use Rattle.fc_changes.specs.Owed.{GivesBack, IsMapAfter, IsSpaceEdit, IsWritten}
+use Rattle.fc_effects.specs.Effect.{copies_file}
+use Rattle.fc_effects.specs.Placed.{made_object, object_parts}
+use Rattle.fc_effects.specs.Steady.{AreWritten, DirectoriesSteady, EntrySteady, IsDirLength, IsRewritten, NewMapSteady, edited, holds_named, named_entry, with_made}
+use Rattle.fc_changes.specs.Owed.{GivesBack, IsMapAfter}
 use Rattle.fc_changes.specs.Changed.{IsChanged, IsRenameChange}
 use Rattle.fc_changes.specs.Laws.{RenamedLaw}
-use Rattle.fc_changes.proofs.BasicLemmas.{cases_cons, first_in, next_in, nothing_in, with_other, without_it}
-use Rattle.fc_changes.proofs.BeforeLemmas.{Had, boot_stays, opened_as, child_in, had, listed_in, map_edit, object_from, object_lies, other_path, parts, says_old, sound}
-use Rattle.fc_changes.proofs.DirectoriesLemmas.{IsPlain, Lasts, Stays, all_steady, plain_mark, plain_set, written_steady}
+use Rattle.fc_changes.proofs.BasicLemmas.{cases_cons, first_in, next_in, nothing_in, without_it}
+use Rattle.fc_changes.proofs.BeforeLemmas.{boot_stays, opened_as, child_in, had, listed_in, map_edit, object_from, object_lies, other_path, parts, says_old, sound}
 use Rattle.fc_changes.proofs.OutsideLemmas.{AreBusy, no_sectors, no_owner_low, object_busy}
 use Rattle.fc_changes.proofs.SpaceLemmas.{space_steady, untaken_is}
-use Rattle.fc_changes.proofs.ReadsLemmas.{changed_entry, entry_at, lies_in, other_dir, reads_back}
-use Rattle.fc_changes.proofs.AfterLemmas.{behind_stays, holder_stays, outside_steady, still_owns, tells_now}
-
+use Rattle.fc_changes.proofs.ReadsLemmas.{entry_at, lies_in, other_dir, reads_back}
+use Rattle.fc_changes.proofs.AfterLemmas.{behind_stays, outside_steady, still_owns, tells_now}
 use Rattle.fc_image.specs.EditedWalk.{moved_object}
 use Rattle.fc_image.specs.Commanded.{moved_name, moved_path}
 use Rattle.fc_image.specs.Objects.{listing_at}
@@ -86,38 +72,38 @@ use Rattle.fc_image.proofs.WrittenLemmas.{cut}
 use Rattle.fc_names.specs.Names.{folded_path, folded}
 use Rattle.fc_newmap.proofs.PlaceLemmas.{in_either}
 use Rattle.fc_model.specs.Tree.{is_prefix, last_name}
-use Rattle.fc_dirs.specs.Entries.{entry_place, has_name, with_entry, without_entry}
+use Rattle.fc_dirs.specs.Entries.{entry_place, with_entry, without_entry}
 use Rattle.fc_dirs.proofs.EditLemmas.{edit_law}
-use Rattle.std.specs.Prelude.{Err, insert, take, drop, nat_lt}
+use Rattle.std.specs.Prelude.{Err, insert, drop, nat_lt}
 use Rattle.std.specs.Option.{option_map_or}
 use Rattle.std.proofs.lemmas.List.{length-take}
 use Rattle.std.proofs.lemmas.List.Elements.{Contains-append_left, Contains-append_right}
 use Rattle.std.proofs.lemmas.List.Sorted.{IsPermutation-insert}
-use Rattle.fc_effects.specs.Short.{Growth, is_copied, is_sharing, moved_growth, new_length, object_units}
+use Rattle.fc_effects.specs.Short.{Growth, is_copied, is_sharing, new_length}
 use Rattle.fc_effects.specs.Placed.{GrowthPlacedIn, NewObjectPlaced}
 use Rattle.fc_effects.specs.Sharing.{units}
-use Rattle.fc_effects.specs.Steady.{is_moved_by, DirectorySteady, HasName, IsKept, IsWrittenAnew, NamedStays, RenamedHead, gets_parent, has_new_holder, is_renamed_by, path_after, replaced_entry, without_name}
-use Rattle.fc_changes.proofs.BasicLemmas.{and_false, clash, in_flat, long_pushed, map_or_none, or_left, or_second, holder_pushed, unless}
+use Rattle.fc_effects.specs.Steady.{is_moved_by, DirectorySteady, HasName, IsKept, IsWrittenAnew, NamedStays, RenamedHead, gets_parent, is_renamed_by, path_after, replaced_entry, without_name}
+use Rattle.fc_changes.proofs.BasicLemmas.{clash, long_pushed, or_left, or_second, holder_pushed, unless}
 use Rattle.fc_changes.proofs.BeforeLemmas.{address_by, held_by, opened_as}
 use Rattle.fc_changes.proofs.ChangeLemmas.{opened}
-use Rattle.fc_changes.proofs.DirectoriesLemmas.{entries_now, moved_none, no_new_holder}
+use Rattle.fc_changes.proofs.DirectoriesLemmas.{entries_now, no_new_holder}
 use Rattle.fc_changes.proofs.MadeLemmas.{turned}
 use Rattle.fc_changes.proofs.OutsideLemmas.{both_busy}
 use Rattle.fc_changes.proofs.ReadsLemmas.{same_name_turned}
-use Rattle.fc_changes.proofs.RewordedLemmas.{Mapped, entry_stays, mapped, no_space_edit, ok_same, same_address}
+use Rattle.fc_changes.proofs.RewordedLemmas.{Mapped, mapped, no_space_edit, ok_same, same_address}
 
-each_apart : (taken : List ℕ) (objects : List Object) (o p : Object) → IsApartFrom taken objects o → Contains objects p → is_apart o.sectors p.sectors ≡ true
+pub each_apart : (taken : List ℕ) (objects : List Object) (o p : Object) → IsApartFrom taken objects o → Contains objects p → is_apart o.sectors p.sectors ≡ true
 each_apart taken [] o p a at = absurd (nothing_in p at)
 each_apart taken (q ∷ objects) o p a at = elim (cases_cons q objects p at) [
   | inl is ↦ subst (λ (x : Object). is_apart o.sectors x.sectors ≡ true) is a.0
   | inr later ↦ each_apart taken objects o p a.1 later
 ]
 
-folds_append : (xs ys : Path) → folded_path (xs ++ ys) ≡ folded_path xs ++ folded_path ys
+pub folds_append : (xs ys : Path) → folded_path (xs ++ ys) ≡ folded_path xs ++ folded_path ys
 folds_append [] ys = refl
 folds_append (x ∷ xs) ys = ap (λ (zs : Path). folded x ∷ zs) (folds_append xs ys)
 
-same_turned : (p q : Path) → is_same_path p q ≡ true → is_same_path q p ≡ true
+pub same_turned : (p q : Path) → is_same_path p q ≡ true → is_same_path q p ≡ true
 same_turned p q h = same_by_folds q p (sym (folds_alike p q h))
 
 module _ (kind : Kind) (r : DiscRecord) (image image' : List ℕ) (m : Map) (ls : List Listing) (from to : Path) (rest : List Listing) (l : Listing) (content : Directory) (i : ℕ) (o : Object)
@@ -194,8 +180,8 @@ module _ (kind : Kind) (r : DiscRecord) (image image' : List ℕ) (m : Map) (ls 
           elim (cases_cons d.0 parted.0 k (Contains-permutation ls (d.0 ∷ parted.0) k parted.1 at)) [
             | inl is ↦ absurd (clash (is_same_path o.path k.object.path) (ap (λ (p : Path). is_same_path o.path p) (ap (λ (x : Listing). x.object.path) (sym is) ∙ ap (λ (x : Object). x.path) d.2) ∙ itself o.path) other)
             | inr later ↦ subst (λ (x : Object). is_apart k.object.sectors x.sectors ≡ true) d.2
-              (turned d.0.object.sectors k.object.sectors (each_apart (reserved_in kind (Layout.New m)) (listed parted.0 ++ filter is_file (held ls)) d.0.object k.object (cut kind r image image' v m parted.0 d.0 new opens refl parted.1)
-              (Contains-append_left (listed parted.0) (filter is_file (held ls)) k.object (in_mapped (λ (x : Listing). x.object) parted.0 k later))))
+                (turned d.0.object.sectors k.object.sectors (each_apart (reserved_in kind (Layout.New m)) (listed parted.0 ++ filter is_file (held ls)) d.0.object k.object (cut kind r image image' v m parted.0 d.0 new opens refl parted.1)
+                (Contains-append_left (listed parted.0) (filter is_file (held ls)) k.object (in_mapped (λ (x : Listing). x.object) parted.0 k later))))
           ]
 
   own_files : (p : Object) → Contains (held ls) p → is_directory_object p ≡ false → is_apart p.sectors own ≡ true
@@ -390,11 +376,11 @@ module _ (kind : Kind) (r : DiscRecord) (image image' : List ℕ) (m : Map) (ls 
       elim (cases_cons l rest h.dir (Contains-permutation ls (l ∷ rest) h.dir e.found h.there)) [
         | inl is ↦ (holder_now l.object.path (ap (λ (x : Listing). is_same_path (holder l.object.path) x.object.path) is ∙ here) ∙ ap (λ (x : Listing). x.object.entry.address) is ∙ sym before)
         | inr later ↦ (let k' = place h.dir later in
-          let short : length h.dir.object.path ≤ length l.object.path =
-          (let n = ap (λ (p : Path). length p) h.same in let t = length-take (length l.object.path - 1) l.object.path in omega (arith, n, t)) in
-          address_by (Layout.New m) answer.found l.object.path k'.now sound_now (place_there h.dir later)
-          (ap (λ (p : Path). is_same_path (holder l.object.path) p) (path_now h.dir later ∙ still_there h.dir.object.path short) ∙ here)
-          ∙ ap (λ (x : Object). x.entry.address) k'.object ∙ sym before)
+            let short : length h.dir.object.path ≤ length l.object.path =
+            (let n = ap (λ (p : Path). length p) h.same in let t = length-take (length l.object.path - 1) l.object.path in omega (arith, n, t)) in
+            address_by (Layout.New m) answer.found l.object.path k'.now sound_now (place_there h.dir later)
+            (ap (λ (p : Path). is_same_path (holder l.object.path) p) (path_now h.dir later ∙ still_there h.dir.object.path short) ∙ here)
+            ∙ ap (λ (x : Object). x.entry.address) k'.object ∙ sym before)
       ]
 
   -- ---- the directories
@@ -492,13 +478,13 @@ module _ (kind : Kind) (r : DiscRecord) (image image' : List ℕ) (m : Map) (ls 
   directories : DirectoriesSteady image image' v view c
   directories k at stands = elim (cases_cons l rest k (Contains-permutation ls (l ∷ rest) k e.found at)) [
     | inl is ↦ subst (λ (x : Listing). IsSomeAnd (listing_at answer.found (path_after c x.object.path)) (DirectorySteady image image' v view c x)) is
-      (some_steady (listing_at answer.found (path_after c l.object.path)) l l'
-      (lookup_law.listing (Layout.New m) answer.found (path_after c l.object.path) l' sound_now l_there
-      (ap (λ (p : Path). is_same_path (path_after c l.object.path) p) (sym (still_there l.object.path (omega arith))) ∙ same_after l.object.path)) l_steady)
+        (some_steady (listing_at answer.found (path_after c l.object.path)) l l'
+        (lookup_law.listing (Layout.New m) answer.found (path_after c l.object.path) l' sound_now l_there
+        (ap (λ (p : Path). is_same_path (path_after c l.object.path) p) (sym (still_there l.object.path (omega arith))) ∙ same_after l.object.path)) l_steady)
     | inr later ↦ some_steady (listing_at answer.found (path_after c k.object.path)) k (place k later).now
-      (lookup_law.listing (Layout.New m) answer.found (path_after c k.object.path) (place k later).now sound_now (place_there k later)
-      (ap (λ (p : Path). is_same_path (path_after c k.object.path) p) (path_now k later) ∙ same_after k.object.path))
-      (rest_steady k later (other_path kind r image m ls new opens edit.0 image' m edit.1 l k rest e.found later))
+        (lookup_law.listing (Layout.New m) answer.found (path_after c k.object.path) (place k later).now sound_now (place_there k later)
+        (ap (λ (p : Path). is_same_path (path_after c k.object.path) p) (path_now k later) ∙ same_after k.object.path))
+        (rest_steady k later (other_path kind r image m ls new opens edit.0 image' m edit.1 l k rest e.found later))
   ]
     where
       some_steady : (q : Option Listing) (k n : Listing) → q ≡ Some n → DirectorySteady image image' v view c k n → IsSomeAnd q (DirectorySteady image image' v view c k)
@@ -515,11 +501,16 @@ module _ (kind : Kind) (r : DiscRecord) (image image' : List ℕ) (m : Map) (ls 
   each_has : (p : Object) → Contains (objects_of ls) p → (q : Object) × Contains (objects_of answer.found) q × (q.sectors ≡ p.sectors) × (q.entry.address ≡ p.entry.address)
   each_has p at = elim (object_from kind r image m ls new opens p at) [
     | inl top ↦ (let n = listed_now top.0 top.1 in
-      (n.0.object, listed_in kind r image' m answer.found new answer.opens n.0 n.1, n.2 ∙ ap (λ (x : Object). x.sectors) top.2, n.3 ∙ ap (λ (x : Object). x.entry.address) top.2))
+        (n.0.object, listed_in kind r image' m answer.found new answer.opens n.0 n.1, n.2 ∙ ap (λ (x : Object). x.sectors) top.2, n.3 ∙ ap (λ (x : Object). x.entry.address) top.2))
     | inr kid ↦ (elim (cases_cons l rest kid.0 (Contains-permutation ls (l ∷ rest) kid.0 e.found kid.1)) [
       | inl is ↦ here_has (subst (λ (k : Listing). Contains k.children p) (sym is) kid.2)
-      | inr later ↦ (g p, child_in kind r image' m answer.found new answer.opens (place kid.0 later).now (g p) (place_there kid.0 later)
-        (subst (λ (os : List Object). Contains os (g p)) (sym (place kid.0 later).children) (in_mapped g kid.0.children p kid.2)), refl, refl)
+      | inr later ↦ (
+        g p,
+        child_in kind r image' m answer.found new answer.opens (place kid.0 later).now (g p) (place_there kid.0 later)
+            (subst (λ (os : List Object). Contains os (g p)) (sym (place kid.0 later).children) (in_mapped g kid.0.children p kid.2)),
+        refl,
+        refl,
+      )
     ])
   ]
     where
@@ -603,8 +594,8 @@ module _ (kind : Kind) (r : DiscRecord) (image image' : List ℕ) (m : Map) (ls 
 pub renamed_law : RenamedLaw
 renamed_law kind r image image' v m from to rest l content i o now e =
     subst (λ (u : Opened). IsRenameChange kind r image image' u m from to rest l content i o now
-      → (rest' : List Listing) × AreListedBy (moved_object o.path (l.object.path ++ last_name to ∷ [])) rest rest'
-      × IsChanged kind image image' u m (says_now l content
-      (insert (remove l.children i) (entry_place (last_name to) (remove (entries_of l.content) i)) (moved_object o.path (l.object.path ++ last_name to ∷ []) o)) ∷ rest') (Command.Rename from to))
+    → (rest' : List Listing) × AreListedBy (moved_object o.path (l.object.path ++ last_name to ∷ [])) rest rest'
+    × IsChanged kind image image' u m (says_now l content
+    (insert (remove l.children i) (entry_place (last_name to) (remove (entries_of l.content) i)) (moved_object o.path (l.object.path ++ last_name to ∷ []) o)) ∷ rest') (Command.Rename from to))
     (opened_as kind r image v m e.before.new_kind e.before.opens e.before.layout)
     (renamed_at kind r image image' m v.listings from to rest l content i o now) e

@@ -1,6 +1,6 @@
 -- Set and mark: one entry gets other words or attributes.
-use Rattle.std.proofs.Common.{◌≡◌, ◌<◌, ◌≤◌, ◌⊎◌, inl, inr, ℕ, ◌+◌, ◌*◌, ◌/◌, ◌%◌, Bool, true, false, cond, List, [], ◌∷◌, ◌++◌, length, map, refl, sym, ap, ap₂, subst, ◌∙◌, arith, Some, None, Option}
-use Rattle.std.specs.Prelude.{Result, Ok, Contains, IsPermutation, IfSome, IsSomeAnd, remove, slice_get, slice_set, not, filter, drop, ◌&&◌}
+use Rattle.std.proofs.Common.{◌≡◌, ◌<◌, inl, inr, ℕ, ◌+◌, ◌*◌, ◌/◌, ◌%◌, Bool, true, false, cond, List, [], ◌∷◌, ◌++◌, map, refl, sym, ap, ap₂, subst, ◌∙◌, arith, Some, None, Option}
+use Rattle.std.specs.Prelude.{Result, Ok, Contains, IsPermutation, IfSome, remove, slice_set, not, filter, drop, ◌&&◌}
 use Rattle.std.proofs.lemmas.List.{append-nil}
 use Rattle.std.proofs.lemmas.List.Sorted.{Contains-permutation, IsPermutation-sym}
 use Rattle.fc_names.specs.declared.name.NameForm.{NameForm}
@@ -11,7 +11,7 @@ use Rattle.fc_record.specs.declared.Kind.{Kind}
 use Rattle.fc_record.specs.Kinds.{disc_size}
 use Rattle.fc_zone.specs.declared.RunKind.{RunKind}
 use Rattle.fc_zone.specs.declared.RunKind.TheVariants as kinds
-use Rattle.fc_newmap.specs.Map.{Map, ZoneRun, all_runs, hole_runs, map_sectors}
+use Rattle.fc_newmap.specs.Map.{Map, ZoneRun, all_runs, hole_runs}
 use Rattle.fc_newmap.proofs.ComposeLemmas.{edits_none}
 use Rattle.fc_copies.specs.declared.Which.TheVariants.{One, Two}
 use Rattle.fc_copies.specs.Copies.{HoldsCopies}
@@ -21,14 +21,12 @@ use Rattle.fc_model.specs.Answer.{changed}
 use Rattle.fc_dirs.specs.declared.Entry.{Entry}
 use Rattle.fc_dirs.specs.declared.DirFault.{DirFault}
 use Rattle.fc_dirs.specs.Directory.{Directory, directory_of, directory_size, entries_of}
-use Rattle.fc_image.specs.Layout.{Layout, bytes_in, dir_form, is_apart, sector_bytes}
-use Rattle.fc_image.specs.Report.{holder_address}
-use Rattle.fc_image.specs.Walk.{Listing, Object, is_directory_object, object_bytes, reader_of}
+use Rattle.fc_image.specs.Layout.{Layout, bytes_in, dir_form, sector_bytes}
+use Rattle.fc_image.specs.Walk.{Listing, Object, object_bytes, reader_of}
 use Rattle.fc_image.specs.Objects.{is_owned, object_at, objects_of, tree_of}
 use Rattle.fc_image.specs.Opening.{Opened, reserved_in}
 use Rattle.fc_image.specs.Stays.{HasSectorsOf, IsNewKind, OpensAs}
 use Rattle.fc_image.specs.Edits.{IsListing}
-use Rattle.fc_image.specs.Order.{held}
 use Rattle.fc_image.specs.Sound.{AreSound}
 use Rattle.fc_image.specs.Commanded.{mark_object, set_object}
 use Rattle.fc_image.specs.EditedWalk.{AreListedBy}
@@ -40,24 +38,22 @@ use Rattle.fc_image.specs.Answered.{OpensWithTree}
 use Rattle.fc_image.proofs.AnsweredLemmas.{answered_law}
 use Rattle.fc_image.proofs.EntriesLemmas.{in_mapped}
 use Rattle.fc_image.proofs.FreeLemmas.{copy_same}
-use Rattle.fc_image.proofs.HolesLemmas.{Lies, apart_from}
+use Rattle.fc_image.proofs.HolesLemmas.{Lies}
 use Rattle.fc_image.proofs.LookupLemmas.{lookup_law}
 use Rattle.fc_image.proofs.MapEditLemmas.{file_stays}
-use Rattle.fc_image.proofs.PathsLemmas.{itself}
 use Rattle.fc_image.proofs.RenameLemmas.{child_path}
 use Rattle.fc_image.proofs.RewordLemmas.{reword_law}
 use Rattle.fc_image.proofs.WrittenLemmas.{written_law}
 use Rattle.fc_plan.proofs.Left.{left_of_none}
-use Rattle.fc_effects.specs.Effect.{Changes, copies_file}
 use Rattle.fc_effects.specs.Short.{growth_in}
-use Rattle.fc_effects.specs.Placed.{Placed, holes_left, made_object, object_parts}
-use Rattle.fc_effects.specs.Steady.{AreWritten, DirectoriesSteady, EntrySteady, HasSameAddress, IsDirLength, IsRewritten, MapOutside, NewMapSteady, edited, expected_zone, has_id_that, holds_named, holes_untaken, holes_with, idle_sectors, is_given_back, is_gone, named_entry, runs_that, with_made, zone_holes}
+use Rattle.fc_effects.specs.Placed.{made_object, object_parts}
+use Rattle.fc_effects.specs.Steady.{DirectoriesSteady, EntrySteady, HasSameAddress, IsDirLength, IsRewritten, MapOutside, NewMapSteady, edited, expected_zone, has_id_that, holds_named, holes_with, idle_sectors, is_gone, named_entry, runs_that, with_made, zone_holes}
 use Rattle.fc_plan.specs.Giving.{is_one_of}
-use Rattle.fc_changes.specs.Owed.{GivesBack, IsMapAfter, IsSpaceEdit, IsWritten}
+use Rattle.fc_changes.specs.Owed.{GivesBack, IsMapAfter, IsSpaceEdit}
 use Rattle.fc_changes.specs.Changed.{IsChanged, IsRewordChange}
 use Rattle.fc_changes.specs.Laws.{RewordedLaw}
 use Rattle.fc_changes.proofs.BasicLemmas.{cases_cons, first_in, next_in, nothing_in, with_other, without_it}
-use Rattle.fc_changes.proofs.BeforeLemmas.{Had, boot_stays, opened_as, child_in, had, listed_in, map_edit, object_from, object_lies, other_path, parts, says_old, sound}
+use Rattle.fc_changes.proofs.BeforeLemmas.{boot_stays, opened_as, child_in, had, listed_in, map_edit, object_from, object_lies, other_path, parts, says_old, sound}
 use Rattle.fc_changes.proofs.DirectoriesLemmas.{IsPlain, Lasts, Stays, all_steady, plain_mark, plain_set, written_steady}
 use Rattle.fc_changes.proofs.OutsideLemmas.{AreBusy, no_sectors, no_owner_low, object_busy}
 use Rattle.fc_changes.proofs.SpaceLemmas.{space_steady, untaken_is}
@@ -241,12 +237,16 @@ module _ (kind : Kind) (r : DiscRecord) (image image' : List ℕ) (m : Map) (ls 
     each_has : (p : Object) → Contains (objects_of ls) p → (q : Object) × Contains (objects_of w.found) q × (q.sectors ≡ p.sectors) × (q.entry.address ≡ p.entry.address)
     each_has p at = elim (object_from kind r image m ls new opens p at) [
       | inl top ↦ (let s = lasts top.0 top.1 in
-        (s.now.object, listed_in kind r image' m w.found new w.opens s.now s.there, s.sectors ∙ ap (λ (x : Object). x.sectors) top.2, s.address ∙ ap (λ (x : Object). x.entry.address) top.2))
+          (s.now.object, listed_in kind r image' m w.found new w.opens s.now s.there, s.sectors ∙ ap (λ (x : Object). x.sectors) top.2, s.address ∙ ap (λ (x : Object). x.entry.address) top.2))
       | inr kid ↦ (elim (cases_cons l rest kid.0 (Contains-permutation ls (l ∷ rest) kid.0 e.found kid.1)) [
         | inl same ↦ here_has (subst (λ (k : Listing). Contains k.children p) (sym same) kid.2)
-        | inr later ↦ (let k' = mapped g rest rest' kid.0 listed later in
-          (g p, child_in kind r image' m w.found new w.opens k'.now (g p) (in_found k'.now (next_in l' k'.now rest' k'.there))
-            (subst (λ (os : List Object). Contains os (g p)) (sym k'.children) (in_mapped g kid.0.children p kid.2)), is.sectors p, is.address p))
+        | inr later ↦ (let k' = mapped g rest rest' kid.0 listed later in (
+          g p,
+          child_in kind r image' m w.found new w.opens k'.now (g p) (in_found k'.now (next_in l' k'.now rest' k'.there))
+              (subst (λ (os : List Object). Contains os (g p)) (sym k'.children) (in_mapped g kid.0.children p kid.2)),
+          is.sectors p,
+          is.address p,
+        ))
       ])
     ]
       where
@@ -504,14 +504,14 @@ pub reworded_law : RewordedLaw
 reworded_law = record {
   set = λ kind r image image' v m rest l content i o path load exec access low same e.
       subst (λ (u : Opened). IsRewordChange kind r image image' u m (Command.Set path load exec access) rest l content i o (set_object o.path load exec access)
-        → (rest' : List Listing) × AreListedBy (set_object o.path load exec access) rest rest'
-        × IsChanged kind image image' u m (says_now l content (slice_set l.children i (set_object o.path load exec access o)) ∷ rest') (Command.Set path load exec access))
+      → (rest' : List Listing) × AreListedBy (set_object o.path load exec access) rest rest'
+      × IsChanged kind image image' u m (says_now l content (slice_set l.children i (set_object o.path load exec access o)) ∷ rest') (Command.Set path load exec access))
       (opened_as kind r image v m e.before.new_kind e.before.opens e.before.layout)
       (set_at kind r image image' m v.listings rest l content i o path load exec access low same) e;
   mark = λ kind r image image' v m rest l content i o path attrs same e.
       subst (λ (u : Opened). IsRewordChange kind r image image' u m (Command.Mark path attrs) rest l content i o (mark_object o.path attrs)
-        → (rest' : List Listing) × AreListedBy (mark_object o.path attrs) rest rest'
-        × IsChanged kind image image' u m (says_now l content (slice_set l.children i (mark_object o.path attrs o)) ∷ rest') (Command.Mark path attrs))
+      → (rest' : List Listing) × AreListedBy (mark_object o.path attrs) rest rest'
+      × IsChanged kind image image' u m (says_now l content (slice_set l.children i (mark_object o.path attrs o)) ∷ rest') (Command.Mark path attrs))
       (opened_as kind r image v m e.before.new_kind e.before.opens e.before.layout)
       (mark_at kind r image image' m v.listings rest l content i o path attrs same) e;
 }

@@ -1,23 +1,20 @@
 -- The runs of the map after a change.
-use Rattle.std.proofs.Common.{◌≡◌, ◌<◌, ◌≤◌, ◌⊎◌, inl, inr, ℕ, zero, suc, Bool, true, false, cond, List, [], ◌∷◌, ◌++◌, length, refl, sym, ap, ap₂, subst, ◌∙◌, arith, Some, None, Option, eq-eqb}
-use Rattle.std.specs.Prelude.{Contains, IsPermutation, filter, not, ◌==◌, ◌&&◌, ◌||◌, nat_lt, nat_le}
+use Rattle.std.proofs.Common.{◌≡◌, ◌<◌, ◌≤◌, ℕ, Bool, true, false, cond, List, [], ◌∷◌, length, refl, sym, ap, ap₂, subst, ◌∙◌, arith, None, eq-eqb}
+use Rattle.std.specs.Prelude.{Contains, IsPermutation, not, ◌==◌, ◌&&◌, ◌||◌}
 use Rattle.std.proofs.lemmas.List.Sorted.{list_any-IsPermutation}
 use Rattle.fc_zone.specs.declared.RunKind.{RunKind}
 use Rattle.fc_zone.specs.declared.RunKind.TheVariants as kinds
-use Rattle.fc_oldmap.specs.declared.Hole.{Hole}
 use Rattle.fc_newmap.specs.Map.{Map, ZoneRun, all_runs, has_id, hole_runs, id_runs, is_used}
 use Rattle.fc_newmap.proofs.PlaceLemmas.{id_run_in, in_id_runs}
 use Rattle.fc_model.specs.Command.{Command}
-use Rattle.fc_image.specs.Layout.{Layout}
 use Rattle.fc_image.specs.Walk.{Object}
-use Rattle.fc_image.specs.Objects.{is_lost, is_movable, is_owned, is_owner_of, objects_of}
+use Rattle.fc_image.specs.Objects.{is_lost, is_owned, is_owner_of, objects_of}
 use Rattle.fc_image.specs.Opening.{Opened}
 use Rattle.fc_effects.specs.Short.{growth_in, moved_growth}
 use Rattle.fc_effects.specs.Placed.{holes_left, made_object, object_parts}
 use Rattle.fc_plan.proofs.Left.{left_of_none}
-use Rattle.fc_effects.specs.Steady.{NewMapSteady, back_runs, goes_back, has_id_that, holes_untaken, holes_with, is_given_back, is_left_by_growth, keeps_runs, runs_that, zone_holes}
+use Rattle.fc_effects.specs.Steady.{NewMapSteady, back_runs, goes_back, has_id_that, holes_untaken, holes_with, is_given_back, is_left_by_growth, runs_that, zone_holes}
 use Rattle.fc_plan.specs.Giving.{is_one_of}
-use Rattle.fc_plan.specs.Applied.{unless_gone}
 use Rattle.fc_changes.specs.Owed.{GivesBack, IsSpaceEdit}
 use Rattle.fc_changes.proofs.BasicLemmas.{and_false, any_in, clash, filter_same, first_in, in_any, map_or_none, nothing_in, or_false, unless}
 use Rattle.fc_changes.proofs.DirectoriesLemmas.{moved_none}
@@ -94,18 +91,17 @@ pub space_steady : (v w : Opened) (c : Command) (m m' : Map) (id : ℕ) (parts :
     → (0 < length parts → (is_used m id ≡ false) × (is_owned (objects_of w.listings) id ≡ true) × (3 ≤ id))
     → GivesBack m gone (objects_of v.listings) (objects_of w.listings) → growth_in v c ≡ None → is_owned (objects_of v.listings) 1 ≡ false
     → holes_untaken v w c m m' ≡ holes_left (hole_runs m) parts → m'.geometry ≡ m.geometry → NewMapSteady v w c m m'
-space_steady v w c m m' id parts gone space some new gives none no_one untaken same =
-    (
-      λ k own used left. runs_stay m m' id parts gone space some fresh k used (gives.exactly k used ∙ still_owned before after k own),
-      λ k lost used. runs_stay m m' id parts gone space some fresh k used (gives.exactly k used ∙ not_given before after k (lost_not_owned before k lost)),
-      λ k not_owned unused. not_used m' k some' (none_stay m m' id parts gone space some fresh k unused
+space_steady v w c m m' id parts gone space some new gives none no_one untaken same = (
+  λ k own used left. runs_stay m m' id parts gone space some fresh k used (gives.exactly k used ∙ still_owned before after k own),
+  λ k lost used. runs_stay m m' id parts gone space some fresh k used (gives.exactly k used ∙ not_given before after k (lost_not_owned before k lost)),
+  λ k not_owned unused. not_used m' k some' (none_stay m m' id parts gone space some fresh k unused
       (λ taken is. clash (is_owned after id) (new taken).1 (subst (λ (n : ℕ). is_owned after n ≡ false) is not_owned))),
-      runs_stay_or_none m m' id parts gone space some fresh 1 (λ taken is. let high = (new taken).2 in omega (arith, is, high))
+  runs_stay_or_none m m' id parts gone space some fresh 1 (λ taken is. let high = (new taken).2 in omega (arith, is, high))
       (λ used. gives.exactly 1 used ∙ not_given before after 1 no_one),
-      runs_stay_or_none m m' id parts gone space some fresh 2 (λ taken is. let high = (new taken).2 in omega (arith, is, high))
+  runs_stay_or_none m m' id parts gone space some fresh 2 (λ taken is. let high = (new taken).2 in omega (arith, is, high))
       (λ used. gives.exactly 2 used ∙ still_owned before after 2 refl),
-      λ z low. space.holes z low ∙ ap₂ (λ (hs : List ZoneRun) (bs : List ZoneRun). holes_with (zone_holes hs z) (zone_holes bs z)) (sym untaken) back,
-    )
+  λ z low. space.holes z low ∙ ap₂ (λ (hs : List ZoneRun) (bs : List ZoneRun). holes_with (zone_holes hs z) (zone_holes bs z)) (sym untaken) back,
+)
   where
     before : List Object
     before = objects_of v.listings

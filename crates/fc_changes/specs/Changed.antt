@@ -1,12 +1,12 @@
 -- What each command's calls leave, one directory written to its old place, and that the command then does what it promises.
-use Rattle.std.specs.Prelude.{◌≡◌, ◌<◌, ◌⊎◌, ℕ, ◌+◌, ◌*◌, true, false, List, [], ◌∷◌, ◌++◌, length, replicate, slice_get, slice_set, insert, remove, if◌then◌else◌, Option, Some, None, Contains, IsPermutation}
+use Rattle.std.specs.Prelude.{◌≡◌, ◌<◌, ◌⊎◌, ℕ, ◌+◌, ◌*◌, true, false, List, [], ◌∷◌, ◌++◌, length, replicate, slice_get, slice_set, insert, if◌then◌else◌, Option, Some, None, Contains, IsPermutation}
 use Rattle.std.specs.Option.{option_to_list}
-use Rattle.fc_names.specs.Names.{Path, is_same_path}
+use Rattle.fc_names.specs.Names.{Path, folded_path, is_same_path}
 use Rattle.fc_record.specs.declared.DiscRecord.{DiscRecord}
 use Rattle.fc_record.specs.declared.Kind.{Kind}
 use Rattle.fc_newmap.specs.Map.{Map, ZoneRun, bits_in, hole_runs, map_sectors}
 use Rattle.fc_copies.specs.Copies.{HoldsCopies}
-use Rattle.fc_model.specs.Tree.{holder, last_name}
+use Rattle.fc_model.specs.Tree.{holder, is_prefix, last_name}
 use Rattle.fc_model.specs.Command.{Command}
 use Rattle.fc_model.specs.Answer.{changed}
 use Rattle.fc_dirs.specs.declared.Entry.{Entry}
@@ -18,14 +18,11 @@ use Rattle.fc_image.specs.Objects.{objects_of, object_at, tree_of}
 use Rattle.fc_image.specs.Opening.{Opened}
 use Rattle.fc_image.specs.Stays.{HasSectorsOf}
 use Rattle.fc_image.specs.Edits.{IsAt}
-use Rattle.fc_image.specs.EditedWalk.{AreListedBy}
-use Rattle.fc_image.specs.InPlace.{says_now}
-use Rattle.fc_image.specs.Commanded.{set_object, mark_object}
 use Rattle.fc_effects.specs.Effect.{Changes}
 use Rattle.fc_effects.specs.Sharing.{new_ids, slack, units}
-use Rattle.fc_effects.specs.Short.{growth_in, new_dir_size}
+use Rattle.fc_effects.specs.Short.{growth_in, is_copied, new_dir_size}
 use Rattle.fc_effects.specs.Placed.{IsPlan, file_low}
-use Rattle.fc_effects.specs.Steady.{AreWritten, new_directory}
+use Rattle.fc_effects.specs.Steady.{AreWritten, IsRewritten, new_directory}
 use Rattle.fc_changes.specs.Owed.{GivesBack, GoesAlone, IsBefore, IsDirectoryWritten, IsMapAfter, IsSpaceEdit, IsWritten}
 
 -- ---- what is promised
@@ -202,4 +199,32 @@ pub record IsRenameChange (kind : Kind) (r : DiscRecord) (image image' : List �
   -- `set_name`, `set_parent`, `touch`
   pub own : (d : Listing) → Contains rest d → d.object ≡ o → IsDirectoryWritten image' v m (Command.Rename from to) d now × (entries_of now ≡ entries_of d.content)
   pub written : IsWritten m (l.object.sectors ++ (if is_directory_object o then o.sectors else [])) image image'
+  pub map_stays : HasSectorsOf m.geometry.sector (map_sectors m.geometry) image image'
+
+-- ---- rename to another directory
+
+-- Entry i of directory k is gone, and directory l has the object o under a new name. A directory o is rewritten, with its new holder
+-- as its parent, and says `now`. The file isn't copied, and the map stays as it is.
+pub record IsMoveChange (kind : Kind) (r : DiscRecord) (image image' : List ℕ) (v : Opened) (m : Map) (from to : Path) (rest : List Listing) (k l : Listing) (k_content l_content : Directory)
+    (i : ℕ) (o : Object) (now : Directory) : Type 0 where
+  pub before : IsBefore kind r image v m
+  pub copies : HoldsCopies m.geometry m.zones image
+  pub found : IsPermutation v.listings (k ∷ l ∷ rest)
+  pub at : slice_get k.children i ≡ Some o
+  pub from_is : is_same_path from o.path ≡ true
+  pub to_is : is_same_path to (l.object.path ++ last_name to ∷ []) ≡ true
+  -- refused: IntoItself
+  pub not_into : is_prefix (folded_path o.path) (folded_path l.object.path) ≡ false
+  pub not_copied : is_copied v from to o ≡ false
+  pub no_growth : growth_in v (Command.Rename from to) ≡ None
+  -- `remove`, `insert`: `absent` is its condition
+  pub absent : has_name (entries_of l.content) (last_name to) ≡ false
+  pub k_entries : entries_of k_content ≡ without_entry i (entries_of k.content)
+  pub l_entries : entries_of l_content ≡ with_entry (record o.entry { name = last_name to }) (entries_of l.content)
+  pub k_directory : IsDirectoryWritten image' v m (Command.Rename from to) k k_content
+  pub l_directory : IsDirectoryWritten image' v m (Command.Rename from to) l l_content
+  -- `set_name`, `set_parent`, `touch`; `write`
+  pub own : (d : Listing) → Contains rest d → d.object ≡ o → IsRewritten (Command.Rename from to) d.object.path l.object.entry.address d.content now
+      × AreWritten (object_bytes image' (Layout.New m) d.object) now × (entries_of now ≡ entries_of d.content)
+  pub written : IsWritten m (l.object.sectors ++ (k.object.sectors ++ (if is_directory_object o then o.sectors else []))) image image'
   pub map_stays : HasSectorsOf m.geometry.sector (map_sectors m.geometry) image image'

@@ -1,5 +1,6 @@
 -- The laws from what calls leave to what commands promise, on discs with new maps.
-use Rattle.std.specs.Prelude.{◌≡◌, ◌<◌, ◌++◌, ℕ, true, false, filter, length, IsPermutation, List, [], ◌∷◌, insert, remove, slice_set, Option}
+use Rattle.std.specs.Prelude.{◌≡◌, ◌<◌, ◌++◌, ℕ, true, false, filter, length, IsPermutation, List, [], ◌∷◌, insert, remove, slice_set, Option, ◌+◌, ◌*◌, ◌≤◌}
+use Rattle.fc_device.specs.Sectors.{with_sector}
 use Rattle.fc_names.specs.Names.{Path, is_same_path}
 use Rattle.fc_record.specs.declared.DiscRecord.{DiscRecord}
 use Rattle.fc_record.specs.declared.Kind.{Kind}
@@ -20,8 +21,8 @@ use Rattle.fc_effects.specs.Placed.{holes_left}
 use Rattle.fc_effects.specs.Steady.{holes_with, zone_holes}
 use Rattle.fc_plan.specs.Giving.{is_given, is_one_of, stays_given}
 use Rattle.fc_plan.specs.Taking.{as_runs, runs_taken}
-use Rattle.fc_changes.specs.Owed.{IsMapAfter, IsSpaceEdit}
-use Rattle.fc_changes.specs.Changed.{IsChanged, IsDeleteChange, IsDirectoryChange, IsFileChange, IsRenameChange, IsRewordChange, children_with}
+use Rattle.fc_changes.specs.Owed.{IsMapAfter, IsSpaceEdit, IsWritten}
+use Rattle.fc_changes.specs.Changed.{IsChanged, IsDeleteChange, IsDirectoryChange, IsFileChange, IsMoveChange, IsRenameChange, IsRewordChange, children_with}
 
 -- ---- maps
 
@@ -49,9 +50,19 @@ pub record SpaceLaw : Type 0 where
   pub taken : (m first mid m' : Map) (id : ℕ) (parts : List ZoneRun) (gone : List ℕ) → 0 < length parts → is_one_of gone id ≡ false → Took m first parts id → GaveBack first mid gone → KeepsRuns mid m'
       → IsSpaceEdit m m' id parts gone
 
+-- ---- what is written
+
+-- Nothing, one write after another, a commit, and one sector (`Disk::write`).
+pub record WritesLaw : Type 0 where
+  pub none : (m : Map) (image : List ℕ) → IsWritten m [] image image
+  pub then : (m : Map) (xs ys first second third : List ℕ) → IsWritten m xs first second → IsWritten m ys second third → IsWritten m (xs ++ ys) first third
+  pub committed : (m : Map) (zones : List (List ℕ)) (start image : List ℕ) → CommitEnds m.geometry start zones image → IsWritten m [] start image
+  pub sector : (m : Map) (n : ℕ) (bytes image : List ℕ) → length bytes ≡ m.geometry.sector → n * m.geometry.sector + m.geometry.sector ≤ length image
+      → IsWritten m (n ∷ []) image (with_sector m.geometry.sector image n bytes)
+
 -- ---- commands
 
--- `set` and `mark`: the other directories are listed as they were, but for the object itself where it is a directory.
+-- `set` and `mark`: the other directories are listed as they were, but for the object itself if it is a directory.
 pub record RewordedLaw : Type 0 where
   pub set : (kind : Kind) (r : DiscRecord) (image image' : List ℕ) (v : Opened) (m : Map) (rest : List Listing) (l : Listing) (content : Directory) (i : ℕ) (o : Object)
       (path : Path) (load exec access : ℕ) → access < 8 → is_same_path path o.path ≡ true
@@ -90,3 +101,11 @@ RenamedLaw = (kind : Kind) (r : DiscRecord) (image image' : List ℕ) (v : Opene
     → (rest' : List Listing) × AreListedBy (moved_object o.path (l.object.path ++ last_name to ∷ [])) rest rest'
     × IsChanged kind image image' v m (says_now l content
     (insert (remove l.children i) (entry_place (last_name to) (remove (entries_of l.content) i)) (moved_object o.path (l.object.path ++ last_name to ∷ []) o)) ∷ rest') (Command.Rename from to)
+
+-- `rename` to another directory, of a file that isn't copied or of a directory with its contents
+abbrev pub MovedLaw : Type 0
+MovedLaw = (kind : Kind) (r : DiscRecord) (image image' : List ℕ) (v : Opened) (m : Map) (from to : Path) (rest : List Listing) (k l : Listing) (k_content l_content : Directory) (i : ℕ) (o : Object)
+    (now : Directory) → IsMoveChange kind r image image' v m from to rest k l k_content l_content i o now
+    → (rest' : List Listing) × AreListedBy (moved_object o.path (l.object.path ++ last_name to ∷ [])) rest rest'
+    × IsChanged kind image image' v m (says_now k k_content (remove k.children i)
+    ∷ says_now l l_content (insert l.children (entry_place (last_name to) (entries_of l.content)) (moved_object o.path (l.object.path ++ last_name to ∷ []) o)) ∷ rest') (Command.Rename from to)

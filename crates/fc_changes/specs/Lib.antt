@@ -1,3 +1,4 @@
 pub mod Owed
 pub mod Changed
 pub mod Laws
+pub mod Rows

@@ -1,6 +1,6 @@
 -- What the calls of a command leave on a disc with a new map, if each directory that they write is written to its old place. Beside
 -- each fact stands the call that has it as a clause.
-use Rattle.std.specs.Prelude.{◌≡◌, ◌<◌, ◌⊎◌, ℕ, ◌+◌, ◌*◌, true, false, not, ◌&&◌, List, [], ◌∷◌, ◌++◌, length, Contains, IsPermutation}
+use Rattle.std.specs.Prelude.{◌≡◌, ◌<◌, ℕ, true, false, List, [], ◌∷◌, ◌++◌, length, IsPermutation}
 use Rattle.fc_record.specs.declared.DiscRecord.{DiscRecord}
 use Rattle.fc_record.specs.declared.Kind.{Kind}
 use Rattle.fc_record.specs.Kinds.{map_record}
@@ -64,7 +64,7 @@ pub record IsMapAfter (m m' : Map) (image' : List ℕ) : Type 0 where
 -- ---- its runs
 
 -- The parts, cut from the fronts of holes, are runs of the identifier `id`, and the runs that the identifiers `gone` had are holes.
--- Where nothing is taken, `parts` is empty and `id` means nothing.
+-- If nothing is taken, `parts` is empty and `id` means nothing.
 pub record IsSpaceEdit (m m' : Map) (id : ℕ) (parts : List ZoneRun) (gone : List ℕ) : Type 0 where
   -- `give_back`, `apply`: `holes`
   pub holes : (z : ℕ) → z < m.geometry.zones

@@ -1,7 +1,8 @@
 //! From what the calls of a command leave on a disc with a new map, to what the command promises.
 #![tactic(auto)]
 
-ghost use Rattle.fc_changes.specs.Laws.{CommittedLaw, DeletedLaw, DirectoryMadeLaw, FiledLaw, RenamedLaw, RewordedLaw, SpaceLaw};
+ghost use Rattle.fc_changes.specs.Rows.{OwedRows};
+ghost use Rattle.fc_changes.specs.Laws.{CommittedLaw, DeletedLaw, DirectoryMadeLaw, FiledLaw, MovedLaw, RenamedLaw, RewordedLaw, SpaceLaw, WritesLaw};
 
 /// After `set` and `mark` the disc is as they promise.
 pub fn reworded()
@@ -36,4 +37,19 @@ pub fn spaces()
 /// After `rename` within a directory the disc is as it promises.
 pub fn renamed()
     ensures { RenamedLaw }
+{}
+
+/// After `rename` to another directory the disc is as it promises.
+pub fn moved()
+    ensures { MovedLaw }
+{}
+
+/// What changes owe, on a small map, worked out.
+pub fn rows()
+    ensures { OwedRows }
+{}
+
+/// Writes put together: which sectors they may change.
+pub fn writes()
+    ensures { WritesLaw }
 {}
