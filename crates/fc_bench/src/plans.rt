@@ -89,13 +89,7 @@ fn time_plan<R: Print + Clock>(rt: &R, alloc: Global, map: &NewMap) -> io::Resul
     }
     let start = Instant::now(rt)?;
     match supply.plan(alloc, 1024 * bytes) {
-        Ok(plan) => print_rate(
-            rt,
-            "parts planned",
-            plan.parts.len() as u64,
-            "parts",
-            start,
-        ),
+        Ok(plan) => print_rate(rt, "parts planned", plan.parts.len() as u64, "parts", start),
         Err(_) => Err(invalid()),
     }
 }
