@@ -12,9 +12,9 @@ use std::io::{self, ErrorKind, Print};
 use std::rt::Clock;
 use std::time::Instant;
 
-pub const ZONES: u16 = 4000;
+const ZONES: u16 = 4000;
 
-pub const SECTOR: usize = 1024;
+const SECTOR: usize = 1024;
 
 // The bits of an identifier, and the identifiers whose runs are looked for in one zone first.
 const ID_BITS: u32 = 19;
@@ -30,16 +30,16 @@ const FULL_ZONES: u16 = 1285;
 
 const OBJECTS: u32 = 50_000;
 
-/// The record of a disc of 33,422,868,480 bytes, in sectors and map bits of 1024 bytes, with big directories.
-pub fn record() -> [u8; 60] {
+// The record of a disc of 33,422,868,480 bytes, in sectors and map bits of 1024 bytes, with big directories.
+fn record() -> [u8; 60] {
     let mut raw = [0; 60];
     raw[..20].copy_from_slice(b"\x0a\0\0\0\x13\x0a\0\0\0\xa0\x20\0\0\x03\0\0\0\x80\x28\xc8");
     raw[36..50].copy_from_slice(b"\x07\0\0\0\0\0\x0f\0\x01\0\0\0\0\x08");
     raw
 }
 
-/// Writes a run's field and its last bit.
-pub fn put_run(sector: &mut [u8], start: u32, len: u32, field: u32)
+// Writes a run's field and its last bit.
+fn put_run(sector: &mut [u8], start: u32, len: u32, field: u32)
     requires size { length sector.old ≡ 1024 }
     requires start { start ≤ 8192 }
     requires len { len ≤ 8192 }
@@ -68,7 +68,7 @@ fn put_zone(sector: &mut [u8], z: u16)
     put_bits(sector, 23, 1, 1);
 }
 
-pub fn invalid() -> io::Error {
+fn invalid() -> io::Error {
     io::Error::from(ErrorKind::InvalidData)
 }
 
