@@ -1,5 +1,5 @@
 -- The entry of a name.
-use Rattle.std.proofs.Common.{◌≡◌, ◌<◌, ℕ, zero, suc, ◌+◌, Bool, true, false, cond, List, [], ◌∷◌, length, get_or, position, find, is_some, MatchOption, not, refl, sym, ap, ◌∙◌, subst, arith, Option, Some, None, slice_get}
+use Rattle.std.proofs.Common.{◌≡◌, ◌<◌, ℕ, zero, suc, Bool, true, false, List, [], ◌∷◌, length, get_or, position, MatchOption, not, refl, sym, ap, ◌∙◌, subst, Option, Some, None, slice_get}
 use Rattle.std.specs.Prelude.{IsFalse, IsTrue}
 use Rattle.std.specs.List.{AllByRecursion, position_or_len}
 use Rattle.std.proofs.lemmas.List.Quantifiers.{position-Some}
