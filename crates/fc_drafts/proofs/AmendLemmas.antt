@@ -1,5 +1,5 @@
 -- An entry that is changed before its directory is rewritten.
-use Rattle.std.proofs.Common.{◌≡◌, ◌<◌, ◌⊎◌, inl, inr, ℕ, zero, suc, ◌+◌, Bool, true, false, cond, not, ◌||◌, ◌&&◌, List, [], ◌∷◌, ◌++◌, length, map, filter, get_or, set, sum_by, refl, sym, ap, ap₂, ◌∙◌, subst, arith, Some, None, slice_get, min, max, nat_le}
+use Rattle.std.proofs.Common.{◌≡◌, ◌<◌, inl, inr, ℕ, zero, suc, ◌+◌, Bool, true, false, cond, not, ◌||◌, ◌&&◌, List, [], ◌∷◌, ◌++◌, length, map, filter, get_or, set, refl, sym, ap, ap₂, ◌∙◌, subst, arith, Some, None, min, max, nat_le}
 use Rattle.std.specs.List.{flat_map, list_any}
 use Rattle.std.specs.Str.{bytes_eq}
 use Rattle.std.proofs.lemmas.Bool.{cases_order}
@@ -11,7 +11,6 @@ use Rattle.fc_model.specs.Tree.{last_name}
 use Rattle.fc_model.specs.Command.{Command}
 use Rattle.fc_dirs.specs.declared.Entry.{Entry}
 use Rattle.fc_dirs.specs.Entries.{first_twin, padded_name}
-use Rattle.fc_dirs.specs.Small.{SmallDir}
 use Rattle.fc_dirs.specs.Big.{BigDir, head_space, name_space, size_for, with_big_changed}
 use Rattle.fc_dirs.specs.Directory.{Directory, entries_of}
 use Rattle.fc_dirs.proofs.SearchLemmas.{blank}
@@ -25,7 +24,6 @@ use Rattle.fc_effects.specs.Short.{Gain, growth_with, is_full_with}
 use Rattle.fc_effects.specs.Steady.{BigNameAfter, HeapAfter, IsRewritten, RenamedHead, holds_name, names_added, packed_len, regrown_entry}
 use Rattle.fc_drafts.specs.Draft.{CanHold, IsSayable, names_of, size_of, with_changed}
 use Rattle.fc_drafts.specs.Rewriting.{HasAmended, IsAt}
-use Rattle.fc_drafts.proofs.NamesLemmas.{is_unspelled}
 
 -- ---- what is read of names alone
 

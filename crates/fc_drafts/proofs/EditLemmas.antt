@@ -1,5 +1,5 @@
 -- Edits of entries by their numbers are edits by their names.
-use Rattle.std.proofs.Common.{◌≡◌, ◌<◌, ℕ, Bool, true, false, cond, List, [], ◌∷◌, length, map, get_or, remove, set, refl, sym, ap, ◌∙◌, subst, arith, Option, Some, None, slice_get, option_map}
+use Rattle.std.proofs.Common.{◌≡◌, ◌<◌, ℕ, Bool, true, false, cond, List, length, map, get_or, remove, set, sym, ap, ◌∙◌, subst, Some, None, slice_get, option_map}
 use Rattle.std.proofs.lemmas.Option.{slice_get-get_or, get_or_from_slice_get}
 use Rattle.fc_names.specs.Names.{is_same_name}
 use Rattle.fc_dirs.specs.declared.Entry.{Entry}

@@ -1,5 +1,5 @@
 -- The entries that commands make.
-use Rattle.std.proofs.Common.{◌≡◌, ◌<◌, ◌⊎◌, inl, inr, ℕ, ◌+◌, ◌*◌, ◌/◌, ◌^◌, Bool, true, false, List, refl, sym, ap, ◌∙◌, subst, arith, Option, Some, None, IfSome}
+use Rattle.std.proofs.Common.{◌≡◌, ◌<◌, inl, ℕ, ◌+◌, ◌*◌, ◌/◌, Bool, true, false, List, refl, sym, ap, ◌∙◌, arith, Some, None}
 use Rattle.fc_names.specs.Names.{is_directory}
 use Rattle.fc_names.specs.declared.name.NameForm.{NameForm}
 use Rattle.fc_names.specs.declared.name.NameForm.TheVariants.{Seven, Ten, Long}
@@ -10,8 +10,8 @@ use Rattle.fc_dirs.specs.Small.{attrs_limit, last_limit}
 use Rattle.fc_dirs.specs.Directory.{Directory}
 use Rattle.fc_image.specs.Walk.{Object, is_directory_object}
 use Rattle.fc_effects.specs.Steady.{EntrySteady, IsDirLength}
-use Rattle.fc_drafts.specs.Draft.{CanAddress, CanHold, NumbersFit}
-use Rattle.fc_drafts.specs.Entries.{directory_entry, file_entry, marked_entry, regrown, renamed_entry, saved_entry, set_entry}
+use Rattle.fc_drafts.specs.Draft.{CanAddress, CanHold}
+use Rattle.fc_drafts.specs.Entries.{directory_entry, file_entry, regrown, renamed_entry, saved_entry, set_entry}
 use Rattle.fc_drafts.specs.Laws.{EntryLaw}
 
 same_length : (form : NameForm) (old new : ℕ) → new ≡ old → IsDirLength form old new

@@ -1,5 +1,5 @@
 -- The entry of a name.
-use Rattle.std.proofs.Common.{◌≡◌, ◌<◌, ℕ, zero, suc, ◌+◌, Bool, true, false, cond, List, [], ◌∷◌, length, get_or, position, find, is_some, MatchOption, not, refl, sym, ap, ◌∙◌, subst, arith, Option, Some, None, slice_get}
+use Rattle.std.proofs.Common.{◌≡◌, ◌<◌, ℕ, zero, suc, Bool, true, false, List, [], ◌∷◌, length, get_or, position, MatchOption, not, refl, sym, ap, ◌∙◌, subst, Option, Some, None, slice_get, cond, is_some, find, remove}
 use Rattle.std.specs.Prelude.{IsFalse, IsTrue}
 use Rattle.std.specs.List.{AllByRecursion, position_or_len}
 use Rattle.std.proofs.lemmas.List.Quantifiers.{position-Some}
@@ -13,6 +13,10 @@ use Rattle.fc_dirs.specs.Small.{FitsSmall}
 use Rattle.fc_dirs.specs.Big.{FitsBig}
 use Rattle.fc_dirs.specs.Directory.{Directory, entries_of}
 use Rattle.fc_dirs.proofs.SearchLemmas.{blank, is_some-find, place_or_end}
+use Rattle.fc_dirs.proofs.EditLemmas.{edit_law}
+use Rattle.fc_bigdir.proofs.RenameLemmas.{absent_without}
+use Rattle.fc_effects.specs.Steady.{without_name}
+use Rattle.fc_drafts.specs.Laws.{FreeNameLaw}
 use Rattle.fc_dirs.proofs.TwinLemmas.{same_name_sym}
 use Rattle.fc_drafts.specs.Draft.{CanHold, IsSayable}
 use Rattle.fc_drafts.specs.Rewriting.{IsAt}
@@ -67,3 +71,28 @@ found_at dir name es found sayable same is = by found ((first name (entries_of d
         → MatchOption found (IsFalse (has_name (entries_of dir) name)) (λ at. (e : Entry) × (slice_get (entries_of dir) at ≡ Some e) × IsTrue (is_same_name e.name name) × CanHold dir e)
     by None absent = absent
     by (Some at) there = (there.0, there.1, same_name_sym there.0.name name ∙ there.2, held dir at there.0 sayable there.1)
+
+-- ---- names that are free
+
+none_named : (name : List ℕ) (es : List Entry) → has_name (without_name name es) name ≡ false
+none_named name [] = refl
+none_named name (e ∷ es) = by (is_same_name e.name name) refl (none_named name es)
+  where
+    by : (b : Bool) → is_same_name e.name name ≡ b → has_name (without_name name es) name ≡ false
+        → has_name (cond (not (is_same_name e.name name)) (e ∷ without_name name es) (without_name name es)) name ≡ false
+    by true h more = ap (λ (b : Bool). has_name (cond (not b) (e ∷ without_name name es) (without_name name es)) name) h ∙ more
+    by false h more =
+        let other : is_same_name name e.name ≡ false = same_name_sym name e.name ∙ h in
+        ap (λ (b : Bool). has_name (cond (not b) (e ∷ without_name name es) (without_name name es)) name) h
+        ∙ ap (λ (b : Bool). is_some (cond b (Some e) (find (λ (d : Entry). is_same_name name d.name) (without_name name es)))) other ∙ more
+
+own : (dir : Directory) (at : ℕ) (was : Entry) (name : List ℕ) → IsSayable dir → IsAt (entries_of dir) at was → is_same_name was.name name ≡ true
+    → has_name (remove (entries_of dir) at) name ≡ false
+own (Directory.Small dir) at was name small is same = ap (λ (es : List Entry). has_name es name) (edit_law.removed dir.entries at was name small.apart is same) ∙ none_named name dir.entries
+own (Directory.Big dir) at was name big is same = ap (λ (es : List Entry). has_name es name) (edit_law.removed dir.entries at was name big.apart is same) ∙ none_named name dir.entries
+
+pub free_name_law : FreeNameLaw
+free_name_law = record {
+  new = λ dir at name none. absent_without (entries_of dir) at name none;
+  own = own;
+}

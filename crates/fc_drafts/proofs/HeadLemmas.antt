@@ -1,5 +1,5 @@
 -- Rewritings of directories, by what becomes of the head and the heap.
-use Rattle.std.proofs.Common.{◌≡◌, ◌<◌, ◌≤◌, ◌⊎◌, inl, inr, ℕ, ◌+◌, ◌*◌, ◌/◌, ◌%◌, min, max, Bool, true, false, cond, ◌&&◌, nat_le, List, [], ◌∷◌, ◌++◌, length, map, filter, refl, sym, ap, ◌∙◌, subst, arith, eq-eqb, le-leb, ◌==◌}
+use Rattle.std.proofs.Common.{◌≡◌, ◌<◌, ◌≤◌, inl, inr, ℕ, ◌%◌, min, max, Bool, true, false, cond, nat_le, List, [], ◌∷◌, ◌++◌, length, refl, sym, ap, ◌∙◌, subst, arith, eq-eqb, le-leb, ◌==◌}
 use Rattle.std.specs.List.{flat_map}
 use Rattle.std.specs.Int.{next_multiple_of}
 use Rattle.std.proofs.lemmas.List.{append-nil}
@@ -18,7 +18,7 @@ use Rattle.fc_image.proofs.TreeLemmas.{folds_alike}
 use Rattle.fc_effects.specs.Steady.{BigNameAfter, HeapAfter, RenamedHead, holds_name, is_renamed_by, names_added, packed_len, small_name_after}
 use Rattle.fc_drafts.specs.Draft.{with_head, with_name}
 use Rattle.fc_drafts.specs.Rewriting.{IsRewrittenAs, IsRewrittenFor}
-use Rattle.fc_drafts.proofs.NamesLemmas.{AllFail, is_unspelled, none_pass, own_name}
+use Rattle.fc_drafts.proofs.NamesLemmas.{is_unspelled, none_pass, own_name}
 
 -- ---- paths
 

@@ -1,21 +1,19 @@
 -- The ways of rewriting a directory.
-use Rattle.std.proofs.Common.{◌≡◌, ◌<◌, ℕ, ◌++◌, max, Bool, true, false, cond, nat_le, List, [], ◌∷◌, length, map, filter, get_or, insert, remove, set, refl, sym, ap, ◌∙◌, subst, arith, Some, None}
+use Rattle.std.proofs.Common.{◌≡◌, ◌<◌, ℕ, max, Bool, true, false, cond, nat_le, List, [], length, map, filter, get_or, insert, remove, set, refl, ap, ◌∙◌, subst}
 use Rattle.std.specs.Prelude.{slice_index}
 use Rattle.std.proofs.lemmas.Slice.Eq.{bytes_eq-Decides}
 use Rattle.std.specs.Str.{bytes_eq}
 use Rattle.std.proofs.lemmas.Option.{slice_get-get_or}
-use Rattle.std.proofs.lemmas.List.{length-set}
 use Rattle.fc_dirs.specs.declared.Entry.{Entry}
 use Rattle.fc_dirs.specs.Entries.{entry_place, has_name, with_entry}
-use Rattle.fc_dirs.specs.Small.{SmallDir, IsSmall}
-use Rattle.fc_dirs.specs.Big.{BigDir, IsBig, appended, bytes_taken, form_of, is_spelled, size_with, with_big_changed, with_big_entry, with_big_renamed, with_entry_at, with_head_name, without_big_entry}
+use Rattle.fc_dirs.specs.Big.{BigDir, IsBig, appended, bytes_taken, form_of, is_spelled, size_with, with_big_entry, with_big_renamed, with_head_name, without_big_entry}
 use Rattle.fc_dirs.specs.Directory.{Directory, entries_of}
 use Rattle.fc_dirs.proofs.EditLemmas.{edit_law}
 use Rattle.fc_dirs.proofs.SearchLemmas.{blank}
 use Rattle.fc_bigdir.proofs.GrowLemmas.{place_within}
-use Rattle.fc_effects.specs.Steady.{HeapAfter, names_added, with_made, without_name}
-use Rattle.fc_drafts.specs.Draft.{IsSayable, size_of, with_changed, with_head, with_less, with_name, with_new, with_renamed}
-use Rattle.fc_drafts.specs.Rewriting.{HasEntered, HasLeft, HasMoved, HasNewHolder, HasRenamed, HasReplaced, IsAt, IsRewrittenFor}
+use Rattle.fc_effects.specs.Steady.{HeapAfter}
+use Rattle.fc_drafts.specs.Draft.{IsSayable, with_changed, with_head, with_less, with_name, with_new, with_renamed}
+use Rattle.fc_drafts.specs.Rewriting.{HasEntered, HasLeft, HasMoved, HasNewHolder, HasRenamed, HasReplaced, IsRewrittenFor}
 use Rattle.fc_drafts.proofs.NamesLemmas.{AllFail, absent_unspelled, is_unspelled, left_fail, none_pass, none_passes, one_passes, own_name, respelled}
 use Rattle.fc_drafts.proofs.HeadLemmas.{SameHead, big_moved, big_rewritten, fitted_entries, fitted_head, fitted_heap, heap_longer, heap_stays, same_names, small_moved, small_rewritten}
 use Rattle.fc_drafts.proofs.SizeLemmas.{renamed_by, size_grown, size_kept, size_renamed, spelled_is}

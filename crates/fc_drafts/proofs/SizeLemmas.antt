@@ -1,5 +1,5 @@
 -- Whether a name finds room, and how large the directory becomes.
-use Rattle.std.proofs.Common.{◌≡◌, ◌<◌, ◌≤◌, ℕ, ◌+◌, max, Bool, true, false, cond, not, ◌==◌, nat_lt, nat_le, List, [], ◌∷◌, ◌++◌, length, map, filter, get_or, remove, refl, sym, ap, ap₂, ◌∙◌, subst, arith, Option, Some, None, slice_get, length-append}
+use Rattle.std.proofs.Common.{◌≡◌, ◌<◌, ◌≤◌, ℕ, ◌+◌, max, Bool, true, false, cond, not, ◌==◌, nat_lt, List, [], ◌∷◌, ◌++◌, length, map, filter, remove, refl, sym, ap, ap₂, ◌∙◌, subst, arith, Option, Some, None, length-append}
 use Rattle.std.specs.Prelude.{◌↔◌, IsTrue, slice_index}
 use Rattle.std.specs.Option.{option_map_or}
 use Rattle.std.specs.Str.{bytes_eq}
@@ -12,7 +12,7 @@ use Rattle.fc_names.specs.Names.{is_same_name}
 use Rattle.fc_dirs.specs.declared.Entry.{Entry}
 use Rattle.fc_dirs.specs.Entries.{first_twin}
 use Rattle.fc_dirs.specs.Small.{SmallDir, IsSmall, is_full_small, tail_of}
-use Rattle.fc_dirs.specs.Big.{BigDir, IsBig, appended, head_space_of, is_spelled, name_space, needed_size, size_limit, size_with, with_big_entry, with_big_renamed, with_entry_at, without_big_entry}
+use Rattle.fc_dirs.specs.Big.{BigDir, IsBig, appended, is_spelled, name_space, needed_size, size_limit, size_with, with_big_entry, with_big_renamed, with_entry_at, without_big_entry}
 use Rattle.fc_dirs.specs.Directory.{Directory, entries_of}
 use Rattle.fc_dirs.proofs.EditLemmas.{edit_law}
 use Rattle.fc_names.proofs.FoldOrder.{fold_law}
@@ -21,7 +21,7 @@ use Rattle.fc_effects.specs.Short.{Gain, Growth, growth_with, is_full_with}
 use Rattle.fc_effects.specs.Steady.{without_name}
 use Rattle.fc_bigdir.proofs.GrowLemmas.{needed_is, tight_with}
 use Rattle.fc_bigdir.proofs.NeededLemmas.{needed_more}
-use Rattle.fc_drafts.specs.Draft.{IsFullFor, IsFullForRenamed, IsSayable, names_of, size_of, with_head, with_new, with_renamed}
+use Rattle.fc_drafts.specs.Draft.{IsFullFor, IsFullForRenamed, IsSayable, size_of, with_head, with_new, with_renamed}
 use Rattle.fc_drafts.specs.Gains.{GetsName, GetsNameFor, HasRoom, HasSizeAfter, room_of_size}
 use Rattle.fc_drafts.specs.declared.room.Room.{Room}
 use Rattle.fc_drafts.specs.declared.room.Room.TheVariants as rooms

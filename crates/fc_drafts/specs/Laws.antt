@@ -1,15 +1,17 @@
 -- Which edit of a directory's entries each command is, and what holds of the entries that commands make.
-use Rattle.std.specs.Prelude.{◌≡◌, ◌<◌, ℕ, Bool, true, false, List, Option, Some, None}
+use Rattle.std.specs.Prelude.{◌≡◌, ◌<◌, ℕ, Bool, true, false, List, Option, Some, None, IsFalse, IsTrue}
 use Rattle.fc_names.specs.declared.name.NameForm.{NameForm}
-use Rattle.fc_names.specs.Names.{Path, is_same_path}
+use Rattle.fc_names.specs.Names.{Path, is_same_name, is_same_path}
 use Rattle.fc_dirs.specs.declared.Entry.{Entry}
 use Rattle.fc_model.specs.Tree.{holder, last_name}
 use Rattle.fc_model.specs.Command.{Command}
-use Rattle.fc_dirs.specs.Directory.{Directory}
+use Rattle.fc_dirs.specs.Entries.{has_name, without_entry}
+use Rattle.fc_dirs.specs.Directory.{Directory, entries_of}
 use Rattle.fc_image.specs.Walk.{Object, is_directory_object}
 use Rattle.fc_effects.specs.Steady.{EntrySteady, edited, with_made, without_name}
-use Rattle.fc_drafts.specs.Draft.{CanAddress, CanHold}
+use Rattle.fc_drafts.specs.Draft.{CanAddress, CanHold, IsSayable}
 use Rattle.fc_drafts.specs.Entries.{directory_entry, file_entry, marked_entry, regrown, renamed_entry, saved_entry, set_entry}
+use Rattle.fc_drafts.specs.Rewriting.{IsAt}
 
 -- the path at which a command makes or changes an object, without taking one from elsewhere
 abbrev pub MakesAt : Command → Path → Type 0
@@ -59,3 +61,9 @@ pub record EntryLaw : Type 0 where
   -- an entry that is moved to another directory of the disc's form comes with its numbers
   pub renamed_held : (dir : Directory) (e : Entry) (name : List ℕ) (address : ℕ) → CanHold dir e → CanAddress dir address → CanHold dir (renamed_entry e name address)
   pub regrown_held : (dir : Directory) (e : Entry) (address len : ℕ) → CanHold dir e → CanAddress dir address → CanHold dir (regrown e address len)
+
+-- The entry of a number may get a name if no other entry has it: so it is if none at all has it, or this entry.
+pub record FreeNameLaw : Type 0 where
+  pub new : (dir : Directory) (at : ℕ) (name : List ℕ) → IsFalse (has_name (entries_of dir) name) → IsFalse (has_name (without_entry at (entries_of dir)) name)
+  pub own : (dir : Directory) (at : ℕ) (was : Entry) (name : List ℕ) → IsSayable dir → IsAt (entries_of dir) at was → IsTrue (is_same_name was.name name)
+      → IsFalse (has_name (without_entry at (entries_of dir)) name)

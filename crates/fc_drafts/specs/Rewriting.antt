@@ -8,7 +8,7 @@ use Rattle.fc_model.specs.Command.{Command}
 use Rattle.fc_image.specs.Walk.{Object}
 use Rattle.fc_effects.specs.Short.{Gain, is_full_with, growth_with}
 use Rattle.fc_effects.specs.Steady.{IsRewritten, is_renamed_by, regrown_entry, with_made, without_name}
-use Rattle.fc_drafts.specs.Draft.{CanHold, IsFullForRenamed, names_of, size_of, with_changed, with_head, with_less, with_name, with_new, with_renamed}
+use Rattle.fc_drafts.specs.Draft.{CanHold, names_of, size_of, with_changed, with_head, with_less, with_name, with_new, with_renamed}
 use Rattle.fc_drafts.specs.Gains.{GetsName, GetsNameFor, HasSizeAfter}
 
 -- It is a rewriting by each command that doesn't rename the directory itself.

@@ -1,5 +1,5 @@
 // Laws for callers.
-ghost use Rattle.fc_drafts.specs.Laws.{EditedLaw, EntryLaw};
+ghost use Rattle.fc_drafts.specs.Laws.{EditedLaw, EntryLaw, FreeNameLaw};
 
 /// A law: which edit of a directory's entries each command is.
 pub fn edited()
@@ -10,4 +10,9 @@ pub fn edited()
 /// hold them.
 pub fn made_entries()
     ensures { EntryLaw }
+{}
+
+/// A law: a name that no entry has, or only the one that is renamed, is free for it.
+pub fn free_names()
+    ensures { FreeNameLaw }
 {}

@@ -17,7 +17,7 @@ pub use draft::Draft;
 pub use entries::{
     directory_entry, file_entry, marked_entry, regrown_entry, renamed_entry, saved_entry, set_entry,
 };
-pub use laws::{edited, made_entries};
+pub use laws::{edited, free_names, made_entries};
 pub use room::Room;
 
 #[cfg(test)]

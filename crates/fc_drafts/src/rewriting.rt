@@ -1,5 +1,5 @@
 // The ways in which a command rewrites a directory. Each sets the parent to the address of the holder, and grows the sequence
-// byte by one.
+// byte by one. `entries` comes first, since its clause says what holds of every directory.
 ghost use Rattle.std.specs.Prelude.{◌≡◌, ◌<◌, ◌↔◌, Some, length, slice_get, IsErrOf, IsFalse, IsTrue, OnErr, OnOk};
 ghost use Rattle.std.specs.Option.{option_map};
 ghost use Rattle.fc_dirs.specs.declared.Entry.{Entry};

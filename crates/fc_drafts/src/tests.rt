@@ -2,7 +2,10 @@
 ghost use Rattle.std.specs.Prelude.{IsTrue};
 ghost use Rattle.fc_drafts.specs.Draft.{CanAddress, CanHold, CanName, directory_in};
 
-use crate::{Draft, Room, file_entry, renamed_entry};
+use crate::{
+    Draft, Room, file_entry, marked_entry, regrown_entry, renamed_entry, saved_entry, set_entry,
+};
+use fc_device::NoMemory;
 use fc_dirs::{Entry, InsertError, SmallForm};
 use fc_names::{Name, NameForm, read_name, writable};
 use std::alloc::Global;
@@ -190,5 +193,28 @@ fn heads_are_rewritten(rt: HostRuntime) -> Result<(), Fail> {
     assert_eq!(rt; big[0], 3);
     assert_eq!(rt; big[2044], 3);
     assert!(rt; &big[24..28] == b"\x03\x02\0\0".as_slice());
+    Ok(())
+}
+
+// The attributes of an entry, if there is one.
+fn attrs_of(e: Result<Entry, NoMemory>) -> Option<u32> {
+    match e {
+        Ok(e) => Some(e.attrs),
+        Err(NoMemory) => None,
+    }
+}
+
+#[test]
+fn entries_are_made(rt: HostRuntime) -> Result<(), Fail> {
+    let alloc = rt.alloc();
+    let Ok(name) = read_name(alloc, b"A") else {
+        return Err("a name".into());
+    };
+    let mut e = file_entry(name, 1, 2, 3, 0x300);
+    e.attrs = 0x207;
+    assert!(rt; attrs_of(saved_entry(&e, 4, 5, 6, 0x400)) == Some(0x207));
+    assert!(rt; attrs_of(set_entry(&e, 4, 5, 1)) == Some(0x201));
+    assert!(rt; attrs_of(marked_entry(&e, 0x138)) == Some(0x130));
+    assert!(rt; attrs_of(regrown_entry(&e, 0x500, 4096)) == Some(0x207));
     Ok(())
 }
