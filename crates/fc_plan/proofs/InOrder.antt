@@ -1,22 +1,18 @@
 -- The runs that a plan's parts become, in the order in which they are looked for.
-use Rattle.std.proofs.Common.{◌≡◌, ◌<◌, ◌≤◌, ◌&&◌, ◌==◌, ℕ, zero, suc, Bool, true, false, cond, List, [], ◌∷◌, ◌++◌, get_or, map, Contains, Option, Some, None, refl, sym, ap, ap₂, subst, ◌∙◌, inl, inr, arith, eq-eqb}
+use Rattle.std.proofs.Common.{◌≡◌, ◌<◌, ◌≤◌, ◌&&◌, ◌==◌, ℕ, zero, suc, Bool, true, false, cond, List, [], ◌∷◌, ◌++◌, get_or, Contains, Option, Some, None, refl, sym, ap, ap₂, ◌∙◌, inl, inr, arith, eq-eqb}
 use Rattle.std.specs.Prelude.{AllPairs, filter, ◌||◌}
 use Rattle.std.specs.List.{AllByRecursion, find, flat_map, list_any}
-use Rattle.std.proofs.lemmas.Bool.{and_left, and_parts, eqb-true, ne_eqb}
+use Rattle.std.proofs.lemmas.Bool.{and_left, eqb-true, ne_eqb}
 use Rattle.std.proofs.lemmas.List.{map-append}
 use Rattle.std.proofs.lemmas.List.Concat.{flat_map-append}
-use Rattle.std.proofs.lemmas.List.Elements.{All-contains, Contains-get_or, filter-append, recursion_from_All}
+use Rattle.std.proofs.lemmas.List.Elements.{All-contains, Contains-get_or, recursion_from_All}
 use Rattle.std.proofs.lemmas.List.Kept.{AllPairs-filter}
-use Rattle.fc_record.specs.declared.Geometry.{Geometry}
-use Rattle.fc_zone.specs.declared.RunKind.{RunKind}
-use Rattle.fc_zone.specs.declared.RunKind.TheVariants.{Hole, Id}
 use Rattle.fc_newmap.specs.Map.{Map, ZoneRun, all_runs, has_id, hole_runs, id_runs, is_hole, is_used, runs_in, runs_of, search_order}
 use Rattle.fc_newmap.specs.NewMap.{IsNewMap}
 use Rattle.fc_newmap.specs.RunsLaw.{placed}
 use Rattle.fc_newmap.proofs.HeldLemmas.{geometry_facts}
 use Rattle.fc_newmap.proofs.PlaceLemmas.{contains_here, contains_later, filter_in, id_run_in, in_back, in_filter, is_in, order_in}
 use Rattle.fc_effects.specs.Placed.{BeginsBefore, stands_at}
-use Rattle.fc_plan.specs.Giving.{is_given, is_one_of, stays_given}
 use Rattle.fc_plan.specs.Plan.{AreInOrder, AreParts, EndsBefore, IsFreeRun, IsFrontOfOne}
 use Rattle.fc_plan.specs.Taking.{as_runs, own_of, own_runs, part_taken, with_id}
 use Rattle.fc_plan.proofs.MapLemmas.{count_at, count_other, either_test}
@@ -26,7 +22,6 @@ use Rattle.fc_plan.proofs.Ordered.{all_taken, is_free, none_taken, same_part, ta
 use Rattle.fc_plan.proofs.Order.{ArePositive, Rising, StandsIn, begins_at, begins_then, elsewhere, ends_then_begins, filter_all, find_nothing, later_than, map_holes-free, not_both, not_both_turned, order-filter, rising_of, same_place, stands_in, weaken_all}
 use Rattle.fc_plan.proofs.GivenRuns.{at_zone, in_zone}
 use Rattle.fc_plan.proofs.Walks.{shape_of_zone}
-use Rattle.fc_plan.proofs.Composed.{no_kept_at}
 
 -- ---- holes and parts that both rise
 

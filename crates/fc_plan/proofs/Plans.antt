@@ -1,8 +1,8 @@
 -- Plans: a choice of parts, in their order.
-use Rattle.std.proofs.Common.{◌≡◌, ◌<◌, ◌≤◌, ℕ, zero, suc, ◌+◌, Bool, true, false, cond, List, [], ◌∷◌, length, get_or, sum_by, All, Contains, inl, inr, refl, sym, ap, ◌∙◌, arith}
+use Rattle.std.proofs.Common.{◌≡◌, ◌<◌, ◌≤◌, ℕ, zero, suc, true, cond, List, [], ◌∷◌, length, get_or, All, Contains, inl, inr, refl, sym, ◌∙◌, arith}
 use Rattle.std.specs.List.{AllByRecursion}
 use Rattle.std.specs.List.Sorted.{IsPermutation, IsNonDecreasingBy}
-use Rattle.std.proofs.lemmas.List.Elements.{All-contains, All-from_recursion, Contains-get_or, recursion_from_All}
+use Rattle.std.proofs.lemmas.List.Elements.{All-contains, All-from_recursion, recursion_from_All}
 use Rattle.std.proofs.lemmas.List.Sorted.{All-permutation, length_permutation, sum_by-IsPermutation}
 use Rattle.fc_record.specs.declared.Geometry.{Geometry}
 use Rattle.fc_newmap.specs.Map.{ZoneRun, bits_in}
@@ -10,12 +10,12 @@ use Rattle.fc_newmap.specs.NewMap.{IsOfRecord}
 use Rattle.fc_newmap.proofs.HeldLemmas.{geometry_facts, shape_fits}
 use Rattle.std.proofs.lemmas.List.{length-replicate}
 use Rattle.std.specs.Prelude.{replicate, ◌%◌}
-use Rattle.fc_effects.specs.Placed.{BeginsBefore, HasRunLength, IsFront, IsPlan, IsTaken, holes_left, stands_at}
-use Rattle.fc_plan.specs.Plan.{AreApart, AreFreeRuns, AreInOrder, AreParts, IsChoice, IsFreeRun, IsFrontOfOne, left_of_both}
+use Rattle.fc_effects.specs.Placed.{BeginsBefore, HasRunLength, IsPlan, IsTaken, holes_left, stands_at}
+use Rattle.fc_plan.specs.Plan.{AreApart, AreFreeRuns, AreParts, IsChoice, IsFreeRun, IsFrontOfOne, left_of_both}
 use Rattle.fc_plan.proofs.MapLemmas.{count_at, count_here, count_other, either_test}
 use Rattle.fc_plan.proofs.Left.{count_at-positive}
 use Rattle.fc_plan.proofs.Taken.{stands_at-same}
-use Rattle.fc_plan.proofs.Order.{AreFronts, Rising, StandsIn, are_fronts, begins_at, elsewhere, free_apart, left-free, left_is, not_both, place_number, rising_by_place, rising_of, same_place, stands_in, weaken_all}
+use Rattle.fc_plan.proofs.Order.{Rising, StandsIn, are_fronts, begins_at, elsewhere, free_apart, left-free, left_is, not_both, place_number, rising_by_place, rising_of, same_place, stands_in, weaken_all}
 
 pub taken_moved : (g : Geometry) (holes : List ZoneRun) (bits : ℕ) (parts ordered : List ZoneRun) → IsPermutation parts ordered → IsTaken g holes bits parts → IsTaken g holes bits ordered
 taken_moved g holes bits parts ordered moved taken =

@@ -1,6 +1,6 @@
 -- What a map has where a command is not short of space.
-use Rattle.std.proofs.Common.{◌≡◌, ◌<◌, ◌≤◌, ◌&&◌, ◌==◌, ◌^◌, ℕ, zero, suc, ◌+◌, ◌-◌, ◌*◌, Bool, true, false, cond, List, [], ◌∷◌, length, map, ◌⊎◌, Contains, All, Option, Some, None, refl, sym, ap, ap₂, subst, ◌∙◌, inl, inr, arith, lt-ltb}
-use Rattle.std.specs.Prelude.{AllPairs, filter, is_some, min, nat_lt, not}
+use Rattle.std.proofs.Common.{◌≡◌, ◌<◌, ◌≤◌, ◌&&◌, ℕ, zero, suc, ◌+◌, ◌-◌, ◌*◌, Bool, true, false, cond, [], ◌∷◌, length, ◌⊎◌, Contains, None, refl, sym, ap, ap₂, subst, ◌∙◌, inl, inr, arith, lt-ltb}
+use Rattle.std.specs.Prelude.{AllPairs, nat_lt, not}
 use Rattle.std.specs.List.{AllByRecursion, range_with_len}
 use Rattle.std.specs.Option.{option_map_or}
 use Rattle.std.proofs.lemmas.Bool.{cases_lt, ltb-false}
@@ -11,12 +11,10 @@ use Rattle.fc_names.specs.declared.refusal.Refusal.TheVariants as refusals
 use Rattle.fc_record.specs.Record.{id_limit}
 use Rattle.fc_model.specs.Answer.{first_of, when}
 use Rattle.fc_model.specs.Command.{Command}
-use Rattle.fc_newmap.specs.Map.{Map, ZoneRun, bits_in, hole_runs, is_used}
+use Rattle.fc_newmap.specs.Map.{Map, bits_in, hole_runs, is_used}
 use Rattle.fc_newmap.specs.NewMap.{IsNewMap}
 use Rattle.fc_image.specs.Layout.{Layout}
-use Rattle.fc_image.specs.Objects.{objects_of}
 use Rattle.fc_image.specs.Opening.{Opened}
-use Rattle.fc_effects.specs.Placed.{IsTaken, holes_left}
 use Rattle.fc_effects.specs.Sharing.{new_ids}
 use Rattle.fc_effects.specs.Short.{gain_in, growth_units, is_full_with, needed_bits, needed_ids, object_units, short, space_reasons}
 use Rattle.fc_plan.specs.Laws.{AreNewIds, Suffices}

@@ -1,9 +1,9 @@
 -- Unused identifiers, and what a pass over a map's runs finds.
 use Rattle.std.proofs.Common.{◌≡◌, ◌<◌, ◌≤◌, ◌||◌, ◌==◌, ◌^◌, ℕ, zero, suc, ◌+◌, ◌-◌, Bool, true, false, cond, List, [], ◌∷◌, ◌++◌, length, get_or, set, refl, sym, ap, ap₂, subst, ◌∙◌, inl, inr, arith, eq-eqb, replicate}
-use Rattle.std.specs.Prelude.{filter, not, min}
+use Rattle.std.specs.Prelude.{filter, not}
 use Rattle.std.specs.List.{list_any, range_with_len}
 use Rattle.std.proofs.Math.Nat.{pow-le-pow_right}
-use Rattle.std.proofs.lemmas.Bool.{cases_eq, eqb-true, ne_eqb}
+use Rattle.std.proofs.lemmas.Bool.{cases_eq, ne_eqb}
 use Rattle.std.proofs.lemmas.List.{get_or-set_other, get_or-replicate, get_or-set_same, length-replicate, length-set}
 use Rattle.std.proofs.lemmas.List.Elements.{filter-append}
 use Rattle.fc_record.specs.declared.Geometry.{Geometry}

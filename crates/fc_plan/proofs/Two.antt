@@ -1,7 +1,7 @@
 -- What plans have that are made from one map, one after the other.
-use Rattle.std.proofs.Common.{◌≡◌, ◌<◌, ◌≤◌, ◌==◌, ◌⊎◌, ℕ, zero, suc, ◌+◌, ◌-◌, ◌^◌, Bool, true, false, cond, List, [], ◌∷◌, ◌++◌, length, get_or, All, Contains, Option, Some, None, refl, sym, ap, subst, ◌∙◌, inl, inr, arith}
+use Rattle.std.proofs.Common.{◌≡◌, ◌<◌, ◌≤◌, ◌==◌, ◌⊎◌, ℕ, zero, suc, ◌+◌, ◌-◌, Bool, true, false, cond, List, [], ◌∷◌, length, get_or, Contains, Option, Some, None, refl, sym, ap, subst, ◌∙◌, inl, inr, arith}
 use Rattle.std.specs.Prelude.{AllPairs, filter, not}
-use Rattle.std.specs.List.{AllByRecursion, find, range_with_len}
+use Rattle.std.specs.List.{find, range_with_len}
 use Rattle.std.proofs.lemmas.Bool.{and_from, eq-eqb}
 use Rattle.std.proofs.lemmas.List.Elements.{All-contains, All-from_recursion, Contains-append_cases, Contains-get_or}
 use Rattle.fc_record.specs.declared.Geometry.{Geometry}
@@ -20,7 +20,7 @@ use Rattle.fc_effects.specs.Sharing.{new_ids}
 use Rattle.fc_plan.specs.Applied.{CanTakePlan}
 use Rattle.fc_plan.specs.Laws.{AreDisjoint, AreTwo}
 use Rattle.fc_plan.specs.Parts.{fronts}
-use Rattle.fc_plan.specs.Plan.{AreInOrder, EndsBefore, IsFrontOfOne}
+use Rattle.fc_plan.specs.Plan.{AreInOrder, EndsBefore}
 use Rattle.fc_plan.specs.declared.plan.Plan.{Plan}
 use Rattle.fc_plan.proofs.MapLemmas.{count_at, holes_apart}
 use Rattle.fc_plan.proofs.Composed.{found_some, same_filter}
@@ -28,7 +28,7 @@ use Rattle.fc_plan.proofs.Left.{count_at-positive, found, rest_of, same_hole}
 use Rattle.fc_plan.proofs.Order.{map_holes-free, same_place}
 use Rattle.fc_plan.proofs.Plans.{cut_of_plan}
 use Rattle.fc_plan.proofs.Shorts.{are_new_ids}
-use Rattle.fc_plan.proofs.Taken.{find_is, stands_at-same}
+use Rattle.fc_plan.proofs.Taken.{find_is}
 
 -- ---- a plan of a new identifier
 

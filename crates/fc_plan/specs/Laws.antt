@@ -1,5 +1,5 @@
 -- Laws of taking space.
-use Rattle.std.specs.Prelude.{◌⊎◌, All, true, false, ◌<◌, ◌%◌, ◌≡◌, ◌≤◌, ◌^◌, ℕ, ◌+◌, ◌*◌, Bool, not, nat_lt, List, [], ◌∷◌, length, Contains, AllPairs, None, if◌then◌else◌}
+use Rattle.std.specs.Prelude.{◌⊎◌, All, true, false, ◌<◌, ◌%◌, ◌≡◌, ◌≤◌, ◌^◌, ℕ, ◌+◌, ◌*◌, not, nat_lt, List, [], ◌∷◌, length, Contains, AllPairs, None}
 use Rattle.std.specs.Option.{option_map_or}
 use Rattle.std.specs.List.Sorted.{IsPermutation}
 use Rattle.fc_record.specs.declared.Geometry.{Geometry}

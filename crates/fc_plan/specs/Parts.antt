@@ -1,7 +1,6 @@
 -- Parts of plans as the fronts of holes.
-use Rattle.std.specs.Prelude.{◌≡◌, ℕ, ◌==◌, ◌||◌, ◌&&◌, nat_lt, Bool, false, List, [], map, Option, Some, None}
+use Rattle.std.specs.Prelude.{◌≡◌, ℕ, ◌==◌, ◌||◌, ◌&&◌, nat_lt, Bool, false, List, map}
 use Rattle.std.specs.List.{list_any}
-use Rattle.fc_zone.specs.declared.Run.{Run}
 use Rattle.fc_zone.specs.declared.RunKind.TheVariants.{Hole}
 use Rattle.fc_newmap.specs.Map.{Map, ZoneRun, sector_of}
 use Rattle.fc_plan.specs.declared.plan.Part.{Part}

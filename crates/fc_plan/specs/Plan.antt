@@ -1,5 +1,5 @@
 -- What parts have that can be cut from holes, and holes that lie as those of a map do.
-use Rattle.std.specs.Prelude.{◌≡◌, ◌<◌, ◌≤◌, ◌⊎◌, ℕ, ◌+◌, ◌-◌, ◌%◌, List, [], ◌∷◌, ◌++◌, length, take, slice_index_or, if◌then◌else◌, Contains, All, AllPairs, Option, Some, None}
+use Rattle.std.specs.Prelude.{◌≡◌, ◌<◌, ◌≤◌, ◌⊎◌, ℕ, ◌+◌, List, [], ◌∷◌, ◌++◌, length, take, slice_index_or, if◌then◌else◌, Contains, All, Option, Some, None}
 use Rattle.std.specs.List.{count_by, AllByRecursion}
 use Rattle.fc_record.specs.declared.Geometry.{Geometry}
 use Rattle.fc_newmap.specs.Map.{ZoneRun, bits_in}

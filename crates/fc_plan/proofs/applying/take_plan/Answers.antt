@@ -1,4 +1,4 @@
-use Rattle.std.proofs.Common.{◌≡◌, Option, ap, sym, ◌∙◌}
+use Rattle.std.proofs.Common.{Option, ap, sym, ◌∙◌}
 use Rattle.fc_newmap.specs.Map.{hole_runs, runs_of}
 use Rattle.fc_newmap.proofs.ComposeLemmas.{edits_none}
 use Rattle.fc_effects.specs.Placed.{holes_left}

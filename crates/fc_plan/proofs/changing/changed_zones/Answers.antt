@@ -1,4 +1,4 @@
-use Rattle.std.proofs.Common.{◌≡◌, ◌<◌, ◌++◌, ℕ, false, List, Contains}
+use Rattle.std.proofs.Common.{◌≡◌, ◌<◌, ◌++◌, ℕ, false, Contains}
 use Rattle.std.specs.Prelude.{filter}
 use Rattle.fc_newmap.specs.Map.{zone_numbers}
 use Rattle.fc_plan.specs.Applied.{is_changed, plan_in}

@@ -1,7 +1,7 @@
-use Rattle.std.proofs.Common.{◌≡◌, ◌<◌, ◌-◌, ℕ, List, ap, ◌∙◌, arith}
+use Rattle.std.proofs.Common.{◌≡◌, ◌<◌, ap, arith}
 use Rattle.fc_record.specs.declared.Geometry.{Geometry}
 use Rattle.fc_plan.specs.Applied.{is_changed, plan_in}
-use Rattle.fc_plan.proofs.Changes.{all_passed, none_passed, step_passed}
+use Rattle.fc_plan.proofs.Changes.{step_passed}
 use Rattle.fc_plan.proofs.changing.push_changed.Goals as goal
 
 pub loop-z-preserved : goal.loop-z-preserved

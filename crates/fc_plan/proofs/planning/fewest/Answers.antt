@@ -1,5 +1,5 @@
-use Rattle.std.proofs.Common.{◌≡◌, ◌<◌, List, subst, sym, ◌∙◌}
-use Rattle.fc_newmap.specs.Map.{ZoneRun, bits_in}
+use Rattle.std.proofs.Common.{List, subst, sym, ◌∙◌}
+use Rattle.fc_newmap.specs.Map.{ZoneRun}
 use Rattle.fc_effects.specs.Placed.{IsPlan}
 use Rattle.fc_plan.specs.Plan.{AreFreeRuns}
 use Rattle.fc_plan.proofs.Plans.{left_is_free, left_of_plan, lens_low, min_some, min_whole}

@@ -1,4 +1,4 @@
-use Rattle.std.proofs.Common.{◌++◌, ◌+◌, ◌≡◌, drop, get_or, sym}
+use Rattle.std.proofs.Common.{get_or, sym}
 use Rattle.std.proofs.lemmas.List.{drop_more}
 use Rattle.fc_zone.specs.declared.RunKind.TheVariants.{Hole}
 use Rattle.fc_newmap.specs.Map.{ZoneRun}

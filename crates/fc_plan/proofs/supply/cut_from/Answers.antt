@@ -1,6 +1,5 @@
-use Rattle.std.proofs.Common.{◌%◌, ◌≡◌, ℕ, map, ap, subst, sym, ◌∙◌}
+use Rattle.std.proofs.Common.{◌%◌, ℕ, map, ap, subst, sym, ◌∙◌}
 use Rattle.fc_plan.specs.Parts.{fronts, part_of}
-use Rattle.fc_effects.specs.Sharing.{units}
 use Rattle.fc_effects.specs.Placed.{IsPlan}
 use Rattle.fc_plan.proofs.Fronts.{left_of_fronts, plan_of_fronts}
 use Rattle.fc_plan.proofs.Plans.{cut_of_plan}

@@ -1,4 +1,4 @@
-use Rattle.std.proofs.Common.{◌≡◌, ◌∙◌, Bool, true, false, get_or, sym}
+use Rattle.std.proofs.Common.{◌≡◌, ◌∙◌, true, false, get_or, sym}
 use Rattle.std.proofs.lemmas.List.{get_or_default}
 use Rattle.fc_plan.proofs.Stock.{unused_here, unused_later}
 use Rattle.fc_plan.proofs.supply.next_unused.Goals as goal
