@@ -19,6 +19,7 @@ pub use extents::extent_of;
 use fc_zone::ZoneFault;
 pub use map::NewMap;
 pub use runs::{MAP_ID, RunCursor, home_zone};
+pub use sums::HoleSums;
 pub use walk::Walk;
 
 /// Why a copy of a map is not loaded.

@@ -197,7 +197,8 @@ fn new_free(map: &NewMap) -> (u64, u64)
     ensures largest { result.1 ≡ largest_hole (Layout.New map.now) }
 {
     let bit = map.geometry().bit_bytes;
-    (map.free_bits() * bit, map.largest_hole() * bit)
+    let sums = map.hole_sums();
+    (sums.total * bit, sums.longest * bit)
 }
 
 impl Volume {
