@@ -1,8 +1,10 @@
 mod LineLemmas
+mod PromiseLemmas
 mod ReadsLemmas
 mod RunningLemmas
 mod ScriptLemmas
 mod ServingLemmas
+mod StepLemmas
 pub mod AnsweredLemmas
 pub mod ErrorLemmas
 pub mod HashLemmas
