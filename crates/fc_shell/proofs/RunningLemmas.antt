@@ -8,7 +8,7 @@ use Rattle.fc_device.specs.Calls.{OnlyReads}
 use Rattle.fc_format.specs.declared.Format.{Format}
 use Rattle.fc_format.specs.Fresh.{format_size, fresh_image, zeros}
 use Rattle.fc_volume.specs.Volume.{OnlyShapes}
-use Rattle.fc_shell.specs.Serving.{AsksFor, is_late}
+use Rattle.fc_shell.specs.Ends.{AsksFor, is_late}
 use Rattle.fc_shell.specs.declared.ending.End.{End}
 use Rattle.fc_shell.specs.declared.ending.End.TheVariants.{Done, Refused, BadWords, BadImage, DiskFault, ScriptFault, OutFault, NoMemory, ScriptTooLong, NotBuilt, NoImage}
 

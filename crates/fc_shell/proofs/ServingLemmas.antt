@@ -1,5 +1,5 @@
 -- Serving line after line.
-use Rattle.std.proofs.Common.{◌≡◌, ◌≤◌, ◌⊎◌, inl, inr, ⊎_elim, ℕ, ◌+◌, ◌-◌, suc, min, Bool, true, false, ◌||◌, ◌&&◌, nat_le, List, [], ◌∷◌, ◌++◌, length, take, ⊥, Option, Some, None, Result, Ok, Err, refl, sym, ap, ap₂, subst, ◌∙◌, arith, append_assoc}
+use Rattle.std.proofs.Common.{◌≡◌, ◌≤◌, ◌⊎◌, inl, inr, ⊎_elim, ℕ, ◌+◌, ◌-◌, suc, min, Bool, true, false, ◌||◌, ◌&&◌, nat_le, List, [], ◌∷◌, ◌++◌, length, take, Option, Some, None, Result, Ok, Err, refl, sym, ap, ap₂, subst, ◌∙◌, arith, append_assoc}
 use Rattle.std.specs.Prelude.{if◌then◌else◌, slice_get}
 use Rattle.std.specs.List.{list_any}
 use Rattle.std.proofs.lemmas.Bool.Decides.{nat_tests}
@@ -170,9 +170,9 @@ not_disk fault spares is =
     cc
 
 is_disk : (fault : LineFault) → spares_disk (cause_of fault) ≡ false → fault ≡ LineFault.Disk
-is_disk lines.Disk no = refl
-is_disk lines.Out no = absurd (cc)
-is_disk lines.NoMemory no = absurd (cc)
+is_disk lines.Disk h = refl
+is_disk lines.Out h = absurd (cc)
+is_disk lines.NoMemory h = absurd (cc)
 
 -- ---- lines that were done
 
@@ -203,6 +203,11 @@ module _ {D : Type 0} {d : Ghosts D} (law : Laws d) where
       opens = opens;
       kept = λ keep new_map image left. has_tree kind s image opens (law.settled old quiet s.image told image left);
     }
+
+    pub served_start : (left : List (List ℕ)) (v : Volume) (before : Option (List ℕ)) → left ≡ commands_in script → ArePartsOf (parts_of v) s.view
+        → HasServed d old old kind read_only s script left v false before before
+    unfolding done_start
+    served_start left v before all parts = record { lines = done_start left all; refused_is = refl; wrote = wrote_nothing before; parts = parts }
 
     -- one line more
     pub done_more : (line reply : List ℕ) (left : List (List ℕ)) (mid new : D) (next : State) → (are : AreDone d old mid kind read_only s script (line ∷ left)) → GoesOn d old mid → GoesOn d mid new
@@ -264,6 +269,7 @@ module _ {D : Type 0} {d : Ghosts D} (law : Laws d) where
         → (has : HasServed d old mid kind read_only s script (line ∷ left) v so_far before between) → GoesOn d old mid → GoesOn d mid new
         → ((fault ≡ LineFault.Disk → ⊥) → d.pending new ≡ false)
         → IsCutOff d mid new kind read_only has.lines.state line between after fault → ServesAs d old new kind read_only s script before after (Err fault)
+    unfolding done_more
     cut_off line left v so_far before between after mid new fault has first second settled cut =
         let are = done_more line cut.reply left mid new cut.next has.lines first second cut.done in
         let was = has.lines in
@@ -365,6 +371,7 @@ module _ {D : Type 0} {d : Ghosts D} (law : Laws d) where
     pub served_more : (line : List ℕ) (left : List (List ℕ)) (v v' : Volume) (so_far now : Bool) (before between after : Option (List ℕ)) (mid new : D)
         → (has : HasServed d old mid kind read_only s script (line ∷ left) v so_far before between) → GoesOn d old mid → GoesOn d mid new
         → IsAnswered d mid new kind read_only has.lines.state v' line between after now → HasServed d old new kind read_only s script left v' (so_far || now) before after
+    unfolding done_more
     served_more line left v v' so_far now before between after mid new has first second is = record {
       lines = done_more line is.reply left mid new is.next has.lines first second is.done;
       refused_is =

@@ -1,5 +1,5 @@
 -- Lines as steps.
-use Rattle.std.proofs.Common.{◌≡◌, ℕ, Bool, true, false, ◌||◌, List, [], ◌++◌, ⊥, Option, Some, None, Result, Ok, Err, IfOk, inl, inr, refl, sym, ap, subst, ◌∙◌}
+use Rattle.std.proofs.Common.{◌≡◌, ◌≤◌, arith, ℕ, Bool, true, false, ◌||◌, List, [], ◌++◌, Option, Some, None, Result, Ok, Err, IfOk, inl, inr, refl, sym, ap, subst, ◌∙◌}
 use Rattle.std.specs.Prelude.{if◌then◌else◌}
 use Rattle.fc_device.specs.declared.disk.Disk.{Ghosts}
 use Rattle.fc_device.specs.declared.streams.Sink.{Ghosts as Sinks}
@@ -38,8 +38,8 @@ use Rattle.fc_shell.proofs.WritingLemmas.{wrote_nothing}
 -- ---- a line that keeps the tree
 
 both_false : (b : Bool) → b ≡ false → (b || false) ≡ true → ⊥
-both_false true no h = cc
-both_false false no h = cc
+both_false true h k = absurd (cc)
+both_false false h k = absurd (cc)
 
 served_keeps : (mode : Mode) (s s' : State) (c : Command) (t : Tree) (reply : List ℕ) (keeps : Bool) (short : Option (List ℕ)) → keeps_tree c ≡ keeps
     → t ≡ changed (tree_in s) c → Serves mode s c t short reply s' → (is_error reply || keeps) ≡ true → tree_in s' ≡ tree_in s
@@ -92,10 +92,10 @@ module _ {D : Type 0} {d : Ghosts D} (law : Laws d) (kind : Kind) (v : Volume) (
 
       by : (result : Result Bool LineFault) → (result ≡ Err LineFault.Disk → ⊥) → Answered (refusal_line refusal) before after result
           → LineEnds d old new kind v.read_only s v line before after result
-      by (Ok refused) no answered =
+      by (Ok refused) never answered =
           record { reply = refusal_line refusal; next = s; done = read_done (refusal_line refusal) step reads; parts = parts; wrote = answered.0; refused_is = answered.1 }
-      by (Err fault) no answered =
-          inl (record { reply = refusal_line refusal; next = s; done = read_done (refusal_line refusal) step reads; part = answered; no_disk = λ is. no (ap Err is) })
+      by (Err fault) never answered =
+          inl (record { reply = refusal_line refusal; next = s; done = read_done (refusal_line refusal) step reads; part = answered; no_disk = λ is. never (ap Err is) })
 
   -- a command that reads
   pub reading_ends : (c : Command) (result : Result Bool LineFault) → command_of line ≡ Ok c → is_reading c ≡ true → OnlyReads d old new → ArePartsOf (parts_of v) s.view
@@ -112,13 +112,13 @@ module _ {D : Type 0} {d : Ghosts D} (law : Laws d) (kind : Kind) (v : Volume) (
       by : (result : Result Bool LineFault) → Answered (reading_reply mode s c) before after result → LineEnds d old new kind v.read_only s v line before after result
       by (Ok refused) answered = record { reply = reading_reply mode s c; next = s; done = read_done (reading_reply mode s c) step reads; parts = parts; wrote = answered.0; refused_is = answered.1 }
       by (Err fault) answered =
-          inr (record { part = subst (WrotePart before after) (sym begun) answered; holds = λ no. reads.bytes ∙ told; kept = λ keeps. same_tree reads.stops })
+          inr (record { part = subst (WrotePart before after) (sym begun) answered; holds = λ never. reads.bytes ∙ told; kept = λ keeps. same_tree reads.stops })
 
   -- a line that isn't begun
   pub unbegun_ends : (fault : LineFault) → OnlyReads d old new → before ≡ after → LineEnds d old new kind v.read_only s v line before after (Err fault)
   unbegun_ends fault reads same =
       inr (record { part = subst (λ (a : Option (List ℕ)). WrotePart before a (reply_begun mode s (command_of line))) same (0, wrote_nothing before);
-        holds = λ no. reads.bytes ∙ told; kept = λ keeps. same_tree reads.stops })
+        holds = λ never. reads.bytes ∙ told; kept = λ keeps. same_tree reads.stops })
 
 -- ---- what they keep
 
@@ -135,7 +135,23 @@ pub reading_keeps : {D K : Type 0} {d : Ghosts D} (law : Laws d) (k : Sinks K) (
 reading_keeps {d = d} law k v line old new before after result quiet fit stands reads caused = record {
   goes = record { form = reads.form; stops = weaker law (λ image. Unit {0}) reads.stops (λ image left. tt); faults = reads.faults };
   ready = ready_if result (IsReady d new v v) (record { fit = fit; stands = stands_read d v old new reads stands; settled = reads.pending ∙ quiet; read_only = refl });
-  settled = λ no. reads.pending ∙ quiet;
+  settled = λ never. reads.pending ∙ quiet;
   reads = λ is. (reads, refl);
   caused = caused;
 }
+
+-- ---- causes over lines
+
+pub caused_later : {D K : Type 0} (d : Ghosts D) (k : Sinks K) (old mid new : D) (first before after : K) (result other : Result Bool LineFault) → d.faults old ≤ d.faults mid → k.faults first ≤ k.faults before
+    → other ≡ result → IsCaused d k mid new before after result → IsCaused d k old new first after other
+caused_later d k old mid new first before after result other disk out same caused = record {
+  later = omega (arith, out, caused.later);
+  disk = λ is. let rose = caused.disk (sym same ∙ is) in omega (arith, disk, rose);
+  out = λ is. let rose = caused.out (sym same ∙ is) in omega (arith, out, rose);
+}
+
+pub caused_ok : {D K : Type 0} (d : Ghosts D) (k : Sinks K) (old new : D) (before after : K) (refused : Bool) → k.faults before ≤ k.faults after → IsCaused d k old new before after (Ok refused)
+caused_ok d k old new before after refused later = record { later = later; disk = λ is. absurd (cc); out = λ is. absurd (cc) }
+
+pub one_fault : (r : Result Bool LineFault) (e f : LineFault) → r ≡ Err e → r ≡ Err f → e ≡ f
+one_fault r e f is other = cc
