@@ -1,4 +1,6 @@
 mod LineLemmas
+mod KeptLemmas
+mod OutcomeLemmas
 mod PromiseLemmas
 mod ReadsLemmas
 mod RunningLemmas

@@ -1,7 +1,9 @@
 -- What a run promises, from what its parts do.
-use Rattle.std.proofs.Common.{◌≡◌, ◌⊎◌, inl, inr, ⊎_elim, ℕ, Bool, true, false, List, [], ◌∷◌, Option, Some, None, Result, Ok, Err, refl, sym, ap, subst, ◌∙◌, arith}
+use Rattle.std.proofs.Common.{◌≡◌, ◌≤◌, take, ◌⊎◌, inl, inr, ⊎_elim, ℕ, Bool, true, false, List, [], ◌∷◌, Option, Some, None, Result, Ok, Err, refl, sym, ap, subst, ◌∙◌, arith}
 use Rattle.std.specs.Prelude.{is_some}
 use Rattle.fc_device.specs.declared.disk.Disk.{Ghosts}
+use Rattle.fc_device.specs.declared.streams.Sink.{Ghosts as Sinks}
+use Rattle.fc_device.specs.Faults.{Rose}
 use Rattle.fc_device.specs.Stops.{LeavesOnly}
 use Rattle.fc_device.proofs.DiskLaws.{Laws}
 use Rattle.fc_device.proofs.StopLemmas.{goes_on_same, started, weaker}
@@ -26,7 +28,11 @@ use Rattle.fc_shell.specs.Promise.{EndsByGiving, EndsByLength, EndsByOpening, En
 use Rattle.fc_shell.specs.Reading.{IsUnwritten}
 use Rattle.fc_shell.specs.Replies.{blank_size, image_for}
 use Rattle.fc_shell.specs.Serving.{ServesAs}
-use Rattle.fc_shell.specs.Writing.{Wrote}
+use Rattle.fc_shell.specs.Kept.{SessionKeeps}
+use Rattle.fc_shell.specs.Writing.{Wrote, WrotePart}
+use Rattle.fc_runs.specs.Replies.{bad_image_line}
+use Rattle.fc_volume.specs.Volume.{OnlyShapes}
+use Rattle.fc_shell.proofs.WritingLemmas.{wrote_nothing}
 use Rattle.fc_shell.proofs.StepLemmas.{has_tree}
 use Rattle.fc_shell.proofs.ServingLemmas.{steps_weaker}
 
@@ -34,7 +40,7 @@ use Rattle.fc_shell.proofs.ServingLemmas.{steps_weaker}
 abbrev pub Accepts : Type 0
 Accepts = (image : List ℕ) (v : Opened) → open_image image ≡ Ok v → OpensAs image v.kind v
 
-no_fresh : false ≡ true → ⊥
+pub no_fresh : false ≡ true → ⊥
 no_fresh e = cc
 
 -- ---- from an earlier moment on
@@ -143,6 +149,9 @@ module _ {D : Type 0} {d : Ghosts D} (law : Laws d) (old mid new : D) (first : L
 
 -- ---- runs that began no line
 
+pub no_run : {D : Type 0} (d : Ghosts D) (old new : D) (line : List ℕ) → IsUnwritten d old new → HasNoRun d old new line line
+no_run d old new line same = record { told = refl; bytes = same.bytes_stay; stops = same.stops }
+
 module _ {D : Type 0} {d : Ghosts D} (law : Laws d) (old new : D) where
   not_begun : (kind : Kind) (read_only : Bool) (s : State) (script : List ℕ) (cause : Cause) → d.bytes old ≡ Some s.image → OpensAs s.image kind s.view → IsUnwritten d old new
       → (spares_disk cause ≡ true → (d.pending new ≡ false) ⊎ (new ≡ old)) → HasStopped d old new (plain_mode kind read_only) false None s script [] cause
@@ -168,9 +177,6 @@ module _ {D : Type 0} {d : Ghosts D} (law : Laws d) (old new : D) where
     };
   }
 
-  pub no_run : (line : List ℕ) → IsUnwritten d old new → HasNoRun d old new line line
-  no_run line same = record { told = refl; bytes = same.bytes_stay; stops = same.stops }
-
   -- An I/O error of the disk came before the first line,
   pub begun_fault : Accepts → (read_only : Bool) (image script : List ℕ) → d.bytes old ≡ Some image → IsUnwritten d old new
       → EndsByOpening d old new read_only false image script [] (open_image image) DiskFault
@@ -180,7 +186,7 @@ module _ {D : Type 0} {d : Ghosts D} (law : Laws d) (old new : D) where
       spares e = absurd (no_fresh e)
 
       by : (o : Result Opened ImageFault) → open_image image ≡ o → EndsByOpening d old new read_only false image script [] o DiskFault
-      by (Err fault) e = no_run [] same
+      by (Err fault) e = no_run d old new [] same
       by (Ok v) e = inl (not_begun v.kind read_only (record { image = image; view = v }) script Cause.Disk told (accepts image v e) same spares)
 
   -- or out of memory did.
@@ -189,7 +195,7 @@ module _ {D : Type 0} {d : Ghosts D} (law : Laws d) (old new : D) where
   begun_memory accepts read_only image script told same settled = by (open_image image) refl
     where
       by : (o : Result Opened ImageFault) → open_image image ≡ o → EndsByOpening d old new read_only false image script [] o NoMemory
-      by (Err fault) e = no_run [] same
+      by (Err fault) e = no_run d old new [] same
       by (Ok v) e = inl (not_begun v.kind read_only (record { image = image; view = v }) script Cause.Memory told (accepts image v e) same (λ spares. settled))
 
 -- lines that were served
@@ -208,7 +214,7 @@ module _ {D : Type 0} {d : Ghosts D} (law : Laws d) (disk : D) where
   pub same_unwritten : IsUnwritten d disk disk
   same_unwritten = record { bytes_stay = refl; stops = started law disk (d.left_since disk (d.moment disk)) (λ image left. left); faults = omega arith }
 
-  none : HasNoRun d disk disk [] []
+  pub none : HasNoRun d disk disk [] []
   none = record { told = refl; bytes = refl; stops = started law disk (d.left_since disk (d.moment disk)) (λ image left. left) }
 
   -- out of memory before the image was asked for
@@ -245,3 +251,67 @@ module _ {D : Type 0} {d : Ghosts D} (law : Laws d) (disk : D) where
   script_fault_ends gives r image script false true is = subst (λ (b : Bool). EndsByScript d disk disk gives r image script [] b ScriptFault) (sym is) (inr (inl refl), none)
   script_fault_ends gives r image script false false is =
       subst (λ (b : Bool). EndsByScript d disk disk gives r image script [] b ScriptFault) (sym is) (fault_giving r image script (gives r.image (blank_size r)))
+
+-- ---- a run over an attached image
+
+pub late_end : (result : Result Bool LineFault) → is_late (end_of result) ≡ true
+late_end (Ok true) = refl
+late_end (Ok false) = refl
+late_end (Err lines.Disk) = refl
+late_end (Err lines.Out) = refl
+late_end (Err lines.NoMemory) = refl
+
+pub disk_end : (result : Result Bool LineFault) → end_of result ≡ DiskFault → result ≡ Err LineFault.Disk
+disk_end (Ok true) e = absurd (cc)
+disk_end (Ok false) e = absurd (cc)
+disk_end (Err lines.Disk) e = refl
+disk_end (Err lines.Out) e = absurd (cc)
+disk_end (Err lines.NoMemory) e = absurd (cc)
+
+pub out_end : (result : Result Bool LineFault) → end_of result ≡ OutFault → result ≡ Err LineFault.Out
+out_end (Ok true) e = absurd (cc)
+out_end (Ok false) e = absurd (cc)
+out_end (Err lines.Disk) e = absurd (cc)
+out_end (Err lines.Out) e = refl
+out_end (Err lines.NoMemory) e = absurd (cc)
+
+-- the line of an image that isn't accepted
+pub tell_ends : {D : Type 0} (d : Ghosts D) (old new : D) (fault : ImageFault) (result : End) (before after : Option (List ℕ)) → IsUnwritten d old new
+    → (result ≡ BadImage fault) ⊎ ((result ≡ OutFault) ⊎ (result ≡ NoMemory)) → (result ≡ BadImage fault → Wrote before after (bad_image_line fault))
+    → WrotePart before after (bad_image_line fault) → (result ≡ NoMemory → after ≡ before)
+    → (text : List ℕ) × Wrote before after text × EndsOnFault d old new fault text result
+tell_ends d old new fault result before after same (inl is) bad part quiet =
+    (bad_image_line fault, bad is, subst (EndsOnFault d old new fault (bad_image_line fault)) (sym is) (refl, no_run d old new (bad_image_line fault) same))
+tell_ends d old new fault result before after same (inr (inl is)) bad part quiet =
+    (take part.0 (bad_image_line fault), part.1, subst (EndsOnFault d old new fault (take part.0 (bad_image_line fault))) (sym is) (part.0, no_run d old new (take part.0 (bad_image_line fault)) same))
+tell_ends d old new fault result before after same (inr (inr is)) bad part quiet =
+    ([], subst (λ (a : Option (List ℕ)). Wrote before a []) (sym (quiet is)) (wrote_nothing before), subst (EndsOnFault d old new fault []) (sym is) (no_run d old new [] same))
+
+pub told_late : (fault : ImageFault) (result : End) → (result ≡ BadImage fault) ⊎ ((result ≡ OutFault) ⊎ (result ≡ NoMemory)) → is_late result ≡ true
+told_late fault result (inl is) = ap is_late is
+told_late fault result (inr (inl is)) = ap is_late is
+told_late fault result (inr (inr is)) = ap is_late is
+
+pub told_no_disk : (fault : ImageFault) (result : End) → (result ≡ BadImage fault) ⊎ ((result ≡ OutFault) ⊎ (result ≡ NoMemory)) → result ≡ DiskFault → ⊥
+told_no_disk fault result (inl is) e = absurd (cc)
+told_no_disk fault result (inr (inl is)) e = absurd (cc)
+told_no_disk fault result (inr (inr is)) e = absurd (cc)
+
+pub shapes_unwritten : {D : Type 0} (d : Ghosts D) (old new : D) → OnlyShapes d old new → IsUnwritten d old new
+shapes_unwritten d old new shapes = record { bytes_stay = shapes.bytes_stay; stops = shapes.stops; faults = shapes.faults }
+
+pub session_shapes : {D K : Type 0} {d : Ghosts D} (law : Laws d) (k : Sinks K) (reads : Type 0) (old new : D) (before after : K) (end : End) → OnlyShapes d old new → d.pending old ≡ false → is_late end ≡ true
+    → (end ≡ DiskFault → Rose (d.faults old) (d.faults new)) → (end ≡ OutFault → Rose (k.faults before) (k.faults after)) → SessionKeeps d k reads old new before after end
+session_shapes {d = d} law k reads old new before after end shapes quiet late disk out = record {
+  asked_stays = shapes.asked_stays;
+  goes = weaker law (λ image. Unit {0}) shapes.stops (λ image left. tt);
+  faults = shapes.faults;
+  disk_fault = disk;
+  out_fault = out;
+  settled = λ never. shapes.pending_stays ∙ quiet;
+  unwritten = λ only. shapes_unwritten d old new shapes;
+  late = late;
+}
+
+pub rose_earlier : (a b c : ℕ) → a ≤ b → Rose b c → Rose a c
+rose_earlier a b c le rose = omega (arith, le, rose)

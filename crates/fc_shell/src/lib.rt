@@ -62,6 +62,8 @@ fn run_script<D: Disk, K: Sink>(
     ensures not_built { result ≡ End.NotBuilt → (disk.new ≡ disk.old) × (out.new ≡ out.old) × (has_unbuilt script.now ≡ true) }
     ensures ended { (is_late result ≡ true) ⊎ ((result ≡ End.NoImage) ⊎ (result ≡ End.NotBuilt)) }
 {
+    // A law, for the proof alone: an image that is accepted opens as its own kind.
+    fc_image::accepted();
     match has_unbuilt(alloc, script) {
         Err(NoMemory) => End::NoMemory,
         Ok(true) => End::NotBuilt,
@@ -91,6 +93,8 @@ fn run_request<D: Disk, S: Source, K: Sink>(
     ensures script_end { is_early result ≡ false → ForSome (S.left script.new) (λ rest. rest ≡ []) }
     ensures good_words { result ≢ End.BadWords }
 {
+    // A law, for the proof alone: an image that is accepted opens as its own kind.
+    fc_image::accepted();
     if asked.demo.is_some() || asked.safe {
         return End::NotBuilt;
     }
@@ -170,6 +174,8 @@ pub fn run<D: Disk, S: Source, K: Sink>(
         → LeavesDisk D.Disk r (Unit {0}) disk.old disk.new }
     ensures script_end { is_early result ≡ false → ForSome (S.left script.new) (λ rest. rest ≡ []) }
 {
+    // A law, for the proof alone: an image that is accepted opens as its own kind.
+    fc_image::accepted();
     match read_words(alloc, words) {
         Err(WordsError::BadWords) => End::BadWords,
         Err(WordsError::NoMemory) => End::NoMemory,

@@ -129,6 +129,9 @@ pub fn answer_script<D: Disk, K: Sink>(
     ensures keeps { RunKeeps D.Disk K.Sink (request_in asked.now) (only_reads script.now ≡ true) disk.old disk.new out.old out.new result }
     ensures late { (is_late result ≡ true) ⊎ (result ≡ End.NoImage) }
 {
+    // Laws, for the proof alone: a fresh image is accepted, and one that is accepted opens as its own kind.
+    fc_image::accepted();
+    fc_format::opens();
     match attach_image(disk, asked.image.as_str(), asked.new) {
         Err(DiskFault) => End::DiskFault,
         Ok(false) => End::NoImage,
