@@ -1,9 +1,9 @@
 mod LineLemmas
+mod FreshLemmas
 mod KeptLemmas
 mod OutcomeLemmas
 mod PromiseLemmas
 mod ReadsLemmas
-mod RunningLemmas
 mod ScriptLemmas
 mod ServingLemmas
 mod StepLemmas

@@ -1,5 +1,5 @@
 -- A script that only reads: its end and its text are those of words, script and image.
-use Rattle.std.proofs.Common.{◌≡◌, ◌⊎◌, inl, inr, ⊎_elim, ℕ, suc, Bool, true, false, not, nat_lt, List, [], ◌∷◌, ◌++◌, length, map, take, Option, Some, None, option_map, Result, Ok, Err, refl, sym, ap, ap₂, subst, ◌∙◌, append_assoc}
+use Rattle.std.proofs.Common.{◌≡◌, inl, inr, ℕ, Bool, true, false, not, nat_lt, List, [], ◌∷◌, ◌++◌, length, map, take, Option, Some, None, Result, Ok, Err, refl, sym, ap, subst, ◌∙◌, append_assoc}
 use Rattle.std.specs.Prelude.{if◌then◌else◌, slice_get, is_some}
 use Rattle.std.specs.List.{list_any}
 use Rattle.std.proofs.lemmas.List.{append-nil}
@@ -12,7 +12,7 @@ use Rattle.fc_effects.specs.Effect.{State}
 use Rattle.fc_script.specs.Lines.{command_of}
 use Rattle.fc_script.specs.Texts.{refusal_line}
 use Rattle.fc_runs.specs.Early.{reply_begun, text_begun}
-use Rattle.fc_runs.specs.Promises.{Cause, HasNoRun, HasRun, HasStopped}
+use Rattle.fc_runs.specs.Promises.{Cause, HasRun, HasStopped}
 use Rattle.fc_runs.specs.ReadLaw.{is_reading, reading_reply}
 use Rattle.fc_runs.specs.Replies.{bad_image_line}
 use Rattle.fc_runs.specs.Run.{Mode, Steps, commands_in, is_error, text_of}
@@ -83,12 +83,16 @@ early mode s s' (line ∷ lines) [] reads x =
 early mode s s' (line ∷ lines) (reply ∷ replies) reads x =
     let both = both_true (is_reading_line (command_of line)) (all_read lines) reads in
     let first = one_step read_law mode s x.0 line reply both.0 x.2 in
-    let then = early mode s s' lines replies both.1 (subst (λ (mid : State). Steps (λ between. Unit {0}) mode mid (take (length replies) lines) replies s') first.1 x.3) in
+    let later = early mode s s' lines replies both.1 (subst (λ (mid : State). Steps (λ between. Unit {0}) mode mid (take (length replies) lines) replies s') first.1 x.3) in
     let begun : List ℕ → List ℕ = λ (l : List ℕ). reply_begun mode s (command_of l) in
-    let so_far = text_begun None replies (slice_get lines (length replies)) begun in
-    (then.0, (then.1.0,
-    ap (λ (t : List ℕ). line_reply mode s line ++ t) then.1.1 ∙ sym (append_assoc (line_reply mode s line) so_far then.1.0)
-    ∙ ap (λ (t : List ℕ). t ++ then.1.0) (ap (λ (t : List ℕ). t ++ so_far) (sym first.0) ∙ sym (begun_cons reply replies (slice_get lines (length replies)) begun))))
+    let so_far = text_begun None replies (slice_get lines (length replies)) begun in (
+      later.0,
+      (
+        later.1.0,
+        ap (λ (t : List ℕ). line_reply mode s line ++ t) later.1.1 ∙ sym (append_assoc (line_reply mode s line) so_far later.1.0)
+            ∙ ap (λ (t : List ℕ). t ++ later.1.0) (ap (λ (t : List ℕ). t ++ so_far) (sym first.0) ∙ sym (begun_cons reply replies (slice_get lines (length replies)) begun)),
+      ),
+    )
 
 module _ {D : Type 0} (d : Ghosts D) (old new : D) (before after : Option (List ℕ)) (text : List ℕ) (wrote : Wrote before after text) where
   module _ (mode : Mode) (fresh : Bool) (s : State) (script : List ℕ) (reads : only_reads script ≡ true) where

@@ -1,5 +1,5 @@
 -- What a run promises, from what its parts do.
-use Rattle.std.proofs.Common.{◌≡◌, ◌≤◌, take, ◌⊎◌, inl, inr, ⊎_elim, ℕ, Bool, true, false, List, [], ◌∷◌, Option, Some, None, Result, Ok, Err, refl, sym, ap, subst, ◌∙◌, arith}
+use Rattle.std.proofs.Common.{◌≡◌, ◌≤◌, take, ◌⊎◌, inl, inr, ⊎_elim, ℕ, Bool, true, false, List, [], Option, Some, None, Result, Ok, Err, refl, sym, ap, subst, ◌∙◌, arith}
 use Rattle.std.specs.Prelude.{is_some}
 use Rattle.fc_device.specs.declared.disk.Disk.{Ghosts}
 use Rattle.fc_device.specs.declared.streams.Sink.{Ghosts as Sinks}
@@ -12,7 +12,7 @@ use Rattle.fc_image.specs.Opening.{Opened, open_image}
 use Rattle.fc_image.specs.Stays.{OpensAs}
 use Rattle.fc_record.specs.declared.Kind.{Kind}
 use Rattle.fc_effects.specs.Effect.{State}
-use Rattle.fc_runs.specs.Promises.{Cause, HasNoRun, HasRun, HasStopped, IsUnmade, spares_disk}
+use Rattle.fc_runs.specs.Promises.{Cause, HasNoRun, HasRun, HasStopped, spares_disk}
 use Rattle.fc_runs.specs.Run.{Mode}
 use Rattle.fc_runs.specs.Stops.{MayHaveLeft, Stops}
 use Rattle.fc_words.specs.CommandLine.{Request}

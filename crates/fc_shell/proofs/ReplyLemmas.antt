@@ -1,5 +1,5 @@
 -- The reply of a command, by what a volume answers.
-use Rattle.std.proofs.Common.{◌≡◌, ℕ, Bool, true, false, not, List, [], ◌∷◌, ◌++◌, map, refl, sym, ap, ap₂, subst, ◌∙◌, Some, None, Option, Ok, Err}
+use Rattle.std.proofs.Common.{◌≡◌, ℕ, Bool, true, false, not, List, [], ◌∷◌, ◌++◌, map, refl, sym, ap, ap₂, ◌∙◌, Some, None, Option, Ok, Err}
 use Rattle.std.specs.List.{flat_map}
 use Rattle.std.specs.Option.{option_map_or, unwrap_or}
 use Rattle.fc_device.specs.declared.disk.Extent.{Extent}
@@ -41,10 +41,6 @@ ok_reply reply text whole is fine same = record {
   is_text = is ∙ sym same;
   error_is = fine ∙ sym (ap is_error same ∙ ok_no_error text);
 }
-
--- one reply is another
-pub same_reply : (reply : Reply) (text other : List ℕ) → IsReply reply text → other ≡ text → IsReply reply other
-same_reply reply text other is same = subst (IsReply reply) (sym same) is
 
 -- ---- accepted and refused
 

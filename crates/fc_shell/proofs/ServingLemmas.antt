@@ -1,7 +1,6 @@
 -- Serving line after line.
-use Rattle.std.proofs.Common.{◌≡◌, ◌≤◌, ◌⊎◌, inl, inr, ⊎_elim, ℕ, ◌+◌, ◌-◌, suc, min, Bool, true, false, ◌||◌, ◌&&◌, nat_le, List, [], ◌∷◌, ◌++◌, length, take, Option, Some, None, Result, Ok, Err, refl, sym, ap, ap₂, subst, ◌∙◌, arith, append_assoc}
+use Rattle.std.proofs.Common.{◌≡◌, inl, ⊎_elim, ℕ, ◌+◌, ◌-◌, suc, min, Bool, true, false, ◌||◌, ◌&&◌, nat_le, List, [], ◌∷◌, ◌++◌, length, take, Option, Some, None, Ok, Err, refl, sym, ap, ap₂, subst, ◌∙◌, arith, append_assoc}
 use Rattle.std.specs.Prelude.{if◌then◌else◌, slice_get}
-use Rattle.std.specs.List.{list_any}
 use Rattle.std.proofs.lemmas.Bool.Decides.{nat_tests}
 use Rattle.std.proofs.lemmas.List.{append-nil, length-append, take-append-le, take_at}
 use Rattle.std.proofs.lemmas.List.Folds.{list_any-append}
@@ -11,23 +10,23 @@ use Rattle.fc_device.specs.declared.disk.Disk.{Ghosts}
 use Rattle.fc_device.proofs.DiskLaws.{Laws, form_same, form_then}
 use Rattle.fc_device.proofs.StopLemmas.{goes_on, started}
 use Rattle.fc_record.specs.declared.Kind.{Kind}
-use Rattle.fc_image.specs.Stays.{IsNewLayout, KeepsTree, OpensAs}
+use Rattle.fc_image.specs.Stays.{IsNewLayout, OpensAs}
 use Rattle.fc_effects.specs.Effect.{State, tree_in}
 use Rattle.fc_safe.specs.SafeEffect.{HasTree}
 use Rattle.fc_script.specs.Lines.{command_of}
 use Rattle.fc_runs.specs.Early.{reply_begun, text_begun}
-use Rattle.fc_runs.specs.Promises.{Cause, HasRun, HasStopped, spares_disk}
+use Rattle.fc_runs.specs.Promises.{spares_disk}
 use Rattle.fc_runs.specs.Run.{Mode, Step, Steps, all_keep_tree, commands_in, is_error, keeps_tree_or, text_of, whole_replies}
-use Rattle.fc_runs.specs.Stops.{MayHaveLeft, Stops, is_kept_by_next, next_keeps_tree}
+use Rattle.fc_runs.specs.Stops.{MayHaveLeft, is_kept_by_next}
 use Rattle.fc_runs.proofs.RepliesLemmas.{taken_kept}
 use Rattle.fc_tree.specs.Parts.{ArePartsOf}
 use Rattle.fc_volume.specs.Volume.{Volume, parts_of}
 use Rattle.fc_shell.specs.declared.answer.LineFault.{LineFault}
 use Rattle.fc_shell.specs.declared.answer.LineFault.TheVariants as lines
-use Rattle.fc_shell.specs.Line.{BreaksOff, GoesOn, IsAnswered, IsCutOff, IsDone, LeavesTree, LineEnds}
+use Rattle.fc_shell.specs.Line.{BreaksOff, GoesOn, IsAnswered, IsCutOff, IsDone, LineEnds}
 use Rattle.fc_shell.specs.Modes.{plain_mode}
 use Rattle.fc_shell.specs.Serving.{AreDone, HasServed, ServesAs, cause_of}
-use Rattle.fc_shell.specs.Writing.{Wrote, WrotePart}
+use Rattle.fc_shell.specs.Writing.{Wrote}
 use Rattle.fc_shell.proofs.StepLemmas.{has_tree, step_keeps}
 use Rattle.fc_shell.proofs.WritingLemmas.{wrote_nothing, wrote_both}
 
@@ -242,27 +241,30 @@ module _ {D : Type 0} {d : Ghosts D} (law : Laws d) where
         → d.pending new ≡ false → ServesAs d old new kind read_only s script before after (Ok refused)
     served_all v refused before after new has goes settled =
         let are = has.lines in
-        let all : are.done ≡ commands_in script = sym (are.cut ∙ append-nil are.done) in
-        (text_of are.replies, has.wrote, record {
-          end = are.state;
-          run = record {
-            start = start_left new goes;
-            replies = are.replies;
-            steps = subst (λ (lines : List (List ℕ)). Steps (MayHaveLeft d old new) mode s lines are.replies are.state) all are.steps;
-            told = refl;
-          };
-          refused_is = has.refused_is;
-          holds = are.holds;
-          settled = settled;
-          stops = λ was_quiet. record {
-            idle = λ new_map fresh demo keep image left.
-                let tree = are.kept (subst (λ (lines : List (List ℕ)). all_keep_tree lines are.replies ≡ true) (sym all) keep) new_map image left in
-                record { view = tree.view; opens = tree.opens; tree = tree.tree };
-            last = λ new_map next image left. has_tree kind are.state image are.opens (law.settled new settled are.state.image are.holds image left);
-            during = λ safe fresh image left. absurd (cc);
-            exit = λ safe image left. absurd (cc);
-          };
-        })
+        let all : are.done ≡ commands_in script = sym (are.cut ∙ append-nil are.done) in (
+          text_of are.replies,
+          has.wrote,
+          record {
+            end = are.state;
+            run = record {
+              start = start_left new goes;
+              replies = are.replies;
+              steps = subst (λ (lines : List (List ℕ)). Steps (MayHaveLeft d old new) mode s lines are.replies are.state) all are.steps;
+              told = refl;
+            };
+            refused_is = has.refused_is;
+            holds = are.holds;
+            settled = settled;
+            stops = λ was_quiet. record {
+              idle = λ new_map fresh demo keep image left.
+                  let tree = are.kept (subst (λ (lines : List (List ℕ)). all_keep_tree lines are.replies ≡ true) (sym all) keep) new_map image left in
+                  record { view = tree.view; opens = tree.opens; tree = tree.tree };
+              last = λ new_map next image left. has_tree kind are.state image are.opens (law.settled new settled are.state.image are.holds image left);
+              during = λ safe fresh image left. absurd (cc);
+              exit = λ safe image left. absurd (cc);
+            };
+          },
+        )
 
     -- The last line was done, and its reply written in part.
     cut_off : (line : List ℕ) (left : List (List ℕ)) (v : Volume) (so_far : Bool) (before between after : Option (List ℕ)) (mid new : D) (fault : LineFault)
@@ -286,29 +288,32 @@ module _ {D : Type 0} {d : Ghosts D} (law : Laws d) where
         let is : text ≡ take (length (text_of was.replies) + part.0) (text_begun None are.replies next begun) =
         ap (λ (t : List ℕ). text_of was.replies ++ t) part.1 ∙ sym (take-append-add (text_of was.replies) (cut.reply ++ rest.0) part.0)
         ∙ ap (take (length (text_of was.replies) + part.0)) (sym whole) in
-        let now_quiet : d.pending new ≡ false = settled cut.no_disk in
-        (text, wrote_both before between after (text_of was.replies) (take cut.part.0 cut.reply) has.wrote cut.part.1, record {
-          end = are.state;
-          ended = record {
-            start = start_left new (goes_then first second);
-            replies = are.replies;
-            steps = subst (λ (lines : List (List ℕ)). Steps (MayHaveLeft d old new) mode s lines are.replies are.state) (sym front) are.steps;
-            told = (length (text_of was.replies) + part.0, is);
-          };
-          whole = λ demo disk. absurd (cut.no_disk (is_disk fault disk));
-          holds = λ spares. are.holds;
-          settled = λ spares. inl now_quiet;
-          stops = λ was_quiet. record {
-            idle = λ new_map fresh demo keep image left'.
-                let keeps = keep_done (MayHaveLeft d old new) mode s are.state are.done are.replies left are.steps
-                (subst (λ (lines : List (List ℕ)). all_keep_tree lines are.replies ≡ true) are.cut keep) in
-                let tree = are.kept keeps new_map image left' in
-                record { view = tree.view; opens = tree.opens; tree = tree.tree };
-            last = λ new_map next image left'. has_tree kind are.state image are.opens (law.settled new now_quiet are.state.image are.holds image left');
-            during = λ safe fresh image left'. absurd (cc);
-            exit = λ safe image left'. absurd (cc);
-          };
-        })
+        let now_quiet : d.pending new ≡ false = settled cut.no_disk in (
+          text,
+          wrote_both before between after (text_of was.replies) (take cut.part.0 cut.reply) has.wrote cut.part.1,
+          record {
+            end = are.state;
+            ended = record {
+              start = start_left new (goes_then first second);
+              replies = are.replies;
+              steps = subst (λ (lines : List (List ℕ)). Steps (MayHaveLeft d old new) mode s lines are.replies are.state) (sym front) are.steps;
+              told = (length (text_of was.replies) + part.0, is);
+            };
+            whole = λ demo disk. absurd (cut.no_disk (is_disk fault disk));
+            holds = λ spares. are.holds;
+            settled = λ spares. inl now_quiet;
+            stops = λ was_quiet. record {
+              idle = λ new_map fresh demo keep image left'.
+                  let keeps = keep_done (MayHaveLeft d old new) mode s are.state are.done are.replies left are.steps
+                  (subst (λ (lines : List (List ℕ)). all_keep_tree lines are.replies ≡ true) are.cut keep) in
+                  let tree = are.kept keeps new_map image left' in
+                  record { view = tree.view; opens = tree.opens; tree = tree.tree };
+              last = λ new_map next image left'. has_tree kind are.state image are.opens (law.settled new now_quiet are.state.image are.holds image left');
+              during = λ safe fresh image left'. absurd (cc);
+              exit = λ safe image left'. absurd (cc);
+            };
+          },
+        )
 
     -- A line broke off.
     broke_off : (line : List ℕ) (left : List (List ℕ)) (v : Volume) (so_far : Bool) (before between after : Option (List ℕ)) (mid new : D) (fault : LineFault)
@@ -327,38 +332,41 @@ module _ {D : Type 0} {d : Ghosts D} (law : Laws d) where
         let text = text_of are.replies ++ take broke.part.0 (begun line) in
         let is : text ≡ take (length (text_of are.replies) + broke.part.0) (text_begun None are.replies (slice_get (commands_in script) (length are.replies)) begun) =
         sym (take-append-add (text_of are.replies) (begun line) broke.part.0)
-        ∙ ap (λ (o : Option (List ℕ)). take (length (text_of are.replies) + broke.part.0) (text_begun None are.replies o begun)) (sym next) in
-        (text, wrote_both before between after (text_of are.replies) (take broke.part.0 (begun line)) has.wrote broke.part.1, record {
-          end = are.state;
-          ended = record {
-            start = start_left new (goes_then first second);
-            replies = are.replies;
-            steps = subst (λ (lines : List (List ℕ)). Steps (MayHaveLeft d old new) mode s lines are.replies are.state) (sym front)
-                (steps_weaker May (MayHaveLeft d old new) (λ image may tells. second.stops.keeps (d.moment old) image first.stops.later (may tells)) mode s are.state are.done are.replies are.steps);
-            told = (length (text_of are.replies) + broke.part.0, is);
-          };
-          whole = λ demo disk. whole_all are.replies (take broke.part.0 (begun line));
-          holds = λ spares. broke.holds (not_disk fault spares);
-          settled = λ spares. inl (settled (not_disk fault spares));
-          stops = λ was_quiet. record {
-            idle = λ new_map fresh demo keep image left'.
-                let keeps = subst (λ (lines : List (List ℕ)). all_keep_tree lines are.replies ≡ true) are.cut keep in
-                let done = keep_done May mode s are.state are.done are.replies (line ∷ left) are.steps keeps in
-                let new_now = steps_new May mode s are.state are.done are.replies are.steps new_map in
-                let tree : HasTree kind (tree_in s) image =
-                ⊎_elim (λ was. are.kept done new_map image was)
-                (λ since. subst (λ t. HasTree kind t image) (steps_keep May mode s are.state are.done are.replies are.steps done)
-                (broke.kept (keep_next May mode s are.state are.done are.replies line left are.steps keeps) new_now image since))
-                (second.stops.before (d.moment old) image first.stops.later left') in
-                record { view = tree.view; opens = tree.opens; tree = tree.tree };
-            last = λ new_map keep image left'.
-                let keeps = subst (λ (o : Option (List ℕ)). is_kept_by_next (λ l. keeps_tree_or false (command_of l)) o ≡ true) next keep in
-                broke.kept keeps (steps_new May mode s are.state are.done are.replies are.steps new_map) image
-                (law.earlier new (d.moment mid) (d.moment new) image second.stops.later left');
-            during = λ safe fresh image left'. absurd (cc);
-            exit = λ safe image left'. absurd (cc);
-          };
-        })
+        ∙ ap (λ (o : Option (List ℕ)). take (length (text_of are.replies) + broke.part.0) (text_begun None are.replies o begun)) (sym next) in (
+          text,
+          wrote_both before between after (text_of are.replies) (take broke.part.0 (begun line)) has.wrote broke.part.1,
+          record {
+            end = are.state;
+            ended = record {
+              start = start_left new (goes_then first second);
+              replies = are.replies;
+              steps = subst (λ (lines : List (List ℕ)). Steps (MayHaveLeft d old new) mode s lines are.replies are.state) (sym front)
+                  (steps_weaker May (MayHaveLeft d old new) (λ image may tells. second.stops.keeps (d.moment old) image first.stops.later (may tells)) mode s are.state are.done are.replies are.steps);
+              told = (length (text_of are.replies) + broke.part.0, is);
+            };
+            whole = λ demo disk. whole_all are.replies (take broke.part.0 (begun line));
+            holds = λ spares. broke.holds (not_disk fault spares);
+            settled = λ spares. inl (settled (not_disk fault spares));
+            stops = λ was_quiet. record {
+              idle = λ new_map fresh demo keep image left'.
+                  let keeps = subst (λ (lines : List (List ℕ)). all_keep_tree lines are.replies ≡ true) are.cut keep in
+                  let done = keep_done May mode s are.state are.done are.replies (line ∷ left) are.steps keeps in
+                  let new_now = steps_new May mode s are.state are.done are.replies are.steps new_map in
+                  let tree : HasTree kind (tree_in s) image =
+                  ⊎_elim (λ was. are.kept done new_map image was)
+                  (λ since. subst (λ t. HasTree kind t image) (steps_keep May mode s are.state are.done are.replies are.steps done)
+                  (broke.kept (keep_next May mode s are.state are.done are.replies line left are.steps keeps) new_now image since))
+                  (second.stops.before (d.moment old) image first.stops.later left') in
+                  record { view = tree.view; opens = tree.opens; tree = tree.tree };
+              last = λ new_map keep image left'.
+                  let keeps = subst (λ (o : Option (List ℕ)). is_kept_by_next (λ l. keeps_tree_or false (command_of l)) o ≡ true) next keep in
+                  broke.kept keeps (steps_new May mode s are.state are.done are.replies are.steps new_map) image
+                  (law.earlier new (d.moment mid) (d.moment new) image second.stops.later left');
+              during = λ safe fresh image left'. absurd (cc);
+              exit = λ safe image left'. absurd (cc);
+            };
+          },
+        )
 
     pub served_part : (line : List ℕ) (left : List (List ℕ)) (v v' : Volume) (so_far : Bool) (before between after : Option (List ℕ)) (mid new : D) (fault : LineFault)
         → (has : HasServed d old mid kind read_only s script (line ∷ left) v so_far before between) → GoesOn d old mid → GoesOn d mid new

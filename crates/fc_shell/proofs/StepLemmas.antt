@@ -1,11 +1,11 @@
 -- Lines as steps.
-use Rattle.std.proofs.Common.{◌≡◌, ◌≤◌, arith, ℕ, Bool, true, false, ◌||◌, List, [], ◌++◌, Option, Some, None, Result, Ok, Err, IfOk, inl, inr, refl, sym, ap, subst, ◌∙◌}
+use Rattle.std.proofs.Common.{◌≡◌, ◌≤◌, arith, ℕ, Bool, true, false, ◌||◌, List, [], Option, Some, None, Result, Ok, Err, IfOk, inl, inr, refl, sym, ap, subst, ◌∙◌}
 use Rattle.std.specs.Prelude.{if◌then◌else◌}
 use Rattle.fc_device.specs.declared.disk.Disk.{Ghosts}
 use Rattle.fc_device.specs.declared.streams.Sink.{Ghosts as Sinks}
 use Rattle.fc_device.specs.Calls.{OnlyReads, StopsAsBefore}
 use Rattle.fc_device.proofs.DiskLaws.{Laws}
-use Rattle.fc_device.proofs.StopLemmas.{reads_start, weaker}
+use Rattle.fc_device.proofs.StopLemmas.{weaker}
 use Rattle.fc_names.specs.declared.refusal.Refusal.{Refusal}
 use Rattle.fc_record.specs.declared.Kind.{Kind}
 use Rattle.fc_model.specs.Tree.{Tree}
@@ -17,10 +17,10 @@ use Rattle.fc_image.specs.Stays.{OpensAs}
 use Rattle.fc_effects.specs.Effect.{State, tree_in}
 use Rattle.fc_safe.specs.SafeEffect.{HasTree}
 use Rattle.fc_script.specs.Lines.{command_of}
-use Rattle.fc_script.specs.Texts.{ok_line, refusal_line}
+use Rattle.fc_script.specs.Texts.{refusal_line}
 use Rattle.fc_runs.specs.Early.{reply_begun}
 use Rattle.fc_runs.specs.ReadLaw.{is_reading, reading_reply}
-use Rattle.fc_runs.specs.Run.{Answers, Effect, Mode, Serves, Step, Takes, is_error, keeps_tree, keeps_tree_or, reply_of, shortage}
+use Rattle.fc_runs.specs.Run.{Answers, Mode, Serves, Step, Takes, is_error, keeps_tree, keeps_tree_or, shortage}
 use Rattle.fc_runs.proofs.ReadLemmas.{read_law}
 use Rattle.fc_runs.proofs.RepliesLemmas.{changing_reply, kept_tree}
 use Rattle.fc_runs.proofs.TreeLemmas.{answer_ok, effect_tree}
@@ -28,8 +28,7 @@ use Rattle.fc_tree.specs.Parts.{ArePartsOf}
 use Rattle.fc_volume.specs.Volume.{StandsFor, Volume, parts_of}
 use Rattle.fc_shell.specs.declared.answer.LineFault.{LineFault}
 use Rattle.fc_shell.specs.Answered.{Answered, IsCaused, volume_reply}
-use Rattle.fc_shell.specs.Built.{is_reading_line}
-use Rattle.fc_shell.specs.Line.{BreaksOff, IsAnswered, IsCutOff, IsDone, IsReady, KeepsGoing, LeavesTree, LineEnds}
+use Rattle.fc_shell.specs.Line.{IsDone, IsReady, KeepsGoing, LeavesTree, LineEnds}
 use Rattle.fc_shell.specs.Modes.{plain_mode}
 use Rattle.fc_shell.specs.Writing.{WrotePart}
 use Rattle.fc_shell.proofs.ErrorLemmas.{ok_no_error}
@@ -117,8 +116,11 @@ module _ {D : Type 0} {d : Ghosts D} (law : Laws d) (kind : Kind) (v : Volume) (
   -- a line that isn't begun
   pub unbegun_ends : (fault : LineFault) → OnlyReads d old new → before ≡ after → LineEnds d old new kind v.read_only s v line before after (Err fault)
   unbegun_ends fault reads same =
-      inr (record { part = subst (λ (a : Option (List ℕ)). WrotePart before a (reply_begun mode s (command_of line))) same (0, wrote_nothing before);
-        holds = λ never. reads.bytes ∙ told; kept = λ keeps. same_tree reads.stops })
+      inr (record {
+        part = subst (λ (a : Option (List ℕ)). WrotePart before a (reply_begun mode s (command_of line))) same (0, wrote_nothing before);
+        holds = λ never. reads.bytes ∙ told;
+        kept = λ keeps. same_tree reads.stops;
+      })
 
 -- ---- what they keep
 

@@ -1,5 +1,5 @@
 -- Which commands are built, and which scripts only read.
-use Rattle.std.specs.Prelude.{◌≡◌, Bool, true, false, not, List, ℕ, Result, Ok, Err}
+use Rattle.std.specs.Prelude.{Bool, true, false, not, List, ℕ, Result, Ok, Err}
 use Rattle.std.specs.List.{list_all, list_any}
 use Rattle.fc_names.specs.declared.refusal.Refusal.{Refusal}
 use Rattle.fc_model.specs.Command.{Command}

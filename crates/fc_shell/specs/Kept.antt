@@ -1,5 +1,5 @@
 -- What a run keeps and causes, whatever its disk and its sink make known.
-use Rattle.std.specs.Prelude.{◌≡◌, ◌≤◌, ◌⊎◌, ℕ, Bool, true, false, List, ◌++◌, ◌∷◌, [], Option, None, option_map}
+use Rattle.std.specs.Prelude.{◌≡◌, ◌≤◌, ◌⊎◌, true, false, ◌++◌, ◌∷◌, [], None, option_map}
 use Rattle.std.specs.Option.{ForSome}
 use Rattle.fc_device.specs.declared.disk.Disk.{Ghosts}
 use Rattle.fc_device.specs.declared.streams.Sink.{Ghosts as Sinks}

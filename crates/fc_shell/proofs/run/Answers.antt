@@ -1,4 +1,4 @@
-use Rattle.std.proofs.Common.{[], Err, inl, refl, ap, map, sym, subst, ◌∙◌}
+use Rattle.std.proofs.Common.{[], Err, inl, refl, ap, map, sym, subst}
 use Rattle.std.specs.Prelude.{string_bytes}
 use Rattle.fc_device.proofs.DiskLaws.{laws}
 use Rattle.fc_words.specs.CommandLine.{request_of}
@@ -11,9 +11,12 @@ use Rattle.fc_shell.proofs.WritingLemmas.{wrote_nothing}
 use Rattle.fc_shell.proofs.run.Goals as goal
 
 pub returns-in-Err-BadWords-clause-promise : goal.returns-in-Err-BadWords-clause-promise
-returns-in-Err-BadWords-clause-promise g c gives given text left image told =
-    ([], wrote_nothing (g.K.Sink.taken c.args.out.now), subst (λ o. Promise g.D.Disk c.args.disk.now c.args.disk.now gives image text [] o End.BadWords)
-    (sym (c.in-Err-BadWords.ensures.bad (ap Err c.in-Err-BadWords.field-0-is))) (inl refl, none (laws g.met.D.Disk) c.args.disk.now))
+returns-in-Err-BadWords-clause-promise g c gives given text left image told = (
+  [],
+  wrote_nothing (g.K.Sink.taken c.args.out.now),
+  subst (λ o. Promise g.D.Disk c.args.disk.now c.args.disk.now gives image text [] o End.BadWords)
+      (sym (c.in-Err-BadWords.ensures.bad (ap Err c.in-Err-BadWords.field-0-is))) (inl refl, none (laws g.met.D.Disk) c.args.disk.now),
+)
 
 pub returns-in-Err-NoMemory-clause-promise : goal.returns-in-Err-NoMemory-clause-promise
 returns-in-Err-NoMemory-clause-promise g c gives given text left image told =

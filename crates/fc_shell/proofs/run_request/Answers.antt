@@ -1,4 +1,4 @@
-use Rattle.std.proofs.Common.{◌≡◌, ◌≤◌, List, ℕ, [], false, rules, length, subst, sym, ◌∙◌}
+use Rattle.std.proofs.Common.{◌≡◌, ◌≤◌, List, ℕ, [], false, rules, length, subst, ◌∙◌}
 use Rattle.fc_device.proofs.DiskLaws.{laws}
 use Rattle.fc_words.specs.Request.{request_in}
 use Rattle.fc_shell.specs.Built.{has_unbuilt}
@@ -26,6 +26,9 @@ returns-in-Ok-Some-clause-promise g c gives given text left image told =
     let built : is_unbuilt r ≡ false = search rules in
     let same : c.deref.result.now ≡ text = c.deref.ensures.value ∙ is.0 text left in
     let short : length text ≤ script_limit = subst (λ (t : List ℕ). length t ≤ script_limit) (is.0 text left) is.2 in
-    let promise = c.run_script.ensures.promise gives given image told in
-    (promise.0, promise.1, script_ends g.D.Disk c.args.disk.now c.run_script.new.disk gives image text promise.0 r c.run_script.result built short
-    (subst (λ (t : List ℕ). EndsByScript g.D.Disk c.args.disk.now c.run_script.new.disk gives r image t promise.0 (has_unbuilt t) c.run_script.result) same promise.2))
+    let promise = c.run_script.ensures.promise gives given image told in (
+      promise.0,
+      promise.1,
+      script_ends g.D.Disk c.args.disk.now c.run_script.new.disk gives image text promise.0 r c.run_script.result built short
+          (subst (λ (t : List ℕ). EndsByScript g.D.Disk c.args.disk.now c.run_script.new.disk gives r image t promise.0 (has_unbuilt t) c.run_script.result) same promise.2),
+    )

@@ -16,9 +16,12 @@ returns-in-Err-clause-promise g c gives given image told =
 pub returns-in-Ok-false-clause-promise : goal.returns-in-Ok-false-clause-promise
 returns-in-Ok-false-clause-promise g c gives given image told =
     let built : has_unbuilt c.args.script.now ≡ false = grind (arith, c.in-Ok-false.ensures, c.in-Ok-false.field-0-test) in
-    let promise = c.answer_script.ensures.promise gives given image told in
-    (promise.0, promise.1, subst (λ (b : Bool). EndsByScript g.D.Disk c.args.disk.now c.answer_script.new.disk gives (request_in c.args.asked.now) image c.args.script.now promise.0 b c.answer_script.result)
-    (sym built) promise.2)
+    let promise = c.answer_script.ensures.promise gives given image told in (
+      promise.0,
+      promise.1,
+      subst (λ (b : Bool). EndsByScript g.D.Disk c.args.disk.now c.answer_script.new.disk gives (request_in c.args.asked.now) image c.args.script.now promise.0 b c.answer_script.result)
+          (sym built) promise.2,
+    )
 
 pub returns-in-Ok-false-clause-keeps : goal.returns-in-Ok-false-clause-keeps
 returns-in-Ok-false-clause-keeps g c =

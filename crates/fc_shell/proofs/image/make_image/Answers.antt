@@ -1,6 +1,6 @@
 use Rattle.std.proofs.Common.{◌≡◌, refl, rules, subst, option_map}
 use Rattle.fc_format.specs.Fresh.{zeros}
-use Rattle.fc_shell.proofs.RunningLemmas.{fresh_bytes}
+use Rattle.fc_shell.proofs.FreshLemmas.{fresh_bytes}
 use Rattle.fc_shell.proofs.image.make_image.Goals as goal
 
 pub returns-in-Ok-clause-bytes : goal.returns-in-Ok-clause-bytes

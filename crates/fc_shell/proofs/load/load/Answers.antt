@@ -12,7 +12,7 @@ use Rattle.fc_volume.specs.Answers.{IsRefusalOf, ref_bytes}
 use Rattle.fc_volume.specs.Volume.{StandsFor}
 use Rattle.fc_shell.specs.Answered.{IsCaused, volume_reply}
 use Rattle.fc_shell.proofs.AnsweredLemmas.{answered_same, caused_alone}
-use Rattle.fc_shell.proofs.ReplyLemmas.{accepted, bytes_same, refused, same_answer}
+use Rattle.fc_shell.proofs.ReplyLemmas.{accepted, bytes_same, refused}
 use Rattle.fc_shell.proofs.WritingLemmas.{wrote_nothing}
 use Rattle.fc_shell.proofs.load.load.Goals as goal
 

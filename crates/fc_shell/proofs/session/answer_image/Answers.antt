@@ -1,4 +1,4 @@
-use Rattle.std.proofs.Common.{◌≡◌, ◌≤◌, rules, Bool, true, false, Err, ℕ, [], inl, refl, sym, ap, subst, ◌∙◌, arith}
+use Rattle.std.proofs.Common.{◌≡◌, Bool, false, Err, [], inl, refl, sym, ap, subst, ◌∙◌, arith}
 use Rattle.fc_device.proofs.DiskLaws.{laws}
 use Rattle.fc_device.proofs.StopLemmas.{goes_on, goes_on_same, weaker}
 use Rattle.fc_effects.specs.Effect.{State}
@@ -28,11 +28,14 @@ returns-in-Ok-clause-promise g c image told =
     let s : State = record { image = image; view = view } in
     let serves = subst (λ (b : Bool). ServesAs g.D.Disk mid new view.kind b s script before after c.serve.result) c.in-Ok.ensures.ready.1
     (c.serve.ensures.served image (shapes.bytes_stay ∙ told) view.kind view (c.accepted.ensures image view there.1) there.2) in
-    let ends = served_ends g.D.Disk mid new view.kind ro s script before after c.serve.result serves in
-    (ends.0, ends.1, subst (λ (end : End). EndsByOpening g.D.Disk old new ro false image script ends.0 (open_image image) end) (sym c.end_of.ensures)
-    (ends_from law old mid new (weaker law (λ image. Unit {0}) shapes.stops (λ image left. tt)) c.serve.ensures.goes.stops shapes.tells_stays (shapes.pending_stays ∙ c.requires.fresh.nothing_pending)
-    c.accepted.ensures ro false image script ends.0 (end_of c.serve.result) (shapes.bytes_stay ∙ told) (λ there. shapes_unwritten g.D.Disk old mid shapes) (λ fresh. absurd (no_fresh fresh)) (late_end c.serve.result)
-    (subst (λ o. EndsByOpening g.D.Disk mid new ro false image script ends.0 o (end_of c.serve.result)) (sym there.1) ends.2)))
+    let ends = served_ends g.D.Disk mid new view.kind ro s script before after c.serve.result serves in (
+      ends.0,
+      ends.1,
+      subst (λ (end : End). EndsByOpening g.D.Disk old new ro false image script ends.0 (open_image image) end) (sym c.end_of.ensures)
+          (ends_from law old mid new (weaker law (λ image. Unit {0}) shapes.stops (λ image left. tt)) c.serve.ensures.goes.stops shapes.tells_stays (shapes.pending_stays ∙ c.requires.fresh.nothing_pending)
+          c.accepted.ensures ro false image script ends.0 (end_of c.serve.result) (shapes.bytes_stay ∙ told) (λ there. shapes_unwritten g.D.Disk old mid shapes) (λ fresh. absurd (no_fresh fresh)) (late_end c.serve.result)
+          (subst (λ o. EndsByOpening g.D.Disk mid new ro false image script ends.0 o (end_of c.serve.result)) (sym there.1) ends.2)),
+    )
 
 pub returns-in-Ok-clause-keeps : goal.returns-in-Ok-clause-keeps
 returns-in-Ok-clause-keeps g c =
@@ -74,9 +77,12 @@ returns-in-Err-Image-clause-keeps g c =
     (told_late c.in-Err-Image.fault c.tell_fault.result c.tell_fault.ensures.ended) (λ is. absurd (told_no_disk c.in-Err-Image.fault c.tell_fault.result c.tell_fault.ensures.ended is)) c.tell_fault.ensures.out_fault
 
 pub returns-in-Err-DiskFault-clause-promise : goal.returns-in-Err-DiskFault-clause-promise
-returns-in-Err-DiskFault-clause-promise g c image told =
-    ([], wrote_nothing (g.K.Sink.taken c.args.out.now), begun_fault (laws g.met.D.Disk) c.args.disk.now c.mount.new.disk c.accepted.ensures c.args.read_only image c.args.script.now told
-    (shapes_unwritten g.D.Disk c.args.disk.now c.mount.new.disk c.mount.ensures.shapes))
+returns-in-Err-DiskFault-clause-promise g c image told = (
+  [],
+  wrote_nothing (g.K.Sink.taken c.args.out.now),
+  begun_fault (laws g.met.D.Disk) c.args.disk.now c.mount.new.disk c.accepted.ensures c.args.read_only image c.args.script.now told
+      (shapes_unwritten g.D.Disk c.args.disk.now c.mount.new.disk c.mount.ensures.shapes),
+)
 
 pub returns-in-Err-DiskFault-clause-keeps : goal.returns-in-Err-DiskFault-clause-keeps
 returns-in-Err-DiskFault-clause-keeps g c =
@@ -84,9 +90,12 @@ returns-in-Err-DiskFault-clause-keeps g c =
     refl (λ is. c.in-Err-DiskFault.ensures.cause (ap Err c.in-Err-DiskFault.field-0-is)) (λ is. absurd (cc))
 
 pub returns-in-Err-NoMemory-clause-promise : goal.returns-in-Err-NoMemory-clause-promise
-returns-in-Err-NoMemory-clause-promise g c image told =
-    ([], wrote_nothing (g.K.Sink.taken c.args.out.now), begun_memory (laws g.met.D.Disk) c.args.disk.now c.mount.new.disk c.accepted.ensures c.args.read_only image c.args.script.now told
-    (shapes_unwritten g.D.Disk c.args.disk.now c.mount.new.disk c.mount.ensures.shapes) (inl (c.mount.ensures.shapes.pending_stays ∙ c.requires.fresh.nothing_pending)))
+returns-in-Err-NoMemory-clause-promise g c image told = (
+  [],
+  wrote_nothing (g.K.Sink.taken c.args.out.now),
+  begun_memory (laws g.met.D.Disk) c.args.disk.now c.mount.new.disk c.accepted.ensures c.args.read_only image c.args.script.now told
+      (shapes_unwritten g.D.Disk c.args.disk.now c.mount.new.disk c.mount.ensures.shapes) (inl (c.mount.ensures.shapes.pending_stays ∙ c.requires.fresh.nothing_pending)),
+)
 
 pub returns-in-Err-NoMemory-clause-keeps : goal.returns-in-Err-NoMemory-clause-keeps
 returns-in-Err-NoMemory-clause-keeps g c =
