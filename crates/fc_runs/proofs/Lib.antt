@@ -1,4 +1,4 @@
-mod ReadLemmas
-mod TreeLemmas
-mod RepliesLemmas
+pub mod ReadLemmas
+pub mod TreeLemmas
+pub mod RepliesLemmas
 mod HostRepliesLemmas

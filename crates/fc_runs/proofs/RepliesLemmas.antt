@@ -106,7 +106,7 @@ shortage_error : (safe : Bool) (v : Opened) (c : Command) → IsError (shortage 
 shortage_error true v c = safe_error (safe_refusal v c)
 shortage_error false v c = plain_error (first_of (layout_reason v.layout c ∷ short v c ∷ []))
 
-changing_reply : (s s' : State) (c : Command) → keeps_tree c ≡ false → reply_of s c s' ≡ ok_line
+pub changing_reply : (s s' : State) (c : Command) → keeps_tree c ≡ false → reply_of s c s' ≡ ok_line
 changing_reply s s' (Command.Cat path) h = absurd (cc)
 changing_reply s s' (Command.Load path) h = absurd (cc)
 changing_reply s s' (Command.Digest path) h = absurd (cc)
@@ -122,7 +122,7 @@ changing_reply s s' (Command.Rename from to) h = refl
 changing_reply s s' (Command.Set path load exec access) h = refl
 changing_reply s s' (Command.Mark path attrs) h = refl
 
-kept_tree : (t : Tree) (c : Command) → keeps_tree c ≡ true → changed t c ≡ t
+pub kept_tree : (t : Tree) (c : Command) → keeps_tree c ≡ true → changed t c ≡ t
 kept_tree t (Command.Cat path) h = refl
 kept_tree t (Command.Load path) h = refl
 kept_tree t (Command.Digest path) h = refl

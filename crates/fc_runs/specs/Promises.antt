@@ -1,10 +1,10 @@
 -- What a whole run promises over any disk, for each way to end. s is the image as it opened, or the fresh one.
-use Rattle.std.specs.Prelude.{◌≡◌, ◌⊎◌, ℕ, Bool, true, false, List, [], Option, Some}
+use Rattle.std.specs.Prelude.{◌≡◌, ◌⊎◌, ℕ, Bool, true, false, List, [], length, Option, Some, None}
 use Rattle.std.specs.List.{list_any}
 use Rattle.fc_device.specs.declared.disk.Disk.{Ghosts}
 use Rattle.fc_device.specs.Calls.{StopsAsBefore}
 use Rattle.fc_effects.specs.Effect.{State}
-use Rattle.fc_runs.specs.Run.{Mode, Run, commands_in, script_for, is_error}
+use Rattle.fc_runs.specs.Run.{Mode, Run, commands_in, script_for, is_error, whole_replies}
 use Rattle.fc_runs.specs.Early.{EndsEarly, HostEndsEarly}
 use Rattle.fc_runs.specs.HostRun.{Files, HostRun}
 use Rattle.fc_runs.specs.Stops.{MayHaveLeft, Stops, HostStops}
@@ -67,10 +67,12 @@ IsUnmade fresh Cause.Memory old new text = (fresh ≡ true) × (text ≡ []) × 
 IsUnmade fresh cause old new text = ⊥
 
 -- Some lines were done, and a part of their text was written. The disk has the image after these lines, and nothing is pending if
--- anything was asked of it, except after an I/O error of the disk itself.
+-- anything was asked of it, except after an I/O error of the disk itself. Then the text has the replies to all lines that were done,
+-- so it tells which line broke off; a demo's text tells nothing before its end.
 pub record HasStopped {D : Type 0} (d : Ghosts D) (old new : D) (mode : Mode) (fresh : Bool) (demo : Option ℕ) (s : State) (script text : List ℕ) (cause : Cause) : Type 0 where
   pub end : State
   pub ended : EndsEarly (MayHaveLeft d old new) mode demo s script text end
+  pub whole : demo ≡ None → spares_disk cause ≡ false → whole_replies (length text) ended.replies ≡ length ended.replies
   pub holds : spares_disk cause ≡ true → d.bytes new ≡ Some end.image
   pub settled : spares_disk cause ≡ true → (d.pending new ≡ false) ⊎ (new ≡ old)
   pub stops : d.pending old ≡ false → Stops d old new mode fresh demo s end (commands_in (script_for demo script)) ended.replies text
@@ -84,6 +86,7 @@ HasBrokenOff d old new mode fresh demo s script text cause =
 pub record HostHasStopped {D : Type 0} (d : Ghosts D) (old new : D) (mode : Mode) (fresh : Bool) (demo : Option ℕ) (s : State) (files left : Files) (script text : List ℕ) (cause : Cause) : Type 0 where
   pub end : State
   pub ended : HostEndsEarly (MayHaveLeft d old new) mode demo s files script text end left
+  pub whole : demo ≡ None → spares_disk cause ≡ false → whole_replies (length text) ended.replies ≡ length ended.replies
   pub holds : spares_disk cause ≡ true → d.bytes new ≡ Some end.image
   pub settled : spares_disk cause ≡ true → (d.pending new ≡ false) ⊎ (new ≡ old)
   pub stops : d.pending old ≡ false → HostStops d old new mode fresh demo s end files (commands_in (script_for demo script)) ended.replies text

@@ -38,7 +38,8 @@ pub record Stops {D : Type 0} (d : Ghosts D) (old new : D) (mode : Mode) (fresh 
   pub idle : IsNewLayout s.view.layout → fresh ≡ false → demo ≡ None → all_keep_tree lines replies ≡ true
       → (image : List ℕ) → d.left_since new (d.moment old) image → KeepsTree mode.kind s.image s.view image
   -- If only the line in which the run broke off keeps the tree, as `compact` does, a crash now leaves the tree after the lines that
-  -- were done, whatever these changed.
+  -- were done, whatever these changed. The text tells which line that is (`whole` of Promises); of a demo nothing tells it, so there
+  -- this speaks of the lines that are given here.
   pub last : IsNewLayout s.view.layout → next_keeps_tree lines replies ≡ true
       → (image : List ℕ) → d.left_since new (d.moment new) image → HasTree mode.kind (tree_in end) image
   -- In the safe mode a crash at any moment leaves the tree after some of the lines, and a crash now the tree after at least those

@@ -1,36 +1,23 @@
 -- How answers come about.
-use Rattle.std.proofs.Common.{◌≡◌, ◌≤◌, ◌<◌, ℕ, Bool, true, List, All, Option, Result, Ok, Err, IfOk, inl, inr, sym, subst, arith}
+use Rattle.std.proofs.Common.{◌≡◌, ◌≤◌, ◌<◌, ℕ, Bool, true, List, All, Option, Result, inl, inr, sym, subst, arith}
 use Rattle.fc_device.specs.declared.disk.Disk.{Ghosts}
+use Rattle.fc_device.specs.declared.streams.Sink.{Ghosts as Sinks}
 use Rattle.fc_device.specs.Sectors.{IsSectorSize}
 use Rattle.fc_device.proofs.DiskLaws.{Laws}
 use Rattle.fc_image.specs.Layout.{disc_sectors, sector_bytes}
-use Rattle.fc_runs.specs.Run.{is_error}
 use Rattle.fc_volume.specs.Volume.{StandsFor, Volume, parts_of}
-use Rattle.fc_shell.specs.declared.answering.LineFault.{LineFault}
-use Rattle.fc_shell.specs.Answered.{Answered}
+use Rattle.fc_shell.specs.declared.answer.LineFault.{LineFault}
+use Rattle.fc_shell.specs.Answered.{Answered, IsCaused, OnlyTells}
 use Rattle.fc_shell.specs.Readable.{HasSectors, IsReadable}
-use Rattle.fc_shell.specs.Writing.{Wrote, WrotePart}
-use Rattle.fc_shell.proofs.WritingLemmas.{wrote_part}
 
 -- the same reply
 pub answered_same : (reply other : List ℕ) (before after : Option (List ℕ)) (result : Result Bool LineFault) → other ≡ reply → Answered reply before after result → Answered other before after result
 answered_same reply other before after result same is = subst (λ (text : List ℕ). Answered text before after result) (sym same) is
 
--- it stopped with a part
-pub answered_stopped : (reply : List ℕ) (before after : Option (List ℕ)) (result : Result Bool LineFault) (fault : LineFault) → result ≡ Err fault
-    → WrotePart before after reply → Answered reply before after result
-answered_stopped reply before after result fault is part = subst (Answered reply before after) (sym is) part
-
--- at an answer the whole reply was written
-pub answered_whole : (reply : List ℕ) (before after : Option (List ℕ)) (result : Result Bool LineFault) → Answered reply before after result
-    → IfOk result (λ refused. Wrote before after reply × (refused ≡ is_error reply))
-answered_whole reply before after (Ok refused) is = is
-answered_whole reply before after (Err fault) is = tt
-
--- a part was written in each case
-pub answered_part : (reply : List ℕ) (before after : Option (List ℕ)) (result : Result Bool LineFault) → Answered reply before after result → WrotePart before after reply
-answered_part reply before after (Ok refused) is = wrote_part before after reply is.0
-answered_part reply before after (Err fault) is = is
+-- a text that is written asks nothing of the disk
+pub caused_alone : {D K T : Type 0} (d : Ghosts D) (k : Sinks K) (old new : D) (before after : K) (result : Result T LineFault) → OnlyTells k before after result
+    → IsCaused d k old new before after result
+caused_alone d k old new before after result only = record { later = only.later; disk = λ is. absurd (only.no_disk is); out = only.out }
 
 -- a volume's disk can be read
 module _ {D : Type 0} {d : Ghosts D} (law : Laws d) (v : Volume) (disk : D) where

@@ -1,8 +1,12 @@
 mod LineLemmas
+mod FreshLemmas
+mod KeptLemmas
+mod OutcomeLemmas
+mod PromiseLemmas
 mod ReadsLemmas
-mod RunningLemmas
 mod ScriptLemmas
 mod ServingLemmas
+mod StepLemmas
 pub mod AnsweredLemmas
 pub mod ErrorLemmas
 pub mod HashLemmas

@@ -1,6 +1,6 @@
 -- Scripts of commands that read, as runs.
 use Rattle.std.proofs.Common.{◌≡◌, ◌⊎◌, inl, inr, ℕ, Bool, true, false, List, [], ◌∷◌, map, Some, Result, Ok, Err, refl, sym, ap, ap₂, subst, ◌∙◌}
-use Rattle.std.specs.Prelude.{not, if◌then◌else◌, replicate}
+use Rattle.std.specs.Prelude.{if◌then◌else◌, replicate}
 use Rattle.std.specs.List.{list_any}
 use Rattle.fc_names.specs.declared.refusal.Refusal.{Refusal}
 use Rattle.fc_model.specs.Command.{Command}
@@ -12,47 +12,45 @@ use Rattle.fc_runs.specs.ReadLaw.{ReadLaw, reading_reply}
 use Rattle.fc_runs.specs.Run.{Mode, Step, Steps, Takes, commands_in, is_error, text_of}
 use Rattle.fc_words.specs.declared.Format.{Format as Word}
 use Rattle.fc_shell.specs.declared.ending.End.TheVariants.{Done, Refused}
+use Rattle.fc_shell.specs.Modes.{plain_mode}
 use Rattle.fc_shell.specs.ReadsLaw.{ReadsLaw}
-use Rattle.fc_shell.specs.Replies.{command_reply, format_in, image_for, image_reply, is_unbuilt_command, line_reply, opened_reply, replies_of}
-use Rattle.fc_shell.proofs.ServingLemmas.{neither}
-
-not_false : (b : Bool) → not b ≡ false → b ≡ true
-not_false true h = refl
-not_false false h = absurd (cc)
+use Rattle.fc_shell.specs.Replies.{command_reply, format_in, image_for, image_reply, line_reply, opened_reply, replies_of}
+use Rattle.fc_shell.specs.Built.{all_read, is_reading_line}
+use Rattle.fc_shell.proofs.ServingLemmas.{both_true}
 
 -- a line is a step
-step : ReadLaw → (mode : Mode) (s : State) (line : List ℕ) → is_unbuilt_command (command_of line) ≡ false → Step mode s line (line_reply mode s line) s
+step : ReadLaw → (mode : Mode) (s : State) (line : List ℕ) → is_reading_line (command_of line) ≡ true → Step mode s line (line_reply mode s line) s
 step law mode s line built = by (command_of line) refl built
   where
-    by : (r : Result Command Refusal) → command_of line ≡ r → is_unbuilt_command r ≡ false → Takes mode s r (command_reply mode s r) s
+    by : (r : Result Command Refusal) → command_of line ≡ r → is_reading_line r ≡ true → Takes mode s r (command_reply mode s r) s
     by (Err refusal) is h = (refl, refl)
-    by (Ok c) is h = subst (λ r. Takes mode s r (reading_reply mode s c) s) is (law.some mode s line c is (not_false _ h))
+    by (Ok c) is h = subst (λ r. Takes mode s r (reading_reply mode s c) s) is (law.some mode s line c is h)
 
 -- so are all of them
 steps : ReadLaw → (May : List ℕ → Type 0) (mode : Mode) (s : State) → May s.image → (lines : List (List ℕ))
-    → list_any (λ line. is_unbuilt_command (command_of line)) lines ≡ false → Steps May mode s lines (map (line_reply mode s) lines) s
+    → all_read lines ≡ true → Steps May mode s lines (map (line_reply mode s) lines) s
 steps law May mode s may [] built = refl
 steps law May mode s may (line ∷ lines) built =
-    let both = neither (is_unbuilt_command (command_of line)) (list_any (λ line. is_unbuilt_command (command_of line)) lines) built in
+    let both = both_true (is_reading_line (command_of line)) (all_read lines) built in
     (s, may, step law mode s line both.0, steps law May mode s may lines both.1)
 
 -- a line has no other step
-one_step : ReadLaw → (mode : Mode) (s s' : State) (line reply : List ℕ) → is_unbuilt_command (command_of line) ≡ false → Step mode s line reply s'
+pub one_step : ReadLaw → (mode : Mode) (s s' : State) (line reply : List ℕ) → is_reading_line (command_of line) ≡ true → Step mode s line reply s'
     → (reply ≡ line_reply mode s line) × (s' ≡ s)
 one_step law mode s s' line reply built taken = by (command_of line) refl built taken
   where
-    by : (r : Result Command Refusal) → command_of line ≡ r → is_unbuilt_command r ≡ false → Takes mode s r reply s' → (reply ≡ command_reply mode s r) × (s' ≡ s)
+    by : (r : Result Command Refusal) → command_of line ≡ r → is_reading_line r ≡ true → Takes mode s r reply s' → (reply ≡ command_reply mode s r) × (s' ≡ s)
     by (Err refusal) is h takes = takes
-    by (Ok c) is h takes = law.one mode s s' line reply c is (not_false _ h) (subst (λ r. Takes mode s r reply s') (sym is) takes)
+    by (Ok c) is h takes = law.one mode s s' line reply c is h (subst (λ r. Takes mode s r reply s') (sym is) takes)
 
 -- and all of them have no others
-one_row : ReadLaw → (mode : Mode) (s s' : State) (lines replies : List (List ℕ)) → list_any (λ line. is_unbuilt_command (command_of line)) lines ≡ false
+pub one_row : ReadLaw → (mode : Mode) (s s' : State) (lines replies : List (List ℕ)) → all_read lines ≡ true
     → Steps (λ between. Unit {0}) mode s lines replies s' → (replies ≡ map (line_reply mode s) lines) × (s' ≡ s)
 one_row law mode s s' [] [] built same = (refl, same)
 one_row law mode s s' [] (reply ∷ replies) built row = absurd row
 one_row law mode s s' (line ∷ lines) [] built row = absurd row
 one_row law mode s s' (line ∷ lines) (reply ∷ replies) built row =
-    let both = neither (is_unbuilt_command (command_of line)) (list_any (λ line. is_unbuilt_command (command_of line)) lines) built in
+    let both = both_true (is_reading_line (command_of line)) (all_read lines) built in
     let first = one_step law mode s row.0 line reply both.0 row.2 in
     let rest = one_row law mode s s' lines replies both.1 (subst (λ (mid : State). Steps (λ between. Unit {0}) mode mid lines replies s') first.1 row.3) in
     (ap₂ ◌∷◌ first.0 rest.0, rest.1)
@@ -67,7 +65,7 @@ fresh_ends : FreshLaw → (read_only : Bool) (script image : List ℕ) (f : Word
 fresh_ends law read_only script image f =
     let there = law (format_in f) (replicate (format_size (format_in f)) 0) in
     let here = image_for (Some f) image in
-    let mode : Mode = record { kind = there.0.kind; read_only = read_only; safe = false } in
+    let mode : Mode = plain_mode there.0.kind read_only in
     let s : State = record { image = here; view = there.0 } in
     subst (λ o. ((opened_reply read_only script here o).end ≡ Done) ⊎ ((opened_reply read_only script here o).end ≡ Refused)) (sym there.1)
     (either (list_any is_error (replies_of mode s script)))

@@ -15,7 +15,6 @@ use Rattle.fc_image.specs.Opening.{Opened}
 use Rattle.fc_image.specs.Stays.{OpensAs}
 use Rattle.fc_objects.specs.Extents.{sectors_in}
 use Rattle.fc_effects.specs.Effect.{State, tree_in}
-use Rattle.fc_script.specs.Lines.{command_of}
 use Rattle.fc_script.specs.Reading.{command}
 use Rattle.fc_script.specs.declared.command.Command.{Command as Told}
 use Rattle.fc_script.specs.Texts.{cat_reply, node_line, ok_line, refusal_line}
@@ -26,11 +25,22 @@ use Rattle.fc_volume.specs.declared.lines.FileRef.{FileRef}
 use Rattle.fc_volume.specs.declared.lines.Line.{Line}
 use Rattle.fc_volume.specs.Answers.{IsPlace, IsRef, bytes_in_node, file_bytes, line_in, lines_in, ref_bytes}
 use Rattle.fc_volume.specs.Volume.{Volume, parts_of}
-use Rattle.fc_shell.specs.Answered.{volume_line_reply, volume_reply}
-use Rattle.fc_shell.specs.Modes.{reading_mode}
-use Rattle.fc_shell.specs.Replies.{command_reply, line_reply}
+use Rattle.fc_shell.specs.Answered.{IsReply, volume_reply}
+use Rattle.fc_shell.specs.Modes.{plain_mode}
 use Rattle.fc_shell.specs.Told.{told_line, told_lines}
+use Rattle.fc_shell.specs.declared.reply.Reply.{Reply}
+use Rattle.fc_shell.proofs.ErrorLemmas.{ok_no_error}
 use Rattle.fc_shell.proofs.ShortageLemmas.{shortage_none}
+use Rattle.fc_runs.specs.Run.{is_error}
+
+-- ---- replies in memory
+
+-- a text that ends with `ok`
+pub ok_reply : (reply : Reply) (text whole : List ℕ) → reply.text.items ≡ text ++ ok_line → reply.is_error ≡ false → whole ≡ text ++ ok_line → IsReply reply whole
+ok_reply reply text whole is fine same = record {
+  is_text = is ∙ sym same;
+  error_is = fine ∙ sym (ap is_error same ∙ ok_no_error text);
+}
 
 -- ---- accepted and refused
 
@@ -42,13 +52,13 @@ module _ (kind : Kind) (v : Volume) (image : List ℕ) (view : Opened) (c : Comm
   unfolding volume_reply
   accepted t opens reads is =
       let s : State = record { image = image; view = view } in
-      ap (answered_reply (reading_mode kind v) s c) is ∙ ap (served_reply s c) (shortage_none image kind view c opens reads)
+      ap (answered_reply (plain_mode kind v.read_only) s c) is ∙ ap (served_reply s c) (shortage_none image kind view c opens reads)
 
   -- a refused one's is the refusal's line
   pub refused : (refusal : Refusal) → answer (tree_in (record { image = image; view = view })) (dir_form view.layout) v.read_only c ≡ Err refusal
       → volume_reply kind v (record { image = image; view = view }) c ≡ refusal_line refusal
   unfolding volume_reply
-  refused refusal is = let s : State = record { image = image; view = view } in ap (answered_reply (reading_mode kind v) s c) is
+  refused refusal is = let s : State = record { image = image; view = view } in ap (answered_reply (plain_mode kind v.read_only) s c) is
 
 -- `digest` is refused where `load` is
 pub same_answer : (t : Tree) (form : NameForm) (read_only : Bool) (path : Path) → answer t form read_only (Command.Digest path) ≡ answer t form read_only (Command.Load path)
@@ -131,20 +141,3 @@ place_bytes image v f place named is =
     ap₂ (λ (n : Node) (len : ℕ). sectors_at layout n.entry.address len) (sym same) (sym named.3) ∙ is.sectors in
     ap (λ (o : Option Node). option_map_or (λ n. file_bytes image layout n.entry) o []) named.1
     ∙ ap₂ (λ (o : Option (List ℕ)) (len : ℕ). bytes_in (sector_bytes layout) image (unwrap_or o []) len) at (sym named.3)
-
--- ---- lines
-
--- a line that spells a command has that command's reply
-pub line_is : (kind : Kind) (v : Volume) (s : State) (line : List ℕ) (c : Command) → command_of line ≡ Ok c → volume_line_reply kind v s line ≡ volume_reply kind v s c
-unfolding volume_line_reply volume_reply
-line_is kind v s line c is = ap (command_reply (reading_mode kind v) s) is
-
--- another line has its refusal's
-pub line_refused : (kind : Kind) (v : Volume) (s : State) (line : List ℕ) (refusal : Refusal) → command_of line ≡ Err refusal → volume_line_reply kind v s line ≡ refusal_line refusal
-unfolding volume_line_reply
-line_refused kind v s line refusal is = ap (command_reply (reading_mode kind v) s) is
-
--- the reply as runs say it
-pub line_same : (kind : Kind) (v : Volume) (s : State) (line : List ℕ) → line_reply (reading_mode kind v) s line ≡ volume_line_reply kind v s line
-unfolding volume_line_reply
-line_same kind v s line = refl

@@ -1,91 +1,389 @@
--- Serving line after line, and how a run ends by it.
-use Rattle.std.proofs.Common.{◌≡◌, ℕ, Bool, true, false, ◌||◌, List, [], ◌∷◌, ◌++◌, map, Option, Result, Ok, Err, refl, sym, ap, ap₂, subst, ◌∙◌, append_assoc}
-use Rattle.std.specs.Prelude.{if◌then◌else◌}
-use Rattle.std.specs.List.{list_any}
-use Rattle.std.proofs.lemmas.List.{append-nil, map-append}
+-- Serving line after line.
+use Rattle.std.proofs.Common.{◌≡◌, inl, ⊎_elim, ℕ, ◌+◌, ◌-◌, suc, min, Bool, true, false, ◌||◌, ◌&&◌, nat_le, List, [], ◌∷◌, ◌++◌, length, take, Option, Some, None, Ok, Err, refl, sym, ap, ap₂, subst, ◌∙◌, arith, append_assoc}
+use Rattle.std.specs.Prelude.{if◌then◌else◌, slice_get}
+use Rattle.std.proofs.lemmas.Bool.Decides.{nat_tests}
+use Rattle.std.proofs.lemmas.List.{append-nil, length-append, take-append-le, take_at}
 use Rattle.std.proofs.lemmas.List.Folds.{list_any-append}
-use Rattle.std.proofs.lemmas.Grind.{flat_map-append}
-use Rattle.fc_image.specs.Opening.{Opened, open_image}
-use Rattle.fc_effects.specs.Effect.{State}
-use Rattle.fc_runs.specs.Run.{Mode, commands_in, is_error, text_of}
-use Rattle.fc_shell.specs.declared.ending.End.TheVariants.{Done, Refused}
-use Rattle.fc_shell.specs.declared.answering.LineFault.{LineFault}
-use Rattle.fc_shell.specs.declared.answering.LineFault.TheVariants as lines
-use Rattle.fc_shell.specs.Replies.{EndsAs, image_reply, line_reply, opened_reply, replies_of, served}
-use Rattle.fc_shell.specs.Serving.{HasServed, ServesAs, end_of}
-use Rattle.fc_shell.specs.Writing.{Wrote, WrotePart}
-use Rattle.fc_shell.proofs.WritingLemmas.{wrote_nothing, wrote_both, part_of_first, part_of_second}
+use Rattle.std.proofs.lemmas.Grind.{common_steps, flat_map-append}
+use Rattle.std.proofs.Math.Seq.{take-append-add}
+use Rattle.fc_device.specs.declared.disk.Disk.{Ghosts}
+use Rattle.fc_device.proofs.DiskLaws.{Laws, form_same, form_then}
+use Rattle.fc_device.proofs.StopLemmas.{goes_on, started}
+use Rattle.fc_record.specs.declared.Kind.{Kind}
+use Rattle.fc_image.specs.Stays.{IsNewLayout, OpensAs}
+use Rattle.fc_effects.specs.Effect.{State, tree_in}
+use Rattle.fc_safe.specs.SafeEffect.{HasTree}
+use Rattle.fc_script.specs.Lines.{command_of}
+use Rattle.fc_runs.specs.Early.{reply_begun, text_begun}
+use Rattle.fc_runs.specs.Promises.{spares_disk}
+use Rattle.fc_runs.specs.Run.{Mode, Step, Steps, all_keep_tree, commands_in, is_error, keeps_tree_or, text_of, whole_replies}
+use Rattle.fc_runs.specs.Stops.{MayHaveLeft, is_kept_by_next}
+use Rattle.fc_runs.proofs.RepliesLemmas.{taken_kept}
+use Rattle.fc_tree.specs.Parts.{ArePartsOf}
+use Rattle.fc_volume.specs.Volume.{Volume, parts_of}
+use Rattle.fc_shell.specs.declared.answer.LineFault.{LineFault}
+use Rattle.fc_shell.specs.declared.answer.LineFault.TheVariants as lines
+use Rattle.fc_shell.specs.Line.{BreaksOff, GoesOn, IsAnswered, IsCutOff, IsDone, LineEnds}
+use Rattle.fc_shell.specs.Modes.{plain_mode}
+use Rattle.fc_shell.specs.Serving.{AreDone, HasServed, ServesAs, cause_of}
+use Rattle.fc_shell.specs.Writing.{Wrote}
+use Rattle.fc_shell.proofs.StepLemmas.{has_tree, step_keeps}
+use Rattle.fc_shell.proofs.WritingLemmas.{wrote_nothing, wrote_both}
+
+-- ---- tests
 
 -- one test of two is enough
 pub neither : (a b : Bool) → (a || b) ≡ false → (a ≡ false) × (b ≡ false)
 neither true b h = absurd (cc)
 neither false b h = (refl, h)
 
--- nothing is a part of any text
-pub nothing_part : (told : Option (List ℕ)) (text : List ℕ) → WrotePart told told text
-nothing_part told text = (0, wrote_nothing told)
+pub both_true : (a b : Bool) → (a && b) ≡ true → (a ≡ true) × (b ≡ true)
+both_true true b h = (refl, h)
+both_true false b h = absurd (cc)
 
-module _ (mode : Mode) (s : State) (script : List ℕ) where
-  abbrev reply : List ℕ → List ℕ
-  reply line = line_reply mode s line
+pub true_both : (a b : Bool) → a ≡ true → b ≡ true → (a && b) ≡ true
+true_both true b h k = k
+true_both false b h k = absurd (cc)
 
-  -- before the first line
-  pub served_start : (left : List (List ℕ)) (told : Option (List ℕ)) → left ≡ commands_in script → HasServed mode s script left false told told
-  served_start left told all = record { done = []; cut = sym all; refused_is = refl; wrote = wrote_nothing told }
+or_nothing : (b : Bool) → (b || false) ≡ b
+or_nothing true = refl
+or_nothing false = refl
 
+-- ---- steps
+
+pub steps_weaker : (May Might : List ℕ → Type 0) → ((image : List ℕ) → May image → Might image) → (mode : Mode) (s s' : State) (lines replies : List (List ℕ))
+    → Steps May mode s lines replies s' → Steps Might mode s lines replies s'
+steps_weaker May Might less mode s s' [] [] x = x
+steps_weaker May Might less mode s s' [] (reply ∷ replies) x = absurd x
+steps_weaker May Might less mode s s' (line ∷ lines) [] x = absurd x
+steps_weaker May Might less mode s s' (line ∷ lines) (reply ∷ replies) x =
+    (x.0, less x.0.image x.1, x.2, steps_weaker May Might less mode x.0 s' lines replies x.3)
+
+module _ (May : List ℕ → Type 0) (mode : Mode) where
   -- one line more
-  pub served_more : (line : List ℕ) (left : List (List ℕ)) (so_far now : Bool) (before mid after : Option (List ℕ)) → HasServed mode s script (line ∷ left) so_far before mid
-      → Wrote mid after (reply line) → now ≡ is_error (reply line) → HasServed mode s script left (so_far || now) before after
-  served_more line left so_far now before mid after has written is = record {
-    done = has.done ++ line ∷ [];
-    cut = has.cut ∙ sym (append_assoc has.done (line ∷ []) left);
-    refused_is =
-        ap₂ ◌||◌ has.refused_is (is ∙ sym (or_nothing (is_error (reply line))))
-        ∙ sym (list_any-append is_error (map reply has.done) (reply line ∷ [])) ∙ ap (list_any is_error) (sym (map-append reply has.done (line ∷ [])));
-    wrote = subst (Wrote before after) (one_more has.done line) (wrote_both before mid after (text_of (map reply has.done)) (reply line) has.wrote written);
+  steps_more : (s mid s' : State) (lines replies : List (List ℕ)) (line reply : List ℕ) → Steps May mode s lines replies mid → May s'.image → Step mode mid line reply s'
+      → Steps May mode s (lines ++ line ∷ []) (replies ++ reply ∷ []) s'
+  steps_more s mid s' [] [] line reply x may step = (s', may, subst (λ (x : State). Step mode x line reply s') x step, refl)
+  steps_more s mid s' [] (r ∷ replies) line reply x may step = absurd x
+  steps_more s mid s' (l ∷ lines) [] line reply x may step = absurd x
+  steps_more s mid s' (l ∷ lines) (r ∷ replies) line reply x may step =
+      (x.0, x.1, x.2, steps_more x.0 mid s' lines replies line reply x.3 may step)
+
+  -- each line has one reply
+  steps_long : (s s' : State) (lines replies : List (List ℕ)) → Steps May mode s lines replies s' → length replies ≡ length lines
+  steps_long s s' [] [] x = refl
+  steps_long s s' [] (reply ∷ replies) x = absurd x
+  steps_long s s' (line ∷ lines) [] x = absurd x
+  steps_long s s' (line ∷ lines) (reply ∷ replies) x = ap suc (steps_long x.0 s' lines replies x.3)
+
+  -- a new map stays one
+  steps_new : (s s' : State) (lines replies : List (List ℕ)) → Steps May mode s lines replies s' → IsNewLayout s.view.layout → IsNewLayout s'.view.layout
+  steps_new s s' [] [] x new = subst (λ (x : State). IsNewLayout x.view.layout) (sym x) new
+  steps_new s s' [] (reply ∷ replies) x new = absurd x
+  steps_new s s' (line ∷ lines) [] x new = absurd x
+  steps_new s s' (line ∷ lines) (reply ∷ replies) x new =
+      steps_new x.0 s' lines replies x.3 (taken_kept mode s x.0 reply (command_of line) new x.2).0
+
+  -- Lines that keep the tree leave it.
+  steps_keep : (s s' : State) (lines replies : List (List ℕ)) → Steps May mode s lines replies s' → all_keep_tree lines replies ≡ true → tree_in s' ≡ tree_in s
+  steps_keep s s' [] [] x keep = ap tree_in x
+  steps_keep s s' [] (reply ∷ replies) x keep = absurd x
+  steps_keep s s' (line ∷ lines) [] x keep = absurd x
+  steps_keep s s' (line ∷ lines) (reply ∷ replies) x keep =
+      let both = both_true (keeps_tree_or (is_error reply) (command_of line)) (all_keep_tree lines replies) keep in
+      steps_keep x.0 s' lines replies x.3 both.1 ∙ step_keeps mode s x.0 (command_of line) reply x.2 both.0
+
+  -- what all lines keep, those done keep,
+  keep_done : (s s' : State) (lines replies left : List (List ℕ)) → Steps May mode s lines replies s' → all_keep_tree (lines ++ left) replies ≡ true → all_keep_tree lines replies ≡ true
+  keep_done s s' [] [] left x keep = refl
+  keep_done s s' [] (reply ∷ replies) left x keep = absurd x
+  keep_done s s' (line ∷ lines) [] left x keep = absurd x
+  keep_done s s' (line ∷ lines) (reply ∷ replies) left x keep =
+      let both = both_true (keeps_tree_or (is_error reply) (command_of line)) (all_keep_tree (lines ++ left) replies) keep in
+      true_both (keeps_tree_or (is_error reply) (command_of line)) (all_keep_tree lines replies) both.0 (keep_done x.0 s' lines replies left x.3 both.1)
+
+  -- and so does the next line,
+  keep_next : (s s' : State) (lines replies : List (List ℕ)) (line : List ℕ) (left : List (List ℕ)) → Steps May mode s lines replies s'
+      → all_keep_tree (lines ++ line ∷ left) replies ≡ true → keeps_tree_or false (command_of line) ≡ true
+  keep_next s s' [] [] line left x keep = keep
+  keep_next s s' [] (r ∷ replies) line left x keep = absurd x
+  keep_next s s' (l ∷ lines) [] line left x keep = absurd x
+  keep_next s s' (l ∷ lines) (r ∷ replies) line left x keep =
+      keep_next x.0 s' lines replies line left x.3 (both_true (keeps_tree_or (is_error r) (command_of l)) (all_keep_tree (lines ++ line ∷ left) replies) keep).1
+
+  -- or the last one that was done.
+  keep_last : (s s' : State) (lines replies : List (List ℕ)) (line reply : List ℕ) → Steps May mode s lines replies s'
+      → all_keep_tree (lines ++ line ∷ []) (replies ++ reply ∷ []) ≡ true → keeps_tree_or (is_error reply) (command_of line) ≡ true
+  keep_last s s' [] [] line reply x keep = (both_true (keeps_tree_or (is_error reply) (command_of line)) true keep).0
+  keep_last s s' [] (r ∷ replies) line reply x keep = absurd x
+  keep_last s s' (l ∷ lines) [] line reply x keep = absurd x
+  keep_last s s' (l ∷ lines) (r ∷ replies) line reply x keep =
+      keep_last x.0 s' lines replies line reply x.3 (both_true (keeps_tree_or (is_error r) (command_of l)) (all_keep_tree (lines ++ line ∷ []) (replies ++ reply ∷ [])) keep).1
+
+  keep_front : (s s' : State) (lines replies : List (List ℕ)) (line reply : List ℕ) → Steps May mode s lines replies s'
+      → all_keep_tree (lines ++ line ∷ []) (replies ++ reply ∷ []) ≡ true → all_keep_tree lines replies ≡ true
+  keep_front s s' [] [] line reply x keep = refl
+  keep_front s s' [] (r ∷ replies) line reply x keep = absurd x
+  keep_front s s' (l ∷ lines) [] line reply x keep = absurd x
+  keep_front s s' (l ∷ lines) (r ∷ replies) line reply x keep =
+      let both = both_true (keeps_tree_or (is_error r) (command_of l)) (all_keep_tree (lines ++ line ∷ []) (replies ++ reply ∷ [])) keep in
+      true_both (keeps_tree_or (is_error r) (command_of l)) (all_keep_tree lines replies) both.0 (keep_front x.0 s' lines replies line reply x.3 both.1)
+
+-- ---- texts
+
+pub one_more : (replies : List (List ℕ)) (reply : List ℕ) → text_of (replies ++ reply ∷ []) ≡ text_of replies ++ reply
+one_more replies reply = flat_map-append (λ (r : List ℕ). r) replies (reply ∷ []) ∙ ap (λ (text : List ℕ). text_of replies ++ text) (append-nil reply)
+
+-- Replies that were written whole are counted.
+whole_all : (replies : List (List ℕ)) (more : List ℕ) → whole_replies (length (text_of replies ++ more)) replies ≡ length replies
+whole_all [] more = refl
+whole_all (reply ∷ replies) more =
+    let rest = length (text_of replies ++ more) in
+    let n = length ((reply ++ text_of replies) ++ more) in
+    let long : n ≡ length reply + rest = ap length (append_assoc reply (text_of replies) more) ∙ length-append reply (text_of replies ++ more) in
+    let fits : nat_le (length reply) n ≡ true = grind (arith, nat_tests, long) in
+    let left : n - length reply ≡ rest = omega (arith, long) in
+    ap (λ (b : Bool). if b then suc (whole_replies (n - length reply) replies) else 0) fits ∙ ap (λ (k : ℕ). suc (whole_replies k replies)) left ∙ ap suc (whole_all replies more)
+
+get_next : (xs : List (List ℕ)) (y : List ℕ) (ys : List (List ℕ)) (n : ℕ) → n ≡ length xs → slice_get (xs ++ y ∷ ys) n ≡ Some y
+get_next [] y ys n is = rw is refl
+get_next (x ∷ xs) y ys n is = rw is (get_next xs y ys (length xs) refl)
+
+-- a part of a text is one from the front of both
+front_part : (n : ℕ) (a b : List ℕ) → (k : ℕ) × (take n a ≡ take k (a ++ b))
+front_part n a b = (min n (length a), sym (take-append-le (min n (length a)) a b (omega arith) ∙ take-min n a))
+  where
+    take-min : (n : ℕ) (xs : List ℕ) → take (min n (length xs)) xs ≡ take n xs
+    take-min n xs = grind (arith, common_steps)
+
+-- the text of a run begins with its replies
+begun_front : (replies : List (List ℕ)) (next : Option (List ℕ)) (begun : List ℕ → List ℕ) → (rest : List ℕ) × (text_begun None replies next begun ≡ text_of replies ++ rest)
+begun_front replies None begun = ([], sym (append-nil (text_of replies)))
+begun_front replies (Some line) begun = (begun line, refl)
+
+-- ---- causes
+
+not_disk : (fault : LineFault) → spares_disk (cause_of fault) ≡ true → fault ≡ LineFault.Disk → ⊥
+not_disk fault spares is =
+    let clash : false ≡ true = sym (ap (λ (f : LineFault). spares_disk (cause_of f)) is) ∙ spares in
+    cc
+
+is_disk : (fault : LineFault) → spares_disk (cause_of fault) ≡ false → fault ≡ LineFault.Disk
+is_disk lines.Disk h = refl
+is_disk lines.Out h = absurd (cc)
+is_disk lines.NoMemory h = absurd (cc)
+
+-- ---- lines that were done
+
+module _ {D : Type 0} {d : Ghosts D} (law : Laws d) where
+  pub goes_same : (s : D) → GoesOn d s s
+  goes_same s = record { form = form_same d s; stops = started law s (λ image. Unit {0}) (λ image left. tt); faults = omega arith }
+
+  pub goes_then : {old mid new : D} → GoesOn d old mid → GoesOn d mid new → GoesOn d old new
+  goes_then first second = record {
+    form = form_then d first.form second.form;
+    stops = goes_on law first.stops second.stops (λ image left. tt);
+    faults = omega (arith, first.faults, second.faults);
   }
-    where
-      or_nothing : (b : Bool) → (b || false) ≡ b
-      or_nothing true = refl
-      or_nothing false = refl
 
-      one_more : (done : List (List ℕ)) (line : List ℕ) → text_of (map reply done) ++ reply line ≡ text_of (map reply (done ++ line ∷ []))
-      one_more done line =
-          ap (λ text. text_of (map reply done) ++ text) (sym (append-nil (reply line)))
-          ∙ sym (flat_map-append (λ r. r) (map reply done) (reply line ∷ [])) ∙ ap text_of (sym (map-append reply done (line ∷ [])))
+  module _ (kind : Kind) (read_only : Bool) (s : State) (script : List ℕ) (old : D) (told : d.bytes old ≡ Some s.image) (quiet : d.pending old ≡ false) (opens : OpensAs s.image kind s.view) where
+    abbrev mode : Mode
+    mode = plain_mode kind read_only
 
-  -- behind the last line
-  pub served_all : (so_far : Bool) (before after : Option (List ℕ)) → HasServed mode s script [] so_far before after → ServesAs (replies_of mode s script) (Ok so_far) before after
-  served_all so_far before after has =
-      let all : map reply has.done ≡ replies_of mode s script = ap (map reply) (sym (append-nil has.done) ∙ sym has.cut) in
-      (has.refused_is ∙ ap (list_any is_error) all, subst (λ replies. Wrote before after (text_of replies)) all has.wrote)
+    -- before the first line
+    pub done_start : (left : List (List ℕ)) → left ≡ commands_in script → AreDone d old old kind read_only s script left
+    done_start left all = record {
+      done = [];
+      replies = [];
+      state = s;
+      cut = sym all;
+      steps = refl;
+      holds = told;
+      opens = opens;
+      kept = λ keep new_map image left. has_tree kind s image opens (law.settled old quiet s.image told image left);
+    }
 
-  -- where a line broke off
-  pub served_part : (line : List ℕ) (left : List (List ℕ)) (so_far : Bool) (before mid after : Option (List ℕ)) → HasServed mode s script (line ∷ left) so_far before mid
-      → WrotePart mid after (reply line) → WrotePart before after (text_of (replies_of mode s script))
-  served_part line left so_far before mid after has part =
-      let done = text_of (map reply has.done) in
-      let rest = text_of (map reply left) in
-      let whole : done ++ (reply line ++ rest) ≡ text_of (replies_of mode s script) =
-      sym (flat_map-append (λ r. r) (map reply has.done) (map reply (line ∷ left))) ∙ ap text_of (sym (map-append reply has.done (line ∷ left)) ∙ ap (map reply) (sym has.cut)) in
-      subst (WrotePart before after) whole
-      (part_of_second before mid after done (reply line ++ rest) has.wrote (part_of_first mid after (reply line) rest part))
+    pub served_start : (left : List (List ℕ)) (v : Volume) (before : Option (List ℕ)) → left ≡ commands_in script → ArePartsOf (parts_of v) s.view
+        → HasServed d old old kind read_only s script left v false before before
+    unfolding done_start
+    served_start left v before all parts = record { lines = done_start left all; refused_is = refl; wrote = wrote_nothing before; parts = parts }
 
--- the end of a run whose lines were served
-pub ends_served : (replies : List (List ℕ)) (result : Result Bool LineFault) (before after : Option (List ℕ)) → ServesAs replies result before after
-    → EndsAs (served replies) (end_of result) before after
-ends_served replies (Ok true) before after serves = (ap (λ refused. if refused then Refused else Done) (sym serves.0), serves.1)
-ends_served replies (Ok false) before after serves = (ap (λ refused. if refused then Refused else Done) (sym serves.0), serves.1)
-ends_served replies (Err lines.Disk) before after part = part
-ends_served replies (Err lines.Out) before after part = part
-ends_served replies (Err lines.NoMemory) before after part = part
+    -- one line more
+    pub done_more : (line reply : List ℕ) (left : List (List ℕ)) (mid new : D) (next : State) → (are : AreDone d old mid kind read_only s script (line ∷ left)) → GoesOn d old mid → GoesOn d mid new
+        → IsDone d mid new kind read_only are.state line reply next → AreDone d old new kind read_only s script left
+    done_more line reply left mid new next are first second is = record {
+      done = are.done ++ line ∷ [];
+      replies = are.replies ++ reply ∷ [];
+      state = next;
+      cut = are.cut ∙ sym (append_assoc are.done (line ∷ []) left);
+      steps = steps_more (MayHaveLeft d old new) mode s are.state next are.done are.replies line reply
+          (steps_weaker (MayHaveLeft d old mid) (MayHaveLeft d old new) (λ image may tells. second.stops.keeps (d.moment old) image first.stops.later (may tells)) mode s are.state are.done are.replies are.steps)
+          (λ tells. law.earlier new (d.moment old) (d.moment new) next.image (omega (arith, first.stops.later, second.stops.later))
+          (law.leaves_what_is_read new (second.form.tells_stays ∙ first.form.tells_stays ∙ tells) next.image is.holds))
+          is.step;
+      holds = is.holds;
+      opens = is.opens;
+      kept = λ keep new_map image left.
+          let front = keep_front (MayHaveLeft d old mid) mode s are.state are.done are.replies line reply are.steps keep in
+          let last = keep_last (MayHaveLeft d old mid) mode s are.state are.done are.replies line reply are.steps keep in
+          let new_now = steps_new (MayHaveLeft d old mid) mode s are.state are.done are.replies are.steps new_map in
+          ⊎_elim (λ was. are.kept front new_map image was)
+          (λ since. subst (λ t. HasTree kind t image) (steps_keep (MayHaveLeft d old mid) mode s are.state are.done are.replies are.steps front) (is.kept last new_now image since))
+          (second.stops.before (d.moment old) image first.stops.later left);
+    }
 
--- over an image that is accepted
-pub ends_opened : (read_only : Bool) (script image : List ℕ) (v : Opened) (result : Result Bool LineFault) (before after : Option (List ℕ)) → open_image image ≡ Ok v
-    → ServesAs (replies_of (record { kind = v.kind; read_only = read_only; safe = false }) (record { image = image; view = v }) script) result before after
-    → EndsAs (image_reply read_only script image) (end_of result) before after
-ends_opened read_only script image v result before after opened serves =
-    let mode : Mode = record { kind = v.kind; read_only = read_only; safe = false } in
-    let s : State = record { image = image; view = v } in
-    subst (λ o. EndsAs (opened_reply read_only script image o) (end_of result) before after) (sym opened)
-    (ends_served (replies_of mode s script) result before after serves)
+    -- the image as it opened might have been left
+    pub start_left : (new : D) → GoesOn d old new → MayHaveLeft d old new s.image
+    start_left new goes tells = goes.stops.keeps (d.moment old) s.image (omega arith) (law.leaves_what_is_read old tells s.image told)
+
+    -- all lines were done
+    pub served_all : (v : Volume) (refused : Bool) (before after : Option (List ℕ)) (new : D) → HasServed d old new kind read_only s script [] v refused before after → GoesOn d old new
+        → d.pending new ≡ false → ServesAs d old new kind read_only s script before after (Ok refused)
+    served_all v refused before after new has goes settled =
+        let are = has.lines in
+        let all : are.done ≡ commands_in script = sym (are.cut ∙ append-nil are.done) in (
+          text_of are.replies,
+          has.wrote,
+          record {
+            end = are.state;
+            run = record {
+              start = start_left new goes;
+              replies = are.replies;
+              steps = subst (λ (lines : List (List ℕ)). Steps (MayHaveLeft d old new) mode s lines are.replies are.state) all are.steps;
+              told = refl;
+            };
+            refused_is = has.refused_is;
+            holds = are.holds;
+            settled = settled;
+            stops = λ was_quiet. record {
+              idle = λ new_map fresh demo keep image left.
+                  let tree = are.kept (subst (λ (lines : List (List ℕ)). all_keep_tree lines are.replies ≡ true) (sym all) keep) new_map image left in
+                  record { view = tree.view; opens = tree.opens; tree = tree.tree };
+              last = λ new_map next image left. has_tree kind are.state image are.opens (law.settled new settled are.state.image are.holds image left);
+              during = λ safe fresh image left. absurd (cc);
+              exit = λ safe image left. absurd (cc);
+            };
+          },
+        )
+
+    -- The last line was done, and its reply written in part.
+    cut_off : (line : List ℕ) (left : List (List ℕ)) (v : Volume) (so_far : Bool) (before between after : Option (List ℕ)) (mid new : D) (fault : LineFault)
+        → (has : HasServed d old mid kind read_only s script (line ∷ left) v so_far before between) → GoesOn d old mid → GoesOn d mid new
+        → ((fault ≡ LineFault.Disk → ⊥) → d.pending new ≡ false)
+        → IsCutOff d mid new kind read_only has.lines.state line between after fault → ServesAs d old new kind read_only s script before after (Err fault)
+    unfolding done_more
+    cut_off line left v so_far before between after mid new fault has first second settled cut =
+        let are = done_more line cut.reply left mid new cut.next has.lines first second cut.done in
+        let was = has.lines in
+        let long : length are.replies ≡ length are.done = steps_long (MayHaveLeft d old new) mode s are.state are.done are.replies are.steps in
+        let front : take (length are.replies) (commands_in script) ≡ are.done =
+        ap (take (length are.replies)) are.cut ∙ take_at are.done left (length are.replies) (sym long) in
+        let begun : List ℕ → List ℕ = λ (l : List ℕ). reply_begun mode are.state (command_of l) in
+        let next : Option (List ℕ) = slice_get (commands_in script) (length are.replies) in
+        let rest = begun_front are.replies next begun in
+        let part = front_part cut.part.0 cut.reply rest.0 in
+        let text = text_of was.replies ++ take cut.part.0 cut.reply in
+        let whole : text_begun None are.replies next begun ≡ text_of was.replies ++ (cut.reply ++ rest.0) =
+        rest.1 ∙ ap (λ (t : List ℕ). t ++ rest.0) (one_more was.replies cut.reply) ∙ append_assoc (text_of was.replies) cut.reply rest.0 in
+        let is : text ≡ take (length (text_of was.replies) + part.0) (text_begun None are.replies next begun) =
+        ap (λ (t : List ℕ). text_of was.replies ++ t) part.1 ∙ sym (take-append-add (text_of was.replies) (cut.reply ++ rest.0) part.0)
+        ∙ ap (take (length (text_of was.replies) + part.0)) (sym whole) in
+        let now_quiet : d.pending new ≡ false = settled cut.no_disk in (
+          text,
+          wrote_both before between after (text_of was.replies) (take cut.part.0 cut.reply) has.wrote cut.part.1,
+          record {
+            end = are.state;
+            ended = record {
+              start = start_left new (goes_then first second);
+              replies = are.replies;
+              steps = subst (λ (lines : List (List ℕ)). Steps (MayHaveLeft d old new) mode s lines are.replies are.state) (sym front) are.steps;
+              told = (length (text_of was.replies) + part.0, is);
+            };
+            whole = λ demo disk. absurd (cut.no_disk (is_disk fault disk));
+            holds = λ spares. are.holds;
+            settled = λ spares. inl now_quiet;
+            stops = λ was_quiet. record {
+              idle = λ new_map fresh demo keep image left'.
+                  let keeps = keep_done (MayHaveLeft d old new) mode s are.state are.done are.replies left are.steps
+                  (subst (λ (lines : List (List ℕ)). all_keep_tree lines are.replies ≡ true) are.cut keep) in
+                  let tree = are.kept keeps new_map image left' in
+                  record { view = tree.view; opens = tree.opens; tree = tree.tree };
+              last = λ new_map next image left'. has_tree kind are.state image are.opens (law.settled new now_quiet are.state.image are.holds image left');
+              during = λ safe fresh image left'. absurd (cc);
+              exit = λ safe image left'. absurd (cc);
+            };
+          },
+        )
+
+    -- A line broke off.
+    broke_off : (line : List ℕ) (left : List (List ℕ)) (v : Volume) (so_far : Bool) (before between after : Option (List ℕ)) (mid new : D) (fault : LineFault)
+        → (has : HasServed d old mid kind read_only s script (line ∷ left) v so_far before between) → GoesOn d old mid → GoesOn d mid new
+        → ((fault ≡ LineFault.Disk → ⊥) → d.pending new ≡ false)
+        → BreaksOff d mid new kind read_only has.lines.state line between after fault → ServesAs d old new kind read_only s script before after (Err fault)
+    broke_off line left v so_far before between after mid new fault has first second settled broke =
+        let are = has.lines in
+        let May = MayHaveLeft d old mid in
+        let long : length are.replies ≡ length are.done = steps_long May mode s are.state are.done are.replies are.steps in
+        let front : take (length are.replies) (commands_in script) ≡ are.done =
+        ap (take (length are.replies)) are.cut ∙ take_at are.done (line ∷ left) (length are.replies) (sym long) in
+        let next : slice_get (commands_in script) (length are.replies) ≡ Some line =
+        ap (λ (lines : List (List ℕ)). slice_get lines (length are.replies)) are.cut ∙ get_next are.done line left (length are.replies) long in
+        let begun : List ℕ → List ℕ = λ (l : List ℕ). reply_begun mode are.state (command_of l) in
+        let text = text_of are.replies ++ take broke.part.0 (begun line) in
+        let is : text ≡ take (length (text_of are.replies) + broke.part.0) (text_begun None are.replies (slice_get (commands_in script) (length are.replies)) begun) =
+        sym (take-append-add (text_of are.replies) (begun line) broke.part.0)
+        ∙ ap (λ (o : Option (List ℕ)). take (length (text_of are.replies) + broke.part.0) (text_begun None are.replies o begun)) (sym next) in (
+          text,
+          wrote_both before between after (text_of are.replies) (take broke.part.0 (begun line)) has.wrote broke.part.1,
+          record {
+            end = are.state;
+            ended = record {
+              start = start_left new (goes_then first second);
+              replies = are.replies;
+              steps = subst (λ (lines : List (List ℕ)). Steps (MayHaveLeft d old new) mode s lines are.replies are.state) (sym front)
+                  (steps_weaker May (MayHaveLeft d old new) (λ image may tells. second.stops.keeps (d.moment old) image first.stops.later (may tells)) mode s are.state are.done are.replies are.steps);
+              told = (length (text_of are.replies) + broke.part.0, is);
+            };
+            whole = λ demo disk. whole_all are.replies (take broke.part.0 (begun line));
+            holds = λ spares. broke.holds (not_disk fault spares);
+            settled = λ spares. inl (settled (not_disk fault spares));
+            stops = λ was_quiet. record {
+              idle = λ new_map fresh demo keep image left'.
+                  let keeps = subst (λ (lines : List (List ℕ)). all_keep_tree lines are.replies ≡ true) are.cut keep in
+                  let done = keep_done May mode s are.state are.done are.replies (line ∷ left) are.steps keeps in
+                  let new_now = steps_new May mode s are.state are.done are.replies are.steps new_map in
+                  let tree : HasTree kind (tree_in s) image =
+                  ⊎_elim (λ was. are.kept done new_map image was)
+                  (λ since. subst (λ t. HasTree kind t image) (steps_keep May mode s are.state are.done are.replies are.steps done)
+                  (broke.kept (keep_next May mode s are.state are.done are.replies line left are.steps keeps) new_now image since))
+                  (second.stops.before (d.moment old) image first.stops.later left') in
+                  record { view = tree.view; opens = tree.opens; tree = tree.tree };
+              last = λ new_map keep image left'.
+                  let keeps = subst (λ (o : Option (List ℕ)). is_kept_by_next (λ l. keeps_tree_or false (command_of l)) o ≡ true) next keep in
+                  broke.kept keeps (steps_new May mode s are.state are.done are.replies are.steps new_map) image
+                  (law.earlier new (d.moment mid) (d.moment new) image second.stops.later left');
+              during = λ safe fresh image left'. absurd (cc);
+              exit = λ safe image left'. absurd (cc);
+            };
+          },
+        )
+
+    pub served_part : (line : List ℕ) (left : List (List ℕ)) (v v' : Volume) (so_far : Bool) (before between after : Option (List ℕ)) (mid new : D) (fault : LineFault)
+        → (has : HasServed d old mid kind read_only s script (line ∷ left) v so_far before between) → GoesOn d old mid → GoesOn d mid new
+        → ((fault ≡ LineFault.Disk → ⊥) → d.pending new ≡ false)
+        → LineEnds d mid new kind read_only has.lines.state v' line between after (Err fault) → ServesAs d old new kind read_only s script before after (Err fault)
+    served_part line left v v' so_far before between after mid new fault has first second settled ends =
+        ⊎_elim (cut_off line left v so_far before between after mid new fault has first second settled)
+        (broke_off line left v so_far before between after mid new fault has first second settled) ends
+
+    pub served_more : (line : List ℕ) (left : List (List ℕ)) (v v' : Volume) (so_far now : Bool) (before between after : Option (List ℕ)) (mid new : D)
+        → (has : HasServed d old mid kind read_only s script (line ∷ left) v so_far before between) → GoesOn d old mid → GoesOn d mid new
+        → IsAnswered d mid new kind read_only has.lines.state v' line between after now → HasServed d old new kind read_only s script left v' (so_far || now) before after
+    unfolding done_more
+    served_more line left v v' so_far now before between after mid new has first second is = record {
+      lines = done_more line is.reply left mid new is.next has.lines first second is.done;
+      refused_is =
+          ap₂ ◌||◌ has.refused_is (is.refused_is ∙ sym (or_nothing (is_error is.reply))) ∙ sym (list_any-append is_error has.lines.replies (is.reply ∷ []));
+      wrote = subst (Wrote before after) (sym (one_more has.lines.replies is.reply)) (wrote_both before between after (text_of has.lines.replies) is.reply has.wrote is.wrote);
+      parts = is.parts;
+    }

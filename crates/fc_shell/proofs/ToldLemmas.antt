@@ -1,7 +1,7 @@
 -- What an answer says of the text that was written.
 use Rattle.std.proofs.Common.{◌≡◌, ℕ, List, [], ◌∷◌, ◌++◌, Option, Result, Err, sym, subst, append_assoc}
 use Rattle.fc_script.specs.Texts.{line_of, ok_line}
-use Rattle.fc_shell.specs.declared.answering.LineFault.{LineFault}
+use Rattle.fc_shell.specs.declared.answer.LineFault.{LineFault}
 use Rattle.fc_shell.specs.Answered.{Told}
 use Rattle.fc_shell.specs.Writing.{Wrote, WrotePart}
 use Rattle.fc_shell.proofs.WritingLemmas.{part_of_first, part_of_second}

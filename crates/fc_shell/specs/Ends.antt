@@ -1,8 +1,12 @@
--- The exit statuses.
-use Rattle.std.specs.Prelude.{ℕ}
+-- How runs end.
+use Rattle.std.specs.Prelude.{◌≡◌, ◌⊎◌, ℕ, Bool, true, false, List, [], ◌∷◌, ◌++◌, Result, Ok, Err}
+use Rattle.fc_device.specs.Asked.{Asked}
+use Rattle.fc_shell.specs.declared.answer.LineFault.{LineFault}
+use Rattle.fc_shell.specs.declared.answer.LineFault.TheVariants as lines
 use Rattle.fc_shell.specs.declared.ending.End.{End}
 use Rattle.fc_shell.specs.declared.ending.End.TheVariants.{Done, Refused, BadWords, BadImage, DiskFault, ScriptFault, OutFault, NoMemory, ScriptTooLong, NotBuilt, NoImage}
 
+-- the exit statuses
 abbrev pub status_of : End → ℕ
 status_of Done = 0
 status_of Refused = 1
@@ -15,3 +19,52 @@ status_of NoMemory = 7
 status_of ScriptTooLong = 8
 status_of NotBuilt = 9
 status_of NoImage = 12
+
+-- ---- when a run ends so
+
+-- how a run ends whose lines were served
+abbrev pub end_of : Result Bool LineFault → End
+end_of (Ok true) = Refused
+end_of (Ok false) = Done
+end_of (Err lines.Disk) = DiskFault
+end_of (Err lines.Out) = OutFault
+end_of (Err lines.NoMemory) = NoMemory
+
+-- a run ends so only when an image is attached
+abbrev pub is_late : End → Bool
+is_late BadWords = false
+is_late ScriptFault = false
+is_late ScriptTooLong = false
+is_late NotBuilt = false
+is_late NoImage = false
+is_late end = true
+
+-- a run ends so only over an image that was taken or made
+abbrev pub is_over_image : End → Bool
+is_over_image Done = true
+is_over_image Refused = true
+is_over_image (BadImage fault) = true
+is_over_image OutFault = true
+is_over_image end = false
+
+-- Where the disk gives the name, the run doesn't end without an image; where it doesn't, the run doesn't end over one.
+abbrev pub FitsGiven : Bool → End → Type 0
+FitsGiven given end = (end ≡ NoImage → given ≡ false) × (is_over_image end ≡ true → given ≡ true)
+
+-- What was asked of the disk, by how the run ends: nothing; or this image, and once; and where memory was short, either.
+abbrev pub AsksFor : Asked → End → List Asked → List Asked → Type 0
+AsksFor image BadWords old new = new ≡ old
+AsksFor image ScriptFault old new = new ≡ old
+AsksFor image ScriptTooLong old new = new ≡ old
+AsksFor image NotBuilt old new = new ≡ old
+AsksFor image NoMemory old new = (new ≡ old) ⊎ (new ≡ old ++ image ∷ [])
+AsksFor image end old new = new ≡ old ++ image ∷ []
+
+-- a run may end so before an image is asked for
+abbrev pub is_early : End → Bool
+is_early BadWords = true
+is_early ScriptFault = true
+is_early NoMemory = true
+is_early ScriptTooLong = true
+is_early NotBuilt = true
+is_early end = false

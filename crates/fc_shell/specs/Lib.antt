@@ -1,8 +1,12 @@
 pub mod Answered
+pub mod Built
 pub mod Ends
+pub mod Kept
 pub mod Left
+pub mod Line
 pub mod Lines
 pub mod Modes
+pub mod Promise
 pub mod Readable
 pub mod Reading
 pub mod ReadsLaw

@@ -1,9 +1,8 @@
--- How commands that read are answered.
-use Rattle.std.specs.Prelude.{false}
+-- How commands are answered outside the safe mode.
+use Rattle.std.specs.Prelude.{Bool, false}
 use Rattle.fc_record.specs.declared.Kind.{Kind}
 use Rattle.fc_runs.specs.Run.{Mode}
-use Rattle.fc_volume.specs.Volume.{Volume}
 
--- over a volume whose image opened as this kind
-abbrev pub reading_mode : Kind → Volume → Mode
-reading_mode kind v = record { kind = kind; read_only = v.read_only; safe = false }
+-- over an image that opened as this kind
+abbrev pub plain_mode : Kind → Bool → Mode
+plain_mode kind read_only = record { kind = kind; read_only = read_only; safe = false }

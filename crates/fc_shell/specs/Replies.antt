@@ -1,5 +1,5 @@
--- What a run answers and writes, by words, script and image.
-use Rattle.std.specs.Prelude.{◌≡◌, ◌⊎◌, ◌≤◌, ℕ, ◌^◌, Bool, true, false, not, ◌||◌, nat_lt, List, [], length, map, replicate, if◌then◌else◌, Option, Some, None, is_some, Result, Ok, Err}
+-- What a run answers and writes by words, script and image, if the script only reads.
+use Rattle.std.specs.Prelude.{◌≡◌, ◌⊎◌, ◌≤◌, ℕ, ◌^◌, Bool, true, false, ◌||◌, nat_lt, List, [], length, map, replicate, if◌then◌else◌, Option, Some, None, is_some, Result, Ok, Err}
 use Rattle.std.specs.List.{list_any}
 use Rattle.std.specs.Option.{ForSome, option_map}
 use Rattle.fc_names.specs.declared.refusal.Refusal.{Refusal}
@@ -12,22 +12,24 @@ use Rattle.fc_format.specs.Fresh.{format_size, fresh_image}
 use Rattle.fc_script.specs.Lines.{command_of}
 use Rattle.fc_script.specs.Texts.{refusal_line}
 use Rattle.fc_runs.specs.Replies.{bad_image_line}
-use Rattle.fc_runs.specs.ReadLaw.{is_reading, reading_reply}
+use Rattle.fc_runs.specs.ReadLaw.{reading_reply}
 use Rattle.fc_runs.specs.Run.{Mode, commands_in, is_error, text_of}
 use Rattle.fc_words.specs.CommandLine.{Request, request_of}
 use Rattle.fc_words.specs.declared.Format.{Format as Word}
 use Rattle.fc_words.specs.declared.Format.TheVariants as words
 use Rattle.fc_shell.specs.declared.ending.End.{End}
 use Rattle.fc_shell.specs.declared.ending.End.TheVariants.{Done, Refused, BadWords, BadImage, DiskFault, ScriptFault, OutFault, NoMemory, ScriptTooLong, NotBuilt, NoImage}
+use Rattle.fc_shell.specs.Built.{has_unbuilt}
+use Rattle.fc_shell.specs.Modes.{plain_mode}
 use Rattle.fc_shell.specs.Writing.{Wrote, WrotePart}
 
--- how a run ends where no call of the outside fails and memory is found, and what it writes
-pub record Reply : Type 0 where
+-- how a run ends if no call of the outside fails and memory is found, and what it writes
+pub record Outcome : Type 0 where
   pub end : End
   pub text : List ℕ
 
 -- an end before anything is written
-abbrev pub silent : End → Reply
+abbrev pub silent : End → Outcome
 silent end = record { end = end; text = [] }
 
 -- ---- scripts
@@ -35,15 +37,6 @@ silent end = record { end = end; text = [] }
 -- the most bytes of a script
 abbrev pub script_limit : ℕ
 script_limit = 2 ^ 24
-
--- A command that isn't built yet: each that changes something.
-abbrev pub is_unbuilt_command : Result Command Refusal → Bool
-is_unbuilt_command (Ok c) = not (is_reading c)
-is_unbuilt_command (Err refusal) = false
-
--- A line of the script is such a command.
-abbrev pub has_unbuilt : List ℕ → Bool
-has_unbuilt script = list_any (λ line. is_unbuilt_command (command_of line)) (commands_in script)
 
 -- the reply to a line, by the command that it spells
 abbrev pub command_reply : Mode → State → Result Command Refusal → List ℕ
@@ -59,19 +52,19 @@ abbrev pub replies_of : Mode → State → List ℕ → List (List ℕ)
 replies_of mode s script = map (line_reply mode s) (commands_in script)
 
 -- the script's end was reached
-abbrev pub served : List (List ℕ) → Reply
+abbrev pub served : List (List ℕ) → Outcome
 served replies = record { end = if list_any is_error replies then Refused else Done; text = text_of replies }
 
 -- ---- images
 
 -- the fault, or the replies over what the image opens as
-abbrev pub opened_reply : Bool → List ℕ → List ℕ → Result Opened ImageFault → Reply
+abbrev pub opened_reply : Bool → List ℕ → List ℕ → Result Opened ImageFault → Outcome
 opened_reply read_only script image (Err fault) = record { end = BadImage fault; text = bad_image_line fault }
 opened_reply read_only script image (Ok v) =
-    served (replies_of (record { kind = v.kind; read_only = read_only; safe = false }) (record { image = image; view = v }) script)
+    served (replies_of (plain_mode v.kind read_only) (record { image = image; view = v }) script)
 
 -- the replies over an image
-abbrev pub image_reply : Bool → List ℕ → List ℕ → Reply
+abbrev pub image_reply : Bool → List ℕ → List ℕ → Outcome
 image_reply read_only script image = opened_reply read_only script image (open_image image)
 
 -- the format that a word names
@@ -93,7 +86,7 @@ image_for None image = image
 image_for (Some f) image = fresh_image (format_in f) (replicate (format_size (format_in f)) 0)
 
 -- the name is given, or not
-abbrev pub attached_reply : Bool → Request → List ℕ → List ℕ → Reply
+abbrev pub attached_reply : Bool → Request → List ℕ → List ℕ → Outcome
 attached_reply false r script image = silent NoImage
 attached_reply true r script image = image_reply r.read_only script (image_for r.new image)
 
@@ -108,26 +101,26 @@ abbrev pub AsksUnbuilt : Request → Option (List ℕ) → Type 0
 AsksUnbuilt r told = (is_unbuilt r ≡ true) ⊎ ForSome told (λ text. (length text ≤ script_limit) × (has_unbuilt text ≡ true))
 
 -- what the words ask for, over a script that was read
-abbrev pub script_reply : (List ℕ → Option ℕ → Bool) → Request → List ℕ → List ℕ → Reply
+abbrev pub script_reply : (List ℕ → Option ℕ → Bool) → Request → List ℕ → List ℕ → Outcome
 script_reply gives r script image =
     if nat_lt script_limit (length script) then silent ScriptTooLong
     else if has_unbuilt script then silent NotBuilt
     else attached_reply (gives r.image (blank_size r)) r script image
 
 -- a run of what the words ask for
-abbrev pub request_reply : (List ℕ → Option ℕ → Bool) → List ℕ → List ℕ → Option Request → Reply
+abbrev pub request_reply : (List ℕ → Option ℕ → Bool) → List ℕ → List ℕ → Option Request → Outcome
 request_reply gives script image None = silent BadWords
 request_reply gives script image (Some r) = if is_unbuilt r then silent NotBuilt else script_reply gives r script image
 
 -- a whole run: words, the names that the disk gives, script and image
-abbrev pub run_reply : List (List ℕ) → (List ℕ → Option ℕ → Bool) → List ℕ → List ℕ → Reply
+abbrev pub run_reply : List (List ℕ) → (List ℕ → Option ℕ → Bool) → List ℕ → List ℕ → Outcome
 run_reply words gives script image = request_reply gives script image (request_of words)
 
 -- ---- how a run ends
 
 -- The run ended so. Where a call of the outside failed or memory was short, a part of the reply was written; else the
 -- reply decides, and all of it was.
-abbrev pub EndsAs : Reply → End → Option (List ℕ) → Option (List ℕ) → Type 0
+abbrev pub EndsAs : Outcome → End → Option (List ℕ) → Option (List ℕ) → Type 0
 EndsAs reply DiskFault before after = WrotePart before after reply.text
 EndsAs reply ScriptFault before after = after ≡ before
 EndsAs reply OutFault before after = WrotePart before after reply.text

@@ -1,76 +1,48 @@
--- What serving a script over a volume answers, and how runs end by it.
-use Rattle.std.specs.Prelude.{◌≡◌, ◌⊎◌, ℕ, Bool, true, false, List, [], ◌∷◌, ◌++◌, map, if◌then◌else◌, Option, Result, Ok, Err}
+-- Serving the lines of a script over a volume.
+use Rattle.std.specs.Prelude.{◌≡◌, ℕ, Bool, true, false, List, ◌++◌, Option, Some, None, Result, Ok, Err}
 use Rattle.std.specs.List.{list_any}
-use Rattle.fc_device.specs.Asked.{Asked}
+use Rattle.fc_device.specs.declared.disk.Disk.{Ghosts}
+use Rattle.fc_record.specs.declared.Kind.{Kind}
+use Rattle.fc_image.specs.Stays.{OpensAs}
 use Rattle.fc_effects.specs.Effect.{State}
-use Rattle.fc_runs.specs.Run.{Mode, commands_in, is_error, text_of}
-use Rattle.fc_shell.specs.declared.ending.End.{End}
-use Rattle.fc_shell.specs.declared.ending.End.TheVariants.{Done, Refused, BadWords, BadImage, DiskFault, ScriptFault, OutFault, NoMemory, ScriptTooLong, NotBuilt, NoImage}
-use Rattle.fc_shell.specs.declared.answering.LineFault.{LineFault}
-use Rattle.fc_shell.specs.declared.answering.LineFault.TheVariants as lines
-use Rattle.fc_shell.specs.Replies.{Reply, attached_reply, blank_size, has_unbuilt, line_reply, silent}
-use Rattle.fc_shell.specs.Writing.{Wrote, WrotePart}
-use Rattle.fc_words.specs.CommandLine.{Request}
+use Rattle.fc_runs.specs.Promises.{Cause, HasRun, HasStopped}
+use Rattle.fc_runs.specs.Run.{Steps, all_keep_tree, commands_in, is_error, text_of}
+use Rattle.fc_runs.specs.Stops.{MayHaveLeft}
+use Rattle.fc_tree.specs.Parts.{ArePartsOf}
+use Rattle.fc_volume.specs.Volume.{Volume, parts_of}
+use Rattle.fc_shell.specs.declared.answer.LineFault.{LineFault}
+use Rattle.fc_shell.specs.declared.answer.LineFault.TheVariants as lines
+use Rattle.fc_shell.specs.Line.{LeavesTree}
+use Rattle.fc_shell.specs.Modes.{plain_mode}
+use Rattle.fc_shell.specs.Writing.{Wrote}
 
--- All replies were written, and the answer is whether one of them is an error line; or a part of them was.
-abbrev pub ServesAs : List (List ℕ) → Result Bool LineFault → Option (List ℕ) → Option (List ℕ) → Type 0
-ServesAs replies (Ok refused) before after = (refused ≡ list_any is_error replies) × Wrote before after (text_of replies)
-ServesAs replies (Err fault) before after = WrotePart before after (text_of replies)
-
--- The lines before those that are left were served.
-pub record HasServed (mode : Mode) (s : State) (script : List ℕ) (left : List (List ℕ)) (refused : Bool) (before after : Option (List ℕ)) : Type 0 where
+-- The lines before those that are left were done, by steps from s to a state that the disk has now.
+pub record AreDone {D : Type 0} (d : Ghosts D) (old now : D) (kind : Kind) (read_only : Bool) (s : State) (script : List ℕ) (left : List (List ℕ)) : Type 0 where
   pub done : List (List ℕ)
+  pub replies : List (List ℕ)
+  pub state : State
   pub cut : commands_in script ≡ done ++ left
-  pub refused_is : refused ≡ list_any is_error (map (line_reply mode s) done)
-  pub wrote : Wrote before after (text_of (map (line_reply mode s) done))
+  pub steps : Steps (MayHaveLeft d old now) (plain_mode kind read_only) s done replies state
+  pub holds : d.bytes now ≡ Some state.image
+  pub opens : OpensAs state.image kind state.view
+  pub kept : all_keep_tree done replies ≡ true → LeavesTree d old now kind s
 
--- how a run ends whose lines were served
-abbrev pub end_of : Result Bool LineFault → End
-end_of (Ok true) = Refused
-end_of (Ok false) = Done
-end_of (Err lines.Disk) = DiskFault
-end_of (Err lines.Out) = OutFault
-end_of (Err lines.NoMemory) = NoMemory
+-- Their replies were written, and the volume's parts are those of this state.
+pub record HasServed {D : Type 0} (d : Ghosts D) (old now : D) (kind : Kind) (read_only : Bool) (s : State) (script : List ℕ) (left : List (List ℕ)) (v : Volume) (refused : Bool) (before after : Option (List ℕ)) : Type 0 where
+  pub lines : AreDone d old now kind read_only s script left
+  pub refused_is : refused ≡ list_any is_error lines.replies
+  pub wrote : Wrote before after (text_of lines.replies)
+  pub parts : ArePartsOf (parts_of v) lines.state.view
 
--- a run ends so only when an image is attached
-abbrev pub is_late : End → Bool
-is_late BadWords = false
-is_late ScriptFault = false
-is_late ScriptTooLong = false
-is_late NotBuilt = false
-is_late NoImage = false
-is_late end = true
+-- the cause for which a run ends early in a line
+abbrev pub cause_of : LineFault → Cause
+cause_of lines.Disk = Cause.Disk
+cause_of lines.Out = Cause.Out
+cause_of lines.NoMemory = Cause.Memory
 
--- a run ends so only over an image that was taken or made
-abbrev pub is_over_image : End → Bool
-is_over_image Done = true
-is_over_image Refused = true
-is_over_image (BadImage fault) = true
-is_over_image OutFault = true
-is_over_image end = false
-
--- Where the disk gives the name, the run doesn't end without an image; where it doesn't, the run doesn't end over one.
-abbrev pub FitsGiven : Bool → End → Type 0
-FitsGiven given end = (end ≡ NoImage → given ≡ false) × (is_over_image end ≡ true → given ≡ true)
-
--- What was asked of the disk, by how the run ends: nothing; or this image, and once; and where memory was short, either.
-abbrev pub AsksFor : Asked → End → List Asked → List Asked → Type 0
-AsksFor image BadWords old new = new ≡ old
-AsksFor image ScriptFault old new = new ≡ old
-AsksFor image ScriptTooLong old new = new ≡ old
-AsksFor image NotBuilt old new = new ≡ old
-AsksFor image NoMemory old new = (new ≡ old) ⊎ (new ≡ old ++ image ∷ [])
-AsksFor image end old new = new ≡ old ++ image ∷ []
-
--- a run may end so before an image is asked for
-abbrev pub is_early : End → Bool
-is_early BadWords = true
-is_early ScriptFault = true
-is_early NoMemory = true
-is_early ScriptTooLong = true
-is_early NotBuilt = true
-is_early end = false
-
--- what the words ask for, over a script that isn't too long
-abbrev pub read_reply : (List ℕ → Option ℕ → Bool) → Request → List ℕ → List ℕ → Reply
-read_reply gives r script image = if has_unbuilt script then silent NotBuilt else attached_reply (gives r.image (blank_size r)) r script image
+-- All lines were done; or some were, and then a call failed or memory was short.
+abbrev pub ServesAs : {D : Type 0} → Ghosts D → D → D → Kind → Bool → State → List ℕ → Option (List ℕ) → Option (List ℕ) → Result Bool LineFault → Type 0
+ServesAs d old new kind read_only s script before after (Ok refused) =
+    (text : List ℕ) × Wrote before after text × HasRun d old new (plain_mode kind read_only) false None s script text refused
+ServesAs d old new kind read_only s script before after (Err fault) =
+    (text : List ℕ) × Wrote before after text × HasStopped d old new (plain_mode kind read_only) false None s script text (cause_of fault)

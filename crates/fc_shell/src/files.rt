@@ -12,7 +12,7 @@ ghost use Rattle.fc_shell.specs.Answered.{Told};
 ghost use Rattle.fc_shell.specs.Readable.{HasSectors, IsReadable};
 ghost use Rattle.fc_shell.specs.Writing.{Wrote, WrotePart};
 
-use crate::answering::LineFault;
+use crate::answer::LineFault;
 use crate::digits::put_digits;
 use crate::sink::write_all;
 use fc_device::{Disk, DiskFault, Extent, Failed, Sink};

@@ -4,37 +4,47 @@
 //! `End::NotBuilt`.
 #![tactic(auto)]
 
-mod answering;
+mod answer;
+mod built;
+mod cat;
+mod check;
+mod digest;
 mod digits;
 mod ending;
 mod files;
-mod judging;
+mod free;
+mod image;
 mod lines;
-mod replies;
-mod running;
+mod load;
+mod reply;
 mod script;
+mod session;
 mod sink;
 mod texts;
 
-ghost use Rattle.std.specs.Prelude.{◌≡◌, ◌≢◌, ◌⊎◌, ◌<◌, ◌++◌, [], ◌∷◌, length, map, true, false, None, Some, IsFalse, option_map, string_bytes};
+ghost use Rattle.std.specs.Prelude.{◌≡◌, ◌≢◌, ◌⊎◌, ◌<◌, ◌++◌, [], ◌∷◌, List, ℕ, length, map, true, false, None, Some, IsFalse, option_map, string_bytes};
 ghost use Rattle.std.specs.Option.{ForSome};
+ghost use Rattle.fc_device.specs.Calls.{Untouched};
 ghost use Rattle.fc_device.specs.Faults.{Rose};
-ghost use Rattle.fc_device.specs.Form.{IsUntouched};
 ghost use Rattle.fc_words.specs.CommandLine.{Request, request_of};
 ghost use Rattle.fc_words.specs.Request.{request_in};
+ghost use Rattle.fc_shell.specs.Built.{has_unbuilt, only_reads};
+ghost use Rattle.fc_shell.specs.Ends.{AsksFor, FitsGiven, is_early, is_late, is_over_image};
+ghost use Rattle.fc_shell.specs.Kept.{HasImage, LeavesDisk, RunKeeps};
+ghost use Rattle.fc_shell.specs.Promise.{EndsByScript, EndsByWords, Promise};
 ghost use Rattle.fc_shell.specs.Reading.{IsUnwritten};
 ghost use Rattle.fc_shell.specs.ReadsLaw.{ReadsLaw};
-ghost use Rattle.fc_shell.specs.Replies.{AsksUnbuilt, EndsAs, blank_size, has_unbuilt, image_for, is_unbuilt, request_reply, run_reply, script_limit};
+ghost use Rattle.fc_shell.specs.Replies.{AsksUnbuilt, EndsAs, blank_size, is_unbuilt, run_reply, script_limit};
 ghost use Rattle.fc_shell.specs.Script.{behind_limit};
-ghost use Rattle.fc_shell.specs.Serving.{AsksFor, FitsGiven, is_early, is_late, is_over_image, read_reply};
+ghost use Rattle.fc_shell.specs.Writing.{Wrote};
 
+use built::has_unbuilt;
 pub use ending::End;
 use fc_device::{Disk, NoMemory, Sink, Source};
 pub use fc_image::ImageFault;
 use fc_words::{Words, WordsError, read_words};
-use judging::has_unbuilt;
-use running::answer_script;
 use script::{ScriptError, read_script};
+use session::answer_script;
 use std::alloc::Global;
 
 // Runs a script that was read.
@@ -45,25 +55,16 @@ fn run_script<D: Disk, K: Sink>(
     disk: &mut D,
     out: &mut K,
 ) -> End
-    ensures ends { ForSome (D.gives disk.old) (λ gives. ForSome (D.bytes disk.old) (λ image.
-        EndsAs (read_reply gives (request_in asked.now) script.now image) result (K.taken out.old) (K.taken out.new))) }
+    ensures promise { let r = request_in asked.now in ForSome (D.gives disk.old) (λ gives. ForSome (D.bytes disk.old) (λ image.
+        (text : List ℕ) × Wrote (K.taken out.old) (K.taken out.new) text
+        × EndsByScript D.Disk disk.old disk.new gives r image script.now text (has_unbuilt script.now) result)) }
+    ensures keeps { RunKeeps D.Disk K.Sink (request_in asked.now) (Unit {0}) disk.old disk.new out.old out.new result }
     ensures unattached { has_unbuilt script.now ≡ true → (is_early result ≡ true) × (disk.new ≡ disk.old) × (out.new ≡ out.old) }
-    ensures not_built { result ≡ End.NotBuilt → (disk.new ≡ disk.old) × (has_unbuilt script.now ≡ true) }
-    ensures disk_fault { result ≡ End.DiskFault → Rose (D.faults disk.old) (D.faults disk.new) }
-    ensures out_fault { result ≡ End.OutFault → Rose (K.faults out.old) (K.faults out.new) }
-    ensures no_image { result ≡ End.NoImage → IsUntouched D.attached D.pending D.tells_stops D.gives D.bytes D.sectors D.sector_size D.image_length D.moment D.faults disk.old disk.new
-        × IsUnwritten D.Disk disk.old disk.new }
-    ensures given { ForSome (D.gives disk.old) (λ gives. let r = request_in asked.now in FitsGiven (gives r.image (blank_size r)) result) }
-    ensures silent { (result ≡ End.NotBuilt) ⊎ (result ≡ End.NoImage) → out.new ≡ out.old }
-    ensures unwritten { asked.now.new ≡ None → IsUnwritten D.Disk disk.old disk.new }
-    ensures made { is_over_image result ≡ true → D.bytes disk.new ≡ option_map (image_for asked.now.new) (D.bytes disk.old) }
-    ensures settled { is_over_image result ≡ true → IsFalse (D.pending disk.new) }
-    ensures no_memory { let r = request_in asked.now in result ≡ End.NoMemory
-        → (disk.new ≡ disk.old) ⊎ ((D.asked disk.new ≡ D.asked disk.old ++ (r.image, blank_size r) ∷ [])
-        × (D.bytes disk.new ≡ option_map (image_for asked.now.new) (D.bytes disk.old)) × IsFalse (D.pending disk.new)) }
-    ensures asks { let r = request_in asked.now in AsksFor (r.image, blank_size r) result (D.asked disk.old) (D.asked disk.new) }
+    ensures not_built { result ≡ End.NotBuilt → (disk.new ≡ disk.old) × (out.new ≡ out.old) × (has_unbuilt script.now ≡ true) }
     ensures ended { (is_late result ≡ true) ⊎ ((result ≡ End.NoImage) ⊎ (result ≡ End.NotBuilt)) }
 {
+    // A law, for the proof alone: an image that is accepted opens as its own kind.
+    fc_image::accepted();
     match has_unbuilt(alloc, script) {
         Err(NoMemory) => End::NoMemory,
         Ok(true) => End::NotBuilt,
@@ -79,31 +80,22 @@ fn run_request<D: Disk, S: Source, K: Sink>(
     script: &mut S,
     out: &mut K,
 ) -> End
-    ensures ends { ForSome (D.gives disk.old) (λ gives. ForSome (S.left script.old) (λ text. ForSome (D.bytes disk.old) (λ image.
-        EndsAs (request_reply gives text image (Some (request_in asked.now))) result (K.taken out.old) (K.taken out.new)))) }
+    ensures promise { let r = request_in asked.now in ForSome (D.gives disk.old) (λ gives. ForSome (S.left script.old) (λ lines. ForSome (D.bytes disk.old) (λ image.
+        (text : List ℕ) × Wrote (K.taken out.old) (K.taken out.new) text
+        × EndsByWords D.Disk disk.old disk.new gives r image lines text (is_unbuilt r) result))) }
+    ensures keeps { RunKeeps D.Disk K.Sink (request_in asked.now) (Unit {0}) disk.old disk.new out.old out.new result }
     ensures unbuilt { is_unbuilt (request_in asked.now) ≡ true → (result ≡ End.NotBuilt) × (script.new ≡ script.old) × (disk.new ≡ disk.old) × (out.new ≡ out.old) }
     ensures unattached { ForSome (S.left script.old) (λ text. (script_limit < length text) ⊎ (has_unbuilt text ≡ true)
         → (is_early result ≡ true) × (disk.new ≡ disk.old) × (out.new ≡ out.old)) }
-    ensures too_long { result ≡ End.ScriptTooLong → (disk.new ≡ disk.old) × ForSome (S.left script.old) (λ text. script_limit < length text)
+    ensures too_long { result ≡ End.ScriptTooLong → (disk.new ≡ disk.old) × (out.new ≡ out.old) × ForSome (S.left script.old) (λ text. script_limit < length text)
         × (S.left script.new ≡ behind_limit (S.left script.old)) }
-    ensures not_built { result ≡ End.NotBuilt → (disk.new ≡ disk.old) × AsksUnbuilt (request_in asked.now) (S.left script.old) }
-    ensures script_fault { result ≡ End.ScriptFault → Rose (S.faults script.old) (S.faults script.new) × (disk.new ≡ disk.old) }
-    ensures disk_fault { result ≡ End.DiskFault → Rose (D.faults disk.old) (D.faults disk.new) }
-    ensures out_fault { result ≡ End.OutFault → Rose (K.faults out.old) (K.faults out.new) }
-    ensures no_image { result ≡ End.NoImage → IsUntouched D.attached D.pending D.tells_stops D.gives D.bytes D.sectors D.sector_size D.image_length D.moment D.faults disk.old disk.new
-        × IsUnwritten D.Disk disk.old disk.new }
-    ensures given { ForSome (D.gives disk.old) (λ gives. let r = request_in asked.now in FitsGiven (gives r.image (blank_size r)) result) }
-    ensures silent { (result ≡ End.NotBuilt) ⊎ ((result ≡ End.NoImage) ⊎ ((result ≡ End.ScriptFault) ⊎ (result ≡ End.ScriptTooLong))) → out.new ≡ out.old }
-    ensures unwritten { asked.now.new ≡ None → IsUnwritten D.Disk disk.old disk.new }
-    ensures made { is_over_image result ≡ true → D.bytes disk.new ≡ option_map (image_for asked.now.new) (D.bytes disk.old) }
-    ensures settled { is_over_image result ≡ true → IsFalse (D.pending disk.new) }
-    ensures no_memory { let r = request_in asked.now in result ≡ End.NoMemory
-        → (disk.new ≡ disk.old) ⊎ ((D.asked disk.new ≡ D.asked disk.old ++ (r.image, blank_size r) ∷ [])
-        × (D.bytes disk.new ≡ option_map (image_for asked.now.new) (D.bytes disk.old)) × IsFalse (D.pending disk.new)) }
-    ensures asks { let r = request_in asked.now in AsksFor (r.image, blank_size r) result (D.asked disk.old) (D.asked disk.new) }
+    ensures not_built { result ≡ End.NotBuilt → (disk.new ≡ disk.old) × (out.new ≡ out.old) × AsksUnbuilt (request_in asked.now) (S.left script.old) }
+    ensures script_fault { result ≡ End.ScriptFault → Rose (S.faults script.old) (S.faults script.new) × (disk.new ≡ disk.old) × (out.new ≡ out.old) }
     ensures script_end { is_early result ≡ false → ForSome (S.left script.new) (λ rest. rest ≡ []) }
     ensures good_words { result ≢ End.BadWords }
 {
+    // A law, for the proof alone: an image that is accepted opens as its own kind.
+    fc_image::accepted();
     if asked.demo.is_some() || asked.safe {
         return End::NotBuilt;
     }
@@ -131,7 +123,14 @@ pub fn run<D: Disk, S: Source, K: Sink>(
     script: &mut S,
     out: &mut K,
 ) -> End
-    // Where all is told: the end and the text are those of words, script and image, or a call failed, or memory was short.
+    // If all contents are known: what was written and what the disk has then, for each end (specs/Promise). At Done and Refused
+    // the lines are steps from the image as it opened, or from the fresh one, to the one that the disk has; their replies were
+    // written; and a crash at any moment leaves what `Stops` says.
+    ensures promise { ForSome (D.gives disk.old) (λ gives. ForSome (S.left script.old) (λ lines. ForSome (D.bytes disk.old) (λ image.
+        (text : List ℕ) × Wrote (K.taken out.old) (K.taken out.new) text
+        × Promise D.Disk disk.old disk.new gives image lines text (request_of (map string_bytes words.now.items)) result))) }
+
+    // If the script only reads, end and text are even those of words, script and image, unless a call failed or memory was short.
     ensures reply { ForSome (D.gives disk.old) (λ gives. ForSome (S.left script.old) (λ text. ForSome (D.bytes disk.old) (λ image.
         EndsAs (run_reply (map string_bytes words.now.items) gives text image) result (K.taken out.old) (K.taken out.new)))) }
 
@@ -161,7 +160,7 @@ pub fn run<D: Disk, S: Source, K: Sink>(
     ensures out_fault { result ≡ End.OutFault → Rose (K.faults out.old) (K.faults out.new) }
 
     // Where the disk doesn't give the name, nothing has changed, and no stop shows anything else than before.
-    ensures no_image { result ≡ End.NoImage → IsUntouched D.attached D.pending D.tells_stops D.gives D.bytes D.sectors D.sector_size D.image_length D.moment D.faults disk.old disk.new
+    ensures no_image { result ≡ End.NoImage → Untouched D.Disk disk.old disk.new
         × IsUnwritten D.Disk disk.old disk.new }
     ensures given { (r : Request) → request_of (map string_bytes words.now.items) ≡ Some r → ForSome (D.gives disk.old) (λ gives. FitsGiven (gives r.image (blank_size r)) result) }
     ensures silent { (result ≡ End.NotBuilt) ⊎ ((result ≡ End.NoImage) ⊎ ((result ≡ End.ScriptFault) ⊎ (result ≡ End.ScriptTooLong))) → out.new ≡ out.old }
@@ -170,13 +169,14 @@ pub fn run<D: Disk, S: Source, K: Sink>(
     // fresh one is asked for, the disk has it wherever the run ends over it.
     ensures unwritten { (r : Request) → request_of (map string_bytes words.now.items) ≡ Some r → r.new ≡ None → IsUnwritten D.Disk disk.old disk.new }
     ensures made { (r : Request) → request_of (map string_bytes words.now.items) ≡ Some r → is_over_image result ≡ true
-        → D.bytes disk.new ≡ option_map (image_for r.new) (D.bytes disk.old) }
+        → HasImage D.Disk r disk.old disk.new }
     ensures settled { is_over_image result ≡ true → IsFalse (D.pending disk.new) }
     ensures no_memory { (r : Request) → request_of (map string_bytes words.now.items) ≡ Some r → result ≡ End.NoMemory
-        → (disk.new ≡ disk.old) ⊎ ((D.asked disk.new ≡ D.asked disk.old ++ (r.image, blank_size r) ∷ [])
-        × (D.bytes disk.new ≡ option_map (image_for r.new) (D.bytes disk.old)) × IsFalse (D.pending disk.new)) }
+        → LeavesDisk D.Disk r (Unit {0}) disk.old disk.new }
     ensures script_end { is_early result ≡ false → ForSome (S.left script.new) (λ rest. rest ≡ []) }
 {
+    // A law, for the proof alone: an image that is accepted opens as its own kind.
+    fc_image::accepted();
     match read_words(alloc, words) {
         Err(WordsError::BadWords) => End::BadWords,
         Err(WordsError::NoMemory) => End::NoMemory,

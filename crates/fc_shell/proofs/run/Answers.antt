@@ -1,9 +1,34 @@
-use Rattle.std.proofs.Common.{sym, subst}
-use Rattle.fc_shell.specs.Replies.{EndsAs, request_reply}
+use Rattle.std.proofs.Common.{[], Err, inl, refl, ap, map, sym, subst}
+use Rattle.std.specs.Prelude.{string_bytes}
+use Rattle.fc_device.proofs.DiskLaws.{laws}
+use Rattle.fc_words.specs.CommandLine.{request_of}
+use Rattle.fc_shell.specs.declared.ending.End.{End}
+use Rattle.fc_shell.specs.Promise.{Promise}
+use Rattle.fc_shell.proofs.KeptLemmas.{memory_promise}
+use Rattle.fc_shell.proofs.OutcomeLemmas.{promise_as}
+use Rattle.fc_shell.proofs.PromiseLemmas.{none}
+use Rattle.fc_shell.proofs.WritingLemmas.{wrote_nothing}
 use Rattle.fc_shell.proofs.run.Goals as goal
+
+pub returns-in-Err-BadWords-clause-promise : goal.returns-in-Err-BadWords-clause-promise
+returns-in-Err-BadWords-clause-promise g c gives given text left image told = (
+  [],
+  wrote_nothing (g.K.Sink.taken c.args.out.now),
+  subst (λ o. Promise g.D.Disk c.args.disk.now c.args.disk.now gives image text [] o End.BadWords)
+      (sym (c.in-Err-BadWords.ensures.bad (ap Err c.in-Err-BadWords.field-0-is))) (inl refl, none (laws g.met.D.Disk) c.args.disk.now),
+)
+
+pub returns-in-Err-NoMemory-clause-promise : goal.returns-in-Err-NoMemory-clause-promise
+returns-in-Err-NoMemory-clause-promise g c gives given text left image told =
+    ([], wrote_nothing (g.K.Sink.taken c.args.out.now), memory_promise (laws g.met.D.Disk) c.accepted.ensures c.args.disk.now gives image text told (request_of (map string_bytes c.args.words.now.items)))
+
+pub returns-in-Ok-clause-promise : goal.returns-in-Ok-clause-promise
+returns-in-Ok-clause-promise g c gives given text left image told =
+    let promise = c.run_request.ensures.promise gives given text left image told in
+    (promise.0, promise.1, subst (λ o. Promise g.D.Disk c.args.disk.now c.run_request.new.disk gives image text promise.0 o c.run_request.result) (sym c.in-Ok.ensures.ok) promise.2)
 
 pub returns-in-Ok-clause-reply : goal.returns-in-Ok-clause-reply
 returns-in-Ok-clause-reply g c gives given text left image told =
-    let taken = g.K.Sink.taken in
-    subst (λ r. EndsAs (request_reply gives text image r) c.run_request.result (taken c.args.out.now) (taken c.run_request.new.out)) (sym c.in-Ok.ensures.ok)
-    (c.run_request.ensures.ends gives given text left image told)
+    let promise = returns-in-Ok-clause-promise g c gives given text left image told in
+    promise_as g.D.Disk c.args.disk.now c.run_request.new.disk (g.K.Sink.taken c.args.out.now) (g.K.Sink.taken c.run_request.new.out) promise.0 promise.1 gives image text
+    (request_of (map string_bytes c.args.words.now.items)) c.run_request.result promise.2

@@ -1,0 +1,317 @@
+-- What a run promises, from what its parts do.
+use Rattle.std.proofs.Common.{◌≡◌, ◌≤◌, take, ◌⊎◌, inl, inr, ⊎_elim, ℕ, Bool, true, false, List, [], Option, Some, None, Result, Ok, Err, refl, sym, ap, subst, ◌∙◌, arith}
+use Rattle.std.specs.Prelude.{is_some}
+use Rattle.fc_device.specs.declared.disk.Disk.{Ghosts}
+use Rattle.fc_device.specs.declared.streams.Sink.{Ghosts as Sinks}
+use Rattle.fc_device.specs.Faults.{Rose}
+use Rattle.fc_device.specs.Stops.{LeavesOnly}
+use Rattle.fc_device.proofs.DiskLaws.{Laws}
+use Rattle.fc_device.proofs.StopLemmas.{goes_on_same, started, weaker}
+use Rattle.fc_image.specs.declared.ImageFault.{ImageFault}
+use Rattle.fc_image.specs.Opening.{Opened, open_image}
+use Rattle.fc_image.specs.Stays.{OpensAs}
+use Rattle.fc_record.specs.declared.Kind.{Kind}
+use Rattle.fc_effects.specs.Effect.{State}
+use Rattle.fc_runs.specs.Promises.{Cause, HasNoRun, HasRun, HasStopped, spares_disk}
+use Rattle.fc_runs.specs.Run.{Mode}
+use Rattle.fc_runs.specs.Stops.{MayHaveLeft, Stops}
+use Rattle.fc_words.specs.CommandLine.{Request}
+use Rattle.fc_shell.specs.declared.ending.End.{End}
+use Rattle.fc_shell.specs.declared.ending.End.TheVariants.{Done, Refused, BadWords, BadImage, DiskFault, ScriptFault, OutFault, NoMemory, ScriptTooLong, NotBuilt, NoImage}
+use Rattle.fc_shell.specs.declared.answer.LineFault.{LineFault}
+use Rattle.fc_shell.specs.declared.answer.LineFault.TheVariants as lines
+use Rattle.fc_words.specs.declared.Format.{Format as Word}
+use Rattle.fc_shell.specs.Built.{has_unbuilt}
+use Rattle.fc_shell.specs.Ends.{end_of, is_late}
+use Rattle.fc_shell.specs.Modes.{plain_mode}
+use Rattle.fc_shell.specs.Promise.{EndsByGiving, EndsByLength, EndsByOpening, EndsByScript, EndsOnFault, EndsOver}
+use Rattle.fc_shell.specs.Reading.{IsUnwritten}
+use Rattle.fc_shell.specs.Replies.{blank_size, image_for}
+use Rattle.fc_shell.specs.Serving.{ServesAs}
+use Rattle.fc_shell.specs.Kept.{SessionKeeps}
+use Rattle.fc_shell.specs.Writing.{Wrote, WrotePart}
+use Rattle.fc_runs.specs.Replies.{bad_image_line}
+use Rattle.fc_volume.specs.Volume.{OnlyShapes}
+use Rattle.fc_shell.proofs.WritingLemmas.{wrote_nothing}
+use Rattle.fc_shell.proofs.StepLemmas.{has_tree}
+use Rattle.fc_shell.proofs.ServingLemmas.{steps_weaker}
+
+-- an image that is accepted opens as its own kind
+abbrev pub Accepts : Type 0
+Accepts = (image : List ℕ) (v : Opened) → open_image image ≡ Ok v → OpensAs image v.kind v
+
+pub no_fresh : false ≡ true → ⊥
+no_fresh e = cc
+
+-- ---- from an earlier moment on
+
+module _ {D : Type 0} {d : Ghosts D} (law : Laws d) (old mid new : D) (first : LeavesOnly d.moment d.left_since old mid (λ image. Unit {0}))
+    (second : LeavesOnly d.moment d.left_since mid new (λ image. Unit {0})) (tells : d.tells_stops mid ≡ d.tells_stops old) (quiet : d.pending mid ≡ false) where
+  may_from : (image : List ℕ) → MayHaveLeft d mid new image → MayHaveLeft d old new image
+  may_from image may told = law.earlier new (d.moment old) (d.moment mid) image first.later (may (tells ∙ told))
+
+  -- nothing was written
+  none_from : (line text : List ℕ) → IsUnwritten d old mid → HasNoRun d mid new line text → HasNoRun d old new line text
+  none_from line text same none = record { told = none.told; bytes = none.bytes ∙ same.bytes_stay; stops = goes_on_same law same.stops none.stops }
+
+  module _ (kind : Kind) (read_only fresh : Bool) (s : State) (script text : List ℕ) (told : d.bytes mid ≡ Some s.image) (opens : OpensAs s.image kind s.view)
+      (same : fresh ≡ false → IsUnwritten d old mid) where
+    abbrev mode : Mode
+    mode = plain_mode kind read_only
+
+    stops_from : (end : State) (lines replies : List (List ℕ)) → d.pending old ≡ false → Stops d mid new mode false None s end lines replies text → Stops d old new mode fresh None s end lines replies text
+    stops_from end lines replies was_quiet stops = record {
+      idle = λ new_map there demo keep image left.
+          let unwritten = same there in
+          ⊎_elim
+          (λ was.
+          let is : image ≡ s.image = law.settled old was_quiet s.image (sym unwritten.bytes_stay ∙ told) image (unwritten.stops.since image was) in
+          let tree = has_tree kind s image opens is in
+          record { view = tree.view; opens = tree.opens; tree = tree.tree })
+          (λ since. stops.idle new_map refl demo keep image since)
+          (second.before (d.moment old) image first.later left);
+      last = stops.last;
+      during = λ safe there image left. absurd (no_fresh safe);
+      exit = λ safe image left. absurd (no_fresh safe);
+    }
+
+    run_from : (refused : Bool) → HasRun d mid new mode false None s script text refused → HasRun d old new mode fresh None s script text refused
+    run_from refused has = record {
+      end = has.end;
+      run = record {
+        start = may_from s.image has.run.start;
+        replies = has.run.replies;
+        steps = steps_weaker (MayHaveLeft d mid new) (MayHaveLeft d old new) may_from mode s has.end _ has.run.replies has.run.steps;
+        told = has.run.told;
+      };
+      refused_is = has.refused_is;
+      holds = has.holds;
+      settled = has.settled;
+      stops = λ was_quiet. stops_from has.end _ has.run.replies was_quiet (has.stops quiet);
+    }
+
+    stopped_from : (cause : Cause) → HasStopped d mid new mode false None s script text cause → HasStopped d old new mode fresh None s script text cause
+    stopped_from cause has = record {
+      end = has.end;
+      ended = record {
+        start = may_from s.image has.ended.start;
+        replies = has.ended.replies;
+        steps = steps_weaker (MayHaveLeft d mid new) (MayHaveLeft d old new) may_from mode s has.end _ has.ended.replies has.ended.steps;
+        told = has.ended.told;
+      };
+      whole = has.whole;
+      holds = has.holds;
+      settled = λ spares. ⊎_elim (λ done. inl done) (λ is. inl (subst (λ (x : D). d.pending x ≡ false) (sym is) quiet)) (has.settled spares);
+      stops = λ was_quiet. stops_from has.end _ has.ended.replies was_quiet (has.stops quiet);
+    }
+
+    over_from : (end : End) → is_late end ≡ true → EndsOver d mid new mode false s script text end → EndsOver d old new mode fresh s script text end
+    over_from Done late x = run_from false x
+    over_from Refused late x = run_from true x
+    over_from DiskFault late (inl x) = inl (stopped_from Cause.Disk x)
+    over_from DiskFault late (inr x) = absurd (no_fresh x.0)
+    over_from OutFault late (inl x) = inl (stopped_from Cause.Out x)
+    over_from OutFault late (inr x) = absurd x
+    over_from NoMemory late (inl x) = inl (stopped_from Cause.Memory x)
+    over_from NoMemory late (inr x) = absurd (no_fresh x.0)
+    over_from ScriptFault late x = absurd (no_fresh late)
+    over_from BadWords late x = absurd x
+    over_from (BadImage fault) late x = absurd x
+    over_from ScriptTooLong late x = absurd x
+    over_from NotBuilt late x = absurd x
+    over_from NoImage late x = absurd x
+
+  fault_from : (fault : ImageFault) (text : List ℕ) (end : End) → IsUnwritten d old mid → EndsOnFault d mid new fault text end → EndsOnFault d old new fault text end
+  fault_from fault text (BadImage found) same x = (x.0, none_from _ text same x.1)
+  fault_from fault text ScriptFault same x = none_from [] text same x
+  fault_from fault text DiskFault same x = none_from [] text same x
+  fault_from fault text NoMemory same x = none_from [] text same x
+  fault_from fault text OutFault same x = (x.0, none_from _ text same x.1)
+  fault_from fault text Done same x = absurd x
+  fault_from fault text Refused same x = absurd x
+  fault_from fault text BadWords same x = absurd x
+  fault_from fault text ScriptTooLong same x = absurd x
+  fault_from fault text NotBuilt same x = absurd x
+  fault_from fault text NoImage same x = absurd x
+
+  pub ends_from : Accepts → (read_only fresh : Bool) (image script text : List ℕ) (end : End) → d.bytes mid ≡ Some image → (fresh ≡ false → IsUnwritten d old mid)
+      → (fresh ≡ true → (v : Opened) × (open_image image ≡ Ok v)) → is_late end ≡ true
+      → EndsByOpening d mid new read_only false image script text (open_image image) end → EndsByOpening d old new read_only fresh image script text (open_image image) end
+  ends_from accepts read_only fresh image script text end told same opened late x = by (open_image image) refl x
+    where
+      bad : (fault : ImageFault) (is_fresh : Bool) → fresh ≡ is_fresh → open_image image ≡ Err fault → EndsOnFault d mid new fault text end → EndsOnFault d old new fault text end
+      bad fault false is e x = fault_from fault text end (same is) x
+      bad fault true is e x = absurd (let there = opened is in cc)
+
+      by : (o : Result Opened ImageFault) → open_image image ≡ o → EndsByOpening d mid new read_only false image script text o end → EndsByOpening d old new read_only fresh image script text o end
+      by (Err fault) e x = bad fault fresh refl e x
+      by (Ok v) e x = over_from v.kind read_only fresh (record { image = image; view = v }) script text told (accepts image v e) same end late x
+
+-- ---- runs that began no line
+
+pub no_run : {D : Type 0} (d : Ghosts D) (old new : D) (line : List ℕ) → IsUnwritten d old new → HasNoRun d old new line line
+no_run d old new line same = record { told = refl; bytes = same.bytes_stay; stops = same.stops }
+
+module _ {D : Type 0} {d : Ghosts D} (law : Laws d) (old new : D) where
+  not_begun : (kind : Kind) (read_only : Bool) (s : State) (script : List ℕ) (cause : Cause) → d.bytes old ≡ Some s.image → OpensAs s.image kind s.view → IsUnwritten d old new
+      → (spares_disk cause ≡ true → (d.pending new ≡ false) ⊎ (new ≡ old)) → HasStopped d old new (plain_mode kind read_only) false None s script [] cause
+  not_begun kind read_only s script cause told opens same settled = record {
+    end = s;
+    ended = record {
+      start = λ tells. same.stops.keeps (d.moment old) s.image (omega arith) (law.leaves_what_is_read old tells s.image told);
+      replies = [];
+      steps = refl;
+      told = (0, refl);
+    };
+    whole = λ demo disk. refl;
+    holds = λ spares. same.bytes_stay ∙ told;
+    settled = settled;
+    stops = λ quiet. record {
+      idle = λ new_map there demo keep image left.
+          let tree = has_tree kind s image opens (law.settled old quiet s.image told image (same.stops.since image left)) in
+          record { view = tree.view; opens = tree.opens; tree = tree.tree };
+      last = λ new_map keep image left. has_tree kind s image opens
+          (law.settled old quiet s.image told image (same.stops.since image (law.earlier new (d.moment old) (d.moment new) image same.stops.later left)));
+      during = λ safe there image left. absurd (no_fresh safe);
+      exit = λ safe image left. absurd (no_fresh safe);
+    };
+  }
+
+  -- An I/O error of the disk came before the first line,
+  pub begun_fault : Accepts → (read_only : Bool) (image script : List ℕ) → d.bytes old ≡ Some image → IsUnwritten d old new
+      → EndsByOpening d old new read_only false image script [] (open_image image) DiskFault
+  begun_fault accepts read_only image script told same = by (open_image image) refl
+    where
+      spares : spares_disk Cause.Disk ≡ true → (d.pending new ≡ false) ⊎ (new ≡ old)
+      spares e = absurd (no_fresh e)
+
+      by : (o : Result Opened ImageFault) → open_image image ≡ o → EndsByOpening d old new read_only false image script [] o DiskFault
+      by (Err fault) e = no_run d old new [] same
+      by (Ok v) e = inl (not_begun v.kind read_only (record { image = image; view = v }) script Cause.Disk told (accepts image v e) same spares)
+
+  -- or out of memory did.
+  pub begun_memory : Accepts → (read_only : Bool) (image script : List ℕ) → d.bytes old ≡ Some image → IsUnwritten d old new → (d.pending new ≡ false) ⊎ (new ≡ old)
+      → EndsByOpening d old new read_only false image script [] (open_image image) NoMemory
+  begun_memory accepts read_only image script told same settled = by (open_image image) refl
+    where
+      by : (o : Result Opened ImageFault) → open_image image ≡ o → EndsByOpening d old new read_only false image script [] o NoMemory
+      by (Err fault) e = no_run d old new [] same
+      by (Ok v) e = inl (not_begun v.kind read_only (record { image = image; view = v }) script Cause.Memory told (accepts image v e) same (λ spares. settled))
+
+-- lines that were served
+pub served_ends : {D : Type 0} (d : Ghosts D) (old new : D) (kind : Kind) (read_only : Bool) (s : State) (script : List ℕ) (before after : Option (List ℕ)) (result : Result Bool LineFault)
+    → ServesAs d old new kind read_only s script before after result
+    → (text : List ℕ) × Wrote before after text × EndsOver d old new (plain_mode kind read_only) false s script text (end_of result)
+served_ends d old new kind read_only s script before after (Ok true) x = x
+served_ends d old new kind read_only s script before after (Ok false) x = x
+served_ends d old new kind read_only s script before after (Err lines.Disk) x = (x.0, x.1, inl x.2)
+served_ends d old new kind read_only s script before after (Err lines.Out) x = (x.0, x.1, inl x.2)
+served_ends d old new kind read_only s script before after (Err lines.NoMemory) x = (x.0, x.1, inl x.2)
+
+-- ---- the disk as it was
+
+module _ {D : Type 0} {d : Ghosts D} (law : Laws d) (disk : D) where
+  pub same_unwritten : IsUnwritten d disk disk
+  same_unwritten = record { bytes_stay = refl; stops = started law disk (d.left_since disk (d.moment disk)) (λ image left. left); faults = omega arith }
+
+  pub none : HasNoRun d disk disk [] []
+  none = record { told = refl; bytes = refl; stops = started law disk (d.left_since disk (d.moment disk)) (λ image left. left) }
+
+  -- out of memory before the image was asked for
+  memory_giving : Accepts → (r : Request) (image script : List ℕ) (given : Bool) → d.bytes disk ≡ Some image → EndsByGiving d disk disk r image script [] given NoMemory
+  memory_giving accepts r image script false told = none
+  memory_giving accepts r image script true told = by r.new refl
+    where
+      made : (o : Result Opened ImageFault) (fresh : List ℕ) → EndsByOpening d disk disk r.read_only true fresh script [] o NoMemory
+      made (Err fault) fresh = none
+      made (Ok v) fresh = inr (refl, refl, refl)
+
+      by : (new : Option Word) → r.new ≡ new
+          → EndsByOpening d disk disk r.read_only (is_some new) (image_for new image) script [] (open_image (image_for new image)) NoMemory
+      by None e = begun_memory law disk disk accepts r.read_only image script told same_unwritten (inr refl)
+      by (Some f) e = made (open_image (image_for (Some f) image)) (image_for (Some f) image)
+
+  pub memory_ends : Accepts → (gives : List ℕ → Option ℕ → Bool) (r : Request) (image script : List ℕ) (unbuilt : Bool) → d.bytes disk ≡ Some image
+      → EndsByScript d disk disk gives r image script [] unbuilt NoMemory
+  memory_ends accepts gives r image script true told = (inr (inr refl), none)
+  memory_ends accepts gives r image script false told = memory_giving accepts r image script (gives r.image (blank_size r)) told
+
+  fault_giving : (r : Request) (image script : List ℕ) (given : Bool) → EndsByGiving d disk disk r image script [] given ScriptFault
+  fault_giving r image script false = none
+  fault_giving r image script true = by (open_image (image_for r.new image))
+    where
+      by : (o : Result Opened ImageFault) → EndsByOpening d disk disk r.read_only (is_some r.new) (image_for r.new image) script [] o ScriptFault
+      by (Err fault) = none
+      by (Ok v) = none
+
+  -- an I/O error of the script
+  pub script_fault_ends : (gives : List ℕ → Option ℕ → Bool) (r : Request) (image script : List ℕ) (long unbuilt : Bool) → has_unbuilt script ≡ unbuilt
+      → EndsByLength d disk disk gives r image script [] long ScriptFault
+  script_fault_ends gives r image script true unbuilt is = (inr (inl refl), none)
+  script_fault_ends gives r image script false true is = subst (λ (b : Bool). EndsByScript d disk disk gives r image script [] b ScriptFault) (sym is) (inr (inl refl), none)
+  script_fault_ends gives r image script false false is =
+      subst (λ (b : Bool). EndsByScript d disk disk gives r image script [] b ScriptFault) (sym is) (fault_giving r image script (gives r.image (blank_size r)))
+
+-- ---- a run over an attached image
+
+pub late_end : (result : Result Bool LineFault) → is_late (end_of result) ≡ true
+late_end (Ok true) = refl
+late_end (Ok false) = refl
+late_end (Err lines.Disk) = refl
+late_end (Err lines.Out) = refl
+late_end (Err lines.NoMemory) = refl
+
+pub disk_end : (result : Result Bool LineFault) → end_of result ≡ DiskFault → result ≡ Err LineFault.Disk
+disk_end (Ok true) e = absurd (cc)
+disk_end (Ok false) e = absurd (cc)
+disk_end (Err lines.Disk) e = refl
+disk_end (Err lines.Out) e = absurd (cc)
+disk_end (Err lines.NoMemory) e = absurd (cc)
+
+pub out_end : (result : Result Bool LineFault) → end_of result ≡ OutFault → result ≡ Err LineFault.Out
+out_end (Ok true) e = absurd (cc)
+out_end (Ok false) e = absurd (cc)
+out_end (Err lines.Disk) e = absurd (cc)
+out_end (Err lines.Out) e = refl
+out_end (Err lines.NoMemory) e = absurd (cc)
+
+-- the line of an image that isn't accepted
+pub tell_ends : {D : Type 0} (d : Ghosts D) (old new : D) (fault : ImageFault) (result : End) (before after : Option (List ℕ)) → IsUnwritten d old new
+    → (result ≡ BadImage fault) ⊎ ((result ≡ OutFault) ⊎ (result ≡ NoMemory)) → (result ≡ BadImage fault → Wrote before after (bad_image_line fault))
+    → WrotePart before after (bad_image_line fault) → (result ≡ NoMemory → after ≡ before)
+    → (text : List ℕ) × Wrote before after text × EndsOnFault d old new fault text result
+tell_ends d old new fault result before after same (inl is) bad part quiet =
+    (bad_image_line fault, bad is, subst (EndsOnFault d old new fault (bad_image_line fault)) (sym is) (refl, no_run d old new (bad_image_line fault) same))
+tell_ends d old new fault result before after same (inr (inl is)) bad part quiet =
+    (take part.0 (bad_image_line fault), part.1, subst (EndsOnFault d old new fault (take part.0 (bad_image_line fault))) (sym is) (part.0, no_run d old new (take part.0 (bad_image_line fault)) same))
+tell_ends d old new fault result before after same (inr (inr is)) bad part quiet =
+    ([], subst (λ (a : Option (List ℕ)). Wrote before a []) (sym (quiet is)) (wrote_nothing before), subst (EndsOnFault d old new fault []) (sym is) (no_run d old new [] same))
+
+pub told_late : (fault : ImageFault) (result : End) → (result ≡ BadImage fault) ⊎ ((result ≡ OutFault) ⊎ (result ≡ NoMemory)) → is_late result ≡ true
+told_late fault result (inl is) = ap is_late is
+told_late fault result (inr (inl is)) = ap is_late is
+told_late fault result (inr (inr is)) = ap is_late is
+
+pub told_no_disk : (fault : ImageFault) (result : End) → (result ≡ BadImage fault) ⊎ ((result ≡ OutFault) ⊎ (result ≡ NoMemory)) → result ≡ DiskFault → ⊥
+told_no_disk fault result (inl is) e = absurd (cc)
+told_no_disk fault result (inr (inl is)) e = absurd (cc)
+told_no_disk fault result (inr (inr is)) e = absurd (cc)
+
+pub shapes_unwritten : {D : Type 0} (d : Ghosts D) (old new : D) → OnlyShapes d old new → IsUnwritten d old new
+shapes_unwritten d old new shapes = record { bytes_stay = shapes.bytes_stay; stops = shapes.stops; faults = shapes.faults }
+
+pub session_shapes : {D K : Type 0} {d : Ghosts D} (law : Laws d) (k : Sinks K) (reads : Type 0) (old new : D) (before after : K) (end : End) → OnlyShapes d old new → d.pending old ≡ false → is_late end ≡ true
+    → (end ≡ DiskFault → Rose (d.faults old) (d.faults new)) → (end ≡ OutFault → Rose (k.faults before) (k.faults after)) → SessionKeeps d k reads old new before after end
+session_shapes {d = d} law k reads old new before after end shapes quiet late disk out = record {
+  asked_stays = shapes.asked_stays;
+  goes = weaker law (λ image. Unit {0}) shapes.stops (λ image left. tt);
+  faults = shapes.faults;
+  disk_fault = disk;
+  out_fault = out;
+  settled = λ never. shapes.pending_stays ∙ quiet;
+  unwritten = λ only. shapes_unwritten d old new shapes;
+  late = late;
+}
+
+pub rose_earlier : (a b c : ℕ) → a ≤ b → Rose b c → Rose a c
+rose_earlier a b c le rose = omega (arith, le, rose)

@@ -1,0 +1,159 @@
+-- Lines as steps.
+use Rattle.std.proofs.Common.{◌≡◌, ◌≤◌, arith, ℕ, Bool, true, false, ◌||◌, List, [], Option, Some, None, Result, Ok, Err, IfOk, inl, inr, refl, sym, ap, subst, ◌∙◌}
+use Rattle.std.specs.Prelude.{if◌then◌else◌}
+use Rattle.fc_device.specs.declared.disk.Disk.{Ghosts}
+use Rattle.fc_device.specs.declared.streams.Sink.{Ghosts as Sinks}
+use Rattle.fc_device.specs.Calls.{OnlyReads, StopsAsBefore}
+use Rattle.fc_device.proofs.DiskLaws.{Laws}
+use Rattle.fc_device.proofs.StopLemmas.{weaker}
+use Rattle.fc_names.specs.declared.refusal.Refusal.{Refusal}
+use Rattle.fc_record.specs.declared.Kind.{Kind}
+use Rattle.fc_model.specs.Tree.{Tree}
+use Rattle.fc_model.specs.Command.{Command}
+use Rattle.fc_model.specs.Answer.{answer, changed}
+use Rattle.fc_image.specs.Layout.{dir_form}
+use Rattle.fc_image.specs.Objects.{tree_of}
+use Rattle.fc_image.specs.Stays.{OpensAs}
+use Rattle.fc_effects.specs.Effect.{State, tree_in}
+use Rattle.fc_safe.specs.SafeEffect.{HasTree}
+use Rattle.fc_script.specs.Lines.{command_of}
+use Rattle.fc_script.specs.Texts.{refusal_line}
+use Rattle.fc_runs.specs.Early.{reply_begun}
+use Rattle.fc_runs.specs.ReadLaw.{is_reading, reading_reply}
+use Rattle.fc_runs.specs.Run.{Answers, Mode, Serves, Step, Takes, is_error, keeps_tree, keeps_tree_or, shortage}
+use Rattle.fc_runs.proofs.ReadLemmas.{read_law}
+use Rattle.fc_runs.proofs.RepliesLemmas.{changing_reply, kept_tree}
+use Rattle.fc_runs.proofs.TreeLemmas.{answer_ok, effect_tree}
+use Rattle.fc_tree.specs.Parts.{ArePartsOf}
+use Rattle.fc_volume.specs.Volume.{StandsFor, Volume, parts_of}
+use Rattle.fc_shell.specs.declared.answer.LineFault.{LineFault}
+use Rattle.fc_shell.specs.Answered.{Answered, IsCaused, volume_reply}
+use Rattle.fc_shell.specs.Line.{IsDone, IsReady, KeepsGoing, LeavesTree, LineEnds}
+use Rattle.fc_shell.specs.Modes.{plain_mode}
+use Rattle.fc_shell.specs.Writing.{WrotePart}
+use Rattle.fc_shell.proofs.ErrorLemmas.{ok_no_error}
+use Rattle.fc_shell.proofs.WritingLemmas.{wrote_nothing}
+
+-- ---- a line that keeps the tree
+
+both_false : (b : Bool) → b ≡ false → (b || false) ≡ true → ⊥
+both_false true h k = absurd (cc)
+both_false false h k = absurd (cc)
+
+served_keeps : (mode : Mode) (s s' : State) (c : Command) (t : Tree) (reply : List ℕ) (keeps : Bool) (short : Option (List ℕ)) → keeps_tree c ≡ keeps
+    → t ≡ changed (tree_in s) c → Serves mode s c t short reply s' → (is_error reply || keeps) ≡ true → tree_in s' ≡ tree_in s
+served_keeps mode s s' c t reply keeps (Some line) k is x h = ap tree_in x.1
+served_keeps mode s s' c t reply true None k is x h = effect_tree mode s s' c t is x.1 ∙ is ∙ kept_tree (tree_in s) c k
+served_keeps mode s s' c t reply false None k is x h =
+    absurd (both_false (is_error reply) (ap is_error (x.0 ∙ changing_reply s s' c k) ∙ ok_no_error []) h)
+
+answered_keeps : (mode : Mode) (s s' : State) (c : Command) (reply : List ℕ) (a : Result Tree Refusal) → answer (tree_in s) (dir_form s.view.layout) mode.read_only c ≡ a
+    → Answers mode s c a reply s' → (is_error reply || keeps_tree c) ≡ true → tree_in s' ≡ tree_in s
+answered_keeps mode s s' c reply (Err refusal) is x h = ap tree_in x.1
+answered_keeps mode s s' c reply (Ok t) is x h =
+    served_keeps mode s s' c t reply (keeps_tree c) (shortage mode.safe s.view c) refl (answer_ok (tree_in s) t (dir_form s.view.layout) mode.read_only c is) x h
+
+-- A line that keeps the tree leaves the tree.
+pub step_keeps : (mode : Mode) (s s' : State) (r : Result Command Refusal) (reply : List ℕ) → Takes mode s r reply s' → keeps_tree_or (is_error reply) r ≡ true → tree_in s' ≡ tree_in s
+step_keeps mode s s' (Err refusal) reply x h = ap tree_in x.1
+step_keeps mode s s' (Ok c) reply x h = answered_keeps mode s s' c reply (answer (tree_in s) (dir_form s.view.layout) mode.read_only c) refl x h
+
+-- the image of a state has its tree
+pub has_tree : (kind : Kind) (s : State) (image : List ℕ) → OpensAs s.image kind s.view → image ≡ s.image → HasTree kind (tree_in s) image
+has_tree kind s image opens same = record {
+  view = s.view;
+  opens = subst (λ (i : List ℕ). OpensAs i kind s.view) (sym same) opens;
+  tree = ap (λ (i : List ℕ). tree_of i s.view.layout s.view.listings) same;
+}
+
+-- ---- lines that only read
+
+module _ {D : Type 0} {d : Ghosts D} (law : Laws d) (kind : Kind) (v : Volume) (s : State) (line : List ℕ) (old new : D) (before after : Option (List ℕ))
+    (quiet : d.pending old ≡ false) (told : d.bytes old ≡ Some s.image) (opens : OpensAs s.image kind s.view) where
+  abbrev mode : Mode
+  mode = plain_mode kind v.read_only
+
+  -- A crash since then leaves the image as it was.
+  pub same_tree : StopsAsBefore d old new → LeavesTree d old new kind s
+  same_tree stops new_map image left = has_tree kind s image opens (law.settled old quiet s.image told image (stops.since image left))
+
+  -- The line is done, and leaves everything.
+  pub read_done : (reply : List ℕ) → Step mode s line reply s → OnlyReads d old new → IsDone d old new kind v.read_only s line reply s
+  read_done reply step reads = record { step = step; holds = reads.bytes ∙ told; opens = opens; kept = λ keeps. same_tree reads.stops }
+
+  -- a line that is refused whatever the image is
+  pub refusal_ends : (refusal : Refusal) (result : Result Bool LineFault) → command_of line ≡ Err refusal → OnlyReads d old new → ArePartsOf (parts_of v) s.view
+      → (result ≡ Err LineFault.Disk → ⊥) → Answered (refusal_line refusal) before after result → LineEnds d old new kind v.read_only s v line before after result
+  refusal_ends refusal result is reads parts no_disk answered = by result no_disk answered
+    where
+      step : Step mode s line (refusal_line refusal) s
+      step = subst (λ (r : Result Command Refusal). Takes mode s r (refusal_line refusal) s) (sym is) (refl, refl)
+
+      by : (result : Result Bool LineFault) → (result ≡ Err LineFault.Disk → ⊥) → Answered (refusal_line refusal) before after result
+          → LineEnds d old new kind v.read_only s v line before after result
+      by (Ok refused) never answered =
+          record { reply = refusal_line refusal; next = s; done = read_done (refusal_line refusal) step reads; parts = parts; wrote = answered.0; refused_is = answered.1 }
+      by (Err fault) never answered =
+          inl (record { reply = refusal_line refusal; next = s; done = read_done (refusal_line refusal) step reads; part = answered; no_disk = λ is. never (ap Err is) })
+
+  -- a command that reads
+  pub reading_ends : (c : Command) (result : Result Bool LineFault) → command_of line ≡ Ok c → is_reading c ≡ true → OnlyReads d old new → ArePartsOf (parts_of v) s.view
+      → Answered (volume_reply kind v s c) before after result → LineEnds d old new kind v.read_only s v line before after result
+  unfolding volume_reply
+  reading_ends c result is reading reads parts answered = by result answered
+    where
+      step : Step mode s line (reading_reply mode s c) s
+      step = read_law.some mode s line c is reading
+
+      begun : reply_begun mode s (command_of line) ≡ reading_reply mode s c
+      begun = ap (reply_begun mode s) is ∙ ap (λ (b : Bool). if b then reading_reply mode s c else []) reading
+
+      by : (result : Result Bool LineFault) → Answered (reading_reply mode s c) before after result → LineEnds d old new kind v.read_only s v line before after result
+      by (Ok refused) answered = record { reply = reading_reply mode s c; next = s; done = read_done (reading_reply mode s c) step reads; parts = parts; wrote = answered.0; refused_is = answered.1 }
+      by (Err fault) answered =
+          inr (record { part = subst (WrotePart before after) (sym begun) answered; holds = λ never. reads.bytes ∙ told; kept = λ keeps. same_tree reads.stops })
+
+  -- a line that isn't begun
+  pub unbegun_ends : (fault : LineFault) → OnlyReads d old new → before ≡ after → LineEnds d old new kind v.read_only s v line before after (Err fault)
+  unbegun_ends fault reads same =
+      inr (record {
+        part = subst (λ (a : Option (List ℕ)). WrotePart before a (reply_begun mode s (command_of line))) same (0, wrote_nothing before);
+        holds = λ never. reads.bytes ∙ told;
+        kept = λ keeps. same_tree reads.stops;
+      })
+
+-- ---- what they keep
+
+-- The volume stands for a disk that was read.
+pub stands_read : {D : Type 0} (d : Ghosts D) (v : Volume) (old new : D) → OnlyReads d old new → StandsFor d v old → StandsFor d v new
+stands_read d v old new reads stands = rw (reads.form.size_stays, reads.form.sectors_stay, reads.bytes) stands
+
+ready_if : (result : Result Bool LineFault) (P : Type 0) → P → IfOk result (λ refused. P)
+ready_if (Ok refused) P p = p
+ready_if (Err fault) P p = tt
+
+pub reading_keeps : {D K : Type 0} {d : Ghosts D} (law : Laws d) (k : Sinks K) (v : Volume) (line : List ℕ) (old new : D) (before after : K) (result : Result Bool LineFault)
+    → d.pending old ≡ false → v.fit ≡ true → StandsFor d v old → OnlyReads d old new → IsCaused d k old new before after result → KeepsGoing d k old new before after v v line result
+reading_keeps {d = d} law k v line old new before after result quiet fit stands reads caused = record {
+  goes = record { form = reads.form; stops = weaker law (λ image. Unit {0}) reads.stops (λ image left. tt); faults = reads.faults };
+  ready = ready_if result (IsReady d new v v) (record { fit = fit; stands = stands_read d v old new reads stands; settled = reads.pending ∙ quiet; read_only = refl });
+  settled = λ never. reads.pending ∙ quiet;
+  reads = λ is. (reads, refl);
+  caused = caused;
+}
+
+-- ---- causes over lines
+
+pub caused_later : {D K : Type 0} (d : Ghosts D) (k : Sinks K) (old mid new : D) (first before after : K) (result other : Result Bool LineFault) → d.faults old ≤ d.faults mid → k.faults first ≤ k.faults before
+    → other ≡ result → IsCaused d k mid new before after result → IsCaused d k old new first after other
+caused_later d k old mid new first before after result other disk out same caused = record {
+  later = omega (arith, out, caused.later);
+  disk = λ is. let rose = caused.disk (sym same ∙ is) in omega (arith, disk, rose);
+  out = λ is. let rose = caused.out (sym same ∙ is) in omega (arith, out, rose);
+}
+
+pub caused_ok : {D K : Type 0} (d : Ghosts D) (k : Sinks K) (old new : D) (before after : K) (refused : Bool) → k.faults before ≤ k.faults after → IsCaused d k old new before after (Ok refused)
+caused_ok d k old new before after refused later = record { later = later; disk = λ is. absurd (cc); out = λ is. absurd (cc) }
+
+pub one_fault : (r : Result Bool LineFault) (e f : LineFault) → r ≡ Err e → r ≡ Err f → e ≡ f
+one_fault r e f is other = cc

@@ -1,0 +1,72 @@
+use Rattle.std.proofs.Common.{◌≡◌, true, rules, Err, refl, sym, ap, subst, ◌∙◌}
+use Rattle.fc_device.proofs.DiskLaws.{laws}
+use Rattle.fc_device.proofs.StopLemmas.{reads_start}
+use Rattle.fc_effects.specs.Effect.{State}
+use Rattle.fc_names.specs.declared.refusal.Refusal.TheVariants as refusals
+use Rattle.fc_runs.specs.ReadLaw.{is_reading}
+use Rattle.fc_script.specs.declared.command.Command.{Command as Told}
+use Rattle.fc_script.specs.declared.command.LineError.{LineError}
+use Rattle.fc_script.specs.Lines.{command_of}
+use Rattle.fc_script.specs.Reading.{Gives, command}
+use Rattle.fc_script.specs.Texts.{refusal_line}
+use Rattle.fc_shell.specs.declared.answer.LineFault.{LineFault}
+use Rattle.fc_shell.specs.Built.{is_unbuilt_command}
+use Rattle.fc_shell.proofs.AnsweredLemmas.{caused_alone}
+use Rattle.fc_shell.proofs.ReplyLemmas.{not_false}
+use Rattle.fc_shell.proofs.StepLemmas.{reading_ends, reading_keeps, refusal_ends, unbegun_ends}
+use Rattle.fc_shell.proofs.answer.answer_line.Goals as goal
+
+pub answer_reading-requires-clause-reading : goal.answer_reading-requires-clause-reading
+answer_reading-requires-clause-reading g c = not_false c.in-Ok.asked (ap is_unbuilt_command (sym c.in-Ok.ensures) ∙ c.requires.built)
+
+pub returns-in-Ok-clause-step : goal.returns-in-Ok-clause-step
+returns-in-Ok-clause-step g c image told kind view opens parts =
+    let s : State = record { image = image; view = view } in
+    let reading : is_reading (command c.in-Ok.asked) ≡ true = not_false c.in-Ok.asked (ap is_unbuilt_command (sym c.in-Ok.ensures) ∙ c.requires.built) in
+    reading_ends (laws g.met.D.Disk) kind c.args.volume.now s c.args.line.now c.args.disk.now c.answer_reading.new.disk (g.K.Sink.taken c.args.out.now) (g.K.Sink.taken c.answer_reading.new.out)
+    c.requires.settled told opens (command c.in-Ok.asked) c.answer_reading.result c.in-Ok.ensures reading c.answer_reading.ensures.reads parts
+    (c.answer_reading.ensures.answered image told kind view opens parts)
+
+pub returns-in-Ok-clause-keeps : goal.returns-in-Ok-clause-keeps
+returns-in-Ok-clause-keeps g c =
+    reading_keeps (laws g.met.D.Disk) g.K.Sink c.args.volume.now c.args.line.now c.args.disk.now c.answer_reading.new.disk c.args.out.now c.answer_reading.new.out c.answer_reading.result
+    c.requires.settled c.requires.fit c.requires.stands c.answer_reading.ensures.reads c.answer_reading.ensures.caused
+
+pub returns-in-Err-BadCommand-clause-step : goal.returns-in-Err-BadCommand-clause-step
+returns-in-Err-BadCommand-clause-step g c image told kind view opens parts =
+    let s : State = record { image = image; view = view } in
+    let is = subst (λ (f : LineError). Gives {X = Told} command (Err f) (command_of c.args.line.now)) c.in-Err-BadCommand.field-0-is c.in-Err-BadCommand.ensures in
+    refusal_ends (laws g.met.D.Disk) kind c.args.volume.now s c.args.line.now c.args.disk.now c.args.disk.now (g.K.Sink.taken c.args.out.now) (g.K.Sink.taken c.tell.new.out)
+    c.requires.settled told opens refusals.BadCommand c.tell.result is (reads_start (laws g.met.D.Disk) c.args.disk.now) parts c.tell.ensures.only.no_disk
+    (c.tell.ensures.answered (refusal_line refusals.BadCommand) c.refusal.ensures)
+
+pub returns-in-Err-BadCommand-clause-keeps : goal.returns-in-Err-BadCommand-clause-keeps
+returns-in-Err-BadCommand-clause-keeps g c =
+    reading_keeps (laws g.met.D.Disk) g.K.Sink c.args.volume.now c.args.line.now c.args.disk.now c.args.disk.now c.args.out.now c.tell.new.out c.tell.result
+    c.requires.settled c.requires.fit c.requires.stands (reads_start (laws g.met.D.Disk) c.args.disk.now)
+    (caused_alone g.D.Disk g.K.Sink c.args.disk.now c.args.disk.now c.args.out.now c.tell.new.out c.tell.result c.tell.ensures.only)
+
+pub returns-in-Err-BadName-clause-step : goal.returns-in-Err-BadName-clause-step
+returns-in-Err-BadName-clause-step g c image told kind view opens parts =
+    let s : State = record { image = image; view = view } in
+    let is = subst (λ (f : LineError). Gives {X = Told} command (Err f) (command_of c.args.line.now)) c.in-Err-BadName.field-0-is c.in-Err-BadName.ensures in
+    refusal_ends (laws g.met.D.Disk) kind c.args.volume.now s c.args.line.now c.args.disk.now c.args.disk.now (g.K.Sink.taken c.args.out.now) (g.K.Sink.taken c.tell-in-Err-BadName.new.out)
+    c.requires.settled told opens refusals.BadName c.tell-in-Err-BadName.result is (reads_start (laws g.met.D.Disk) c.args.disk.now) parts c.tell-in-Err-BadName.ensures.only.no_disk
+    (c.tell-in-Err-BadName.ensures.answered (refusal_line refusals.BadName) c.refusal-in-Err-BadName.ensures)
+
+pub returns-in-Err-BadName-clause-keeps : goal.returns-in-Err-BadName-clause-keeps
+returns-in-Err-BadName-clause-keeps g c =
+    reading_keeps (laws g.met.D.Disk) g.K.Sink c.args.volume.now c.args.line.now c.args.disk.now c.args.disk.now c.args.out.now c.tell-in-Err-BadName.new.out c.tell-in-Err-BadName.result
+    c.requires.settled c.requires.fit c.requires.stands (reads_start (laws g.met.D.Disk) c.args.disk.now)
+    (caused_alone g.D.Disk g.K.Sink c.args.disk.now c.args.disk.now c.args.out.now c.tell-in-Err-BadName.new.out c.tell-in-Err-BadName.result c.tell-in-Err-BadName.ensures.only)
+
+pub returns-in-Err-NoMemory-clause-step : goal.returns-in-Err-NoMemory-clause-step
+returns-in-Err-NoMemory-clause-step g c image told kind view opens parts =
+    let s : State = record { image = image; view = view } in
+    unbegun_ends (laws g.met.D.Disk) kind c.args.volume.now s c.args.line.now c.args.disk.now c.args.disk.now (g.K.Sink.taken c.args.out.now) (g.K.Sink.taken c.args.out.now)
+    c.requires.settled told opens LineFault.NoMemory (reads_start (laws g.met.D.Disk) c.args.disk.now) refl
+
+pub returns-in-Err-NoMemory-clause-keeps : goal.returns-in-Err-NoMemory-clause-keeps
+returns-in-Err-NoMemory-clause-keeps g c =
+    reading_keeps (laws g.met.D.Disk) g.K.Sink c.args.volume.now c.args.line.now c.args.disk.now c.args.disk.now c.args.out.now c.args.out.now (Err LineFault.NoMemory)
+    c.requires.settled c.requires.fit c.requires.stands (reads_start (laws g.met.D.Disk) c.args.disk.now) (search rules)

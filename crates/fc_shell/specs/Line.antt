@@ -1,0 +1,86 @@
+-- What a line of a script does, as a step from one image to the next, and what it keeps of disk and volume.
+use Rattle.std.specs.Prelude.{◌≡◌, ◌≤◌, ◌⊎◌, ℕ, Bool, true, false, List, Option, Some, Result, Ok, Err, IfOk}
+use Rattle.fc_device.specs.declared.disk.Disk.{Ghosts}
+use Rattle.fc_device.specs.declared.streams.Sink.{Ghosts as Sinks}
+use Rattle.fc_device.specs.Calls.{OnlyReads, SameForm}
+use Rattle.fc_device.specs.Stops.{LeavesOnly}
+use Rattle.fc_record.specs.declared.Kind.{Kind}
+use Rattle.fc_image.specs.Stays.{IsNewLayout, OpensAs}
+use Rattle.fc_effects.specs.Effect.{State, tree_in}
+use Rattle.fc_safe.specs.SafeEffect.{HasTree}
+use Rattle.fc_script.specs.Lines.{command_of}
+use Rattle.fc_runs.specs.Early.{reply_begun}
+use Rattle.fc_runs.specs.Run.{Step, is_error, keeps_tree_or}
+use Rattle.fc_tree.specs.Parts.{ArePartsOf}
+use Rattle.fc_volume.specs.Volume.{StandsFor, Volume, parts_of}
+use Rattle.fc_shell.specs.declared.answer.LineFault.{LineFault}
+use Rattle.fc_shell.specs.Answered.{IsCaused}
+use Rattle.fc_shell.specs.Built.{is_reading_line}
+use Rattle.fc_shell.specs.Modes.{plain_mode}
+use Rattle.fc_shell.specs.Writing.{Wrote, WrotePart}
+
+-- ---- what a line does
+
+-- A crash since then leaves the tree of the state, on a new map.
+abbrev pub LeavesTree : {D : Type 0} → Ghosts D → D → D → Kind → State → Type 0
+LeavesTree d old new kind s = IsNewLayout s.view.layout → (image : List ℕ) → d.left_since new (d.moment old) image → HasTree kind (tree_in s) image
+
+-- The line was done: a step with this reply leads from s to the state that the disk has now. A crash meanwhile leaves the tree, if the
+-- line keeps it.
+pub record IsDone {D : Type 0} (d : Ghosts D) (old new : D) (kind : Kind) (read_only : Bool) (s : State) (line reply : List ℕ) (next : State) : Type 0 where
+  pub step : Step (plain_mode kind read_only) s line reply next
+  pub holds : d.bytes new ≡ Some next.image
+  pub opens : OpensAs next.image kind next.view
+  pub kept : keeps_tree_or (is_error reply) (command_of line) ≡ true → LeavesTree d old new kind s
+
+-- It was done, and its whole reply written; the volume's parts are those of the new state.
+pub record IsAnswered {D : Type 0} (d : Ghosts D) (old new : D) (kind : Kind) (read_only : Bool) (s : State) (v : Volume) (line : List ℕ) (before after : Option (List ℕ)) (refused : Bool) : Type 0 where
+  pub reply : List ℕ
+  pub next : State
+  pub done : IsDone d old new kind read_only s line reply next
+  pub parts : ArePartsOf (parts_of v) next.view
+  pub wrote : Wrote before after reply
+  pub refused_is : refused ≡ is_error reply
+
+-- It was done, and a part of its reply was written; no call of the disk failed.
+pub record IsCutOff {D : Type 0} (d : Ghosts D) (old new : D) (kind : Kind) (read_only : Bool) (s : State) (line : List ℕ) (before after : Option (List ℕ)) (fault : LineFault) : Type 0 where
+  pub reply : List ℕ
+  pub next : State
+  pub done : IsDone d old new kind read_only s line reply next
+  pub part : WrotePart before after reply
+  pub no_disk : fault ≡ LineFault.Disk → ⊥
+
+-- It broke off, and may have written a part of a reply if it reads. The disk has the image from before, unless one of its calls failed.
+pub record BreaksOff {D : Type 0} (d : Ghosts D) (old new : D) (kind : Kind) (read_only : Bool) (s : State) (line : List ℕ) (before after : Option (List ℕ)) (fault : LineFault) : Type 0 where
+  pub part : WrotePart before after (reply_begun (plain_mode kind read_only) s (command_of line))
+  pub holds : (fault ≡ LineFault.Disk → ⊥) → d.bytes new ≡ Some s.image
+  pub kept : keeps_tree_or false (command_of line) ≡ true → LeavesTree d old new kind s
+
+-- what becomes of a line
+abbrev pub LineEnds : {D : Type 0} → Ghosts D → D → D → Kind → Bool → State → Volume → List ℕ → Option (List ℕ) → Option (List ℕ) → Result Bool LineFault → Type 0
+LineEnds d old new kind read_only s v line before after (Ok refused) = IsAnswered d old new kind read_only s v line before after refused
+LineEnds d old new kind read_only s v line before after (Err fault) =
+    IsCutOff d old new kind read_only s line before after fault ⊎ BreaksOff d old new kind read_only s line before after fault
+
+-- ---- what it keeps, whatever is known of the disk's bytes
+
+-- The disk's form stays, time goes on, and its count of faults doesn't fall.
+pub record GoesOn {D : Type 0} (d : Ghosts D) (old new : D) : Type 0 where
+  pub form : SameForm d old new
+  pub stops : LeavesOnly d.moment d.left_since old new (λ image. Unit {0})
+  pub faults : d.faults old ≤ d.faults new
+
+-- The volume takes the next line: it stands for the disk, and nothing is pending.
+pub record IsReady {D : Type 0} (d : Ghosts D) (new : D) (was v : Volume) : Type 0 where
+  pub fit : v.fit ≡ true
+  pub stands : StandsFor d v new
+  pub settled : d.pending new ≡ false
+  pub read_only : v.read_only ≡ was.read_only
+
+-- what stays over a line
+pub record KeepsGoing {D K : Type 0} (d : Ghosts D) (k : Sinks K) (old new : D) (before after : K) (was v : Volume) (line : List ℕ) (result : Result Bool LineFault) : Type 0 where
+  pub goes : GoesOn d old new
+  pub ready : IfOk result (λ refused. IsReady d new was v)
+  pub settled : (result ≡ Err LineFault.Disk → ⊥) → d.pending new ≡ false
+  pub reads : is_reading_line (command_of line) ≡ true → OnlyReads d old new × (v ≡ was)
+  pub caused : IsCaused d k old new before after result

@@ -1,0 +1,84 @@
+// The answer to a line of the script.
+ghost use Rattle.std.specs.Prelude.{◌≡◌, IsFalse, IsTrue};
+ghost use Rattle.fc_device.specs.Calls.{OnlyReads};
+ghost use Rattle.fc_runs.specs.ReadLaw.{is_reading};
+ghost use Rattle.fc_script.specs.Lines.{command_of};
+ghost use Rattle.fc_script.specs.Reading.{command};
+ghost use Rattle.fc_volume.specs.Volume.{StandsFor};
+ghost use Rattle.fc_shell.specs.Answered.{Answered, ForState, IsCaused, volume_reply};
+ghost use Rattle.fc_shell.specs.Built.{is_unbuilt_command};
+ghost use Rattle.fc_shell.specs.Line.{KeepsGoing, LineEnds};
+
+use crate::cat::cat;
+use crate::check::check;
+use crate::digest::digest;
+use crate::free::free;
+use crate::load::load;
+use crate::reply::{refusal, tell};
+use fc_device::{Disk, Sink};
+use fc_names::Refusal;
+use fc_script::{Command, LineError, read_line};
+use fc_volume::Volume;
+use std::alloc::Global;
+
+/// Why a line wasn't answered.
+#[derive(Clone, Copy)]
+pub enum LineFault {
+    /// A call of the disk failed.
+    Disk,
+    /// A call of the output failed.
+    Out,
+    NoMemory,
+}
+
+// Answers a command that changes nothing.
+fn answer_reading<D: Disk, K: Sink>(
+    alloc: Global,
+    volume: &Volume,
+    disk: &mut D,
+    out: &mut K,
+    asked: &Command,
+) -> Result<bool, LineFault>
+    requires attached { IsTrue (D.attached disk.old) }
+    requires fit { IsTrue volume.now.fit }
+    requires stands { StandsFor D.Disk volume.now disk.old }
+    requires reading { IsTrue (is_reading (command asked.now)) }
+    ensures answered { ForState (D.bytes disk.old) volume.now (λ kind s. Answered (volume_reply kind volume.now s (command asked.now)) (K.taken out.old) (K.taken out.new) result) }
+    ensures reads { OnlyReads D.Disk disk.old disk.new }
+    ensures caused { IsCaused D.Disk K.Sink disk.old disk.new out.old out.new result }
+{
+    match asked {
+        Command::Cat { path } => tell(out, cat(alloc, volume, disk, path)),
+        Command::Load { path } => load(alloc, volume, disk, out, path),
+        Command::Digest { path } => digest(alloc, volume, disk, out, path),
+        Command::Free => tell(out, free(alloc, volume)),
+        Command::Check => tell(out, check(alloc, volume)),
+        _ => unreachable!(),
+    }
+}
+
+/// Answers a command line of the script, whose command is built: does it, and writes its whole reply. Answers whether the
+/// reply is an error line.
+pub fn answer_line<D: Disk, K: Sink>(
+    alloc: Global,
+    volume: &mut Volume,
+    disk: &mut D,
+    out: &mut K,
+    line: &[u8],
+) -> Result<bool, LineFault>
+    requires attached { IsTrue (D.attached disk.old) }
+    requires fit { IsTrue volume.old.fit }
+    requires stands { StandsFor D.Disk volume.old disk.old }
+    requires settled { IsFalse (D.pending disk.old) }
+    requires built { IsFalse (is_unbuilt_command (command_of line.now)) }
+    ensures step { ForState (D.bytes disk.old) volume.old (λ kind s.
+        LineEnds D.Disk disk.old disk.new kind volume.old.read_only s volume.new line.now (K.taken out.old) (K.taken out.new) result) }
+    ensures keeps { KeepsGoing D.Disk K.Sink disk.old disk.new out.old out.new volume.old volume.new line.now result }
+{
+    match read_line(alloc, line) {
+        Ok(asked) => answer_reading(alloc, volume, disk, out, &asked),
+        Err(LineError::BadCommand) => tell(out, refusal(alloc, Refusal::BadCommand)),
+        Err(LineError::BadName) => tell(out, refusal(alloc, Refusal::BadName)),
+        Err(LineError::NoMemory) => Err(LineFault::NoMemory),
+    }
+}

@@ -1,0 +1,140 @@
+// A script over an image, from its opening to the last reply.
+ghost use Rattle.std.specs.Prelude.{◌≡◌, ◌⊎◌, ◌≤◌, List, ℕ, true, false, Err, IsFalse, IsTrue};
+ghost use Rattle.std.specs.Option.{ForSome};
+ghost use Rattle.fc_device.specs.Calls.{OnlyReads};
+ghost use Rattle.fc_device.specs.Faults.{Rose};
+ghost use Rattle.fc_device.specs.Form.{IsFresh};
+ghost use Rattle.fc_image.specs.Opening.{open_image};
+ghost use Rattle.fc_runs.specs.Replies.{bad_image_line};
+ghost use Rattle.fc_volume.specs.Volume.{StandsFor};
+ghost use Rattle.fc_words.specs.Request.{request_in};
+ghost use Rattle.fc_shell.specs.Answered.{ForState, IsCaused};
+ghost use Rattle.fc_shell.specs.Built.{has_unbuilt, only_reads};
+ghost use Rattle.fc_shell.specs.Ends.{end_of, is_late};
+ghost use Rattle.fc_shell.specs.Kept.{RunKeeps, SessionKeeps};
+ghost use Rattle.fc_shell.specs.Line.{GoesOn};
+ghost use Rattle.fc_shell.specs.Promise.{EndsByGiving, EndsByOpening};
+ghost use Rattle.fc_shell.specs.Replies.{blank_size};
+ghost use Rattle.fc_shell.specs.Serving.{ServesAs};
+ghost use Rattle.fc_shell.specs.Writing.{Wrote, WrotePart};
+
+use crate::answer::{LineFault, answer_line};
+use crate::ending::End;
+use crate::image::attach_image;
+use crate::lines::CommandLines;
+use crate::sink::write_all;
+use crate::texts::bad_image_line;
+use fc_device::{Disk, DiskFault, Failed, Sink};
+use fc_image::ImageFault;
+use fc_volume::{MountError, Volume};
+use fc_words::Words;
+use std::alloc::Global;
+
+// Serves the command lines of a script in turn over a volume that stands for the disk. Answers whether a reply is an
+// error line.
+fn serve<D: Disk, K: Sink>(
+    alloc: Global,
+    volume: &mut Volume,
+    disk: &mut D,
+    out: &mut K,
+    script: &[u8],
+) -> Result<bool, LineFault>
+    requires attached { IsTrue (D.attached disk.old) }
+    requires fit { IsTrue volume.old.fit }
+    requires stands { StandsFor D.Disk volume.old disk.old }
+    requires settled { IsFalse (D.pending disk.old) }
+    requires built { has_unbuilt script.now ≡ false }
+    ensures served { ForState (D.bytes disk.old) volume.old (λ kind s.
+        ServesAs D.Disk disk.old disk.new kind volume.old.read_only s script.now (K.taken out.old) (K.taken out.new) result) }
+    ensures goes { GoesOn D.Disk disk.old disk.new }
+    ensures settled { (result ≡ Err LineFault.Disk → ⊥) → D.pending disk.new ≡ false }
+    ensures reads { only_reads script.now ≡ true → OnlyReads D.Disk disk.old disk.new }
+    ensures caused { IsCaused D.Disk K.Sink disk.old disk.new out.old out.new result }
+{
+    let mut refused = false;
+    let mut lines = CommandLines::new(script);
+    while let Some(line) = lines.next() {
+        refused |= answer_line(alloc, volume, disk, out, line)?;
+    }
+    Ok(refused)
+}
+
+// How a run ends whose lines were served.
+fn end_of(served: Result<bool, LineFault>) -> End
+    ensures { result ≡ end_of served }
+{
+    match served {
+        Ok(true) => End::Refused,
+        Ok(false) => End::Done,
+        Err(LineFault::Disk) => End::DiskFault,
+        Err(LineFault::Out) => End::OutFault,
+        Err(LineFault::NoMemory) => End::NoMemory,
+    }
+}
+
+// Ends a run over an image that isn't accepted: writes its line.
+fn tell_fault<K: Sink>(alloc: Global, out: &mut K, fault: ImageFault) -> End
+    ensures bad { result ≡ End.BadImage fault → Wrote (K.taken out.old) (K.taken out.new) (bad_image_line fault) }
+    ensures part { WrotePart (K.taken out.old) (K.taken out.new) (bad_image_line fault) }
+    ensures no_memory { result ≡ End.NoMemory → out.new ≡ out.old }
+    ensures later { K.faults out.old ≤ K.faults out.new }
+    ensures out_fault { result ≡ End.OutFault → Rose (K.faults out.old) (K.faults out.new) }
+    ensures ended { (result ≡ End.BadImage fault) ⊎ ((result ≡ End.OutFault) ⊎ (result ≡ End.NoMemory)) }
+{
+    let Ok(line) = bad_image_line(alloc, &fault) else {
+        return End::NoMemory;
+    };
+    match write_all(out, &line) {
+        Ok(()) => End::BadImage(fault),
+        Err(Failed) => End::OutFault,
+    }
+}
+
+// Opens the image of a disk that was just attached, and serves a script over it.
+fn answer_image<D: Disk, K: Sink>(
+    alloc: Global,
+    disk: &mut D,
+    out: &mut K,
+    script: &[u8],
+    read_only: bool,
+) -> End
+    requires fresh { IsFresh D.attached D.pending D.sector_size disk.old }
+    requires built { has_unbuilt script.now ≡ false }
+    ensures promise { ForSome (D.bytes disk.old) (λ image. (text : List ℕ) × Wrote (K.taken out.old) (K.taken out.new) text
+        × EndsByOpening D.Disk disk.old disk.new read_only false image script.now text (open_image image) result) }
+    ensures keeps { SessionKeeps D.Disk K.Sink (only_reads script.now ≡ true) disk.old disk.new out.old out.new result }
+{
+    // A law, for the proof alone: an image that is accepted opens as its own kind.
+    fc_image::accepted();
+    match Volume::mount(alloc, disk, read_only) {
+        Ok(mut volume) => end_of(serve(alloc, &mut volume, disk, out, script)),
+        Err(MountError::Image(fault)) => tell_fault(alloc, out, fault),
+        Err(MountError::DiskFault) => End::DiskFault,
+        Err(MountError::NoMemory) => End::NoMemory,
+    }
+}
+
+/// Answers a script, in which every command is built, over the image that is asked for.
+pub fn answer_script<D: Disk, K: Sink>(
+    alloc: Global,
+    asked: &Words,
+    script: &[u8],
+    disk: &mut D,
+    out: &mut K,
+) -> End
+    requires built { has_unbuilt script.now ≡ false }
+    ensures promise { let r = request_in asked.now in ForSome (D.gives disk.old) (λ gives. ForSome (D.bytes disk.old) (λ image.
+        (text : List ℕ) × Wrote (K.taken out.old) (K.taken out.new) text
+        × EndsByGiving D.Disk disk.old disk.new r image script.now text (gives r.image (blank_size r)) result)) }
+    ensures keeps { RunKeeps D.Disk K.Sink (request_in asked.now) (only_reads script.now ≡ true) disk.old disk.new out.old out.new result }
+    ensures late { (is_late result ≡ true) ⊎ (result ≡ End.NoImage) }
+{
+    // Laws, for the proof alone: a fresh image is accepted, and one that is accepted opens as its own kind.
+    fc_image::accepted();
+    fc_format::opens();
+    match attach_image(disk, asked.image.as_str(), asked.new) {
+        Err(DiskFault) => End::DiskFault,
+        Ok(false) => End::NoImage,
+        Ok(true) => answer_image(alloc, disk, out, script, asked.read_only),
+    }
+}
