@@ -40,6 +40,5 @@ pub fn compact<D: Disk>(disk: &mut D, map: &mut NewMap, owners: &Owners) -> Resu
     ensures form { SameForm D.Disk disk.old disk.new }
     ensures cause { FailsByFault D.Disk disk.old disk.new result }
 {
-    let _ = (disk.sectors(), map.geometry(), owners.owned(3));
     Err(DiskFault)
 }
