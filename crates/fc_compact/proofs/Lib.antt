@@ -1,0 +1,10 @@
+mod ShiftLemmas
+mod WholeLemmas
+mod OwnersLemmas
+mod KeptLemmas
+mod PreservesLemmas
+mod ReadyLemmas
+mod SlideLemmas
+mod FindLemmas
+mod StepLemmas
+mod LeadsLemmas
