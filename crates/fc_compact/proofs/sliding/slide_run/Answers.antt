@@ -112,4 +112,4 @@ returns-clause-row g c = λ front rest zone.
     (subst (λ (k : ℕ). HasRuns c.loop-done.map a.z (front ++ row a.start a.id c.loop-done.done a.hole k rest)) none (was.row front rest zone))
 
 pub slide_piece-requires-clause-row : goal.slide_piece-requires-clause-row
-slide_piece-requires-clause-row g c = let r = c.requires.row in (r.0, (r.1, c.loop-done.invariant.row r.0 r.1 r.2))
+slide_piece-requires-clause-row g c = let r = c.requires.row in (r.0, r.1, c.loop-done.invariant.row r.0 r.1 r.2)
