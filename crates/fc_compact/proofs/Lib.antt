@@ -8,3 +8,9 @@ mod SlideLemmas
 mod FindLemmas
 mod StepLemmas
 mod LeadsLemmas
+mod ReleaseLemmas
+mod ListedLemmas
+mod FoundLemmas
+mod OneRunLemmas
+mod JoinLemmas
+mod JoinedLemmas

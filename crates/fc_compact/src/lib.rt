@@ -6,6 +6,9 @@
 #![tactic(auto)]
 
 mod copying;
+mod finding;
+mod joining;
+mod releasing;
 mod shifting;
 mod sliding;
 
