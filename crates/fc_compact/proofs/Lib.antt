@@ -14,3 +14,4 @@ mod FoundLemmas
 mod OneRunLemmas
 mod JoinLemmas
 mod JoinedLemmas
+mod HoldLemmas

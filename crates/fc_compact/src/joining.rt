@@ -116,3 +116,56 @@ fn join_into<D: Disk>(
     commit(disk, map, changed)
 }
 
+// How many bits of a hole of `size` bits are taken for `bits` bits: all, if less than min would stay.
+fn front_len(size: u32, bits: u32, min: u32) -> u32
+    requires fits { bits + min < 2 ^ 32 }
+    requires room { bits ≤ size }
+    ensures value { result ≡ (if nat_lt size (bits + min) then size else bits) }
+    ensures enough { bits ≤ result }
+    ensures within { result ≤ size }
+    ensures left { IsPart min (size - result) }
+    ensures which { (result ≡ size) ⊎ (result ≡ bits) }
+{
+    if size < bits + min { size } else { bits }
+}
+
+/// Moves all runs of a movable identifier into one run at the start of a hole that has room for them, by one commit; the
+/// whole hole is taken if less than min would stay. The hole begins at `hole` in the zone, and the runs stand in at most
+/// eight zones.
+///
+/// The other conditions are those of `slide`. After a crash at any moment and at every exit the image opens as before, with
+/// every object at its address and with its bytes, and what lies outside the map, holes and movable identifiers is as it
+/// was. It fails only if the disk's count of faults rose; what the map holds is then not said, but for its geometry.
+pub fn join<D: Disk>(
+    disk: &mut D,
+    map: &mut NewMap,
+    owners: &Owners,
+    id: u32,
+    zone: u16,
+    hole: u32,
+) -> Result<(), DiskFault>
+    requires attached { IsTrue (D.attached disk.old) }
+    requires settled { IsFalse (D.pending disk.old) }
+    requires size { D.sector_size disk.old ≡ map.old.geometry.sector }
+    requires on_disk { map.old.geometry.map_sector + 2 * map.old.geometry.zones ≤ D.sectors disk.old }
+    requires disc { disc_sectors (Layout.New map.old) ≤ D.sectors disk.old }
+    requires ready { ForSome (D.bytes disk.old) (IsReady map.old owners.now) }
+    requires runs { CanJoin map.old owners.now id zone hole }
+    ensures keeps { StopsAndExitsLeave D.Disk disk.old disk.new (Preserves map.old owners.now) }
+    ensures ready { OnOk result (ForSome (D.bytes disk.new) (IsReady map.new owners.now)) }
+    ensures one { (run : Run) → Contains (hole_runs map.old) (zone, run) → run.start ≡ hole
+        → OnOk result (id_runs map.new id ≡ (zone, record (front_of map.old.geometry (bits_in (id_runs map.old id)) (zone, run)).1 { kind = Id id }) ∷ []) }
+    ensures others { OnOk result ((k : ℕ) → (k ≡ id → ⊥) → id_runs map.new k ≡ id_runs map.old k) }
+    ensures leads { OnOk result (Leads owners.now map.old map.new) }
+    ensures geometry { map.new.geometry ≡ map.old.geometry }
+    ensures durable { OnOk result (IsFalse (D.pending disk.new)) }
+    ensures form { SameForm D.Disk disk.old disk.new }
+    ensures cause { FailsByFault D.Disk disk.old disk.new result }
+{
+    let min = map.geometry().min;
+    let bits = bits_of(map, id);
+    let gap = map.run_from(zone, hole);
+    let len = front_len(gap.len, bits, min);
+    let changed = zones_of(map, id, zone);
+    join_into(disk, map, owners, id, zone, hole, len, gap.len - len, &changed)
+}

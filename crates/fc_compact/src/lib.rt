@@ -15,6 +15,7 @@ mod sliding;
 ghost use Rattle.fc_compact.specs.Laws.{Laws};
 ghost use Rattle.fc_compact.specs.Compacting.{ByOwnersLaw};
 
+pub use joining::join;
 pub use sliding::slide;
 
 // What fc_image and fc_newmap prove.
