@@ -15,3 +15,5 @@ mod OneRunLemmas
 mod JoinLemmas
 mod JoinedLemmas
 mod HoldLemmas
+mod PacksLemmas
+mod MergeLemmas

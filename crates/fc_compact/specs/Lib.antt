@@ -5,3 +5,4 @@ pub mod Sliding
 pub mod Joining
 pub mod Steps
 pub mod Laws
+pub mod Settling

@@ -9,6 +9,7 @@ mod copying;
 mod finding;
 mod joining;
 mod releasing;
+mod settling;
 mod shifting;
 mod sliding;
 
