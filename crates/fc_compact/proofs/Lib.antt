@@ -17,3 +17,5 @@ mod JoinedLemmas
 mod HoldLemmas
 mod PacksLemmas
 mod MergeLemmas
+mod SlidLemmas
+mod GoneLemmas

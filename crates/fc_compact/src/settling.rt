@@ -109,3 +109,164 @@ fn merge_runs<D: Disk>(
     map.merge(z, one.start);
     commit_zone(disk, map, z)
 }
+
+// Takes the step that is left between a run and the next, if one is.
+fn settle_pair<D: Disk>(
+    disk: &mut D,
+    map: &mut NewMap,
+    owners: &Owners,
+    z: u16,
+    run: Run,
+    next: Run,
+) -> Result<Stepped, DiskFault>
+    requires attached { IsTrue (D.attached disk.old) }
+    requires settled { IsFalse (D.pending disk.old) }
+    requires size { D.sector_size disk.old ≡ map.old.geometry.sector }
+    requires on_disk { map.old.geometry.map_sector + 2 * map.old.geometry.zones ≤ D.sectors disk.old }
+    requires disc { disc_sectors (Layout.New map.old) ≤ D.sectors disk.old }
+    requires ready { ForSome (D.bytes disk.old) (IsReady map.old owners.now) }
+    requires zone { z < map.old.geometry.zones }
+    requires pair { (front rest : List Run) × HasRuns map.old z (front ++ run ∷ next ∷ rest) }
+    ensures keeps { StopsAndExitsLeave D.Disk disk.old disk.new (Preserves map.old owners.now) }
+    ensures ready { OnOk result (ForSome (D.bytes disk.new) (IsReady map.new owners.now)) }
+    ensures steps { IfOk result (Steps owners.now map.old map.new z run next) }
+    ensures geometry { map.new.geometry ≡ map.old.geometry }
+    ensures durable { OnOk result (IsFalse (D.pending disk.new)) }
+    ensures form { SameForm D.Disk disk.old disk.new }
+    ensures cause { FailsByFault D.Disk disk.old disk.new result }
+{
+    laws();
+    map.is_map();
+    match step_of(map.geometry(), owners, run, next) {
+        Step::Done => Ok(Stepped {
+            run: next,
+            changed: false,
+        }),
+        Step::Merge => {
+            merge_runs(disk, map, owners, z, run, next)?;
+            Ok(Stepped {
+                run: Run {
+                    len: run.len + next.len,
+                    ..run
+                },
+                changed: true,
+            })
+        }
+        Step::Slide => {
+            slide(disk, map, owners, z, run.start)?;
+            Ok(Stepped {
+                run: Run {
+                    start: run.start + next.len,
+                    ..run
+                },
+                changed: true,
+            })
+        }
+    }
+}
+
+fn either(a: bool, b: bool) -> bool
+    ensures { result ≡ (a || b) }
+{
+    a || b
+}
+
+// Passes over the runs of a zone once, and takes the steps that are left. Answers whether one was.
+fn settle_pass<D: Disk>(
+    disk: &mut D,
+    map: &mut NewMap,
+    owners: &Owners,
+    z: u16,
+) -> Result<bool, DiskFault>
+    requires attached { IsTrue (D.attached disk.old) }
+    requires settled { IsFalse (D.pending disk.old) }
+    requires size { D.sector_size disk.old ≡ map.old.geometry.sector }
+    requires on_disk { map.old.geometry.map_sector + 2 * map.old.geometry.zones ≤ D.sectors disk.old }
+    requires disc { disc_sectors (Layout.New map.old) ≤ D.sectors disk.old }
+    requires ready { ForSome (D.bytes disk.old) (IsReady map.old owners.now) }
+    requires zone { z < map.old.geometry.zones }
+    ensures keeps { StopsAndExitsLeave D.Disk disk.old disk.new (Preserves map.old owners.now) }
+    ensures ready { OnOk result (ForSome (D.bytes disk.new) (IsReady map.new owners.now)) }
+    ensures passes { IfOk result (Passes owners.now map.old map.new z) }
+    ensures geometry { map.new.geometry ≡ map.old.geometry }
+    ensures durable { OnOk result (IsFalse (D.pending disk.new)) }
+    ensures form { SameForm D.Disk disk.old disk.new }
+    ensures cause { FailsByFault D.Disk disk.old disk.new result }
+{
+    laws();
+    map.is_map();
+    let Some(first) = map.first_in(z) else {
+        return Ok(false);
+    };
+    let mut run = first;
+    let mut changed = false;
+    while let Some(next) = map.next_in(z, run) {
+        let step = settle_pair(disk, map, owners, z, run, next)?;
+        run = step.run;
+        changed = either(changed, step.changed);
+    }
+    Ok(changed)
+}
+
+// Passes over a zone until nothing is left to do in it.
+fn settle_zone<D: Disk>(
+    disk: &mut D,
+    map: &mut NewMap,
+    owners: &Owners,
+    z: u16,
+) -> Result<(), DiskFault>
+    requires attached { IsTrue (D.attached disk.old) }
+    requires settled { IsFalse (D.pending disk.old) }
+    requires size { D.sector_size disk.old ≡ map.old.geometry.sector }
+    requires on_disk { map.old.geometry.map_sector + 2 * map.old.geometry.zones ≤ D.sectors disk.old }
+    requires disc { disc_sectors (Layout.New map.old) ≤ D.sectors disk.old }
+    requires ready { ForSome (D.bytes disk.old) (IsReady map.old owners.now) }
+    requires zone { z < map.old.geometry.zones }
+    ensures keeps { StopsAndExitsLeave D.Disk disk.old disk.new (Preserves map.old owners.now) }
+    ensures ready { OnOk result (ForSome (D.bytes disk.new) (IsReady map.new owners.now)) }
+    ensures packs { OnOk result (Packs owners.now map.old map.new) }
+    ensures others { OnOk result ((y : ℕ) → (y ≡ z → ⊥) → runs_of map.new y ≡ runs_of map.old y) }
+    ensures done { OnOk result (IsSettledZone owners.now map.new z) }
+    ensures geometry { map.new.geometry ≡ map.old.geometry }
+    ensures durable { OnOk result (IsFalse (D.pending disk.new)) }
+    ensures form { SameForm D.Disk disk.old disk.new }
+    ensures cause { FailsByFault D.Disk disk.old disk.new result }
+{
+    laws();
+    map.is_map();
+    let mut changed = true;
+    while changed {
+        changed = settle_pass(disk, map, owners, z)?;
+    }
+    Ok(())
+}
+
+/// Settles all zones, one after another.
+pub fn settle_all<D: Disk>(
+    disk: &mut D,
+    map: &mut NewMap,
+    owners: &Owners,
+) -> Result<(), DiskFault>
+    requires attached { IsTrue (D.attached disk.old) }
+    requires settled { IsFalse (D.pending disk.old) }
+    requires size { D.sector_size disk.old ≡ map.old.geometry.sector }
+    requires on_disk { map.old.geometry.map_sector + 2 * map.old.geometry.zones ≤ D.sectors disk.old }
+    requires disc { disc_sectors (Layout.New map.old) ≤ D.sectors disk.old }
+    requires ready { ForSome (D.bytes disk.old) (IsReady map.old owners.now) }
+    ensures keeps { StopsAndExitsLeave D.Disk disk.old disk.new (Preserves map.old owners.now) }
+    ensures ready { OnOk result (ForSome (D.bytes disk.new) (IsReady map.new owners.now)) }
+    ensures packs { OnOk result (Packs owners.now map.old map.new) }
+    ensures done { OnOk result ((z : ℕ) → z < map.new.geometry.zones → IsSettledZone owners.now map.new z) }
+    ensures geometry { map.new.geometry ≡ map.old.geometry }
+    ensures durable { OnOk result (IsFalse (D.pending disk.new)) }
+    ensures form { SameForm D.Disk disk.old disk.new }
+    ensures cause { FailsByFault D.Disk disk.old disk.new result }
+{
+    laws();
+    map.is_map();
+    let zones = map.geometry().zones;
+    for z in 0..zones {
+        settle_zone(disk, map, owners, z)?;
+    }
+    Ok(())
+}
