@@ -143,12 +143,12 @@ module _ (m n m' : Map) (edits : AreEdits m n) (runs : KeepsRuns n m') (contents
       let e : 32 + (first_bit z - 32) ≡ first_bit z = omega (arith, high) in
       record {
         outside = record {
-            header = subst (λ (k : ℕ). slice_range (bits (sector_of m' z)) 32 k ≡ slice_range (bits (sector_of m z)) 32 k) e
-                (slice_range-same (bits (sector_of m z)) (bits (sector_of m' z)) 32 (first_bit z - 32) (bits_long (sector_of m z) (sector_of m' z) (size z low))
-                (λ k from to. bit_outside z k low from (inl (omega (arith, to, high)))));
-            behind = behind_same (bits (sector_of m z)) (bits (sector_of m' z)) (end_bit m.geometry z) (sym (bits_long (sector_of m z) (sector_of m' z) (size z low)))
-                (λ k from. bit_outside z k low (omega (arith, from, behind_header z low)) (inr from));
-          };
+          header = subst (λ (k : ℕ). slice_range (bits (sector_of m' z)) 32 k ≡ slice_range (bits (sector_of m z)) 32 k) e
+              (slice_range-same (bits (sector_of m z)) (bits (sector_of m' z)) 32 (first_bit z - 32) (bits_long (sector_of m z) (sector_of m' z) (size z low))
+              (λ k from to. bit_outside z k low from (inl (omega (arith, to, high)))));
+          behind = behind_same (bits (sector_of m z)) (bits (sector_of m' z)) (end_bit m.geometry z) (sym (bits_long (sector_of m z) (sector_of m' z) (size z low)))
+              (λ k from. bit_outside z k low (omega (arith, from, behind_header z low)) (inr from));
+        };
         links = keeps_then (shape m.geometry z) (bits (sector_of m z)) (bits (sector_of n z)) (bits (sector_of m' z)) (runs_of m z) (runs_of n z) (runs_of m' z) (edits.links z)
             (subst (λ (g : Geometry). KeepsLinks (shape g z) (bits (sector_of n z)) (bits (sector_of m' z)) (runs_of n z) (runs_of m' z)) edits.geometry (committed_links z low));
       }

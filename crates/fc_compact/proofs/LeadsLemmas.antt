@@ -17,9 +17,9 @@ zone_none m z = record { outside = record { header = refl; behind = refl }; link
 zone_then : (a b c : Map) (z : ℕ) → b.geometry ≡ a.geometry → ZoneStays a b z → ZoneStays b c z → ZoneStays a c z
 zone_then a b c z same one two = record {
   outside = record {
-      header = two.outside.header ∙ one.outside.header;
-      behind = subst (λ (g : Geometry). Behind g z (bits (sector_of b z)) (bits (sector_of c z))) same two.outside.behind ∙ one.outside.behind;
-    };
+    header = two.outside.header ∙ one.outside.header;
+    behind = subst (λ (g : Geometry). Behind g z (bits (sector_of b z)) (bits (sector_of c z))) same two.outside.behind ∙ one.outside.behind;
+  };
   links = keeps_then (shape a.geometry z) (bits (sector_of a z)) (bits (sector_of b z)) (bits (sector_of c z)) (runs_of a z) (runs_of b z) (runs_of c z) one.links
       (subst (λ (g : Geometry). KeepsLinks (shape g z) (bits (sector_of b z)) (bits (sector_of c z)) (runs_of b z) (runs_of c z)) same two.links);
 }

@@ -32,9 +32,9 @@ pub preserves_then : (law : Laws) (m : Map) (owners : List Owner) (a b c : List 
 preserves_then law m owners a b c one two = record {
   objects = law.keeps_objects.after m.geometry a b c one.objects two.objects;
   frame = record {
-      same_length = two.frame.same_length ∙ one.frame.same_length;
-      outside = λ s out apart. two.frame.outside s out apart ∙ one.frame.outside s out apart;
-    };
+    same_length = two.frame.same_length ∙ one.frame.same_length;
+    outside = λ s out apart. two.frame.outside s out apart ∙ one.frame.outside s out apart;
+  };
 }
 
 -- a hole's sector is loose
@@ -94,11 +94,11 @@ module _ (m m' : Map) (owners : List Owner) (is : IsNewMap m) (is' : IsNewMap m'
   preserves_before a b p = record {
     objects = subst (λ (g : Geometry). KeepsObjects g a b) e p.objects;
     frame = record {
-        same_length = p.frame.same_length;
-        outside = λ s out apart.
-            subst (λ (g : Geometry). sector_at g.sector b s ≡ sector_at g.sector a s) e
-            (p.frame.outside s (subst (λ (g : Geometry). is_among (map_sectors g) s ≡ false) (sym e) out) (unless s apart (is_among (loose_sectors m' owners) s) refl));
-      };
+      same_length = p.frame.same_length;
+      outside = λ s out apart.
+          subst (λ (g : Geometry). sector_at g.sector b s ≡ sector_at g.sector a s) e
+          (p.frame.outside s (subst (λ (g : Geometry). is_among (map_sectors g) s ≡ false) (sym e) out) (unless s apart (is_among (loose_sectors m' owners) s) refl));
+    };
   }
     where
       unless : (s : ℕ) → is_among (loose_sectors m owners) s ≡ false → (b : Bool) → is_among (loose_sectors m' owners) s ≡ b → is_among (loose_sectors m' owners) s ≡ false

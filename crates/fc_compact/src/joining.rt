@@ -167,5 +167,15 @@ pub fn join<D: Disk>(
     let gap = map.run_from(zone, hole);
     let len = front_len(gap.len, bits, min);
     let changed = zones_of(map, id, zone);
-    join_into(disk, map, owners, id, zone, hole, len, gap.len - len, &changed)
+    join_into(
+        disk,
+        map,
+        owners,
+        id,
+        zone,
+        hole,
+        len,
+        gap.len - len,
+        &changed,
+    )
 }

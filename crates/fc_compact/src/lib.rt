@@ -17,6 +17,7 @@ ghost use Rattle.fc_compact.specs.Laws.{Laws};
 ghost use Rattle.fc_compact.specs.Compacting.{ByOwnersLaw};
 
 pub use joining::join;
+pub use settling::settle_all;
 pub use sliding::slide;
 
 // What fc_image and fc_newmap prove.

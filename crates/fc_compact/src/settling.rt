@@ -241,12 +241,17 @@ fn settle_zone<D: Disk>(
     Ok(())
 }
 
-/// Settles all zones, one after another.
-pub fn settle_all<D: Disk>(
-    disk: &mut D,
-    map: &mut NewMap,
-    owners: &Owners,
-) -> Result<(), DiskFault>
+/// Slides runs into the holes before them, and joins holes that touch and runs of one movable identifier that touch, zone
+/// after zone, until nothing is left to do between a run and the next. No run leaves its zone, and no memory is taken.
+///
+/// The disk is attached, has the geometry's sectors and holds the disc and both copies, and nothing is pending. If its
+/// bytes are known, they are an image that opens as a kind by this map, with two equal and sound copies of it, and
+/// these are the owners of its objects; at Ok this is so again, by the map as it is then.
+///
+/// After a crash at any moment and at every exit the image opens as before, with every object at its address and with its bytes, and
+/// what lies outside the map, holes and movable identifiers is as it was. It fails only if the disk's count of faults rose; what
+/// the map holds is then not said, but for its geometry.
+pub fn settle_all<D: Disk>(disk: &mut D, map: &mut NewMap, owners: &Owners) -> Result<(), DiskFault>
     requires attached { IsTrue (D.attached disk.old) }
     requires settled { IsFalse (D.pending disk.old) }
     requires size { D.sector_size disk.old ≡ map.old.geometry.sector }

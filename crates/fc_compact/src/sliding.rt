@@ -264,5 +264,7 @@ pub fn slide<D: Disk>(
 {
     let min = map.geometry().min;
     let pair = pair_at(map, zone, hole);
-    slide_run(disk, map, owners, zone, hole, pair.id, pair.hole, pair.len, min)
+    slide_run(
+        disk, map, owners, zone, hole, pair.id, pair.hole, pair.len, min,
+    )
 }

@@ -303,4 +303,3 @@ returns-clause-one g c =
     on_ok_weaker c.join_into.result
     (λ one. one ∙ ap (λ (k : ℕ). let p : ZoneRun = (z, run_at k len id) in p ∷ []) (sym named) ∙ ap (λ (r : Run). let p : ZoneRun = (z, r) in p ∷ []) (front_run m.geometry (bits_in (id_runs m id)) z id len run len_is))
     c.join_into.ensures.one
-

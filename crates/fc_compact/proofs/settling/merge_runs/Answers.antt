@@ -42,4 +42,3 @@ pub returns-clause-others : goal.returns-clause-others
 returns-clause-others g c =
     let a = c.args in
     on_ok_weaker c.commit_zone.result (λ done y other. merge_others c.laws.ensures a.map.now c.merge.new.self c.commit_zone.new.map a.owners.now c.is_map.ensures a.z a.one a.two c.requires.runs c.merge.ensures.edit c.merge.ensures.runs c.commit_zone.ensures.runs c.commit_zone.ensures.contents y other) c.commit_zone.ensures.durable
-

@@ -101,4 +101,3 @@ returns-in_ok-slide-in-Slide-clause-steps g c =
       falls = slid_falls m last is a.z a.run.start low slid c.in-Slide.ensures.0 kind;
       done = λ e. absurd (cc);
     }
-
