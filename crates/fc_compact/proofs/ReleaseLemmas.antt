@@ -1,0 +1,112 @@
+-- The runs of an identifier that become holes, and a hole whose front becomes a run.
+use Rattle.std.proofs.Common.{◌≡◌, ◌<◌, ◌≤◌, ◌⊎◌, inl, inr, ℕ, zero, suc, ◌+◌, ◌-◌, ◌%◌, Bool, true, false, cond, List, [], ◌∷◌, ◌++◌, map, slice_get, Some, None, refl, sym, ap, ◌∙◌, append_assoc, arith}
+use Rattle.std.specs.Prelude.{◌==◌, filter}
+use Rattle.std.proofs.lemmas.Bool.{eq-eqb, eqb-true, ne_eqb}
+use Rattle.std.proofs.lemmas.List.{map-append}
+use Rattle.fc_zone.specs.declared.Run.{Run}
+use Rattle.fc_zone.specs.declared.RunKind.{RunKind}
+use Rattle.fc_zone.specs.declared.RunKind.TheVariants as kinds
+use Rattle.fc_zone.specs.Edits.{HasHoleAt, HasRunAt, HasRunToSplit}
+use Rattle.fc_newmap.specs.Edits.{SplitsIn}
+use Rattle.fc_newmap.specs.Map.{Map, ZoneRun, has_id, sector_of, shape}
+use Rattle.fc_newmap.specs.NewMap.{IsNewMap}
+use Rattle.fc_newmap.specs.RunsLaw.{placed}
+use Rattle.fc_newmap.proofs.ComposeLemmas.{zone_cut}
+use Rattle.fc_compact.specs.Joining.{HasBetween, all_freed, freed, hole_part}
+use Rattle.fc_compact.specs.Sliding.{HasRuns, IsPart, hole_at}
+
+pub first_of : (left : List Run) (run : Run) → slice_get left 0 ≡ Some run → (rest : List Run) × (left ≡ run ∷ rest)
+first_of [] run e = absurd (cc)
+first_of (x ∷ left) run e = (left, ap (λ (r : Run). r ∷ left) (same x run e))
+  where
+    same : (a b : Run) → Some a ≡ Some b → a ≡ b
+    same a b f = cc
+
+pub none_of : (left : List Run) → slice_get left 0 ≡ None → left ≡ []
+none_of [] e = refl
+none_of (x ∷ left) e = absurd (cc)
+
+pub freed_more : (id : ℕ) (done rest : List Run) (run : Run) → map (freed id) (done ++ run ∷ []) ++ rest ≡ map (freed id) done ++ freed id run ∷ rest
+freed_more id done rest run =
+    ap (λ (rs : List Run). rs ++ rest) (map-append (freed id) done (run ∷ [])) ∙ append_assoc (map (freed id) done) (freed id run ∷ []) rest
+
+pub freed_start : (id : ℕ) (run : Run) → (freed id run).start ≡ run.start
+freed_start id run = by (has_id id run.kind)
+  where
+    by : (b : Bool) → (cond b (record run { kind = kinds.Hole }) run).start ≡ run.start
+    by true = refl
+    by false = refl
+
+-- where a run is released
+pub run_is_at : (m : Map) (z : ℕ) (run : Run) → IsNewMap m → z < m.geometry.zones → HasBetween m z run → HasRunAt (shape m.geometry z) (sector_of m z) run.start
+run_is_at m z run is low between = (run, (refl, (between.0, (between.1, zone_cut m z (between.0 ++ run ∷ between.1) is low between.2))))
+
+pub freed_is : (id : ℕ) (run : Run) (owner : ℕ) → run.kind ≡ kinds.Id owner → (owner == id) ≡ true → record run { kind = kinds.Hole } ≡ freed id run
+freed_is id run owner kind same = sym (ap (λ b. cond b (record run { kind = kinds.Hole }) run) (ap (has_id id) kind ∙ same))
+
+pub stays_is : (id : ℕ) (run : Run) → has_id id run.kind ≡ false → run ≡ freed id run
+stays_is id run e = sym (ap (λ b. cond b (record run { kind = kinds.Hole }) run) e)
+
+-- ---- what an identifier has then
+
+pub freed_none : (id z : ℕ) (runs : List Run) → filter (λ (p : ZoneRun). has_id id p.1.kind) (placed z (all_freed id runs)) ≡ []
+freed_none id z [] = refl
+freed_none id z (run ∷ runs) = by (has_id id run.kind) refl (freed_none id z runs)
+  where
+    by : (b : Bool) → has_id id run.kind ≡ b → filter (λ (p : ZoneRun). has_id id p.1.kind) (placed z (all_freed id runs)) ≡ []
+        → cond (has_id id (cond b (record run { kind = kinds.Hole }) run).kind) ((z, cond b (record run { kind = kinds.Hole }) run) ∷ filter (λ (p : ZoneRun). has_id id p.1.kind) (placed z (all_freed id runs))) (filter (λ (p : ZoneRun). has_id id p.1.kind) (placed z (all_freed id runs))) ≡ []
+    by true e none = none
+    by false e none = ap (λ b. cond b ((z, run) ∷ filter (λ (p : ZoneRun). has_id id p.1.kind) (placed z (all_freed id runs))) (filter (λ (p : ZoneRun). has_id id p.1.kind) (placed z (all_freed id runs)))) e ∙ none
+
+pub freed_other : (id k z : ℕ) (runs : List Run) → (k ≡ id → ⊥) → filter (λ (p : ZoneRun). has_id k p.1.kind) (placed z (all_freed id runs)) ≡ filter (λ (p : ZoneRun). has_id k p.1.kind) (placed z runs)
+freed_other id k z [] other = refl
+freed_other id k z (run ∷ runs) other =
+    by (has_id id run.kind) refl (freed_other id k z runs other)
+  where
+    of_other : (kind : RunKind) → has_id id kind ≡ true → has_id k kind ≡ false
+    of_other kinds.Hole e = refl
+    of_other (kinds.Id owner) e = ne_eqb owner k (λ same. other (sym same ∙ eqb-true owner id e))
+
+    by : (b : Bool) → has_id id run.kind ≡ b → filter (λ (p : ZoneRun). has_id k p.1.kind) (placed z (all_freed id runs)) ≡ filter (λ (p : ZoneRun). has_id k p.1.kind) (placed z runs)
+        → cond (has_id k (cond b (record run { kind = kinds.Hole }) run).kind) ((z, cond b (record run { kind = kinds.Hole }) run) ∷ (filter (λ (p : ZoneRun). has_id k p.1.kind) (placed z (all_freed id runs)))) (filter (λ (p : ZoneRun). has_id k p.1.kind) (placed z (all_freed id runs)))
+        ≡ cond (has_id k run.kind) ((z, run) ∷ filter (λ (p : ZoneRun). has_id k p.1.kind) (placed z runs)) (filter (λ (p : ZoneRun). has_id k p.1.kind) (placed z runs))
+    by true e same = same ∙ sym (ap (λ b. cond b ((z, run) ∷ filter (λ (p : ZoneRun). has_id k p.1.kind) (placed z runs)) (filter (λ (p : ZoneRun). has_id k p.1.kind) (placed z runs))) (of_other run.kind e))
+    by false e same = ap (λ (ps : List ZoneRun). cond (has_id k run.kind) ((z, run) ∷ ps) ps) same
+
+-- ---- the front of a hole
+
+pub hole_part_some : (start len : ℕ) (rest : List Run) → 0 < len → hole_part start len rest ≡ hole_at start len ∷ rest
+hole_part_some start len rest some = ap (λ b. cond b rest (hole_at start len ∷ rest)) (ne_eqb len 0 (omega arith))
+
+pub hole_part_none : (start len : ℕ) (rest : List Run) → len ≡ 0 → hole_part start len rest ≡ rest
+hole_part_none start len rest none = ap (λ b. cond b rest (hole_at start len ∷ rest)) (eq-eqb len 0 none)
+
+module _ (m : Map) (z start len left : ℕ) (front rest : List Run) (runs : HasRuns m z (front ++ hole_at start (len + left) ∷ rest)) where
+  pub hole_to_split : IsNewMap m → z < m.geometry.zones → len % m.geometry.q ≡ 0 → m.geometry.min ≤ len → 0 < left → IsPart m.geometry.min left
+      → HasRunToSplit (shape m.geometry z) (sector_of m z) start len
+  hole_to_split is low whole room some part = (
+    hole_at start (len + left),
+    (
+      refl,
+      record { whole = whole; room = room; rest_room = rest_room part },
+      (front, (rest, zone_cut m z (front ++ hole_at start (len + left) ∷ rest) is low runs)),
+    ),
+  )
+    where
+      rest_room : IsPart m.geometry.min left → len + m.geometry.min ≤ len + left
+      rest_room (inl none) = absurd (omega arith)
+      rest_room (inr more) = omega arith
+
+  pub hole_cut : (n : Map) → 0 < left → SplitsIn m n z start len → HasRuns n z (front ++ hole_at start len ∷ hole_part (start + len) left rest)
+  hole_cut n some splits =
+      splits front rest (hole_at start (len + left)) runs refl
+      ∙ ap (λ (k : ℕ). front ++ hole_at start len ∷ (hole_at (start + len) k ∷ rest)) (let e : len + left - len ≡ left = omega arith in e)
+      ∙ ap (λ (rs : List Run). front ++ hole_at start len ∷ rs) (sym (hole_part_some (start + len) left rest some))
+
+  pub hole_uncut : left ≡ 0 → HasRuns m z (front ++ hole_at start len ∷ hole_part (start + len) left rest)
+  hole_uncut none =
+      runs ∙ ap (λ (k : ℕ). front ++ hole_at start k ∷ rest) (let e : len + left ≡ len = omega arith in e)
+      ∙ ap (λ (rs : List Run). front ++ hole_at start len ∷ rs) (sym (hole_part_none (start + len) left rest none))
+
+pub hole_is_at : (m : Map) (z start len : ℕ) (front rest : List Run) → IsNewMap m → z < m.geometry.zones → HasRuns m z (front ++ hole_at start len ∷ rest) → HasHoleAt (shape m.geometry z) (sector_of m z) start
+hole_is_at m z start len front rest is low runs = (hole_at start len, (refl, refl, (front, (rest, zone_cut m z (front ++ hole_at start len ∷ rest) is low runs))))

@@ -1,0 +1,305 @@
+use Rattle.std.proofs.Common.{◌≡◌, ◌<◌, ◌⊎◌, inl, inr, ℕ, ◌+◌, ◌-◌, ◌%◌, Bool, true, false, ◌==◌, List, [], ◌∷◌, length, refl, ap, sym, subst, ◌∙◌, arith, cond}
+use Rattle.std.specs.Prelude.{All, Contains, ◌||◌, nat_lt, if◌then◌else◌}
+use Rattle.std.specs.List.{range_with_len}
+use Rattle.std.specs.List.Sorted.{IsStrictlyIncreasing}
+use Rattle.std.proofs.lemmas.List.Elements.{All-filter}
+use Rattle.std.proofs.lemmas.List.Kept.{IsStrictlyIncreasing-filter}
+use Rattle.std.proofs.lemmas.Result.{on_ok_weaker}
+use Rattle.fc_record.specs.declared.Geometry.{Geometry}
+use Rattle.fc_zone.specs.declared.Run.{Run}
+use Rattle.fc_zone.specs.declared.RunKind.TheVariants.{Id}
+use Rattle.fc_newmap.specs.Map.{Map, ZoneRun, bits_in, id_runs, sector_of, shape}
+use Rattle.fc_newmap.specs.NewMap.{IsNewMap}
+use Rattle.fc_zone.specs.Zone.{HasRun}
+use Rattle.fc_effects.specs.Placed.{front_of}
+use Rattle.fc_compact.specs.Joining.{HasBetween, has_run_in, is_listed, join_zones}
+use Rattle.fc_compact.specs.Sliding.{IsPart, hole_at, run_at}
+use Rattle.fc_compact.proofs.FoundLemmas.{listed_passes, range_below, range_rises}
+use Rattle.fc_compact.proofs.HoldLemmas.{few_zones, hole_between, hole_low, hole_named, id_bits_long, id_bits_whole, id_fits_field, movable_high, run_is_whole, run_short, same_run}
+use Rattle.fc_compact.proofs.ReleaseLemmas.{run_is_at}
+use Rattle.fc_compact.proofs.joining.join.Goals as goal
+
+-- a list with an element has a first one
+some_first : (xs : List ZoneRun) → 0 < length xs → (p : ZoneRun) × (ps : List ZoneRun) × (xs ≡ p ∷ ps)
+some_first [] some = absurd (omega arith)
+some_first (p ∷ ps) some = (p, ps, refl)
+
+pub bits_of-bits-requires : goal.bits_of-bits-requires
+bits_of-bits-requires g c =
+    let m = c.args.map.now in
+    let z = c.args.zone in
+    let id = c.args.id in
+    let is = c.geometry.ensures.map in
+    let cs = c.requires.runs in
+    let low = hole_low m is z cs.hole cs.there in
+    let between = hole_between m is z cs.hole cs.there in
+    let short = run_short m is z low between.0 between.1 cs.hole between.2 in
+    omega (arith, short, cs.room)
+
+pub run_from-gap-requires-clause-zone : goal.run_from-gap-requires-clause-zone
+run_from-gap-requires-clause-zone g c =
+    let m = c.args.map.now in
+    let z = c.args.zone in
+    let id = c.args.id in
+    let is = c.geometry.ensures.map in
+    let cs = c.requires.runs in
+    let low = hole_low m is z cs.hole cs.there in
+    let between = hole_between m is z cs.hole cs.there in
+    let short = run_short m is z low between.0 between.1 cs.hole between.2 in
+    low
+
+pub run_from-gap-requires-clause-run : goal.run_from-gap-requires-clause-run
+run_from-gap-requires-clause-run g c =
+    let m = c.args.map.now in
+    let z = c.args.zone in
+    let id = c.args.id in
+    let is = c.geometry.ensures.map in
+    let cs = c.requires.runs in
+    let low = hole_low m is z cs.hole cs.there in
+    let between = hole_between m is z cs.hole cs.there in
+    let short = run_short m is z low between.0 between.1 cs.hole between.2 in
+    subst (λ (k : ℕ). (run : Run) × ((run.start ≡ k) × HasRun (shape m.geometry z) (sector_of m z) run)) cs.named (run_is_at m z cs.hole is low between)
+
+pub front_len-len-requires-clause-fits : goal.front_len-len-requires-clause-fits
+front_len-len-requires-clause-fits g c =
+    let m = c.args.map.now in
+    let z = c.args.zone in
+    let id = c.args.id in
+    let is = c.geometry.ensures.map in
+    let cs = c.requires.runs in
+    let low = hole_low m is z cs.hole cs.there in
+    let between = hole_between m is z cs.hole cs.there in
+    let short = run_short m is z low between.0 between.1 cs.hole between.2 in
+    let gap_is : c.run_from-gap.result ≡ cs.hole = c.run_from-gap.ensures.value between.0 between.1 cs.hole between.2 cs.named in
+    let gap_len : c.run_from-gap.result.len ≡ cs.hole.len = ap (λ (r : Run). r.len) gap_is in
+    let bits_is : c.bits_of-bits.result ≡ bits_in (id_runs m id) = c.bits_of-bits.ensures in
+    let min_is : c.geometry.result.now.min ≡ m.geometry.min = ap (λ (h : Geometry). h.min) c.geometry.ensures.value in
+    let first = some_first (id_runs m id) cs.some in
+    let long = id_bits_long m is id first.0 first.1 first.2 in
+    omega (arith, bits_is, min_is, short, cs.room, long)
+
+pub front_len-len-requires-clause-room : goal.front_len-len-requires-clause-room
+front_len-len-requires-clause-room g c =
+    let m = c.args.map.now in
+    let z = c.args.zone in
+    let id = c.args.id in
+    let is = c.geometry.ensures.map in
+    let cs = c.requires.runs in
+    let low = hole_low m is z cs.hole cs.there in
+    let between = hole_between m is z cs.hole cs.there in
+    let short = run_short m is z low between.0 between.1 cs.hole between.2 in
+    let gap_is : c.run_from-gap.result ≡ cs.hole = c.run_from-gap.ensures.value between.0 between.1 cs.hole between.2 cs.named in
+    let gap_len : c.run_from-gap.result.len ≡ cs.hole.len = ap (λ (r : Run). r.len) gap_is in
+    let bits_is : c.bits_of-bits.result ≡ bits_in (id_runs m id) = c.bits_of-bits.ensures in
+    let min_is : c.geometry.result.now.min ≡ m.geometry.min = ap (λ (h : Geometry). h.min) c.geometry.ensures.value in
+    omega (arith, bits_is, gap_len, cs.room)
+
+pub zones_of-changed-requires : goal.zones_of-changed-requires
+zones_of-changed-requires g c =
+    let m = c.args.map.now in
+    let z = c.args.zone in
+    let id = c.args.id in
+    let is = c.geometry.ensures.map in
+    let cs = c.requires.runs in
+    let low = hole_low m is z cs.hole cs.there in
+    let between = hole_between m is z cs.hole cs.there in
+    let short = run_short m is z low between.0 between.1 cs.hole between.2 in
+    few_zones m is id z cs.few
+
+pub join_into-requires-clause-zone : goal.join_into-requires-clause-zone
+join_into-requires-clause-zone g c =
+    let m = c.args.map.now in
+    let z = c.args.zone in
+    let id = c.args.id in
+    let is = c.geometry.ensures.map in
+    let cs = c.requires.runs in
+    let low = hole_low m is z cs.hole cs.there in
+    let between = hole_between m is z cs.hole cs.there in
+    let short = run_short m is z low between.0 between.1 cs.hole between.2 in
+    low
+
+pub join_into-requires-clause-movable : goal.join_into-requires-clause-movable
+join_into-requires-clause-movable g c =
+    c.requires.runs.movable
+
+pub join_into-requires-clause-some_id : goal.join_into-requires-clause-some_id
+join_into-requires-clause-some_id g c =
+    let high = movable_high c.args.owners.now c.args.id c.requires.runs.movable in omega arith
+
+pub join_into-requires-clause-id_fits : goal.join_into-requires-clause-id_fits
+join_into-requires-clause-id_fits g c =
+    let m = c.args.map.now in
+    let z = c.args.zone in
+    let id = c.args.id in
+    let is = c.geometry.ensures.map in
+    let cs = c.requires.runs in
+    let low = hole_low m is z cs.hole cs.there in
+    let between = hole_between m is z cs.hole cs.there in
+    let short = run_short m is z low between.0 between.1 cs.hole between.2 in
+    let first = some_first (id_runs m id) cs.some in
+    let long = id_bits_long m is id first.0 first.1 first.2 in
+    id_fits_field m is id first.0 first.1 first.2
+
+pub join_into-requires-clause-whole : goal.join_into-requires-clause-whole
+join_into-requires-clause-whole g c =
+    let m = c.args.map.now in
+    let z = c.args.zone in
+    let id = c.args.id in
+    let is = c.geometry.ensures.map in
+    let cs = c.requires.runs in
+    let low = hole_low m is z cs.hole cs.there in
+    let between = hole_between m is z cs.hole cs.there in
+    let short = run_short m is z low between.0 between.1 cs.hole between.2 in
+    let gap_is : c.run_from-gap.result ≡ cs.hole = c.run_from-gap.ensures.value between.0 between.1 cs.hole between.2 cs.named in
+    let gap_len : c.run_from-gap.result.len ≡ cs.hole.len = ap (λ (r : Run). r.len) gap_is in
+    let bits_is : c.bits_of-bits.result ≡ bits_in (id_runs m id) = c.bits_of-bits.ensures in
+    let min_is : c.geometry.result.now.min ≡ m.geometry.min = ap (λ (h : Geometry). h.min) c.geometry.ensures.value in
+    let first = some_first (id_runs m id) cs.some in
+    let long = id_bits_long m is id first.0 first.1 first.2 in
+    elim c.front_len-len.ensures.which [
+      | inl all ↦ ap (λ k. k % m.geometry.q) (all ∙ gap_len) ∙ run_is_whole m is z low between.0 between.1 cs.hole between.2
+      | inr just ↦ ap (λ k. k % m.geometry.q) (just ∙ bits_is) ∙ id_bits_whole m is id first.0 first.1 first.2
+    ]
+
+pub join_into-requires-clause-room : goal.join_into-requires-clause-room
+join_into-requires-clause-room g c =
+    let m = c.args.map.now in
+    let z = c.args.zone in
+    let id = c.args.id in
+    let is = c.geometry.ensures.map in
+    let cs = c.requires.runs in
+    let low = hole_low m is z cs.hole cs.there in
+    let between = hole_between m is z cs.hole cs.there in
+    let short = run_short m is z low between.0 between.1 cs.hole between.2 in
+    let gap_is : c.run_from-gap.result ≡ cs.hole = c.run_from-gap.ensures.value between.0 between.1 cs.hole between.2 cs.named in
+    let gap_len : c.run_from-gap.result.len ≡ cs.hole.len = ap (λ (r : Run). r.len) gap_is in
+    let bits_is : c.bits_of-bits.result ≡ bits_in (id_runs m id) = c.bits_of-bits.ensures in
+    let min_is : c.geometry.result.now.min ≡ m.geometry.min = ap (λ (h : Geometry). h.min) c.geometry.ensures.value in
+    let first = some_first (id_runs m id) cs.some in
+    let long = id_bits_long m is id first.0 first.1 first.2 in
+    omega (arith, c.front_len-len.ensures.enough, bits_is, long)
+
+pub join_into-requires-clause-left : goal.join_into-requires-clause-left
+join_into-requires-clause-left g c =
+    let m = c.args.map.now in
+    let z = c.args.zone in
+    let id = c.args.id in
+    let is = c.geometry.ensures.map in
+    let cs = c.requires.runs in
+    let low = hole_low m is z cs.hole cs.there in
+    let between = hole_between m is z cs.hole cs.there in
+    let short = run_short m is z low between.0 between.1 cs.hole between.2 in
+    let gap_is : c.run_from-gap.result ≡ cs.hole = c.run_from-gap.ensures.value between.0 between.1 cs.hole between.2 cs.named in
+    let gap_len : c.run_from-gap.result.len ≡ cs.hole.len = ap (λ (r : Run). r.len) gap_is in
+    let bits_is : c.bits_of-bits.result ≡ bits_in (id_runs m id) = c.bits_of-bits.ensures in
+    let min_is : c.geometry.result.now.min ≡ m.geometry.min = ap (λ (h : Geometry). h.min) c.geometry.ensures.value in
+    subst (λ (k : ℕ). IsPart k (c.run_from-gap.result.len - c.front_len-len.result)) min_is c.front_len-len.ensures.left
+
+pub join_into-requires-clause-enough : goal.join_into-requires-clause-enough
+join_into-requires-clause-enough g c =
+    let m = c.args.map.now in
+    let z = c.args.zone in
+    let id = c.args.id in
+    let is = c.geometry.ensures.map in
+    let cs = c.requires.runs in
+    let low = hole_low m is z cs.hole cs.there in
+    let between = hole_between m is z cs.hole cs.there in
+    let short = run_short m is z low between.0 between.1 cs.hole between.2 in
+    let gap_is : c.run_from-gap.result ≡ cs.hole = c.run_from-gap.ensures.value between.0 between.1 cs.hole between.2 cs.named in
+    let gap_len : c.run_from-gap.result.len ≡ cs.hole.len = ap (λ (r : Run). r.len) gap_is in
+    let bits_is : c.bits_of-bits.result ≡ bits_in (id_runs m id) = c.bits_of-bits.ensures in
+    let min_is : c.geometry.result.now.min ≡ m.geometry.min = ap (λ (h : Geometry). h.min) c.geometry.ensures.value in
+    omega (arith, c.front_len-len.ensures.enough, bits_is)
+
+pub join_into-requires-clause-hole : goal.join_into-requires-clause-hole
+join_into-requires-clause-hole g c =
+    let m = c.args.map.now in
+    let z = c.args.zone in
+    let id = c.args.id in
+    let is = c.geometry.ensures.map in
+    let cs = c.requires.runs in
+    let low = hole_low m is z cs.hole cs.there in
+    let between = hole_between m is z cs.hole cs.there in
+    let short = run_short m is z low between.0 between.1 cs.hole between.2 in
+    let gap_is : c.run_from-gap.result ≡ cs.hole = c.run_from-gap.ensures.value between.0 between.1 cs.hole between.2 cs.named in
+    let gap_len : c.run_from-gap.result.len ≡ cs.hole.len = ap (λ (r : Run). r.len) gap_is in
+    let bits_is : c.bits_of-bits.result ≡ bits_in (id_runs m id) = c.bits_of-bits.ensures in
+    let min_is : c.geometry.result.now.min ≡ m.geometry.min = ap (λ (h : Geometry). h.min) c.geometry.ensures.value in
+    let len = c.front_len-len.result in
+    let all : cs.hole.len ≡ len + (c.run_from-gap.result.len - len) = omega (arith, gap_len, c.front_len-len.ensures.within) in
+    subst (λ (k : ℕ). HasBetween m z (hole_at c.args.hole k)) all (subst (HasBetween m z) (hole_named m is z cs.hole cs.there c.args.hole cs.named) between)
+
+pub join_into-requires-clause-rising : goal.join_into-requires-clause-rising
+join_into-requires-clause-rising g c =
+    let m = c.args.map.now in
+    let z = c.args.zone in
+    let id = c.args.id in
+    let is = c.geometry.ensures.map in
+    let cs = c.requires.runs in
+    let low = hole_low m is z cs.hole cs.there in
+    let between = hole_between m is z cs.hole cs.there in
+    let short = run_short m is z low between.0 between.1 cs.hole between.2 in
+    let t : ℕ → Bool = λ y. (y == z) || has_run_in m id y in
+    let listed : c.zones_of-changed.result.items ≡ join_zones m id z = c.zones_of-changed.ensures in
+    subst IsStrictlyIncreasing (sym listed) (IsStrictlyIncreasing-filter t (range_with_len 0 m.geometry.zones) (range_rises 0 m.geometry.zones))
+
+pub join_into-requires-clause-zones : goal.join_into-requires-clause-zones
+join_into-requires-clause-zones g c =
+    let m = c.args.map.now in
+    let z = c.args.zone in
+    let id = c.args.id in
+    let is = c.geometry.ensures.map in
+    let cs = c.requires.runs in
+    let low = hole_low m is z cs.hole cs.there in
+    let between = hole_between m is z cs.hole cs.there in
+    let short = run_short m is z low between.0 between.1 cs.hole between.2 in
+    let t : ℕ → Bool = λ y. (y == z) || has_run_in m id y in
+    let listed : c.zones_of-changed.result.items ≡ join_zones m id z = c.zones_of-changed.ensures in
+    subst (All (λ y. y < m.geometry.zones)) (sym listed) (All-filter t (λ (y : ℕ). y < m.geometry.zones) (range_with_len 0 m.geometry.zones) (range_below m.geometry.zones))
+
+pub join_into-requires-clause-listed : goal.join_into-requires-clause-listed
+join_into-requires-clause-listed g c =
+    let m = c.args.map.now in
+    let z = c.args.zone in
+    let id = c.args.id in
+    let is = c.geometry.ensures.map in
+    let cs = c.requires.runs in
+    let low = hole_low m is z cs.hole cs.there in
+    let between = hole_between m is z cs.hole cs.there in
+    let short = run_short m is z low between.0 between.1 cs.hole between.2 in
+    let t : ℕ → Bool = λ y. (y == z) || has_run_in m id y in
+    let listed : c.zones_of-changed.result.items ≡ join_zones m id z = c.zones_of-changed.ensures in
+    λ y below. ap (λ (xs : List ℕ). is_listed xs y) listed ∙ listed_passes t m.geometry.zones y below
+
+-- the front of the hole as a run
+front_run : (g : Geometry) (bits z id len : ℕ) (run : Run) → len ≡ cond (nat_lt run.len (bits + g.min)) run.len bits
+    → run_at run.start len id ≡ record (front_of g bits (z, run)).1 { kind = Id id }
+front_run g bits z id len run e = by (nat_lt run.len (bits + g.min)) e
+  where
+    by : (b : Bool) → len ≡ cond b run.len bits → run_at run.start len id ≡ record (let p : ZoneRun = cond b (z, run) (z, record run { len = bits }) in p).1 { kind = Id id }
+    by true f = ap (λ (k : ℕ). run_at run.start k id) f
+    by false f = ap (λ (k : ℕ). run_at run.start k id) f
+
+pub returns-clause-one : goal.returns-clause-one
+returns-clause-one g c =
+    let m = c.args.map.now in
+    let z = c.args.zone in
+    let id = c.args.id in
+    let is = c.geometry.ensures.map in
+    let cs = c.requires.runs in
+    let low = hole_low m is z cs.hole cs.there in
+    let between = hole_between m is z cs.hole cs.there in
+    let short = run_short m is z low between.0 between.1 cs.hole between.2 in
+    let gap_is : c.run_from-gap.result ≡ cs.hole = c.run_from-gap.ensures.value between.0 between.1 cs.hole between.2 cs.named in
+    let gap_len : c.run_from-gap.result.len ≡ cs.hole.len = ap (λ (r : Run). r.len) gap_is in
+    let bits_is : c.bits_of-bits.result ≡ bits_in (id_runs m id) = c.bits_of-bits.ensures in
+    let min_is : c.geometry.result.now.min ≡ m.geometry.min = ap (λ (h : Geometry). h.min) c.geometry.ensures.value in
+    let len = c.front_len-len.result in
+    λ run there named.
+    let same : run ≡ cs.hole = same_run m is z low run cs.hole (hole_between m is z run there) between (named ∙ sym cs.named) in
+    let len_is : len ≡ cond (nat_lt run.len (bits_in (id_runs m id) + m.geometry.min)) run.len (bits_in (id_runs m id)) =
+    c.front_len-len.ensures.value ∙ ap (λ k. cond (nat_lt k (c.bits_of-bits.result + c.geometry.result.now.min)) k c.bits_of-bits.result) (gap_len ∙ ap (λ (r : Run). r.len) (sym same))
+    ∙ ap (λ k. cond (nat_lt run.len (k + c.geometry.result.now.min)) run.len k) bits_is ∙ ap (λ k. cond (nat_lt run.len (bits_in (id_runs m id) + k)) run.len (bits_in (id_runs m id))) min_is in
+    on_ok_weaker c.join_into.result
+    (λ one. one ∙ ap (λ (k : ℕ). let p : ZoneRun = (z, run_at k len id) in p ∷ []) (sym named) ∙ ap (λ (r : Run). let p : ZoneRun = (z, r) in p ∷ []) (front_run m.geometry (bits_in (id_runs m id)) z id len run len_is))
+    c.join_into.ensures.one

@@ -1,0 +1,188 @@
+use Rattle.std.proofs.Common.{◌≡◌, ◌<◌, ℕ, ◌+◌, Bool, true, false, List, refl, ap, sym, subst, ◌∙◌, arith, Some}
+use Rattle.std.specs.Prelude.{◌==◌, ◌||◌, All, Contains}
+use Rattle.std.specs.List.Sorted.{IsStrictlyIncreasing}
+use Rattle.std.proofs.lemmas.Result.{on_ok_weaker}
+use Rattle.fc_record.specs.declared.Geometry.{Geometry}
+use Rattle.fc_newmap.specs.Map.{first_sector}
+use Rattle.fc_newmap.specs.Walk.{IsInZone}
+use Rattle.fc_newmap.proofs.ComposeLemmas.{edits_then}
+use Rattle.fc_device.proofs.DiskLaws.{laws}
+use Rattle.fc_device.proofs.StopLemmas.{keeps_then, led}
+use Rattle.fc_copies.proofs.PassLemmas.{keeps_told}
+use Rattle.fc_image.specs.Layout.{Layout, hole_sectors, id_sectors, is_among}
+use Rattle.fc_compact.specs.Joining.{ArePut, has_run_in, is_listed}
+use Rattle.fc_compact.specs.Sliding.{hole_at}
+use Rattle.fc_compact.proofs.JoinedLemmas.{Joins, front_in_hole, front_in_zone, front_on_disc, hole_after, hole_listed, joined_edits, joined_geometry, joined_leads, joined_one, joined_others, joined_preserves, joined_ready}
+use Rattle.fc_compact.proofs.KeptLemmas.{can_write}
+use Rattle.fc_compact.proofs.ListedLemmas.{unlisted}
+use Rattle.fc_compact.proofs.PreservesLemmas.{preserves_then}
+use Rattle.fc_compact.proofs.ShiftLemmas.{low_then}
+use Rattle.fc_compact.proofs.joining.join_into.Goals as goal
+
+pub extent_of-to-requires-clause-run : goal.extent_of-to-requires-clause-run
+extent_of-to-requires-clause-run g c =
+    let a = c.args in
+    let m = a.map.now in
+    let is = c.geometry.ensures.map in
+    let geo = c.geometry.ensures.value in
+    let req = c.requires in
+    subst (λ (h : Geometry). IsInZone h (a.z, hole_at a.start a.len)) (sym geo) (front_in_zone m is a.z req.zone a.start a.len a.left req.hole)
+
+pub copy_runs-requires-clause-to_on_disc : goal.copy_runs-requires-clause-to_on_disc
+copy_runs-requires-clause-to_on_disc g c =
+    let a = c.args in
+    let m = a.map.now in
+    let is = c.geometry.ensures.map in
+    let geo = c.geometry.ensures.value in
+    let req = c.requires in
+    let to_is : c.extent_of-to.result.first ≡ first_sector m.geometry (a.z, hole_at a.start (a.len + a.left)) = ap (λ e. e.first) c.extent_of-to.ensures ∙ ap (λ (h : Geometry). first_sector h (a.z, hole_at a.start a.len)) geo in
+    omega (arith, to_is, front_on_disc m is a.z req.zone a.start a.len a.left req.hole a.id req.enough)
+
+pub copy_runs-requires-clause-hole : goal.copy_runs-requires-clause-hole
+copy_runs-requires-clause-hole g c =
+    let a = c.args in
+    let m = a.map.now in
+    let is = c.geometry.ensures.map in
+    let geo = c.geometry.ensures.value in
+    let req = c.requires in
+    let to_is : c.extent_of-to.result.first ≡ first_sector m.geometry (a.z, hole_at a.start (a.len + a.left)) = ap (λ e. e.first) c.extent_of-to.ensures ∙ ap (λ (h : Geometry). first_sector h (a.z, hole_at a.start a.len)) geo in
+    λ i lt. subst (λ (x : ℕ). is_among (hole_sectors (Layout.New m)) (x + i) ≡ true) (sym to_is) (front_in_hole m is a.z req.zone a.start a.len a.left req.hole a.id req.enough i lt)
+
+pub release_all-requires-clause-rising : goal.release_all-requires-clause-rising
+release_all-requires-clause-rising g c = subst (λ (xs : List ℕ). IsStrictlyIncreasing xs) (sym c.as_slice.ensures.value) c.requires.rising
+
+pub release_all-requires-clause-zones : goal.release_all-requires-clause-zones
+release_all-requires-clause-zones g c = subst (λ (xs : List ℕ). All (λ y. y < c.args.map.now.geometry.zones) xs) (sym c.as_slice.ensures.value) c.requires.zones
+
+pub take_front-requires-clause-zone : goal.take_front-requires-clause-zone
+take_front-requires-clause-zone g c = subst (λ (h : Geometry). c.args.z < h.zones) (sym c.release_all.ensures.edits.edits.geometry) c.requires.zone
+
+pub take_front-requires-clause-hole : goal.take_front-requires-clause-hole
+take_front-requires-clause-hole g c =
+    let a = c.args in
+    let m = a.map.now in
+    let req = c.requires in
+    let n = c.release_all.new.map in
+    let changed = a.changed.now.items in
+    let listed_is = c.as_slice.ensures.value in
+    let listed = ap (λ (xs : List ℕ). is_listed xs a.z) listed_is ∙ hole_listed changed a.z (has_run_in m a.id a.z) (req.listed a.z req.zone) in
+    (_, _, hole_after m n a.id a.z a.start (a.len + a.left) c.as_slice.result.now c.release_all.ensures.runs listed req.hole)
+
+pub commit-requires-clause-zones : goal.commit-requires-clause-zones
+commit-requires-clause-zones g c =
+    subst (λ (h : Geometry). All (λ y. y < h.zones) c.args.changed.now.items) (sym (c.take_front.ensures.edit.geometry ∙ c.release_all.ensures.edits.edits.geometry)) c.requires.zones
+
+pub commit-requires-clause-ready : goal.commit-requires-clause-ready
+commit-requires-clause-ready g c = λ image told.
+    let a = c.args in
+    let m = a.map.now in
+    let req = c.requires in
+    let n = c.release_all.new.map in
+    let changed = a.changed.now.items in
+    let listed_is = c.as_slice.ensures.value in
+    let o = c.take_front.new.map in
+    can_write m o (edits_then m n o a.z c.release_all.ensures.edits.edits c.take_front.ensures.edit) changed image (c.copy_runs.ensures.still_ready image told).copies
+    (λ y low out.
+    let absent : is_listed changed y ≡ false = unlisted changed y out in
+    c.take_front.ensures.edit.others y (λ here. (let t = hole_listed changed a.z (has_run_in m a.id a.z) (req.listed a.z req.zone) in let u = ap (is_listed changed) here ∙ t in cc))
+    ∙ c.release_all.ensures.edits.others y (ap (λ (xs : List ℕ). is_listed xs y) listed_is ∙ absent))
+
+pub returns-clause-keeps : goal.returns-clause-keeps
+returns-clause-keeps g c =
+    let a = c.args in
+    let m = a.map.now in
+    let req = c.requires in
+    let n = c.release_all.new.map in
+    let changed = a.changed.now.items in
+    let listed_is = c.as_slice.ensures.value in
+    let o = c.take_front.new.map in
+    let last = c.commit.new.map in
+    let zones = c.as_slice.result.now in
+    let listed : (y : ℕ) → y < m.geometry.zones → is_listed zones y ≡ ((y == a.z) || has_run_in m a.id y) = λ y low. ap (λ (xs : List ℕ). is_listed xs y) listed_is ∙ req.listed y low in
+    let is = c.geometry.ensures.map in
+    let joins : Joins m n o last a.id a.z a.start a.len a.left zones =
+    record { released = c.release_all.ensures.edits; runs_n = c.release_all.ensures.runs; edit = c.take_front.ensures.edit; taken = c.take_front.ensures.runs; runs = c.commit.ensures.runs; contents = c.commit.ensures.contents } in
+    let geo = c.geometry.ensures.value in
+    let to_is : c.extent_of-to.result.first ≡ first_sector m.geometry (a.z, hole_at a.start (a.len + a.left)) = ap (λ e. e.first) c.extent_of-to.ensures ∙ ap (λ (h : Geometry). first_sector h (a.z, hole_at a.start a.len)) geo in
+    let put : (was : List ℕ) → g.D.Disk.bytes c.copy_runs.new.disk ≡ Some was → ArePut m.geometry.sector (first_sector m.geometry (a.z, hole_at a.start (a.len + a.left))) (id_sectors m a.id) was =
+    λ was told. subst (λ (x : ℕ). ArePut m.geometry.sector x (id_sectors m a.id) was) to_is (c.in_ok-copy_runs.ensures.put was told) in
+    let law = laws g.met.D.Disk in
+    keeps_then law (preserves_then c.laws.ensures m a.owners.now) c.copy_runs.ensures.keeps
+    (keeps_told law c.commit.ensures.keeps
+    (λ was image told left. joined_preserves c.laws.ensures m n o last a.owners.now is a.id a.z a.start a.len a.left zones req.zone joins req.hole listed was (c.copy_runs.ensures.still_ready was told) req.movable req.enough (put was told) image left))
+
+pub returns-clause-ready : goal.returns-clause-ready
+returns-clause-ready g c =
+    let a = c.args in
+    let m = a.map.now in
+    let req = c.requires in
+    let n = c.release_all.new.map in
+    let changed = a.changed.now.items in
+    let listed_is = c.as_slice.ensures.value in
+    let o = c.take_front.new.map in
+    let last = c.commit.new.map in
+    let zones = c.as_slice.result.now in
+    let listed : (y : ℕ) → y < m.geometry.zones → is_listed zones y ≡ ((y == a.z) || has_run_in m a.id y) = λ y low. ap (λ (xs : List ℕ). is_listed xs y) listed_is ∙ req.listed y low in
+    let is = c.geometry.ensures.map in
+    let joins : Joins m n o last a.id a.z a.start a.len a.left zones =
+    record { released = c.release_all.ensures.edits; runs_n = c.release_all.ensures.runs; edit = c.take_front.ensures.edit; taken = c.take_front.ensures.runs; runs = c.commit.ensures.runs; contents = c.commit.ensures.contents } in
+    let geo = c.geometry.ensures.value in
+    let to_is : c.extent_of-to.result.first ≡ first_sector m.geometry (a.z, hole_at a.start (a.len + a.left)) = ap (λ e. e.first) c.extent_of-to.ensures ∙ ap (λ (h : Geometry). first_sector h (a.z, hole_at a.start a.len)) geo in
+    let put : (was : List ℕ) → g.D.Disk.bytes c.copy_runs.new.disk ≡ Some was → ArePut m.geometry.sector (first_sector m.geometry (a.z, hole_at a.start (a.len + a.left))) (id_sectors m a.id) was =
+    λ was told. subst (λ (x : ℕ). ArePut m.geometry.sector x (id_sectors m a.id) was) to_is (c.in_ok-copy_runs.ensures.put was told) in
+    on_ok_weaker c.commit.result
+    (λ ends image is_now.
+    let before = led (laws g.met.D.Disk) c.commit.ensures.keeps image is_now in
+    joined_ready c.laws.ensures m n o last a.owners.now is a.id a.z a.start a.len a.left zones req.zone joins req.hole listed before.0 (c.copy_runs.ensures.still_ready before.0 before.1) req.movable req.enough (put before.0 before.1) image (ends before.0 before.1 image is_now))
+    c.commit.ensures.ends
+
+pub returns-clause-one : goal.returns-clause-one
+returns-clause-one g c =
+    let a = c.args in
+    let m = a.map.now in
+    let req = c.requires in
+    let n = c.release_all.new.map in
+    let changed = a.changed.now.items in
+    let listed_is = c.as_slice.ensures.value in
+    let o = c.take_front.new.map in
+    let last = c.commit.new.map in
+    let zones = c.as_slice.result.now in
+    let listed : (y : ℕ) → y < m.geometry.zones → is_listed zones y ≡ ((y == a.z) || has_run_in m a.id y) = λ y low. ap (λ (xs : List ℕ). is_listed xs y) listed_is ∙ req.listed y low in
+    let is = c.geometry.ensures.map in
+    let joins : Joins m n o last a.id a.z a.start a.len a.left zones =
+    record { released = c.release_all.ensures.edits; runs_n = c.release_all.ensures.runs; edit = c.take_front.ensures.edit; taken = c.take_front.ensures.runs; runs = c.commit.ensures.runs; contents = c.commit.ensures.contents } in
+    on_ok_weaker c.commit.result (λ done. joined_one c.laws.ensures m n o last a.owners.now is a.id a.z a.start a.len a.left zones req.zone joins req.hole listed) c.commit.ensures.durable
+
+pub returns-clause-others : goal.returns-clause-others
+returns-clause-others g c =
+    let a = c.args in
+    let m = a.map.now in
+    let req = c.requires in
+    let n = c.release_all.new.map in
+    let changed = a.changed.now.items in
+    let listed_is = c.as_slice.ensures.value in
+    let o = c.take_front.new.map in
+    let last = c.commit.new.map in
+    let zones = c.as_slice.result.now in
+    let listed : (y : ℕ) → y < m.geometry.zones → is_listed zones y ≡ ((y == a.z) || has_run_in m a.id y) = λ y low. ap (λ (xs : List ℕ). is_listed xs y) listed_is ∙ req.listed y low in
+    let is = c.geometry.ensures.map in
+    let joins : Joins m n o last a.id a.z a.start a.len a.left zones =
+    record { released = c.release_all.ensures.edits; runs_n = c.release_all.ensures.runs; edit = c.take_front.ensures.edit; taken = c.take_front.ensures.runs; runs = c.commit.ensures.runs; contents = c.commit.ensures.contents } in
+    on_ok_weaker c.commit.result (λ done k other. joined_others c.laws.ensures m n o last a.owners.now is a.id a.z a.start a.len a.left zones req.zone joins req.hole listed k other) c.commit.ensures.durable
+
+pub returns-clause-leads : goal.returns-clause-leads
+returns-clause-leads g c =
+    let a = c.args in
+    let m = a.map.now in
+    let req = c.requires in
+    let n = c.release_all.new.map in
+    let changed = a.changed.now.items in
+    let listed_is = c.as_slice.ensures.value in
+    let o = c.take_front.new.map in
+    let last = c.commit.new.map in
+    let zones = c.as_slice.result.now in
+    let listed : (y : ℕ) → y < m.geometry.zones → is_listed zones y ≡ ((y == a.z) || has_run_in m a.id y) = λ y low. ap (λ (xs : List ℕ). is_listed xs y) listed_is ∙ req.listed y low in
+    let is = c.geometry.ensures.map in
+    let joins : Joins m n o last a.id a.z a.start a.len a.left zones =
+    record { released = c.release_all.ensures.edits; runs_n = c.release_all.ensures.runs; edit = c.take_front.ensures.edit; taken = c.take_front.ensures.runs; runs = c.commit.ensures.runs; contents = c.commit.ensures.contents } in
+    on_ok_weaker c.commit.result (λ done. joined_leads c.laws.ensures m n o last a.owners.now is a.id a.z a.start a.len a.left zones req.zone joins req.hole listed req.movable) c.commit.ensures.durable

@@ -1,0 +1,191 @@
+use Rattle.std.proofs.Common.{◌≡◌, ◌<◌, ◌≤◌, ◌+◌, ◌∷◌, ◌++◌, [], ℕ, List, Bool, cond, refl, ap, sym, subst, ◌∙◌, arith, append_assoc, true, false, append-nil}
+use Rattle.std.specs.Prelude.{◌||◌, ◌&&◌, slice_get}
+use Rattle.fc_device.proofs.DiskLaws.{laws, form_then}
+use Rattle.fc_device.proofs.StopLemmas.{keeps_start}
+use Rattle.fc_record.specs.declared.Geometry.{Geometry}
+use Rattle.fc_zone.specs.declared.Run.{Run}
+use Rattle.fc_newmap.specs.Map.{runs_of}
+use Rattle.fc_newmap.proofs.ComposeLemmas.{zone_cut}
+use Rattle.fc_effects.specs.Settled.{passes_adjacent}
+use Rattle.fc_compact.specs.Compacting.{is_done_by}
+use Rattle.fc_compact.specs.Settling.{one_if, zone_weight}
+use Rattle.fc_compact.specs.Sliding.{HasRuns}
+use Rattle.fc_compact.proofs.GoneLemmas.{gone_disc, gone_keeps, gone_on_disk, gone_size, gone_start, gone_then, gone_zone}
+use Rattle.fc_compact.proofs.HoldLemmas.{run_short, run_is_long, some_min}
+use Rattle.fc_compact.proofs.PacksLemmas.{packs_none}
+use Rattle.fc_compact.proofs.PreservesLemmas.{preserves_same}
+use Rattle.fc_compact.proofs.ReleaseLemmas.{first_of, none_of}
+use Rattle.fc_compact.proofs.settling.settle_pass.Goals as goal
+
+pub returns-in_default-clause-keeps : goal.returns-in_default-clause-keeps
+returns-in_default-clause-keeps g c = keeps_start (laws g.met.D.Disk) (preserves_same c.laws.ensures c.args.map.now c.args.owners.now) c.args.disk.now c.requires.settled
+
+pub returns-in_default-clause-passes : goal.returns-in_default-clause-passes
+returns-in_default-clause-passes g c =
+    let none = none_of (runs_of c.args.map.now c.args.z) (sym c.first_in.ensures.value ∙ c.in_default.is) in
+    record {
+      packs = packs_none c.args.owners.now c.args.map.now c.is_map.ensures;
+      others = λ y other. refl;
+      falls = omega arith;
+      done = λ e. ap (passes_adjacent (is_done_by c.args.map.now.geometry c.args.owners.now)) none;
+    }
+
+pub loop-next-init : goal.loop-next-init
+loop-next-init g c =
+    let m = c.args.map.now in
+    let first = first_of (runs_of m c.args.z) c.in-Some.first (sym c.first_in.ensures.value ∙ c.in-Some.is) in
+    record {
+      gone = gone_start (laws g.met.D.Disk) c.laws.ensures c.args.owners.now c.args.disk.now m c.is_map.ensures c.requires.ready c.requires.settled;
+      others = λ y other. refl;
+      front = [];
+      rest = first.0;
+      cut = first.1;
+      falls = omega arith;
+      done = λ e. refl;
+    }
+
+pub next_in-requires-clause-zone : goal.next_in-requires-clause-zone
+next_in-requires-clause-zone g c = gone_zone c.args.owners.now c.args.disk.now c.args.map.now c.loop-next.disk c.loop-next.map c.loop-next.invariant.gone c.args.z c.requires.zone
+
+pub next_in-requires-clause-run : goal.next_in-requires-clause-run
+next_in-requires-clause-run g c =
+    let was = c.loop-next.invariant in
+    let low = gone_zone c.args.owners.now c.args.disk.now c.args.map.now c.loop-next.disk c.loop-next.map was.gone c.args.z c.requires.zone in
+    (was.front, (was.rest, zone_cut c.loop-next.map c.args.z (was.front ++ c.loop-next.run ∷ was.rest) was.gone.packs.leads.map low was.cut))
+
+pub settle_pair-requires-clause-size : goal.settle_pair-requires-clause-size
+settle_pair-requires-clause-size g c = gone_size c.args.owners.now c.args.disk.now c.args.map.now c.loop-next.disk c.loop-next.map c.loop-next.invariant.gone c.requires.size
+
+pub settle_pair-requires-clause-on_disk : goal.settle_pair-requires-clause-on_disk
+settle_pair-requires-clause-on_disk g c = gone_on_disk c.args.owners.now c.args.disk.now c.args.map.now c.loop-next.disk c.loop-next.map c.loop-next.invariant.gone c.requires.on_disk
+
+pub settle_pair-requires-clause-disc : goal.settle_pair-requires-clause-disc
+settle_pair-requires-clause-disc g c = gone_disc c.args.owners.now c.args.disk.now c.args.map.now c.loop-next.disk c.loop-next.map c.loop-next.invariant.gone c.requires.disc
+
+pub settle_pair-requires-clause-zone : goal.settle_pair-requires-clause-zone
+settle_pair-requires-clause-zone g c = gone_zone c.args.owners.now c.args.disk.now c.args.map.now c.loop-next.disk c.loop-next.map c.loop-next.invariant.gone c.args.z c.requires.zone
+
+pub settle_pair-requires-clause-settled : goal.settle_pair-requires-clause-settled
+settle_pair-requires-clause-settled g c = c.loop-next.invariant.gone.settled
+
+pub settle_pair-requires-clause-ready : goal.settle_pair-requires-clause-ready
+settle_pair-requires-clause-ready g c = c.loop-next.invariant.gone.ready
+
+pub settle_pair-requires-clause-pair : goal.settle_pair-requires-clause-pair
+settle_pair-requires-clause-pair g c =
+    let was = c.loop-next.invariant in
+    let next = c.in-Some-next_in.next in
+    let ahead = first_of was.rest next (sym (c.next_in.ensures.value was.front was.rest was.cut) ∙ c.in-Some-next_in.is) in
+    let here : HasRuns c.loop-next.map c.args.z (was.front ++ c.loop-next.run ∷ (next ∷ ahead.0)) = was.cut ∙ ap (λ (rs : List Run). was.front ++ c.loop-next.run ∷ rs) ahead.1 in
+    (was.front, ahead.0, here)
+
+pub returns-in_err-step-clause-keeps : goal.returns-in_err-step-clause-keeps
+returns-in_err-step-clause-keeps g c =
+    gone_keeps (laws g.met.D.Disk) c.laws.ensures c.args.owners.now c.args.disk.now c.args.map.now c.loop-next.disk c.loop-next.map c.loop-next.invariant.gone c.settle_pair.new.disk c.settle_pair.ensures.keeps
+
+-- one more is done
+adjacent_more : (f : Run → Run → Bool) (front : List Run) (last next : Run) → passes_adjacent f (front ++ last ∷ []) ≡ true → f last next ≡ true → passes_adjacent f ((front ++ last ∷ []) ++ next ∷ []) ≡ true
+adjacent_more f [] last next was e = ap (λ b. b && true) e
+adjacent_more f (x ∷ []) last next was e = by (f x last) (f last next) was e
+  where
+    by : (a b : Bool) → (a && true) ≡ true → b ≡ true → (a && (b && true)) ≡ true
+    by true true p q = refl
+    by true false p q = absurd (cc)
+    by false b p q = absurd (cc)
+adjacent_more f (x ∷ (y ∷ front)) last next was e = by (f x y) was (λ w. adjacent_more f (y ∷ front) last next w e)
+  where
+    by : (a : Bool) → (a && passes_adjacent f ((y ∷ front) ++ last ∷ [])) ≡ true → (passes_adjacent f ((y ∷ front) ++ last ∷ []) ≡ true → passes_adjacent f (((y ∷ front) ++ last ∷ []) ++ next ∷ []) ≡ true)
+        → (a && passes_adjacent f (((y ∷ front) ++ last ∷ []) ++ next ∷ [])) ≡ true
+    by true p more = more p
+    by false p more = absurd (cc)
+
+pub loop-next-smaller : goal.loop-next-smaller
+loop-next-smaller g c =
+    let was = c.loop-next.invariant in
+    let next = c.in-Some-next_in.next in
+    let ahead = first_of was.rest next (sym (c.next_in.ensures.value was.front was.rest was.cut) ∙ c.in-Some-next_in.is) in
+    let here : HasRuns c.loop-next.map c.args.z (was.front ++ c.loop-next.run ∷ (next ∷ ahead.0)) = was.cut ∙ ap (λ (rs : List Run). was.front ++ c.loop-next.run ∷ rs) ahead.1 in
+    let ok = c.in_ok-step.ensures in
+    let m = c.loop-next.map in
+    let low = gone_zone c.args.owners.now c.args.disk.now c.args.map.now c.loop-next.disk m was.gone c.args.z c.requires.zone in
+    let is = was.gone.packs.leads.map in
+    let cut = here ∙ sym (append_assoc was.front (c.loop-next.run ∷ []) (next ∷ ahead.0)) in
+    let short = run_short m is c.args.z low (was.front ++ c.loop-next.run ∷ []) ahead.0 next cut in
+    let long = run_is_long m is c.args.z low (was.front ++ c.loop-next.run ∷ []) ahead.0 next cut in
+    let min = some_min m is c.args.z low (was.front ++ c.loop-next.run ∷ []) ahead.0 next cut in
+    let follows = c.in-Some-next_in.ensures.run.1 in
+    let ends = ok.steps.ends in
+    omega (arith, short, long, min, follows, ends)
+
+pub loop-next-preserved : goal.loop-next-preserved
+loop-next-preserved g c =
+    let was = c.loop-next.invariant in
+    let next = c.in-Some-next_in.next in
+    let ahead = first_of was.rest next (sym (c.next_in.ensures.value was.front was.rest was.cut) ∙ c.in-Some-next_in.is) in
+    let here : HasRuns c.loop-next.map c.args.z (was.front ++ c.loop-next.run ∷ (next ∷ ahead.0)) = was.cut ∙ ap (λ (rs : List Run). was.front ++ c.loop-next.run ∷ rs) ahead.1 in
+    let ok = c.in_ok-step.ensures in
+    let steps = ok.steps in
+    let cut = steps.cut was.front ahead.0 here in
+    let either = c.either-changed.ensures in
+    let step = c.in_ok-step.step in
+    record {
+      gone = gone_then (laws g.met.D.Disk) c.laws.ensures c.args.owners.now c.args.disk.now c.args.map.now c.loop-next.disk c.loop-next.map was.gone c.settle_pair.new.disk c.settle_pair.new.map
+          ok.keeps ok.form ok.ready ok.durable steps.packs c.settle_pair.ensures.cause.later;
+      others = λ y other. steps.others y other ∙ was.others y other;
+      front = cut.0;
+      rest = ahead.0;
+      cut = cut.1.0;
+      falls = lower c.loop-next.changed step.changed c.either-changed.result either (zone_weight (runs_of c.settle_pair.new.map c.args.z)) (zone_weight (runs_of c.loop-next.map c.args.z)) (zone_weight (runs_of c.args.map.now c.args.z)) steps.falls was.falls;
+      done = λ e. (let both = neither c.loop-next.changed step.changed (sym either ∙ e) in
+          let d = steps.done both.1 in
+          let f = is_done_by c.args.map.now.geometry c.args.owners.now in
+          ap (λ (fr : List Run). passes_adjacent f (fr ++ step.run ∷ [])) (cut.1.1 both.1)
+          ∙ ap (λ (r : Run). passes_adjacent f ((was.front ++ c.loop-next.run ∷ []) ++ r ∷ [])) d.1
+          ∙ adjacent_more f was.front c.loop-next.run next (was.done both.0) (subst (λ (h : Geometry). is_done_by h c.args.owners.now c.loop-next.run next ≡ true) was.gone.geometry d.2));
+    }
+  where
+    neither : (a b : Bool) → (a || b) ≡ false → (a ≡ false) × (b ≡ false)
+    neither true b e = absurd (cc)
+    neither false b e = (refl, e)
+
+    lower : (a b r : Bool) → r ≡ (a || b) → (x y w : ℕ) → x + one_if b ≤ y → y + one_if a ≤ w → x + one_if r ≤ w
+    lower a b r e x y w p q = subst (λ (k : Bool). x + one_if k ≤ w) (sym e) (by a b p q)
+      where
+        by : (a b : Bool) → x + one_if b ≤ y → y + one_if a ≤ w → x + one_if (a || b) ≤ w
+        by true true p q = omega (arith, p, q)
+        by true false p q = omega (arith, p, q)
+        by false true p q = omega (arith, p, q)
+        by false false p q = omega (arith, p, q)
+
+pub returns-clause-keeps : goal.returns-clause-keeps
+returns-clause-keeps g c = c.loop-next.invariant.gone.keeps
+
+pub returns-clause-ready : goal.returns-clause-ready
+returns-clause-ready g c = c.loop-next.invariant.gone.ready
+
+pub returns-clause-passes : goal.returns-clause-passes
+returns-clause-passes g c =
+    let was = c.loop-next.invariant in
+    let none = none_of was.rest (sym (c.next_in.ensures.value was.front was.rest was.cut) ∙ c.in_default-next_in.is) in
+    record {
+      packs = was.gone.packs;
+      others = was.others;
+      falls = was.falls;
+      done = λ e. ap (passes_adjacent (is_done_by c.loop-next.map.geometry c.args.owners.now)) (was.cut ∙ ap (λ (rs : List Run). was.front ++ c.loop-next.run ∷ rs) none)
+          ∙ ap (λ (h : Geometry). passes_adjacent (is_done_by h c.args.owners.now) (was.front ++ c.loop-next.run ∷ [])) was.gone.geometry ∙ was.done e;
+    }
+
+pub returns-clause-geometry : goal.returns-clause-geometry
+returns-clause-geometry g c = c.loop-next.invariant.gone.geometry
+
+pub returns-clause-durable : goal.returns-clause-durable
+returns-clause-durable g c = c.loop-next.invariant.gone.settled
+
+pub returns-clause-form : goal.returns-clause-form
+returns-clause-form g c = c.loop-next.invariant.gone.form
+
+pub returns-in_err-step-clause-geometry : goal.returns-in_err-step-clause-geometry
+returns-in_err-step-clause-geometry g c = c.settle_pair.ensures.geometry ∙ c.loop-next.invariant.gone.geometry
+
+pub returns-in_err-step-clause-form : goal.returns-in_err-step-clause-form
+returns-in_err-step-clause-form g c = form_then g.D.Disk c.loop-next.invariant.gone.form c.settle_pair.ensures.form

@@ -1,0 +1,32 @@
+-- What compaction needs of an image, and has again after each of its steps.
+use Rattle.std.specs.Prelude.{◌≡◌, ℕ, ◌==◌, ◌||◌, ◌&&◌, nat_le, Bool, List}
+use Rattle.fc_record.specs.declared.DiscRecord.{DiscRecord}
+use Rattle.fc_record.specs.declared.Kind.{Kind}
+use Rattle.fc_newmap.specs.Map.{Map}
+use Rattle.fc_alloc.specs.declared.owner.Owner.{Owner}
+use Rattle.fc_alloc.specs.Owners.{is_id_owned}
+use Rattle.fc_copies.specs.Copies.{HoldsCopies}
+use Rattle.fc_image.specs.Layout.{Layout}
+use Rattle.fc_image.specs.Objects.{objects_of, is_owned}
+use Rattle.fc_image.specs.Walk.{Object}
+use Rattle.fc_image.specs.Opening.{Opened}
+use Rattle.fc_image.specs.Stays.{IsNewKind, OpensAs}
+
+-- By these owners the identifier is one that may move.
+abbrev pub is_movable_by : List Owner → ℕ → Bool
+is_movable_by owners id = is_id_owned owners id && nat_le 3 id
+
+-- They own the identifiers that the objects own.
+abbrev pub AreOwnersOf : List Owner → List Object → Type 0
+AreOwnersOf owners objects = (id : ℕ) → ((id == 2) || is_id_owned owners id) ≡ is_owned objects id
+
+-- The image opens as a kind with this map, of which it has two equal and sound copies, and these are its owners.
+pub record IsReady (m : Map) (owners : List Owner) (image : List ℕ) : Type 0 where
+  pub kind : Kind
+  pub of_record : DiscRecord
+  pub view : Opened
+  pub new_kind : IsNewKind kind of_record
+  pub opens : OpensAs image kind view
+  pub layout : view.layout ≡ Layout.New m
+  pub copies : HoldsCopies m.geometry m.zones image
+  pub owned : AreOwnersOf owners (objects_of view.listings)
