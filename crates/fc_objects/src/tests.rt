@@ -125,8 +125,19 @@ fn an_object_is_written_and_read_in_blocks(rt: HostRuntime) -> Result<(), Fail> 
     let sectors = disk.sectors();
     assert!(rt; sectors == 8);
     set_bytes(&mut disk, &[7; 600])?;
-    let padded = disk.bytes().iter().skip(512).take(256).enumerate().all(|(i, b)| *b == if i < 88 { 7 } else { 0 });
-    assert!(rt; padded && has_value(&mut disk, 0, 7)? && has_value(&mut disk, 1, 7)? && has_value(&mut disk, 3, 0)?);
+    let padded = disk
+        .bytes()
+        .iter()
+        .skip(512)
+        .take(256)
+        .enumerate()
+        .all(|(i, b)| *b == if i < 88 { 7 } else { 0 });
+    assert!(rt;
+        padded
+            && has_value(&mut disk, 0, 7)?
+            && has_value(&mut disk, 1, 7)?
+            && has_value(&mut disk, 3, 0)?
+    );
     assert!(rt; blocks(&mut disk)? == [512, 88, 0]);
     assert!(rt; set_bytes(&mut disk, &[]).is_err());
     Ok(())
