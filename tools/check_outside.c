@@ -9,6 +9,8 @@
                      none   no byte is moved, and the call succeeds
                      kill   the program is killed before the call
                      killed the program is killed after it
+   OUTSIDE_RECORD  the file that gets what is written to descriptors above 2: for each write its place and length, 8 bytes each in
+                   the machine's order, and its bytes; for each sync two words of ones
 */
 #define _GNU_SOURCE
 #include <errno.h>
@@ -40,6 +42,7 @@ static struct fault faults[16];
 static int fault_count;
 static long calls[KINDS];
 static int journal = -1;
+static int record = -1;
 
 static enum how how_of(const char *word, int *error) {
   static const char *const words[] = {"short", "one", "none", "kill", "killed"};
@@ -59,15 +62,38 @@ static void add_fault(const char *item) {
   fault_count++;
 }
 
-/* The journal gets a high descriptor: the lowest free ones are what the program would see. */
-__attribute__((constructor)) static void begin(void) {
-  const char *path = getenv("OUTSIDE_LOG"), *item = getenv("OUTSIDE_FAULTS");
-  for (; item && *item; item = strchr(item, ',') ? strchr(item, ',') + 1 : "") add_fault(item);
-  if (!path) return;
+/* Files of its own get high descriptors: the lowest free ones are what the program would see. */
+static int opened_high(const char *path) {
+  if (!path) return -1;
   int low = syscall(SYS_openat, AT_FDCWD, path, O_WRONLY | O_CREAT | O_APPEND | O_CLOEXEC, 0600);
-  journal = syscall(SYS_fcntl, low, F_DUPFD_CLOEXEC, 200);
+  int high = syscall(SYS_fcntl, low, F_DUPFD_CLOEXEC, 200);
   syscall(SYS_close, low);
+  return high;
+}
+
+__attribute__((constructor)) static void begin(void) {
+  const char *item = getenv("OUTSIDE_FAULTS");
+  for (; item && *item; item = strchr(item, ',') ? strchr(item, ',') + 1 : "") add_fault(item);
+  journal = opened_high(getenv("OUTSIDE_LOG"));
+  record = opened_high(getenv("OUTSIDE_RECORD"));
   memset(calls, 0, sizeof calls);
+}
+
+static void put(const void *from, size_t count) {
+  if (syscall(SYS_write, record, from, count) != (long)count) abort();
+}
+
+/* What was written to a file, and where. */
+static void keep_write(int fd, const void *from, long count, long place) {
+  if (record < 0 || fd <= 2 || count <= 0) return;
+  long words[2] = {place, count};
+  put(words, sizeof words);
+  put(from, count);
+}
+
+static void keep_sync(void) {
+  static const long words[2] = {-1, -1};
+  if (record >= 0) put(words, sizeof words);
 }
 
 static const struct fault *fault_now(enum kind kind) {
@@ -167,7 +193,9 @@ ssize_t pread(int fd, void *into, size_t count, off_t place) {
 ssize_t write(int fd, const void *from, size_t count) {
   const struct fault *fault = fault_now(WRITE);
   size_t part = moved(fault, count);
+  long place = record < 0 ? 0 : syscall(SYS_lseek, fd, 0, SEEK_CUR);
   long answer = is_before(fault) ? failed(fault) : count && !part ? 0 : syscall(SYS_write, fd, from, part);
+  keep_write(fd, from, answer, place);
   note(WRITE, answer, span(fd, 0, count));
   after(fault);
   return answer;
@@ -177,6 +205,7 @@ ssize_t pwrite(int fd, const void *from, size_t count, off_t place) {
   const struct fault *fault = fault_now(PWRITE);
   size_t part = moved(fault, count);
   long answer = is_before(fault) ? failed(fault) : count && !part ? 0 : syscall(SYS_pwrite64, fd, from, part, place);
+  keep_write(fd, from, answer, place);
   note(PWRITE, answer, span(fd, place, count));
   after(fault);
   return answer;
@@ -187,6 +216,7 @@ int fsync(int fd) {
   const struct fault *fault = fault_now(FSYNC);
   struct stat found;
   long answer = is_before(fault) ? failed(fault) : fstat(fd, &found);
+  if (!answer) keep_sync();
   note(FSYNC, answer, !answer && S_ISDIR(found.st_mode) ? "folder" : "file");
   after(fault);
   return answer;
