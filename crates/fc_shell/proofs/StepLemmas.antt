@@ -126,7 +126,14 @@ module _ {D : Type 0} {d : Ghosts D} (law : Laws d) (kind : Kind) (v : Volume) (
 
 -- The volume stands for a disk that was read.
 pub stands_read : {D : Type 0} (d : Ghosts D) (v : Volume) (old new : D) → OnlyReads d old new → StandsFor d v old → StandsFor d v new
-stands_read d v old new reads stands = rw (reads.form.size_stays, reads.form.sectors_stay, reads.bytes) stands
+stands_read d v old new reads stands = record {
+  size = reads.form.size_stays ∙ stands.size;
+  room = rw reads.form.sectors_stay stands.room;
+  map_room = rw reads.form.sectors_stay stands.map_room;
+  agree = stands.agree;
+  image = rw reads.bytes stands.image;
+  copies = rw reads.bytes stands.copies;
+}
 
 ready_if : (result : Result Bool LineFault) (P : Type 0) → P → IfOk result (λ refused. P)
 ready_if (Ok refused) P p = p
