@@ -19,11 +19,11 @@ pub record Tries (owners : List Owner) (m m' : Map) (id : ℕ) (joined : Bool) :
 abbrev pub run_count : List Owner → Map → ℕ
 run_count owners m = sum_by (λ o. length (id_runs m o.id)) owners
 
--- All owners' identifiers have been tried.
-pub record TriesAll (owners : List Owner) (m m' : Map) (any : Bool) : Type 0 where
+-- The identifiers of a list of owners have been tried.
+pub record TriesAll (owners list : List Owner) (m m' : Map) (any : Bool) : Type 0 where
   pub packs : Packs owners m m'
-  pub falls : run_count owners m' + one_if any ≤ run_count owners m
-  pub none : any ≡ false → (o : Owner) → Contains owners o → is_movable_by owners o.id ≡ true → can_join m' o.id ≡ false
+  pub falls : run_count list m' + one_if any ≤ run_count list m
+  pub none : any ≡ false → (o : Owner) → Contains list o → is_movable_by owners o.id ≡ true → can_join m' o.id ≡ false
 
 -- all zones are settled
 abbrev pub AreSettledZones : List Owner → Map → Type 0

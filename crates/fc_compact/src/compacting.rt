@@ -14,7 +14,7 @@ use crate::joinable::{has_several, in_few_zones, longest_hole};
 use crate::joining::join;
 use crate::laws;
 use crate::settling::{either, is_movable, settle_all};
-use fc_alloc::Owners;
+use fc_alloc::{Owner, Owners};
 use fc_device::{Disk, DiskFault};
 use fc_newmap::NewMap;
 
@@ -89,8 +89,13 @@ fn join_and_settle<D: Disk>(
     Ok(true)
 }
 
-// Tries the identifiers of all owners once. Answers whether one was joined.
-fn join_pass<D: Disk>(disk: &mut D, map: &mut NewMap, owners: &Owners) -> Result<bool, DiskFault>
+// Tries the identifiers of these owners once. Answers whether one was joined.
+fn join_pass<D: Disk>(
+    disk: &mut D,
+    map: &mut NewMap,
+    owners: &Owners,
+    list: &[Owner],
+) -> Result<bool, DiskFault>
     requires attached { IsTrue (D.attached disk.old) }
     requires settled { IsFalse (D.pending disk.old) }
     requires size { D.sector_size disk.old ≡ map.old.geometry.sector }
@@ -100,7 +105,7 @@ fn join_pass<D: Disk>(disk: &mut D, map: &mut NewMap, owners: &Owners) -> Result
     requires done { AreSettledZones owners.now map.old }
     ensures keeps { StopsAndExitsLeave D.Disk disk.old disk.new (Preserves map.old owners.now) }
     ensures ready { OnOk result (ForSome (D.bytes disk.new) (IsReady map.new owners.now)) }
-    ensures tries { IfOk result (TriesAll owners.now map.old map.new) }
+    ensures tries { IfOk result (TriesAll owners.now list.now map.old map.new) }
     ensures done { OnOk result (AreSettledZones owners.now map.new) }
     ensures geometry { map.new.geometry ≡ map.old.geometry }
     ensures durable { OnOk result (IsFalse (D.pending disk.new)) }
@@ -110,7 +115,7 @@ fn join_pass<D: Disk>(disk: &mut D, map: &mut NewMap, owners: &Owners) -> Result
     laws();
     map.is_map();
     let mut any = false;
-    for owner in owners.list() {
+    for owner in list {
         let joined = join_and_settle(disk, map, owners, owner.id)?;
         any = either(any, joined);
     }
@@ -146,10 +151,12 @@ pub fn compact<D: Disk>(disk: &mut D, map: &mut NewMap, owners: &Owners) -> Resu
     ensures cause { FailsByFault D.Disk disk.old disk.new result }
 {
     laws();
+    map.is_map();
     settle_all(disk, map, owners)?;
+    let list = owners.list();
     let mut any = true;
     while any {
-        any = join_pass(disk, map, owners)?;
+        any = join_pass(disk, map, owners, list)?;
     }
     Ok(())
 }
