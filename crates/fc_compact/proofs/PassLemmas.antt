@@ -94,7 +94,7 @@ module _ (m : Map) (is : IsNewMap m) (id : ℕ) where
         let least = min_some (omega (arith, several)) in
         let zero : longest (hole_runs m) ≡ 0 = ap longest none in
         sym (not_second (nat_lt 1 (length (id_runs m id)) && nat_le (length (zones_with m id)) 8) (nat_le (bits_in (id_runs m id)) (longest (hole_runs m)))
-            (lt-leb (bits_in (id_runs m id)) (longest (hole_runs m)) (omega (arith, zero, least.0, least.1)))))
+        (lt-leb (bits_in (id_runs m id)) (longest (hole_runs m)) (omega (arith, zero, least.0, least.1)))))
     | inr one ↦ first_not (nat_lt 1 (length (id_runs m id))) (nat_le (length (zones_with m id)) 8) (nat_le (bits_in (id_runs m id)) (longest (hole_runs m))) (le-ltb 1 (length (id_runs m id)) one)
   ]
 
@@ -127,7 +127,7 @@ module _ (owners : List Owner) (m m' : Map) (id zone : ℕ) (hole : Run) (leads 
       by bits fit least long more now len single e = elim (cases_lt hole.len (bits + m.geometry.min)) [
         | inl less ↦ (
             let f : now ≡ hole.len = e ∙ (let z : (front_of m.geometry bits (zone, hole)).1.len + 0 ≡ (front_of m.geometry bits (zone, hole)).1.len = omega arith in z)
-                ∙ ap (λ (b : Bool). let p : ZoneRun = cond b (zone, hole) (zone, record hole { len = bits }) in p.1.len) (lt-ltb hole.len (bits + m.geometry.min) less) in
+            ∙ ap (λ (b : Bool). let p : ZoneRun = cond b (zone, hole) (zone, record hole { len = bits }) in p.1.len) (lt-ltb hole.len (bits + m.geometry.min) less) in
             inr (more, single, omega (arith, f, fit), omega (arith, f, less)))
         | inr ge ↦ inl (
             e ∙ (let z : (front_of m.geometry bits (zone, hole)).1.len + 0 ≡ (front_of m.geometry bits (zone, hole)).1.len = omega arith in z)

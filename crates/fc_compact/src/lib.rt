@@ -42,3 +42,6 @@ fn laws()
 pub fn by_owners()
     ensures { ByOwnersLaw }
 {}
+
+#[cfg(test)]
+mod tests;

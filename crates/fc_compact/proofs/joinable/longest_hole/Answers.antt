@@ -40,4 +40,3 @@ loop-hole-preserved c =
       ];
       most = longest_more hole (holes_in r.0) c.loop-hole.best.1.len best.1.len (longest (hole_runs m)) (holes_in was.left) r.1.0 c.longer-best.ensures.len was.most;
     }
-
