@@ -19,3 +19,4 @@ mod PacksLemmas
 mod MergeLemmas
 mod SlidLemmas
 mod GoneLemmas
+mod PassLemmas

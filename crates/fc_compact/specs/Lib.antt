@@ -6,3 +6,4 @@ pub mod Joining
 pub mod Steps
 pub mod Laws
 pub mod Settling
+pub mod Passing

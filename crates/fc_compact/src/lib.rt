@@ -5,8 +5,10 @@
 //! the map that makes the copy current is committed.
 #![tactic(auto)]
 
+mod compacting;
 mod copying;
 mod finding;
+mod joinable;
 mod joining;
 mod releasing;
 mod settling;
@@ -16,6 +18,7 @@ mod sliding;
 ghost use Rattle.fc_compact.specs.Laws.{Laws};
 ghost use Rattle.fc_compact.specs.Compacting.{ByOwnersLaw};
 
+pub use compacting::compact;
 pub use joining::join;
 pub use settling::settle_all;
 pub use sliding::slide;
@@ -39,3 +42,6 @@ fn laws()
 pub fn by_owners()
     ensures { ByOwnersLaw }
 {}
+
+#[cfg(test)]
+mod tests;

@@ -1,0 +1,19 @@
+use Rattle.std.proofs.Common.{◌≡◌, ◌+◌, ℕ, true, false}
+use Rattle.std.specs.Prelude.{Contains}
+use Rattle.fc_alloc.specs.declared.owner.Owner.{Owner}
+use Rattle.fc_effects.specs.Settled.{can_join}
+use Rattle.fc_compact.specs.Passing.{AreSettledZones, run_count}
+use Rattle.fc_compact.specs.Ready.{is_movable_by}
+use Rattle.fc_compact.specs.Settling.{one_if}
+use Rattle.fc_compact.proofs.GoneLemmas.{Gone}
+use Rattle.fc_compact.proofs.compacting.compact.Given as goal
+
+abbrev pub invariant-loop-any : goal.invariant-loop-any
+invariant-loop-any g l = record {
+  gone : Gone g.D.Disk l.owners l.fn.disk l.fn.map l.disk l.map;
+  done : AreSettledZones l.owners l.map;
+  none : l.any ≡ false → (o : Owner) → Contains l.owners o → is_movable_by l.owners o.id ≡ true → can_join l.map o.id ≡ false;
+}
+
+abbrev pub decreases-loop-any : goal.decreases-loop-any
+decreases-loop-any g l = run_count l.owners l.map + one_if l.any

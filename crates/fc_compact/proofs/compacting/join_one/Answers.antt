@@ -1,0 +1,48 @@
+use Rattle.std.proofs.Common.{◌≡◌, ◌<◌, ◌≤◌, ℕ, ◌+◌, true, false, List, [], refl, sym, ap, ◌∙◌, arith}
+use Rattle.std.specs.Prelude.{◌&&◌, nat_le, nat_lt, length}
+use Rattle.std.proofs.lemmas.Bool.{ltb-true, leb-true}
+use Rattle.fc_device.proofs.DiskLaws.{laws}
+use Rattle.fc_device.proofs.StopLemmas.{keeps_start}
+use Rattle.fc_newmap.specs.Map.{bits_in, id_runs}
+use Rattle.fc_effects.specs.Settled.{can_join}
+use Rattle.fc_compact.specs.Passing.{Tries}
+use Rattle.fc_compact.specs.Ready.{is_movable_by}
+use Rattle.fc_compact.proofs.PassLemmas.{both_true, no_hole, no_room, too_many, tries_joined, tries_none}
+use Rattle.fc_compact.proofs.PreservesLemmas.{preserves_same}
+use Rattle.fc_compact.proofs.compacting.join_one.Goals as goal
+
+pub returns-then-not-is_movable-clause-keeps : goal.returns-then-not-is_movable-clause-keeps
+returns-then-not-is_movable-clause-keeps g c = keeps_start (laws g.met.D.Disk) (preserves_same c.laws.ensures c.args.map.now c.args.owners.now) c.args.disk.now c.requires.settled
+
+pub returns-in_default-clause-keeps : goal.returns-in_default-clause-keeps
+returns-in_default-clause-keeps g c = keeps_start (laws g.met.D.Disk) (preserves_same c.laws.ensures c.args.map.now c.args.owners.now) c.args.disk.now c.requires.settled
+
+pub returns-then-not-has_several-clause-keeps : goal.returns-then-not-has_several-clause-keeps
+returns-then-not-has_several-clause-keeps g c = keeps_start (laws g.met.D.Disk) (preserves_same c.laws.ensures c.args.map.now c.args.owners.now) c.args.disk.now c.requires.settled
+
+pub returns-then-not-in_few_zones-clause-keeps : goal.returns-then-not-in_few_zones-clause-keeps
+returns-then-not-in_few_zones-clause-keeps g c = keeps_start (laws g.met.D.Disk) (preserves_same c.laws.ensures c.args.map.now c.args.owners.now) c.args.disk.now c.requires.settled
+
+pub returns-then-not-is_movable-clause-tries : goal.returns-then-not-is_movable-clause-tries
+returns-then-not-is_movable-clause-tries g c =
+    let stuck : is_movable_by c.args.owners.now c.args.id ≡ false = sym c.is_movable.ensures ∙ c.if-not-is_movable.true in
+    tries_none c.args.owners.now c.args.map.now c.is_map.ensures c.args.id (λ may. absurd (let e : true ≡ false = sym may ∙ stuck in cc))
+
+pub returns-in_default-clause-tries : goal.returns-in_default-clause-tries
+returns-in_default-clause-tries g c = tries_none c.args.owners.now c.args.map.now c.is_map.ensures c.args.id (λ may. no_hole c.args.map.now c.is_map.ensures c.args.id c.in_default.ensures)
+
+pub returns-then-not-has_several-clause-tries : goal.returns-then-not-has_several-clause-tries
+returns-then-not-has_several-clause-tries g c =
+    tries_none c.args.owners.now c.args.map.now c.is_map.ensures c.args.id (λ may. no_room c.args.map.now c.is_map.ensures c.args.id c.in-Some.hole.len c.in-Some.ensures.1 (sym c.has_several.ensures ∙ c.if-not-has_several.true))
+
+pub returns-then-not-in_few_zones-clause-tries : goal.returns-then-not-in_few_zones-clause-tries
+returns-then-not-in_few_zones-clause-tries g c =
+    tries_none c.args.owners.now c.args.map.now c.is_map.ensures c.args.id (λ may. too_many c.args.map.now c.is_map.ensures c.args.id (sym c.in_few_zones.ensures ∙ c.if-not-in_few_zones.true))
+
+pub returns-clause-tries : goal.returns-clause-tries
+returns-clause-tries g c =
+    let m = c.args.map.now in
+    let id = c.args.id in
+    let both = both_true (nat_lt 1 (length (id_runs m id))) (nat_le (bits_in (id_runs m id)) c.in-Some.hole.len) (sym c.has_several.ensures ∙ c.if-not-has_several.false) in
+    tries_joined c.args.owners.now m c.join.new.map id c.in-Some.zone c.in-Some.hole c.in_ok-join.ensures.leads (ltb-true 1 (length (id_runs m id)) both.0) (leb-true (bits_in (id_runs m id)) c.in-Some.hole.len both.1)
+    (c.in_ok-join.ensures.one c.in-Some.hole c.in-Some.ensures.0 refl) c.in_ok-join.ensures.others (sym c.is_movable.ensures ∙ c.if-not-is_movable.false)

@@ -1,0 +1,46 @@
+use Rattle.std.proofs.Common.{◌≡◌, ◌<◌, ◌≤◌, ℕ, ◌+◌, true, false, List, [], refl, sym, ap, ◌∙◌, arith}
+use Rattle.fc_device.proofs.DiskLaws.{laws}
+use Rattle.fc_alloc.specs.declared.owner.Owner.{Owner}
+use Rattle.fc_compact.specs.Passing.{run_count}
+use Rattle.fc_compact.proofs.GoneLemmas.{gone_keeps, gone_start, gone_then}
+use Rattle.fc_compact.proofs.PassLemmas.{all_taken, falls_more, none_more}
+use Rattle.fc_compact.proofs.compacting.join_pass.Goals as goal
+
+pub loop-owner-init : goal.loop-owner-init
+loop-owner-init g c = record {
+  gone = gone_start (laws g.met.D.Disk) c.laws.ensures c.args.owners.now c.args.disk.now c.args.map.now c.is_map.ensures c.requires.ready c.requires.settled;
+  done = c.requires.done;
+  falls = omega arith;
+  none = λ e o there may. absurd (let l = there.1 in omega arith);
+}
+
+pub returns-in_err-joined-clause-keeps : goal.returns-in_err-joined-clause-keeps
+returns-in_err-joined-clause-keeps g c =
+    gone_keeps (laws g.met.D.Disk) c.laws.ensures c.args.owners.now c.args.disk.now c.args.map.now c.loop-owner.disk c.loop-owner.map c.loop-owner.invariant.gone c.join_and_settle.new.disk c.join_and_settle.ensures.keeps
+
+pub loop-owner-preserved : goal.loop-owner-preserved
+loop-owner-preserved g c =
+    let was = c.loop-owner.invariant in
+    let ok = c.in_ok-joined.ensures in
+    let m = c.loop-owner.map in
+    let n = c.join_and_settle.new.map in
+    let list = c.args.list.now in
+    let i = c.loop-owner.owner-index in
+    record {
+      gone = gone_then (laws g.met.D.Disk) c.laws.ensures c.args.owners.now c.args.disk.now c.args.map.now c.loop-owner.disk m was.gone c.join_and_settle.new.disk n
+          ok.keeps ok.form ok.ready ok.durable ok.tries.packs c.join_and_settle.ensures.cause.later;
+      done = ok.done;
+      falls = falls_more c.args.owners.now list m n i c.loop-owner-test.true record { id = 0; dir = 0; node = 0; file = false; low = 0; first = 0; sectors = 0 }
+          c.loop-owner.any c.in_ok-joined.joined c.either-any.result c.either-any.ensures ok.tries (run_count list c.args.map.now) was.falls;
+      none = none_more c.args.owners.now list m n i c.loop-owner-test.true record { id = 0; dir = 0; node = 0; file = false; low = 0; first = 0; sectors = 0 }
+          c.loop-owner.any c.in_ok-joined.joined c.either-any.result c.either-any.ensures ok.tries was.none;
+    }
+
+pub returns-clause-tries : goal.returns-clause-tries
+returns-clause-tries g c =
+    let was = c.loop-owner.invariant in
+    record {
+      packs = was.gone.packs;
+      falls = was.falls;
+      none = λ e o there may. was.none e o (all_taken c.args.list.now c.loop-owner.owner-index (omega (arith, c.loop-owner-test.false)) o there) may;
+    }

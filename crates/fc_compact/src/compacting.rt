@@ -1,0 +1,162 @@
+// Compaction of a whole map.
+ghost use Rattle.std.specs.Prelude.{◌≡◌, ◌<◌, ◌≤◌, ◌+◌, ◌*◌, false, ℕ, IsTrue, IsFalse, OnOk, IfOk};
+ghost use Rattle.std.specs.Option.{ForSome};
+ghost use Rattle.fc_device.specs.Calls.{FailsByFault, SameForm, StopsAndExitsLeave};
+ghost use Rattle.fc_newmap.specs.Map.{id_runs};
+ghost use Rattle.fc_image.specs.Layout.{Layout, disc_sectors};
+ghost use Rattle.fc_image.specs.Moves.{KeepsObjects};
+ghost use Rattle.fc_compact.specs.Ready.{IsReady, is_movable_by};
+ghost use Rattle.fc_compact.specs.Compacting.{ChangesLoose, CompactedBy, IsSettledBy, ZoneStays};
+ghost use Rattle.fc_compact.specs.Passing.{AreSettledZones, Tries, TriesAll};
+ghost use Rattle.fc_compact.specs.Steps.{Packs, Preserves};
+
+use crate::joinable::{has_several, in_few_zones, longest_hole};
+use crate::joining::join;
+use crate::laws;
+use crate::settling::{either, is_movable, settle_all};
+use fc_alloc::{Owner, Owners};
+use fc_device::{Disk, DiskFault};
+use fc_newmap::NewMap;
+
+// Joins the runs of an identifier, if it has several that the longest hole holds. Answers whether it did.
+fn join_one<D: Disk>(
+    disk: &mut D,
+    map: &mut NewMap,
+    owners: &Owners,
+    id: u32,
+) -> Result<bool, DiskFault>
+    requires attached { IsTrue (D.attached disk.old) }
+    requires settled { IsFalse (D.pending disk.old) }
+    requires size { D.sector_size disk.old ≡ map.old.geometry.sector }
+    requires on_disk { map.old.geometry.map_sector + 2 * map.old.geometry.zones ≤ D.sectors disk.old }
+    requires disc { disc_sectors (Layout.New map.old) ≤ D.sectors disk.old }
+    requires ready { ForSome (D.bytes disk.old) (IsReady map.old owners.now) }
+    ensures keeps { StopsAndExitsLeave D.Disk disk.old disk.new (Preserves map.old owners.now) }
+    ensures ready { OnOk result (ForSome (D.bytes disk.new) (IsReady map.new owners.now)) }
+    ensures tries { IfOk result (Tries owners.now map.old map.new id) }
+    ensures geometry { map.new.geometry ≡ map.old.geometry }
+    ensures durable { OnOk result (IsFalse (D.pending disk.new)) }
+    ensures form { SameForm D.Disk disk.old disk.new }
+    ensures cause { FailsByFault D.Disk disk.old disk.new result }
+{
+    laws();
+    map.is_map();
+    if !is_movable(owners, id) {
+        return Ok(false);
+    }
+    let Some((zone, hole)) = longest_hole(map) else {
+        return Ok(false);
+    };
+    if !has_several(map, id, hole.len) {
+        return Ok(false);
+    }
+    if !in_few_zones(map, id) {
+        return Ok(false);
+    }
+    join(disk, map, owners, id, zone, hole.start)?;
+    Ok(true)
+}
+
+// Joins the runs of an identifier, and settles the zones again. Answers whether it did.
+fn join_and_settle<D: Disk>(
+    disk: &mut D,
+    map: &mut NewMap,
+    owners: &Owners,
+    id: u32,
+) -> Result<bool, DiskFault>
+    requires attached { IsTrue (D.attached disk.old) }
+    requires settled { IsFalse (D.pending disk.old) }
+    requires size { D.sector_size disk.old ≡ map.old.geometry.sector }
+    requires on_disk { map.old.geometry.map_sector + 2 * map.old.geometry.zones ≤ D.sectors disk.old }
+    requires disc { disc_sectors (Layout.New map.old) ≤ D.sectors disk.old }
+    requires ready { ForSome (D.bytes disk.old) (IsReady map.old owners.now) }
+    requires done { AreSettledZones owners.now map.old }
+    ensures keeps { StopsAndExitsLeave D.Disk disk.old disk.new (Preserves map.old owners.now) }
+    ensures ready { OnOk result (ForSome (D.bytes disk.new) (IsReady map.new owners.now)) }
+    ensures tries { IfOk result (Tries owners.now map.old map.new id) }
+    ensures done { OnOk result (AreSettledZones owners.now map.new) }
+    ensures geometry { map.new.geometry ≡ map.old.geometry }
+    ensures durable { OnOk result (IsFalse (D.pending disk.new)) }
+    ensures form { SameForm D.Disk disk.old disk.new }
+    ensures cause { FailsByFault D.Disk disk.old disk.new result }
+{
+    laws();
+    let joined = join_one(disk, map, owners, id)?;
+    if !joined {
+        return Ok(false);
+    }
+    settle_all(disk, map, owners)?;
+    Ok(true)
+}
+
+// Tries the identifiers of these owners once. Answers whether one was joined.
+fn join_pass<D: Disk>(
+    disk: &mut D,
+    map: &mut NewMap,
+    owners: &Owners,
+    list: &[Owner],
+) -> Result<bool, DiskFault>
+    requires attached { IsTrue (D.attached disk.old) }
+    requires settled { IsFalse (D.pending disk.old) }
+    requires size { D.sector_size disk.old ≡ map.old.geometry.sector }
+    requires on_disk { map.old.geometry.map_sector + 2 * map.old.geometry.zones ≤ D.sectors disk.old }
+    requires disc { disc_sectors (Layout.New map.old) ≤ D.sectors disk.old }
+    requires ready { ForSome (D.bytes disk.old) (IsReady map.old owners.now) }
+    requires done { AreSettledZones owners.now map.old }
+    ensures keeps { StopsAndExitsLeave D.Disk disk.old disk.new (Preserves map.old owners.now) }
+    ensures ready { OnOk result (ForSome (D.bytes disk.new) (IsReady map.new owners.now)) }
+    ensures tries { IfOk result (TriesAll owners.now list.now map.old map.new) }
+    ensures done { OnOk result (AreSettledZones owners.now map.new) }
+    ensures geometry { map.new.geometry ≡ map.old.geometry }
+    ensures durable { OnOk result (IsFalse (D.pending disk.new)) }
+    ensures form { SameForm D.Disk disk.old disk.new }
+    ensures cause { FailsByFault D.Disk disk.old disk.new result }
+{
+    laws();
+    map.is_map();
+    let mut any = false;
+    for owner in list {
+        let joined = join_and_settle(disk, map, owners, owner.id)?;
+        any = either(any, joined);
+    }
+    Ok(any)
+}
+
+/// Slides runs into the holes before them, joins what touches, and moves identifiers of several runs into holes that hold
+/// them, until nothing is left to do. No memory is taken.
+///
+/// The disk is attached, has the geometry's sectors and holds the disc and both copies, and nothing is pending. If its
+/// bytes are known, they are an image that opens as a kind by this map, with two equal and sound copies of it, and
+/// these are the owners of its objects; at Ok this is so again, by the map as it is then.
+///
+/// After a crash at any moment and at every exit the image opens as before, with every object at its address and with its bytes. It
+/// fails only if the disk's count of faults rose; what the map holds is then not said, but for its geometry.
+pub fn compact<D: Disk>(disk: &mut D, map: &mut NewMap, owners: &Owners) -> Result<(), DiskFault>
+    requires attached { IsTrue (D.attached disk.old) }
+    requires settled { IsFalse (D.pending disk.old) }
+    requires size { D.sector_size disk.old ≡ map.old.geometry.sector }
+    requires on_disk { map.old.geometry.map_sector + 2 * map.old.geometry.zones ≤ D.sectors disk.old }
+    requires disc { disc_sectors (Layout.New map.old) ≤ D.sectors disk.old }
+    requires ready { ForSome (D.bytes disk.old) (IsReady map.old owners.now) }
+    ensures keeps { StopsAndExitsLeave D.Disk disk.old disk.new (KeepsObjects map.old.geometry) }
+    ensures frame { StopsAndExitsLeave D.Disk disk.old disk.new (ChangesLoose map.old owners.now) }
+    ensures ready { OnOk result (ForSome (D.bytes disk.new) (IsReady map.new owners.now)) }
+    ensures settled { OnOk result (IsSettledBy map.new owners.now) }
+    ensures compacted { OnOk result (CompactedBy map.old map.new owners.now) }
+    ensures fixed { OnOk result ((id : ℕ) → is_movable_by owners.now id ≡ false → id_runs map.new id ≡ id_runs map.old id) }
+    ensures zones { OnOk result ((z : ℕ) → z < map.old.geometry.zones → ZoneStays map.old map.new z) }
+    ensures geometry { map.new.geometry ≡ map.old.geometry }
+    ensures durable { OnOk result (IsFalse (D.pending disk.new)) }
+    ensures form { SameForm D.Disk disk.old disk.new }
+    ensures cause { FailsByFault D.Disk disk.old disk.new result }
+{
+    laws();
+    map.is_map();
+    settle_all(disk, map, owners)?;
+    let list = owners.list();
+    let mut any = true;
+    while any {
+        any = join_pass(disk, map, owners, list)?;
+    }
+    Ok(())
+}
