@@ -7,4 +7,9 @@ mod ReadingLemmas
 mod BlockLemmas
 mod CatLemmas
 mod FreeLemmas
+mod CarryLemmas
+mod AgreeLemmas
+mod RepairedLemmas
+mod CompactedLemmas
+mod StandsLemmas
 mod PieceLemmas

@@ -5,3 +5,4 @@ pub mod Misplaced
 pub mod Owners
 pub mod Mounting
 pub mod Reading
+pub mod Compacting

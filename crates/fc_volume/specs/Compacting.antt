@@ -1,0 +1,76 @@
+-- What compaction of a volume answers and leaves.
+use Rattle.std.specs.Prelude.{◌≡◌, ◌<◌, false, List, ℕ, Result, Ok, Err}
+use Rattle.std.specs.Option.{ForSome}
+use Rattle.fc_device.specs.declared.disk.Disk.{Ghosts}
+use Rattle.fc_device.specs.Calls.{StopsAndExitsLeave}
+use Rattle.fc_record.specs.declared.DiscRecord.{DiscRecord}
+use Rattle.fc_record.specs.declared.Kind.{Kind}
+use Rattle.fc_newmap.specs.Map.{Map, id_runs}
+use Rattle.fc_newmap.specs.NewMap.{IsNewMap}
+use Rattle.fc_copies.specs.Copies.{ChangesCopies, Chooses}
+use Rattle.fc_alloc.specs.declared.owner.Owner.{Owner}
+use Rattle.fc_image.specs.Layout.{Layout}
+use Rattle.fc_image.specs.Objects.{objects_of}
+use Rattle.fc_image.specs.Opening.{Opened}
+use Rattle.fc_image.specs.Moves.{KeepsObjects}
+use Rattle.fc_image.specs.Stays.{IsNewKind, OpensAs}
+use Rattle.fc_effects.specs.Effect.{State, Compacts}
+use Rattle.fc_compact.specs.Ready.{AreOwnersOf, IsReady, is_movable_by}
+use Rattle.fc_compact.specs.Compacting.{ChangesLoose, CompactedBy, IsSettledBy, ZoneStays}
+use Rattle.fc_tree.specs.Parts.{Parts, ArePartsOf}
+use Rattle.fc_volume.specs.declared.copies.Copies.{Copies}
+use Rattle.fc_volume.specs.declared.lines.CommandError.{CommandError}
+use Rattle.fc_volume.specs.declared.lines.CommandError.TheVariants.{Refused, NoMemory, DiskFault}
+use Rattle.fc_volume.specs.Volume.{HasCopies}
+
+-- P, unless the disk failed
+abbrev pub UnlessFault : {T : Type 0} → Result T CommandError → Type 0 → Type 0
+UnlessFault (Ok value) P = P
+UnlessFault (Err (Refused refusal)) P = P
+UnlessFault (Err NoMemory) P = P
+UnlessFault (Err DiskFault) P = Unit {0}
+
+-- ---- the map
+
+-- Of an image before, only the copies of the map have changed, and the one that counts still has the map's zones.
+pub record KeepsMap (m : Map) (was image : List ℕ) : Type 0 where
+  pub frame : ChangesCopies m.geometry was image
+  pub content : Chooses m.geometry m.zones image
+
+-- The image opens as a kind with this map, its copies are as they are known to be, and these are its owners.
+pub record CanCompact (m : Map) (copies : Copies) (owners : List Owner) (image : List ℕ) : Type 0 where
+  pub kind : Kind
+  pub of_record : DiscRecord
+  pub view : Opened
+  pub new_kind : IsNewKind kind of_record
+  pub opens : OpensAs image kind view
+  pub layout : view.layout ≡ Layout.New m
+  pub copies_are : HasCopies copies (Layout.New m) image
+  pub owned : AreOwnersOf owners (objects_of view.listings)
+
+-- What compaction has made of a map in memory, by the owners of its identifiers.
+pub record IsCompacted (m m' : Map) (owners : List Owner) : Type 0 where
+  pub geometry : m'.geometry ≡ m.geometry
+  pub was_map : IsNewMap m
+  pub is_map : IsNewMap m'
+  pub settled : IsSettledBy m' owners
+  pub compacted : CompactedBy m m' owners
+  pub fixed : (id : ℕ) → is_movable_by owners id ≡ false → id_runs m' id ≡ id_runs m id
+  pub zones : (z : ℕ) → z < m.geometry.zones → ZoneStays m m' z
+
+-- Every stop and every exit keeps all objects, and changes only the map, holes and what may move.
+pub record KeepsDisc {D : Type 0} (d : Ghosts D) (m : Map) (owners : List Owner) (old new : D) : Type 0 where
+  pub objects : StopsAndExitsLeave d old new (KeepsObjects m.geometry)
+  pub frame : StopsAndExitsLeave d old new (ChangesLoose m owners)
+
+-- The map in memory is compacted, and if the disk tells its bytes, its image has that map.
+pub record IsDone {D : Type 0} (d : Ghosts D) (m m' : Map) (owners : List Owner) (new : D) : Type 0 where
+  pub map : IsCompacted m m' owners
+  pub ready : ForSome (d.bytes new) (IsReady m' owners)
+
+-- ---- the volume
+
+-- As each kind as which the image opens, and by each view whose parts these are, the other image is compacted, and has the other parts.
+abbrev pub CompactsParts : Parts → Parts → List ℕ → List ℕ → Type 0
+CompactsParts was now image other = (kind : Kind) (view : Opened) → OpensAs image kind view → ArePartsOf was view
+    → (after : Opened) × Compacts kind (record { image = image; view = view }) (record { image = other; view = after }) × ArePartsOf now after
