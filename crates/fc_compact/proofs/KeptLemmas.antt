@@ -12,18 +12,16 @@ use Rattle.fc_record.specs.Kinds.{map_record}
 use Rattle.fc_record.specs.Record.{end_bit, first_bit, record_of}
 use Rattle.fc_zone.specs.declared.Run.{Run}
 use Rattle.fc_zone.specs.Edits.{KeepsLinks}
-use Rattle.fc_zone.specs.Zone.{field_at, hole_starts}
+use Rattle.fc_zone.specs.Zone.{hole_starts}
 use Rattle.fc_zone.proofs.EditLemmas.{field_at-same}
 use Rattle.fc_zone.proofs.WrittenLemmas.{keeps_then}
 use Rattle.fc_zone.proofs.ZoneLemmas.{holes_are_runs, starts_within}
 use Rattle.fc_newmap.specs.Edits.{AreEdits, KeepsRuns}
 use Rattle.fc_newmap.specs.Map.{Map, runs_of, sector_of, shape}
-use Rattle.fc_newmap.specs.NewMap.{IsNewMap}
 use Rattle.fc_newmap.proofs.GeometryLemmas.{header_high}
 use Rattle.fc_newmap.proofs.HeldLemmas.{shape_fits}
 use Rattle.fc_copies.specs.Committing.{CanWrite, KeepsContents}
 use Rattle.fc_copies.specs.Copies.{HoldsCopies}
-use Rattle.fc_effects.specs.Steady.{KeepsOrWritesLinks}
 use Rattle.fc_compact.specs.Compacting.{ZoneStays}
 
 -- the lowest eight bits are those of the first byte

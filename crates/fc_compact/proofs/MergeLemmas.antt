@@ -1,7 +1,7 @@
 -- Two runs of a zone that become one.
-use Rattle.std.proofs.Common.{◌≡◌, ◌<◌, ◌≤◌, inl, inr, ℕ, ◌+◌, ◌*◌, ◌/◌, ◌%◌, Bool, true, false, cond, List, [], ◌∷◌, ◌++◌, length, length-append, refl, sym, ap, ap₂, subst, ◌∙◌, arith, append_assoc}
+use Rattle.std.proofs.Common.{◌≡◌, ◌<◌, ◌≤◌, inl, inr, ℕ, ◌+◌, Bool, true, false, cond, List, ◌∷◌, ◌++◌, length-append, refl, sym, ap, subst, ◌∙◌, arith, append_assoc}
 use Rattle.std.specs.Prelude.{filter}
-use Rattle.std.proofs.lemmas.Bool.{cases_eq, eq-eqb}
+use Rattle.std.proofs.lemmas.Bool.{cases_eq}
 use Rattle.std.proofs.lemmas.List.{map-append}
 use Rattle.std.proofs.lemmas.List.Elements.{filter-append}
 use Rattle.std.proofs.lemmas.List.Sums.{sum_by-append, sum_by-cons}
@@ -10,11 +10,10 @@ use Rattle.fc_bytes.specs.Bits.{bits}
 use Rattle.fc_record.specs.declared.Geometry.{Geometry}
 use Rattle.fc_zone.specs.declared.Run.{Run}
 use Rattle.fc_zone.specs.declared.RunKind.{RunKind}
-use Rattle.fc_zone.specs.declared.RunKind.TheVariants.{Id}
 use Rattle.fc_zone.proofs.HolderLemmas.{run_spelled}
 use Rattle.fc_zone.proofs.ZoneLemmas.{Spells-le}
 use Rattle.fc_newmap.specs.Edits.{AreEdits, IsEdit, KeepsRuns, MergesIn}
-use Rattle.fc_newmap.specs.Map.{Map, ZoneRun, bits_in, has_id, id_runs, is_hole, run_sectors, runs_of, sector_of, sectors_of, shape}
+use Rattle.fc_newmap.specs.Map.{Map, ZoneRun, has_id, id_runs, is_hole, run_sectors, runs_of, sector_of, sectors_of, shape}
 use Rattle.fc_newmap.specs.NewMap.{IsNewMap}
 use Rattle.fc_newmap.specs.RunsLaw.{placed}
 use Rattle.fc_newmap.proofs.ComposeLemmas.{edit_all, runs_other, zone_cut}

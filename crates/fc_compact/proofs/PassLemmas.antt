@@ -1,8 +1,8 @@
 -- Runs that are passed one after another, and identifiers that are joined.
 use Rattle.std.proofs.Common.{◌≡◌, ◌<◌, ◌≤◌, ◌⊎◌, inl, inr, ℕ, zero, suc, ◌+◌, Bool, true, false, cond, List, [], ◌∷◌, ◌++◌, length, length-append, take, get_or, refl, sym, ap, subst, ◌∙◌, arith}
-use Rattle.std.specs.Prelude.{Contains, ◌==◌, ◌||◌, ◌&&◌, nat_le, nat_lt, filter, slice_index_or}
-use Rattle.std.specs.List.{list_any, range_with_len, sum_by}
-use Rattle.std.proofs.lemmas.Bool.{cases_eq, cases_lt, eqb-true, eq-eqb, lt-ltb, le-ltb, le-leb, lt-leb, ltb-true}
+use Rattle.std.specs.Prelude.{Contains, ◌==◌, ◌||◌, ◌&&◌, nat_le, nat_lt, filter}
+use Rattle.std.specs.List.{list_any, range_with_len}
+use Rattle.std.proofs.lemmas.Bool.{cases_eq, cases_lt, eqb-true, lt-ltb, le-ltb, lt-leb}
 use Rattle.std.proofs.lemmas.List.{take_all, take_more}
 use Rattle.std.proofs.lemmas.List.Sums.{sum_by-append, sum_by-cons}
 use Rattle.fc_zone.specs.declared.Run.{Run}
@@ -13,10 +13,10 @@ use Rattle.fc_newmap.specs.NewMap.{IsNewMap}
 use Rattle.fc_newmap.proofs.HeldLemmas.{geometry_facts}
 use Rattle.fc_newmap.proofs.PlaceLemmas.{id_run_in, in_id_runs}
 use Rattle.fc_alloc.specs.declared.owner.Owner.{Owner}
-use Rattle.fc_alloc.specs.Owners.{is_id_owned, owns}
+use Rattle.fc_alloc.specs.Owners.{is_id_owned}
 use Rattle.fc_effects.specs.Placed.{front_of}
 use Rattle.fc_effects.specs.Settled.{KeepsBits, can_join, zones_with}
-use Rattle.fc_compact.specs.Passing.{Tries, TriesAll, run_count}
+use Rattle.fc_compact.specs.Passing.{Tries, run_count}
 use Rattle.fc_compact.specs.Ready.{is_movable_by}
 use Rattle.fc_compact.specs.Settling.{one_if}
 use Rattle.fc_compact.specs.Steps.{Leads, Packs}

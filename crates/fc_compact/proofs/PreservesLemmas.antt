@@ -1,7 +1,7 @@
 -- What each step of compaction preserves, by the map from which compaction began.
-use Rattle.std.proofs.Common.{◌≡◌, ◌≤◌, ℕ, Bool, true, false, List, length, refl, sym, ap, subst, ◌∙◌, arith}
+use Rattle.std.proofs.Common.{◌≡◌, ◌≤◌, ℕ, Bool, true, false, List, refl, sym, ap, subst, ◌∙◌}
 use Rattle.std.specs.Prelude.{filter, Contains}
-use Rattle.std.proofs.lemmas.Bool.{eq-eqb, eqb-true}
+use Rattle.std.proofs.lemmas.Bool.{eq-eqb}
 use Rattle.fc_device.specs.Sectors.{sector_at}
 use Rattle.fc_record.specs.declared.Geometry.{Geometry}
 use Rattle.fc_zone.specs.declared.RunKind.{RunKind}
@@ -17,7 +17,7 @@ use Rattle.fc_newmap.proofs.RunsLemmas.{runs_apart}
 use Rattle.fc_alloc.specs.declared.owner.Owner.{Owner}
 use Rattle.fc_image.specs.Layout.{Layout, hole_sectors, is_among}
 use Rattle.fc_image.specs.Moves.{KeepsObjects}
-use Rattle.fc_compact.specs.Compacting.{ChangesLoose, is_loose, loose_sectors}
+use Rattle.fc_compact.specs.Compacting.{is_loose, loose_sectors}
 use Rattle.fc_compact.specs.Laws.{Laws}
 use Rattle.fc_compact.specs.Ready.{is_movable_by}
 use Rattle.fc_compact.specs.Steps.{Leads, Preserves}

@@ -1,6 +1,6 @@
 -- A map that may be committed, and what a commit of it leaves.
-use Rattle.std.proofs.Common.{◌≡◌, ◌≢◌, ◌<◌, ◌≤◌, ◌⊎◌, inl, inr, ℕ, ◌+◌, ◌-◌, ◌*◌, ◌/◌, ◌%◌, Bool, true, false, List, [], ◌∷◌, ◌++◌, length, refl, sym, ap, ap₂, subst, ◌∙◌, arith}
-use Rattle.std.specs.Prelude.{◌==◌, ◌||◌, ◌&&◌, nat_le, filter}
+use Rattle.std.proofs.Common.{◌≡◌, ◌<◌, ◌≤◌, ◌⊎◌, inl, inr, ℕ, ◌+◌, ◌-◌, ◌*◌, ◌/◌, ◌%◌, true, false, List, ◌∷◌, ◌++◌, refl, sym, ap, subst, ◌∙◌, arith}
+use Rattle.std.specs.Prelude.{filter}
 use Rattle.std.proofs.lemmas.Bool.{cases_eq, cases_lt}
 use Rattle.std.proofs.lemmas.List.FromFn.{length-range_with_len}
 use Rattle.fc_record.specs.declared.Geometry.{Geometry}
@@ -16,14 +16,13 @@ use Rattle.fc_newmap.proofs.HeldLemmas.{geometry_facts}
 use Rattle.fc_newmap.proofs.PlaceLemmas.{in_range}
 use Rattle.fc_newmap.proofs.RunsLemmas.{place_sector}
 use Rattle.fc_alloc.specs.declared.owner.Owner.{Owner}
-use Rattle.fc_alloc.specs.Owners.{is_id_owned}
 use Rattle.fc_copies.specs.declared.Which.TheVariants.{One}
 use Rattle.fc_copies.specs.Committing.{KeepsContents}
 use Rattle.fc_copies.specs.Copies.{Chooses, CommitEnds, CommitLeaves, HoldsCopies, copy_of, is_sound}
 use Rattle.fc_copies.proofs.ReadingLemmas.{chooses_one}
 use Rattle.fc_image.specs.Layout.{Layout, hole_sectors, id_sectors, is_among}
 use Rattle.fc_image.specs.Objects.{objects_of, is_movable}
-use Rattle.fc_image.specs.Moves.{CanCommit, Carried, KeepsObjects, StaysBy, with_map}
+use Rattle.fc_image.specs.Moves.{CanCommit, Carried, StaysBy, with_map}
 use Rattle.fc_compact.specs.Copying.{IsCopied}
 use Rattle.fc_compact.specs.Laws.{Laws}
 use Rattle.fc_compact.specs.Ready.{IsReady, is_movable_by}

@@ -1,9 +1,9 @@
-use Rattle.std.proofs.Common.{◌≡◌, ◌<◌, ◌≤◌, ℕ, ◌+◌, true, false, List, [], refl, sym, ap, subst, ◌∙◌, arith}
+use Rattle.std.proofs.Common.{List, sym, subst}
 use Rattle.std.specs.Prelude.{Contains}
 use Rattle.fc_device.proofs.DiskLaws.{laws}
 use Rattle.fc_device.proofs.StopLemmas.{keeps_weaker}
 use Rattle.fc_alloc.specs.declared.owner.Owner.{Owner}
-use Rattle.fc_compact.proofs.GoneLemmas.{gone_keeps, gone_start, gone_then}
+use Rattle.fc_compact.proofs.GoneLemmas.{gone_keeps, gone_then}
 use Rattle.fc_compact.proofs.PassLemmas.{all_tried, none_new}
 use Rattle.fc_compact.proofs.compacting.compact.Goals as goal
 

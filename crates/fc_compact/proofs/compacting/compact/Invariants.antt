@@ -1,4 +1,4 @@
-use Rattle.std.proofs.Common.{◌≡◌, ◌+◌, ℕ, true, false}
+use Rattle.std.proofs.Common.{◌≡◌, ◌+◌, true, false}
 use Rattle.std.specs.Prelude.{Contains}
 use Rattle.fc_alloc.specs.declared.owner.Owner.{Owner}
 use Rattle.fc_effects.specs.Settled.{can_join}

@@ -1,7 +1,5 @@
-use Rattle.std.proofs.Common.{◌≡◌, ◌<◌, ◌≤◌, ℕ, ◌+◌, true, false, List, [], refl, sym, ap, ◌∙◌, arith}
-use Rattle.std.specs.Prelude.{length}
+use Rattle.std.proofs.Common.{arith}
 use Rattle.fc_device.proofs.DiskLaws.{laws}
-use Rattle.fc_newmap.specs.Map.{id_runs}
 use Rattle.fc_compact.proofs.GoneLemmas.{gone_keeps, gone_start, gone_then}
 use Rattle.fc_compact.proofs.PacksLemmas.{packs_then}
 use Rattle.fc_compact.proofs.compacting.join_and_settle.Goals as goal

@@ -1,11 +1,9 @@
-use Rattle.std.proofs.Common.{◌≡◌, ◌<◌, ◌≤◌, ℕ, ◌+◌, true, false, List, [], refl, sym, ap, ◌∙◌, arith}
-use Rattle.std.specs.Prelude.{◌&&◌, nat_le, nat_lt, length}
+use Rattle.std.proofs.Common.{◌≡◌, true, false, refl, sym, ◌∙◌}
+use Rattle.std.specs.Prelude.{nat_le, nat_lt, length}
 use Rattle.std.proofs.lemmas.Bool.{ltb-true, leb-true}
 use Rattle.fc_device.proofs.DiskLaws.{laws}
 use Rattle.fc_device.proofs.StopLemmas.{keeps_start}
 use Rattle.fc_newmap.specs.Map.{bits_in, id_runs}
-use Rattle.fc_effects.specs.Settled.{can_join}
-use Rattle.fc_compact.specs.Passing.{Tries}
 use Rattle.fc_compact.specs.Ready.{is_movable_by}
 use Rattle.fc_compact.proofs.PassLemmas.{both_true, no_hole, no_room, too_many, tries_joined, tries_none}
 use Rattle.fc_compact.proofs.PreservesLemmas.{preserves_same}

@@ -1,6 +1,5 @@
-use Rattle.std.proofs.Common.{◌≡◌, ◌<◌, ◌≤◌, ℕ, ◌+◌, true, false, List, [], refl, sym, ap, ◌∙◌, arith}
+use Rattle.std.proofs.Common.{false, arith}
 use Rattle.fc_device.proofs.DiskLaws.{laws}
-use Rattle.fc_alloc.specs.declared.owner.Owner.{Owner}
 use Rattle.fc_compact.specs.Passing.{run_count}
 use Rattle.fc_compact.proofs.GoneLemmas.{gone_keeps, gone_start, gone_then}
 use Rattle.fc_compact.proofs.PassLemmas.{all_taken, falls_more, none_more}

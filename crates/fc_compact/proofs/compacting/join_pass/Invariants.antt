@@ -1,5 +1,5 @@
-use Rattle.std.proofs.Common.{◌≡◌, ◌<◌, ◌≤◌, ◌+◌, ℕ, true, false, take}
-use Rattle.fc_compact.specs.Passing.{AreSettledZones, TriesAll, run_count}
+use Rattle.std.proofs.Common.{◌≡◌, ◌≤◌, ◌+◌, true, false, take}
+use Rattle.fc_compact.specs.Passing.{AreSettledZones, run_count}
 use Rattle.std.specs.Prelude.{Contains}
 use Rattle.fc_alloc.specs.declared.owner.Owner.{Owner}
 use Rattle.fc_effects.specs.Settled.{can_join}

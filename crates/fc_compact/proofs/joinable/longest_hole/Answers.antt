@@ -1,6 +1,5 @@
-use Rattle.std.proofs.Common.{◌≡◌, ◌⊎◌, inl, inr, ◌<◌, ℕ, List, [], ◌∷◌, ◌++◌, max, refl, sym, ap, subst, ◌∙◌, arith, append_assoc, append-nil}
+use Rattle.std.proofs.Common.{◌≡◌, inl, inr, List, [], ◌∷◌, ◌++◌, max, refl, sym, ap, subst, ◌∙◌, arith, append_assoc}
 use Rattle.std.specs.Prelude.{Contains}
-use Rattle.std.specs.List.{fold}
 use Rattle.fc_newmap.specs.Map.{ZoneRun, all_runs, hole_runs, longest}
 use Rattle.fc_newmap.specs.Walk.{holes_in}
 use Rattle.fc_newmap.proofs.ExtentLemmas.{longest_more}

@@ -1,5 +1,5 @@
-use Rattle.std.proofs.Common.{◌≡◌, ◌<◌, ◌⊎◌, inl, inr, ℕ, ◌+◌, ◌-◌, ◌%◌, Bool, true, false, ◌==◌, List, [], ◌∷◌, length, refl, ap, sym, subst, ◌∙◌, arith, cond}
-use Rattle.std.specs.Prelude.{All, Contains, ◌||◌, nat_lt, if◌then◌else◌}
+use Rattle.std.proofs.Common.{◌≡◌, ◌<◌, inl, inr, ℕ, ◌+◌, ◌-◌, ◌%◌, Bool, true, false, ◌==◌, List, [], ◌∷◌, length, refl, ap, sym, subst, ◌∙◌, arith, cond}
+use Rattle.std.specs.Prelude.{All, ◌||◌, nat_lt}
 use Rattle.std.specs.List.{range_with_len}
 use Rattle.std.specs.List.Sorted.{IsStrictlyIncreasing}
 use Rattle.std.proofs.lemmas.List.Elements.{All-filter}
@@ -8,8 +8,7 @@ use Rattle.std.proofs.lemmas.Result.{on_ok_weaker}
 use Rattle.fc_record.specs.declared.Geometry.{Geometry}
 use Rattle.fc_zone.specs.declared.Run.{Run}
 use Rattle.fc_zone.specs.declared.RunKind.TheVariants.{Id}
-use Rattle.fc_newmap.specs.Map.{Map, ZoneRun, bits_in, id_runs, sector_of, shape}
-use Rattle.fc_newmap.specs.NewMap.{IsNewMap}
+use Rattle.fc_newmap.specs.Map.{ZoneRun, bits_in, id_runs, sector_of, shape}
 use Rattle.fc_zone.specs.Zone.{HasRun}
 use Rattle.fc_effects.specs.Placed.{front_of}
 use Rattle.fc_compact.specs.Joining.{HasBetween, has_run_in, is_listed, join_zones}

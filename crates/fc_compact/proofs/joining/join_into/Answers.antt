@@ -1,5 +1,5 @@
-use Rattle.std.proofs.Common.{◌≡◌, ◌<◌, ℕ, ◌+◌, Bool, true, false, List, refl, ap, sym, subst, ◌∙◌, arith, Some}
-use Rattle.std.specs.Prelude.{◌==◌, ◌||◌, All, Contains}
+use Rattle.std.proofs.Common.{◌≡◌, ◌<◌, ℕ, ◌+◌, true, false, List, ap, sym, subst, ◌∙◌, arith, Some}
+use Rattle.std.specs.Prelude.{◌==◌, ◌||◌, All}
 use Rattle.std.specs.List.Sorted.{IsStrictlyIncreasing}
 use Rattle.std.proofs.lemmas.Result.{on_ok_weaker}
 use Rattle.fc_record.specs.declared.Geometry.{Geometry}
@@ -12,11 +12,10 @@ use Rattle.fc_copies.proofs.PassLemmas.{keeps_told}
 use Rattle.fc_image.specs.Layout.{Layout, hole_sectors, id_sectors, is_among}
 use Rattle.fc_compact.specs.Joining.{ArePut, has_run_in, is_listed}
 use Rattle.fc_compact.specs.Sliding.{hole_at}
-use Rattle.fc_compact.proofs.JoinedLemmas.{Joins, front_in_hole, front_in_zone, front_on_disc, hole_after, hole_listed, joined_edits, joined_geometry, joined_leads, joined_one, joined_others, joined_preserves, joined_ready}
+use Rattle.fc_compact.proofs.JoinedLemmas.{Joins, front_in_hole, front_in_zone, front_on_disc, hole_after, hole_listed, joined_leads, joined_one, joined_others, joined_preserves, joined_ready}
 use Rattle.fc_compact.proofs.KeptLemmas.{can_write}
 use Rattle.fc_compact.proofs.ListedLemmas.{unlisted}
 use Rattle.fc_compact.proofs.PreservesLemmas.{preserves_then}
-use Rattle.fc_compact.proofs.ShiftLemmas.{low_then}
 use Rattle.fc_compact.proofs.joining.join_into.Goals as goal
 
 pub extent_of-to-requires-clause-run : goal.extent_of-to-requires-clause-run

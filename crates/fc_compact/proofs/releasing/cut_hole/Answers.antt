@@ -1,5 +1,4 @@
 use Rattle.fc_newmap.proofs.ComposeLemmas.{edit_none}
-use Rattle.fc_compact.proofs.ReleaseLemmas.{hole_to_split, hole_cut, hole_uncut}
 use Rattle.fc_compact.proofs.releasing.cut_hole.Goals as goal
 
 pub returns-else-left-gt0-clause-edit : goal.returns-else-left-gt0-clause-edit

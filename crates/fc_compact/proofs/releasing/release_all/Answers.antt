@@ -1,8 +1,7 @@
-use Rattle.std.proofs.Common.{◌≡◌, ◌<◌, ℕ, List, length, take, get_or, refl, ap, sym, subst, ◌∙◌}
+use Rattle.std.proofs.Common.{◌<◌, ℕ, get_or, refl, sym, subst}
 use Rattle.std.proofs.lemmas.List.Elements.{All-get_or}
 use Rattle.fc_record.specs.declared.Geometry.{Geometry}
-use Rattle.fc_newmap.specs.Map.{runs_of}
-use Rattle.fc_compact.specs.Joining.{all_freed, changed_runs}
+use Rattle.fc_compact.specs.Joining.{all_freed}
 use Rattle.fc_compact.proofs.ListedLemmas.{listed_edits, listed_more, listed_none}
 use Rattle.fc_compact.proofs.releasing.release_all.Goals as goal
 

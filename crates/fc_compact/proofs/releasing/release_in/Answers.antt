@@ -6,7 +6,6 @@ use Rattle.fc_zone.proofs.WalkLemmas.{bits_left, walk_ends}
 use Rattle.fc_newmap.specs.Map.{runs_of, sector_of, shape}
 use Rattle.fc_newmap.proofs.ComposeLemmas.{edit_none, edit_then, zone_cut}
 use Rattle.fc_compact.specs.Joining.{freed}
-use Rattle.fc_compact.specs.Sliding.{HasRuns}
 use Rattle.fc_compact.proofs.ReleaseLemmas.{first_of, freed_more, freed_start, none_of}
 use Rattle.fc_compact.proofs.ShiftLemmas.{low_then}
 use Rattle.fc_compact.proofs.releasing.release_in.Goals as goal

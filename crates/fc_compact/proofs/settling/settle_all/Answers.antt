@@ -1,12 +1,11 @@
-use Rattle.std.proofs.Common.{◌≡◌, ◌<◌, ◌≤◌, ◌+◌, ℕ, List, Bool, inl, inr, refl, ap, ap₂, sym, subst, ◌∙◌, arith, true, false}
+use Rattle.std.proofs.Common.{ℕ, List, inl, inr, ap, ap₂, sym, subst, ◌∙◌, arith}
 use Rattle.std.proofs.lemmas.Bool.{cases_eq}
 use Rattle.fc_device.proofs.DiskLaws.{laws}
 use Rattle.fc_record.specs.declared.Geometry.{Geometry}
 use Rattle.fc_zone.specs.declared.Run.{Run}
-use Rattle.fc_newmap.specs.Map.{runs_of}
 use Rattle.fc_effects.specs.Settled.{passes_adjacent}
 use Rattle.fc_compact.specs.Compacting.{is_done_by}
-use Rattle.fc_compact.specs.Settling.{IsSettledZone, one_if, zone_weight}
+use Rattle.fc_compact.specs.Settling.{IsSettledZone}
 use Rattle.fc_compact.proofs.GoneLemmas.{gone_disc, gone_keeps, gone_on_disk, gone_size, gone_start, gone_then, gone_zone}
 use Rattle.fc_compact.proofs.settling.settle_all.Goals as goal
 

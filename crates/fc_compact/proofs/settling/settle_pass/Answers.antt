@@ -1,5 +1,5 @@
-use Rattle.std.proofs.Common.{◌≡◌, ◌<◌, ◌≤◌, ◌+◌, ◌∷◌, ◌++◌, [], ℕ, List, Bool, cond, refl, ap, sym, subst, ◌∙◌, arith, append_assoc, true, false, append-nil}
-use Rattle.std.specs.Prelude.{◌||◌, ◌&&◌, slice_get}
+use Rattle.std.proofs.Common.{◌≡◌, ◌≤◌, ◌+◌, ◌∷◌, ◌++◌, [], ℕ, List, Bool, refl, ap, sym, subst, ◌∙◌, arith, append_assoc, true, false}
+use Rattle.std.specs.Prelude.{◌||◌, ◌&&◌}
 use Rattle.fc_device.proofs.DiskLaws.{laws, form_then}
 use Rattle.fc_device.proofs.StopLemmas.{keeps_start}
 use Rattle.fc_record.specs.declared.Geometry.{Geometry}

@@ -1,4 +1,4 @@
-use Rattle.std.proofs.Common.{◌≡◌, ◌∷◌, ◌++◌, List}
+use Rattle.std.proofs.Common.{◌∷◌, ◌++◌}
 use Rattle.fc_newmap.proofs.ComposeLemmas.{zone_cut}
 use Rattle.fc_compact.proofs.sliding.pair_at.Goals as goal
 

@@ -1,6 +1,5 @@
-use Rattle.std.proofs.Common.{◌≡◌, ◌<◌, ◌≤◌, ◌⊎◌, ℕ, ◌+◌, ◌*◌, ◌%◌, ◌^◌, ◌++◌, List, ap, sym, subst, ◌∙◌, arith, true}
+use Rattle.std.proofs.Common.{◌≡◌, ◌<◌, ◌≤◌, ◌⊎◌, ℕ, ◌+◌, ◌*◌, ◌%◌, ◌^◌, ◌++◌, List, ap, sym, subst, arith, true}
 use Rattle.std.specs.Prelude.{Result, Ok, Err, OnOk}
-use Rattle.std.proofs.lemmas.Result.{on_ok_weaker}
 use Rattle.fc_record.specs.declared.Geometry.{Geometry}
 use Rattle.fc_zone.specs.declared.Run.{Run}
 use Rattle.fc_compact.specs.Ready.{is_movable_by}

@@ -1,7 +1,6 @@
-use Rattle.std.proofs.Common.{◌≡◌, ◌<◌, inr, ℕ, ◌+◌, ◌-◌, ◌*◌, ◌/◌, ◌∷◌, ◌++◌, [], List, ap, sym, subst, ◌∙◌, Some, arith}
+use Rattle.std.proofs.Common.{◌≡◌, ◌<◌, inr, ℕ, ◌+◌, ◌*◌, ◌/◌, ◌∷◌, [], List, ap, sym, subst, ◌∙◌, Some, arith}
 use Rattle.std.proofs.lemmas.Result.{on_ok_weaker}
 use Rattle.fc_record.specs.declared.Geometry.{Geometry}
-use Rattle.fc_newmap.specs.Map.{Map, sector_of}
 use Rattle.fc_newmap.specs.Walk.{IsInZone}
 use Rattle.fc_newmap.proofs.RunsLemmas.{place_sector}
 use Rattle.fc_device.proofs.DiskLaws.{laws}
@@ -9,7 +8,7 @@ use Rattle.fc_device.proofs.StopLemmas.{keeps_then, led}
 use Rattle.fc_copies.proofs.PassLemmas.{keeps_told}
 use Rattle.fc_image.specs.Layout.{Layout, hole_sectors, is_among}
 use Rattle.fc_compact.specs.Copying.{IsCopied}
-use Rattle.fc_compact.specs.Sliding.{HasRuns, row, run_at}
+use Rattle.fc_compact.specs.Sliding.{run_at}
 use Rattle.fc_compact.proofs.KeptLemmas.{can_write}
 use Rattle.fc_compact.proofs.PreservesLemmas.{preserves_then}
 use Rattle.fc_compact.proofs.StepLemmas.{step_leads, step_others, step_preserves, step_ready, step_row}
