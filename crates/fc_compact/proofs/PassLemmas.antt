@@ -1,6 +1,6 @@
 -- Runs that are passed one after another, and identifiers that are joined.
 use Rattle.std.proofs.Common.{◌≡◌, ◌<◌, ◌≤◌, ◌⊎◌, inl, inr, ℕ, zero, suc, ◌+◌, Bool, true, false, cond, List, [], ◌∷◌, ◌++◌, length, length-append, take, get_or, refl, sym, ap, subst, ◌∙◌, arith}
-use Rattle.std.specs.Prelude.{Contains, ◌==◌, ◌||◌, ◌&&◌, nat_le, nat_lt, filter}
+use Rattle.std.specs.Prelude.{Option, Some, Contains, ◌==◌, ◌||◌, ◌&&◌, nat_le, nat_lt, filter}
 use Rattle.std.specs.List.{list_any, range_with_len}
 use Rattle.std.proofs.lemmas.Bool.{cases_eq, cases_lt, eqb-true, lt-ltb, le-ltb, lt-leb}
 use Rattle.std.proofs.lemmas.List.{take_all, take_more}
@@ -16,7 +16,7 @@ use Rattle.fc_alloc.specs.declared.owner.Owner.{Owner}
 use Rattle.fc_alloc.specs.Owners.{is_id_owned}
 use Rattle.fc_effects.specs.Placed.{front_of}
 use Rattle.fc_effects.specs.Settled.{KeepsBits, can_join, zones_with}
-use Rattle.fc_compact.specs.Passing.{Tries, run_count}
+use Rattle.fc_compact.specs.Passing.{IsLongest, Tries, run_count}
 use Rattle.fc_compact.specs.Ready.{is_movable_by}
 use Rattle.fc_compact.specs.Settling.{one_if}
 use Rattle.fc_compact.specs.Steps.{Leads, Packs}
@@ -288,3 +288,8 @@ module _ (owners list : List Owner) (m m' : Map) (i : ℕ) (low : i < length lis
 
 pub all_taken : (list : List Owner) (i : ℕ) → length list ≤ i → (o : Owner) → Contains list o → Contains (take i list) o
 all_taken list i past o there = subst (λ (l : List Owner). Contains l o) (sym (take_all i list past)) there
+
+-- ---- the longest hole
+
+pub longest_of : (m : Map) (best : Option ZoneRun) (p : ZoneRun) → best ≡ Some p → IsLongest m best → Contains (hole_runs m) p × (p.1.len ≡ longest (hole_runs m))
+longest_of m best p e is = subst (IsLongest m) e is

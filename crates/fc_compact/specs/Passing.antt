@@ -1,7 +1,7 @@
 -- Identifiers that are joined, one after another.
-use Rattle.std.specs.Prelude.{◌≡◌, ◌<◌, ◌≤◌, ℕ, ◌+◌, Bool, true, false, List, length, Contains}
+use Rattle.std.specs.Prelude.{◌≡◌, ◌<◌, ◌≤◌, ℕ, ◌+◌, Bool, true, false, List, [], length, Contains, Option, MatchOption}
 use Rattle.std.specs.List.{sum_by}
-use Rattle.fc_newmap.specs.Map.{Map, id_runs}
+use Rattle.fc_newmap.specs.Map.{Map, ZoneRun, hole_runs, id_runs, longest}
 use Rattle.fc_alloc.specs.declared.owner.Owner.{Owner}
 use Rattle.fc_effects.specs.Settled.{can_join}
 use Rattle.fc_compact.specs.Ready.{is_movable_by}
@@ -24,6 +24,10 @@ pub record TriesAll (owners list : List Owner) (m m' : Map) (any : Bool) : Type 
   pub packs : Packs owners m m'
   pub falls : run_count list m' + one_if any ≤ run_count list m
   pub none : any ≡ false → (o : Owner) → Contains list o → is_movable_by owners o.id ≡ true → can_join m' o.id ≡ false
+
+-- the longest hole of a map, with its zone, or None if there is no hole
+abbrev pub IsLongest : Map → Option ZoneRun → Type 0
+IsLongest m best = MatchOption best (hole_runs m ≡ []) (λ p. Contains (hole_runs m) p × (p.1.len ≡ longest (hole_runs m)))
 
 -- all zones are settled
 abbrev pub AreSettledZones : List Owner → Map → Type 0

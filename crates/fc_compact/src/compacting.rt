@@ -7,23 +7,25 @@ ghost use Rattle.fc_image.specs.Layout.{Layout, disc_sectors};
 ghost use Rattle.fc_image.specs.Moves.{KeepsObjects};
 ghost use Rattle.fc_compact.specs.Ready.{IsReady, is_movable_by};
 ghost use Rattle.fc_compact.specs.Compacting.{ChangesLoose, CompactedBy, IsSettledBy, ZoneStays};
-ghost use Rattle.fc_compact.specs.Passing.{AreSettledZones, Tries, TriesAll};
+ghost use Rattle.fc_compact.specs.Passing.{AreSettledZones, IsLongest, Tries, TriesAll};
 ghost use Rattle.fc_compact.specs.Steps.{Packs, Preserves};
 
-use crate::joinable::{has_several, in_few_zones, longest_hole};
+use crate::joinable::{has_several, in_few_zones, longest_again, longest_hole};
 use crate::joining::join;
 use crate::laws;
 use crate::settling::{either, is_movable, settle_all};
 use fc_alloc::{Owner, Owners};
 use fc_device::{Disk, DiskFault};
 use fc_newmap::NewMap;
+use fc_zone::Run;
 
-// Joins the runs of an identifier, if it has several that the longest hole holds. Answers whether it did.
+// Joins the runs of an identifier, if it has several that the longest hole, `best`, holds. Answers whether it did.
 fn join_one<D: Disk>(
     disk: &mut D,
     map: &mut NewMap,
     owners: &Owners,
     id: u32,
+    best: Option<(u16, Run)>,
 ) -> Result<bool, DiskFault>
     requires attached { IsTrue (D.attached disk.old) }
     requires settled { IsFalse (D.pending disk.old) }
@@ -31,6 +33,7 @@ fn join_one<D: Disk>(
     requires on_disk { map.old.geometry.map_sector + 2 * map.old.geometry.zones ≤ D.sectors disk.old }
     requires disc { disc_sectors (Layout.New map.old) ≤ D.sectors disk.old }
     requires ready { ForSome (D.bytes disk.old) (IsReady map.old owners.now) }
+    requires best { IsLongest map.old best }
     ensures keeps { StopsAndExitsLeave D.Disk disk.old disk.new (Preserves map.old owners.now) }
     ensures ready { OnOk result (ForSome (D.bytes disk.new) (IsReady map.new owners.now)) }
     ensures tries { IfOk result (Tries owners.now map.old map.new id) }
@@ -44,7 +47,7 @@ fn join_one<D: Disk>(
     if !is_movable(owners, id) {
         return Ok(false);
     }
-    let Some((zone, hole)) = longest_hole(map) else {
+    let Some((zone, hole)) = best else {
         return Ok(false);
     };
     if !has_several(map, id, hole.len) {
@@ -63,6 +66,7 @@ fn join_and_settle<D: Disk>(
     map: &mut NewMap,
     owners: &Owners,
     id: u32,
+    best: Option<(u16, Run)>,
 ) -> Result<bool, DiskFault>
     requires attached { IsTrue (D.attached disk.old) }
     requires settled { IsFalse (D.pending disk.old) }
@@ -70,6 +74,7 @@ fn join_and_settle<D: Disk>(
     requires on_disk { map.old.geometry.map_sector + 2 * map.old.geometry.zones ≤ D.sectors disk.old }
     requires disc { disc_sectors (Layout.New map.old) ≤ D.sectors disk.old }
     requires ready { ForSome (D.bytes disk.old) (IsReady map.old owners.now) }
+    requires best { IsLongest map.old best }
     requires done { AreSettledZones owners.now map.old }
     ensures keeps { StopsAndExitsLeave D.Disk disk.old disk.new (Preserves map.old owners.now) }
     ensures ready { OnOk result (ForSome (D.bytes disk.new) (IsReady map.new owners.now)) }
@@ -81,7 +86,7 @@ fn join_and_settle<D: Disk>(
     ensures cause { FailsByFault D.Disk disk.old disk.new result }
 {
     laws();
-    let joined = join_one(disk, map, owners, id)?;
+    let joined = join_one(disk, map, owners, id, best)?;
     if !joined {
         return Ok(false);
     }
@@ -114,9 +119,11 @@ fn join_pass<D: Disk>(
 {
     laws();
     map.is_map();
+    let mut best = longest_hole(map);
     let mut any = false;
     for owner in list {
-        let joined = join_and_settle(disk, map, owners, owner.id)?;
+        let joined = join_and_settle(disk, map, owners, owner.id, best)?;
+        best = longest_again(map, best, joined);
         any = either(any, joined);
     }
     Ok(any)

@@ -1,7 +1,8 @@
 // Which identifiers can be joined, and into which hole.
-ghost use Rattle.std.specs.Prelude.{◌≡◌, ◌⊎◌, ◌<◌, ◌+◌, ◌^◌, ◌&&◌, nat_le, nat_lt, max, length, [], ℕ, Contains, MatchOption};
-ghost use Rattle.fc_newmap.specs.Map.{bits_in, hole_runs, id_runs, longest};
+ghost use Rattle.std.specs.Prelude.{◌≡◌, ◌⊎◌, ◌<◌, ◌+◌, ◌^◌, ◌&&◌, false, nat_le, nat_lt, max, length, ℕ};
+ghost use Rattle.fc_newmap.specs.Map.{bits_in, id_runs};
 ghost use Rattle.fc_effects.specs.Settled.{zones_with};
+ghost use Rattle.fc_compact.specs.Passing.{IsLongest};
 ghost use Rattle.fc_compact.specs.Settling.{one_if};
 
 use crate::finding::has_run;
@@ -18,7 +19,7 @@ fn longer(one: (u16, Run), two: (u16, Run)) -> (u16, Run)
 
 // The longest hole of a map, with its zone, if there is a hole.
 pub fn longest_hole(map: &NewMap) -> Option<(u16, Run)>
-    ensures { MatchOption result (hole_runs map.now ≡ []) (λ p. Contains (hole_runs map.now) p × (p.1.len ≡ longest (hole_runs map.now))) }
+    ensures { IsLongest map.now result }
 {
     let mut walk = Walk::over_all(map);
     let Some(first) = walk.next_hole(map) else {
@@ -29,6 +30,14 @@ pub fn longest_hole(map: &NewMap) -> Option<(u16, Run)>
         best = longer(best, hole);
     }
     Some(best)
+}
+
+// The longest hole of a map that may have changed since `best` was it.
+pub fn longest_again(map: &NewMap, best: Option<(u16, Run)>, changed: bool) -> Option<(u16, Run)>
+    requires { changed ≡ false → IsLongest map.now best }
+    ensures { IsLongest map.now result }
+{
+    if changed { longest_hole(map) } else { best }
 }
 
 // Whether an identifier has more than one run, and all together have at most so many bits.

@@ -1,6 +1,7 @@
-use Rattle.std.proofs.Common.{false, arith}
+use Rattle.std.proofs.Common.{◌≡◌, false, sym, subst, arith}
 use Rattle.fc_device.proofs.DiskLaws.{laws}
-use Rattle.fc_compact.specs.Passing.{run_count}
+use Rattle.fc_newmap.specs.Map.{Map}
+use Rattle.fc_compact.specs.Passing.{IsLongest, run_count}
 use Rattle.fc_compact.proofs.GoneLemmas.{gone_keeps, gone_start, gone_then}
 use Rattle.fc_compact.proofs.PassLemmas.{all_taken, falls_more, none_more}
 use Rattle.fc_compact.proofs.compacting.join_pass.Goals as goal
@@ -8,6 +9,7 @@ use Rattle.fc_compact.proofs.compacting.join_pass.Goals as goal
 pub loop-owner-init : goal.loop-owner-init
 loop-owner-init g c = record {
   gone = gone_start (laws g.met.D.Disk) c.laws.ensures c.args.owners.now c.args.disk.now c.args.map.now c.is_map.ensures c.requires.ready c.requires.settled;
+  best = c.longest_hole-best.ensures;
   done = c.requires.done;
   falls = omega arith;
   none = λ e o there may. absurd (let l = there.1 in omega arith);
@@ -28,6 +30,7 @@ loop-owner-preserved g c =
     record {
       gone = gone_then (laws g.met.D.Disk) c.laws.ensures c.args.owners.now c.args.disk.now c.args.map.now c.loop-owner.disk m was.gone c.join_and_settle.new.disk n
           ok.keeps ok.form ok.ready ok.durable ok.tries.packs c.join_and_settle.ensures.cause.later;
+      best = c.longest_again-best.ensures;
       done = ok.done;
       falls = falls_more c.args.owners.now list m n i c.loop-owner-test.true record { id = 0; dir = 0; node = 0; file = false; low = 0; first = 0; sectors = 0 }
           c.loop-owner.any c.in_ok-joined.joined c.either-any.result c.either-any.ensures ok.tries (run_count list c.args.map.now) was.falls;
@@ -43,3 +46,6 @@ returns-clause-tries g c =
       falls = was.falls;
       none = λ e o there may. was.none e o (all_taken c.args.list.now c.loop-owner.owner-index (omega (arith, c.loop-owner-test.false)) o there) may;
     }
+
+pub longest_again-best-requires : goal.longest_again-best-requires
+longest_again-best-requires g c = λ e. subst (λ (n : Map). IsLongest n c.loop-owner.best) (sym (c.in_ok-joined.ensures.tries.same e)) c.loop-owner.invariant.best
