@@ -76,21 +76,22 @@ def long_scripts():
 CHANGES = [
     f"save $.A {ZEROS} -", f"save $.A {ZEROS} 4142", f"save $.A%20B fffff000 FFFFF000 aA", f"create $.A {ZEROS} 0",
     f"create $.A {ZEROS} 4294967295", "cdir $.D", "delete $.Hello", "delete $", "rename $.Hello $.B", "rename $ $",
-    f"set $.Hello {ZEROS} -", f"set $.Hello {ZEROS} RWL", f"set $.Hello {ZEROS} L", "compact", "reclaim",
+    f"set $.Hello {ZEROS} -", f"set $.Hello {ZEROS} RWL", f"set $.Hello {ZEROS} L", "reclaim",
 ]
 
 
 def unbuilt():
     for at, line in enumerate(CHANGES):
         yield Case("change-%d" % at, ["hello.adf"], "load $.hello\n" + line + "\n", 9)
-    yield Case("change-without-end", ["hello.adf"], "lod\ncompact", 9)
+    yield Case("change-without-end", ["hello.adf"], "lod\nreclaim", 9)
     yield Case("change-no-image", ["nothing.adf"], "delete $.A\n", 9)
-    yield Case("change-bad-image", ["zeros.adf"], "compact\n", 9)
-    yield Case("change-read-only", ["--read-only", "hello.adf"], "compact\n", 9)
+    yield Case("change-bad-image", ["zeros.adf"], "reclaim\n", 9)
+    yield Case("change-read-only", ["--read-only", "hello.adf"], "reclaim\n", 9)
+    yield Case("compact-read-only", ["--read-only", "hello.adf"], "lod\ncompact\n", 1, BAD_COMMAND + "error 11 ReadOnly\n")
     for at, words in enumerate((["--demo", "5"], ["--demo=10000"], ["--safe"], ["--safe", "--demo", "1"])):
         yield Case("option-%d" % at, [*words, "hello.adf"], "load $.hello\n", 9)
         yield Case("option-%d-no-image" % at, ["nothing.adf", *words], "", 9)
-    yield Case("new-and-change", ["--new", "E", "unmade.adf"], "free\ncompact\n", 9, absent="unmade.adf")
+    yield Case("new-and-change", ["--new", "E", "unmade.adf"], "free\nreclaim\n", 9, absent="unmade.adf")
     yield Case("new-and-safe", ["--new", "E+", "--safe", "unmade.adf"], "free\n", 9, absent="unmade.adf")
     yield Case("new-and-demo", ["--new", "F", "--demo", "3", "unmade.adf"], "", 9, absent="unmade.adf")
 

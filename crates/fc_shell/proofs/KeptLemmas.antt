@@ -1,10 +1,14 @@
 -- A run whose image is attached, or couldn't be.
-use Rattle.std.proofs.Common.{◌≡◌, ◌<◌, ◌≤◌, inl, inr, ⊎_elim, ℕ, nat_lt, Bool, true, false, List, [], length, Option, Some, None, Result, Ok, refl, sym, subst, arith}
+use Rattle.std.proofs.Common.{◌≡◌, ◌⊎◌, ◌<◌, ◌≤◌, ◌++◌, ◌∷◌, ◌∙◌, ap, option_map, inl, inr, ⊎_elim, ℕ, nat_lt, Bool, true, false, List, [], length, Option, Some, None, Result, Ok, refl, sym, subst, arith}
 use Rattle.std.specs.Prelude.{is_some, replicate}
 use Rattle.std.proofs.lemmas.Bool.Decides.{nat_tests}
 use Rattle.fc_device.specs.declared.disk.Disk.{Ghosts}
 use Rattle.fc_device.specs.declared.streams.Sink.{Ghosts as Sinks}
+use Rattle.std.specs.Option.{ForSome}
+use Rattle.fc_device.specs.Asked.{Asked}
 use Rattle.fc_device.proofs.DiskLaws.{Laws}
+use Rattle.fc_device.proofs.StopLemmas.{goes_on_same}
+use Rattle.fc_runs.specs.Run.{commands_in}
 use Rattle.fc_format.specs.Fresh.{format_size}
 use Rattle.fc_format.specs.Opens.{FreshLaw}
 use Rattle.fc_image.specs.declared.ImageFault.{ImageFault}
@@ -12,28 +16,91 @@ use Rattle.fc_image.specs.Opening.{Opened, open_image}
 use Rattle.fc_words.specs.CommandLine.{Request}
 use Rattle.fc_words.specs.declared.Format.{Format as Word}
 use Rattle.fc_shell.specs.declared.ending.End.{End}
-use Rattle.fc_shell.specs.declared.ending.End.TheVariants.{DiskFault, NoMemory, ScriptTooLong}
-use Rattle.fc_shell.specs.Built.{has_unbuilt}
-use Rattle.fc_shell.specs.Kept.{RunKeeps}
+use Rattle.fc_shell.specs.declared.ending.End.TheVariants.{Done, Refused, BadWords, BadImage, DiskFault, ScriptFault, OutFault, NoMemory, ScriptTooLong, NotBuilt, NoImage}
+use Rattle.fc_shell.specs.Built.{Spares, has_unbuilt, only_reads}
+use Rattle.fc_shell.specs.Ends.{AsksFor, is_late, is_over_image}
+use Rattle.fc_shell.specs.Kept.{LeavesUnbegun, RunKeeps, RunSpares, SessionKeeps}
 use Rattle.fc_shell.specs.Promise.{EndsByGiving, EndsByLength, EndsByOpening, EndsByScript, EndsByWords, EndsWithout, Promise}
 use Rattle.fc_shell.specs.Reading.{IsUnwritten}
-use Rattle.fc_shell.specs.Replies.{format_in, image_for, is_unbuilt, script_limit}
-use Rattle.fc_shell.proofs.PromiseLemmas.{Accepts, begun_fault, memory_ends, no_fresh, no_run, none}
+use Rattle.fc_shell.specs.Replies.{blank_size, format_in, image_for, is_unbuilt, script_limit}
+use Rattle.fc_shell.proofs.PromiseLemmas.{Accepts, begun_fault, memory_ends, no_fresh, no_run, none, rose_earlier}
 
--- a script that reads in any case
-pub keeps_always : {D K : Type 0} (d : Ghosts D) (k : Sinks K) (r : Request) (reads : Type 0) (old new : D) (before after : K) (end : End) → reads → RunKeeps d k r reads old new before after end
-    → RunKeeps d k r (Unit {0}) old new before after end
-keeps_always d k r reads old new before after end only keeps = record {
+-- the same by what says as much
+pub keeps_by : {D K : Type 0} (d : Ghosts D) (k : Sinks K) (r : Request) (reads less : Type 0) (old new : D) (before after : K) (end : End) → (less → reads) → RunKeeps d k r reads old new before after end
+    → RunKeeps d k r less old new before after end
+keeps_by d k r reads less old new before after end only keeps = record {
   asks = keeps.asks;
   given = keeps.given;
   no_image = keeps.no_image;
   disk_fault = keeps.disk_fault;
   out_fault = keeps.out_fault;
   settled = keeps.settled;
-  no_memory = λ is. ⊎_elim (λ same. inl same) (λ x. inr (x.0, (λ always. x.1 only), x.2)) (keeps.no_memory is);
-  unwritten = λ always. keeps.unwritten only;
-  made = λ always. keeps.made only;
+  no_memory = λ is. ⊎_elim (λ same. inl same) (λ x. inr (x.0, (λ l. x.1 (only l)), x.2)) (keeps.no_memory is);
+  unwritten = λ l. keeps.unwritten (only l);
+  made = λ l. keeps.made (only l);
 }
+
+-- what a told script spares
+pub told_spares : (r : Request) (told : Option (List ℕ)) (text : List ℕ) → ((other : List ℕ) → told ≡ Some other → text ≡ other) → RunSpares r told → Spares r.read_only (commands_in text)
+told_spares r told text is (inl locked) = inl locked
+told_spares r told text is (inr x) = inr (subst (λ (t : List ℕ). only_reads t ≡ true) (sym (is x.0 x.1)) x.2)
+
+-- ---- a run over an image
+
+late_asks : (image : Asked) (end : End) (old new : List Asked) → (is_late end ≡ true) ⊎ (end ≡ NotBuilt) → new ≡ old ++ image ∷ [] → AsksFor image end old new
+late_asks image Done old new late is = is
+late_asks image Refused old new late is = is
+late_asks image (BadImage fault) old new late is = is
+late_asks image DiskFault old new late is = is
+late_asks image OutFault old new late is = is
+late_asks image NoMemory old new late is = inr is
+late_asks image NotBuilt old new late is = inr is
+late_asks image NoImage old new late is = is
+late_asks image BadWords old new (inl late) is = absurd (no_fresh late)
+late_asks image BadWords old new (inr late) is = absurd (cc)
+late_asks image ScriptFault old new (inl late) is = absurd (no_fresh late)
+late_asks image ScriptFault old new (inr late) is = absurd (cc)
+late_asks image ScriptTooLong old new (inl late) is = absurd (no_fresh late)
+late_asks image ScriptTooLong old new (inr late) is = absurd (cc)
+
+late_image : (end : End) → (is_late end ≡ true) ⊎ (end ≡ NotBuilt) → end ≡ NoImage → ⊥
+late_image end (inl late) is = no_fresh (sym (ap is_late is) ∙ late)
+late_image end (inr late) is = absurd (cc)
+
+over_disk : (end : End) → is_over_image end ≡ true → end ≡ DiskFault → ⊥
+over_disk end over is = no_fresh (sym (ap is_over_image is) ∙ over)
+
+module _ {D K : Type 0} {d : Ghosts D} (law : Laws d) (k : Sinks K) (r : Request) (reads : Type 0) (old mid new : D) (before after : K) (end : End) (asked : d.asked mid ≡ d.asked old ++ (r.image, blank_size r) ∷ [])
+    (given : ForSome (d.gives old) (λ gives. gives r.image (blank_size r) ≡ true)) (bytes : d.bytes mid ≡ option_map (image_for r.new) (d.bytes old)) (same : r.new ≡ None → IsUnwritten d old mid)
+    (faults : d.faults old ≤ d.faults mid) (keeps : SessionKeeps d k reads mid new before after end) where
+  unwritten_then : IsUnwritten d mid new → r.new ≡ None → IsUnwritten d old new
+  unwritten_then now there = let was = same there in
+      record { bytes_stay = now.bytes_stay ∙ was.bytes_stay; stops = goes_on_same law was.stops now.stops; faults = omega (arith, was.faults, now.faults) }
+
+  pub session_run : RunKeeps d k r reads old new before after end
+  session_run = record {
+    asks = late_asks (r.image, blank_size r) end (d.asked old) (d.asked new) keeps.late (keeps.asked_stays ∙ asked);
+    given = λ gives is. ((λ e. absurd (late_image end keeps.late e)), (λ over. given gives is));
+    no_image = λ e. absurd (late_image end keeps.late e);
+    disk_fault = λ e. rose_earlier (d.faults old) (d.faults mid) (d.faults new) faults (keeps.disk_fault e);
+    out_fault = keeps.out_fault;
+    settled = λ over. keeps.settled (over_disk end over);
+    no_memory = λ e. inr (keeps.asked_stays ∙ asked, (λ only. (keeps.unwritten only).bytes_stay ∙ bytes), keeps.settled (λ is. let clash : NoMemory ≡ DiskFault = sym e ∙ is in cc));
+    unwritten = λ only. unwritten_then (keeps.unwritten only);
+    made = λ only over. (keeps.unwritten only).bytes_stay ∙ bytes;
+  }
+
+  pub session_unbegun : end ≡ NotBuilt → LeavesUnbegun d r old new × (after ≡ before)
+  session_unbegun e = let x = keeps.not_built e in (
+      record {
+        asked = keeps.asked_stays ∙ asked;
+        given = given;
+        has_image = x.0.bytes_stay ∙ bytes;
+        settled = keeps.settled (λ is. let clash : NotBuilt ≡ DiskFault = sym e ∙ is in cc);
+        unwritten = unwritten_then x.0;
+      },
+      x.1,
+    )
 
 pub not_made : (new : Option Word) → is_some new ≡ false → new ≡ None
 not_made None is = refl

@@ -1,3 +1,4 @@
+mod CompactLemmas
 mod LineLemmas
 mod FreshLemmas
 mod KeptLemmas

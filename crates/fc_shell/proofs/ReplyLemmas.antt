@@ -25,6 +25,7 @@ use Rattle.fc_volume.specs.declared.lines.FileRef.{FileRef}
 use Rattle.fc_volume.specs.declared.lines.Line.{Line}
 use Rattle.fc_volume.specs.Answers.{IsPlace, IsRef, bytes_in_node, file_bytes, line_in, lines_in, ref_bytes}
 use Rattle.fc_volume.specs.Volume.{Volume, parts_of}
+use Rattle.fc_shell.specs.Built.{is_built}
 use Rattle.fc_shell.specs.Answered.{IsReply, volume_reply}
 use Rattle.fc_shell.specs.Modes.{plain_mode}
 use Rattle.fc_shell.specs.Told.{told_line, told_lines}
@@ -74,13 +75,29 @@ pub check_answer : (t : Tree) (form : NameForm) (read_only : Bool) → answer t 
 unfolding answer
 check_answer t form read_only = refl
 
--- a command that is built reads
-pub not_false : (asked : Told) → not (is_reading (command asked)) ≡ false → is_reading (command asked) ≡ true
-not_false asked = by (is_reading (command asked))
+-- a command that isn't unbuilt is built
+pub not_false : (asked : Told) → not (is_built (command asked)) ≡ false → is_built (command asked) ≡ true
+not_false asked = by (is_built (command asked))
   where
     by : (b : Bool) → not b ≡ false → b ≡ true
     by true e = refl
     by false e = absurd (cc)
+
+-- a command that is built reads, but for `compact`
+pub built_reading : (asked : Told) → is_built (command asked) ≡ true → (asked ≡ Told.Compact → ⊥) → is_reading (command asked) ≡ true
+built_reading (Told.Cat path) built other = refl
+built_reading (Told.Load path) built other = refl
+built_reading (Told.Digest path) built other = refl
+built_reading Told.Free built other = refl
+built_reading Told.Check built other = refl
+built_reading (Told.Cdir path) built other = absurd (cc)
+built_reading (Told.Delete path) built other = absurd (cc)
+built_reading (Told.Save path w x bytes) built other = absurd (cc)
+built_reading (Told.Create path w x len) built other = absurd (cc)
+built_reading (Told.Rename from to) built other = absurd (cc)
+built_reading (Told.Set path w x access) built other = absurd (cc)
+built_reading Told.Compact built other = absurd (other refl)
+built_reading Told.Reclaim built other = absurd (cc)
 
 -- no other command reads
 pub no_other : (asked : Told) → is_reading (command asked) ≡ true → ((path : Path) → asked ≡ Told.Cat path → ⊥) → ((path : Path) → asked ≡ Told.Load path → ⊥)

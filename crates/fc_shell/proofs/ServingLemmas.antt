@@ -1,5 +1,5 @@
 -- Serving line after line.
-use Rattle.std.proofs.Common.{◌≡◌, inl, ⊎_elim, ℕ, ◌+◌, ◌-◌, suc, min, Bool, true, false, ◌||◌, ◌&&◌, nat_le, List, [], ◌∷◌, ◌++◌, length, take, Option, Some, None, Ok, Err, refl, sym, ap, ap₂, subst, ◌∙◌, arith, append_assoc}
+use Rattle.std.proofs.Common.{◌≡◌, ◌⊎◌, inl, inr, ⊎_elim, ℕ, ◌+◌, ◌-◌, suc, min, Bool, true, false, ◌||◌, ◌&&◌, nat_le, List, [], ◌∷◌, ◌++◌, length, take, Option, Some, None, Ok, Err, refl, sym, ap, ap₂, subst, ◌∙◌, arith, append_assoc}
 use Rattle.std.specs.Prelude.{if◌then◌else◌, slice_get}
 use Rattle.std.proofs.lemmas.Bool.Decides.{nat_tests}
 use Rattle.std.proofs.lemmas.List.{append-nil, length-append, take-append-le, take_at}
@@ -23,6 +23,7 @@ use Rattle.fc_tree.specs.Parts.{ArePartsOf}
 use Rattle.fc_volume.specs.Volume.{Volume, parts_of}
 use Rattle.fc_shell.specs.declared.answer.LineFault.{LineFault}
 use Rattle.fc_shell.specs.declared.answer.LineFault.TheVariants as lines
+use Rattle.fc_shell.specs.Built.{Spares, all_read, is_reading_line}
 use Rattle.fc_shell.specs.Line.{BreaksOff, GoesOn, IsAnswered, IsCutOff, IsDone, LineEnds}
 use Rattle.fc_shell.specs.Modes.{plain_mode}
 use Rattle.fc_shell.specs.Serving.{AreDone, HasServed, ServesAs, cause_of}
@@ -44,6 +45,23 @@ both_true false b h = absurd (cc)
 pub true_both : (a b : Bool) → a ≡ true → b ≡ true → (a && b) ≡ true
 true_both true b h k = k
 true_both false b h k = absurd (cc)
+
+-- lines that write nothing, and lines that compact
+pub spares_first : (ro now : Bool) (line : List ℕ) (left : List (List ℕ)) → now ≡ ro → Spares ro (line ∷ left) → (now ≡ true) ⊎ (is_reading_line (command_of line) ≡ true)
+spares_first ro now line left same (inl locked) = inl (same ∙ locked)
+spares_first ro now line left same (inr reads) = inr (both_true (is_reading_line (command_of line)) (all_read left) reads).0
+
+pub spares_rest : (ro : Bool) (line : List ℕ) (left : List (List ℕ)) → Spares ro (line ∷ left) → Spares ro left
+spares_rest ro line left (inl locked) = inl locked
+spares_rest ro line left (inr reads) = inr (both_true (is_reading_line (command_of line)) (all_read left) reads).1
+
+pub first_of_any : (a b : Bool) → a ≡ true → (a || b) ≡ true
+first_of_any true b e = refl
+first_of_any false b e = absurd (cc)
+
+pub rest_of_any : (a b : Bool) → b ≡ true → (a || b) ≡ true
+rest_of_any true b e = refl
+rest_of_any false b e = e
 
 or_nothing : (b : Bool) → (b || false) ≡ b
 or_nothing true = refl

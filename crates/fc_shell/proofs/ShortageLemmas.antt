@@ -89,7 +89,7 @@ not_less n few = grind (arith, nat_tests)
 none_below : (n : ℕ) → nat_lt n 0 ≡ false
 none_below n = grind (arith, nat_tests)
 
-new_enough : (ids bits some need : ℕ) → some ≡ 0 → need ≡ 0 → first_of (when (nat_lt ids some) refusals.IdsFull ∷ when (nat_lt bits need) refusals.DiscFull ∷ []) ≡ None
+pub new_enough : (ids bits some need : ℕ) → some ≡ 0 → need ≡ 0 → first_of (when (nat_lt ids some) refusals.IdsFull ∷ when (nat_lt bits need) refusals.DiscFull ∷ []) ≡ None
 new_enough ids bits some need none nought =
     let first : nat_lt ids some ≡ false = ap (nat_lt ids) none ∙ none_below ids in
     let second : nat_lt bits need ≡ false = ap (nat_lt bits) nought ∙ none_below bits in

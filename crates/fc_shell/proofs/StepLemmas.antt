@@ -81,20 +81,22 @@ module _ {D : Type 0} {d : Ghosts D} (law : Laws d) (kind : Kind) (v : Volume) (
   pub read_done : (reply : List ℕ) → Step mode s line reply s → OnlyReads d old new → IsDone d old new kind v.read_only s line reply s
   read_done reply step reads = record { step = step; holds = reads.bytes ∙ told; opens = opens; kept = λ keeps. same_tree reads.stops }
 
+  -- a line that leaves everything, whose reply tells no bytes
+  pub left_ends : (reply : List ℕ) (result : Result Bool LineFault) → Step mode s line reply s → OnlyReads d old new → ArePartsOf (parts_of v) s.view
+      → (result ≡ Err LineFault.Disk → ⊥) → Answered reply before after result → LineEnds d old new kind v.read_only s v line before after result
+  left_ends reply result step reads parts no_disk answered = by result no_disk answered
+    where
+      by : (result : Result Bool LineFault) → (result ≡ Err LineFault.Disk → ⊥) → Answered reply before after result → LineEnds d old new kind v.read_only s v line before after result
+      by (Ok refused) never answered =
+          record { reply = reply; next = s; done = read_done reply step reads; parts = parts; wrote = answered.0; refused_is = answered.1 }
+      by (Err fault) never answered =
+          inl (record { reply = reply; next = s; done = read_done reply step reads; part = answered; no_disk = λ is. never (ap Err is) })
+
   -- a line that is refused whatever the image is
   pub refusal_ends : (refusal : Refusal) (result : Result Bool LineFault) → command_of line ≡ Err refusal → OnlyReads d old new → ArePartsOf (parts_of v) s.view
       → (result ≡ Err LineFault.Disk → ⊥) → Answered (refusal_line refusal) before after result → LineEnds d old new kind v.read_only s v line before after result
-  refusal_ends refusal result is reads parts no_disk answered = by result no_disk answered
-    where
-      step : Step mode s line (refusal_line refusal) s
-      step = subst (λ (r : Result Command Refusal). Takes mode s r (refusal_line refusal) s) (sym is) (refl, refl)
-
-      by : (result : Result Bool LineFault) → (result ≡ Err LineFault.Disk → ⊥) → Answered (refusal_line refusal) before after result
-          → LineEnds d old new kind v.read_only s v line before after result
-      by (Ok refused) never answered =
-          record { reply = refusal_line refusal; next = s; done = read_done (refusal_line refusal) step reads; parts = parts; wrote = answered.0; refused_is = answered.1 }
-      by (Err fault) never answered =
-          inl (record { reply = refusal_line refusal; next = s; done = read_done (refusal_line refusal) step reads; part = answered; no_disk = λ is. never (ap Err is) })
+  refusal_ends refusal result is reads parts no_disk answered =
+      left_ends (refusal_line refusal) result (subst (λ (r : Result Command Refusal). Takes mode s r (refusal_line refusal) s) (sym is) (refl, refl)) reads parts no_disk answered
 
   -- a command that reads
   pub reading_ends : (c : Command) (result : Result Bool LineFault) → command_of line ≡ Ok c → is_reading c ≡ true → OnlyReads d old new → ArePartsOf (parts_of v) s.view
@@ -143,7 +145,7 @@ pub reading_keeps : {D K : Type 0} {d : Ghosts D} (law : Laws d) (k : Sinks K) (
     → d.pending old ≡ false → v.fit ≡ true → StandsFor d v old → OnlyReads d old new → IsCaused d k old new before after result → KeepsGoing d k old new before after v v line result
 reading_keeps {d = d} law k v line old new before after result quiet fit stands reads caused = record {
   goes = record { form = reads.form; stops = weaker law (λ image. Unit {0}) reads.stops (λ image left. tt); faults = reads.faults };
-  ready = ready_if result (IsReady d new v v) (record { fit = fit; stands = stands_read d v old new reads stands; settled = reads.pending ∙ quiet; read_only = refl });
+  ready = ready_if result (IsReady d new v v) (record { fit = fit; stands = stands_read d v old new reads stands; settled = reads.pending ∙ quiet; read_only = refl; new_map = λ new. new });
   settled = λ never. reads.pending ∙ quiet;
   reads = λ is. (reads, refl);
   caused = caused;

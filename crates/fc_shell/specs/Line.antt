@@ -76,11 +76,12 @@ pub record IsReady {D : Type 0} (d : Ghosts D) (new : D) (was v : Volume) : Type
   pub stands : StandsFor d v new
   pub settled : d.pending new ≡ false
   pub read_only : v.read_only ≡ was.read_only
+  pub new_map : IsNewLayout (parts_of was).layout → IsNewLayout (parts_of v).layout
 
 -- what stays over a line
 pub record KeepsGoing {D K : Type 0} (d : Ghosts D) (k : Sinks K) (old new : D) (before after : K) (was v : Volume) (line : List ℕ) (result : Result Bool LineFault) : Type 0 where
   pub goes : GoesOn d old new
   pub ready : IfOk result (λ refused. IsReady d new was v)
   pub settled : (result ≡ Err LineFault.Disk → ⊥) → d.pending new ≡ false
-  pub reads : is_reading_line (command_of line) ≡ true → OnlyReads d old new × (v ≡ was)
+  pub reads : (was.read_only ≡ true) ⊎ (is_reading_line (command_of line) ≡ true) → OnlyReads d old new × (v ≡ was)
   pub caused : IsCaused d k old new before after result

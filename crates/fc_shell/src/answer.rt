@@ -1,16 +1,19 @@
 // The answer to a line of the script.
-ghost use Rattle.std.specs.Prelude.{◌≡◌, IsFalse, IsTrue};
+ghost use Rattle.std.specs.Prelude.{◌≡◌, List, ℕ, true, Ok, IsFalse, IsTrue};
 ghost use Rattle.fc_device.specs.Calls.{OnlyReads};
+ghost use Rattle.fc_image.specs.Stays.{IsNewLayout};
+ghost use Rattle.fc_model.specs.Command.{Command as Model};
 ghost use Rattle.fc_runs.specs.ReadLaw.{is_reading};
 ghost use Rattle.fc_script.specs.Lines.{command_of};
 ghost use Rattle.fc_script.specs.Reading.{command};
-ghost use Rattle.fc_volume.specs.Volume.{StandsFor};
+ghost use Rattle.fc_volume.specs.Volume.{StandsFor, parts_of};
 ghost use Rattle.fc_shell.specs.Answered.{Answered, ForState, IsCaused, volume_reply};
-ghost use Rattle.fc_shell.specs.Built.{is_unbuilt_command};
+ghost use Rattle.fc_shell.specs.Built.{is_built, is_compact, is_unbuilt_command};
 ghost use Rattle.fc_shell.specs.Line.{KeepsGoing, LineEnds};
 
 use crate::cat::cat;
 use crate::check::check;
+use crate::compact::compact;
 use crate::digest::digest;
 use crate::free::free;
 use crate::load::load;
@@ -57,7 +60,32 @@ fn answer_reading<D: Disk, K: Sink>(
     }
 }
 
-/// Answers a command line of the script, whose command is built: does it, and writes its whole reply. Answers whether the
+// Answers a command that is built, for the volume's map. `line` of the clauses is each line that spells it.
+fn answer_command<D: Disk, K: Sink>(
+    alloc: Global,
+    volume: &mut Volume,
+    disk: &mut D,
+    out: &mut K,
+    asked: &Command,
+) -> Result<bool, LineFault>
+    requires attached { IsTrue (D.attached disk.old) }
+    requires fit { IsTrue volume.old.fit }
+    requires stands { StandsFor D.Disk volume.old disk.old }
+    requires settled { IsFalse (D.pending disk.old) }
+    requires built { is_built (command asked.now) ≡ true }
+    requires new_map { command asked.now ≡ Model.Compact → IsNewLayout (parts_of volume.old).layout }
+    ensures step { (line : List ℕ) → command_of line ≡ Ok (command asked.now) → ForState (D.bytes disk.old) volume.old (λ kind s.
+        LineEnds D.Disk disk.old disk.new kind volume.old.read_only s volume.new line (K.taken out.old) (K.taken out.new) result) }
+    ensures keeps { (line : List ℕ) → command_of line ≡ Ok (command asked.now)
+        → KeepsGoing D.Disk K.Sink disk.old disk.new out.old out.new volume.old volume.new line result }
+{
+    match asked {
+        Command::Compact => compact(alloc, volume, disk, out),
+        _ => answer_reading(alloc, volume, disk, out, asked),
+    }
+}
+
+/// Answers a command line of the script, whose command is built, for the volume's map: does it, and writes its whole reply. Answers whether the
 /// reply is an error line.
 pub fn answer_line<D: Disk, K: Sink>(
     alloc: Global,
@@ -71,12 +99,13 @@ pub fn answer_line<D: Disk, K: Sink>(
     requires stands { StandsFor D.Disk volume.old disk.old }
     requires settled { IsFalse (D.pending disk.old) }
     requires built { IsFalse (is_unbuilt_command (command_of line.now)) }
+    requires new_map { is_compact (command_of line.now) ≡ true → IsNewLayout (parts_of volume.old).layout }
     ensures step { ForState (D.bytes disk.old) volume.old (λ kind s.
         LineEnds D.Disk disk.old disk.new kind volume.old.read_only s volume.new line.now (K.taken out.old) (K.taken out.new) result) }
     ensures keeps { KeepsGoing D.Disk K.Sink disk.old disk.new out.old out.new volume.old volume.new line.now result }
 {
     match read_line(alloc, line) {
-        Ok(asked) => answer_reading(alloc, volume, disk, out, &asked),
+        Ok(asked) => answer_command(alloc, volume, disk, out, &asked),
         Err(LineError::BadCommand) => tell(out, refusal(alloc, Refusal::BadCommand)),
         Err(LineError::BadName) => tell(out, refusal(alloc, Refusal::BadName)),
         Err(LineError::NoMemory) => Err(LineFault::NoMemory),

@@ -8,6 +8,7 @@ mod answer;
 mod built;
 mod cat;
 mod check;
+mod compact;
 mod digest;
 mod digits;
 mod ending;
@@ -26,15 +27,16 @@ ghost use Rattle.std.specs.Prelude.{◌≡◌, ◌≢◌, ◌⊎◌, ◌<◌, �
 ghost use Rattle.std.specs.Option.{ForSome};
 ghost use Rattle.fc_device.specs.Calls.{Untouched};
 ghost use Rattle.fc_device.specs.Faults.{Rose};
+ghost use Rattle.fc_runs.specs.Run.{commands_in};
 ghost use Rattle.fc_words.specs.CommandLine.{Request, request_of};
 ghost use Rattle.fc_words.specs.Request.{request_in};
-ghost use Rattle.fc_shell.specs.Built.{has_unbuilt, only_reads};
+ghost use Rattle.fc_shell.specs.Built.{Spares, has_compact, has_unbuilt};
 ghost use Rattle.fc_shell.specs.Ends.{AsksFor, FitsGiven, is_early, is_late, is_over_image};
-ghost use Rattle.fc_shell.specs.Kept.{HasImage, LeavesDisk, RunKeeps};
+ghost use Rattle.fc_shell.specs.Kept.{HasImage, LeavesDisk, LeavesUnbegun, LeavesUnbuilt, RunKeeps, RunSpares};
 ghost use Rattle.fc_shell.specs.Promise.{EndsByScript, EndsByWords, Promise};
 ghost use Rattle.fc_shell.specs.Reading.{IsUnwritten};
 ghost use Rattle.fc_shell.specs.ReadsLaw.{ReadsLaw};
-ghost use Rattle.fc_shell.specs.Replies.{AsksUnbuilt, EndsAs, blank_size, is_unbuilt, run_reply, script_limit};
+ghost use Rattle.fc_shell.specs.Replies.{EndsAs, blank_size, is_unbuilt, run_reply, script_limit};
 ghost use Rattle.fc_shell.specs.Script.{behind_limit};
 ghost use Rattle.fc_shell.specs.Writing.{Wrote};
 
@@ -58,9 +60,10 @@ fn run_script<D: Disk, K: Sink>(
     ensures promise { let r = request_in asked.now in ForSome (D.gives disk.old) (λ gives. ForSome (D.bytes disk.old) (λ image.
         (text : List ℕ) × Wrote (K.taken out.old) (K.taken out.new) text
         × EndsByScript D.Disk disk.old disk.new gives r image script.now text (has_unbuilt script.now) result)) }
-    ensures keeps { RunKeeps D.Disk K.Sink (request_in asked.now) (Unit {0}) disk.old disk.new out.old out.new result }
+    ensures keeps { RunKeeps D.Disk K.Sink (request_in asked.now) (Spares (request_in asked.now).read_only (commands_in script.now)) disk.old disk.new out.old out.new result }
     ensures unattached { has_unbuilt script.now ≡ true → (is_early result ≡ true) × (disk.new ≡ disk.old) × (out.new ≡ out.old) }
-    ensures not_built { result ≡ End.NotBuilt → (disk.new ≡ disk.old) × (out.new ≡ out.old) × (has_unbuilt script.now ≡ true) }
+    ensures not_built { result ≡ End.NotBuilt → (out.new ≡ out.old) × (((disk.new ≡ disk.old) × (has_unbuilt script.now ≡ true))
+        ⊎ (LeavesUnbegun D.Disk (request_in asked.now) disk.old disk.new × (has_compact script.now ≡ true))) }
     ensures ended { (is_late result ≡ true) ⊎ ((result ≡ End.NoImage) ⊎ (result ≡ End.NotBuilt)) }
 {
     // A law, for the proof alone: an image that is accepted opens as its own kind.
@@ -83,13 +86,13 @@ fn run_request<D: Disk, S: Source, K: Sink>(
     ensures promise { let r = request_in asked.now in ForSome (D.gives disk.old) (λ gives. ForSome (S.left script.old) (λ lines. ForSome (D.bytes disk.old) (λ image.
         (text : List ℕ) × Wrote (K.taken out.old) (K.taken out.new) text
         × EndsByWords D.Disk disk.old disk.new gives r image lines text (is_unbuilt r) result))) }
-    ensures keeps { RunKeeps D.Disk K.Sink (request_in asked.now) (Unit {0}) disk.old disk.new out.old out.new result }
+    ensures keeps { RunKeeps D.Disk K.Sink (request_in asked.now) (RunSpares (request_in asked.now) (S.left script.old)) disk.old disk.new out.old out.new result }
     ensures unbuilt { is_unbuilt (request_in asked.now) ≡ true → (result ≡ End.NotBuilt) × (script.new ≡ script.old) × (disk.new ≡ disk.old) × (out.new ≡ out.old) }
     ensures unattached { ForSome (S.left script.old) (λ text. (script_limit < length text) ⊎ (has_unbuilt text ≡ true)
         → (is_early result ≡ true) × (disk.new ≡ disk.old) × (out.new ≡ out.old)) }
     ensures too_long { result ≡ End.ScriptTooLong → (disk.new ≡ disk.old) × (out.new ≡ out.old) × ForSome (S.left script.old) (λ text. script_limit < length text)
         × (S.left script.new ≡ behind_limit (S.left script.old)) }
-    ensures not_built { result ≡ End.NotBuilt → (disk.new ≡ disk.old) × (out.new ≡ out.old) × AsksUnbuilt (request_in asked.now) (S.left script.old) }
+    ensures not_built { result ≡ End.NotBuilt → (out.new ≡ out.old) × LeavesUnbuilt D.Disk (request_in asked.now) (S.left script.old) disk.old disk.new }
     ensures script_fault { result ≡ End.ScriptFault → Rose (S.faults script.old) (S.faults script.new) × (disk.new ≡ disk.old) × (out.new ≡ out.old) }
     ensures script_end { is_early result ≡ false → ForSome (S.left script.new) (λ rest. rest ≡ []) }
     ensures good_words { result ≢ End.BadWords }
@@ -111,11 +114,11 @@ fn run_request<D: Disk, S: Source, K: Sink>(
 ///
 /// `words` are those after the program's name. In this order: the words, the whole script, the image, the fresh volume
 /// where one is asked for, opening, and the commands in turn. The first that fails ends the run. An image that is there
-/// is never written.
+/// is written by `compact` alone, and never where the words forbid it.
 ///
 /// Where the source tells its script, two ends are settled whatever the disk tells. With words of the grammar that ask for
 /// nothing that isn't built, a script that is too long ends as `ScriptTooLong`, any other with a command that isn't built as
-/// `NotBuilt`, and the rest as neither; only a call of the source may fail first, and memory may be short.
+/// `NotBuilt`, and the rest as neither, but for a `compact` over an old map (`NotBuilt`); only a call of the source may fail first, and memory may be short.
 pub fn run<D: Disk, S: Source, K: Sink>(
     alloc: Global,
     words: &Vec<String>,
@@ -130,8 +133,8 @@ pub fn run<D: Disk, S: Source, K: Sink>(
         (text : List ℕ) × Wrote (K.taken out.old) (K.taken out.new) text
         × Promise D.Disk disk.old disk.new gives image lines text (request_of (map string_bytes words.now.items)) result))) }
 
-    // If the script only reads, end and text are even those of words, script and image, unless a call failed or memory was short.
-    ensures reply { ForSome (D.gives disk.old) (λ gives. ForSome (S.left script.old) (λ text. ForSome (D.bytes disk.old) (λ image.
+    // If the script doesn't compact, end and text are even those of words, script and image, unless a call failed or memory was short.
+    ensures reply { ForSome (D.gives disk.old) (λ gives. ForSome (S.left script.old) (λ text. ForSome (D.bytes disk.old) (λ image. has_compact text ≡ false →
         EndsAs (run_reply (map string_bytes words.now.items) gives text image) result (K.taken out.old) (K.taken out.new)))) }
 
     // Words that aren't of the grammar, and no others, are bad; nothing is read, attached or written.
@@ -144,15 +147,16 @@ pub fn run<D: Disk, S: Source, K: Sink>(
     ensures asks { (r : Request) → request_of (map string_bytes words.now.items) ≡ Some r → AsksFor (r.image, blank_size r) result (D.asked disk.old) (D.asked disk.new) }
 
     // Nothing is attached or written where the words or the script ask for what isn't built, or the script is too long. Then
-    // the run ends before an image is asked for, and these two ends have no other cause.
+    // the run ends before an image is asked for. These two ends have no other cause, but that the script compacts an old map:
+    // then the image was opened, or made, and no line was begun (`promise`).
     ensures unbuilt { (r : Request) → request_of (map string_bytes words.now.items) ≡ Some r → is_unbuilt r ≡ true
         → ((result ≡ End.NotBuilt) ⊎ (result ≡ End.NoMemory)) × (script.new ≡ script.old) × (disk.new ≡ disk.old) × (out.new ≡ out.old) }
     ensures unattached { ForSome (S.left script.old) (λ text. (script_limit < length text) ⊎ (has_unbuilt text ≡ true)
         → (is_early result ≡ true) × (disk.new ≡ disk.old) × (out.new ≡ out.old)) }
     ensures too_long { result ≡ End.ScriptTooLong → (disk.new ≡ disk.old) × ForSome (S.left script.old) (λ text. script_limit < length text)
         × (S.left script.new ≡ behind_limit (S.left script.old)) }
-    ensures not_built { result ≡ End.NotBuilt → (disk.new ≡ disk.old)
-        × ((r : Request) → request_of (map string_bytes words.now.items) ≡ Some r → AsksUnbuilt r (S.left script.old)) }
+    ensures not_built { (r : Request) → request_of (map string_bytes words.now.items) ≡ Some r → result ≡ End.NotBuilt
+        → LeavesUnbuilt D.Disk r (S.left script.old) disk.old disk.new }
 
     // A fault is answered only where that object's count of faults rose in this call.
     ensures script_fault { result ≡ End.ScriptFault → Rose (S.faults script.old) (S.faults script.new) × (disk.new ≡ disk.old) }
@@ -165,14 +169,15 @@ pub fn run<D: Disk, S: Source, K: Sink>(
     ensures given { (r : Request) → request_of (map string_bytes words.now.items) ≡ Some r → ForSome (D.gives disk.old) (λ gives. FitsGiven (gives r.image (blank_size r)) result) }
     ensures silent { (result ≡ End.NotBuilt) ⊎ ((result ≡ End.NoImage) ⊎ ((result ≡ End.ScriptFault) ⊎ (result ≡ End.ScriptTooLong))) → out.new ≡ out.old }
 
-    // An image that is there keeps its bytes, and at every stop it has one of those that it might have had before. Where a
-    // fresh one is asked for, the disk has it wherever the run ends over it.
-    ensures unwritten { (r : Request) → request_of (map string_bytes words.now.items) ≡ Some r → r.new ≡ None → IsUnwritten D.Disk disk.old disk.new }
-    ensures made { (r : Request) → request_of (map string_bytes words.now.items) ≡ Some r → is_over_image result ≡ true
+    // If the run may not change the image, or the script only reads, an image that is there keeps its bytes, and at every stop
+    // it has one of those that it might have had before. Where a fresh one is asked for, the disk then has it wherever the run
+    // ends over it.
+    ensures unwritten { (r : Request) → request_of (map string_bytes words.now.items) ≡ Some r → RunSpares r (S.left script.old) → r.new ≡ None → IsUnwritten D.Disk disk.old disk.new }
+    ensures made { (r : Request) → request_of (map string_bytes words.now.items) ≡ Some r → RunSpares r (S.left script.old) → is_over_image result ≡ true
         → HasImage D.Disk r disk.old disk.new }
     ensures settled { is_over_image result ≡ true → IsFalse (D.pending disk.new) }
     ensures no_memory { (r : Request) → request_of (map string_bytes words.now.items) ≡ Some r → result ≡ End.NoMemory
-        → LeavesDisk D.Disk r (Unit {0}) disk.old disk.new }
+        → LeavesDisk D.Disk r (RunSpares r (S.left script.old)) disk.old disk.new }
     ensures script_end { is_early result ≡ false → ForSome (S.left script.new) (λ rest. rest ≡ []) }
 {
     // A law, for the proof alone: an image that is accepted opens as its own kind.

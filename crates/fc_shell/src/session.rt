@@ -1,31 +1,36 @@
 // A script over an image, from its opening to the last reply.
-ghost use Rattle.std.specs.Prelude.{◌≡◌, ◌⊎◌, ◌≤◌, List, ℕ, true, false, Err, IsFalse, IsTrue};
+ghost use Rattle.std.specs.Prelude.{◌≡◌, ◌⊎◌, ◌≤◌, List, ℕ, true, false, Err, IfOk, IsFalse, IsTrue};
 ghost use Rattle.std.specs.Option.{ForSome};
 ghost use Rattle.fc_device.specs.Calls.{OnlyReads};
 ghost use Rattle.fc_device.specs.Faults.{Rose};
 ghost use Rattle.fc_device.specs.Form.{IsFresh};
 ghost use Rattle.fc_image.specs.Opening.{open_image};
+ghost use Rattle.fc_image.specs.Stays.{IsNewLayout};
 ghost use Rattle.fc_runs.specs.Replies.{bad_image_line};
-ghost use Rattle.fc_volume.specs.Volume.{StandsFor};
+ghost use Rattle.fc_runs.specs.Run.{commands_in};
+ghost use Rattle.fc_volume.specs.Volume.{StandsFor, parts_of};
 ghost use Rattle.fc_words.specs.Request.{request_in};
 ghost use Rattle.fc_shell.specs.Answered.{ForState, IsCaused};
-ghost use Rattle.fc_shell.specs.Built.{has_unbuilt, only_reads};
+ghost use Rattle.fc_shell.specs.Built.{Spares, has_compact, has_unbuilt};
 ghost use Rattle.fc_shell.specs.Ends.{end_of, is_late};
-ghost use Rattle.fc_shell.specs.Kept.{RunKeeps, SessionKeeps};
+ghost use Rattle.fc_shell.specs.Kept.{LeavesUnbegun, RunKeeps, SessionKeeps};
 ghost use Rattle.fc_shell.specs.Line.{GoesOn};
-ghost use Rattle.fc_shell.specs.Promise.{EndsByGiving, EndsByOpening};
+ghost use Rattle.fc_shell.specs.Modes.{plain_mode};
+ghost use Rattle.fc_shell.specs.Promise.{EndsByGiving, EndsByOpening, EndsOver, LacksMap};
 ghost use Rattle.fc_shell.specs.Replies.{blank_size};
 ghost use Rattle.fc_shell.specs.Serving.{ServesAs};
 ghost use Rattle.fc_shell.specs.Writing.{Wrote, WrotePart};
 
 use crate::answer::{LineFault, answer_line};
+use crate::built::has_compact;
 use crate::ending::End;
 use crate::image::attach_image;
 use crate::lines::CommandLines;
 use crate::sink::write_all;
 use crate::texts::bad_image_line;
-use fc_device::{Disk, DiskFault, Failed, Sink};
+use fc_device::{Disk, DiskFault, Failed, NoMemory, Sink};
 use fc_image::ImageFault;
+use fc_space::Space;
 use fc_volume::{MountError, Volume};
 use fc_words::Words;
 use std::alloc::Global;
@@ -44,11 +49,12 @@ fn serve<D: Disk, K: Sink>(
     requires stands { StandsFor D.Disk volume.old disk.old }
     requires settled { IsFalse (D.pending disk.old) }
     requires built { has_unbuilt script.now ≡ false }
+    requires new_map { has_compact script.now ≡ true → IsNewLayout (parts_of volume.old).layout }
     ensures served { ForState (D.bytes disk.old) volume.old (λ kind s.
         ServesAs D.Disk disk.old disk.new kind volume.old.read_only s script.now (K.taken out.old) (K.taken out.new) result) }
     ensures goes { GoesOn D.Disk disk.old disk.new }
     ensures settled { (result ≡ Err LineFault.Disk → ⊥) → D.pending disk.new ≡ false }
-    ensures reads { only_reads script.now ≡ true → OnlyReads D.Disk disk.old disk.new }
+    ensures reads { Spares volume.old.read_only (commands_in script.now) → OnlyReads D.Disk disk.old disk.new }
     ensures caused { IsCaused D.Disk K.Sink disk.old disk.new out.old out.new result }
 {
     let mut refused = false;
@@ -90,6 +96,41 @@ fn tell_fault<K: Sink>(alloc: Global, out: &mut K, fault: ImageFault) -> End
     }
 }
 
+// Whether a script compacts, and the volume's map is an old one: that isn't built.
+fn lacks_map(alloc: Global, volume: &Volume, script: &[u8]) -> Result<bool, NoMemory>
+    ensures { IfOk result (LacksMap (parts_of volume.now).layout script.now) }
+{
+    match volume.space() {
+        Space::NewMapped(_) => Ok(false),
+        Space::OldMapped(_) => has_compact(alloc, script),
+    }
+}
+
+// Serves a script over a volume that was opened, unless it asks for what isn't built for the volume's map.
+fn answer_volume<D: Disk, K: Sink>(
+    alloc: Global,
+    volume: &mut Volume,
+    disk: &mut D,
+    out: &mut K,
+    script: &[u8],
+) -> End
+    requires attached { IsTrue (D.attached disk.old) }
+    requires fit { IsTrue volume.old.fit }
+    requires stands { StandsFor D.Disk volume.old disk.old }
+    requires settled { IsFalse (D.pending disk.old) }
+    requires built { has_unbuilt script.now ≡ false }
+    ensures promise { ForState (D.bytes disk.old) volume.old (λ kind s. (text : List ℕ) × Wrote (K.taken out.old) (K.taken out.new) text
+        × EndsOver D.Disk disk.old disk.new (plain_mode kind volume.old.read_only) false s script.now text result) }
+    ensures keeps { SessionKeeps D.Disk K.Sink (Spares volume.old.read_only (commands_in script.now)) disk.old disk.new out.old out.new result }
+    ensures compacts { result ≡ End.NotBuilt → has_compact script.now ≡ true }
+{
+    match lacks_map(alloc, volume, script) {
+        Err(NoMemory) => End::NoMemory,
+        Ok(true) => End::NotBuilt,
+        Ok(false) => end_of(serve(alloc, volume, disk, out, script)),
+    }
+}
+
 // Opens the image of a disk that was just attached, and serves a script over it.
 fn answer_image<D: Disk, K: Sink>(
     alloc: Global,
@@ -102,12 +143,13 @@ fn answer_image<D: Disk, K: Sink>(
     requires built { has_unbuilt script.now ≡ false }
     ensures promise { ForSome (D.bytes disk.old) (λ image. (text : List ℕ) × Wrote (K.taken out.old) (K.taken out.new) text
         × EndsByOpening D.Disk disk.old disk.new read_only false image script.now text (open_image image) result) }
-    ensures keeps { SessionKeeps D.Disk K.Sink (only_reads script.now ≡ true) disk.old disk.new out.old out.new result }
+    ensures keeps { SessionKeeps D.Disk K.Sink (Spares read_only (commands_in script.now)) disk.old disk.new out.old out.new result }
+    ensures compacts { result ≡ End.NotBuilt → has_compact script.now ≡ true }
 {
     // A law, for the proof alone: an image that is accepted opens as its own kind.
     fc_image::accepted();
     match Volume::mount(alloc, disk, read_only) {
-        Ok(mut volume) => end_of(serve(alloc, &mut volume, disk, out, script)),
+        Ok(mut volume) => answer_volume(alloc, &mut volume, disk, out, script),
         Err(MountError::Image(fault)) => tell_fault(alloc, out, fault),
         Err(MountError::DiskFault) => End::DiskFault,
         Err(MountError::NoMemory) => End::NoMemory,
@@ -126,8 +168,9 @@ pub fn answer_script<D: Disk, K: Sink>(
     ensures promise { let r = request_in asked.now in ForSome (D.gives disk.old) (λ gives. ForSome (D.bytes disk.old) (λ image.
         (text : List ℕ) × Wrote (K.taken out.old) (K.taken out.new) text
         × EndsByGiving D.Disk disk.old disk.new r image script.now text (gives r.image (blank_size r)) result)) }
-    ensures keeps { RunKeeps D.Disk K.Sink (request_in asked.now) (only_reads script.now ≡ true) disk.old disk.new out.old out.new result }
-    ensures late { (is_late result ≡ true) ⊎ (result ≡ End.NoImage) }
+    ensures keeps { RunKeeps D.Disk K.Sink (request_in asked.now) (Spares (request_in asked.now).read_only (commands_in script.now)) disk.old disk.new out.old out.new result }
+    ensures late { (is_late result ≡ true) ⊎ ((result ≡ End.NoImage) ⊎ (result ≡ End.NotBuilt)) }
+    ensures not_built { result ≡ End.NotBuilt → LeavesUnbegun D.Disk (request_in asked.now) disk.old disk.new × (out.new ≡ out.old) × (has_compact script.now ≡ true) }
 {
     // Laws, for the proof alone: a fresh image is accepted, and one that is accepted opens as its own kind.
     fc_image::accepted();

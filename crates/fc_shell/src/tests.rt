@@ -167,7 +167,12 @@ fn an_image_with_one_file(rt: HostRuntime) -> Result<(), Fail> {
         (&["other"], b"free\ncdir $.A\nfree\n", 9, b""),
         (&["disc"], b"free\nrename $.A $.B\ndelete $.A\n", 9, b""),
         (&["disc"], b"set $.A 00000000 00000000 RWL\n", 9, b""),
-        (&["disc"], b"free\n\n#\ncompact", 9, b""),
+        (
+            &["--read-only", "disc"],
+            b"\n#\ncompact",
+            1,
+            b"error 11 ReadOnly\n",
+        ),
         (&["disc"], b"reclaim\nlod\n", 9, b""),
     ];
     for (words, script, wanted, text) in cases {
@@ -246,7 +251,12 @@ const OTHER_IMAGES: &[OtherImage] = &[
         3,
         b"bad-image Overlap $.Hello\n",
     ),
-    (&[(2049, 88)], b"compact\n", 9, b""),
+    (
+        &[(2049, 88)],
+        b"compact\n",
+        3,
+        b"bad-image Directory $ Magic\n",
+    ),
 ];
 
 #[test]
@@ -256,6 +266,20 @@ fn other_images(rt: HostRuntime) -> Result<(), Fail> {
         let (status, written, _) = outcome(alloc, &["disc"], hello(alloc, others)?, script)?;
         assert!(rt; status == *wanted);
         assert!(rt; written.as_slice() == *text);
+    }
+    Ok(())
+}
+
+#[test]
+fn compacts(rt: HostRuntime) -> Result<(), Fail> {
+    let alloc = rt.alloc();
+    let cases: [(&str, u8, &[u8]); 2] = [("E", 0, b"ok\n"), ("D", 9, b"")];
+    for (format, wanted, text) in cases {
+        let words = ["--new", format, "disc"];
+        let (status, written, _) =
+            outcome(alloc, words.as_slice(), Vec::new(alloc), b"compact\n")?;
+        assert!(rt; status == wanted);
+        assert!(rt; written.as_slice() == text);
     }
     Ok(())
 }

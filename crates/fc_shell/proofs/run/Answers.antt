@@ -28,7 +28,7 @@ returns-in-Ok-clause-promise g c gives given text left image told =
     (promise.0, promise.1, subst (λ o. Promise g.D.Disk c.args.disk.now c.run_request.new.disk gives image text promise.0 o c.run_request.result) (sym c.in-Ok.ensures.ok) promise.2)
 
 pub returns-in-Ok-clause-reply : goal.returns-in-Ok-clause-reply
-returns-in-Ok-clause-reply g c gives given text left image told =
+returns-in-Ok-clause-reply g c gives given text left image told calm =
     let promise = returns-in-Ok-clause-promise g c gives given text left image told in
     promise_as g.D.Disk c.args.disk.now c.run_request.new.disk (g.K.Sink.taken c.args.out.now) (g.K.Sink.taken c.run_request.new.out) promise.0 promise.1 gives image text
-    (request_of (map string_bytes c.args.words.now.items)) c.run_request.result promise.2
+    (request_of (map string_bytes c.args.words.now.items)) c.run_request.result calm promise.2

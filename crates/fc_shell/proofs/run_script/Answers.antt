@@ -1,10 +1,8 @@
 use Rattle.std.proofs.Common.{◌≡◌, Bool, true, false, [], sym, subst, arith}
 use Rattle.fc_device.proofs.DiskLaws.{laws}
 use Rattle.fc_words.specs.Request.{request_in}
-use Rattle.fc_shell.specs.Built.{has_unbuilt, only_reads}
+use Rattle.fc_shell.specs.Built.{has_unbuilt}
 use Rattle.fc_shell.specs.Promise.{EndsByScript}
-use Rattle.fc_shell.proofs.KeptLemmas.{keeps_always}
-use Rattle.fc_shell.proofs.OutcomeLemmas.{built_reads}
 use Rattle.fc_shell.proofs.PromiseLemmas.{memory_ends}
 use Rattle.fc_shell.proofs.WritingLemmas.{wrote_nothing}
 use Rattle.fc_shell.proofs.run_script.Goals as goal
@@ -22,9 +20,3 @@ returns-in-Ok-false-clause-promise g c gives given image told =
       subst (λ (b : Bool). EndsByScript g.D.Disk c.args.disk.now c.answer_script.new.disk gives (request_in c.args.asked.now) image c.args.script.now promise.0 b c.answer_script.result)
           (sym built) promise.2,
     )
-
-pub returns-in-Ok-false-clause-keeps : goal.returns-in-Ok-false-clause-keeps
-returns-in-Ok-false-clause-keeps g c =
-    let built : has_unbuilt c.args.script.now ≡ false = grind (arith, c.in-Ok-false.ensures, c.in-Ok-false.field-0-test) in
-    keeps_always g.D.Disk g.K.Sink (request_in c.args.asked.now) (only_reads c.args.script.now ≡ true) c.args.disk.now c.answer_script.new.disk c.args.out.now c.answer_script.new.out c.answer_script.result
-    (built_reads c.args.script.now built) c.answer_script.ensures.keeps

@@ -1,36 +1,31 @@
-use Rattle.std.proofs.Common.{◌≡◌, true, rules, Err, refl, sym, ap, subst, ◌∙◌}
+use Rattle.std.proofs.Common.{◌≡◌, rules, Ok, Err, refl, sym, ap, subst, ◌∙◌}
 use Rattle.fc_device.proofs.DiskLaws.{laws}
 use Rattle.fc_device.proofs.StopLemmas.{reads_start}
 use Rattle.fc_effects.specs.Effect.{State}
 use Rattle.fc_names.specs.declared.refusal.Refusal.TheVariants as refusals
-use Rattle.fc_runs.specs.ReadLaw.{is_reading}
 use Rattle.fc_script.specs.declared.command.Command.{Command as Told}
 use Rattle.fc_script.specs.declared.command.LineError.{LineError}
 use Rattle.fc_script.specs.Lines.{command_of}
 use Rattle.fc_script.specs.Reading.{Gives, command}
 use Rattle.fc_script.specs.Texts.{refusal_line}
 use Rattle.fc_shell.specs.declared.answer.LineFault.{LineFault}
-use Rattle.fc_shell.specs.Built.{is_unbuilt_command}
+use Rattle.fc_shell.specs.Built.{is_compact, is_unbuilt_command}
 use Rattle.fc_shell.proofs.AnsweredLemmas.{caused_alone}
 use Rattle.fc_shell.proofs.ReplyLemmas.{not_false}
-use Rattle.fc_shell.proofs.StepLemmas.{reading_ends, reading_keeps, refusal_ends, unbegun_ends}
+use Rattle.fc_shell.proofs.StepLemmas.{reading_keeps, refusal_ends, unbegun_ends}
 use Rattle.fc_shell.proofs.answer.answer_line.Goals as goal
 
-pub answer_reading-requires-clause-reading : goal.answer_reading-requires-clause-reading
-answer_reading-requires-clause-reading g c = not_false c.in-Ok.asked (ap is_unbuilt_command (sym c.in-Ok.ensures) ∙ c.requires.built)
+pub answer_command-requires-clause-built : goal.answer_command-requires-clause-built
+answer_command-requires-clause-built g c = not_false c.in-Ok.asked (ap is_unbuilt_command (sym c.in-Ok.ensures) ∙ c.requires.built)
+
+pub answer_command-requires-clause-new_map : goal.answer_command-requires-clause-new_map
+answer_command-requires-clause-new_map g c = λ e. c.requires.new_map (ap is_compact (c.in-Ok.ensures ∙ ap Ok e))
 
 pub returns-in-Ok-clause-step : goal.returns-in-Ok-clause-step
-returns-in-Ok-clause-step g c image told kind view opens parts =
-    let s : State = record { image = image; view = view } in
-    let reading : is_reading (command c.in-Ok.asked) ≡ true = not_false c.in-Ok.asked (ap is_unbuilt_command (sym c.in-Ok.ensures) ∙ c.requires.built) in
-    reading_ends (laws g.met.D.Disk) kind c.args.volume.now s c.args.line.now c.args.disk.now c.answer_reading.new.disk (g.K.Sink.taken c.args.out.now) (g.K.Sink.taken c.answer_reading.new.out)
-    c.requires.settled told opens (command c.in-Ok.asked) c.answer_reading.result c.in-Ok.ensures reading c.answer_reading.ensures.reads parts
-    (c.answer_reading.ensures.answered image told kind view opens parts)
+returns-in-Ok-clause-step g c = c.answer_command.ensures.step c.args.line.now c.in-Ok.ensures
 
 pub returns-in-Ok-clause-keeps : goal.returns-in-Ok-clause-keeps
-returns-in-Ok-clause-keeps g c =
-    reading_keeps (laws g.met.D.Disk) g.K.Sink c.args.volume.now c.args.line.now c.args.disk.now c.answer_reading.new.disk c.args.out.now c.answer_reading.new.out c.answer_reading.result
-    c.requires.settled c.requires.fit c.requires.stands c.answer_reading.ensures.reads c.answer_reading.ensures.caused
+returns-in-Ok-clause-keeps g c = c.answer_command.ensures.keeps c.args.line.now c.in-Ok.ensures
 
 pub returns-in-Err-BadCommand-clause-step : goal.returns-in-Err-BadCommand-clause-step
 returns-in-Err-BadCommand-clause-step g c image told kind view opens parts =

@@ -1,14 +1,15 @@
 use Rattle.std.proofs.Common.{◌≡◌, Bool, false, Err, [], inl, refl, sym, ap, subst, ◌∙◌, arith}
 use Rattle.fc_device.proofs.DiskLaws.{laws}
-use Rattle.fc_device.proofs.StopLemmas.{goes_on, goes_on_same, weaker}
+use Rattle.fc_device.proofs.StopLemmas.{goes_on, weaker}
 use Rattle.fc_effects.specs.Effect.{State}
 use Rattle.fc_image.specs.Opening.{open_image}
 use Rattle.fc_volume.specs.Answers.{IsFaultOf}
 use Rattle.fc_shell.specs.declared.ending.End.{End}
-use Rattle.fc_shell.specs.Ends.{end_of, is_late}
-use Rattle.fc_shell.specs.Promise.{EndsByOpening}
-use Rattle.fc_shell.specs.Serving.{ServesAs}
-use Rattle.fc_shell.proofs.PromiseLemmas.{begun_fault, begun_memory, disk_end, ends_from, late_end, no_fresh, out_end, rose_earlier, served_ends, session_shapes, shapes_unwritten, tell_ends, told_late, told_no_disk}
+use Rattle.fc_shell.specs.Built.{Spares}
+use Rattle.fc_shell.specs.Modes.{plain_mode}
+use Rattle.fc_runs.specs.Run.{commands_in}
+use Rattle.fc_shell.specs.Promise.{EndsByOpening, EndsOver}
+use Rattle.fc_shell.proofs.PromiseLemmas.{begun_fault, begun_memory, ends_from, no_fresh, rose_earlier, session_shapes, shapes_unwritten, tell_ends, told_late, told_no_disk, unwritten_after}
 use Rattle.fc_shell.proofs.WritingLemmas.{wrote_nothing}
 use Rattle.fc_shell.proofs.session.answer_image.Goals as goal
 
@@ -18,47 +19,40 @@ returns-in-Ok-clause-promise g c image told =
     let shapes = c.mount.ensures.shapes in
     let old = c.args.disk.now in
     let mid = c.mount.new.disk in
-    let new = c.serve.new.disk in
+    let new = c.answer_volume.new.disk in
     let script = c.args.script.now in
     let ro : Bool = c.args.read_only in
-    let before = g.K.Sink.taken c.args.out.now in
-    let after = g.K.Sink.taken c.serve.new.out in
+    let keeps = c.answer_volume.ensures.keeps in
     let there = c.in-Ok.ensures.opened image told in
     let view = there.0 in
     let s : State = record { image = image; view = view } in
-    let serves = subst (λ (b : Bool). ServesAs g.D.Disk mid new view.kind b s script before after c.serve.result) c.in-Ok.ensures.ready.1
-    (c.serve.ensures.served image (shapes.bytes_stay ∙ told) view.kind view (c.accepted.ensures image view there.1) there.2) in
-    let ends = served_ends g.D.Disk mid new view.kind ro s script before after c.serve.result serves in (
+    let ends = c.answer_volume.ensures.promise image (shapes.bytes_stay ∙ told) view.kind view (c.accepted.ensures image view there.1) there.2 in
+    let over = subst (λ (b : Bool). EndsOver g.D.Disk mid new (plain_mode view.kind b) false s script ends.0 c.answer_volume.result) c.in-Ok.ensures.ready.1 ends.2 in (
       ends.0,
       ends.1,
-      subst (λ (end : End). EndsByOpening g.D.Disk old new ro false image script ends.0 (open_image image) end) (sym c.end_of.ensures)
-          (ends_from law old mid new (weaker law (λ image. Unit {0}) shapes.stops (λ image left. tt)) c.serve.ensures.goes.stops shapes.tells_stays (shapes.pending_stays ∙ c.requires.fresh.nothing_pending)
-          c.accepted.ensures ro false image script ends.0 (end_of c.serve.result) (shapes.bytes_stay ∙ told) (λ there. shapes_unwritten g.D.Disk old mid shapes) (λ fresh. absurd (no_fresh fresh)) (late_end c.serve.result)
-          (subst (λ o. EndsByOpening g.D.Disk mid new ro false image script ends.0 o (end_of c.serve.result)) (sym there.1) ends.2)),
+      ends_from law old mid new (weaker law (λ image. Unit {0}) shapes.stops (λ image left. tt)) keeps.goes shapes.tells_stays (shapes.pending_stays ∙ c.requires.fresh.nothing_pending)
+          c.accepted.ensures ro false image script ends.0 c.answer_volume.result (shapes.bytes_stay ∙ told) (λ there. shapes_unwritten g.D.Disk old mid shapes) (λ fresh. absurd (no_fresh fresh)) keeps.late
+          (subst (λ o. EndsByOpening g.D.Disk mid new ro false image script ends.0 o c.answer_volume.result) (sym there.1) over),
     )
 
 pub returns-in-Ok-clause-keeps : goal.returns-in-Ok-clause-keeps
 returns-in-Ok-clause-keeps g c =
     let law = laws g.met.D.Disk in
     let shapes = c.mount.ensures.shapes in
-    let goes = c.serve.ensures.goes in
-    let caused = c.serve.ensures.caused in
-    let is = c.end_of.ensures in
+    let keeps = c.answer_volume.ensures.keeps in
+    let script = c.args.script.now in
+    let old = c.args.disk.now in
+    let then = unwritten_after law old c.mount.new.disk c.answer_volume.new.disk shapes in
     record {
-      asked_stays = goes.form.asked_stays ∙ shapes.asked_stays;
-      goes = goes_on law (weaker law (λ image. Unit {0}) shapes.stops (λ image left. tt)) goes.stops (λ image left. tt);
-      faults = omega (arith, shapes.faults, goes.faults);
-      disk_fault = λ e. rose_earlier (g.D.Disk.faults c.args.disk.now) (g.D.Disk.faults c.mount.new.disk) (g.D.Disk.faults c.serve.new.disk) shapes.faults (caused.disk (disk_end c.serve.result (sym is ∙ e)));
-      out_fault = λ e. caused.out (out_end c.serve.result (sym is ∙ e));
-      settled = λ never. c.serve.ensures.settled (λ e. never (is ∙ ap end_of e));
-      unwritten = λ reads.
-          let only = c.serve.ensures.reads reads in
-          record {
-            bytes_stay = only.bytes ∙ shapes.bytes_stay;
-            stops = goes_on_same law shapes.stops only.stops;
-            faults = omega (arith, shapes.faults, only.faults);
-          };
-      late = ap is_late is ∙ late_end c.serve.result;
+      asked_stays = keeps.asked_stays ∙ shapes.asked_stays;
+      goes = goes_on law (weaker law (λ image. Unit {0}) shapes.stops (λ image left. tt)) keeps.goes (λ image left. tt);
+      faults = omega (arith, shapes.faults, keeps.faults);
+      disk_fault = λ e. rose_earlier (g.D.Disk.faults old) (g.D.Disk.faults c.mount.new.disk) (g.D.Disk.faults c.answer_volume.new.disk) shapes.faults (keeps.disk_fault e);
+      out_fault = keeps.out_fault;
+      settled = keeps.settled;
+      unwritten = λ reads. then (keeps.unwritten (subst (λ (b : Bool). Spares b (commands_in script)) (sym c.in-Ok.ensures.ready.1) reads));
+      late = keeps.late;
+      not_built = λ e. let x = keeps.not_built e in (then x.0, x.1);
     }
 
 pub returns-in-Err-Image-clause-promise : goal.returns-in-Err-Image-clause-promise

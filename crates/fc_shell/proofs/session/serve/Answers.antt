@@ -4,13 +4,15 @@ use Rattle.std.proofs.lemmas.Result.{err_from_is_err_and}
 use Rattle.fc_device.proofs.DiskLaws.{laws}
 use Rattle.fc_device.proofs.StopLemmas.{reads_start, reads_then}
 use Rattle.fc_effects.specs.Effect.{State}
+use Rattle.fc_image.specs.Stays.{IsNewLayout}
+use Rattle.fc_volume.specs.Volume.{parts_of}
 use Rattle.fc_script.specs.Lines.{command_of}
 use Rattle.fc_shell.specs.declared.answer.LineFault.{LineFault}
-use Rattle.fc_shell.specs.Built.{all_read, is_reading_line, is_unbuilt_command}
+use Rattle.fc_shell.specs.Built.{Spares, any_compact, is_compact, is_unbuilt_command}
 use Rattle.fc_shell.specs.Left.{commands_left}
 use Rattle.fc_shell.specs.Line.{IsReady, LineEnds}
 use Rattle.fc_shell.specs.Serving.{HasServed, ServesAs}
-use Rattle.fc_shell.proofs.ServingLemmas.{both_true, goes_same, goes_then, neither, served_all, served_more, served_part, served_start}
+use Rattle.fc_shell.proofs.ServingLemmas.{first_of_any, goes_same, goes_then, neither, served_all, served_more, served_part, served_start, rest_of_any, spares_first, spares_rest}
 use Rattle.fc_shell.proofs.StepLemmas.{caused_later, caused_ok, one_fault}
 use Rattle.fc_shell.proofs.session.serve.Goals as goal
 
@@ -22,8 +24,9 @@ pub loop-line-init : goal.loop-line-init
 loop-line-init g c = record {
   built = subst (λ (lines : List (List ℕ)). list_any (λ line. is_unbuilt_command (command_of line)) lines ≡ false) (sym c.new-lines.ensures) c.requires.built;
   goes = goes_same (laws g.met.D.Disk) c.args.disk.now;
-  ready = record { fit = c.requires.fit; stands = c.requires.stands; settled = c.requires.settled; read_only = refl };
-  reads = λ reads. (subst (λ (lines : List (List ℕ)). all_read lines ≡ true) (sym c.new-lines.ensures) reads, reads_start (laws g.met.D.Disk) c.args.disk.now);
+  ready = record { fit = c.requires.fit; stands = c.requires.stands; settled = c.requires.settled; read_only = refl; new_map = λ new. new };
+  compacts = subst (λ (lines : List (List ℕ)). any_compact lines ≡ true → IsNewLayout (parts_of c.args.volume.now).layout) (sym c.new-lines.ensures) c.requires.new_map;
+  reads = λ reads. (subst (λ (lines : List (List ℕ)). Spares c.args.volume.now.read_only lines) (sym c.new-lines.ensures) reads, reads_start (laws g.met.D.Disk) c.args.disk.now);
   out_faults = omega arith;
   served = λ image told kind view opens parts.
       served_start (laws g.met.D.Disk) kind c.args.volume.now.read_only (record { image = image; view = view }) c.args.script.now c.args.disk.now told c.requires.settled opens
@@ -49,6 +52,14 @@ answer_line-requires-clause-built g c =
     (neither (is_unbuilt_command (command_of line)) (list_any (λ line. is_unbuilt_command (command_of line)) left)
     (subst (λ (lines : List (List ℕ)). list_any (λ line. is_unbuilt_command (command_of line)) lines ≡ false) c.in-Some.ensures c.loop-line.invariant.built)).0
 
+pub answer_line-requires-clause-new_map : goal.answer_line-requires-clause-new_map
+answer_line-requires-clause-new_map g c e =
+    let line = c.in-Some.line.now in
+    let left = commands_left c.next.new.self in
+    c.loop-line.invariant.ready.new_map
+    (subst (λ (lines : List (List ℕ)). any_compact lines ≡ true → IsNewLayout (parts_of c.args.volume.now).layout) c.in-Some.ensures c.loop-line.invariant.compacts
+    (first_of_any (is_compact (command_of line)) (any_compact left) e))
+
 pub loop-line-preserved : goal.loop-line-preserved
 loop-line-preserved g c =
     let so_far = c.loop-line.invariant in
@@ -63,11 +74,15 @@ loop-line-preserved g c =
       built = (neither (is_unbuilt_command (command_of line)) (list_any (λ line. is_unbuilt_command (command_of line)) left)
           (subst (λ (lines : List (List ℕ)). list_any (λ line. is_unbuilt_command (command_of line)) lines ≡ false) cut so_far.built)).1;
       goes = goes_then (laws g.met.D.Disk) so_far.goes keeps.goes;
-      ready = record { fit = ready.fit; stands = ready.stands; settled = ready.settled; read_only = ready.read_only ∙ so_far.ready.read_only };
+      ready = record { fit = ready.fit; stands = ready.stands; settled = ready.settled; read_only = ready.read_only ∙ so_far.ready.read_only; new_map = λ new. ready.new_map (so_far.ready.new_map new) };
+      compacts = λ e. subst (λ (lines : List (List ℕ)). any_compact lines ≡ true → IsNewLayout (parts_of c.args.volume.now).layout) cut so_far.compacts
+          (rest_of_any (is_compact (command_of line)) (any_compact left) e);
       reads = λ reads.
           let was = so_far.reads reads in
-          let both = both_true (is_reading_line (command_of line)) (all_read left) (subst (λ (lines : List (List ℕ)). all_read lines ≡ true) cut was.0) in
-          (both.1, reads_then (laws g.met.D.Disk) was.1 (keeps.reads both.0).0);
+          let spares : Spares c.args.volume.now.read_only (line ∷ left) = subst (λ (lines : List (List ℕ)). Spares c.args.volume.now.read_only lines) cut was.0 in (
+            spares_rest c.args.volume.now.read_only line left spares,
+            reads_then (laws g.met.D.Disk) was.1 (keeps.reads (spares_first c.args.volume.now.read_only c.loop-line.volume.read_only line left so_far.ready.read_only spares)).0,
+          );
       out_faults = omega (arith, so_far.out_faults, keeps.caused.later);
       served = λ image told kind view opens parts.
           let s : State = record { image = image; view = view } in
@@ -122,8 +137,9 @@ returns-in_err-refused-clause-reads g c reads =
     let line = c.in-Some.line.now in
     let left = commands_left c.next.new.self in
     let was = c.loop-line.invariant.reads reads in
-    let both = both_true (is_reading_line (command_of line)) (all_read left) (subst (λ (lines : List (List ℕ)). all_read lines ≡ true) c.in-Some.ensures was.0) in
-    reads_then (laws g.met.D.Disk) was.1 (c.answer_line.ensures.keeps.reads both.0).0
+    let spares : Spares c.args.volume.now.read_only (line ∷ left) = subst (λ (lines : List (List ℕ)). Spares c.args.volume.now.read_only lines) c.in-Some.ensures was.0 in
+    reads_then (laws g.met.D.Disk) was.1
+    (c.answer_line.ensures.keeps.reads (spares_first c.args.volume.now.read_only c.loop-line.volume.read_only line left c.loop-line.invariant.ready.read_only spares)).0
 
 pub returns-in_err-refused-clause-caused : goal.returns-in_err-refused-clause-caused
 returns-in_err-refused-clause-caused g c =
