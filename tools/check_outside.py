@@ -65,7 +65,7 @@ class Place:
                      "fresh.adf.old": self.fresh["E"], "short.adf": b"fresh.adf"}
         for name, content in self.kept.items():
             write(os.path.join(self.folder, name), content)
-        for name, content in (("script", SCRIPT.encode()), ("empty", b""), ("change", b"load $.hello\ncompact\n"),
+        for name, content in (("script", SCRIPT.encode()), ("empty", b""), ("change", b"load $.hello\nreclaim\n"),
                               ("refused", b"load $.none\n"), ("long", bytes([10]) * ((1 << 24) + 1))):
             write(os.path.join(self.root, name), content)
         self.passed, self.failures, self.seen = 0, [], set()

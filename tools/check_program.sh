@@ -122,7 +122,7 @@ cat <(head -c 512 /dev/zero) f-user.adf > header.adf
 examples=$(PATH="$folder/bin:$PATH" python3 "$tools/readme_examples.py" "$tools/../README.md") || failed=$((failed + 1))
 printf '%s\n' "$examples"
 python3 "$tools/check_outside.py" "$program" || failed=$((failed + 1))
-python3 "$tools/check_crash.py" --self-test || failed=$((failed + 1))
+python3 "$tools/check_crash.py" "$program" || failed=$((failed + 1))
 python3 "$tools/check_fcdisc.py" "$tools/../scripts/fcdisc" "$program" || failed=$((failed + 1))
 install_is_right
 expect 'make install and make uninstall' 0 $?

@@ -459,7 +459,7 @@ def check_table():
     for case in cases:
         if case.status != 2 and case.image() in files:
             compared += 1
-            status, answer = read_image.answer(bytes(files[case.image()]), case.script)
+            status, answer = read_image.answer(bytes(files[case.image()]), case.script, "--read-only" in case.words)
             if (status, answer) != (case.status, case.answer):
                 differing += 1
                 print("%s: the reader says %d\n%s\nthe table %d\n%s" % (

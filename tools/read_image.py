@@ -10,7 +10,7 @@ import re
 import sys
 from collections import deque
 
-from filecore import (AGREED, BAD_COMMAND, BAD_NAME, BIG_LIMIT, BOOT_BLOCK, BOOT_SIZE, IS_DIRECTORY, NOT_DIRECTORY, NOT_FOUND,
+from filecore import (AGREED, BAD_COMMAND, BAD_NAME, BIG_LIMIT, BOOT_BLOCK, BOOT_SIZE, IS_DIRECTORY, NOT_DIRECTORY, NOT_FOUND, READ_ONLY,
                       NOT_SPELLED, RECORD_SIZE, SMALL_SIZE, UNIT, Geometry, Record, big_directory_check, boot_check,
                       entry_line, folded, number, old_map_check, small_directory_check, spelled_path, zone_check)
 
@@ -434,7 +434,7 @@ FORMS = {  # what follows the words that are paths
     "save": (1, f" {WORD} {WORD} (-|([0-9A-Fa-f][0-9A-Fa-f])+)"), "create": (1, f" {WORD} {WORD} (0|[1-9][0-9]{{0,9}})"),
     "set": (1, f" {WORD} {WORD} (-|(?=[RWL])R?W?L?)"),
 }
-READING = ("cat", "load", "digest", "free", "check")
+BUILT = ("cat", "load", "digest", "free", "check", "compact")
 
 
 def read_path(text):
@@ -479,7 +479,9 @@ def file_reply(disc, word, entry):
     return "%s\nok\n" % (content.hex() if word == "load" else hashlib.sha256(content).hexdigest())
 
 
-def reply(disc, word, paths):
+def reply(disc, word, paths, read_only):
+    if word == "compact":  # of a disc on which nothing is left to do: this reader changes nothing
+        return READ_ONLY if read_only else "ok\n"
     if word == "free":
         return "free %d %d\nok\n" % (sum(disc.map.free), max(disc.map.free, default=0))
     if word == "check":
@@ -495,18 +497,20 @@ def reply(disc, word, paths):
                    for one in sorted(entry.entries, key=lambda one: folded(one.name))) + "ok\n"
 
 
-def answer(data, script):
+def answer(data, script, read_only=False):
     """The status and the text that fcore has to answer."""
     if len(script) > SCRIPT_LIMIT:
         return 8, ""
     commands = [read_line(line) for line in lines_of(script)]
-    if any(word and word not in READING for word, paths in commands):
+    if any(word and word not in BUILT for word, paths in commands):
         return 9, ""
     try:
         disc = Disc(data)
     except Fault as fault:
         return 3, str(fault)
-    replies = [reply(disc, word, paths) if word else paths for word, paths in commands]
+    if isinstance(disc.map, OldMap) and any(word == "compact" for word, paths in commands):
+        return 9, ""
+    replies = [reply(disc, word, paths, read_only) if word else paths for word, paths in commands]
     refused = any(re.fullmatch(r"error [0-9]+ [A-Za-z]+\n", one) for one in replies)
     return int(refused), "".join(replies)
 

@@ -1,5 +1,5 @@
 """Runs of fcore beside the answers over single images: words, scripts, lines that are refused, fresh volumes, what isn't built."""
-from filecore import BAD_COMMAND, BAD_NAME, IS_DIRECTORY, NOT_DIRECTORY, NOT_FOUND
+from filecore import BAD_COMMAND, BAD_NAME, IS_DIRECTORY, NOT_DIRECTORY, NOT_FOUND, READ_ONLY
 from volumes import FRESH
 
 SCRIPT_LIMIT = 1 << 24
@@ -80,6 +80,15 @@ CHANGES = [
 ]
 
 
+def compaction():
+    """Where nothing is left to do, nothing is written: no image of the table may change."""
+    yield Case("compact-settled", ["hello.adf"], "compact\nload $.hello\ncompact", 0, "ok\n48656c6c6f\nok\nok\n")
+    yield Case("compact-read-only", ["--read-only", "hello.adf"], "lod\ncompact\n", 1, BAD_COMMAND + READ_ONLY)
+    fresh = FRESH["F"]()
+    yield Case("compact-fresh", ["--new", "F", "compacted.adf"], "compact\nfree\n", 0, "ok\n" + fresh.free_line() + "ok\n",
+               made=("compacted.adf", "fresh-F.adf"))
+
+
 def unbuilt():
     for at, line in enumerate(CHANGES):
         yield Case("change-%d" % at, ["hello.adf"], "load $.hello\n" + line + "\n", 9)
@@ -87,7 +96,8 @@ def unbuilt():
     yield Case("change-no-image", ["nothing.adf"], "delete $.A\n", 9)
     yield Case("change-bad-image", ["zeros.adf"], "reclaim\n", 9)
     yield Case("change-read-only", ["--read-only", "hello.adf"], "reclaim\n", 9)
-    yield Case("compact-read-only", ["--read-only", "hello.adf"], "lod\ncompact\n", 1, BAD_COMMAND + "error 11 ReadOnly\n")
+    yield Case("compact-old-map", ["d-files.adf"], "free\ncompact\n", 9)
+    yield Case("compact-bad-image", ["zeros.adf"], "compact\n", 3, "bad-image NoKind\n")
     for at, words in enumerate((["--demo", "5"], ["--demo=10000"], ["--safe"], ["--safe", "--demo", "1"])):
         yield Case("option-%d" % at, [*words, "hello.adf"], "load $.hello\n", 9)
         yield Case("option-%d-no-image" % at, ["nothing.adf", *words], "", 9)
@@ -144,5 +154,5 @@ def fresh():
 
 
 def all_cases():
-    for group in (grammar, long_scripts, unbuilt, words, fresh):
+    for group in (grammar, long_scripts, compaction, unbuilt, words, fresh):
         yield from group()
