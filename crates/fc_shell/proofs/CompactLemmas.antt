@@ -1,8 +1,8 @@
 -- `compact` as a line of a script.
 use Rattle.std.proofs.Common.{◌≡◌, ◌⊎◌, ℕ, Bool, true, false, List, [], ◌∷◌, length, Option, Some, None, Result, Ok, Err, inl, inr, refl, sym, ap, ap₂, subst, ◌∙◌}
-use Rattle.std.specs.Option.{ForSome, option_map}
+use Rattle.std.specs.Option.{option_map}
 use Rattle.fc_device.specs.declared.disk.Disk.{Ghosts}
-use Rattle.fc_device.specs.Calls.{OnlyReads, StopsAndExitsLeave}
+use Rattle.fc_device.specs.Calls.{StopsAndExitsLeave}
 use Rattle.fc_names.specs.declared.name.NameForm.{NameForm}
 use Rattle.fc_names.specs.declared.refusal.Refusal.{Refusal}
 use Rattle.fc_names.specs.declared.refusal.Refusal.TheVariants as refusals
@@ -26,7 +26,7 @@ use Rattle.fc_effects.specs.Short.{needed_bits, needed_ids, short, space_reasons
 use Rattle.fc_script.specs.Lines.{command_of}
 use Rattle.fc_script.specs.Texts.{ok_line, refusal_line}
 use Rattle.fc_runs.specs.Early.{reply_begun}
-use Rattle.fc_runs.specs.Run.{Answers, Mode, Serves, Step, Takes, is_error, layout_reason, shortage}
+use Rattle.fc_runs.specs.Run.{Answers, Mode, Serves, Step, Takes, layout_reason, shortage}
 use Rattle.fc_tree.specs.Parts.{ArePartsOf}
 use Rattle.fc_volume.specs.declared.lines.CommandError.{CommandError}
 use Rattle.fc_volume.specs.Volume.{Volume, parts_of}
@@ -36,7 +36,6 @@ use Rattle.fc_shell.specs.Line.{IsDone, LeavesTree, LineEnds}
 use Rattle.fc_shell.specs.Modes.{plain_mode}
 use Rattle.fc_shell.specs.Writing.{Wrote, WrotePart}
 use Rattle.fc_shell.proofs.ShortageLemmas.{new_enough}
-use Rattle.fc_shell.proofs.StepLemmas.{left_ends}
 use Rattle.fc_shell.proofs.WritingLemmas.{wrote_nothing}
 
 -- ---- kinds

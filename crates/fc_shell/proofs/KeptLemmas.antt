@@ -92,15 +92,15 @@ module _ {D K : Type 0} {d : Ghosts D} (law : Laws d) (k : Sinks K) (r : Request
 
   pub session_unbegun : end ≡ NotBuilt → LeavesUnbegun d r old new × (after ≡ before)
   session_unbegun e = let x = keeps.not_built e in (
-      record {
-        asked = keeps.asked_stays ∙ asked;
-        given = given;
-        has_image = x.0.bytes_stay ∙ bytes;
-        settled = keeps.settled (λ is. let clash : NotBuilt ≡ DiskFault = sym e ∙ is in cc);
-        unwritten = unwritten_then x.0;
-      },
-      x.1,
-    )
+    record {
+      asked = keeps.asked_stays ∙ asked;
+      given = given;
+      has_image = x.0.bytes_stay ∙ bytes;
+      settled = keeps.settled (λ is. let clash : NotBuilt ≡ DiskFault = sym e ∙ is in cc);
+      unwritten = unwritten_then x.0;
+    },
+    x.1,
+  )
 
 pub not_made : (new : Option Word) → is_some new ≡ false → new ≡ None
 not_made None is = refl

@@ -276,8 +276,7 @@ fn compacts(rt: HostRuntime) -> Result<(), Fail> {
     let cases: [(&str, u8, &[u8]); 2] = [("E", 0, b"ok\n"), ("D", 9, b"")];
     for (format, wanted, text) in cases {
         let words = ["--new", format, "disc"];
-        let (status, written, _) =
-            outcome(alloc, words.as_slice(), Vec::new(alloc), b"compact\n")?;
+        let (status, written, _) = outcome(alloc, words.as_slice(), Vec::new(alloc), b"compact\n")?;
         assert!(rt; status == wanted);
         assert!(rt; written.as_slice() == text);
     }

@@ -1,4 +1,4 @@
-use Rattle.std.proofs.Common.{◌≡◌, Bool, true, false, [], sym, subst, arith}
+use Rattle.std.proofs.Common.{◌≡◌, Bool, false, [], sym, subst, arith}
 use Rattle.fc_device.proofs.DiskLaws.{laws}
 use Rattle.fc_words.specs.Request.{request_in}
 use Rattle.fc_shell.specs.Built.{has_unbuilt}

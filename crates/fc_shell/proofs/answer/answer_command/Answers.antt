@@ -1,4 +1,4 @@
-use Rattle.std.proofs.Common.{◌≡◌, Ok, ap, ◌∙◌}
+use Rattle.std.proofs.Common.{Ok, ap, ◌∙◌}
 use Rattle.fc_device.proofs.DiskLaws.{laws}
 use Rattle.fc_effects.specs.Effect.{State}
 use Rattle.fc_script.specs.Reading.{command}
