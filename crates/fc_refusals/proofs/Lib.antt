@@ -1,0 +1,4 @@
+pub mod SearchLemmas
+pub mod FoundLemmas
+pub mod TargetLemmas
+pub mod SetLemmas

@@ -1,0 +1,10 @@
+//! Why commands that change a volume are refused, over the nodes of its tree, and which nodes they are about if they
+//! aren't. It needs neither disk nor memory.
+#![tactic(auto)]
+
+mod places;
+mod set;
+mod target;
+
+pub use set::judge_set;
+pub use target::Target;

@@ -1,0 +1,69 @@
+// Where paths lead, and where entries stand in their directories.
+ghost use Rattle.std.specs.Prelude.{◌≡◌};
+ghost use Rattle.fc_model.specs.Answer.{is_root};
+ghost use Rattle.fc_tree.specs.Nodes.{found_in, nodes_of};
+ghost use Rattle.fc_refusals.specs.Places.{entries_at, entries_in, number_found, place_of, target_in};
+
+use crate::target::Target;
+use fc_dirs::Entry;
+use fc_names::{Name, Path, Refusal, fold_eq};
+use fc_tree::{Body, Found, Tree};
+
+/// Whether a path is the root's.
+pub fn is_root(path: &Path) -> bool
+    ensures { result ≡ is_root path.now }
+{
+    path.names().next().is_none()
+}
+
+/// The number of the node to which a path leads, or why it leads to none.
+pub fn number_at(tree: &Tree, path: &Path) -> Result<u64, Refusal>
+    ensures { result ≡ number_found (found_in (nodes_of tree.now) path.now) }
+{
+    match tree.find(path) {
+        Found::Node(n) => Ok(n),
+        Found::Absent => Err(Refusal::NotFound),
+        Found::NotDirectory => Err(Refusal::NotDirectory),
+    }
+}
+
+// The entries of a body, none if it is a file's.
+fn entries_in(body: &Body) -> &[Entry]
+    ensures { result.now ≡ entries_in body.now }
+{
+    match body {
+        Body::File => &[],
+        Body::Small(dir) => dir.entries(),
+        Body::Big(dir) => dir.entries(),
+    }
+}
+
+/// The entries of the directory of a node, in stored order; none if no directory has this number.
+pub fn entries_at(tree: &Tree, n: u64) -> &[Entry]
+    ensures { result.now ≡ entries_at (nodes_of tree.now) n }
+{
+    match tree.node(n) {
+        Some(node) => entries_in(&node.body),
+        None => &[],
+    }
+}
+
+// The place of the first entry of a name.
+fn place_of(entries: &[Entry], name: &Name) -> Option<usize>
+    ensures { result ≡ place_of entries.now name.now }
+{
+    entries.iter().position(|e| fold_eq(name, &e.name))
+}
+
+/// The node of a number, as what a command is about.
+pub fn target_in(tree: &Tree, n: u64) -> Option<Target>
+    ensures { result ≡ target_in (nodes_of tree.now) n }
+{
+    let node = tree.node(n)?;
+    let at = place_of(entries_at(tree, node.holder), &node.entry.name)?;
+    Some(Target {
+        holder: node.holder,
+        at,
+        node: n,
+    })
+}

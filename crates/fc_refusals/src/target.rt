@@ -1,0 +1,10 @@
+// What commands are about.
+
+/// An object that a command names: the node of the directory that holds it, the place of its entry there, and its own
+/// node.
+#[derive(Clone, Copy, Debug, PartialEq, Eq)]
+pub struct Target {
+    pub holder: u64,
+    pub at: usize,
+    pub node: u64,
+}
