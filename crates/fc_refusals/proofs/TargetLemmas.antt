@@ -1,6 +1,6 @@
 -- The node that a path names, with the directory that holds it and its place there.
-use Rattle.std.proofs.Common.{◌≡◌, ℕ, Bool, true, false, ◌&&◌, List, [], ◌∷◌, ◌++◌, map, refl, sym, ap, ap₂, subst, ◌∙◌, Option, Some, None, nat_cmp, position}
-use Rattle.std.specs.Prelude.{Contains, slice_get, option_map, Result, Ok, Err, IfOk}
+use Rattle.std.proofs.Common.{◌≡◌, ℕ, Bool, true, false, ◌&&◌, List, [], ◌∷◌, ◌++◌, refl, sym, ap, ap₂, subst, ◌∙◌, Option, Some, None, nat_cmp}
+use Rattle.std.specs.Prelude.{Contains, slice_get, option_map, Result, Ok, IfOk}
 use Rattle.std.specs.Option.{ok_or, option_and_then, option_map_or}
 use Rattle.std.specs.FinMap.{FinMap, get}
 use Rattle.std.proofs.lemmas.Option.{slice_get-map}
@@ -12,7 +12,7 @@ use Rattle.fc_dirs.specs.declared.Entry.{Entry}
 use Rattle.fc_dirs.specs.Directory.{Directory, entries_of}
 use Rattle.fc_image.specs.Layout.{Layout}
 use Rattle.fc_image.specs.Walk.{Object, Listing}
-use Rattle.fc_image.specs.Objects.{objects_of, listing_at}
+use Rattle.fc_image.specs.Objects.{listing_at}
 use Rattle.fc_image.specs.Sound.{AreSound}
 use Rattle.fc_image.proofs.PathsLemmas.{cut, itself, same_last}
 use Rattle.fc_tree.specs.declared.node.Node.{Node}
@@ -27,7 +27,7 @@ use Rattle.fc_refusals.specs.Targets.{IsTarget, refusal_of}
 use Rattle.fc_refusals.proofs.SearchLemmas.{none_passes, passes_there}
 use Rattle.fc_refusals.proofs.FoundLemmas.{LeadsTo, held_object, leads_to}
 
-entries_body : (dir : Directory) → entries_in (body_in dir) ≡ entries_of dir
+pub entries_body : (dir : Directory) → entries_in (body_in dir) ≡ entries_of dir
 entries_body (Directory.Small dir) = refl
 entries_body (Directory.Big dir) = refl
 

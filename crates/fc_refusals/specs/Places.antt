@@ -1,12 +1,12 @@
 -- Where paths lead among nodes, and where entries stand in their directories.
-use Rattle.std.specs.Prelude.{ℕ, List, [], Option, Some, None, Result, Ok, Err, option_map}
+use Rattle.std.specs.Prelude.{ℕ, Bool, false, nat_lt, length, List, [], Option, Result, Ok, Err, option_map}
 use Rattle.std.specs.List.{position}
 use Rattle.std.specs.Option.{option_and_then, option_map_or}
 use Rattle.std.specs.Ordering.{nat_cmp}
 use Rattle.std.specs.FinMap.{FinMap, get}
 use Rattle.fc_names.specs.declared.refusal.Refusal.{Refusal}
 use Rattle.fc_names.specs.declared.refusal.Refusal.TheVariants as refusals
-use Rattle.fc_names.specs.Names.{is_same_name}
+use Rattle.fc_names.specs.Names.{is_locked, is_same_name}
 use Rattle.fc_dirs.specs.declared.Entry.{Entry}
 use Rattle.fc_tree.specs.declared.node.Body.{Body}
 use Rattle.fc_tree.specs.declared.node.Body.TheVariants as bodies
@@ -30,6 +30,14 @@ entries_in (bodies.Big dir) = dir.entries
 -- the entries of the directory of a node
 abbrev pub entries_at : FinMap nat_cmp Node → ℕ → List Entry
 entries_at nodes n = option_map_or (λ node. entries_in node.body) (get nodes n) []
+
+-- The directory of a node has entries.
+abbrev pub has_entries_at : FinMap nat_cmp Node → ℕ → Bool
+has_entries_at nodes n = nat_lt 0 (length (entries_at nodes n))
+
+-- The object of a node has the Locked bit.
+abbrev pub is_locked_node : FinMap nat_cmp Node → ℕ → Bool
+is_locked_node nodes n = option_map_or (λ node. is_locked node.entry.attrs) (get nodes n) false
 
 -- the place of the first entry of a name
 abbrev pub place_of : List Entry → List ℕ → Option ℕ

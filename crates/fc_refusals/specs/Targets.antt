@@ -1,11 +1,11 @@
 -- What commands are about, among the objects of a walk.
-use Rattle.std.specs.Prelude.{◌≡◌, ℕ, true, List, slice_get, Contains, Option, Some, None, Result, Ok, Err}
+use Rattle.std.specs.Prelude.{◌≡◌, ◌⊎◌, true, false, List, [], slice_get, Contains, Option, Some, None, Result, Ok, Err}
 use Rattle.std.specs.Ordering.{nat_cmp}
 use Rattle.std.specs.FinMap.{FinMap}
 use Rattle.fc_names.specs.declared.refusal.Refusal.{Refusal}
 use Rattle.fc_names.specs.Names.{Path, is_same_path}
 use Rattle.fc_model.specs.Tree.{holder}
-use Rattle.fc_image.specs.Walk.{Listing, Object}
+use Rattle.fc_image.specs.Walk.{Listing, Object, is_directory_object}
 use Rattle.fc_tree.specs.declared.node.Node.{Node}
 use Rattle.fc_tree.specs.Nodes.{number_of}
 use Rattle.fc_refusals.specs.declared.target.Target.{Target}
@@ -25,3 +25,12 @@ pub record IsTarget (nodes : FinMap nat_cmp Node) (listings : List Listing) (pat
   pub above : is_same_path (holder path) listing.object.path ≡ true
   pub holder_is : number_of nodes listing.object.path ≡ Some t.holder
   pub node_is : number_of nodes object.path ≡ Some t.node
+
+-- a file, or a directory that holds nothing
+abbrev pub IsEmpty : List Listing → Object → Type 0
+IsEmpty listings o = (is_directory_object o ≡ false) ⊎ ((l : Listing) × Contains listings l × (l.object ≡ o) × (l.children ≡ []))
+
+-- a target that may go
+pub record IsRemovable (nodes : FinMap nat_cmp Node) (listings : List Listing) (path : Path) (t : Target) : Type 0 where
+  pub target : IsTarget nodes listings path t
+  pub empty : IsEmpty listings target.object

@@ -2,9 +2,11 @@
 //! aren't. It needs neither disk nor memory.
 #![tactic(auto)]
 
+mod delete;
 mod places;
 mod set;
 mod target;
 
+pub use delete::judge_delete;
 pub use set::judge_set;
 pub use target::Target;

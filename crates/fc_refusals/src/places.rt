@@ -2,11 +2,11 @@
 ghost use Rattle.std.specs.Prelude.{◌≡◌};
 ghost use Rattle.fc_model.specs.Answer.{is_root};
 ghost use Rattle.fc_tree.specs.Nodes.{found_in, nodes_of};
-ghost use Rattle.fc_refusals.specs.Places.{entries_at, entries_in, number_found, place_of, target_in};
+ghost use Rattle.fc_refusals.specs.Places.{entries_at, entries_in, has_entries_at, is_locked_node, number_found, place_of, target_in};
 
 use crate::target::Target;
 use fc_dirs::Entry;
-use fc_names::{Name, Path, Refusal, fold_eq};
+use fc_names::{Attrs, Name, Path, Refusal, fold_eq};
 use fc_tree::{Body, Found, Tree};
 
 /// Whether a path is the root's.
@@ -38,13 +38,30 @@ fn entries_in(body: &Body) -> &[Entry]
     }
 }
 
-/// The entries of the directory of a node, in stored order; none if no directory has this number.
-pub fn entries_at(tree: &Tree, n: u64) -> &[Entry]
+// The entries of the directory of a node, in stored order; none if no directory has this number.
+fn entries_at(tree: &Tree, n: u64) -> &[Entry]
     ensures { result.now ≡ entries_at (nodes_of tree.now) n }
 {
     match tree.node(n) {
         Some(node) => entries_in(&node.body),
         None => &[],
+    }
+}
+
+/// Whether the directory of a node has entries.
+pub fn has_entries(tree: &Tree, n: u64) -> bool
+    ensures { result ≡ has_entries_at (nodes_of tree.now) n }
+{
+    !entries_at(tree, n).is_empty()
+}
+
+/// Whether the object of a node has the Locked bit.
+pub fn is_locked(tree: &Tree, n: u64) -> bool
+    ensures { result ≡ is_locked_node (nodes_of tree.now) n }
+{
+    match tree.node(n) {
+        Some(node) => Attrs::new(node.entry.attrs).is_locked(),
+        None => false,
     }
 }
 
