@@ -6,3 +6,4 @@ pub mod SetLemmas
 pub mod ChildLemmas
 pub mod NodeLemmas
 pub mod DeleteLemmas
+pub mod WalkLemmas

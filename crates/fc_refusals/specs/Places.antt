@@ -1,18 +1,20 @@
 -- Where paths lead among nodes, and where entries stand in their directories.
-use Rattle.std.specs.Prelude.{ℕ, Bool, false, nat_lt, length, List, [], Option, Result, Ok, Err, option_map}
+use Rattle.std.specs.Prelude.{ℕ, Bool, false, nat_lt, length, List, [], ◌∷◌, if◌then◌else◌, Option, Some, None, Result, Ok, Err, option_map}
 use Rattle.std.specs.List.{position}
 use Rattle.std.specs.Option.{option_and_then, option_map_or}
 use Rattle.std.specs.Ordering.{nat_cmp}
 use Rattle.std.specs.FinMap.{FinMap, get}
 use Rattle.fc_names.specs.declared.refusal.Refusal.{Refusal}
 use Rattle.fc_names.specs.declared.refusal.Refusal.TheVariants as refusals
-use Rattle.fc_names.specs.Names.{is_locked, is_same_name}
+use Rattle.fc_names.specs.Names.{Path, is_locked, is_same_name}
+use Rattle.fc_model.specs.Tree.{last_name}
 use Rattle.fc_dirs.specs.declared.Entry.{Entry}
 use Rattle.fc_tree.specs.declared.node.Body.{Body}
 use Rattle.fc_tree.specs.declared.node.Body.TheVariants as bodies
 use Rattle.fc_tree.specs.declared.node.Node.{Node}
 use Rattle.fc_tree.specs.declared.node.Found.{Found}
 use Rattle.fc_tree.specs.declared.node.Found.TheVariants as founds
+use Rattle.fc_tree.specs.Nodes.{is_directory_node}
 use Rattle.fc_refusals.specs.declared.target.Target.{Target}
 
 -- the number of the node to which a path leads, or why it leads to none
@@ -20,6 +22,17 @@ abbrev pub number_found : Found → Result ℕ Refusal
 number_found (founds.Node n) = Ok n
 number_found founds.Absent = Err refusals.NotFound
 number_found founds.NotDirectory = Err refusals.NotDirectory
+
+-- the same where a directory is needed
+abbrev pub directory_found : FinMap nat_cmp Node → Found → Result ℕ Refusal
+directory_found nodes (founds.Node n) = if is_directory_node nodes n then Ok n else Err refusals.NotDirectory
+directory_found nodes founds.Absent = Err refusals.NotFound
+directory_found nodes founds.NotDirectory = Err refusals.NotDirectory
+
+-- the last name of a path, if it isn't the root's
+abbrev pub own_name : Path → Option (List ℕ)
+own_name [] = None
+own_name (name ∷ names) = Some (last_name (name ∷ names))
 
 -- the entries of a body, none of a file's
 abbrev pub entries_in : Body → List Entry

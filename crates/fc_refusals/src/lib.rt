@@ -3,6 +3,7 @@
 #![tactic(auto)]
 
 mod delete;
+mod names;
 mod places;
 mod set;
 mod target;

@@ -1,8 +1,9 @@
 // Where paths lead, and where entries stand in their directories.
-ghost use Rattle.std.specs.Prelude.{◌≡◌};
+ghost use Rattle.std.specs.Prelude.{◌≡◌, option_map};
+ghost use Rattle.fc_model.specs.Tree.{holder};
 ghost use Rattle.fc_model.specs.Answer.{is_root};
-ghost use Rattle.fc_tree.specs.Nodes.{found_in, nodes_of};
-ghost use Rattle.fc_refusals.specs.Places.{entries_at, entries_in, has_entries_at, is_locked_node, number_found, place_of, target_in};
+ghost use Rattle.fc_tree.specs.Nodes.{found_in, is_directory_node, nodes_of};
+ghost use Rattle.fc_refusals.specs.Places.{directory_found, entries_at, entries_in, has_entries_at, is_locked_node, number_found, own_name, place_of, target_in};
 
 use crate::target::Target;
 use fc_dirs::Entry;
@@ -24,6 +25,61 @@ pub fn number_at(tree: &Tree, path: &Path) -> Result<u64, Refusal>
         Found::Node(n) => Ok(n),
         Found::Absent => Err(Refusal::NotFound),
         Found::NotDirectory => Err(Refusal::NotDirectory),
+    }
+}
+
+/// The last name of a path; the root has none.
+pub fn own_name(path: &Path) -> Option<&[u8]>
+    ensures { option_map (λ name. name.now) result ≡ own_name path.now }
+{
+    let mut last = None;
+    for name in path.names() {
+        last = Some(name);
+    }
+    last
+}
+
+/// Whether a directory has this number.
+pub fn is_directory(tree: &Tree, n: u64) -> bool
+    ensures { result ≡ is_directory_node (nodes_of tree.now) n }
+{
+    match tree.node(n) {
+        Some(node) => Attrs::new(node.entry.attrs).is_directory(),
+        None => false,
+    }
+}
+
+// Where a path without its last name leads.
+fn find_holder(tree: &Tree, path: &Path) -> Found
+    ensures { result ≡ found_in (nodes_of tree.now) (holder path.now) }
+{
+    let mut names = path.names();
+    let mut name = match names.next() {
+        Some(first) => first,
+        None => return Found::Node(0),
+    };
+    let mut at = 0;
+    for next in names {
+        if !is_directory(tree, at) {
+            return Found::NotDirectory;
+        }
+        match tree.child(at, name) {
+            Some(child) => at = child,
+            None => return Found::Absent,
+        }
+        name = next;
+    }
+    Found::Node(at)
+}
+
+/// The number of the directory that holds what is at a path, or why none does.
+pub fn holder_at(tree: &Tree, path: &Path) -> Result<u64, Refusal>
+    ensures { result ≡ directory_found (nodes_of tree.now) (found_in (nodes_of tree.now) (holder path.now)) }
+{
+    match find_holder(tree, path) {
+        Found::Node(n) if is_directory(tree, n) => Ok(n),
+        Found::Absent => Err(Refusal::NotFound),
+        Found::Node(_) | Found::NotDirectory => Err(Refusal::NotDirectory),
     }
 }
 

@@ -83,8 +83,8 @@ impl Tree {
         }
     }
 
-    // The number of the node of a name in a directory.
-    fn child(&self, dir: u64, name: &[u8]) -> Option<u64>
+    /// The number of the node of a name in a directory, if it has that name. Names are compared by folding.
+    pub fn child(&self, dir: u64, name: &[u8]) -> Option<u64>
         ensures { result ≡ child (nodes_of self.now) dir name.now }
     {
         first_child(&self.slots, &self.order, dir, name)
