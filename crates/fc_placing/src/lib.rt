@@ -2,6 +2,9 @@
 //! places for new objects.
 #![tactic(auto)]
 
+mod committing;
 mod leaving;
+mod space;
 
 pub use leaving::{left_by, left_by_replaced};
+pub use space::{give_space, steps, take_space};
