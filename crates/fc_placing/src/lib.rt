@@ -4,7 +4,9 @@
 
 mod committing;
 mod leaving;
+mod placing;
 mod space;
 
 pub use leaving::{left_by, left_by_replaced};
+pub use placing::slack_by_owners;
 pub use space::{give_space, steps, take_space};
