@@ -79,7 +79,7 @@ index_take (suc n) k [] low = refl
 index_take (suc n) zero (x ∷ xs) low = refl
 index_take (suc n) (suc k) (x ∷ xs) low = index_take n k xs (omega (arith, low))
 
-index_part : (a n k : ℕ) (xs : List ℕ) → k < n → slice_index (take n (drop a xs)) k ≡ slice_index xs (a + k)
+pub index_part : (a n k : ℕ) (xs : List ℕ) → k < n → slice_index (take n (drop a xs)) k ≡ slice_index xs (a + k)
 index_part zero n k xs low = index_take n k xs low ∙ ap (slice_index xs) (let e : k ≡ 0 + k = omega arith in e)
 index_part (suc a) n k [] low = index_take n k [] low ∙ ap (slice_index []) (let e : k ≡ k = refl in e) ∙ none k (suc a + k)
   where
@@ -101,11 +101,11 @@ starts_high s bs at (run ∷ runs) end spelled =
     by kinds.Hole a = (let is = spelled.0 in omega (arith, is), a)
     by (kinds.Id id) a = a
 
-module _ (m mid m' : Map) (start image' : List ℕ) (edits : AreEdits m mid) (kept : KeepsRuns mid m') (contents : KeepsContents mid m') (ends : CommitEnds m.geometry start m'.zones image') where
+module _ (m mid m' : Map) (edits : AreEdits m mid) (kept : KeepsRuns mid m') (contents : KeepsContents mid m') where
   is_geometry : IsGeometry m.geometry
   is_geometry = subst IsGeometry edits.was.of_record.1.1 (geometry_of_valid edits.was.of_record.0 edits.was.of_record.1.0)
 
-  geometry_same : m'.geometry ≡ m.geometry
+  pub geometry_same : m'.geometry ≡ m.geometry
   geometry_same = kept.geometry ∙ edits.geometry
 
   module _ (z : ℕ) (low : z < m.geometry.zones) where
@@ -135,7 +135,7 @@ module _ (m mid m' : Map) (start image' : List ℕ) (edits : AreEdits m mid) (ke
     end_high : 32 ≤ end_bit m.geometry z
     end_high = let order = is_geometry.order z low in let first = header_high z in omega (arith, order, first)
 
-    steady_zone : ZoneSteady m.geometry z (sector_of m z) (sector_of m' z)
+    pub steady_zone : ZoneSteady m.geometry z (sector_of m z) (sector_of m' z)
     steady_zone = record {
       header = part_behind 32 32 (first_bit z - 32) (bits (sector_of mid z)) (bits (sector_of m' z)) (omega arith) commit_behind
           ∙ same_part 32 (first_bit z - 32) (bits (sector_of m z)) (bits (sector_of mid z)) bits_long
@@ -149,7 +149,7 @@ module _ (m mid m' : Map) (start image' : List ℕ) (edits : AreEdits m mid) (ke
     field_kept : (at : ℕ) → 32 ≤ at → field_at (shape m.geometry z) (bits (sector_of m' z)) at ≡ field_at (shape m.geometry z) (bits (sector_of mid z)) at
     field_kept at high = ap num (part_behind 32 at (at + m.geometry.idlen - at) (bits (sector_of mid z)) (bits (sector_of m' z)) high commit_behind)
 
-    kept_links : KeepsOrWritesLinks m m' z
+    pub kept_links : KeepsOrWritesLinks m m' z
     kept_links =
         let before = edits.links z in
         let zone = edits.map.right z (subst (λ (g : Geometry). z < g.zones) (sym edits.geometry) low) in
@@ -172,15 +172,15 @@ module _ (m mid m' : Map) (start image' : List ℕ) (edits : AreEdits m mid) (ke
             let same = field_kept at (let from = b.0 in omega (arith, first, from)) in
             ((elim a.0 [ inl is ↦ inl (is.0, same ∙ is.1) | inr small ↦ inr (subst (λ (n : ℕ). n < 2 ^ 15) (sym same) small) ]), both_each ats a.1 b.1)
 
-  record_same : map_record (sector_of m' 0) ≡ map_record (sector_of m 0)
+  pub record_same : map_record (sector_of m' 0) ≡ map_record (sector_of m 0)
   record_same =
       let some = (geometry_facts m.geometry edits.was.of_record).zones in
       ap record_of
       (same_part 4 60 (sector_of mid 0) (sector_of m' 0) (long_new 0 some) (λ k h g. contents 0 k (λ e. omega (arith, e, h)) (λ e. omega (arith, e, h)))
       ∙ same_part 4 60 (sector_of m 0) (sector_of mid 0) (long_mid 0 some) (λ k h g. edits.bytes 0 k (inr (omega (arith, h))) (inl (omega (arith, g)))))
 
-  pub committed : IsMapAfter m m' image'
-  committed = record {
+  pub committed : (start image' : List ℕ) → CommitEnds m.geometry start m'.zones image' → IsMapAfter m m' image'
+  committed start image' ends = record {
     is_map = kept.map;
     geometry = geometry_same;
     copies = ends.copies;
@@ -190,7 +190,7 @@ module _ (m mid m' : Map) (start image' : List ℕ) (edits : AreEdits m mid) (ke
   }
 
 pub committed_law : CommittedLaw
-committed_law m mid m' start image' edits kept contents ends = committed m mid m' start image' edits kept contents ends
+committed_law m mid m' start image' edits kept contents ends = committed m mid m' edits kept contents start image' ends
 
 -- ---- runs
 

@@ -1,0 +1,4 @@
+pub mod CommitLemmas
+pub mod LeavingLemmas
+pub mod SlackLemmas
+pub mod SpaceLemmas

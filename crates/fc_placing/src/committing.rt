@@ -1,0 +1,67 @@
+// Changed zones of a map, written into both copies on the disk.
+
+ghost use Rattle.std.specs.Prelude.{◌≡◌, ◌<◌, ◌≤◌, ◌+◌, ◌*◌, ℕ, [], All, length, IsTrue, IsFalse, OnOk};
+ghost use Rattle.std.specs.List.Sorted.{IsStrictlyIncreasing};
+ghost use Rattle.std.specs.Option.{ForSome};
+ghost use Rattle.fc_device.specs.Calls.{FailsByFault, SameForm, StopsAndExitsLeave};
+ghost use Rattle.fc_newmap.specs.Edits.{KeepsRuns};
+ghost use Rattle.fc_newmap.specs.NewMap.{IsNewMap};
+ghost use Rattle.fc_copies.specs.declared.Which.TheVariants.{One};
+ghost use Rattle.fc_copies.specs.Committing.{CanWrite, KeepsContents};
+ghost use Rattle.fc_copies.specs.Copies.{ChangesCopies, CommitEnds, CommitLeaves, copy_of};
+
+use arrayvec::ArrayVec;
+use fc_copies::{commit, commit_wide};
+use fc_device::{Disk, DiskFault};
+use fc_newmap::NewMap;
+
+// So many zones can be written so that a crash leaves the old map or the new one.
+const GATED_ZONES: usize = 9;
+
+// Zones as the list that `commit` takes.
+fn few_zones(zones: &[u16]) -> ArrayVec<u16, 9>
+    requires { length zones.now ≤ 9 }
+    ensures { result.items ≡ zones.now }
+{
+    let mut few = ArrayVec::new();
+    for z in zones {
+        few.push(*z);
+    }
+    few
+}
+
+/// Writes changed zones of a map into both copies, and none if the list is empty. If they are at most 9, a crash leaves the
+/// old map or the new one, whole; if they are more, nothing is promised of the two copies at a crash.
+pub fn commit_zones<D: Disk>(
+    disk: &mut D,
+    map: &mut NewMap,
+    changed: &Vec<u16>,
+) -> Result<(), DiskFault>
+    requires attached { IsTrue (D.attached disk.old) }
+    requires settled { IsFalse (D.pending disk.old) }
+    requires size { D.sector_size disk.old ≡ map.old.geometry.sector }
+    requires on_disk { map.old.geometry.map_sector + 2 * map.old.geometry.zones ≤ D.sectors disk.old }
+    requires rising { IsStrictlyIncreasing changed.now.items }
+    requires zones { All (λ z. z < map.old.geometry.zones) changed.now.items }
+    requires ready { ForSome (D.bytes disk.old) (CanWrite map.old changed.now.items) }
+    ensures runs { KeepsRuns map.old map.new }
+    ensures contents { KeepsContents map.old map.new }
+    ensures keeps { StopsAndExitsLeave D.Disk disk.old disk.new (ChangesCopies map.old.geometry) }
+    ensures whole { length changed.now.items ≤ 9 → StopsAndExitsLeave D.Disk disk.old disk.new (λ start image.
+        CommitLeaves map.old.geometry start (copy_of map.old.geometry One start) map.new.zones image) }
+    ensures nothing { changed.now.items ≡ [] → D.bytes disk.new ≡ D.bytes disk.old }
+    ensures ends { OnOk result (ForSome (D.bytes disk.old) (λ start. ForSome (D.bytes disk.new) (CommitEnds map.old.geometry start map.new.zones))) }
+    ensures durable { OnOk result (IsFalse (D.pending disk.new)) }
+    ensures form { SameForm D.Disk disk.old disk.new }
+    ensures cause { FailsByFault D.Disk disk.old disk.new result }
+{
+    map.is_map();
+    if changed.is_empty() {
+        return Ok(());
+    }
+    if changed.len() > GATED_ZONES {
+        return commit_wide(disk, map, changed);
+    }
+    let few = few_zones(changed);
+    commit(disk, map, &few)
+}

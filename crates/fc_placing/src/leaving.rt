@@ -1,0 +1,61 @@
+// Which identifier goes back if an object goes.
+
+ghost use Rattle.std.specs.Prelude.{◌≡◌, None};
+ghost use Rattle.std.specs.Option.{option_to_list};
+ghost use Rattle.std.specs.List.{find};
+ghost use Rattle.fc_alloc.specs.Owners.{is_node};
+ghost use Rattle.fc_placing.specs.Leaving.{LeavesIds, has_other, is_kept, left_among};
+
+use fc_alloc::{Owner, Owners};
+
+// Whether an identifier is the one that is kept.
+fn is_kept(kept: Option<u32>, id: u32) -> bool
+    ensures { result ≡ is_kept kept id }
+{
+    match kept {
+        Some(other) => other == id,
+        None => false,
+    }
+}
+
+// Whether an owner of another node has an identifier.
+fn has_other(owners: &[Owner], node: u64, id: u32) -> bool
+    ensures { result ≡ has_other owners.now node id }
+{
+    owners.iter().any(|o| o.id == id && o.node != node)
+}
+
+// The owner of a node.
+fn owner_of(owners: &[Owner], node: u64) -> Option<Owner>
+    ensures { result ≡ find (is_node node) owners.now }
+{
+    owners.iter().copied().find(|o| o.node == node)
+}
+
+// The identifier of a node's object, unless it is the map's, or the one that is kept, or another owner has it.
+fn left_among(owners: &Owners, node: u64, kept: Option<u32>) -> Option<u32>
+    ensures { result ≡ left_among owners.now node kept }
+{
+    let own = owner_of(owners.list(), node)?;
+    let id = own.id;
+    if id == 2 || is_kept(kept, id) || has_other(owners.list(), node, id) {
+        return None;
+    }
+    Some(id)
+}
+
+/// The identifier that goes back if the object of a node goes: its own, if no other object has it, and it isn't the map's.
+/// The owners are gone over twice, and no memory is taken.
+pub fn left_by(owners: &Owners, node: u64) -> Option<u32>
+    ensures { LeavesIds owners.now node None (option_to_list result) }
+{
+    left_among(owners, node, None)
+}
+
+/// The same if an object comes in the place of the one that goes: `shared` is the identifier of others that it shares, if
+/// it does.
+pub fn left_by_replaced(owners: &Owners, node: u64, shared: Option<u32>) -> Option<u32>
+    ensures { LeavesIds owners.now node shared (option_to_list result) }
+{
+    left_among(owners, node, shared)
+}
