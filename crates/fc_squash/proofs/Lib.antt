@@ -1,0 +1,8 @@
+pub mod SlideLemmas
+pub mod PlaceLemmas
+pub mod StepLemmas
+pub mod ByteLemmas
+pub mod StandLemmas
+pub mod CarryLemmas
+pub mod EndLemmas
+pub mod LawLemmas

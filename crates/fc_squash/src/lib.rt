@@ -1,0 +1,19 @@
+//! Compaction of discs with an old map: each object slides down into the hole before it.
+#![tactic(auto)]
+
+ghost use Rattle.fc_squash.specs.Laws.{SettledLaw};
+
+mod pulling;
+mod sliding;
+mod squashing;
+
+pub use fc_effects::Owned;
+pub use squashing::squash;
+
+/// A law: `squash` leaves nothing to do.
+pub fn settles()
+    ensures { SettledLaw }
+{}
+
+#[cfg(test)]
+mod tests;
