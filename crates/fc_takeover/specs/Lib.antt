@@ -1,2 +1,3 @@
 pub mod Repairs
 pub mod Writes
+pub mod Laws

@@ -1,6 +1,7 @@
 //! From what a command's calls leave on the image and of the nodes, to what a method of a volume promises of both.
 #![tactic(auto)]
 
+ghost use Rattle.fc_takeover.specs.Laws.{DeletedTakesOver, DirectoryMadeTakesOver, FiledTakesOver, MovedTakesOver, RenamedTakesOver, RewordedTakesOver};
 ghost use Rattle.fc_takeover.specs.Repairs.{RepairLaw};
 ghost use Rattle.fc_takeover.specs.Writes.{WrittenBytesLaw};
 
@@ -12,4 +13,34 @@ pub fn repairs()
 /// What is written is there, and stays if other sectors are written.
 pub fn writes()
     ensures { WrittenBytesLaw }
+{}
+
+/// After `set` and `mark` the volume stands for the new image.
+pub fn reworded()
+    ensures { RewordedTakesOver }
+{}
+
+/// After `delete` the volume stands for the new image.
+pub fn deleted()
+    ensures { DeletedTakesOver }
+{}
+
+/// After `save` and `create` the volume stands for the new image.
+pub fn filed()
+    ensures { FiledTakesOver }
+{}
+
+/// After `cdir` the volume stands for the new image.
+pub fn directory_made()
+    ensures { DirectoryMadeTakesOver }
+{}
+
+/// After `rename` within a directory the volume stands for the new image.
+pub fn renamed()
+    ensures { RenamedTakesOver }
+{}
+
+/// After `rename` to another directory the volume stands for the new image.
+pub fn moved()
+    ensures { MovedTakesOver }
 {}
