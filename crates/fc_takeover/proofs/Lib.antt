@@ -1,7 +1,8 @@
 pub mod KindLemmas
-pub mod RepairLemmas
 pub mod WriteLemmas
+pub mod RepairLemmas
 pub mod TakenLemmas
 pub mod PlainLemmas
 pub mod ToldLemmas
 pub mod MovingLemmas
+pub mod ApartLemmas

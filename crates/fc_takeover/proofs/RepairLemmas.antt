@@ -11,6 +11,7 @@ use Rattle.fc_newmap.specs.Map.{Map}
 use Rattle.fc_copies.specs.Copies.{ChangesCopies, Chooses}
 use Rattle.fc_model.specs.Tree.{Tree}
 use Rattle.fc_model.specs.Command.{Command}
+use Rattle.fc_model.specs.Answer.{changed}
 use Rattle.fc_dirs.specs.declared.Entry.{Entry}
 use Rattle.fc_image.specs.Layout.{Layout}
 use Rattle.fc_image.specs.Walk.{Listing, Object, object_bytes}
@@ -29,6 +30,7 @@ use Rattle.fc_changes.proofs.BeforeLemmas.{boot_stays, listed_in, opened_as, par
 use Rattle.fc_changes.proofs.AfterLemmas.{behind_stays}
 use Rattle.fc_changes.proofs.OutsideLemmas.{idle_stay, no_sectors, none_busy}
 use Rattle.fc_takeover.specs.Repairs.{IsRepair, RepairLaw}
+use Rattle.fc_takeover.specs.Laws.{RepairedTakesOver}
 use Rattle.fc_takeover.proofs.KindLemmas.{copies_written, new_kind, same_sectors}
 
 each_mapped : {X Y : Type 0} (f g : X → Y) (xs : List X) (x : X) → map f xs ≡ map g xs → Contains xs x → f x ≡ g x
@@ -175,6 +177,15 @@ changes' : (kind : Kind) (start image : List ℕ) (v : Opened) (m : Map) (after 
 changes' kind start image v m after c t e =
     subst (λ (u : Opened). IsRepair kind start image u m → Changes kind (record { image = image; view = u }) after c t → Changes kind (record { image = start; view = u }) after c t)
     (view_is kind start image v m e) (λ g. changes_from kind start image m v.listings g after c t) e
+
+pub repaired_takes_over : RepairedTakesOver
+repaired_takes_over kind start image image' v m m' c nodes' owners' e over =
+    (
+      over.0,
+      subst (λ (t : Tree). Changes kind (record { image = start; view = v }) (record { image = image'; view = over.0 }) c (changed t c)) (tree_now kind start image v m e)
+          (changes' kind start image v m (record { image = image'; view = over.0 }) c (changed (tree_of image v.layout v.listings) c) e over.1),
+      over.2,
+    )
 
 pub repair_law : RepairLaw
 repair_law = record {

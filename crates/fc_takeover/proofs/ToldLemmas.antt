@@ -41,7 +41,7 @@ use Rattle.fc_takeover.proofs.PlainLemmas.{says_before}
 use Rattle.fc_takeover.proofs.TakenLemmas.{listed_same, taken}
 use Rattle.fc_takeover.proofs.WriteLemmas.{written_bytes_law}
 
-apart_front : (xs ys zs : List ℕ) → is_apart xs (ys ++ zs) ≡ true → is_apart xs ys ≡ true
+pub apart_front : (xs ys zs : List ℕ) → is_apart xs (ys ++ zs) ≡ true → is_apart xs ys ≡ true
 apart_front xs ys zs e = apart_from xs ys (λ s i j. clash (is_among (ys ++ zs) s) (in_front ys zs s j) (apart_at xs (ys ++ zs) s e i))
 
 module _ (kind : Kind) (r : DiscRecord) (image : List ℕ) (m : Map) (ls : List Listing) (new : IsNewKind kind r)

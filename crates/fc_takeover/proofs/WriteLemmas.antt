@@ -15,13 +15,15 @@ use Rattle.fc_newmap.proofs.CoverLemmas.{Distinct, id_Distinct}
 use Rattle.fc_newmap.proofs.GeometryLemmas.{geometry_of_valid}
 use Rattle.fc_newmap.proofs.HeldLemmas.{geometry_facts}
 use Rattle.fc_newmap.proofs.PlaceLemmas.{in_back}
+use Rattle.fc_copies.specs.declared.Which.TheVariants.{One, Two}
+use Rattle.fc_copies.specs.Copies.{HoldsCopies}
 use Rattle.fc_dirs.specs.Directory.{Directory}
 use Rattle.fc_image.specs.Layout.{Layout, bytes_in, dir_form, first_part, id_of, id_sectors, is_among, is_apart, is_object_id, low_of, low_start, sectors_at}
 use Rattle.fc_image.specs.Walk.{Object, object_bytes, object_size}
 use Rattle.fc_image.specs.Edits.{IsAt}
 use Rattle.fc_image.specs.Stays.{HasSectorsOf}
 use Rattle.fc_image.specs.Written.{WritesOnly}
-use Rattle.fc_image.proofs.FreeLemmas.{flat_same, object_same}
+use Rattle.fc_image.proofs.FreeLemmas.{copy_same, flat_same, object_same}
 use Rattle.fc_image.proofs.HolesLemmas.{apart_at}
 use Rattle.fc_effects.specs.Steady.{AreWritten}
 use Rattle.fc_objects.specs.Bytes.{first_bytes}
@@ -185,6 +187,22 @@ object_stays' : (m m' : Map) (o : Object) (written image image' : List ℕ) → 
 object_stays' m m' o written image image' same u w =
     object_same m.geometry.sector image image' (Layout.New m') o (ap (λ (g : Geometry). g.sector) same) (sectors_stay' m o.sectors written image image' u w)
 
+map_stays' : (m : Map) (sectors bytes image image' : List ℕ) → is_apart sectors (map_sectors m.geometry) ≡ true → IsPartWritten m.geometry.sector sectors bytes image image'
+    → HasSectorsOf m.geometry.sector (map_sectors m.geometry) image image'
+map_stays' m sectors bytes image image' apart p s h = elim (p.each s) [
+  | inl same ↦ same
+  | inr at ↦ absurd (clash (is_among (map_sectors m.geometry) s) h
+      (apart_at sectors (map_sectors m.geometry) s apart (subst (λ (t : ℕ). is_among sectors t ≡ true) at.2 (among_at sectors at.0 at.1))))
+]
+
+copies_stay' : (m : Map) (zones : List (List ℕ)) (image image' : List ℕ) → HasSectorsOf m.geometry.sector (map_sectors m.geometry) image image' → HoldsCopies m.geometry zones image
+    → HoldsCopies m.geometry zones image'
+copies_stay' m zones image image' same copies = record {
+  first = copy_same m.geometry One image image' same ∙ copies.first;
+  second = copy_same m.geometry Two image image' same ∙ copies.second;
+  sound = copies.sound;
+}
+
 -- ---- what is there
 
 stored' : (m m' : Map) (o : Object) (bytes image : List ℕ) → IsObjectWritten m m' o bytes image → object_bytes image (Layout.New m') o ≡ bytes
@@ -198,6 +216,8 @@ written_bytes_law = record {
   copies = copies_written;
   within = written_within;
   again = again_written;
+  map_stays = map_stays';
+  copies_stay = copies_stay';
   sectors_stay = sectors_stay';
   bytes_stay = bytes_stay';
   object_stays = object_stays';

@@ -17,6 +17,7 @@ use Rattle.fc_image.specs.Commanded.{mark_object, set_object}
 use Rattle.fc_effects.specs.Effect.{Changes}
 use Rattle.fc_tree.specs.Parts.{ArePartsOf}
 use Rattle.fc_nodes.specs.Edits.{IsAdded, IsDirectoryAdded, IsRemoved, IsRenamed, IsReplaced, IsReworded, IsTransferred, Nodes, NodesFollow, OwnersFollow}
+use Rattle.fc_takeover.specs.Repairs.{IsRepair}
 use Rattle.fc_changes.specs.Changed.{IsDeleteChange, IsDirectoryChange, IsFileChange, IsMoveChange, IsRenameChange, IsRewordChange}
 
 -- The nodes and the owners are those of the objects of these listings.
@@ -29,6 +30,11 @@ abbrev pub TakesOver : Kind → List ℕ → List ℕ → Opened → Command →
 TakesOver kind image image' v c m' nodes' owners' = (after : Opened)
     × Changes kind (record { image = image; view = v }) (record { image = image'; view = after }) c (changed (tree_of image v.layout v.listings) c)
     × ArePartsOf (record { layout = Layout.New m'; nodes = nodes'; owners = owners' }) after
+
+-- What a command does after the copies of the map were made equal, it does to the image at the start.
+abbrev pub RepairedTakesOver : Type 0
+RepairedTakesOver = (kind : Kind) (start image image' : List ℕ) (v : Opened) (m m' : Map) (c : Command) (nodes' : Nodes) (owners' : List Owner) → IsRepair kind start image v m
+    → TakesOver kind image image' v c m' nodes' owners' → TakesOver kind start image' v c m' nodes' owners'
 
 -- `set` and `mark`
 pub record RewordedTakesOver : Type 0 where

@@ -1,3 +1,4 @@
 pub mod Repairs
 pub mod Writes
+pub mod Places
 pub mod Laws

@@ -2,7 +2,7 @@
 use Rattle.std.specs.Prelude.{◌≡◌, ◌≤◌, ℕ, ◌*◌, true, List, [], length}
 use Rattle.fc_newmap.specs.Map.{Map, map_sectors}
 use Rattle.fc_newmap.specs.NewMap.{IsNewMap}
-use Rattle.fc_copies.specs.Copies.{ChangesCopies}
+use Rattle.fc_copies.specs.Copies.{ChangesCopies, HoldsCopies}
 use Rattle.fc_dirs.specs.Directory.{Directory}
 use Rattle.fc_image.specs.Layout.{Layout, bytes_in, dir_form, is_among, is_apart}
 use Rattle.fc_image.specs.Walk.{Object, object_bytes, object_size}
@@ -35,6 +35,11 @@ pub record WrittenBytesLaw : Type 0 where
   -- by another map of the same geometry
   pub again : (m m' : Map) (xs image image' : List ℕ) → m'.geometry ≡ m.geometry → IsWritten m' xs image image' → IsWritten m xs image image'
   -- ---- what stays
+  -- the map, if only sectors of an object are written
+  pub map_stays : (m : Map) (sectors bytes image image' : List ℕ) → is_apart sectors (map_sectors m.geometry) ≡ true → IsPartWritten m.geometry.sector sectors bytes image image'
+      → HasSectorsOf m.geometry.sector (map_sectors m.geometry) image image'
+  pub copies_stay : (m : Map) (zones : List (List ℕ)) (image image' : List ℕ) → HasSectorsOf m.geometry.sector (map_sectors m.geometry) image image' → HoldsCopies m.geometry zones image
+      → HoldsCopies m.geometry zones image'
   pub sectors_stay : (m : Map) (sectors written image image' : List ℕ) → IsUnwritten m sectors written → IsWritten m written image image' → HasSectorsOf m.geometry.sector sectors image image'
   pub bytes_stay : (m : Map) (sectors written image image' : List ℕ) (n : ℕ) → IsUnwritten m sectors written → IsWritten m written image image'
       → bytes_in m.geometry.sector image' sectors n ≡ bytes_in m.geometry.sector image sectors n

@@ -1,7 +1,8 @@
 //! From what a command's calls leave on the image and of the nodes, to what a method of a volume promises of both.
 #![tactic(auto)]
 
-ghost use Rattle.fc_takeover.specs.Laws.{DeletedTakesOver, DirectoryMadeTakesOver, FiledTakesOver, MovedTakesOver, RenamedTakesOver, RewordedTakesOver};
+ghost use Rattle.fc_takeover.specs.Laws.{DeletedTakesOver, DirectoryMadeTakesOver, FiledTakesOver, MovedTakesOver, RenamedTakesOver, RepairedTakesOver, RewordedTakesOver};
+ghost use Rattle.fc_takeover.specs.Places.{ObjectsLaw, PlacesLaw};
 ghost use Rattle.fc_takeover.specs.Repairs.{RepairLaw};
 ghost use Rattle.fc_takeover.specs.Writes.{WrittenBytesLaw};
 
@@ -13,6 +14,21 @@ pub fn repairs()
 /// What is written is there, and stays if other sectors are written.
 pub fn writes()
     ensures { WrittenBytesLaw }
+{}
+
+/// Where objects lie.
+pub fn objects()
+    ensures { ObjectsLaw }
+{}
+
+/// Which sectors a command may write.
+pub fn places()
+    ensures { PlacesLaw }
+{}
+
+/// A command after a repair is a command on what was there before the repair.
+pub fn repaired()
+    ensures { RepairedTakesOver }
 {}
 
 /// After `set` and `mark` the volume stands for the new image.
