@@ -2,7 +2,7 @@
 use Rattle.std.proofs.Common.{◌≡◌, ◌<◌, ◌⊎◌, inl, inr, ℕ, Bool, true, false, cond, List, [], ◌∷◌, ◌++◌, refl, sym, ap, subst, ◌∙◌}
 use Rattle.std.specs.Prelude.{Ok, Err, Contains, IsPermutation, filter, not, ◌==◌, ◌||◌}
 use Rattle.std.proofs.lemmas.List.Sorted.{Contains-permutation, IsPermutation-append_left, IsPermutation-cons, IsPermutation-filter_both, IsPermutation-map, IsPermutation-sym, IsPermutation-trans}
-use Rattle.fc_names.specs.Names.{Path, is_directory}
+use Rattle.fc_names.specs.Names.{Path, is_directory, is_same_path}
 use Rattle.fc_record.specs.declared.DiscRecord.{DiscRecord}
 use Rattle.fc_record.specs.declared.Kind.{Kind}
 use Rattle.fc_newmap.specs.Map.{Map, ZoneRun, all_runs, map_sectors, sectors_of}
@@ -32,12 +32,12 @@ use Rattle.fc_changes.proofs.RenamedLemmas.{each_apart}
 use Rattle.fc_takeover.specs.Places.{IsNewObject, MayBeWritten, ObjectsLaw, OpensBy, PlacesLaw}
 use Rattle.fc_takeover.proofs.KindLemmas.{new_kind}
 use Rattle.fc_takeover.proofs.PlainLemmas.{says_before}
-use Rattle.fc_takeover.proofs.ToldLemmas.{apart_front, others_apart}
+use Rattle.fc_takeover.proofs.ToldLemmas.{apart_front, others_apart, own_apart}
 
 apart_back : (xs ys zs : List ℕ) → is_apart xs (ys ++ zs) ≡ true → is_apart xs zs ≡ true
 apart_back xs ys zs e = apart_from xs zs (λ s i j. clash (is_among (ys ++ zs) s) (in_back ys zs s j) (apart_at xs (ys ++ zs) s e i))
 
-apart_both : (xs ys zs : List ℕ) → is_apart xs ys ≡ true → is_apart xs zs ≡ true → is_apart xs (ys ++ zs) ≡ true
+pub apart_both : (xs ys zs : List ℕ) → is_apart xs ys ≡ true → is_apart xs zs ≡ true → is_apart xs (ys ++ zs) ≡ true
 apart_both xs ys zs a b = apart_from xs (ys ++ zs) (λ s i j. elim (in_either ys zs s j) [
   | Ok first ↦ clash (is_among ys s) first (apart_at xs ys s a i)
   | Err second ↦ clash (is_among zs s) second (apart_at xs zs s b i)
@@ -138,6 +138,21 @@ module _ (kind : Kind) (image : List ℕ) (view : Opened) (m : Map) (e : OpensBy
             (each_apart reserved (listed parted.0 ++ files) l.object o (cut kind r image image old m parted.0 l new opens refl parted.1) later))
       ]
 
+  pub own_apart' : (o : Object) (k : Listing) → Contains (held ls) o → Contains ls k → is_same_path o.path k.object.path ≡ false
+      → is_apart k.object.sectors (cond (is_directory_object o) o.sectors []) ≡ true
+  own_apart' o k there at other = own_apart kind r image m ls new opens o k there at other
+
+  -- a new file, and a new directory
+  pub file_lies : (m' : Map) (dir : Path) (n id : ℕ) (parts' : List ZoneRun) (gone : List ℕ) (o : Object) (stay : List Object) → IsNewObject view m m' n id parts' gone o stay
+      → IsFileAt m (objects_of ls) dir n id parts' o → NewPlace kind m (objects_of ls) stay id parts' o
+  file_lies m' dir n id parts' gone o stay is place =
+      file_place kind r image m ls new opens m' n id parts' gone o stay is.is_map is.geometry is.space is.gives is.at is.size dir place
+
+  pub directory_lies : (m' : Map) (n low id : ℕ) (parts' : List ZoneRun) (gone : List ℕ) (o : Object) (stay : List Object) → low < 256 → IsNewObject view m m' n id parts' gone o stay
+      → IsInNewSpace m n low id parts' o → NewPlace kind m (objects_of ls) stay id parts' o
+  directory_lies m' n low id parts' gone o stay small is place =
+      new_place kind r image m ls new opens m' n id parts' gone o stay is.is_map is.geometry is.space is.gives is.at is.size low small place
+
   module _ (c : Command) where
     -- sectors that are apart from objects, from what is reserved and from what is idle
     free_written : (sectors : List ℕ) → ((o : Object) → Contains (objects_of ls) o → is_apart o.sectors sectors ≡ true) → is_apart sectors reserved ≡ true → AreBusy m (objects_of ls) sectors
@@ -194,14 +209,12 @@ module _ (kind : Kind) (image : List ℕ) (view : Opened) (m : Map) (e : OpensBy
     pub file' : (m' : Map) (dir : Path) (n id : ℕ) (parts' : List ZoneRun) (gone : List ℕ) (o : Object) (stay : List Object) → IsNewObject view m m' n id parts' gone o stay
         → IsFileAt m (objects_of ls) dir n id parts' o → MayBeWritten kind view m c o.sectors
     file' m' dir n id parts' gone o stay is place =
-        placed_written stay id parts' o
-        (file_place kind r image m ls new opens m' n id parts' gone o stay is.is_map is.geometry is.space is.gives is.at is.size dir place)
+        placed_written stay id parts' o (file_lies m' dir n id parts' gone o stay is place)
 
     pub new_directory' : (m' : Map) (n low id : ℕ) (parts' : List ZoneRun) (gone : List ℕ) (o : Object) (stay : List Object) → low < 256 → IsNewObject view m m' n id parts' gone o stay
         → IsInNewSpace m n low id parts' o → MayBeWritten kind view m c o.sectors
     new_directory' m' n low id parts' gone o stay small is place =
-        placed_written stay id parts' o
-        (new_place kind r image m ls new opens m' n id parts' gone o stay is.is_map is.geometry is.space is.gives is.at is.size low small place)
+        placed_written stay id parts' o (directory_lies m' n low id parts' gone o stay small is place)
 
 pub objects_law : ObjectsLaw
 objects_law = record {

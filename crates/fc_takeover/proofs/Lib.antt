@@ -6,3 +6,4 @@ pub mod PlainLemmas
 pub mod ToldLemmas
 pub mod MovingLemmas
 pub mod ApartLemmas
+pub mod StepLemmas

@@ -45,7 +45,7 @@ both_apart xs ys zs a b = apart_from xs (ys ++ zs) (λ s i j. elim (in_either ys
 ])
 
 -- a child by its number is one of the children
-child_of : (objects : List Object) (i : ℕ) (o : Object) → slice_get objects i ≡ Some o → Contains objects o
+pub child_of : (objects : List Object) (i : ℕ) (o : Object) → slice_get objects i ≡ Some o → Contains objects o
 child_of objects i o at = Contains-permutation (o ∷ remove objects i) objects o (IsPermutation-sym objects (o ∷ remove objects i) (without_it objects i o at)) (first_in o (remove objects i))
 
 -- ---- within a directory

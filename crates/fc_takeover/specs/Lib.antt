@@ -2,3 +2,4 @@ pub mod Repairs
 pub mod Writes
 pub mod Places
 pub mod Laws
+pub mod Steps

@@ -4,6 +4,7 @@
 ghost use Rattle.fc_takeover.specs.Laws.{DeletedTakesOver, DirectoryMadeTakesOver, FiledTakesOver, MovedTakesOver, RenamedTakesOver, RepairedTakesOver, RewordedTakesOver};
 ghost use Rattle.fc_takeover.specs.Places.{ObjectsLaw, PlacesLaw};
 ghost use Rattle.fc_takeover.specs.Repairs.{RepairLaw};
+ghost use Rattle.fc_takeover.specs.Steps.{StepsLaw};
 ghost use Rattle.fc_takeover.specs.Writes.{WrittenBytesLaw};
 
 /// Copies of the map that are made equal change nothing that counts.
@@ -59,4 +60,9 @@ pub fn renamed()
 /// After `rename` to another directory the volume stands for the new image.
 pub fn moved()
     ensures { MovedTakesOver }
+{}
+
+/// Each command, one write after another.
+pub fn steps()
+    ensures { StepsLaw }
 {}
