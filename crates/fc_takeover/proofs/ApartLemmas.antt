@@ -1,4 +1,4 @@
--- Where objects lie, and sectors that are no other's.
+-- The places of objects, and sectors that are no other's.
 use Rattle.std.proofs.Common.{◌≡◌, ◌<◌, ◌⊎◌, inl, inr, ℕ, Bool, true, false, cond, List, [], ◌∷◌, ◌++◌, refl, sym, ap, subst, ◌∙◌}
 use Rattle.std.specs.Prelude.{Ok, Err, Contains, IsPermutation, filter, not, ◌==◌, ◌||◌}
 use Rattle.std.proofs.lemmas.List.Sorted.{Contains-permutation, IsPermutation-append_left, IsPermutation-cons, IsPermutation-filter_both, IsPermutation-map, IsPermutation-sym, IsPermutation-trans}
@@ -9,6 +9,7 @@ use Rattle.fc_newmap.specs.Map.{Map, ZoneRun, all_runs, map_sectors, sectors_of}
 use Rattle.fc_newmap.proofs.PlaceLemmas.{filter_in, holder_of, in_back, in_either}
 use Rattle.fc_newmap.proofs.RunsLemmas.{runs_apart}
 use Rattle.fc_dirs.specs.declared.Entry.{Entry}
+use Rattle.fc_dirs.specs.Directory.{entries_of}
 use Rattle.fc_model.specs.Command.{Command}
 use Rattle.fc_image.specs.Layout.{Layout, hole_sectors, is_among, is_apart, map_place}
 use Rattle.fc_image.specs.Walk.{Listing, Object, is_directory_object, reader_of}
@@ -19,6 +20,7 @@ use Rattle.fc_image.specs.Order.{directories, held, listed}
 use Rattle.fc_image.proofs.EntriesLemmas.{in_mapped, listings_law}
 use Rattle.fc_image.proofs.HolesLemmas.{apart_at, apart_from, holes_law, no_hole_in}
 use Rattle.fc_image.proofs.MapEditLemmas.{held_in, is_file}
+use Rattle.fc_image.proofs.RenameLemmas.{child_path}
 use Rattle.fc_image.proofs.WrittenLemmas.{cut}
 use Rattle.fc_effects.specs.Steady.{idle_sectors, is_idle, may_be_rewritten}
 use Rattle.fc_changes.specs.Changed.{IsFileAt, IsInNewSpace}
@@ -28,11 +30,12 @@ use Rattle.fc_changes.proofs.MadeLemmas.{turned}
 use Rattle.fc_changes.proofs.NewPlaceLemmas.{NewPlace, file_place, new_place}
 use Rattle.fc_changes.proofs.OutsideLemmas.{AreBusy, holes_busy, no_sectors, none_busy, object_busy}
 use Rattle.fc_changes.proofs.PlacedLemmas.{filter_test}
+use Rattle.fc_changes.proofs.ReadsLemmas.{lies_in}
 use Rattle.fc_changes.proofs.RenamedLemmas.{each_apart}
 use Rattle.fc_takeover.specs.Places.{IsNewObject, MayBeWritten, ObjectsLaw, OpensBy, PlacesLaw}
 use Rattle.fc_takeover.proofs.KindLemmas.{new_kind}
 use Rattle.fc_takeover.proofs.PlainLemmas.{says_before}
-use Rattle.fc_takeover.proofs.ToldLemmas.{apart_front, others_apart, own_apart}
+use Rattle.fc_takeover.proofs.SaidLemmas.{apart_front, others_apart, own_apart}
 
 apart_back : (xs ys zs : List ℕ) → is_apart xs (ys ++ zs) ≡ true → is_apart xs zs ≡ true
 apart_back xs ys zs e = apart_from xs zs (λ s i j. clash (is_among (ys ++ zs) s) (in_back ys zs s j) (apart_at xs (ys ++ zs) s e i))
@@ -221,6 +224,10 @@ objects_law = record {
   listed = λ kind image view m l e at. listed' kind image view m e l at;
   says = λ kind image view m l e at. says_before kind (r kind image view m e) image view m l (new kind image view m e) e.opens e.layout at;
   child = λ kind image view m l o e at child. child_in kind (r kind image view m e) image m view.listings (new kind image view m e) (opens kind image view m e) l o at child;
+  holds = λ kind image view m l o path e at child same.
+      let own_path = child_path (Layout.New m) l.object.path (entries_of l.content) l.children o
+      (says_before kind (r kind image view m e) image view m l (new kind image view m e) e.opens e.layout at).1 child in
+      (lies_in path l.object.path o.entry.name (ap (λ (p : Path). is_same_path path p) (sym own_path) ∙ same)).holds;
   placed = λ kind image view m o e at. (object_lies kind (r kind image view m e) image m view.listings (new kind image view m e) (opens kind image view m e) o at).placed;
   no_map = λ kind image view m o e at. apart_front o.sectors (map_sectors m.geometry) (boot_place kind m.geometry.sector) (lies_apart kind image view m e o at);
   others = λ kind image view m l k rest e found at. others_apart kind (r kind image view m e) image m view.listings (new kind image view m e) (opens kind image view m e) l k rest found at;

@@ -3,7 +3,7 @@ pub mod WriteLemmas
 pub mod RepairLemmas
 pub mod TakenLemmas
 pub mod PlainLemmas
-pub mod ToldLemmas
+pub mod SaidLemmas
 pub mod MovingLemmas
 pub mod ApartLemmas
 pub mod StepLemmas

@@ -36,7 +36,7 @@ use Rattle.fc_changes.proofs.RenamedLemmas.{renamed_law, same_turned}
 use Rattle.fc_takeover.specs.Laws.{MovedTakesOver, PartsFollow, RenamedTakesOver, TakesOver}
 use Rattle.fc_takeover.proofs.PlainLemmas.{says_before}
 use Rattle.fc_takeover.proofs.TakenLemmas.{children_long, inserted_same, listed_same, taken}
-use Rattle.fc_takeover.proofs.ToldLemmas.{dir_stays, found_says, others_apart, own_apart, says, the_one}
+use Rattle.fc_takeover.proofs.SaidLemmas.{dir_stays, found_says, others_apart, own_apart, says, the_one}
 
 both_apart : (xs ys zs : List ℕ) → is_apart xs ys ≡ true → is_apart xs zs ≡ true → is_apart xs (ys ++ zs) ≡ true
 both_apart xs ys zs a b = apart_from xs (ys ++ zs) (λ s i j. elim (in_either ys zs s j) [

@@ -38,22 +38,22 @@ use Rattle.fc_changes.proofs.NewPlaceLemmas.{NewPlace}
 use Rattle.fc_changes.proofs.OutsideLemmas.{no_sectors}
 use Rattle.fc_changes.proofs.StepsLemmas.{writes_law}
 use Rattle.fc_takeover.specs.Places.{IsNewObject, OpensBy}
-use Rattle.fc_takeover.specs.Steps.{IsDeletedInSteps, IsDirectoryStep, IsFiledInSteps, IsMadeInSteps, IsMovedInSteps, IsReady, IsRenamedInSteps, IsRewordedInSteps, StepsLaw}
+use Rattle.fc_takeover.specs.Steps.{IsDeletedInSteps, IsDirectoryStep, IsFiledInSteps, IsMadeInSteps, IsMovedInSteps, Begins, IsRenamedInSteps, IsRewordedInSteps, StepsLaw}
 use Rattle.fc_takeover.specs.Writes.{IsUnwritten}
 use Rattle.fc_takeover.proofs.ApartLemmas.{apart_both, directory_lies, file_lies, objects_law, own_apart'}
 use Rattle.fc_takeover.proofs.KindLemmas.{new_kind}
 use Rattle.fc_takeover.proofs.MovingLemmas.{child_of, moved_takes_over, renamed_takes_over}
 use Rattle.fc_takeover.proofs.PlainLemmas.{deleted_takes_over, directory_made_takes_over, filed_takes_over}
 use Rattle.fc_takeover.proofs.RepairLemmas.{repair_law, repaired_takes_over}
-use Rattle.fc_takeover.proofs.ToldLemmas.{apart_front, reworded_takes_over}
+use Rattle.fc_takeover.proofs.SaidLemmas.{apart_front, reworded_takes_over}
 use Rattle.fc_takeover.proofs.WriteLemmas.{written_bytes_law}
 
 -- ---- the image before the steps
 
-pub opens_by : (kind : Kind) (start image : List ℕ) (v : Opened) (m : Map) → IsReady kind start image v m → OpensBy kind image v m
+pub opens_by : (kind : Kind) (start image : List ℕ) (v : Opened) (m : Map) → Begins kind start image v m → OpensBy kind image v m
 opens_by kind start image v m ready = record { opens = repair_law.opens kind start image v m ready.repair; layout = ready.repair.layout }
 
-pub before : (kind : Kind) (start image : List ℕ) (v : Opened) (m : Map) → IsReady kind start image v m → (r : DiscRecord) × IsBefore kind r image v m
+pub before : (kind : Kind) (start image : List ℕ) (v : Opened) (m : Map) → Begins kind start image v m → (r : DiscRecord) × IsBefore kind r image v m
 before kind start image v m ready =
     let by = opens_by kind start image v m ready in
     let r = new_kind image kind v m by.opens by.layout in

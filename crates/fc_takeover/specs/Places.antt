@@ -1,9 +1,10 @@
--- Where objects lie, and which sectors a command may write beside those of the map.
+-- The places of objects, and the sectors that a command may write beside those of the map.
 use Rattle.std.specs.Prelude.{◌≡◌, ◌<◌, ℕ, true, false, List, [], ◌∷◌, ◌++◌, if◌then◌else◌, Contains, IsPermutation}
-use Rattle.fc_names.specs.Names.{Path}
+use Rattle.fc_names.specs.Names.{Path, is_same_path}
 use Rattle.fc_record.specs.declared.Kind.{Kind}
 use Rattle.fc_newmap.specs.Map.{Map, ZoneRun, map_sectors}
 use Rattle.fc_newmap.specs.NewMap.{IsNewMap}
+use Rattle.fc_model.specs.Tree.{holder}
 use Rattle.fc_model.specs.Command.{Command}
 use Rattle.fc_image.specs.Layout.{Layout, dir_form, hole_sectors, is_among, is_apart}
 use Rattle.fc_image.specs.Walk.{Listing, Object, is_directory_object, object_size, reader_of}
@@ -29,6 +30,9 @@ pub record ObjectsLaw : Type 0 where
       → IsListing (reader_of image (Layout.New m)) (Layout.New m) l
   pub child : (kind : Kind) (image : List ℕ) (view : Opened) (m : Map) (l : Listing) (o : Object) → OpensBy kind image view m → Contains view.listings l → Contains l.children o
       → Contains (objects_of view.listings) o
+  -- A path of what it holds lies in it.
+  pub holds : (kind : Kind) (image : List ℕ) (view : Opened) (m : Map) (l : Listing) (o : Object) (path : Path) → OpensBy kind image view m → Contains view.listings l → Contains l.children o
+      → is_same_path path o.path ≡ true → is_same_path (holder path) l.object.path ≡ true
   -- Objects lie at their addresses, and apart from the map.
   pub placed : (kind : Kind) (image : List ℕ) (view : Opened) (m : Map) (o : Object) → OpensBy kind image view m → Contains (objects_of view.listings) o → IsAt (Layout.New m) o
   pub no_map : (kind : Kind) (image : List ℕ) (view : Opened) (m : Map) (o : Object) → OpensBy kind image view m → Contains (objects_of view.listings) o

@@ -1,4 +1,4 @@
--- What a command writes, one step after another, and that it then has done what it promises. Before the first step the copies of the map
+-- What a command writes, one step after another. After the last it has done what it promises. Before the first the copies of the map
 -- were made equal: `start` is the image before that, and `image` the one after it.
 use Rattle.std.specs.Prelude.{◌≡◌, ◌<◌, ℕ, true, false, List, [], ◌∷◌, ◌++◌, length, if◌then◌else◌, slice_get, slice_set, Option, Some, None, Contains, IsPermutation}
 use Rattle.std.specs.Option.{option_to_list}
@@ -28,12 +28,12 @@ use Rattle.fc_changes.specs.Changed.{IsEntryMade, IsFileAt, IsInNewSpace, MakesF
 use Rattle.fc_takeover.specs.Repairs.{IsRepair}
 use Rattle.fc_takeover.specs.Laws.{PartsFollow, TakesOver}
 
--- The image at the start opens with this map, which is one in memory; `image` has its copies equal.
-pub record IsReady (kind : Kind) (start image : List ℕ) (v : Opened) (m : Map) : Type 0 where
+-- The image at the start opens with this map, which is one in memory, and `image` differs from it at most in the copies of the map.
+pub record Begins (kind : Kind) (start image : List ℕ) (v : Opened) (m : Map) : Type 0 where
   pub repair : IsRepair kind start image v m
   pub is_map : IsNewMap m
 
--- One step: directory l says `content`, and is written to its place, whatever else its bytes said.
+-- One step: directory l, which says `content` from now on, is written to its old place.
 pub record IsDirectoryStep (m : Map) (v : Opened) (c : Command) (l : Listing) (content : Directory) (image image' : List ℕ) : Type 0 where
   pub says : IsRewritten c l.object.path (holder_address v.listings l.object.path) l.content content
   pub written : IsWritten m l.object.sectors image image'
@@ -165,44 +165,44 @@ pub record IsMovedInSteps (image named turned image' : List ℕ) (v : Opened) (m
 
 pub record StepsLaw : Type 0 where
   pub set : (kind : Kind) (start image image' : List ℕ) (v : Opened) (m : Map) (rest : List Listing) (l : Listing) (content : Directory) (i : ℕ) (o : Object) (path : Path) (load exec access : ℕ)
-      (nodes nodes' : Nodes) (listings' : List Listing) (owners' : List Owner) (dir number : ℕ) → access < 8 → is_same_path path o.path ≡ true → IsReady kind start image v m
+      (nodes nodes' : Nodes) (listings' : List Listing) (owners' : List Owner) (dir number : ℕ) → access < 8 → is_same_path path o.path ≡ true → Begins kind start image v m
       → IsRewordedInSteps image image' v m (Command.Set path load exec access) rest l content i o (set_object o.path load exec access)
       → IsReworded nodes nodes' v.listings listings' rest l content i o dir number (set_object o.path load exec access)
       → PartsFollow nodes' owners' (Layout.New m) listings' → TakesOver kind start image' v (Command.Set path load exec access) m nodes' owners'
   pub mark : (kind : Kind) (start image image' : List ℕ) (v : Opened) (m : Map) (rest : List Listing) (l : Listing) (content : Directory) (i : ℕ) (o : Object) (path : Path) (attrs : ℕ)
-      (nodes nodes' : Nodes) (listings' : List Listing) (owners' : List Owner) (dir number : ℕ) → is_same_path path o.path ≡ true → IsReady kind start image v m
+      (nodes nodes' : Nodes) (listings' : List Listing) (owners' : List Owner) (dir number : ℕ) → is_same_path path o.path ≡ true → Begins kind start image v m
       → IsRewordedInSteps image image' v m (Command.Mark path attrs) rest l content i o (mark_object o.path attrs)
       → IsReworded nodes nodes' v.listings listings' rest l content i o dir number (mark_object o.path attrs)
       → PartsFollow nodes' owners' (Layout.New m) listings' → TakesOver kind start image' v (Command.Mark path attrs) m nodes' owners'
   pub deleted : (kind : Kind) (start image mid image' : List ℕ) (v : Opened) (m m' : Map) (path : Path) (out rest : List Listing) (l : Listing) (content : Directory) (i : ℕ) (o : Object)
-      (stay : List Object) (gone : List ℕ) (nodes nodes' : Nodes) (listings' : List Listing) (owners' : List Owner) (dir number : ℕ) → IsReady kind start image v m
+      (stay : List Object) (gone : List ℕ) (nodes nodes' : Nodes) (listings' : List Listing) (owners' : List Owner) (dir number : ℕ) → Begins kind start image v m
       → IsDeletedInSteps image mid image' v m m' path out rest l content i o stay gone
       → IsRemoved nodes nodes' v.listings listings' out rest l content i o dir number
       → PartsFollow nodes' owners' (Layout.New m') listings' → TakesOver kind start image' v (Command.Delete path) m' nodes' owners'
   pub added : (kind : Kind) (start image stored taken named image' : List ℕ) (v : Opened) (m m' : Map) (c : Command) (path : Path) (load exec : ℕ) (bytes : List ℕ) (rest : List Listing) (l : Listing)
       (content : Directory) (i j : ℕ) (o : Object) (stay : List Object) (id : ℕ) (parts : List ZoneRun) (gone : List ℕ) (nodes nodes' : Nodes) (listings' : List Listing) (owners' : List Owner)
-      (dir number : ℕ) → IsReady kind start image v m
+      (dir number : ℕ) → Begins kind start image v m
       → IsFiledInSteps image stored taken named image' v m m' c path load exec bytes rest l content i None o stay id parts gone
       → IsAdded nodes nodes' v.listings listings' rest l content j o dir number
       → PartsFollow nodes' owners' (Layout.New m') listings' → TakesOver kind start image' v c m' nodes' owners'
   pub replaced : (kind : Kind) (start image stored taken named image' : List ℕ) (v : Opened) (m m' : Map) (c : Command) (path : Path) (load exec : ℕ) (bytes : List ℕ) (rest : List Listing) (l : Listing)
       (content : Directory) (i : ℕ) (p o : Object) (stay : List Object) (id : ℕ) (parts : List ZoneRun) (gone : List ℕ) (nodes nodes' : Nodes) (listings' : List Listing) (owners' : List Owner)
-      (dir number : ℕ) → IsReady kind start image v m
+      (dir number : ℕ) → Begins kind start image v m
       → IsFiledInSteps image stored taken named image' v m m' c path load exec bytes rest l content i (Some p) o stay id parts gone
       → IsReplaced nodes nodes' v.listings listings' rest l content i p o dir number
       → PartsFollow nodes' owners' (Layout.New m') listings' → TakesOver kind start image' v c m' nodes' owners'
   pub made : (kind : Kind) (start image stored taken image' : List ℕ) (v : Opened) (m m' : Map) (path : Path) (rest : List Listing) (l : Listing) (content : Directory) (j : ℕ) (d : Listing) (id : ℕ)
-      (parts : List ZoneRun) (nodes nodes' : Nodes) (listings' : List Listing) (owners' : List Owner) (dir number : ℕ) → IsReady kind start image v m
+      (parts : List ZoneRun) (nodes nodes' : Nodes) (listings' : List Listing) (owners' : List Owner) (dir number : ℕ) → Begins kind start image v m
       → IsMadeInSteps image stored taken image' v m m' path rest l content d id parts
       → IsDirectoryAdded nodes nodes' v.listings listings' rest l content j d dir number
       → PartsFollow nodes' owners' (Layout.New m') listings' → TakesOver kind start image' v (Command.Cdir path) m' nodes' owners'
   pub renamed : (kind : Kind) (start image named image' : List ℕ) (v : Opened) (m : Map) (from to : Path) (rest : List Listing) (l : Listing) (content : Directory) (i j : ℕ) (o : Object) (now : Directory)
-      (nodes nodes' : Nodes) (listings' : List Listing) (owners' : List Owner) (dir number : ℕ) → IsReady kind start image v m
+      (nodes nodes' : Nodes) (listings' : List Listing) (owners' : List Owner) (dir number : ℕ) → Begins kind start image v m
       → IsRenamedInSteps image named image' v m from to rest l content i o now
       → IsRenamed nodes nodes' v.listings listings' rest l content i j o dir number (last_name to) now
       → PartsFollow nodes' owners' (Layout.New m) listings' → TakesOver kind start image' v (Command.Rename from to) m nodes' owners'
   pub moved : (kind : Kind) (start image named turned image' : List ℕ) (v : Opened) (m : Map) (from to : Path) (rest : List Listing) (k l : Listing) (k_content l_content : Directory) (i j : ℕ) (o : Object)
-      (now : Directory) (nodes nodes' : Nodes) (listings' : List Listing) (owners' : List Owner) (from_dir dir number : ℕ) → IsReady kind start image v m
+      (now : Directory) (nodes nodes' : Nodes) (listings' : List Listing) (owners' : List Owner) (from_dir dir number : ℕ) → Begins kind start image v m
       → IsMovedInSteps image named turned image' v m from to rest k l k_content l_content i o now
       → IsTransferred nodes nodes' v.listings listings' rest k l k_content l_content i j o from_dir dir number (last_name to) now
       → PartsFollow nodes' owners' (Layout.New m) listings' → TakesOver kind start image' v (Command.Rename from to) m nodes' owners'

@@ -17,7 +17,7 @@ pub fn writes()
     ensures { WrittenBytesLaw }
 {}
 
-/// Where objects lie.
+/// The places of objects.
 pub fn objects()
     ensures { ObjectsLaw }
 {}

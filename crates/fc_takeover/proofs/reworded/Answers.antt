@@ -1,4 +1,4 @@
-use Rattle.fc_takeover.proofs.ToldLemmas.{reworded_takes_over}
+use Rattle.fc_takeover.proofs.SaidLemmas.{reworded_takes_over}
 use Rattle.fc_takeover.proofs.reworded.Goals as goal
 
 pub returns : goal.returns

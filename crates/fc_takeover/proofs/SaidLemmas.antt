@@ -1,4 +1,4 @@
--- What directories say that are not written, and `set` and `mark`.
+-- What directories say that are not written; and `set` and `mark`.
 use Rattle.std.proofs.Common.{◌≡◌, inl, inr, ℕ, Bool, true, false, cond, List, [], ◌∷◌, ◌++◌, refl, sym, ap, ap₂, subst, ◌∙◌}
 use Rattle.std.specs.Prelude.{Ok, Contains, IsPermutation, filter, slice_set}
 use Rattle.std.proofs.lemmas.List.Elements.{Contains-append_left}
