@@ -24,11 +24,11 @@ use Rattle.fc_image.proofs.RenameLemmas.{child_path}
 use Rattle.fc_image.proofs.WrittenLemmas.{cut}
 use Rattle.fc_effects.specs.Steady.{idle_sectors, is_idle, may_be_rewritten}
 use Rattle.fc_changes.specs.Changed.{IsFileAt, IsInNewSpace}
-use Rattle.fc_changes.proofs.BasicLemmas.{cases_cons, clash, first_in}
+use Rattle.fc_changes.proofs.BasicLemmas.{cases_cons, clash}
 use Rattle.fc_changes.proofs.BeforeLemmas.{child_in, had, listed_in, object_from, object_lies, opened_as, parts}
 use Rattle.fc_changes.proofs.MadeLemmas.{turned}
 use Rattle.fc_changes.proofs.NewPlaceLemmas.{NewPlace, file_place, new_place}
-use Rattle.fc_changes.proofs.OutsideLemmas.{AreBusy, holes_busy, no_sectors, none_busy, object_busy}
+use Rattle.fc_changes.proofs.OutsideLemmas.{AreBusy, holes_busy, no_sectors, object_busy}
 use Rattle.fc_changes.proofs.PlacedLemmas.{filter_test}
 use Rattle.fc_changes.proofs.ReadsLemmas.{lies_in}
 use Rattle.fc_changes.proofs.RenamedLemmas.{each_apart}

@@ -1,5 +1,5 @@
 -- Rename, within a directory and to another.
-use Rattle.std.proofs.Common.{◌≡◌, inl, inr, ℕ, Bool, true, false, cond, List, [], ◌∷◌, ◌++◌, length, refl, sym, ap, ap₂, subst, ◌∙◌}
+use Rattle.std.proofs.Common.{◌≡◌, ℕ, Bool, true, false, cond, List, [], ◌∷◌, ◌++◌, refl, sym, ap, ap₂, subst, ◌∙◌}
 use Rattle.std.specs.Prelude.{Ok, Err, Some, Contains, IsPermutation, insert, remove, slice_get}
 use Rattle.std.proofs.lemmas.List.Sorted.{Contains-permutation, IsPermutation-sym, IsPermutation-trans}
 use Rattle.fc_record.specs.declared.DiscRecord.{DiscRecord}
@@ -9,7 +9,6 @@ use Rattle.fc_newmap.proofs.PlaceLemmas.{in_either}
 use Rattle.fc_names.specs.Names.{Path, is_same_path}
 use Rattle.fc_model.specs.Tree.{last_name}
 use Rattle.fc_model.specs.Command.{Command}
-use Rattle.fc_dirs.specs.declared.Entry.{Entry}
 use Rattle.fc_dirs.specs.Entries.{entry_place}
 use Rattle.fc_dirs.specs.Directory.{Directory, directory_of, entries_of}
 use Rattle.fc_alloc.specs.declared.owner.Owner.{Owner}
@@ -26,7 +25,6 @@ use Rattle.fc_image.proofs.HolesLemmas.{apart_at, apart_from}
 use Rattle.fc_image.proofs.MapEditLemmas.{held_in}
 use Rattle.fc_image.proofs.ShuffleLemmas.{flipped}
 use Rattle.fc_nodes.specs.Edits.{IsRenamed, IsTransferred, Nodes, as_moved}
-use Rattle.fc_changes.specs.Owed.{IsWritten}
 use Rattle.fc_changes.specs.Changed.{IsMoveChange, IsRenameChange}
 use Rattle.fc_changes.proofs.BasicLemmas.{clash, first_in, next_in, unless, without_it}
 use Rattle.fc_changes.proofs.BeforeLemmas.{child_in, opened_as}

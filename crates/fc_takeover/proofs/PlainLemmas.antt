@@ -1,15 +1,13 @@
 -- Delete, save, create and cdir: no other directory is listed anew.
-use Rattle.std.proofs.Common.{◌≡◌, ℕ, List, [], ◌∷◌, length, refl, sym, ap, ◌∙◌}
-use Rattle.std.specs.Prelude.{Option, Some, None, Contains, insert}
+use Rattle.std.proofs.Common.{◌≡◌, ℕ, List, ◌∷◌, sym, ap, ◌∙◌}
+use Rattle.std.specs.Prelude.{Some, None, Contains, insert}
 use Rattle.std.proofs.lemmas.List.Sorted.{Contains-permutation, IsPermutation-sym}
 use Rattle.fc_record.specs.declared.DiscRecord.{DiscRecord}
 use Rattle.fc_record.specs.declared.Kind.{Kind}
-use Rattle.fc_newmap.specs.Map.{Map, ZoneRun}
-use Rattle.fc_names.specs.Names.{Path}
+use Rattle.fc_newmap.specs.Map.{Map}
 use Rattle.fc_model.specs.Command.{Command}
 use Rattle.fc_dirs.specs.Entries.{entry_place}
-use Rattle.fc_dirs.specs.Directory.{Directory, entries_of}
-use Rattle.fc_alloc.specs.declared.owner.Owner.{Owner}
+use Rattle.fc_dirs.specs.Directory.{entries_of}
 use Rattle.fc_image.specs.Layout.{Layout}
 use Rattle.fc_image.specs.Walk.{Listing, Object, reader_of}
 use Rattle.fc_image.specs.Opening.{Opened, reserved_in}
@@ -18,8 +16,6 @@ use Rattle.fc_image.specs.Edits.{IsListing}
 use Rattle.fc_image.specs.InPlace.{says_now}
 use Rattle.fc_image.proofs.EditLemmas.{stay_law}
 use Rattle.fc_image.proofs.MoveLemmas.{open_by}
-use Rattle.fc_nodes.specs.Edits.{IsAdded, IsDirectoryAdded, IsRemoved, IsReplaced, Nodes}
-use Rattle.fc_changes.specs.Changed.{IsDeleteChange, IsDirectoryChange, IsFileChange}
 use Rattle.fc_changes.proofs.BasicLemmas.{first_in}
 use Rattle.fc_changes.proofs.CdirLemmas.{directory_made_law}
 use Rattle.fc_changes.proofs.DeletedLemmas.{deleted_law}
@@ -53,7 +49,6 @@ filed_takes_over = record {
       taken kind image image' v m' c _ listings' nodes' owners' (filed_law kind r image image' v m m' c path load exec bytes rest l content i (Some p) o stay id parts gone change)
       edit.listings_are follow;
 }
-
 
 pub directory_made_takes_over : DirectoryMadeTakesOver
 directory_made_takes_over kind r image image' v m m' path rest l content j d id parts nodes nodes' listings' owners' dir number change edit follow =

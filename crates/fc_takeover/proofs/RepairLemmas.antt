@@ -1,14 +1,12 @@
 -- Copies of a map that are made equal before a command.
-use Rattle.std.proofs.Common.{◌≡◌, inl, inr, ℕ, Bool, true, List, [], ◌∷◌, map, drop, refl, sym, ap, subst, ◌∙◌, arith}
-use Rattle.std.specs.Prelude.{Option, Some, None, IsSomeAnd, Contains, All, false}
+use Rattle.std.proofs.Common.{◌≡◌, inl, inr, ℕ, Bool, List, [], ◌∷◌, map, refl, ap, subst, ◌∙◌, arith}
+use Rattle.std.specs.Prelude.{Option, Some, None, IsSomeAnd, Contains}
 use Rattle.std.proofs.lemmas.List.Elements.{All-nil, All-cons, All-head, All-tail}
 use Rattle.fc_device.specs.Sectors.{sector_at}
 use Rattle.fc_names.specs.Names.{Path}
 use Rattle.fc_record.specs.declared.DiscRecord.{DiscRecord}
 use Rattle.fc_record.specs.declared.Kind.{Kind}
-use Rattle.fc_record.specs.Kinds.{disc_size}
 use Rattle.fc_newmap.specs.Map.{Map}
-use Rattle.fc_copies.specs.Copies.{ChangesCopies, Chooses}
 use Rattle.fc_model.specs.Tree.{Tree}
 use Rattle.fc_model.specs.Command.{Command}
 use Rattle.fc_model.specs.Answer.{changed}
@@ -28,7 +26,7 @@ use Rattle.fc_changes.specs.Owed.{IsWritten}
 use Rattle.fc_changes.proofs.BasicLemmas.{cases_cons}
 use Rattle.fc_changes.proofs.BeforeLemmas.{boot_stays, listed_in, opened_as, parts}
 use Rattle.fc_changes.proofs.AfterLemmas.{behind_stays}
-use Rattle.fc_changes.proofs.OutsideLemmas.{idle_stay, no_sectors, none_busy}
+use Rattle.fc_changes.proofs.OutsideLemmas.{idle_stay, none_busy}
 use Rattle.fc_takeover.specs.Repairs.{IsRepair, RepairLaw}
 use Rattle.fc_takeover.specs.Laws.{RepairedTakesOver}
 use Rattle.fc_takeover.proofs.KindLemmas.{copies_written, new_kind, same_sectors}
@@ -179,13 +177,12 @@ changes' kind start image v m after c t e =
     (view_is kind start image v m e) (λ g. changes_from kind start image m v.listings g after c t) e
 
 pub repaired_takes_over : RepairedTakesOver
-repaired_takes_over kind start image image' v m m' c nodes' owners' e over =
-    (
-      over.0,
-      subst (λ (t : Tree). Changes kind (record { image = start; view = v }) (record { image = image'; view = over.0 }) c (changed t c)) (tree_now kind start image v m e)
-          (changes' kind start image v m (record { image = image'; view = over.0 }) c (changed (tree_of image v.layout v.listings) c) e over.1),
-      over.2,
-    )
+repaired_takes_over kind start image image' v m m' c nodes' owners' e over = (
+  over.0,
+  subst (λ (t : Tree). Changes kind (record { image = start; view = v }) (record { image = image'; view = over.0 }) c (changed t c)) (tree_now kind start image v m e)
+      (changes' kind start image v m (record { image = image'; view = over.0 }) c (changed (tree_of image v.layout v.listings) c) e over.1),
+  over.2,
+)
 
 pub repair_law : RepairLaw
 repair_law = record {

@@ -27,10 +27,10 @@ use Rattle.fc_image.proofs.MapEditLemmas.{is_file}
 use Rattle.fc_image.proofs.PathsLemmas.{itself}
 use Rattle.fc_image.proofs.RewordLemmas.{reword_law}
 use Rattle.fc_image.proofs.WrittenLemmas.{cut}
-use Rattle.fc_nodes.specs.Edits.{IsReworded, Nodes, as_before, relisted}
+use Rattle.fc_nodes.specs.Edits.{IsReworded, Nodes, as_before}
 use Rattle.fc_changes.specs.Owed.{IsWritten}
 use Rattle.fc_changes.specs.Changed.{IsChanged, IsRewordChange}
-use Rattle.fc_changes.proofs.BasicLemmas.{cases_cons, clash, first_in, next_in}
+use Rattle.fc_changes.proofs.BasicLemmas.{cases_cons, clash, next_in}
 use Rattle.fc_changes.proofs.BeforeLemmas.{had, listed_in, object_lies, opened_as, sound}
 use Rattle.fc_changes.proofs.MadeLemmas.{turned}
 use Rattle.fc_changes.proofs.OutsideLemmas.{no_sectors}

@@ -1,5 +1,5 @@
 -- From the steps of a command to what fc_changes asks of them.
-use Rattle.std.proofs.Common.{◌≡◌, ◌<◌, inl, inr, ℕ, suc, Bool, true, false, cond, List, [], ◌∷◌, ◌++◌, length, take, refl, sym, ap, ap₂, subst, ◌∙◌, arith}
+use Rattle.std.proofs.Common.{◌≡◌, ℕ, suc, Bool, true, false, cond, List, [], ◌∷◌, ◌++◌, length, take, refl, sym, ap, ap₂, subst, ◌∙◌, arith}
 use Rattle.std.specs.Prelude.{Ok, Err, Option, Some, None, Contains, IsPermutation, slice_get, not, ◌&&◌, ◌==◌}
 use Rattle.std.proofs.lemmas.List.Elements.{Contains-append_right}
 use Rattle.std.proofs.lemmas.List.Sorted.{Contains-permutation, IsPermutation-sym}
@@ -11,7 +11,6 @@ use Rattle.fc_record.specs.declared.DiscRecord.{DiscRecord}
 use Rattle.fc_record.specs.declared.Geometry.{Geometry}
 use Rattle.fc_record.specs.declared.Kind.{Kind}
 use Rattle.fc_newmap.specs.Map.{Map, ZoneRun, map_sectors}
-use Rattle.fc_newmap.specs.NewMap.{IsNewMap}
 use Rattle.fc_newmap.proofs.PlaceLemmas.{in_back, in_either, in_front}
 use Rattle.fc_model.specs.Tree.{holder, is_prefix}
 use Rattle.fc_model.specs.Command.{Command}
@@ -20,8 +19,6 @@ use Rattle.fc_image.specs.Layout.{Layout, dir_form, is_among, is_apart}
 use Rattle.fc_image.specs.Walk.{Listing, Object, is_directory_object, object_bytes, object_size}
 use Rattle.fc_image.specs.Objects.{is_owned, objects_of}
 use Rattle.fc_image.specs.Opening.{Opened, boot_place}
-use Rattle.fc_image.specs.Order.{held}
-use Rattle.fc_image.specs.Stays.{IsNewKind}
 use Rattle.fc_image.proofs.CommandLemmas.{is_prefix_of}
 use Rattle.fc_image.proofs.MapEditLemmas.{file_stays, held_in}
 use Rattle.fc_image.proofs.RelistLemmas.{folded_long}
@@ -29,16 +26,16 @@ use Rattle.fc_image.proofs.RenameLemmas.{child_path}
 use Rattle.fc_image.proofs.TreeLemmas.{folds_alike}
 use Rattle.fc_effects.specs.Short.{new_dir_size}
 use Rattle.fc_effects.specs.Steady.{AreWritten}
-use Rattle.fc_changes.specs.Owed.{GivesBack, IsBefore, IsMapAfter, IsWritten}
+use Rattle.fc_changes.specs.Owed.{GivesBack, IsBefore, IsWritten}
 use Rattle.fc_changes.specs.Changed.{IsDeleteChange, IsDirectoryChange, IsEntryMade, IsFileChange, IsMoveChange, IsRenameChange, IsRewordChange}
 use Rattle.fc_changes.proofs.AfterLemmas.{still_owns}
-use Rattle.fc_changes.proofs.BasicLemmas.{clash, first_in, long_pushed, next_in, unless, without_it}
+use Rattle.fc_changes.proofs.BasicLemmas.{clash, first_in, long_pushed, next_in, unless}
 use Rattle.fc_changes.proofs.MadeLemmas.{turned}
 use Rattle.fc_changes.proofs.NewPlaceLemmas.{NewPlace}
 use Rattle.fc_changes.proofs.OutsideLemmas.{no_sectors}
 use Rattle.fc_changes.proofs.StepsLemmas.{writes_law}
-use Rattle.fc_takeover.specs.Places.{IsNewObject, OpensBy}
-use Rattle.fc_takeover.specs.Steps.{IsDeletedInSteps, IsDirectoryStep, IsFiledInSteps, IsMadeInSteps, IsMovedInSteps, Begins, IsRenamedInSteps, IsRewordedInSteps, StepsLaw}
+use Rattle.fc_takeover.specs.Places.{OpensBy}
+use Rattle.fc_takeover.specs.Steps.{IsDeletedInSteps, IsFiledInSteps, IsMadeInSteps, IsMovedInSteps, Begins, IsRenamedInSteps, IsRewordedInSteps, StepsLaw}
 use Rattle.fc_takeover.specs.Writes.{IsUnwritten}
 use Rattle.fc_takeover.proofs.ApartLemmas.{apart_both, directory_lies, file_lies, objects_law, own_apart'}
 use Rattle.fc_takeover.proofs.KindLemmas.{new_kind}
@@ -324,8 +321,7 @@ module _ (kind : Kind) (image : List ℕ) (v : Opened) (m : Map) (by : OpensBy k
     };
     own = λ d there is.
         (let said = e.own_says d there is in
-        let d_at = Contains-permutation (k ∷ l ∷ rest) v.listings d (IsPermutation-sym v.listings (k ∷ l ∷ rest) e.found) (next_in k d (l ∷ rest) (next_in l d rest there)) in
-        (
+        let d_at = Contains-permutation (k ∷ l ∷ rest) v.listings d (IsPermutation-sym v.listings (k ∷ l ∷ rest) e.found) (next_in k d (l ∷ rest) (next_in l d rest there)) in (
           said.0,
           dir_kept m m d.object now k.object.sectors turned' image' refl (map_apart d d_at) (objects_law.others kind image v m k d (l ∷ rest) by e.found (next_in l d rest there)) e.k_directory.written said.1,
           said.2,

@@ -1,12 +1,11 @@
 -- The parts of a volume after a change, and listings that are the same.
-use Rattle.std.proofs.Common.{◌≡◌, ◌<◌, inl, inr, ℕ, zero, suc, Bool, true, false, cond, List, [], ◌∷◌, ◌++◌, length, map, take, drop, refl, sym, ap, ap₂, subst, ◌∙◌, arith}
-use Rattle.std.specs.Prelude.{Result, Ok, Option, Some, None, Contains, IsPermutation, find, insert, is_some}
+use Rattle.std.proofs.Common.{◌≡◌, inl, inr, ℕ, zero, suc, Bool, true, false, cond, List, [], ◌∷◌, length, map, refl, sym, ap, ap₂, subst, ◌∙◌, arith}
+use Rattle.std.specs.Prelude.{Ok, Some, Contains, IsPermutation, find, insert, is_some}
 use Rattle.fc_record.specs.declared.Kind.{Kind}
 use Rattle.fc_newmap.specs.Map.{Map}
 use Rattle.fc_names.specs.Names.{Path, is_same_name}
 use Rattle.fc_model.specs.Command.{Command}
 use Rattle.fc_dirs.specs.declared.Entry.{Entry}
-use Rattle.fc_dirs.specs.declared.DirFault.{DirFault}
 use Rattle.fc_dirs.specs.Entries.{has_name}
 use Rattle.fc_dirs.specs.Directory.{Directory}
 use Rattle.fc_alloc.specs.declared.owner.Owner.{Owner}
@@ -72,17 +71,17 @@ insert_alike (d ∷ entries) [] j k e x long absent same = absurd (omega (arith,
 insert_alike (d ∷ entries) (y ∷ xs) zero zero e x long absent same = refl
 insert_alike (d ∷ entries) (y ∷ xs) zero (suc k) e x long absent same = absurd (absent d (first_in d entries) (sym (head e d (d ∷ entries) (insert entries k e) same)))
   where
-    head : (a b : Entry) (as' bs : List Entry) → a ∷ as' ≡ b ∷ bs → a ≡ b
-    head a b as' bs h = cc
+    head : (a b : Entry) (xs ys : List Entry) → a ∷ xs ≡ b ∷ ys → a ≡ b
+    head a b xs ys h = cc
 insert_alike (d ∷ entries) (y ∷ xs) (suc j) zero e x long absent same = absurd (absent d (first_in d entries) (head d e (insert entries j e) (d ∷ entries) same))
   where
-    head : (a b : Entry) (as' bs : List Entry) → a ∷ as' ≡ b ∷ bs → a ≡ b
-    head a b as' bs h = cc
+    head : (a b : Entry) (xs ys : List Entry) → a ∷ xs ≡ b ∷ ys → a ≡ b
+    head a b xs ys h = cc
 insert_alike (d ∷ entries) (y ∷ xs) (suc j) (suc k) e x long absent same =
     ap (λ (zs : List _). y ∷ zs) (insert_alike entries xs j k e x (omega (arith, long)) (λ a at. absent a (next_in d a entries at)) (tail d (insert entries j e) (insert entries k e) same))
   where
-    tail : (a : Entry) (as' bs : List Entry) → a ∷ as' ≡ a ∷ bs → as' ≡ bs
-    tail a as' bs h = cc
+    tail : (a : Entry) (xs ys : List Entry) → a ∷ xs ≡ a ∷ ys → xs ≡ ys
+    tail a xs ys h = cc
 
 pub inserted_same : {X : Type 0} (entries : List Entry) (xs : List X) (j k : ℕ) (e : Entry) (x : X) → length xs ≡ length entries → has_name entries e.name ≡ false
     → insert entries j e ≡ insert entries k e → insert xs j x ≡ insert xs k x

@@ -1,6 +1,6 @@
 -- Bytes that are written into the sectors of an object, and bytes that stay.
-use Rattle.std.proofs.Common.{◌≡◌, ◌<◌, ◌≤◌, ◌⊎◌, inl, inr, ℕ, zero, suc, ◌+◌, ◌*◌, ◌/◌, ◌%◌, min, Bool, true, false, cond, List, [], ◌∷◌, length, take, drop, get_or, refl, sym, ap, ap₂, subst, ◌∙◌, arith}
-use Rattle.std.specs.Prelude.{Option, Some, None, ◌||◌, ◌&&◌, ◌==◌, nat_le}
+use Rattle.std.proofs.Common.{◌≡◌, ◌<◌, ◌≤◌, ◌⊎◌, inl, inr, ℕ, zero, suc, ◌*◌, Bool, true, false, cond, List, [], ◌∷◌, length, take, drop, get_or, refl, sym, ap, ap₂, subst, ◌∙◌, arith}
+use Rattle.std.specs.Prelude.{Option, Some, None, ◌||◌, ◌==◌, nat_le}
 use Rattle.std.specs.Int.{div_ceil}
 use Rattle.std.specs.List.{flat_map}
 use Rattle.std.proofs.lemmas.Bool.{eqb-true, leb-true}
@@ -8,7 +8,7 @@ use Rattle.std.proofs.lemmas.List.{length-take-le}
 use Rattle.std.proofs.lemmas.Grind.{div_ceil_times}
 use Rattle.fc_device.specs.Sectors.{sector_at}
 use Rattle.fc_record.specs.declared.Geometry.{Geometry}
-use Rattle.fc_newmap.specs.Map.{Map, id_runs, map_sectors, sectors_of}
+use Rattle.fc_newmap.specs.Map.{Map, map_sectors}
 use Rattle.fc_newmap.specs.NewMap.{IsNewMap}
 use Rattle.fc_newmap.specs.RunsLaw.{IsGeometry}
 use Rattle.fc_newmap.proofs.CoverLemmas.{Distinct, id_Distinct}
@@ -17,7 +17,6 @@ use Rattle.fc_newmap.proofs.HeldLemmas.{geometry_facts}
 use Rattle.fc_newmap.proofs.PlaceLemmas.{in_back}
 use Rattle.fc_copies.specs.declared.Which.TheVariants.{One, Two}
 use Rattle.fc_copies.specs.Copies.{HoldsCopies}
-use Rattle.fc_dirs.specs.Directory.{Directory}
 use Rattle.fc_image.specs.Layout.{Layout, bytes_in, dir_form, first_part, id_of, id_sectors, is_among, is_apart, is_object_id, low_of, low_start, sectors_at}
 use Rattle.fc_image.specs.Walk.{Object, object_bytes, object_size}
 use Rattle.fc_image.specs.Edits.{IsAt}
