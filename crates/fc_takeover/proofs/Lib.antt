@@ -7,3 +7,4 @@ pub mod SaidLemmas
 pub mod MovingLemmas
 pub mod ApartLemmas
 pub mod StepLemmas
+pub mod StoredLemmas

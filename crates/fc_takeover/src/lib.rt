@@ -5,7 +5,7 @@ ghost use Rattle.fc_takeover.specs.Laws.{DeletedTakesOver, DirectoryMadeTakesOve
 ghost use Rattle.fc_takeover.specs.Places.{ObjectsLaw, PlacesLaw};
 ghost use Rattle.fc_takeover.specs.Repairs.{RepairLaw};
 ghost use Rattle.fc_takeover.specs.Steps.{StepsLaw};
-ghost use Rattle.fc_takeover.specs.Writes.{WrittenBytesLaw};
+ghost use Rattle.fc_takeover.specs.Writes.{StoredLaw, WrittenBytesLaw};
 
 /// Copies of the map that are made equal change nothing that counts.
 pub fn repairs()
@@ -15,6 +15,11 @@ pub fn repairs()
 /// What is written is there, and stays if other sectors are written.
 pub fn writes()
     ensures { WrittenBytesLaw }
+{}
+
+/// What a writer of an object leaves.
+pub fn stored()
+    ensures { StoredLaw }
 {}
 
 /// The places of objects.
