@@ -1,0 +1,10 @@
+pub mod KindLemmas
+pub mod WriteLemmas
+pub mod RepairLemmas
+pub mod TakenLemmas
+pub mod PlainLemmas
+pub mod SaidLemmas
+pub mod MovingLemmas
+pub mod ApartLemmas
+pub mod StepLemmas
+pub mod StoredLemmas

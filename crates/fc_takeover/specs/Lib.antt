@@ -1,0 +1,5 @@
+pub mod Repairs
+pub mod Writes
+pub mod Places
+pub mod Laws
+pub mod Steps
