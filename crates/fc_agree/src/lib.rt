@@ -1,0 +1,10 @@
+//! That the parts of a volume in memory still agree with each other after an edit of its objects, whatever is known of the
+//! image's bytes.
+#![tactic(auto)]
+
+ghost use Rattle.fc_agree.specs.Laws.{AgreedLaw};
+
+/// Parts that agree: what is known of their listings.
+pub fn agreed()
+    ensures { AgreedLaw }
+{}
