@@ -1,3 +1,5 @@
 pub mod BeforeLemmas
 pub mod RoomLemmas
 pub mod EditLemmas
+pub mod KeptLemmas
+pub mod RewordedLemmas

@@ -2,9 +2,14 @@
 //! image's bytes.
 #![tactic(auto)]
 
-ghost use Rattle.fc_agree.specs.Laws.{AgreedLaw};
+ghost use Rattle.fc_agree.specs.Laws.{AgreedLaw, RewordedLaw};
 
 /// Parts that agree: what is known of their listings.
 pub fn agreed()
     ensures { AgreedLaw }
+{}
+
+/// After `set` and `mark` the parts agree.
+pub fn reworded()
+    ensures { RewordedLaw }
 {}
