@@ -86,7 +86,7 @@ loose_before m m' objects objects' e is has has' some fixed s h =
         clash (is_hole_or_movable objects' p'.1.kind) f'.1
         (subst (λ (q : ZoneRun). is_hole_or_movable objects' q.1.kind ≡ false) same (not_loose objects' id.0 p.1.kind id.1.0 stays.1)))
 
-movable_shuffled : (objects others : List Object) (k : ℕ) → IsPermutation objects others → is_movable objects k ≡ is_movable others k
+pub movable_shuffled : (objects others : List Object) (k : ℕ) → IsPermutation objects others → is_movable objects k ≡ is_movable others k
 movable_shuffled objects others k s = ap (λ b. ((k == 2) || b) && nat_le 3 k) (list_any-IsPermutation (is_owner_of k) objects others s)
 
 -- ---- sizes

@@ -3,3 +3,5 @@ pub mod RoomLemmas
 pub mod EditLemmas
 pub mod KeptLemmas
 pub mod RewordedLemmas
+pub mod SpaceLemmas
+pub mod DirectoryLemmas
