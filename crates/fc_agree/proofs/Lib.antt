@@ -5,3 +5,4 @@ pub mod KeptLemmas
 pub mod RewordedLemmas
 pub mod SpaceLemmas
 pub mod DirectoryLemmas
+pub mod RemovedLemmas

@@ -2,7 +2,7 @@
 //! image's bytes.
 #![tactic(auto)]
 
-ghost use Rattle.fc_agree.specs.Laws.{AgreedLaw, RewordedLaw};
+ghost use Rattle.fc_agree.specs.Laws.{AgreedLaw, RemovedLaw, RewordedLaw};
 
 /// Parts that agree: what is known of their listings.
 pub fn agreed()
@@ -12,4 +12,9 @@ pub fn agreed()
 /// After `set` and `mark` the parts agree.
 pub fn reworded()
     ensures { RewordedLaw }
+{}
+
+/// After `delete` the parts agree.
+pub fn removed()
+    ensures { RemovedLaw }
 {}
