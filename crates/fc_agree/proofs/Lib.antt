@@ -6,3 +6,4 @@ pub mod RewordedLemmas
 pub mod SpaceLemmas
 pub mod DirectoryLemmas
 pub mod RemovedLemmas
+pub mod NewPlaceLemmas
