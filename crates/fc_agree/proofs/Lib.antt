@@ -7,3 +7,6 @@ pub mod SpaceLemmas
 pub mod DirectoryLemmas
 pub mod RemovedLemmas
 pub mod NewPlaceLemmas
+pub mod AddedLemmas
+pub mod ReplacedLemmas
+pub mod DirectoryAddedLemmas

@@ -2,7 +2,7 @@
 //! image's bytes.
 #![tactic(auto)]
 
-ghost use Rattle.fc_agree.specs.Laws.{AgreedLaw, RemovedLaw, RewordedLaw};
+ghost use Rattle.fc_agree.specs.Laws.{AddedLaw, AgreedLaw, DirectoryAddedLaw, RemovedLaw, ReplacedLaw, RewordedLaw};
 
 /// Parts that agree: what is known of their listings.
 pub fn agreed()
@@ -17,4 +17,19 @@ pub fn reworded()
 /// After `delete` the parts agree.
 pub fn removed()
     ensures { RemovedLaw }
+{}
+
+/// After `save` and `create` of a new file the parts agree.
+pub fn added()
+    ensures { AddedLaw }
+{}
+
+/// After `save` and `create` over a file the parts agree.
+pub fn replaced()
+    ensures { ReplacedLaw }
+{}
+
+/// After `cdir` the parts agree.
+pub fn directory_added()
+    ensures { DirectoryAddedLaw }
 {}
