@@ -10,3 +10,5 @@ pub mod NewPlaceLemmas
 pub mod AddedLemmas
 pub mod ReplacedLemmas
 pub mod DirectoryAddedLemmas
+pub mod MovedLemmas
+pub mod RenamedLemmas

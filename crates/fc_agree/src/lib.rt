@@ -2,7 +2,7 @@
 //! image's bytes.
 #![tactic(auto)]
 
-ghost use Rattle.fc_agree.specs.Laws.{AddedLaw, AgreedLaw, DirectoryAddedLaw, RemovedLaw, ReplacedLaw, RewordedLaw};
+ghost use Rattle.fc_agree.specs.Laws.{AddedLaw, AgreedLaw, DirectoryAddedLaw, RemovedLaw, RenamedLaw, ReplacedLaw, RewordedLaw};
 
 /// Parts that agree: what is known of their listings.
 pub fn agreed()
@@ -32,4 +32,9 @@ pub fn replaced()
 /// After `cdir` the parts agree.
 pub fn directory_added()
     ensures { DirectoryAddedLaw }
+{}
+
+/// After `rename` within a directory the parts agree.
+pub fn renamed()
+    ensures { RenamedLaw }
 {}
