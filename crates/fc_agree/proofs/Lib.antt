@@ -12,3 +12,4 @@ pub mod ReplacedLemmas
 pub mod DirectoryAddedLemmas
 pub mod MovedLemmas
 pub mod RenamedLemmas
+pub mod TransferredLemmas

@@ -2,7 +2,7 @@
 //! image's bytes.
 #![tactic(auto)]
 
-ghost use Rattle.fc_agree.specs.Laws.{AddedLaw, AgreedLaw, DirectoryAddedLaw, RemovedLaw, RenamedLaw, ReplacedLaw, RewordedLaw};
+ghost use Rattle.fc_agree.specs.Laws.{AddedLaw, AgreedLaw, DirectoryAddedLaw, RemovedLaw, RenamedLaw, ReplacedLaw, RewordedLaw, TransferredLaw};
 
 /// Parts that agree: what is known of their listings.
 pub fn agreed()
@@ -37,4 +37,9 @@ pub fn directory_added()
 /// After `rename` within a directory the parts agree.
 pub fn renamed()
     ensures { RenamedLaw }
+{}
+
+/// After `rename` to another directory the parts agree.
+pub fn transferred()
+    ensures { TransferredLaw }
 {}
