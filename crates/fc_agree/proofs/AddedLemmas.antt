@@ -1,5 +1,5 @@
 -- `save` and `create`: a file comes.
-use Rattle.std.proofs.Common.{◌≡◌, ◌<◌, ◌≤◌, inl, inr, ℕ, Bool, true, false, cond, List, [], ◌∷◌, ◌++◌, length, refl, sym, ap, subst, ◌∙◌, arith}
+use Rattle.std.proofs.Common.{◌≡◌, inl, inr, ℕ, Bool, true, false, cond, List, [], ◌∷◌, refl, sym, ap, subst, ◌∙◌, arith}
 use Rattle.std.specs.Prelude.{Contains, IsPermutation, insert}
 use Rattle.std.proofs.lemmas.List.Sorted.{IsPermutation-refl}
 use Rattle.fc_names.specs.Names.{Path}
@@ -52,7 +52,7 @@ one_new kind m objects id parts o free p at k own used = elim (cases_cons o [] p
 
 module _ (kind : Kind) (m m' : Map) (nodes nodes' : Nodes) (owners owners' : List Owner) (root : Node) (listings listings' rest : List Listing) (l : Listing) (content : Directory)
     (j : ℕ) (o : Object) (dir number : ℕ) (path : Path) (n id : ℕ) (parts : List ZoneRun) (gone : List ℕ) (a : AgreeOn kind m nodes owners root listings)
-    (e : IsAdded nodes nodes' listings listings' rest l content j o dir number) (can : CanSay (Layout.New m) l.object content) (f : PartsFollow m' nodes' owners' listings')
+    (e : IsAdded nodes nodes' listings listings' rest l content j o dir number) (can : CanSay (Layout.New m) l.object content) (f : PartsFollow nodes' owners' (Layout.New m') listings')
     (len : o.entry.len ≡ n) (at : IsAt (Layout.New m') o) (place : IsFileAt m (objects_of listings) path n id parts o)
     (map : IsMapChange m m' id parts gone (objects_of listings) (o ∷ objects_of listings)) where
   free : IsFreePlace kind m (objects_of listings) id parts o
@@ -93,7 +93,7 @@ module _ (kind : Kind) (m m' : Map) (nodes nodes' : Nodes) (owners owners' : Lis
     into_empty = refl;
     into_few = omega arith;
     come_apart = (apart_from_all kind m (objects_of listings) (objects_of listings) id parts o free (λ p there. there), tt);
-    follow = subst (PartsFollow m' nodes' owners') e.listings_are f;
+    follow = subst (PartsFollow nodes' owners' (Layout.New m')) e.listings_are f;
   }
 
   added_at : Agree kind (parts_with m' nodes' owners')

@@ -1,5 +1,5 @@
 -- `cdir`: an empty directory comes.
-use Rattle.std.proofs.Common.{◌≡◌, ◌<◌, ◌≤◌, inl, inr, ℕ, Bool, true, false, cond, List, [], ◌∷◌, ◌++◌, length, refl, sym, ap, ap₂, subst, ◌∙◌, arith}
+use Rattle.std.proofs.Common.{◌≡◌, inl, inr, ℕ, Bool, cond, List, [], ◌∷◌, ◌++◌, refl, sym, ap, ap₂, subst, ◌∙◌, arith}
 use Rattle.std.specs.Prelude.{Contains, IsPermutation, insert, ◌==◌}
 use Rattle.std.proofs.lemmas.List.Sorted.{IsPermutation-refl}
 use Rattle.fc_names.specs.declared.name.NameForm.{NameForm}
@@ -11,10 +11,9 @@ use Rattle.fc_dirs.specs.declared.Entry.{Entry}
 use Rattle.fc_dirs.specs.Directory.{Directory, directory_size, entries_of}
 use Rattle.fc_alloc.specs.declared.owner.Owner.{Owner}
 use Rattle.fc_image.specs.Layout.{Layout, dir_form}
-use Rattle.fc_image.specs.Walk.{Listing, Object, is_directory_object, object_size}
+use Rattle.fc_image.specs.Walk.{Listing, Object, object_size}
 use Rattle.fc_image.specs.Objects.{objects_of}
 use Rattle.fc_image.specs.Edits.{AreChildren, IsAt}
-use Rattle.fc_image.specs.Order.{directories}
 use Rattle.fc_image.specs.InPlace.{says_now}
 use Rattle.fc_image.proofs.EntriesLemmas.{entries_law}
 use Rattle.fc_effects.specs.Short.{new_dir_size}
@@ -44,7 +43,7 @@ only P d is k at = elim (cases_cons d [] k at) [
 module _ (kind : Kind) (m m' : Map) (nodes nodes' : Nodes) (owners owners' : List Owner) (root : Node) (listings listings' rest : List Listing) (l : Listing) (content : Directory)
     (j : ℕ) (d : Listing) (dir number id : ℕ) (parts : List ZoneRun) (gone : List ℕ) (a : AgreeOn kind m nodes owners root listings)
     (e : IsDirectoryAdded nodes nodes' listings listings' rest l content j d dir number) (can : CanSay (Layout.New m) l.object content) (new : CanSay (Layout.New m) d.object d.content)
-    (f : PartsFollow m' nodes' owners' listings') (len : d.object.entry.len ≡ new_dir_size (dir_form (Layout.New m))) (at : IsAt (Layout.New m') d.object)
+    (f : PartsFollow nodes' owners' (Layout.New m') listings') (len : d.object.entry.len ≡ new_dir_size (dir_form (Layout.New m))) (at : IsAt (Layout.New m') d.object)
     (place : IsInNewSpace m (new_dir_size (dir_form (Layout.New m))) 0 id parts d.object) (map : IsMapChange m m' id parts gone (objects_of listings) (d.object ∷ objects_of listings)) where
   abbrev o : Object
   o = d.object
@@ -101,7 +100,7 @@ module _ (kind : Kind) (m m' : Map) (nodes nodes' : Nodes) (owners owners' : Lis
     into_empty = ap (λ (os : List Object). os ++ []) e.empty;
     into_few = omega arith;
     come_apart = (apart_from_all kind m (objects_of listings) (objects_of listings) id parts o free (λ p there. there), tt);
-    follow = subst (PartsFollow m' nodes' owners') e.listings_are f;
+    follow = subst (PartsFollow nodes' owners' (Layout.New m')) e.listings_are f;
   }
 
   directory_added_at : Agree kind (parts_with m' nodes' owners')

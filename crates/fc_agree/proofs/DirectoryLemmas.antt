@@ -1,6 +1,6 @@
 -- One directory is edited, and the map with it.
-use Rattle.std.proofs.Common.{◌≡◌, ◌<◌, ◌≤◌, inl, inr, ℕ, ◌+◌, true, false, cond, List, [], ◌∷◌, ◌++◌, length, map, refl, sym, ap, subst, ◌∙◌, arith, length-append}
-use Rattle.std.specs.Prelude.{Ok, Contains, IsPermutation, ◌==◌}
+use Rattle.std.proofs.Common.{◌≡◌, ◌<◌, ◌≤◌, inl, inr, ℕ, true, false, cond, List, [], ◌∷◌, ◌++◌, length, refl, sym, ap, subst, ◌∙◌, arith, length-append}
+use Rattle.std.specs.Prelude.{Contains, IsPermutation, ◌==◌}
 use Rattle.std.proofs.lemmas.List.{append_assoc}
 use Rattle.std.proofs.lemmas.List.Concat.{flat_map-append}
 use Rattle.std.proofs.lemmas.List.Elements.{Contains-append_cases, Contains-append_left, Contains-append_right}
@@ -10,8 +10,7 @@ use Rattle.fc_names.specs.declared.name.NameForm.TheVariants.{Long, Ten}
 use Rattle.fc_record.specs.declared.Geometry.{Geometry}
 use Rattle.fc_record.specs.declared.Kind.{Kind}
 use Rattle.fc_newmap.specs.Map.{Map, ZoneRun, is_used}
-use Rattle.fc_newmap.specs.NewMap.{IsNewMap}
-use Rattle.fc_dirs.specs.Directory.{Directory, entries_of}
+use Rattle.fc_dirs.specs.Directory.{entries_of}
 use Rattle.fc_alloc.specs.declared.owner.Owner.{Owner}
 use Rattle.fc_image.specs.Layout.{Layout, dir_form}
 use Rattle.fc_image.specs.Walk.{Listing, Object, Reader}
@@ -19,7 +18,6 @@ use Rattle.fc_image.specs.Objects.{is_movable, is_owned, is_owner_of, objects_of
 use Rattle.fc_image.specs.Opening.{reserved_in}
 use Rattle.fc_image.specs.Edits.{Apart, AreChildren, IsAt, IsListing, StayListed}
 use Rattle.fc_image.specs.Order.{directories, held, listed}
-use Rattle.fc_image.specs.EditedWalk.{IsRelisting}
 use Rattle.fc_image.specs.MapEdits.{EachApartFrom, KeepsPlace}
 use Rattle.fc_image.proofs.EditLemmas.{apart_law}
 use Rattle.fc_image.proofs.EntriesLemmas.{entries_law, here, later}
@@ -136,7 +134,7 @@ module _ (kind : Kind) (m m' : Map) (nodes : Nodes) (owners : List Owner) (root 
     pub into_empty : held into ≡ []
     pub into_few : length into ≤ 1
     pub come_apart : EachApartFrom (reserved_in kind (Layout.New m)) stay come
-    pub follow : PartsFollow m' nodes' owners' (into ++ l' ∷ rest)
+    pub follow : PartsFollow nodes' owners' (Layout.New m') (into ++ l' ∷ rest)
 
   module _ (nodes' : Nodes) (owners' : List Owner) (into : List Listing) (l' : Listing) (n : IsOneEdited nodes' owners' into l') where
     abbrev listings' : List Listing
@@ -156,13 +154,13 @@ module _ (kind : Kind) (m m' : Map) (nodes : Nodes) (owners : List Owner) (root 
 
     l_says : IsListing read' (Layout.New m') l'
     l_says = (
-      n.follow.nodes.say l' (Contains-append_right into (l' ∷ rest) l' (here l' rest)),
+      n.follow.nodes_follow.say l' (Contains-append_right into (l' ∷ rest) l' (here l' rest)),
       subst (λ (o : Object). AreChildren (Layout.New m') o.path (entries_of l'.content) l'.children) (sym n.object) n.children,
     )
 
     rest_says : (k : Listing) → Contains rest k → IsListing read' (Layout.New m') k
     rest_says k at = (
-      n.follow.nodes.say k (in_rest k at),
+      n.follow.nodes_follow.say k (in_rest k at),
       entries_law.placed (Layout.New m) (Layout.New m') k.object.path (entries_of k.content) k.children (said k (rest_in k at)).1
           (λ o child. placed_now k (rest_in k at) o child (later before.top o (kids ++ held rest) (Contains-append_right kids (held rest) o (held_in rest k o at child)))),
     )
@@ -200,13 +198,15 @@ module _ (kind : Kind) (m m' : Map) (nodes : Nodes) (owners : List Owner) (root 
           geometry = e.map.geometry;
           relisted = relisted;
           few = omega (arith, few, long, length-append into (l' ∷ rest), length-append out (l ∷ rest));
-          say = stay_append read' (Layout.New m') into (l' ∷ rest) (each_says into (λ k at. (n.follow.nodes.say k (in_into k at), n.into_children k at))) (l_says, each_says rest rest_says);
+          say = stay_append read' (Layout.New m') into (l' ∷ rest) (each_says into (λ k at. (n.follow.nodes_follow.say k (in_into k at), n.into_children k at))) (l_says, each_says rest rest_says);
           top_stays = refl;
           top_placed = keeps before.top (here before.top (kids ++ held rest));
           apart = subst (λ (os : List Object). Apart (reserved_in kind (Layout.New m)) (come ++ os)) (sym (map_itself remain)) apart_now;
-          fixed = λ k h u. (let f = fixed m m' (objects_of listings) come stay id parts back taken k h u in
-              (f.0, subst (λ (os : List Object). is_movable (come ++ os) k ≡ false) (sym (map_itself remain))
-              (movable_shuffled (come ++ remain) (come ++ stay) k (IsPermutation-sym (come ++ stay) (come ++ remain) (IsPermutation-append_right come stay remain stay_is)) ∙ f.1)));
+          fixed = λ k h u. (let f = fixed m m' (objects_of listings) come stay id parts back taken k h u in (
+            f.0,
+            subst (λ (os : List Object). is_movable (come ++ os) k ≡ false) (sym (map_itself remain))
+                (movable_shuffled (come ++ remain) (come ++ stay) k (IsPermutation-sym (come ++ stay) (come ++ remain) (IsPermutation-append_right come stay remain stay_is)) ∙ f.1),
+          ));
           forms = λ k at. subst (λ (f : NameForm). HasForm f k.object.entry.len k.content) form_same (all_can k at).form;
           bodies = λ k at. (all_can k at).body;
           follow = n.follow;

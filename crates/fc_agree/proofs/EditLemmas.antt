@@ -1,6 +1,6 @@
 -- Any edit of the objects of agreeing parts.
-use Rattle.std.proofs.Common.{◌≡◌, ◌<◌, ◌≤◌, ℕ, ◌+◌, ◌*◌, ◌/◌, Bool, true, false, cond, List, [], ◌∷◌, ◌++◌, length, map, refl, sym, ap, ap₂, subst, ◌∙◌, arith, Some, None, Option, eq-eqb}
-use Rattle.std.specs.Prelude.{Result, Ok, Contains, IsPermutation, filter, nat_le, ◌==◌, ◌||◌, ◌&&◌}
+use Rattle.std.proofs.Common.{◌≡◌, ◌≤◌, ℕ, ◌+◌, ◌*◌, ◌/◌, Bool, true, false, cond, List, [], ◌∷◌, ◌++◌, length, map, refl, sym, ap, subst, ◌∙◌, arith, Some, None, Option, eq-eqb}
+use Rattle.std.specs.Prelude.{Ok, Contains, IsPermutation, filter, nat_le, ◌==◌, ◌||◌, ◌&&◌}
 use Rattle.std.specs.FinMap.{get}
 use Rattle.std.proofs.lemmas.Bool.{eqb-true}
 use Rattle.std.proofs.lemmas.List.Sorted.{Contains-permutation, IsPermutation-sym, list_any-IsPermutation}
@@ -40,7 +40,7 @@ use Rattle.fc_tree.proofs.WalkedLemmas.{apart_names}
 use Rattle.fc_changes.proofs.BasicLemmas.{any_in, clash, first_in}
 use Rattle.fc_nodes.specs.Edits.{Nodes}
 use Rattle.fc_agree.specs.Agreed.{AgreeOn, PartsFollow, parts_with}
-use Rattle.fc_agree.proofs.BeforeLemmas.{Had, boot_apart, had, new_shape, shape, some_zones, tight}
+use Rattle.fc_agree.proofs.BeforeLemmas.{Had, boot_apart, had, shape, some_zones, tight}
 use Rattle.fc_agree.proofs.RoomLemmas.{room}
 
 -- ---- loose sectors of two maps
@@ -129,7 +129,7 @@ module _ (kind : Kind) (m m' : Map) (nodes nodes' : Nodes) (owners owners' : Lis
     pub fixed : AreFixed m m' (objects_of listings) (come ++ map g (before.top ∷ kept))
     pub forms : (l : Listing) → Contains listings' l → HasForm (dir_form (Layout.New m')) l.object.entry.len l.content
     pub bodies : (l : Listing) → Contains listings' l → IsDirectory l.content
-    pub follow : PartsFollow m' nodes' owners' listings'
+    pub follow : PartsFollow nodes' owners' (Layout.New m') listings'
 
   module _ (e : IsPartsEdit) where
     abbrev address : ℕ
@@ -202,7 +202,7 @@ module _ (kind : Kind) (m m' : Map) (nodes nodes' : Nodes) (owners owners' : Lis
     }
 
     held_now : HoldObjects nodes' found
-    held_now = e.follow.nodes.hold layout' found sound_now again.order
+    held_now = e.follow.nodes_follow.hold layout' found sound_now again.order
 
     -- the root's length is that of its object
     root_size : size ≡ directory_size (dir_form layout) size
@@ -214,9 +214,12 @@ module _ (kind : Kind) (m m' : Map) (nodes nodes' : Nodes) (owners owners' : Lis
     root_after : (node : Node) × (get nodes' 0 ≡ Some node) × (node.entry.address ≡ address) × (node.entry.len ≡ size)
     root_after =
         let h = order_law.gives read' layout' held_back address size found again.walked in
-        let n = root_node nodes' found h.0 h.1.path (held_now.each h.0 (subst (λ (os : List Object). Contains os h.0) (sym h.4) (first_in h.0 (held found)))) in
-        (n.0, n.1, ap (λ (x : Entry). x.address) (n.2 ∙ h.1.entry),
-            ap (λ (x : Entry). x.len) (n.2 ∙ h.1.entry) ∙ ap (λ (f : NameForm). directory_size f size) form_same ∙ sym root_size)
+        let n = root_node nodes' found h.0 h.1.path (held_now.each h.0 (subst (λ (os : List Object). Contains os h.0) (sym h.4) (first_in h.0 (held found)))) in (
+          n.0,
+          n.1,
+          ap (λ (x : Entry). x.address) (n.2 ∙ h.1.entry),
+          ap (λ (x : Entry). x.len) (n.2 ∙ h.1.entry) ∙ ap (λ (f : NameForm). directory_size f size) form_same ∙ sym root_size,
+        )
 
     placed_now : misplaced_sector kind layout' (objects_of found) ≡ None
     placed_now =
@@ -246,5 +249,5 @@ module _ (kind : Kind) (m m' : Map) (nodes nodes' : Nodes) (owners owners' : Lis
             bodies = λ l at. e.bodies l (listed_back l at);
           };
           map_placed = placed_now;
-          owned = e.follow.owners found sound_now again.order;
+          owned = e.follow.owners_follow found sound_now again.order;
         }

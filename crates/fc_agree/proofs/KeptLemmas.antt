@@ -1,20 +1,20 @@
 -- Edits in which no object comes or goes, and each keeps its place.
-use Rattle.std.proofs.Common.{◌≡◌, ◌<◌, ◌≤◌, inr, ℕ, ◌+◌, Bool, true, false, cond, List, [], ◌∷◌, ◌++◌, length, map, refl, sym, ap, ap₂, subst, ◌∙◌, arith, length-append}
+use Rattle.std.proofs.Common.{◌≡◌, inr, ℕ, Bool, false, cond, List, [], ◌∷◌, ◌++◌, length, map, refl, sym, ap, ap₂, subst, ◌∙◌, arith, length-append}
 use Rattle.std.specs.Prelude.{Contains, IsPermutation, nat_le, nat_lt, ◌==◌, ◌||◌, ◌&&◌}
 use Rattle.std.specs.List.{list_any}
 use Rattle.std.proofs.lemmas.List.{length-map}
 use Rattle.std.proofs.lemmas.List.Sorted.{IsPermutation-cons, length_permutation, list_any-IsPermutation}
-use Rattle.fc_names.specs.Names.{Path, is_same_path}
+use Rattle.fc_names.specs.Names.{is_same_path}
 use Rattle.fc_record.specs.declared.Kind.{Kind}
 use Rattle.fc_newmap.specs.Map.{Map}
-use Rattle.fc_dirs.specs.Directory.{Directory, entries_of}
+use Rattle.fc_dirs.specs.Directory.{Directory}
 use Rattle.fc_alloc.specs.declared.owner.Owner.{Owner}
 use Rattle.fc_image.specs.Layout.{Layout, id_of}
 use Rattle.fc_image.specs.Walk.{Listing, Object, Reader}
 use Rattle.fc_image.specs.Objects.{is_movable, is_owner_of, objects_of}
 use Rattle.fc_image.specs.Opening.{reserved_in}
 use Rattle.fc_image.specs.Sound.{AreSound}
-use Rattle.fc_image.specs.Edits.{AreChildren, IsListing, StayListed}
+use Rattle.fc_image.specs.Edits.{IsListing, StayListed}
 use Rattle.fc_image.specs.Order.{held, listed}
 use Rattle.fc_image.specs.EditedWalk.{AreListedBy, IsRelisting}
 use Rattle.fc_image.proofs.EntriesLemmas.{from_map, here, later}
@@ -29,7 +29,7 @@ use Rattle.fc_tree.specs.Agree.{Agree, reader_of_nodes}
 use Rattle.fc_nodes.specs.Edits.{Nodes, relisted}
 use Rattle.fc_agree.specs.Agreed.{AgreeOn, CanSay, PartsFollow, parts_with}
 use Rattle.fc_agree.proofs.BeforeLemmas.{Had, had}
-use Rattle.fc_agree.proofs.EditLemmas.{IsPartsEdit, agreed_after}
+use Rattle.fc_agree.proofs.EditLemmas.{agreed_after}
 
 -- ---- paths
 
@@ -84,7 +84,7 @@ module _ (kind : Kind) (m : Map) (nodes nodes' : Nodes) (owners owners' : List O
   abbrev before : Had kind m nodes owners root listings a
   before = had kind m nodes owners root listings a
 
-  -- Each object is changed by g and stays where it lies, and the nodes say so.
+  -- Each object is changed by g and keeps its sectors, and the nodes say so.
   pub record IsKeptEdit : Type 0 where
     pub sectors : (o : Object) → (g o).sectors ≡ o.sectors
     pub address : (o : Object) → (g o).entry.address ≡ o.entry.address
@@ -92,7 +92,7 @@ module _ (kind : Kind) (m : Map) (nodes nodes' : Nodes) (owners owners' : List O
     pub say : StayListed (reader_of_nodes nodes') (Layout.New m) listings'
     pub top_stays : g before.top ≡ before.top
     pub can : (l : Listing) → Contains listings' l → CanSay (Layout.New m) l.object l.content
-    pub follow : PartsFollow m nodes' owners' listings'
+    pub follow : PartsFollow nodes' owners' (Layout.New m) listings'
 
   pub kept_agree : IsKeptEdit → Agree kind (parts_with m nodes' owners')
   kept_agree e =

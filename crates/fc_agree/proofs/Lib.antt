@@ -13,3 +13,4 @@ pub mod DirectoryAddedLemmas
 pub mod MovedLemmas
 pub mod RenamedLemmas
 pub mod TransferredLemmas
+pub mod CutLemmas

@@ -1,5 +1,5 @@
 -- What the directories say that aren't edited themselves, after everything at or below a path has moved.
-use Rattle.std.proofs.Common.{◌≡◌, ◌<◌, ℕ, Bool, true, false, cond, List, [], ◌∷◌, ◌++◌, length, refl, sym, ap, subst, ◌∙◌, arith}
+use Rattle.std.proofs.Common.{◌≡◌, ◌<◌, Bool, true, false, cond, List, [], length, refl, sym, ap, subst, ◌∙◌, arith}
 use Rattle.std.specs.Prelude.{Ok, Contains}
 use Rattle.fc_names.specs.Names.{Path, folded_path, is_same_path}
 use Rattle.fc_record.specs.declared.Kind.{Kind}
@@ -10,7 +10,7 @@ use Rattle.fc_alloc.specs.declared.owner.Owner.{Owner}
 use Rattle.fc_image.specs.Layout.{Layout}
 use Rattle.fc_image.specs.Walk.{Listing, Object, is_directory_object}
 use Rattle.fc_image.specs.Objects.{objects_of}
-use Rattle.fc_image.specs.Edits.{IsAt, IsListing}
+use Rattle.fc_image.specs.Edits.{IsListing}
 use Rattle.fc_image.specs.EditedWalk.{moved_object}
 use Rattle.fc_image.proofs.MapEditLemmas.{child_at}
 use Rattle.fc_image.proofs.MoveLemmas.{unless}

@@ -1,4 +1,4 @@
--- Where a new object lies, among parts that agree: in new space, in slack or nowhere.
+-- The place of a new object among parts that agree: in new space, in slack or nowhere.
 use Rattle.std.proofs.Common.{◌≡◌, ◌<◌, ◌≤◌, inl, inr, ℕ, ◌+◌, ◌*◌, ◌/◌, Bool, true, false, cond, List, [], ◌∷◌, length, refl, sym, ap, ap₂, subst, ◌∙◌, arith, Some, eq-eqb}
 use Rattle.std.specs.Prelude.{Contains, ◌==◌, ◌&&◌, ◌||◌, nat_lt}
 use Rattle.std.specs.List.{list_any}

@@ -1,6 +1,6 @@
 -- `delete`: a file or an empty directory goes.
-use Rattle.std.proofs.Common.{◌≡◌, ◌<◌, ◌≤◌, ℕ, Bool, true, false, cond, List, [], ◌∷◌, ◌++◌, length, refl, sym, ap, subst, ◌∙◌, arith, Some}
-use Rattle.std.specs.Prelude.{Contains, IsPermutation, remove, slice_get}
+use Rattle.std.proofs.Common.{◌≡◌, ℕ, Bool, cond, List, [], ◌∷◌, ◌++◌, refl, sym, ap, subst, ◌∙◌, arith}
+use Rattle.std.specs.Prelude.{IsPermutation, remove}
 use Rattle.std.proofs.lemmas.List.Sorted.{IsPermutation-refl}
 use Rattle.fc_record.specs.declared.Kind.{Kind}
 use Rattle.fc_newmap.specs.Map.{Map}
@@ -8,7 +8,7 @@ use Rattle.fc_dirs.specs.declared.Entry.{Entry}
 use Rattle.fc_dirs.specs.Directory.{Directory, entries_of}
 use Rattle.fc_alloc.specs.declared.owner.Owner.{Owner}
 use Rattle.fc_image.specs.Layout.{Layout}
-use Rattle.fc_image.specs.Walk.{Listing, Object, is_directory_object}
+use Rattle.fc_image.specs.Walk.{Listing, Object}
 use Rattle.fc_image.specs.Objects.{objects_of}
 use Rattle.fc_image.specs.Edits.{AreChildren}
 use Rattle.fc_image.specs.Order.{directories, held, listed}
@@ -35,7 +35,7 @@ gone_listed (d ∷ e ∷ out) o alone = absurd alone
 
 module _ (kind : Kind) (m m' : Map) (nodes nodes' : Nodes) (owners owners' : List Owner) (root : Node) (listings listings' out rest : List Listing) (l : Listing) (content : Directory)
     (i : ℕ) (o : Object) (dir number : ℕ) (stay : List Object) (gone : List ℕ) (a : AgreeOn kind m nodes owners root listings)
-    (e : IsRemoved nodes nodes' listings listings' out rest l content i o dir number) (can : CanSay (Layout.New m) l.object content) (f : PartsFollow m' nodes' owners' listings')
+    (e : IsRemoved nodes nodes' listings listings' out rest l content i o dir number) (can : CanSay (Layout.New m) l.object content) (f : PartsFollow nodes' owners' (Layout.New m') listings')
     (others : IsPermutation (objects_of listings) (o ∷ stay)) (map : IsMapChange m m' 0 [] gone (objects_of listings) stay) where
   abbrev kids : List Object
   kids = remove l.children i
@@ -76,7 +76,7 @@ module _ (kind : Kind) (m m' : Map) (nodes nodes' : Nodes) (owners owners' : Lis
     into_empty = refl;
     into_few = omega arith;
     come_apart = tt;
-    follow = subst (PartsFollow m' nodes' owners') e.listings_are f;
+    follow = subst (PartsFollow nodes' owners' (Layout.New m')) e.listings_are f;
   }
 
   removed_at : Agree kind (parts_with m' nodes' owners')

@@ -1,6 +1,6 @@
 -- `rename` within a directory.
 use Rattle.std.proofs.Common.{◌≡◌, ◌<◌, inl, inr, ℕ, Bool, true, false, cond, List, [], ◌∷◌, ◌++◌, length, map, refl, sym, ap, subst, ◌∙◌, arith}
-use Rattle.std.specs.Prelude.{Ok, Contains, IsPermutation, insert, remove}
+use Rattle.std.specs.Prelude.{Contains, IsPermutation, insert, remove}
 use Rattle.std.proofs.lemmas.List.{length_push}
 use Rattle.std.proofs.lemmas.List.Elements.{Contains-append_left, Contains-append_right}
 use Rattle.std.proofs.lemmas.List.Sorted.{Contains-permutation, IsPermutation-append_left, IsPermutation-cons, IsPermutation-map, IsPermutation-refl, IsPermutation-sym, IsPermutation-trans}
@@ -27,7 +27,7 @@ use Rattle.fc_image.proofs.ShuffleLemmas.{IsPermutation-flat_map, flipped}
 use Rattle.fc_tree.specs.declared.node.Node.{Node}
 use Rattle.fc_tree.specs.Agree.{Agree, reader_of_nodes}
 use Rattle.fc_tree.proofs.WalkedLemmas.{child_is_object}
-use Rattle.fc_changes.proofs.BasicLemmas.{cases_cons, without_it}
+use Rattle.fc_changes.proofs.BasicLemmas.{cases_cons}
 use Rattle.fc_nodes.specs.Edits.{IsRenamed, Nodes, as_moved, relisted}
 use Rattle.fc_agree.specs.Agreed.{AgreeOn, CanSay, PartsFollow, parts_with}
 use Rattle.fc_agree.specs.Laws.{RenamedLaw}
@@ -49,7 +49,7 @@ moved_there path name o =
 module _ (kind : Kind) (m : Map) (nodes nodes' : Nodes) (owners owners' : List Owner) (root : Node) (listings listings' rest : List Listing) (l : Listing) (content : Directory)
     (i j : ℕ) (o : Object) (dir number : ℕ) (name : List ℕ) (now : Directory) (a : AgreeOn kind m nodes owners root listings)
     (e : IsRenamed nodes nodes' listings listings' rest l content i j o dir number name now) (can : CanSay (Layout.New m) l.object content)
-    (can_now : is_directory_object o ≡ true → CanSay (Layout.New m) o now) (f : PartsFollow m nodes' owners' listings') where
+    (can_now : is_directory_object o ≡ true → CanSay (Layout.New m) o now) (f : PartsFollow nodes' owners' (Layout.New m) listings') where
   abbrev layout : Layout
   layout = Layout.New m
 
@@ -77,8 +77,8 @@ module _ (kind : Kind) (m : Map) (nodes nodes' : Nodes) (owners owners' : List O
   abbrev rest' : List Listing
   rest' = relisted g (as_moved o now) rest
 
-  follow : PartsFollow m nodes' owners' (l' ∷ rest')
-  follow = subst (PartsFollow m nodes' owners') e.listings_are f
+  follow : PartsFollow nodes' owners' (Layout.New m) (l' ∷ rest')
+  follow = subst (PartsFollow nodes' owners' (Layout.New m)) e.listings_are f
 
   back : IsPermutation (l ∷ rest) listings
   back = IsPermutation-sym listings (l ∷ rest) e.found
@@ -132,7 +132,7 @@ module _ (kind : Kind) (m : Map) (nodes nodes' : Nodes) (owners owners' : List O
 
   l_says : IsListing (reader_of_nodes nodes') layout l'
   l_says = (
-    follow.nodes.say l' (here l' rest'),
+    follow.nodes_follow.say l' (here l' rest'),
     subst (λ (es : List Entry). AreChildren layout l.object.path es (insert kids j (g o)))
         (ap (λ (x : Entry). insert (remove (entries_of l.content) i) j x) (moved_entry l.object.path name o) ∙ sym e.entries) added.0,
   )
@@ -144,7 +144,7 @@ module _ (kind : Kind) (m : Map) (nodes nodes' : Nodes) (owners owners' : List O
     same = e.same;
     can = can_now;
     others = λ k at p child. other p (Contains-append_right kids (held rest) p (held_in rest k p at child));
-    say = λ k at. follow.nodes.say (relisting g (as_moved o now) k) (later l' (relisting g (as_moved o now) k) rest' (in_mapped (relisting g (as_moved o now)) rest k at));
+    say = λ k at. follow.nodes_follow.say (relisting g (as_moved o now) k) (later l' (relisting g (as_moved o now) k) rest' (in_mapped (relisting g (as_moved o now)) rest k at));
   }
 
   relisted_now : IsRelisting g listings (l' ∷ rest') [] [] (l.children ++ held rest)

@@ -1,5 +1,5 @@
 -- `save` and `create` over a file: another file has its name and its place in the directory.
-use Rattle.std.proofs.Common.{◌≡◌, ◌<◌, ◌≤◌, ℕ, List, [], ◌∷◌, ◌++◌, length, refl, sym, ap, subst, ◌∙◌, arith}
+use Rattle.std.proofs.Common.{◌≡◌, ℕ, List, [], ◌∷◌, ◌++◌, refl, sym, ap, subst, ◌∙◌, arith}
 use Rattle.std.specs.Prelude.{Contains, IsPermutation, remove, slice_set}
 use Rattle.std.proofs.lemmas.List.Sorted.{Contains-permutation, IsPermutation-sym}
 use Rattle.fc_names.specs.Names.{Path}
@@ -29,7 +29,7 @@ use Rattle.fc_agree.proofs.NewPlaceLemmas.{IsFreePlace, file_place}
 
 module _ (kind : Kind) (m m' : Map) (nodes nodes' : Nodes) (owners owners' : List Owner) (root : Node) (listings listings' rest : List Listing) (l : Listing) (content : Directory)
     (i : ℕ) (p o : Object) (dir number : ℕ) (path : Path) (n id : ℕ) (parts : List ZoneRun) (stay : List Object) (gone : List ℕ) (a : AgreeOn kind m nodes owners root listings)
-    (e : IsReplaced nodes nodes' listings listings' rest l content i p o dir number) (can : CanSay (Layout.New m) l.object content) (f : PartsFollow m' nodes' owners' listings')
+    (e : IsReplaced nodes nodes' listings listings' rest l content i p o dir number) (can : CanSay (Layout.New m) l.object content) (f : PartsFollow nodes' owners' (Layout.New m') listings')
     (len : o.entry.len ≡ n) (at : IsAt (Layout.New m') o) (place : IsFileAt m (objects_of listings) path n id parts o)
     (others : IsPermutation (objects_of listings) (p ∷ stay)) (map : IsMapChange m m' id parts gone (objects_of listings) (o ∷ stay)) where
   free : IsFreePlace kind m (objects_of listings) id parts o
@@ -84,7 +84,7 @@ module _ (kind : Kind) (m m' : Map) (nodes nodes' : Nodes) (owners owners' : Lis
     into_empty = refl;
     into_few = omega arith;
     come_apart = (apart_from_all kind m (objects_of listings) stay id parts o free stay_there, tt);
-    follow = subst (PartsFollow m' nodes' owners') e.listings_are f;
+    follow = subst (PartsFollow nodes' owners' (Layout.New m')) e.listings_are f;
   }
 
   replaced_at : Agree kind (parts_with m' nodes' owners')

@@ -1,6 +1,6 @@
 -- `set` and `mark`: an object has other words.
-use Rattle.std.proofs.Common.{◌≡◌, inl, inr, ℕ, Bool, true, false, cond, List, [], ◌∷◌, ◌++◌, length, map, refl, sym, ap, ap₂, subst, ◌∙◌, arith, Some}
-use Rattle.std.specs.Prelude.{Ok, Contains, IsPermutation, remove, slice_get, slice_set}
+use Rattle.std.proofs.Common.{◌≡◌, inl, inr, ℕ, Bool, false, cond, List, [], ◌∷◌, ◌++◌, length, map, refl, sym, ap, ap₂, subst, ◌∙◌, arith, Some}
+use Rattle.std.specs.Prelude.{Contains, IsPermutation, remove, slice_set}
 use Rattle.std.proofs.lemmas.List.{length_push}
 use Rattle.std.proofs.lemmas.List.Elements.{Contains-append_left, Contains-append_right}
 use Rattle.std.proofs.lemmas.List.Sorted.{Contains-permutation, IsPermutation-append_left, IsPermutation-cons, IsPermutation-map, IsPermutation-refl, IsPermutation-sym, IsPermutation-trans}
@@ -11,11 +11,11 @@ use Rattle.fc_dirs.specs.declared.Entry.{Entry}
 use Rattle.fc_dirs.specs.Directory.{Directory, directory_size, entries_of}
 use Rattle.fc_alloc.specs.declared.owner.Owner.{Owner}
 use Rattle.fc_image.specs.Layout.{Layout, dir_form, sectors_at}
-use Rattle.fc_image.specs.Walk.{Listing, Object, Reader}
+use Rattle.fc_image.specs.Walk.{Listing, Object}
 use Rattle.fc_image.specs.Objects.{objects_of}
 use Rattle.fc_image.specs.Edits.{AreChildren, IsAt, IsListing}
 use Rattle.fc_image.specs.Order.{held}
-use Rattle.fc_image.specs.EditedWalk.{AreListedBy, IsRelisting}
+use Rattle.fc_image.specs.EditedWalk.{IsRelisting}
 use Rattle.fc_image.specs.InPlace.{says_now}
 use Rattle.fc_image.specs.Rewords.{IsRewording}
 use Rattle.fc_image.proofs.EntriesLemmas.{entries_law, here, in_mapped, later}
@@ -45,7 +45,7 @@ stay_all path g is (p ∷ objects) other =
 
 module _ (kind : Kind) (m : Map) (nodes nodes' : Nodes) (owners owners' : List Owner) (root : Node) (listings listings' rest : List Listing) (l : Listing) (content : Directory)
     (i : ℕ) (o : Object) (dir number : ℕ) (g : Object → Object) (a : AgreeOn kind m nodes owners root listings)
-    (e : IsReworded nodes nodes' listings listings' rest l content i o dir number g) (can : CanSay (Layout.New m) l.object content) (f : PartsFollow m nodes' owners' listings') where
+    (e : IsReworded nodes nodes' listings listings' rest l content i o dir number g) (can : CanSay (Layout.New m) l.object content) (f : PartsFollow nodes' owners' (Layout.New m) listings') where
   abbrev layout : Layout
   layout = Layout.New m
 
@@ -58,8 +58,8 @@ module _ (kind : Kind) (m : Map) (nodes nodes' : Nodes) (owners owners' : List O
   abbrev rest' : List Listing
   rest' = relisted g as_before rest
 
-  follow : PartsFollow m nodes' owners' (l' ∷ rest')
-  follow = subst (PartsFollow m nodes' owners') e.listings_are f
+  follow : PartsFollow nodes' owners' (Layout.New m) (l' ∷ rest')
+  follow = subst (PartsFollow nodes' owners' (Layout.New m)) e.listings_are f
 
   back : IsPermutation (l ∷ rest) listings
   back = IsPermutation-sym listings (l ∷ rest) e.found
@@ -124,12 +124,12 @@ module _ (kind : Kind) (m : Map) (nodes nodes' : Nodes) (owners owners' : List O
       (e.rewording.same_path o ∙ o_path ∙ ap (λ (n : List ℕ). l.object.path ++ n ∷ []) (sym (e.rewording.name o))) (at_same layout o.path g e.rewording o (placed o o_in))
 
   l_says : IsListing (reader_of_nodes nodes') layout l'
-  l_says = (follow.nodes.say l' (here l' rest'), subst (λ (es : List Entry). AreChildren layout l.object.path es (slice_set l.children i (g o))) (sym e.entries) changed.0)
+  l_says = (follow.nodes_follow.say l' (here l' rest'), subst (λ (es : List Entry). AreChildren layout l.object.path es (slice_set l.children i (g o))) (sym e.entries) changed.0)
 
   -- the other directories say what they said
   rest_says : (k : Listing) → Contains rest k → IsListing (reader_of_nodes nodes') layout (relisting g as_before k)
   rest_says k at = (
-    follow.nodes.say (relisting g as_before k) (later l' (relisting g as_before k) rest' (in_mapped (relisting g as_before) rest k at)),
+    follow.nodes_follow.say (relisting g as_before k) (later l' (relisting g as_before k) rest' (in_mapped (relisting g as_before) rest k at)),
     subst (λ (p : Path). AreChildren layout p (entries_of k.content) (map g k.children)) (sym (e.rewording.same_path k.object))
         (subst (λ (os : List Object). AreChildren layout k.object.path (entries_of k.content) os)
         (sym (stay_all o.path g e.rewording k.children (λ p child. other p (later before.top p others (Contains-append_right kids (held rest) p (held_in rest k p at child))))))

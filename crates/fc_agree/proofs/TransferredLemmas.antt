@@ -1,13 +1,13 @@
 -- `rename` from one directory to another.
-use Rattle.std.proofs.Common.{◌≡◌, ◌<◌, inl, inr, ℕ, Bool, true, false, cond, List, [], ◌∷◌, ◌++◌, length, map, refl, sym, ap, subst, ◌∙◌, arith}
-use Rattle.std.specs.Prelude.{Ok, Contains, IsPermutation, insert, remove}
+use Rattle.std.proofs.Common.{◌≡◌, ◌<◌, inl, inr, ℕ, true, false, List, [], ◌∷◌, ◌++◌, length, map, refl, sym, ap, subst, ◌∙◌, arith}
+use Rattle.std.specs.Prelude.{Contains, IsPermutation, insert, remove}
 use Rattle.std.proofs.lemmas.List.{length_push}
 use Rattle.std.proofs.lemmas.List.Elements.{Contains-append_left, Contains-append_right}
-use Rattle.std.proofs.lemmas.List.Sorted.{Contains-permutation, IsPermutation-append_left, IsPermutation-cons, IsPermutation-map, IsPermutation-refl, IsPermutation-sym, IsPermutation-trans}
+use Rattle.std.proofs.lemmas.List.Sorted.{Contains-permutation, IsPermutation-append_left, IsPermutation-cons, IsPermutation-sym, IsPermutation-trans}
 use Rattle.fc_names.specs.Names.{Path, folded_path, is_same_path}
 use Rattle.fc_record.specs.declared.Kind.{Kind}
 use Rattle.fc_newmap.specs.Map.{Map}
-use Rattle.fc_model.specs.Tree.{is_prefix, last_name}
+use Rattle.fc_model.specs.Tree.{is_prefix}
 use Rattle.fc_dirs.specs.declared.Entry.{Entry}
 use Rattle.fc_dirs.specs.Directory.{Directory, entries_of}
 use Rattle.fc_alloc.specs.declared.owner.Owner.{Owner}
@@ -20,14 +20,13 @@ use Rattle.fc_image.specs.EditedWalk.{IsRelisting, moved_object}
 use Rattle.fc_image.specs.InPlace.{says_now}
 use Rattle.fc_image.proofs.EntriesLemmas.{entries_law, here, in_mapped, later}
 use Rattle.fc_image.proofs.MapEditLemmas.{child_at, held_in}
-use Rattle.fc_image.proofs.PathsLemmas.{itself}
 use Rattle.fc_image.proofs.RelistLemmas.{relisting_law}
-use Rattle.fc_image.proofs.RenameLemmas.{child_path, child_stays, holder_first, last_pushed, moved_itself, stay_all, stays}
+use Rattle.fc_image.proofs.RenameLemmas.{child_path, child_stays, holder_first, stay_all, stays}
 use Rattle.fc_image.proofs.ShuffleLemmas.{IsPermutation-flat_map, flipped, same_lists}
 use Rattle.fc_tree.specs.declared.node.Node.{Node}
 use Rattle.fc_tree.specs.Agree.{Agree, reader_of_nodes}
 use Rattle.fc_tree.proofs.WalkedLemmas.{child_is_object}
-use Rattle.fc_changes.proofs.BasicLemmas.{cases_cons, without_it}
+use Rattle.fc_changes.proofs.BasicLemmas.{cases_cons}
 use Rattle.fc_nodes.specs.Edits.{IsTransferred, Nodes, as_moved, relisted}
 use Rattle.fc_agree.specs.Agreed.{AgreeOn, CanSay, PartsFollow, parts_with}
 use Rattle.fc_agree.specs.Laws.{TransferredLaw}
@@ -40,7 +39,7 @@ module _ (kind : Kind) (m : Map) (nodes nodes' : Nodes) (owners owners' : List O
     (k_content l_content : Directory) (i j : ℕ) (o : Object) (from_dir dir number : ℕ) (name : List ℕ) (now : Directory) (a : AgreeOn kind m nodes owners root listings)
     (e : IsTransferred nodes nodes' listings listings' rest k l k_content l_content i j o from_dir dir number name now)
     (can_k : CanSay (Layout.New m) k.object k_content) (can_l : CanSay (Layout.New m) l.object l_content)
-    (can_now : is_directory_object o ≡ true → CanSay (Layout.New m) o now) (f : PartsFollow m nodes' owners' listings') where
+    (can_now : is_directory_object o ≡ true → CanSay (Layout.New m) o now) (f : PartsFollow nodes' owners' (Layout.New m) listings') where
   abbrev layout : Layout
   layout = Layout.New m
 
@@ -71,8 +70,8 @@ module _ (kind : Kind) (m : Map) (nodes nodes' : Nodes) (owners owners' : List O
   abbrev rest' : List Listing
   rest' = relisted g (as_moved o now) rest
 
-  follow : PartsFollow m nodes' owners' (k' ∷ l' ∷ rest')
-  follow = subst (PartsFollow m nodes' owners') e.listings_are f
+  follow : PartsFollow nodes' owners' (Layout.New m) (k' ∷ l' ∷ rest')
+  follow = subst (PartsFollow nodes' owners' (Layout.New m)) e.listings_are f
 
   back : IsPermutation (k ∷ l ∷ rest) listings
   back = IsPermutation-sym listings (k ∷ l ∷ rest) e.found
@@ -137,11 +136,11 @@ module _ (kind : Kind) (m : Map) (nodes nodes' : Nodes) (owners owners' : List O
       (child_at layout k.object.path (entries_of k.content) k.children o k_old o_in)
 
   k_says : IsListing (reader_of_nodes nodes') layout k'
-  k_says = (follow.nodes.say k' (here k' (l' ∷ rest')), subst (λ (es : List Entry). AreChildren layout k.object.path es kids) (sym e.k_entries) removed.0)
+  k_says = (follow.nodes_follow.say k' (here k' (l' ∷ rest')), subst (λ (es : List Entry). AreChildren layout k.object.path es kids) (sym e.k_entries) removed.0)
 
   l_says : IsListing (reader_of_nodes nodes') layout l'
   l_says = (
-    follow.nodes.say l' (later k' l' (l' ∷ rest') (here l' rest')),
+    follow.nodes_follow.say l' (later k' l' (l' ∷ rest') (here l' rest')),
     subst (λ (es : List Entry). AreChildren layout l.object.path es (insert l.children j (g o)))
         (ap (λ (x : Entry). insert (entries_of l.content) j x) (moved_entry l.object.path name o) ∙ sym e.l_entries) added.0,
   )
@@ -153,7 +152,7 @@ module _ (kind : Kind) (m : Map) (nodes nodes' : Nodes) (owners owners' : List O
     same = e.same;
     can = can_now;
     others = λ d at p child. other p (Contains-append_right kids (l.children ++ held rest) p (Contains-append_right l.children (held rest) p (held_in rest d p at child)));
-    say = λ d at. follow.nodes.say (relisting g (as_moved o now) d)
+    say = λ d at. follow.nodes_follow.say (relisting g (as_moved o now) d)
         (later k' (relisting g (as_moved o now) d) (l' ∷ rest') (later l' (relisting g (as_moved o now) d) rest' (in_mapped (relisting g (as_moved o now)) rest d at)));
   }
 

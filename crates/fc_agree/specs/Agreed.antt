@@ -35,10 +35,10 @@ pub record CanSay (layout : Layout) (o : Object) (content : Directory) : Type 0 
   pub form : HasForm (dir_form layout) o.entry.len content
   pub body : IsDirectory content
 
--- The nodes and owners are those of the new listings. (Crate fc_nodes has both for each edit of it.)
-pub record PartsFollow (m' : Map) (nodes' : Nodes) (owners' : List Owner) (listings' : List Listing) : Type 0 where
-  pub nodes : NodesFollow nodes' listings'
-  pub owners : OwnersFollow owners' nodes' (Layout.New m') listings'
+-- The nodes and owners are those of these listings. (Crate fc_nodes has both for each of its edits.)
+pub record PartsFollow (nodes : Nodes) (owners : List Owner) (layout : Layout) (listings : List Listing) : Type 0 where
+  pub nodes_follow : NodesFollow nodes listings
+  pub owners_follow : OwnersFollow owners nodes layout listings
 
 -- Runs of the map are taken for objects that come, and go back from objects that go.
 pub record IsMapChange (m m' : Map) (id : ℕ) (parts : List ZoneRun) (gone : List ℕ) (before after : List Object) : Type 0 where

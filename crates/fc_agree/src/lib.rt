@@ -2,11 +2,17 @@
 //! image's bytes.
 #![tactic(auto)]
 
+ghost use Rattle.fc_agree.specs.Cuts.{CutLaw};
 ghost use Rattle.fc_agree.specs.Laws.{AddedLaw, AgreedLaw, DirectoryAddedLaw, RemovedLaw, RenamedLaw, ReplacedLaw, RewordedLaw, TransferredLaw};
 
 /// Parts that agree: what is known of their listings.
 pub fn agreed()
     ensures { AgreedLaw }
+{}
+
+/// Listings and objects, cut as edits ask for it.
+pub fn cuts()
+    ensures { CutLaw }
 {}
 
 /// After `set` and `mark` the parts agree.
