@@ -14,3 +14,4 @@ pub mod MovedLemmas
 pub mod RenamedLemmas
 pub mod TransferredLemmas
 pub mod CutLemmas
+pub mod MapLemmas

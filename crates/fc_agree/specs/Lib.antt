@@ -1,3 +1,4 @@
 pub mod Agreed
 pub mod Laws
 pub mod Cuts
+pub mod Maps

@@ -4,6 +4,7 @@
 
 ghost use Rattle.fc_agree.specs.Cuts.{CutLaw};
 ghost use Rattle.fc_agree.specs.Laws.{AddedLaw, AgreedLaw, DirectoryAddedLaw, RemovedLaw, RenamedLaw, ReplacedLaw, RewordedLaw, TransferredLaw};
+ghost use Rattle.fc_agree.specs.Maps.{MapLaw};
 
 /// Parts that agree: what is known of their listings.
 pub fn agreed()
@@ -13,6 +14,11 @@ pub fn agreed()
 /// Listings and objects, cut as edits ask for it.
 pub fn cuts()
     ensures { CutLaw }
+{}
+
+/// Maps that stay, and space that isn't given back.
+pub fn maps()
+    ensures { MapLaw }
 {}
 
 /// After `set` and `mark` the parts agree.
