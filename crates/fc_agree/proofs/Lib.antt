@@ -15,3 +15,4 @@ pub mod RenamedLemmas
 pub mod TransferredLemmas
 pub mod CutLemmas
 pub mod MapLemmas
+pub mod SayLemmas

@@ -2,3 +2,4 @@ pub mod Agreed
 pub mod Laws
 pub mod Cuts
 pub mod Maps
+pub mod Sayable

@@ -5,6 +5,7 @@
 ghost use Rattle.fc_agree.specs.Cuts.{CutLaw};
 ghost use Rattle.fc_agree.specs.Laws.{AddedLaw, AgreedLaw, DirectoryAddedLaw, RemovedLaw, RenamedLaw, ReplacedLaw, RewordedLaw, TransferredLaw};
 ghost use Rattle.fc_agree.specs.Maps.{MapLaw};
+ghost use Rattle.fc_agree.specs.Sayable.{SayLaw};
 
 /// Parts that agree: what is known of their listings.
 pub fn agreed()
@@ -19,6 +20,11 @@ pub fn cuts()
 /// Maps that stay, and space that isn't given back.
 pub fn maps()
     ensures { MapLaw }
+{}
+
+/// Directories that objects can say.
+pub fn sayable()
+    ensures { SayLaw }
 {}
 
 /// After `set` and `mark` the parts agree.
