@@ -1,2 +1,4 @@
 pub mod ShapeLemmas
 pub mod WaysLemmas
+pub mod FitsLemmas
+pub mod FollowLemmas

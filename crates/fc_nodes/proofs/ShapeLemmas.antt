@@ -101,7 +101,7 @@ module _ (nodes : Nodes) (n : ℕ) (f : Node → Node) where
 
 -- ---- what a node says, and how it is held
 
-some_mapped : {X : Type 0} (t : Node → X) (o : Option Node) (x : X) → option_map t o ≡ Some x → (a : Node) × (o ≡ Some a) × (t a ≡ x)
+pub some_mapped : {X : Type 0} (t : Node → X) (o : Option Node) (x : X) → option_map t o ≡ Some x → (a : Node) × (o ≡ Some a) × (t a ≡ x)
 some_mapped t None x e = absurd (cc)
 some_mapped t (Some a) x e = (a, refl, ap (λ (o : Option _). option_map_or (λ y. y) o x) e)
 
