@@ -26,11 +26,11 @@ pub stands_held : (nodes : Nodes) (dir : ℕ) (name : List ℕ) (n : ℕ) → (s
 stands_held nodes dir name n s = ap (option_map held_by) s.is ∙ ap (λ h. Some (h, s.node.entry)) s.holder
 
 -- the name folds to a node's name
-folds_same : (a b : List ℕ) → folded a ≡ folded b → is_same_name a b ≡ true
+pub folds_same : (a b : List ℕ) → folded a ≡ folded b → is_same_name a b ≡ true
 folds_same a b e = subst (λ (k : List ℕ). is_eq (slice_cmp nat_cmp (folded a) k) ≡ true) e (own_name a)
 
 module _ {X : Type 0} (t : X → Bool) where
-  not_missed : (xs : List X) (x : X) → Contains xs x → t x ≡ true → find t xs ≡ None → ⊥
+  pub not_missed : (xs : List X) (x : X) → Contains xs x → t x ≡ true → find t xs ≡ None → ⊥
   not_missed [] x at h none = no_element x at
   not_missed (y ∷ xs) x at h none = by (t y) refl none (not_missed xs x)
     where
