@@ -1,5 +1,5 @@
 -- One object of a directory has another entry of the same name, and its path: the nodes after `set`, `mark`, and a file over a file.
-use Rattle.std.proofs.Common.{◌≡◌, ◌⊎◌, inl, inr, ⊎_elim, ℕ, ◌+◌, Bool, true, false, List, [], ◌∷◌, ◌++◌, length, map, refl, sym, ap, subst, ◌∙◌, arith, Option, Some, None, remove, slice_get}
+use Rattle.std.proofs.Common.{◌≡◌, ◌⊎◌, inl, inr, ⊎_elim, ℕ, ◌+◌, Bool, true, false, List, [], ◌∷◌, ◌++◌, length, map, refl, sym, ap, subst, ◌∙◌, arith, Option, Some, None, remove, slice_get, length-append}
 use Rattle.std.specs.Prelude.{Contains, IsPermutation, slice_set}
 use Rattle.std.specs.FinMap.{len}
 use Rattle.std.proofs.lemmas.Bool.{cases_eq}
@@ -22,7 +22,7 @@ use Rattle.fc_nodes.specs.Laws.{IsHeld}
 use Rattle.fc_nodes.proofs.ShapeLemmas.{held_as, says_at, body_held, body_said, body_other, entry_said, entry_held, entry_other, edited_length}
 use Rattle.fc_nodes.proofs.WaysLemmas.{AreApart, Step}
 use Rattle.fc_nodes.proofs.FitsLemmas.{ChildFits, DirectoryFits, apart, fits, fits_at, kid_at}
-use Rattle.fc_nodes.proofs.ListLemmas.{set_at, either}
+use Rattle.fc_nodes.proofs.ListLemmas.{cut_at, set_at, either, held_relisted}
 use Rattle.fc_nodes.proofs.FollowLemmas.{AllFit, follow}
 use Rattle.fc_nodes.proofs.OtherLemmas.{unlike, here_in, others_in, other_number, fits_here, not_file, left_in, left_other, rest_other, number_lower, kid_fits, objects_count}
 use Rattle.fc_nodes.proofs.KeptLemmas.{OneHeld, apart_after, StillHeld, way_kept, child_kept}
@@ -160,4 +160,16 @@ module _ (nodes : Nodes) (layout : Layout) (listings rest : List Listing) (l : L
       (contains_cases (says_now l content (slice_set l.children i x)) k (relisted g as_before rest) at)
 
   pub follow_change : NodesFollow after now
-  follow_change = follow after now all_now ?
+  follow_change = follow after now all_now count
+    where
+      count : len after ≡ 1 + length (held now)
+      count =
+          let edited = edited_length (with_body dir (body_in content) nodes) number (λ node. record node { entry = x.entry }) in
+          let said = edited_length nodes dir (λ node. record node { body = body_in content }) in
+          let before = objects_count layout listings nodes h.sound h.held (l ∷ rest) found in
+          let kids = length_permutation l.children (o ∷ remove l.children i) (cut_at l.children i o child.at) in
+          let set = length_permutation (slice_set l.children i x) (x ∷ remove l.children i) (set_at l.children i o x child.at) in
+          let others = held_relisted g as_before rest in
+          let old = length-append l.children (held rest) in
+          let new = length-append (slice_set l.children i x) (held (relisted g as_before rest)) in
+          omega (arith, edited, said, before, kids, set, others, old, new)

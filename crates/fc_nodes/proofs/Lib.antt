@@ -6,3 +6,4 @@ pub mod ListLemmas
 pub mod OtherLemmas
 pub mod KeptLemmas
 pub mod ChangedLemmas
+pub mod OwnerLemmas

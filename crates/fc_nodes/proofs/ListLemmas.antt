@@ -1,9 +1,14 @@
 -- Lists in which one element is set, put in or taken out.
-use Rattle.std.proofs.Common.{◌≡◌, ◌<◌, ◌≤◌, ◌⊎◌, ⊎_elim, ℕ, zero, suc, ◌+◌, Bool, true, false, cond, List, [], ◌∷◌, ◌++◌, length, map, take, drop, refl, sym, ap, subst, ◌∙◌, arith, Option, Some, insert, remove, slice_get}
+use Rattle.std.proofs.Common.{◌≡◌, ◌<◌, ◌≤◌, ◌⊎◌, ⊎_elim, ℕ, zero, suc, ◌+◌, Bool, true, false, cond, List, [], ◌∷◌, ◌++◌, length, map, take, drop, refl, sym, ap, subst, ◌∙◌, arith, Option, Some, insert, remove, slice_get, length-append}
 use Rattle.std.specs.Prelude.{Contains, IsPermutation, slice_set}
 use Rattle.std.proofs.lemmas.List.{set_split}
 use Rattle.std.proofs.lemmas.List.Sorted.{IsPermutation-trans, IsPermutation-sym, IsPermutation-cons, IsPermutation-middle, IsPermutation-insert, IsPermutation-remove, Contains-permutation}
 use Rattle.std.proofs.lemmas.Option.{slice_get_within, get_or_from_slice_get}
+use Rattle.std.proofs.lemmas.List.{length-map}
+use Rattle.fc_dirs.specs.Directory.{Directory}
+use Rattle.fc_image.specs.Walk.{Object, Listing}
+use Rattle.fc_image.specs.Order.{held}
+use Rattle.fc_nodes.specs.Edits.{relisted}
 use Rattle.fc_tree.proofs.MemberLemmas.{contains_cases, contains_here, contains_later}
 
 module _ {X : Type 0} where
@@ -42,3 +47,13 @@ map_remove f [] zero = refl
 map_remove f [] (suc i) = refl
 map_remove f (x ∷ xs) zero = refl
 map_remove {Y = Y} f (x ∷ xs) (suc i) = ap (λ (ys : List Y). f x ∷ ys) (map_remove f xs i)
+
+-- as many objects in directories whose objects are changed
+pub held_relisted : (g : Object → Object) (f : Listing → Directory) (rest : List Listing) → length (held (relisted g f rest)) ≡ length (held rest)
+held_relisted g f [] = refl
+held_relisted g f (k ∷ rest) =
+    let more = held_relisted g f rest in
+    let here = length-map k.children g in
+    let both = length-append (map g k.children) (held (relisted g f rest)) in
+    let before = length-append k.children (held rest) in
+    omega (arith, more, here, both, before)

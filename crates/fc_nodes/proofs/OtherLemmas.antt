@@ -1,7 +1,8 @@
 -- What stands beside one directory of a sound walk, and beside one object in it, has other numbers.
 use Rattle.std.proofs.Common.{◌≡◌, ◌<◌, ◌≤◌, ◌⊎◌, ⊎_elim, ℕ, zero, suc, ◌+◌, Bool, true, false, cond, List, [], ◌∷◌, ◌++◌, length, map, flat_map, refl, sym, ap, subst, ◌∙◌, arith, Option, Some, None, insert, remove, slice_get, find, is_some}
 use Rattle.std.specs.Prelude.{Contains, IsPermutation}
-use Rattle.std.proofs.lemmas.List.Sorted.{IsPermutation-refl, IsPermutation-trans, IsPermutation-sym, IsPermutation-cons, IsPermutation-middle, IsPermutation-append_left, Contains-permutation}
+use Rattle.std.proofs.lemmas.List.Sorted.{IsPermutation-refl, IsPermutation-trans, IsPermutation-sym, IsPermutation-cons, IsPermutation-middle, IsPermutation-append_left, Contains-permutation, length_permutation}
+use Rattle.std.specs.FinMap.{len}
 use Rattle.std.proofs.lemmas.List.Elements.{Contains-append_left, Contains-append_right}
 use Rattle.fc_names.specs.Names.{Path, folded, is_same_name, is_same_path}
 use Rattle.fc_dirs.specs.declared.Entry.{Entry}
@@ -69,6 +70,12 @@ module _ (layout : Layout) (listings : List Listing) (nodes : Nodes) (sound : Ar
   all_objects others found =
       subst (λ (os : List Object). IsPermutation os (root layout listings sound ∷ held others)) (sym (root_and_held layout listings sound))
       (IsPermutation-cons (root layout listings sound) (held listings) (held others) (IsPermutation-flat_map (λ (k : Listing). k.children) listings others found))
+
+  -- as many nodes as objects
+  pub objects_count : (others : List Listing) → IsPermutation listings others → len nodes ≡ 1 + length (held others)
+  objects_count others found =
+      let same = length_permutation (objects_of listings) (root layout listings sound ∷ held others) (all_objects others found) in
+      omega (arith, same, held_all.no_more)
 
   -- beside an object of a number there is no other
   pub other_object : (o : Object) (others : List Object) → IsPermutation (objects_of listings) (o ∷ others) → (p : Object) (n : ℕ) → Contains others p

@@ -1,10 +1,9 @@
 //! What edits of a volume's objects make of its numbered nodes and of its owners.
 #![tactic(auto)]
 
-ghost use Rattle.std.specs.Prelude.{◌≡◌};
-ghost use Rattle.fc_nodes.specs.Edits.{Nodes};
+ghost use Rattle.fc_nodes.specs.Laws.{OwnerLaw};
 
-/// Placeholder.
-pub fn placeholder()
-    ensures { (nodes : Nodes) → nodes ≡ nodes }
+/// An object of a directory is the owner that its numbers say.
+pub fn owners()
+    ensures { OwnerLaw }
 {}
