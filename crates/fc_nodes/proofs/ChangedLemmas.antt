@@ -3,7 +3,7 @@ use Rattle.std.proofs.Common.{◌≡◌, ◌⊎◌, inl, inr, ⊎_elim, ℕ, ◌
 use Rattle.std.specs.Prelude.{Contains, IsPermutation, slice_set}
 use Rattle.std.specs.FinMap.{len}
 use Rattle.std.proofs.lemmas.Bool.{cases_eq}
-use Rattle.std.proofs.lemmas.List.Sorted.{length_permutation}
+use Rattle.std.proofs.lemmas.List.Sorted.{IsPermutation-trans, length_permutation}
 use Rattle.fc_names.specs.Names.{Path, folded, is_same_path}
 use Rattle.fc_dirs.specs.declared.Entry.{Entry}
 use Rattle.fc_dirs.specs.Directory.{Directory, entries_of}
@@ -15,16 +15,20 @@ use Rattle.fc_image.specs.InPlace.{says_now}
 use Rattle.fc_tree.specs.declared.node.Body.{Body}
 use Rattle.fc_tree.specs.declared.node.Body.TheVariants as bodies
 use Rattle.fc_tree.specs.Nodes.{number_of, body_in}
-use Rattle.fc_tree.proofs.MemberLemmas.{from_map, contains_cases}
-use Rattle.fc_tree.proofs.WalkedLemmas.{same_some}
-use Rattle.fc_nodes.specs.Edits.{Nodes, IsChild, with_body, with_entry, relisted, as_before, NodesFollow}
-use Rattle.fc_nodes.specs.Laws.{IsHeld}
+use Rattle.fc_tree.proofs.MemberLemmas.{from_map, contains_cases, contains_later}
+use Rattle.fc_tree.proofs.WalkedLemmas.{same_some, root, listed_directory, holder-push}
+use Rattle.fc_alloc.specs.declared.owner.Owner.{Owner}
+use Rattle.fc_model.specs.Tree.{holder}
+use Rattle.fc_image.specs.Sound.{AreSound}
+use Rattle.fc_nodes.specs.Edits.{Nodes, IsChild, with_body, with_entry, relisted, as_before, NodesFollow, OwnersFollow, OwnersEdited, owners_with}
+use Rattle.fc_nodes.specs.Laws.{IsHeld, IsOwned}
 use Rattle.fc_nodes.proofs.ShapeLemmas.{held_as, says_at, body_held, body_said, body_other, entry_said, entry_held, entry_other, edited_length}
 use Rattle.fc_nodes.proofs.WaysLemmas.{AreApart, Step}
 use Rattle.fc_nodes.proofs.FitsLemmas.{ChildFits, DirectoryFits, apart, fits, fits_at, kid_at}
-use Rattle.fc_nodes.proofs.ListLemmas.{cut_at, set_at, either, held_relisted}
+use Rattle.fc_nodes.proofs.ListLemmas.{cut_at, set_at, either, in_first, to_front, map_fixed, held_relisted, held_fixed}
+use Rattle.fc_nodes.proofs.OwnerLemmas.{owners_among, among-append, among_permuted, among_one, owners_edited, found_objects, owner_known, owner_law, keeps_way}
 use Rattle.fc_nodes.proofs.FollowLemmas.{AllFit, follow}
-use Rattle.fc_nodes.proofs.OtherLemmas.{unlike, here_in, others_in, other_number, fits_here, not_file, left_in, left_other, rest_other, number_lower, kid_fits, objects_count}
+use Rattle.fc_nodes.proofs.OtherLemmas.{unlike, here_in, others_in, other_number, fits_here, not_file, left_in, left_other, rest_other, number_lower, kid_fits, objects_count, top_object, left_objects, objects_cut}
 use Rattle.fc_nodes.proofs.KeptLemmas.{OneHeld, apart_after, StillHeld, way_kept, child_kept}
 
 -- what replaces object o, and what becomes of all others
@@ -173,3 +177,74 @@ module _ (nodes : Nodes) (layout : Layout) (listings rest : List Listing) (l : L
           let old = length-append l.children (held rest) in
           let new = length-append (slice_set l.children i x) (held (relisted g as_before rest)) in
           omega (arith, edited, said, before, kids, set, others, old, new)
+
+  -- ---- owners
+
+  fixed_kid : (k : Listing) (p : Object) → Contains rest k → Contains k.children p → g p ≡ p
+  fixed_kid k p at kid =
+      let f = fits layout listings nodes h.sound h.held k (others_in layout listings nodes h.sound h.held l rest found k at) in
+      let c = f.1.kids p kid in
+      unchanged p c.0 c.1.at (rest_other layout listings nodes h.sound h.held l rest found dir child.dir_is i o child.at number child.number_is k p c.0 at kid c.1.at)
+
+  abbrev top : Object
+  top = root layout listings h.sound
+
+  tops : (k : Listing) → Contains now k → k.object.path ≡ [] → k.object ≡ top
+  tops k at is =
+      ⊎_elim (λ same. first k.object.path refl (ap (λ (d : Listing). d.object) same))
+      (λ later.
+      let q = from_map (λ (d : Listing). record { object = g d.object; content = d.content; children = map g d.children }) rest k later in
+      other q.0 q.1 (ap (λ (d : Listing). d.object) q.2))
+      (contains_cases (says_now l content (slice_set l.children i x)) k (relisted g as_before rest) at)
+    where
+      first : (path : Path) → k.object.path ≡ path → l.object ≡ k.object → k.object ≡ top
+      first path e same =
+          sym same ∙ top_object layout listings nodes h.sound h.held l.object
+          (listed_directory layout listings h.sound l (here_in layout listings nodes h.sound h.held l rest found)).0 (ap (λ (p : Object). p.path) same ∙ is)
+
+      other : (d : Listing) → Contains rest d → g d.object ≡ k.object → k.object ≡ top
+      other d among same =
+          let path : d.object.path ≡ [] = sym (change.paths d.object) ∙ ap (λ (p : Object). p.path) same ∙ is in
+          sym same ∙ unchanged d.object 0 (ap (number_of nodes) path) (λ e. lower (sym e))
+          ∙ top_object layout listings nodes h.sound h.held d.object
+          (listed_directory layout listings h.sound d (others_in layout listings nodes h.sound h.held l rest found d among)).0 path
+
+  abbrev kept : List Object
+  kept = left_objects layout listings nodes h.sound h.held l rest found dir child.dir_is i o child.at number child.number_is
+
+  cut : IsPermutation (objects_of listings) (o ∷ kept)
+  cut = objects_cut layout listings nodes h.sound h.held l rest found dir child.dir_is i o child.at number child.number_is
+
+  cut_now : (layout' : Layout) (again : List Listing) → AreSound layout' again → IsPermutation now again → IsPermutation (objects_of again) (x ∷ kept)
+  cut_now layout' again sound same =
+      IsPermutation-trans (objects_of again) (top ∷ held now) (x ∷ kept) (found_objects layout' now again top sound same tops)
+      (subst (λ (os : List Object). IsPermutation (top ∷ (slice_set l.children i x ++ os)) (x ∷ kept)) (sym (held_fixed g as_before rest fixed_kid))
+      (to_front top x (slice_set l.children i x) (remove l.children i) (held rest) (set_at l.children i o x child.at)))
+
+  above : number_of after (holder x.path) ≡ Some dir
+  above =
+      ap (number_of after) (ap holder (change.path ∙ was.path_is) ∙ holder-push l.object.path o.entry.name)
+      ∙ leads l.object.path dir child.dir_is
+
+  pub owners_change : (owners owners' : List Owner) (layout' : Layout) → IsOwned owners nodes layout layout' listings
+      → OwnersEdited owners owners' (owners_with layout dir number o) (owners_with layout' dir number x) → OwnersFollow owners' after layout' now
+  owners_change owners owners' layout' owned edited again sound same =
+      owners_edited nodes after layout layout' (λ p. p) (objects_of listings) (objects_of again) (o ∷ []) (x ∷ []) kept owners owners' cut
+      (subst (λ (os : List Object). IsPermutation (objects_of again) (x ∷ os)) (sym (map_fixed (λ (p : Object). p) kept (λ p at. refl))) (cut_now layout' again sound same))
+      (λ p at. keeps_way nodes after layout layout' listings h.held leads owned.first p (in_first (objects_of listings) (o ∷ kept) cut p (contains_later o p kept at)))
+      (subst (λ (ws : List Owner). OwnersEdited owners owners' (owners_among nodes layout (o ∷ [])) ws)
+      (sym (among_one after layout' layout' x dir number (owner_known after layout' layout' x dir number above itself_fits.at (λ low. refl))))
+      (subst (λ (ws : List Owner). OwnersEdited owners owners' ws (owners_with layout' dir number x))
+      (sym (among_one nodes layout layout o dir number (owner_law nodes layout listings l i o dir number h child))) edited)) owned.owned
+
+  -- where the object keeps its owner
+  pub owners_same : (owners : List Owner) (layout' : Layout) → IsOwned owners nodes layout layout' listings → owners_with layout' dir number x ≡ owners_with layout dir number o
+      → OwnersFollow owners after layout' now
+  owners_same owners layout' owned same =
+      let gone = among_one nodes layout layout o dir number (owner_law nodes layout listings l i o dir number h child) in
+      let all : IsPermutation owners (owners_with layout dir number o ++ owners_among nodes layout kept) =
+      subst (λ (ws : List Owner). IsPermutation owners (ws ++ owners_among nodes layout kept)) gone
+      (subst (IsPermutation owners) (among-append nodes layout (o ∷ []) kept)
+      (IsPermutation-trans owners (owners_among nodes layout (objects_of listings)) (owners_among nodes layout (o ∷ kept)) owned.owned (among_permuted nodes layout (objects_of listings) (o ∷ kept) cut))) in
+      owners_change owners owners layout' owned
+      (record { rest = owners_among nodes layout kept; before = all; after = subst (λ (ws : List Owner). IsPermutation owners (ws ++ owners_among nodes layout kept)) (sym same) all })

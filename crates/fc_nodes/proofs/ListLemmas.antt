@@ -1,14 +1,14 @@
 -- Lists in which one element is set, put in or taken out.
-use Rattle.std.proofs.Common.{◌≡◌, ◌<◌, ◌≤◌, ◌⊎◌, ⊎_elim, ℕ, zero, suc, ◌+◌, Bool, true, false, cond, List, [], ◌∷◌, ◌++◌, length, map, take, drop, refl, sym, ap, subst, ◌∙◌, arith, Option, Some, insert, remove, slice_get, length-append}
+use Rattle.std.proofs.Common.{◌≡◌, ◌<◌, ◌≤◌, ◌⊎◌, ⊎_elim, ℕ, zero, suc, ◌+◌, Bool, true, false, cond, List, [], ◌∷◌, ◌++◌, length, map, take, drop, refl, sym, ap, ap₂, subst, ◌∙◌, arith, Option, Some, insert, remove, slice_get, length-append}
 use Rattle.std.specs.Prelude.{Contains, IsPermutation, slice_set}
 use Rattle.std.proofs.lemmas.List.{set_split}
-use Rattle.std.proofs.lemmas.List.Sorted.{IsPermutation-trans, IsPermutation-sym, IsPermutation-cons, IsPermutation-middle, IsPermutation-insert, IsPermutation-remove, Contains-permutation}
+use Rattle.std.proofs.lemmas.List.Sorted.{IsPermutation-trans, IsPermutation-sym, IsPermutation-cons, IsPermutation-middle, IsPermutation-append_left, IsPermutation-insert, IsPermutation-remove, Contains-permutation}
 use Rattle.std.proofs.lemmas.Option.{slice_get_within, get_or_from_slice_get}
 use Rattle.std.proofs.lemmas.List.{length-map}
 use Rattle.fc_dirs.specs.Directory.{Directory}
 use Rattle.fc_image.specs.Walk.{Object, Listing}
 use Rattle.fc_image.specs.Order.{held}
-use Rattle.fc_nodes.specs.Edits.{relisted}
+use Rattle.fc_nodes.specs.Edits.{relisted, as_before}
 use Rattle.fc_tree.proofs.MemberLemmas.{contains_cases, contains_here, contains_later}
 
 module _ {X : Type 0} where
@@ -41,6 +41,18 @@ module _ {X : Type 0} where
   pub either : (xs : List X) (y : X) (others : List X) → IsPermutation xs (y ∷ others) → (x : X) → Contains xs x → (y ≡ x) ⊎ Contains others x
   either xs y others same x at = contains_cases y x others (in_other xs (y ∷ others) same x at)
 
+-- an element of the middle to the front
+pub to_front : {X : Type 0} (r x : X) (kids left more : List X) → IsPermutation kids (x ∷ left) → IsPermutation (r ∷ (kids ++ more)) (x ∷ r ∷ (left ++ more))
+to_front r x kids left more same =
+    IsPermutation-trans (r ∷ (kids ++ more)) (r ∷ ((x ∷ left) ++ more)) (x ∷ r ∷ (left ++ more))
+    (IsPermutation-cons r (kids ++ more) ((x ∷ left) ++ more) (IsPermutation-append_left more kids (x ∷ left) same))
+    (IsPermutation-middle (r ∷ []) x (left ++ more))
+
+pub map_fixed : {X : Type 0} (g : X → X) (xs : List X) → ((x : X) → Contains xs x → g x ≡ x) → map g xs ≡ xs
+map_fixed g [] same = refl
+map_fixed {X} g (x ∷ xs) same =
+    ap₂ (λ (y : X) (ys : List X). y ∷ ys) (same x (contains_here x xs)) (map_fixed g xs (λ y at. same y (contains_later x y xs at)))
+
 -- a map and the elements that are left
 pub map_remove : {X Y : Type 0} (f : X → Y) (xs : List X) (i : ℕ) → map f (remove xs i) ≡ remove (map f xs) i
 map_remove f [] zero = refl
@@ -57,3 +69,19 @@ held_relisted g f (k ∷ rest) =
     let both = length-append (map g k.children) (held (relisted g f rest)) in
     let before = length-append k.children (held rest) in
     omega (arith, more, here, both, before)
+
+-- the same objects, where the change leaves each
+pub held_fixed : (g : Object → Object) (f : Listing → Directory) (rest : List Listing) → ((k : Listing) (p : Object) → Contains rest k → Contains k.children p → g p ≡ p)
+    → held (relisted g f rest) ≡ held rest
+held_fixed g f [] same = refl
+held_fixed g f (k ∷ rest) same =
+    ap₂ (λ (os ps : List Object). os ++ ps) (map_fixed g k.children (λ p kid. same k p (contains_here k rest) kid))
+    (held_fixed g f rest (λ d p at. same d p (contains_later k d rest at)))
+
+-- the same directories, where nothing is changed
+pub relisted_itself : (rest : List Listing) → relisted (λ o. o) as_before rest ≡ rest
+relisted_itself [] = refl
+relisted_itself (k ∷ rest) =
+    let kids = map_fixed (λ (o : Object). o) k.children (λ p at. refl) in
+    let more = relisted_itself rest in
+    λ i. record { object = k.object; content = k.content; children = kids i } ∷ more i

@@ -18,14 +18,14 @@ use Rattle.fc_image.proofs.ShuffleLemmas.{IsPermutation-flat_map, same_lists}
 use Rattle.fc_tree.specs.declared.node.Body.TheVariants as bodies
 use Rattle.fc_tree.specs.Nodes.{number_of, body_in, HoldObjects}
 use Rattle.fc_tree.proofs.MemberLemmas.{no_element, contains_cases, contains_here, contains_later, in_map, some_many, many_permuted}
-use Rattle.fc_tree.proofs.WalkedLemmas.{same_some, root, root_and_held, given, few_objects, child_is_object, listed_directory}
-use Rattle.fc_tree.proofs.SoundLemmas.{folds_alike, same_by_folds, children_stored}
+use Rattle.fc_tree.proofs.WalkedLemmas.{same_some, root, root_path, root_and_held, given, few_objects, child_is_object, listed_directory}
+use Rattle.fc_tree.proofs.SoundLemmas.{root_object, folds_alike, same_by_folds, children_stored}
 use Rattle.fc_tree.proofs.PlaceLemmas.{one_path, same_number}
 use Rattle.fc_nodes.specs.Edits.{Nodes}
 use Rattle.fc_nodes.proofs.ShapeLemmas.{held_as, says_at}
 use Rattle.fc_nodes.proofs.WaysLemmas.{AreApart, not_missed, folds_same}
-use Rattle.fc_nodes.proofs.ListLemmas.{cut_at, in_first, either, map_remove}
-use Rattle.fc_nodes.proofs.FitsLemmas.{ChildFits, DirectoryFits, one_directory, fits_at, kid_at, kid_lower, holds}
+use Rattle.fc_nodes.proofs.ListLemmas.{cut_at, to_front, in_first, either, map_remove}
+use Rattle.fc_nodes.proofs.FitsLemmas.{ChildFits, DirectoryFits, one_number, one_directory, fits_at, kid_at, kid_lower, holds}
 
 -- paths of other numbers fold to others
 pub unlike : (nodes : Nodes) (p q : Path) (m n : ℕ) → number_of nodes p ≡ Some m → number_of nodes q ≡ Some n → (m ≡ n → ⊥) → is_same_path p q ≡ false
@@ -70,6 +70,15 @@ module _ (layout : Layout) (listings : List Listing) (nodes : Nodes) (sound : Ar
   all_objects others found =
       subst (λ (os : List Object). IsPermutation os (root layout listings sound ∷ held others)) (sym (root_and_held layout listings sound))
       (IsPermutation-cons (root layout listings sound) (held listings) (held others) (IsPermutation-flat_map (λ (k : Listing). k.children) listings others found))
+
+  -- an object at the root's path is the root
+  pub top_object : (o : Object) → Contains (objects_of listings) o → o.path ≡ [] → o ≡ root layout listings sound
+  top_object o at top =
+      one_number layout listings nodes sound held_all o (root layout listings sound) 0 at (root_object layout listings sound) (ap (number_of nodes) top)
+      (ap (number_of nodes) (root_path layout listings sound))
+
+  pub root_at : number_of nodes (root layout listings sound).path ≡ Some 0
+  root_at = ap (number_of nodes) (root_path layout listings sound)
 
   -- as many nodes as objects
   pub objects_count : (others : List Listing) → IsPermutation listings others → len nodes ≡ 1 + length (held others)
@@ -143,10 +152,7 @@ module _ (layout : Layout) (listings : List Listing) (nodes : Nodes) (sound : Ar
         pub objects_cut : IsPermutation (objects_of listings) (o ∷ left_objects)
         objects_cut =
             IsPermutation-trans (objects_of listings) (root layout listings sound ∷ (l.children ++ held others)) (o ∷ left_objects) (all_objects (l ∷ others) found)
-            (IsPermutation-trans (root layout listings sound ∷ (l.children ++ held others)) (root layout listings sound ∷ ((o ∷ remove l.children i) ++ held others)) (o ∷ left_objects)
-            (IsPermutation-cons (root layout listings sound) (l.children ++ held others) ((o ∷ remove l.children i) ++ held others)
-            (IsPermutation-append_left (held others) l.children (o ∷ remove l.children i) kids_cut))
-            (IsPermutation-middle (root layout listings sound ∷ []) o (remove l.children i ++ held others)))
+            (to_front (root layout listings sound) o l.children (remove l.children i) (held others) kids_cut)
 
         pub left_other : (p : Object) (n : ℕ) → Contains (remove l.children i) p → number_of nodes p.path ≡ Some n → n ≡ number → ⊥
         left_other p n left e same =

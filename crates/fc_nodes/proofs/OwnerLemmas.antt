@@ -28,11 +28,11 @@ map-append : {X Y : Type 0} (f : X → Y) (xs ys : List X) → map f (xs ++ ys) 
 map-append f [] ys = refl
 map-append {Y = Y} f (x ∷ xs) ys = ap (λ (zs : List Y). f x ∷ zs) (map-append f xs ys)
 
-among-append : (nodes : Nodes) (layout : Layout) (os ps : List Object) → owners_among nodes layout (os ++ ps) ≡ owners_among nodes layout os ++ owners_among nodes layout ps
+pub among-append : (nodes : Nodes) (layout : Layout) (os ps : List Object) → owners_among nodes layout (os ++ ps) ≡ owners_among nodes layout os ++ owners_among nodes layout ps
 among-append nodes layout os ps =
     ap (map (owner_of nodes layout)) (filter-append has_sectors os ps) ∙ map-append (owner_of nodes layout) (filter has_sectors os) (filter has_sectors ps)
 
-among_permuted : (nodes : Nodes) (layout : Layout) (os ps : List Object) → IsPermutation os ps → IsPermutation (owners_among nodes layout os) (owners_among nodes layout ps)
+pub among_permuted : (nodes : Nodes) (layout : Layout) (os ps : List Object) → IsPermutation os ps → IsPermutation (owners_among nodes layout os) (owners_among nodes layout ps)
 among_permuted nodes layout os ps same =
     IsPermutation-map (owner_of nodes layout) (filter has_sectors os) (filter has_sectors ps) (IsPermutation-filter has_sectors os ps same)
 
@@ -129,6 +129,24 @@ keeps_owner nodes nodes' layout layout' o o' dir number above at above' at' sect
           sectors = length (sectors i);
         }) ∙ sym old;
     }
+
+-- an object whose paths lead as before
+pub keeps_way : (nodes nodes' : Nodes) (layout layout' : Layout) (listings : List Listing) → HoldObjects nodes listings
+    → ((path : Path) (n : ℕ) → number_of nodes path ≡ Some n → number_of nodes' path ≡ Some n) → ((low : ℕ) → first_in layout' low ≡ first_in layout low)
+    → (o : Object) → Contains (objects_of listings) o → KeepsOwner nodes nodes' layout layout' o o
+keeps_way nodes nodes' layout layout' listings all leads first o at =
+    let h = all.each o at in
+    keeps_owner nodes nodes' layout layout' o o h.holder_number h.number h.at_holder h.at_path (leads (holder o.path) h.holder_number h.at_holder) (leads o.path h.number h.at_path)
+    refl refl refl first
+
+-- the owner of one object, if it has sectors
+pub among_one : (nodes : Nodes) (layout layout' : Layout) (o : Object) (dir number : ℕ) → owner_of nodes layout o ≡ owner_with layout' dir number o
+    → owners_among nodes layout (o ∷ []) ≡ owners_with layout' dir number o
+among_one nodes layout layout' o dir number is = by (has_sectors o)
+  where
+    by : (b : Bool) → map (owner_of nodes layout) (cond b (o ∷ []) []) ≡ cond b (owner_with layout' dir number o ∷ []) []
+    by true = ap (λ (w : Owner). w ∷ []) is
+    by false = refl
 
 pub owner_law : OwnerLaw
 owner_law nodes layout listings l i o dir number h child =
