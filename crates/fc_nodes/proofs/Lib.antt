@@ -7,3 +7,4 @@ pub mod OtherLemmas
 pub mod KeptLemmas
 pub mod ChangedLemmas
 pub mod OwnerLemmas
+pub mod RewordedLemmas

@@ -1,9 +1,19 @@
 //! What edits of a volume's objects make of its numbered nodes and of its owners.
 #![tactic(auto)]
 
-ghost use Rattle.fc_nodes.specs.Laws.{OwnerLaw};
+ghost use Rattle.fc_nodes.specs.Laws.{OwnerLaw, RewordedLaw, ReplacedLaw};
 
 /// An object of a directory is the owner that its numbers say.
 pub fn owners()
     ensures { OwnerLaw }
+{}
+
+/// After `set` and `mark` nodes and owners follow.
+pub fn reworded()
+    ensures { RewordedLaw }
+{}
+
+/// After a file is written over another nodes and owners follow.
+pub fn replaced()
+    ensures { ReplacedLaw }
 {}
