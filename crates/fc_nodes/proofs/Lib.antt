@@ -8,3 +8,4 @@ pub mod KeptLemmas
 pub mod ChangedLemmas
 pub mod OwnerLemmas
 pub mod RewordedLemmas
+pub mod RemovedLemmas

@@ -4,7 +4,7 @@ use Rattle.std.specs.Prelude.{Contains, IsPermutation}
 use Rattle.std.proofs.lemmas.List.Sorted.{IsPermutation-refl, IsPermutation-trans, IsPermutation-sym, IsPermutation-cons, IsPermutation-middle, IsPermutation-append_left, Contains-permutation, length_permutation}
 use Rattle.std.specs.FinMap.{len}
 use Rattle.std.proofs.lemmas.List.Elements.{Contains-append_left, Contains-append_right}
-use Rattle.fc_names.specs.Names.{Path, folded, is_same_name, is_same_path}
+use Rattle.fc_names.specs.Names.{Path, folded, folded_path, is_same_name, is_same_path}
 use Rattle.fc_dirs.specs.declared.Entry.{Entry}
 use Rattle.fc_dirs.specs.Entries.{has_name}
 use Rattle.fc_dirs.specs.Directory.{Directory, entries_of}
@@ -15,10 +15,12 @@ use Rattle.fc_image.specs.Order.{held}
 use Rattle.fc_image.specs.Sound.{AreSound}
 use Rattle.fc_image.proofs.PathsLemmas.{many, many-append, is_at, itself, unless, listed_few}
 use Rattle.fc_image.proofs.ShuffleLemmas.{IsPermutation-flat_map, same_lists}
+use Rattle.fc_image.proofs.RelistLemmas.{folded_long}
+use Rattle.std.proofs.lemmas.List.{length_push}
 use Rattle.fc_tree.specs.declared.node.Body.TheVariants as bodies
 use Rattle.fc_tree.specs.Nodes.{number_of, body_in, HoldObjects}
 use Rattle.fc_tree.proofs.MemberLemmas.{no_element, contains_cases, contains_here, contains_later, in_map, some_many, many_permuted}
-use Rattle.fc_tree.proofs.WalkedLemmas.{same_some, root, root_path, root_and_held, given, few_objects, child_is_object, listed_directory}
+use Rattle.fc_tree.proofs.WalkedLemmas.{same_some, root, root_path, root_and_held, given, few_objects, child_path, child_is_object, listed_directory}
 use Rattle.fc_tree.proofs.SoundLemmas.{root_object, folds_alike, same_by_folds, children_stored}
 use Rattle.fc_tree.proofs.PlaceLemmas.{one_path, same_number}
 use Rattle.fc_nodes.specs.Edits.{Nodes}
@@ -174,6 +176,17 @@ module _ (layout : Layout) (listings : List Listing) (nodes : Nodes) (sound : Ar
 
         pub number_lower : number ≡ 0 → ⊥
         number_lower = kid_lower layout listings nodes sound held_all l o number here_in kid_in number_is
+
+        -- a directory isn't what it holds
+        pub dir_lower : dir ≡ number → ⊥
+        dir_lower same =
+            let folds = one_path nodes number (length l.object.path) l.object.path o.path refl (dir_is ∙ ap (λ k. Some k) same) number_is in
+            let path = child_path layout listings sound l o here_in kid_in in
+            let long = ap (λ (p : Path). length p) (folds ∙ ap folded_path path) in
+            let short = folded_long l.object.path in
+            let longer = folded_long (l.object.path ++ o.entry.name ∷ []) in
+            let pushed = length_push l.object.path o.entry.name in
+            absurd (omega (arith, long, short, longer, pushed))
 
         pub kid_fits : ChildFits nodes dir l.object.path number o
         kid_fits = kid_at layout listings nodes sound held_all l o dir number here_in kid_in dir_is number_is

@@ -1,7 +1,7 @@
 //! What edits of a volume's objects make of its numbered nodes and of its owners.
 #![tactic(auto)]
 
-ghost use Rattle.fc_nodes.specs.Laws.{OwnerLaw, RewordedLaw, ReplacedLaw};
+ghost use Rattle.fc_nodes.specs.Laws.{OwnerLaw, RemovedLaw, ReplacedLaw, RewordedLaw};
 
 /// An object of a directory is the owner that its numbers say.
 pub fn owners()
@@ -16,4 +16,9 @@ pub fn reworded()
 /// After a file is written over another nodes and owners follow.
 pub fn replaced()
     ensures { ReplacedLaw }
+{}
+
+/// After `delete` nodes and owners follow.
+pub fn removed()
+    ensures { RemovedLaw }
 {}
