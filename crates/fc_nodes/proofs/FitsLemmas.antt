@@ -37,8 +37,10 @@ pub record DirectoryFits (nodes : Nodes) (number : ℕ) (l : Listing) : Type 0 w
   pub root : l.object.path ≡ [] → held_as nodes 0 ≡ Some (0, l.object.entry)
   pub kids : (o : Object) → Contains l.children o → (n : ℕ) × ChildFits nodes number l.object.path n o
 
-some_of : {X : Type 0} (x y : X) → x ≡ y → Some x ≡ Some y
-some_of x y e = ap (λ z. Some z) e
+-- a path with a name more isn't the root's
+pub not_pushed : (p : Path) (x : List ℕ) → [] ≡ p ++ x ∷ [] → ⊥
+not_pushed [] x e = cc
+not_pushed (y ∷ p) x e = cc
 
 module _ (layout : Layout) (listings : List Listing) (nodes : Nodes) (sound : AreSound layout listings) (held : HoldObjects nodes listings) where
   abbrev Among : Object → Type 0
@@ -155,7 +157,3 @@ module _ (layout : Layout) (listings : List Listing) (nodes : Nodes) (sound : Ar
       let folds = one_path nodes n (length o.path) o.path [] refl e (ap (λ k. Some k) (sym zero)) in
       let long : folded_path [] ≡ folded_path l.object.path ++ folded o.entry.name ∷ [] = sym folds ∙ ap folded_path path ∙ fold_pushed l.object.path o.entry.name in
       not_pushed (folded_path l.object.path) (folded o.entry.name) long
-    where
-      not_pushed : (p : Path) (x : List ℕ) → [] ≡ p ++ x ∷ [] → ⊥
-      not_pushed [] x e = cc
-      not_pushed (y ∷ p) x e = cc

@@ -9,3 +9,4 @@ pub mod ChangedLemmas
 pub mod OwnerLemmas
 pub mod RewordedLemmas
 pub mod RemovedLemmas
+pub mod AddedLemmas

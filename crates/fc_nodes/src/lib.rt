@@ -1,7 +1,7 @@
 //! What edits of a volume's objects make of its numbered nodes and of its owners.
 #![tactic(auto)]
 
-ghost use Rattle.fc_nodes.specs.Laws.{OwnerLaw, RemovedLaw, ReplacedLaw, RewordedLaw};
+ghost use Rattle.fc_nodes.specs.Laws.{AddedLaw, DirectoryAddedLaw, OwnerLaw, RemovedLaw, ReplacedLaw, RewordedLaw};
 
 /// An object of a directory is the owner that its numbers say.
 pub fn owners()
@@ -21,4 +21,14 @@ pub fn replaced()
 /// After `delete` nodes and owners follow.
 pub fn removed()
     ensures { RemovedLaw }
+{}
+
+/// After `save` and `create` of a new file nodes and owners follow.
+pub fn added()
+    ensures { AddedLaw }
+{}
+
+/// After `cdir` nodes and owners follow.
+pub fn directory_added()
+    ensures { DirectoryAddedLaw }
 {}
