@@ -10,3 +10,4 @@ pub mod OwnerLemmas
 pub mod RewordedLemmas
 pub mod RemovedLemmas
 pub mod AddedLemmas
+pub mod MovingLemmas
