@@ -11,3 +11,4 @@ pub mod RewordedLemmas
 pub mod RemovedLemmas
 pub mod AddedLemmas
 pub mod MovingLemmas
+pub mod RenamedLemmas

@@ -85,3 +85,12 @@ relisted_itself (k ∷ rest) =
     let kids = map_fixed (λ (o : Object). o) k.children (λ p at. refl) in
     let more = relisted_itself rest in
     λ i. record { object = k.object; content = k.content; children = kids i } ∷ more i
+
+pub map_append : {X Y : Type 0} (f : X → Y) (xs ys : List X) → map f (xs ++ ys) ≡ map f xs ++ map f ys
+map_append f [] ys = refl
+map_append {Y = Y} f (x ∷ xs) ys = ap (λ (zs : List Y). f x ∷ zs) (map_append f xs ys)
+
+-- the objects in directories, each changed
+pub held_mapped : (g : Object → Object) (f : Listing → Directory) (rest : List Listing) → held (relisted g f rest) ≡ map g (held rest)
+held_mapped g f [] = refl
+held_mapped g f (k ∷ rest) = ap (λ (os : List Object). map g k.children ++ os) (held_mapped g f rest) ∙ sym (map_append g k.children (held rest))

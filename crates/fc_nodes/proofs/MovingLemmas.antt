@@ -15,7 +15,7 @@ use Rattle.fc_image.specs.EditedWalk.{moved_object}
 use Rattle.fc_image.proofs.CommandLemmas.{is_prefix_of, other_path}
 use Rattle.fc_image.proofs.RelistLemmas.{folded_long, prefix_long, prefix_step, root_path_stays}
 use Rattle.fc_image.proofs.RenameLemmas.{stays, moved_itself, last_pushed}
-use Rattle.fc_image.proofs.PathsLemmas.{itself}
+use Rattle.fc_image.proofs.PathsLemmas.{itself, unless}
 use Rattle.fc_tree.specs.declared.node.Body.TheVariants as bodies
 use Rattle.fc_tree.specs.Nodes.{number_of, body_in}
 use Rattle.fc_tree.specs.Parts.{first_in}
@@ -204,6 +204,34 @@ module _ (nodes after : Nodes) (layout : Layout) (listings : List Listing) (k l 
 
   -- ---- directories
 
+  -- what is the root after the move was the root
+  pub root_known : (c : Listing) → Contains listings c → (moved c.object).path ≡ [] → c.object ≡ root layout listings m.held.sound
+  root_known c at top =
+      let f = fits layout listings nodes m.held.sound m.held.held c at in
+      let zero_ : f.0 ≡ 0 = same_some f.0 0 (sym (leads_moved c.object.path f.0 f.1.at) ∙ ap (number_of after) top) in
+      one_number layout listings nodes m.held.sound m.held.held c.object (root layout listings m.held.sound) 0 (listed_directory layout listings m.held.sound c at).0
+      (root_object layout listings m.held.sound) (f.1.at ∙ ap (λ j. Some j) zero_) (ap (number_of nodes) (root_path layout listings m.held.sound))
+
+  -- and it doesn't move
+  pub top_fixed : moved (root layout listings m.held.sound) ≡ root layout listings m.held.sound
+  top_fixed =
+      let top = root_path layout listings m.held.sound in
+      stays from to (root layout listings m.held.sound)
+      (unless (is_prefix (folded_path from) (folded_path (root layout listings m.held.sound).path)) (λ e.
+      let low = prefix_long from (root layout listings m.held.sound).path e in
+      let none = ap (λ (p : Path). length p) top in
+      let long = some in
+      absurd (omega (arith, low, none, long))))
+
+  pub root_moved : (c : Listing) → Contains listings c → (moved c.object).path ≡ [] → moved c.object ≡ root layout listings m.held.sound
+  root_moved c at top = ap moved (root_known c at top) ∙ top_fixed
+
+  -- an object of a directory beside the object doesn't move
+  pub fixed : (d n : ℕ) (path : Path) (p : Object) → ChildFits nodes d path n p → (n ≡ number → ⊥) → is_prefix (folded_path from) (folded_path path) ≡ false → moved p ≡ p
+  fixed d n path p was other beside =
+      stays from to p (ap (λ (q : Path). is_prefix (folded_path from) (folded_path q)) was.path_is
+      ∙ prefix_step from path p.entry.name (ap (is_same_path from) (sym was.path_is) ∙ not_spelled p.path n was.at other) ∙ beside)
+
   -- a directory that isn't edited
   pub directory_moved : (c : Listing) (d : ℕ) → Contains listings c → DirectoryFits nodes d c → (d ≡ home → ⊥) → (d ≡ dir → ⊥)
       → ((p : Object) (n : ℕ) → Contains c.children p → number_of nodes p.path ≡ Some n → n ≡ number → ⊥)
@@ -212,10 +240,8 @@ module _ (nodes after : Nodes) (layout : Layout) (listings : List Listing) (k l 
     at = leads_moved c.object.path d was.at;
     says = says (cases_eq d number);
     root = λ top.
-        (let zero_ : d ≡ 0 = same_some d 0 (sym (leads_moved c.object.path d was.at) ∙ ap (number_of after) top) in
-        let here : c.object ≡ root layout listings m.held.sound =
-        one_number layout listings nodes m.held.sound m.held.held c.object (root layout listings m.held.sound) 0 (listed_directory layout listings m.held.sound c at).0
-        (root_object layout listings m.held.sound) (was.at ∙ ap (λ j. Some j) zero_) (ap (number_of nodes) (root_path layout listings m.held.sound)) in
+        (let here = root_known c at top in
+        let zero_ : d ≡ 0 = same_some d 0 (sym was.at ∙ ap (λ (x : Object). number_of nodes x.path) here ∙ ap (number_of nodes) (root_path layout listings m.held.sound)) in
         root_now c.object.entry (was.root (ap (λ (x : Object). x.path) here ∙ root_path layout listings m.held.sound))
         ∙ ap (λ e. Some (0, e)) (sym (entry_kept c.object d was.at (λ e. m.lower (sym e ∙ zero_)))));
     kids = λ p kid.

@@ -17,6 +17,7 @@ use Rattle.fc_tree.specs.Parts.{AreOwners, first_in, owner_of}
 use Rattle.fc_tree.proofs.MemberLemmas.{contains_here, contains_later, from_map, in_filter}
 use Rattle.fc_tree.proofs.WalkedLemmas.{same_some, root, root_path, root_and_held, root_is_directory, contained, child_path, holder-push, directories_listed}
 use Rattle.fc_tree.proofs.SoundLemmas.{root_object}
+use Rattle.fc_nodes.proofs.ListLemmas.{map_append}
 use Rattle.fc_nodes.specs.Edits.{Nodes, IsChild, OwnersFollow, OwnersEdited, owner_with, owners_with}
 use Rattle.fc_nodes.specs.Laws.{IsHeld, IsOwned, OwnerLaw}
 
@@ -24,13 +25,9 @@ use Rattle.fc_nodes.specs.Laws.{IsHeld, IsOwned, OwnerLaw}
 abbrev pub owners_among : Nodes → Layout → List Object → List Owner
 owners_among nodes layout objects = map (owner_of nodes layout) (filter has_sectors objects)
 
-map-append : {X Y : Type 0} (f : X → Y) (xs ys : List X) → map f (xs ++ ys) ≡ map f xs ++ map f ys
-map-append f [] ys = refl
-map-append {Y = Y} f (x ∷ xs) ys = ap (λ (zs : List Y). f x ∷ zs) (map-append f xs ys)
-
 pub among-append : (nodes : Nodes) (layout : Layout) (os ps : List Object) → owners_among nodes layout (os ++ ps) ≡ owners_among nodes layout os ++ owners_among nodes layout ps
 among-append nodes layout os ps =
-    ap (map (owner_of nodes layout)) (filter-append has_sectors os ps) ∙ map-append (owner_of nodes layout) (filter has_sectors os) (filter has_sectors ps)
+    ap (map (owner_of nodes layout)) (filter-append has_sectors os ps) ∙ map_append (owner_of nodes layout) (filter has_sectors os) (filter has_sectors ps)
 
 pub among_permuted : (nodes : Nodes) (layout : Layout) (os ps : List Object) → IsPermutation os ps → IsPermutation (owners_among nodes layout os) (owners_among nodes layout ps)
 among_permuted nodes layout os ps same =
@@ -152,3 +149,19 @@ pub owner_law : OwnerLaw
 owner_law nodes layout listings l i o dir number h child =
     let path = child_path layout listings h.sound l o child.listed (contained l.children i o child.at) in
     owner_known nodes layout layout o dir number (ap (number_of nodes) (ap holder path ∙ holder-push l.object.path o.entry.name) ∙ child.dir_is) child.number_is (λ low. refl)
+
+-- the same owner, if the layouts agree on it
+pub same_owner : (layout layout' : Layout) (dir number : ℕ) (o x : Object) → ((low : ℕ) → first_in layout' low ≡ first_in layout low) → x.entry.address ≡ o.entry.address
+    → is_directory_object x ≡ is_directory_object o → x.sectors ≡ o.sectors → owners_with layout' dir number x ≡ owners_with layout dir number o
+same_owner layout layout' dir number o x first address kind sectors i =
+    let from = first (low_of (address i)) in
+    let one : Owner = record {
+      id = id_of (address i);
+      dir = dir;
+      node = number;
+      file = not (kind i);
+      low = low_of (address i);
+      first = from i;
+      sectors = length (sectors i);
+    } in
+    cond (nat_lt 0 (length (sectors i))) (one ∷ []) []

@@ -13,28 +13,13 @@ use Rattle.fc_tree.specs.Parts.{first_in}
 use Rattle.fc_nodes.specs.Edits.{Nodes, IsReworded, IsReplaced, NodesFollow, OwnersFollow, OwnersEdited, owner_with, owners_with, relisted, as_before}
 use Rattle.fc_nodes.specs.Laws.{IsHeld, IsOwned, RewordedLaw, ReplacedLaw}
 use Rattle.fc_nodes.proofs.ListLemmas.{relisted_itself}
+use Rattle.fc_nodes.proofs.OwnerLemmas.{same_owner}
 use Rattle.fc_nodes.proofs.ChangedLemmas.{IsChange, after, now, follow_change, owners_change, owners_same}
 
 -- ---- other words
 
 word_change : (o : Object) (g : Object → Object) → IsRewording o.path g → IsChange o (g o) g
 word_change o g r = record { path = r.same_path o; name = r.name o; kind = r.kind o; paths = r.same_path; others = r.others }
-
--- the same owner, if the layouts agree on it
-same_owner : (layout layout' : Layout) (dir number : ℕ) (o x : Object) → ((low : ℕ) → first_in layout' low ≡ first_in layout low) → x.entry.address ≡ o.entry.address
-    → is_directory_object x ≡ is_directory_object o → x.sectors ≡ o.sectors → owners_with layout' dir number x ≡ owners_with layout dir number o
-same_owner layout layout' dir number o x first address kind sectors i =
-    let from = first (low_of (address i)) in
-    let one : Owner = record {
-      id = id_of (address i);
-      dir = dir;
-      node = number;
-      file = not (kind i);
-      low = low_of (address i);
-      first = from i;
-      sectors = length (sectors i);
-    } in
-    cond (nat_lt 0 (length (sectors i))) (one ∷ []) []
 
 reworded_nodes : (nodes nodes' : Nodes) (layout : Layout) (listings listings' rest : List Listing) (l : Listing) (content : Directory) (i : ℕ) (o : Object) (dir number : ℕ) (g : Object → Object)
     → IsHeld nodes layout listings → IsReworded nodes nodes' listings listings' rest l content i o dir number g → NodesFollow nodes' listings'

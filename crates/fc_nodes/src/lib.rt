@@ -1,7 +1,7 @@
 //! What edits of a volume's objects make of its numbered nodes and of its owners.
 #![tactic(auto)]
 
-ghost use Rattle.fc_nodes.specs.Laws.{AddedLaw, DirectoryAddedLaw, OwnerLaw, RemovedLaw, ReplacedLaw, RewordedLaw};
+ghost use Rattle.fc_nodes.specs.Laws.{AddedLaw, DirectoryAddedLaw, OwnerLaw, RemovedLaw, RenamedLaw, ReplacedLaw, RewordedLaw};
 
 /// An object of a directory is the owner that its numbers say.
 pub fn owners()
@@ -31,4 +31,9 @@ pub fn added()
 /// After `cdir` nodes and owners follow.
 pub fn directory_added()
     ensures { DirectoryAddedLaw }
+{}
+
+/// After `rename` within a directory nodes and owners follow.
+pub fn renamed()
+    ensures { RenamedLaw }
 {}
