@@ -12,3 +12,4 @@ pub mod RemovedLemmas
 pub mod AddedLemmas
 pub mod MovingLemmas
 pub mod RenamedLemmas
+pub mod TransferredLemmas

@@ -1,7 +1,7 @@
 //! What edits of a volume's objects make of its numbered nodes and of its owners.
 #![tactic(auto)]
 
-ghost use Rattle.fc_nodes.specs.Laws.{AddedLaw, DirectoryAddedLaw, OwnerLaw, RemovedLaw, RenamedLaw, ReplacedLaw, RewordedLaw};
+ghost use Rattle.fc_nodes.specs.Laws.{AddedLaw, DirectoryAddedLaw, OwnerLaw, RemovedLaw, RenamedLaw, ReplacedLaw, RewordedLaw, TransferredLaw};
 
 /// An object of a directory is the owner that its numbers say.
 pub fn owners()
@@ -36,4 +36,9 @@ pub fn directory_added()
 /// After `rename` within a directory nodes and owners follow.
 pub fn renamed()
     ensures { RenamedLaw }
+{}
+
+/// After `rename` to another directory nodes and owners follow.
+pub fn transferred()
+    ensures { TransferredLaw }
 {}
