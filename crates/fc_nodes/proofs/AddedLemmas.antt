@@ -1,5 +1,5 @@
 -- A file or an empty directory comes: what nodes and owners follow after `save`, `create` and `cdir`.
-use Rattle.std.proofs.Common.{◌≡◌, ◌⊎◌, inl, inr, ⊎_elim, ℕ, ◌+◌, Bool, true, false, List, [], ◌∷◌, ◌++◌, length, map, refl, sym, ap, subst, ◌∙◌, arith, Option, Some, None, insert, slice_get, length-append}
+use Rattle.std.proofs.Common.{◌≡◌, ⊎_elim, ℕ, ◌+◌, true, false, List, [], ◌∷◌, ◌++◌, length, refl, sym, ap, subst, ◌∙◌, arith, Option, Some, None, insert, length-append}
 use Rattle.std.specs.Prelude.{Contains, IsPermutation}
 use Rattle.std.specs.Option.{option_map}
 use Rattle.std.specs.FinMap.{get, len, insert as put}
@@ -14,7 +14,6 @@ use Rattle.fc_image.specs.Layout.{Layout}
 use Rattle.fc_image.specs.Walk.{Object, Listing, is_directory_object}
 use Rattle.fc_image.specs.Objects.{objects_of}
 use Rattle.fc_image.specs.Order.{held}
-use Rattle.fc_image.specs.Sound.{AreSound}
 use Rattle.fc_image.specs.InPlace.{says_now}
 use Rattle.fc_tree.specs.declared.node.Body.{Body}
 use Rattle.fc_tree.specs.declared.node.Body.TheVariants as bodies
@@ -31,7 +30,7 @@ use Rattle.fc_nodes.proofs.FitsLemmas.{ChildFits, DirectoryFits, apart, fits, no
 use Rattle.fc_nodes.proofs.ListLemmas.{put_at, either, in_first, map_fixed, to_front}
 use Rattle.fc_nodes.proofs.FollowLemmas.{AllFit, follow}
 use Rattle.fc_nodes.proofs.OtherLemmas.{here_in, others_in, other_number, fits_here, not_file, fresh, objects_count, all_objects, top_object, root_at}
-use Rattle.fc_nodes.proofs.KeptLemmas.{OneHeld, apart_after, way_kept, child_kept}
+use Rattle.fc_nodes.proofs.KeptLemmas.{apart_after, way_kept, child_kept}
 use Rattle.fc_nodes.proofs.OwnerLemmas.{owners_among, among_one, owners_edited, found_objects, owner_known, keeps_way}
 
 -- An object gets a free number and a place in directory l, under a name that no entry there has.

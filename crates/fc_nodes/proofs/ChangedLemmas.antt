@@ -1,18 +1,17 @@
 -- One object of a directory has another entry of the same name, and its path: the nodes after `set`, `mark`, and a file over a file.
-use Rattle.std.proofs.Common.{◌≡◌, ◌⊎◌, inl, inr, ⊎_elim, ℕ, ◌+◌, Bool, true, false, List, [], ◌∷◌, ◌++◌, length, map, refl, sym, ap, subst, ◌∙◌, arith, Option, Some, None, remove, slice_get, length-append}
+use Rattle.std.proofs.Common.{◌≡◌, ◌⊎◌, inl, inr, ⊎_elim, ℕ, ◌+◌, false, List, [], ◌∷◌, ◌++◌, length, map, refl, sym, ap, subst, ◌∙◌, arith, Some, remove, length-append}
 use Rattle.std.specs.Prelude.{Contains, IsPermutation, slice_set}
 use Rattle.std.specs.FinMap.{len}
 use Rattle.std.proofs.lemmas.Bool.{cases_eq}
 use Rattle.std.proofs.lemmas.List.Sorted.{IsPermutation-trans, length_permutation}
 use Rattle.fc_names.specs.Names.{Path, folded, is_same_path}
 use Rattle.fc_dirs.specs.declared.Entry.{Entry}
-use Rattle.fc_dirs.specs.Directory.{Directory, entries_of}
+use Rattle.fc_dirs.specs.Directory.{Directory}
 use Rattle.fc_image.specs.Layout.{Layout}
 use Rattle.fc_image.specs.Walk.{Object, Listing, is_directory_object}
 use Rattle.fc_image.specs.Objects.{objects_of}
 use Rattle.fc_image.specs.Order.{held}
 use Rattle.fc_image.specs.InPlace.{says_now}
-use Rattle.fc_tree.specs.declared.node.Body.{Body}
 use Rattle.fc_tree.specs.declared.node.Body.TheVariants as bodies
 use Rattle.fc_tree.specs.Nodes.{number_of, body_in}
 use Rattle.fc_tree.proofs.MemberLemmas.{from_map, contains_cases, contains_later}
@@ -23,13 +22,13 @@ use Rattle.fc_image.specs.Sound.{AreSound}
 use Rattle.fc_nodes.specs.Edits.{Nodes, IsChild, with_body, with_entry, relisted, as_before, NodesFollow, OwnersFollow, OwnersEdited, owners_with}
 use Rattle.fc_nodes.specs.Laws.{IsHeld, IsOwned}
 use Rattle.fc_nodes.proofs.ShapeLemmas.{held_as, says_at, body_held, body_said, body_other, entry_said, entry_held, entry_other, edited_length}
-use Rattle.fc_nodes.proofs.WaysLemmas.{AreApart, Step}
-use Rattle.fc_nodes.proofs.FitsLemmas.{ChildFits, DirectoryFits, apart, fits, fits_at, kid_at}
+use Rattle.fc_nodes.proofs.WaysLemmas.{AreApart}
+use Rattle.fc_nodes.proofs.FitsLemmas.{ChildFits, DirectoryFits, apart, fits}
 use Rattle.fc_nodes.proofs.ListLemmas.{cut_at, set_at, either, in_first, to_front, map_fixed, held_relisted, held_fixed}
 use Rattle.fc_nodes.proofs.OwnerLemmas.{owners_among, among-append, among_permuted, among_one, owners_edited, found_objects, owner_known, owner_law, keeps_way}
 use Rattle.fc_nodes.proofs.FollowLemmas.{AllFit, follow}
 use Rattle.fc_nodes.proofs.OtherLemmas.{unlike, here_in, others_in, other_number, fits_here, not_file, left_in, left_other, rest_other, number_lower, kid_fits, objects_count, top_object, left_objects, objects_cut}
-use Rattle.fc_nodes.proofs.KeptLemmas.{OneHeld, apart_after, StillHeld, way_kept, child_kept}
+use Rattle.fc_nodes.proofs.KeptLemmas.{apart_after, StillHeld, way_kept, child_kept}
 
 -- what replaces object o, and what becomes of all others
 pub record IsChange (o x : Object) (g : Object → Object) : Type 0 where
@@ -149,9 +148,11 @@ module _ (nodes : Nodes) (layout : Layout) (listings rest : List Listing) (l : L
               (let q = from_map g k.children p kid in
               let c = f.1.kids q.0 q.1 in
               let other = rest_other layout listings nodes h.sound h.held l rest found dir child.dir_is i o child.at number child.number_is k q.0 c.0 at q.1 c.1.at in
-              let same : q.0 ≡ p = sym (unchanged q.0 c.0 c.1.at other) ∙ q.2 in
-              (c.0, subst (λ (path : Path). ChildFits after f.0 path c.0 p) (sym (change.paths k.object))
-              (subst (ChildFits after f.0 k.object.path c.0) same (beside f.0 c.0 k.object.path q.0 c.1 other))));
+              let same : q.0 ≡ p = sym (unchanged q.0 c.0 c.1.at other) ∙ q.2 in (
+                c.0,
+                subst (λ (path : Path). ChildFits after f.0 path c.0 p) (sym (change.paths k.object))
+                    (subst (ChildFits after f.0 k.object.path c.0) same (beside f.0 c.0 k.object.path q.0 c.1 other)),
+              ));
         },
       )
 

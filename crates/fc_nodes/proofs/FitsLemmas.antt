@@ -1,21 +1,19 @@
 -- Nodes that fit directories and what they hold: so do nodes that hold the objects of a sound walk.
-use Rattle.std.proofs.Common.{◌≡◌, ◌⊎◌, ⊎_elim, ℕ, ◌+◌, Bool, true, false, List, [], ◌∷◌, ◌++◌, length, refl, sym, ap, ap₂, subst, ◌∙◌, Option, Some, None, nat_cmp, unwrap_or}
+use Rattle.std.proofs.Common.{◌≡◌, ⊎_elim, ℕ, false, List, [], ◌∷◌, ◌++◌, length, refl, sym, ap, ap₂, subst, ◌∙◌, Some}
 use Rattle.std.specs.Prelude.{Contains}
-use Rattle.std.specs.Option.{option_map, option_map_or}
+use Rattle.std.specs.Option.{option_map}
 use Rattle.std.specs.FinMap.{get}
-use Rattle.fc_names.specs.Names.{Path, folded, folded_path, is_same_path}
+use Rattle.fc_names.specs.Names.{Path, folded, folded_path}
 use Rattle.fc_model.specs.Tree.{holder}
 use Rattle.fc_dirs.specs.declared.Entry.{Entry}
 use Rattle.fc_image.specs.Layout.{Layout}
 use Rattle.fc_image.specs.Walk.{Object, Listing, is_directory_object}
-use Rattle.fc_image.specs.Objects.{objects_of, listing_at}
+use Rattle.fc_image.specs.Objects.{objects_of}
 use Rattle.fc_image.specs.Sound.{AreSound}
 use Rattle.fc_image.proofs.PathsLemmas.{itself}
-use Rattle.fc_tree.specs.declared.node.Body.{Body}
 use Rattle.fc_tree.specs.declared.node.Body.TheVariants as bodies
-use Rattle.fc_tree.specs.declared.node.Node.{Node}
-use Rattle.fc_tree.specs.Nodes.{number_of, body_in, body_of, HasNode, HoldObjects}
-use Rattle.fc_tree.proofs.WalkedLemmas.{same_some, root, root_path, child_path, child_is_object, listed_directory, listing_found, no_listing, holder-push}
+use Rattle.fc_tree.specs.Nodes.{number_of, body_in, body_of, HoldObjects}
+use Rattle.fc_tree.proofs.WalkedLemmas.{same_some, root_path, child_path, child_is_object, listed_directory, listing_found, no_listing, holder-push}
 use Rattle.fc_tree.proofs.SoundLemmas.{same_by_folds, fold_pushed, root_or_child, same_object, same_listing}
 use Rattle.fc_tree.proofs.PlaceLemmas.{one_path, same_number}
 use Rattle.fc_tree.proofs.FindLemmas.{object_of_number}

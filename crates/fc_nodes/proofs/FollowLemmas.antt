@@ -1,12 +1,11 @@
 -- Nodes that fit listings follow them: each walk that finds them finds the objects that the nodes hold.
-use Rattle.std.proofs.Common.{◌≡◌, ◌⊎◌, ⊎_elim, ℕ, ◌+◌, Bool, true, false, List, [], ◌∷◌, ◌++◌, length, map, filter, flat_map, refl, sym, ap, subst, ◌∙◌, arith, Option, Some, None, nat_cmp, unwrap_or}
+use Rattle.std.proofs.Common.{◌≡◌, ⊎_elim, ℕ, ◌+◌, Bool, true, false, List, [], length, refl, sym, ap, subst, ◌∙◌, arith, Option, Some, None}
 use Rattle.std.specs.Prelude.{Contains, IsPermutation, Ok}
 use Rattle.std.specs.Option.{option_map, option_and_then}
 use Rattle.std.specs.FinMap.{get, len}
 use Rattle.std.proofs.lemmas.List.Sorted.{IsPermutation-sym, Contains-permutation, length_permutation}
 use Rattle.fc_names.specs.Names.{Path}
 use Rattle.fc_model.specs.Tree.{holder}
-use Rattle.fc_dirs.specs.declared.Entry.{Entry}
 use Rattle.fc_dirs.specs.Directory.{Directory}
 use Rattle.fc_image.specs.Layout.{Layout}
 use Rattle.fc_image.specs.Walk.{Object, Listing, is_directory_object}
@@ -14,7 +13,6 @@ use Rattle.fc_image.specs.Objects.{objects_of, listing_at}
 use Rattle.fc_image.specs.Order.{held}
 use Rattle.fc_image.specs.Sound.{AreSound}
 use Rattle.fc_image.proofs.ShuffleLemmas.{IsPermutation-flat_map}
-use Rattle.fc_tree.specs.declared.node.Body.{Body}
 use Rattle.fc_tree.specs.declared.node.Body.TheVariants as bodies
 use Rattle.fc_tree.specs.declared.node.Node.{Node}
 use Rattle.fc_tree.specs.Nodes.{number_of, body_in, body_of, HasNode, HoldObjects}
@@ -23,8 +21,8 @@ use Rattle.fc_tree.proofs.MemberLemmas.{from_map, in_filter}
 use Rattle.fc_tree.proofs.WalkedLemmas.{same_some, root, root_path, root_and_held, root_is_directory, child_path, listing_found, no_listing, holder-push, directories_listed}
 use Rattle.fc_tree.proofs.SoundLemmas.{root_or_child, root_object}
 use Rattle.fc_nodes.specs.Edits.{Nodes, NodesFollow}
-use Rattle.fc_nodes.proofs.ShapeLemmas.{held_as, says_at, node_there, said}
-use Rattle.fc_nodes.proofs.FitsLemmas.{ChildFits, DirectoryFits}
+use Rattle.fc_nodes.proofs.ShapeLemmas.{says_at, node_there, said}
+use Rattle.fc_nodes.proofs.FitsLemmas.{DirectoryFits}
 
 -- Each listed directory fits.
 abbrev pub AllFit : Nodes → List Listing → Type 0

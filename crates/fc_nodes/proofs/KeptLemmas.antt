@@ -1,12 +1,11 @@
 -- What an edit of nodes leaves: names that are apart, and paths that lead to the same numbers.
-use Rattle.std.proofs.Common.{◌≡◌, ◌⊎◌, inl, inr, ⊎_elim, ℕ, ◌+◌, Bool, true, false, List, [], ◌∷◌, ◌++◌, refl, sym, ap, subst, ◌∙◌, Option, Some, None}
+use Rattle.std.proofs.Common.{◌≡◌, ◌⊎◌, inl, inr, ℕ, List, [], ◌∷◌, ◌++◌, refl, sym, ap, ◌∙◌, Some}
 use Rattle.std.proofs.lemmas.Bool.{cases_eq}
 use Rattle.fc_names.specs.Names.{Path, folded}
 use Rattle.fc_dirs.specs.declared.Entry.{Entry}
-use Rattle.fc_image.specs.Walk.{Object, Listing, is_directory_object}
+use Rattle.fc_image.specs.Walk.{Object, is_directory_object}
 use Rattle.fc_tree.specs.declared.node.Body.TheVariants as bodies
 use Rattle.fc_tree.specs.Nodes.{number_of}
-use Rattle.fc_tree.proofs.WalkedLemmas.{same_some}
 use Rattle.fc_nodes.specs.Edits.{Nodes}
 use Rattle.fc_nodes.proofs.ShapeLemmas.{held_as, says_at}
 use Rattle.fc_nodes.proofs.WaysLemmas.{AreApart, Step, stands_held, pushed, way}

@@ -1,7 +1,6 @@
 -- An object gets another path, with all that is below it: no node gets another number.
-use Rattle.std.proofs.Common.{◌≡◌, ◌<◌, ◌≤◌, ◌⊎◌, inl, inr, ⊎_elim, ℕ, zero, suc, ◌+◌, Bool, true, false, cond, List, [], ◌∷◌, ◌++◌, length, map, drop, take_all, refl, sym, ap, subst, ◌∙◌, arith, append-nil, append_assoc, Option, Some, None}
-use Rattle.std.specs.Prelude.{Contains, IsPermutation}
-use Rattle.std.specs.Option.{option_map}
+use Rattle.std.proofs.Common.{◌≡◌, ◌<◌, ◌≤◌, ◌⊎◌, inl, inr, ⊎_elim, ℕ, zero, suc, Bool, true, false, cond, List, [], ◌∷◌, ◌++◌, length, map, drop, take_all, refl, sym, ap, subst, ◌∙◌, arith, append-nil, append_assoc, Some}
+use Rattle.std.specs.Prelude.{Contains}
 use Rattle.std.proofs.lemmas.Bool.{cases_eq}
 use Rattle.fc_names.specs.Names.{Path, folded, folded_path, is_same_path}
 use Rattle.fc_model.specs.Tree.{holder, is_prefix, last_name}
@@ -10,7 +9,7 @@ use Rattle.fc_dirs.specs.Directory.{Directory}
 use Rattle.fc_image.specs.Layout.{Layout}
 use Rattle.fc_image.specs.Walk.{Object, Listing, is_directory_object}
 use Rattle.fc_image.specs.Objects.{objects_of}
-use Rattle.fc_image.specs.Commanded.{moved_path, moved_name}
+use Rattle.fc_image.specs.Commanded.{moved_path}
 use Rattle.fc_image.specs.EditedWalk.{moved_object}
 use Rattle.fc_image.proofs.CommandLemmas.{is_prefix_of, other_path}
 use Rattle.fc_image.proofs.RelistLemmas.{folded_long, prefix_long, prefix_step, root_path_stays}
@@ -20,16 +19,16 @@ use Rattle.fc_tree.specs.declared.node.Body.TheVariants as bodies
 use Rattle.fc_tree.specs.Nodes.{number_of, body_in}
 use Rattle.fc_tree.specs.Parts.{first_in}
 use Rattle.fc_tree.proofs.MemberLemmas.{from_map}
-use Rattle.fc_tree.proofs.WalkedLemmas.{same_some, root, root_path, listed_directory, child_path, child_is_object, holder-push}
+use Rattle.fc_tree.proofs.WalkedLemmas.{same_some, root, root_path, listed_directory, child_path, holder-push}
 use Rattle.fc_tree.proofs.SoundLemmas.{folds_alike, same_by_folds, root_or_child, root_object}
-use Rattle.fc_tree.proofs.PlaceLemmas.{one_path, same_number}
-use Rattle.fc_nodes.specs.Edits.{Nodes, relisted, as_moved}
+use Rattle.fc_tree.proofs.PlaceLemmas.{one_path}
+use Rattle.fc_nodes.specs.Edits.{Nodes, as_moved}
 use Rattle.fc_nodes.specs.Laws.{IsHeld}
 use Rattle.fc_nodes.proofs.ShapeLemmas.{held_as, says_at}
 use Rattle.fc_nodes.proofs.WaysLemmas.{AreApart, Step, stands_held, pushed, way}
 use Rattle.fc_nodes.proofs.FitsLemmas.{ChildFits, DirectoryFits, apart, fits, fits_at, one_number}
-use Rattle.fc_nodes.proofs.OtherLemmas.{unlike, no_file, top_object}
-use Rattle.fc_nodes.proofs.KeptLemmas.{OneHeld, apart_after, way_kept, child_kept}
+use Rattle.fc_nodes.proofs.OtherLemmas.{unlike, no_file}
+use Rattle.fc_nodes.proofs.KeptLemmas.{apart_after, way_kept, child_kept}
 use Rattle.fc_nodes.proofs.OwnerLemmas.{KeepsOwner, keeps_owner}
 
 -- ---- moved paths

@@ -1,7 +1,7 @@
 -- What stands beside one directory of a sound walk, and beside one object in it, has other numbers.
-use Rattle.std.proofs.Common.{◌≡◌, ◌<◌, ◌≤◌, ◌⊎◌, ⊎_elim, ℕ, zero, suc, ◌+◌, Bool, true, false, cond, List, [], ◌∷◌, ◌++◌, length, map, flat_map, refl, sym, ap, subst, ◌∙◌, arith, Option, Some, None, insert, remove, slice_get, find, is_some}
+use Rattle.std.proofs.Common.{◌≡◌, ◌≤◌, ⊎_elim, ℕ, ◌+◌, Bool, true, false, cond, List, [], ◌∷◌, ◌++◌, length, map, refl, sym, ap, subst, ◌∙◌, arith, Option, Some, None, remove, slice_get, find, is_some}
 use Rattle.std.specs.Prelude.{Contains, IsPermutation}
-use Rattle.std.proofs.lemmas.List.Sorted.{IsPermutation-refl, IsPermutation-trans, IsPermutation-sym, IsPermutation-cons, IsPermutation-middle, IsPermutation-append_left, Contains-permutation, length_permutation}
+use Rattle.std.proofs.lemmas.List.Sorted.{IsPermutation-trans, IsPermutation-cons, length_permutation}
 use Rattle.std.specs.FinMap.{len}
 use Rattle.std.proofs.lemmas.List.Elements.{Contains-append_left, Contains-append_right}
 use Rattle.fc_names.specs.Names.{Path, folded, folded_path, is_same_name, is_same_path}
@@ -9,23 +9,23 @@ use Rattle.fc_dirs.specs.declared.Entry.{Entry}
 use Rattle.fc_dirs.specs.Entries.{has_name}
 use Rattle.fc_dirs.specs.Directory.{Directory, entries_of}
 use Rattle.fc_image.specs.Layout.{Layout}
-use Rattle.fc_image.specs.Walk.{Object, Listing, is_directory_object}
+use Rattle.fc_image.specs.Walk.{Object, Listing}
 use Rattle.fc_image.specs.Objects.{objects_of}
 use Rattle.fc_image.specs.Order.{held}
 use Rattle.fc_image.specs.Sound.{AreSound}
-use Rattle.fc_image.proofs.PathsLemmas.{many, many-append, is_at, itself, unless, listed_few}
-use Rattle.fc_image.proofs.ShuffleLemmas.{IsPermutation-flat_map, same_lists}
+use Rattle.fc_image.proofs.PathsLemmas.{many, is_at, itself, unless, listed_few}
+use Rattle.fc_image.proofs.ShuffleLemmas.{IsPermutation-flat_map}
 use Rattle.fc_image.proofs.RelistLemmas.{folded_long}
 use Rattle.std.proofs.lemmas.List.{length_push}
 use Rattle.fc_tree.specs.declared.node.Body.TheVariants as bodies
 use Rattle.fc_tree.specs.Nodes.{number_of, body_in, HoldObjects}
 use Rattle.fc_tree.proofs.MemberLemmas.{no_element, contains_cases, contains_here, contains_later, in_map, some_many, many_permuted}
-use Rattle.fc_tree.proofs.WalkedLemmas.{same_some, root, root_path, root_and_held, given, few_objects, child_path, child_is_object, listed_directory}
+use Rattle.fc_tree.proofs.WalkedLemmas.{same_some, root, root_path, root_and_held, given, few_objects, child_path}
 use Rattle.fc_tree.proofs.SoundLemmas.{root_object, folds_alike, same_by_folds, children_stored}
 use Rattle.fc_tree.proofs.PlaceLemmas.{one_path, same_number}
 use Rattle.fc_nodes.specs.Edits.{Nodes}
 use Rattle.fc_nodes.proofs.ShapeLemmas.{held_as, says_at}
-use Rattle.fc_nodes.proofs.WaysLemmas.{AreApart, not_missed, folds_same}
+use Rattle.fc_nodes.proofs.WaysLemmas.{not_missed, folds_same}
 use Rattle.fc_nodes.proofs.ListLemmas.{cut_at, to_front, in_first, either, map_remove}
 use Rattle.fc_nodes.proofs.FitsLemmas.{ChildFits, DirectoryFits, one_number, one_directory, fits_at, kid_at, kid_lower, holds}
 

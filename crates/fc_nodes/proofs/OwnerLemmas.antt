@@ -1,25 +1,24 @@
 -- Owners, where objects go and come and the others keep their numbers.
-use Rattle.std.proofs.Common.{◌≡◌, ◌⊎◌, inl, inr, ⊎_elim, ℕ, ◌+◌, Bool, true, false, cond, not, List, [], ◌∷◌, ◌++◌, length, map, filter, refl, sym, ap, subst, ◌∙◌, Option, Some, None, unwrap_or}
+use Rattle.std.proofs.Common.{◌≡◌, ℕ, Bool, true, false, cond, not, List, [], ◌∷◌, ◌++◌, length, map, filter, refl, sym, ap, subst, ◌∙◌, Option, Some, unwrap_or}
 use Rattle.std.specs.Prelude.{Contains, IsPermutation, nat_lt}
-use Rattle.std.proofs.lemmas.List.Sorted.{IsPermutation-refl, IsPermutation-trans, IsPermutation-sym, IsPermutation-cons, IsPermutation-map, IsPermutation-append_left, IsPermutation-append_right, Contains-permutation}
-use Rattle.fc_names.specs.Names.{Path, is_same_path}
+use Rattle.std.proofs.lemmas.List.Sorted.{IsPermutation-trans, IsPermutation-sym, IsPermutation-cons, IsPermutation-map, IsPermutation-append_right, Contains-permutation}
+use Rattle.fc_names.specs.Names.{Path}
 use Rattle.fc_model.specs.Tree.{holder}
-use Rattle.fc_dirs.specs.declared.Entry.{Entry}
 use Rattle.fc_alloc.specs.declared.owner.Owner.{Owner}
 use Rattle.fc_image.specs.Layout.{Layout, id_of, low_of}
 use Rattle.fc_image.specs.Walk.{Object, Listing, is_directory_object}
 use Rattle.fc_image.specs.Objects.{objects_of, has_sectors}
-use Rattle.fc_image.specs.Order.{held, listed}
+use Rattle.fc_image.specs.Order.{held}
 use Rattle.fc_image.specs.Sound.{AreSound}
 use Rattle.fc_image.proofs.ShuffleLemmas.{IsPermutation-filter, IsPermutation-flat_map, filter-append, IsPermutation-unappend}
 use Rattle.fc_tree.specs.Nodes.{number_of, HoldObjects}
 use Rattle.fc_tree.specs.Parts.{AreOwners, first_in, owner_of}
 use Rattle.fc_tree.proofs.MemberLemmas.{contains_here, contains_later, from_map, in_filter}
-use Rattle.fc_tree.proofs.WalkedLemmas.{same_some, root, root_path, root_and_held, root_is_directory, contained, child_path, holder-push, directories_listed}
+use Rattle.fc_tree.proofs.WalkedLemmas.{root, root_path, root_and_held, root_is_directory, contained, child_path, holder-push, directories_listed}
 use Rattle.fc_tree.proofs.SoundLemmas.{root_object}
 use Rattle.fc_nodes.proofs.ListLemmas.{map_append}
-use Rattle.fc_nodes.specs.Edits.{Nodes, IsChild, OwnersFollow, OwnersEdited, owner_with, owners_with}
-use Rattle.fc_nodes.specs.Laws.{IsHeld, IsOwned, OwnerLaw}
+use Rattle.fc_nodes.specs.Edits.{Nodes, OwnersEdited, owner_with, owners_with}
+use Rattle.fc_nodes.specs.Laws.{OwnerLaw}
 
 -- the owners among objects
 abbrev pub owners_among : Nodes → Layout → List Object → List Owner
@@ -117,14 +116,14 @@ keeps_owner nodes nodes' layout layout' o o' dir number above at above' at' sect
     record {
       sectors = sectors;
       owner = new ∙ (λ i. record {
-          id = id_of (address i);
-          dir = dir;
-          node = number;
-          file = not (kind i);
-          low = low_of (address i);
-          first = first_in layout (low_of (address i));
-          sectors = length (sectors i);
-        }) ∙ sym old;
+        id = id_of (address i);
+        dir = dir;
+        node = number;
+        file = not (kind i);
+        low = low_of (address i);
+        first = first_in layout (low_of (address i));
+        sectors = length (sectors i);
+      }) ∙ sym old;
     }
 
 -- an object whose paths lead as before

@@ -1,40 +1,38 @@
 -- A file or an empty directory goes: what nodes and owners follow after `delete`.
-use Rattle.std.proofs.Common.{◌≡◌, ◌⊎◌, inl, inr, ⊎_elim, ℕ, ◌+◌, Bool, true, false, List, [], ◌∷◌, ◌++◌, length, map, refl, sym, ap, subst, ◌∙◌, arith, Option, Some, None, remove, slice_get, length-append, append-nil}
+use Rattle.std.proofs.Common.{◌≡◌, ⊎_elim, ℕ, ◌+◌, true, false, List, [], ◌∷◌, ◌++◌, length, refl, sym, ap, subst, ◌∙◌, arith, Option, Some, None, remove, length-append}
 use Rattle.std.specs.Prelude.{Contains, IsPermutation}
 use Rattle.std.specs.Option.{option_map}
 use Rattle.std.specs.FinMap.{len, remove as take}
 use Rattle.std.proofs.lemmas.Bool.{cases_eq}
 use Rattle.std.proofs.lemmas.List.Elements.{Contains-append_left, Contains-append_right}
 use Rattle.std.proofs.lemmas.List.Sorted.{IsPermutation-trans, IsPermutation-middle, length_permutation}
-use Rattle.fc_names.specs.Names.{Path, folded}
+use Rattle.fc_names.specs.Names.{Path}
 use Rattle.fc_model.specs.Tree.{holder}
 use Rattle.fc_dirs.specs.declared.Entry.{Entry}
-use Rattle.fc_dirs.specs.Directory.{Directory, entries_of}
+use Rattle.fc_dirs.specs.Directory.{Directory}
 use Rattle.fc_alloc.specs.declared.owner.Owner.{Owner}
 use Rattle.fc_image.specs.Layout.{Layout}
 use Rattle.fc_image.specs.Walk.{Object, Listing, is_directory_object}
 use Rattle.fc_image.specs.Objects.{objects_of}
 use Rattle.fc_image.specs.Order.{held}
-use Rattle.fc_image.specs.Sound.{AreSound}
 use Rattle.fc_image.specs.InPlace.{says_now}
 use Rattle.fc_tree.specs.declared.node.Body.TheVariants as bodies
-use Rattle.fc_tree.specs.declared.node.Node.{Node}
 use Rattle.fc_tree.specs.Parts.{first_in}
 use Rattle.fc_tree.specs.Nodes.{number_of, body_in}
 use Rattle.fc_tree.proofs.MemberLemmas.{contains_cases, contains_here, contains_later, no_element}
 use Rattle.fc_tree.proofs.WalkedLemmas.{same_some, root, root_path, listed_directory}
 use Rattle.fc_tree.proofs.SoundLemmas.{root_object}
 use Rattle.fc_changes.specs.Owed.{GoesAlone}
-use Rattle.fc_nodes.specs.Edits.{Nodes, IsChild, IsRemoved, with_body, NodesFollow, OwnersFollow, OwnersEdited, owners_with}
+use Rattle.fc_nodes.specs.Edits.{Nodes, IsChild, with_body, NodesFollow, OwnersFollow, OwnersEdited, owners_with}
 use Rattle.fc_nodes.specs.Laws.{IsHeld, IsOwned, RemovedLaw}
 use Rattle.fc_nodes.proofs.ShapeLemmas.{held_by, held_as, said, says_at, some_mapped, body_held, body_said, body_other, take_here, take_other, take_length, edited_length}
-use Rattle.fc_nodes.proofs.WaysLemmas.{AreApart, Step, stands_held}
+use Rattle.fc_nodes.proofs.WaysLemmas.{AreApart, stands_held}
 use Rattle.fc_nodes.proofs.FitsLemmas.{ChildFits, DirectoryFits, apart, fits, holds, one_number, one_directory}
 use Rattle.fc_nodes.proofs.ListLemmas.{cut_at, in_first, map_fixed}
 use Rattle.fc_nodes.proofs.FollowLemmas.{AllFit, follow}
-use Rattle.fc_nodes.proofs.OtherLemmas.{here_in, others_in, other_directory, other_number, fits_here, not_file, left_in, left_other, rest_other, number_lower, dir_lower, kid_in, kid_fits, objects_count, top_object, root_at, left_objects, objects_cut, other_object}
-use Rattle.fc_nodes.proofs.KeptLemmas.{OneHeld, apart_after, way_kept, child_kept}
-use Rattle.fc_nodes.proofs.OwnerLemmas.{owners_among, among_one, owners_edited, found_objects, owner_law, keeps_owner, KeepsOwner}
+use Rattle.fc_nodes.proofs.OtherLemmas.{here_in, others_in, other_directory, other_number, fits_here, not_file, left_in, left_other, rest_other, number_lower, dir_lower, kid_fits, objects_count, top_object, root_at, left_objects, objects_cut, other_object}
+use Rattle.fc_nodes.proofs.KeptLemmas.{apart_after, way_kept, child_kept}
+use Rattle.fc_nodes.proofs.OwnerLemmas.{among_one, owners_edited, found_objects, owner_law, keeps_owner, KeepsOwner}
 
 -- ---- what goes alone
 
@@ -155,9 +153,11 @@ module _ (nodes : Nodes) (layout : Layout) (listings out rest : List Listing) (l
         says = said_here;
         root = λ top. held_off 0 (λ e. lower (sym e)) ∙ was'.root top;
         kids = λ p left.
-            (let f = was'.kids p (left_in layout listings nodes h.sound h.held l (out ++ rest) cut dir child.dir_is i o child.at number child.number_is p left) in
-            (f.0, beside dir f.0 l.object.path p f.1
-            (left_other layout listings nodes h.sound h.held l (out ++ rest) cut dir child.dir_is i o child.at number child.number_is p f.0 left f.1.at)));
+            (let f = was'.kids p (left_in layout listings nodes h.sound h.held l (out ++ rest) cut dir child.dir_is i o child.at number child.number_is p left) in (
+              f.0,
+              beside dir f.0 l.object.path p f.1
+                  (left_other layout listings nodes h.sound h.held l (out ++ rest) cut dir child.dir_is i o child.at number child.number_is p f.0 left f.1.at),
+            ));
       }
 
   other_now : (k : Listing) → Contains rest k → (n : ℕ) × DirectoryFits after n k
@@ -171,9 +171,11 @@ module _ (nodes : Nodes) (layout : Layout) (listings out rest : List Listing) (l
               (other_number layout listings nodes h.sound h.held l (out ++ rest) cut dir child.dir_is k f.0 (Contains-append_right out rest k at) f.1.at) ∙ f.1.says;
           root = λ top. held_off 0 (λ e. lower (sym e)) ∙ f.1.root top;
           kids = λ p kid.
-              (let c = f.1.kids p kid in
-              (c.0, beside f.0 c.0 k.object.path p c.1
-              (rest_other layout listings nodes h.sound h.held l (out ++ rest) cut dir child.dir_is i o child.at number child.number_is k p c.0 (Contains-append_right out rest k at) kid c.1.at)));
+              (let c = f.1.kids p kid in (
+                c.0,
+                beside f.0 c.0 k.object.path p c.1
+                    (rest_other layout listings nodes h.sound h.held l (out ++ rest) cut dir child.dir_is i o child.at number child.number_is k p c.0 (Contains-append_right out rest k at) kid c.1.at),
+              ));
         },
       )
 

@@ -1,20 +1,17 @@
 -- `set` and `mark`, and a file over a file: what nodes and owners follow.
-use Rattle.std.proofs.Common.{◌≡◌, ℕ, Bool, false, cond, not, List, [], ◌∷◌, length, refl, sym, ap, subst, ◌∙◌, slice_get}
-use Rattle.std.specs.Prelude.{IsPermutation, nat_lt, slice_set}
-use Rattle.fc_names.specs.Names.{Path}
+use Rattle.std.proofs.Common.{◌≡◌, ℕ, false, List, ◌∷◌, refl, sym, ap, subst, ◌∙◌}
+use Rattle.std.specs.Prelude.{slice_set}
 use Rattle.fc_dirs.specs.Directory.{Directory}
 use Rattle.fc_alloc.specs.declared.owner.Owner.{Owner}
-use Rattle.fc_image.specs.Layout.{Layout, id_of, low_of}
+use Rattle.fc_image.specs.Layout.{Layout}
 use Rattle.fc_image.specs.Walk.{Object, Listing, is_directory_object}
-use Rattle.fc_image.specs.Objects.{has_sectors}
 use Rattle.fc_image.specs.InPlace.{says_now}
 use Rattle.fc_image.specs.Rewords.{IsRewording}
-use Rattle.fc_tree.specs.Parts.{first_in}
-use Rattle.fc_nodes.specs.Edits.{Nodes, IsReworded, IsReplaced, NodesFollow, OwnersFollow, OwnersEdited, owner_with, owners_with, relisted, as_before}
+use Rattle.fc_nodes.specs.Edits.{Nodes, IsReworded, IsReplaced, NodesFollow, OwnersFollow, OwnersEdited, owners_with}
 use Rattle.fc_nodes.specs.Laws.{IsHeld, IsOwned, RewordedLaw, ReplacedLaw}
 use Rattle.fc_nodes.proofs.ListLemmas.{relisted_itself}
 use Rattle.fc_nodes.proofs.OwnerLemmas.{same_owner}
-use Rattle.fc_nodes.proofs.ChangedLemmas.{IsChange, after, now, follow_change, owners_change, owners_same}
+use Rattle.fc_nodes.proofs.ChangedLemmas.{IsChange, now, follow_change, owners_change, owners_same}
 
 -- ---- other words
 

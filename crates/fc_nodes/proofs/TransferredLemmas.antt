@@ -1,40 +1,37 @@
 -- `rename` to another directory: what nodes and owners follow.
-use Rattle.std.proofs.Common.{◌≡◌, ◌⊎◌, ⊎_elim, ℕ, ◌+◌, Bool, true, false, List, [], ◌∷◌, ◌++◌, length, map, refl, sym, ap, ap₂, subst, ◌∙◌, arith, Option, Some, None, insert, remove, slice_get, length-append}
+use Rattle.std.proofs.Common.{◌≡◌, ⊎_elim, ℕ, ◌+◌, true, false, List, [], ◌∷◌, ◌++◌, length, map, refl, sym, ap, ap₂, subst, ◌∙◌, arith, Some, insert, remove, length-append}
 use Rattle.std.specs.Prelude.{Contains, IsPermutation}
 use Rattle.std.specs.Option.{option_map}
 use Rattle.std.specs.FinMap.{get, len}
 use Rattle.std.proofs.lemmas.List.Sorted.{IsPermutation-trans, IsPermutation-cons, IsPermutation-middle, IsPermutation-append_left, IsPermutation-append_right, length_permutation}
-use Rattle.fc_names.specs.Names.{Path, folded, folded_path}
+use Rattle.fc_names.specs.Names.{Path, folded_path}
 use Rattle.fc_model.specs.Tree.{is_prefix}
 use Rattle.fc_dirs.specs.declared.Entry.{Entry}
 use Rattle.fc_dirs.specs.Entries.{has_name}
 use Rattle.fc_dirs.specs.Directory.{Directory, entries_of}
 use Rattle.fc_alloc.specs.declared.owner.Owner.{Owner}
 use Rattle.fc_image.specs.Layout.{Layout}
-use Rattle.fc_image.specs.Walk.{Object, Listing, is_directory_object}
+use Rattle.fc_image.specs.Walk.{Object, Listing}
 use Rattle.fc_image.specs.Objects.{objects_of}
 use Rattle.fc_image.specs.Order.{held}
-use Rattle.fc_image.specs.Sound.{AreSound}
 use Rattle.fc_image.specs.EditedWalk.{moved_object}
 use Rattle.fc_image.specs.InPlace.{says_now}
 use Rattle.fc_image.proofs.RenameLemmas.{holder_first}
 use Rattle.fc_image.proofs.CommandLemmas.{other_path}
 use Rattle.fc_tree.proofs.SoundLemmas.{same_by_folds}
 use Rattle.fc_tree.proofs.PlaceLemmas.{one_path}
-use Rattle.fc_tree.specs.declared.node.Body.{Body}
-use Rattle.fc_tree.specs.declared.node.Body.TheVariants as bodies
 use Rattle.fc_tree.specs.declared.node.Node.{Node}
 use Rattle.fc_tree.specs.Nodes.{number_of, body_in}
 use Rattle.fc_tree.proofs.MemberLemmas.{from_map, contains_cases, contains_here, contains_later}
-use Rattle.fc_tree.proofs.WalkedLemmas.{same_some, root, listed_directory}
-use Rattle.fc_nodes.specs.Edits.{Nodes, IsChild, IsTransferred, with_body, with_entry, with_holder, with_own_body, relisted, as_moved, NodesFollow, OwnersFollow, OwnersEdited, owners_with}
+use Rattle.fc_tree.proofs.WalkedLemmas.{root, listed_directory}
+use Rattle.fc_nodes.specs.Edits.{Nodes, IsChild, with_body, with_entry, with_holder, with_own_body, relisted, as_moved, NodesFollow, OwnersFollow, OwnersEdited, owners_with}
 use Rattle.fc_nodes.specs.Laws.{IsHeld, IsOwned, TransferredLaw}
 use Rattle.fc_nodes.proofs.ShapeLemmas.{held_by, held_as, said, says_at, some_mapped, body_held, body_said, body_other, entry_said, entry_held, entry_other, holder_said, holder_held, holder_other, own_held, own_other, own_said, own_file, own_length, edited_length}
 use Rattle.fc_nodes.proofs.FitsLemmas.{ChildFits, DirectoryFits, fits}
 use Rattle.fc_nodes.proofs.ListLemmas.{cut_at, put_at, either, in_first, map_fixed, map_append, held_mapped, held_relisted}
 use Rattle.fc_nodes.proofs.FollowLemmas.{AllFit, follow}
-use Rattle.fc_nodes.proofs.OtherLemmas.{here_in, others_in, other_number, fits_here, left_in, left_other, rest_other, number_lower, dir_lower, kid_fits, unlike, objects_count, top_object, left_objects, objects_cut, other_object, fresh}
-use Rattle.fc_nodes.proofs.MovingLemmas.{IsMoving, moved, leads, child_stays, itself_fits, directory_moved, directory_stays, root_moved, top_fixed, fixed, keeps, above_own}
+use Rattle.fc_nodes.proofs.OtherLemmas.{here_in, others_in, other_number, fits_here, left_in, left_other, rest_other, number_lower, dir_lower, kid_fits, objects_count, top_object, left_objects, objects_cut, other_object, fresh}
+use Rattle.fc_nodes.proofs.MovingLemmas.{IsMoving, child_stays, itself_fits, directory_moved, directory_stays, root_moved, top_fixed, fixed, keeps, above_own}
 use Rattle.fc_nodes.proofs.OwnerLemmas.{owners_among, among_one, owners_edited, found_objects, owner_known, owner_law, same_owner}
 
 module _ (nodes : Nodes) (layout : Layout) (listings rest : List Listing) (k l : Listing) (k_content l_content : Directory) (i j : ℕ) (o : Object) (from_dir dir number : ℕ) (name : List ℕ)
@@ -154,9 +151,11 @@ module _ (nodes : Nodes) (layout : Layout) (listings rest : List Listing) (k l :
 
   k_kid_now : (p : Object) → Contains (remove k.children i) p → (n : ℕ) × ChildFits after from_dir k.object.path n p
   k_kid_now p left =
-      let f = k_fits.kids p (left_in layout listings nodes h.sound h.held k (l ∷ rest) found from_dir child.dir_is i o child.at number child.number_is p left) in
-      (f.0, child_stays nodes after layout listings k l from_dir dir o number name now moving from_dir f.0 k.object.path p f.1
-      (left_other layout listings nodes h.sound h.held k (l ∷ rest) found from_dir child.dir_is i o child.at number child.number_is p f.0 left f.1.at) k_beside)
+      let f = k_fits.kids p (left_in layout listings nodes h.sound h.held k (l ∷ rest) found from_dir child.dir_is i o child.at number child.number_is p left) in (
+        f.0,
+        child_stays nodes after layout listings k l from_dir dir o number name now moving from_dir f.0 k.object.path p f.1
+            (left_other layout listings nodes h.sound h.held k (l ∷ rest) found from_dir child.dir_is i o child.at number child.number_is p f.0 left f.1.at) k_beside,
+      )
 
   l_kid_now : (p : Object) → Contains (insert l.children j (g o)) p → (n : ℕ) × ChildFits after dir l.object.path n p
   l_kid_now p at =

@@ -1,10 +1,9 @@
 -- Where paths lead among nodes whose names are apart in each directory, before and after an edit.
-use Rattle.std.proofs.Common.{◌≡◌, ◌⊎◌, ⊎_elim, ℕ, zero, suc, ◌+◌, Bool, true, false, cond, not, List, [], ◌∷◌, ◌++◌, length, refl, sym, ap, subst, ◌∙◌, arith, Option, Some, None, nat_cmp, is_eq, eq-eqb, ne_eqb}
+use Rattle.std.proofs.Common.{◌≡◌, ⊎_elim, ℕ, zero, suc, Bool, true, false, cond, not, List, [], ◌∷◌, ◌++◌, length, refl, sym, ap, subst, ◌∙◌, arith, Option, Some, None, nat_cmp, is_eq, eq-eqb, ne_eqb}
 use Rattle.std.specs.Prelude.{Contains, ◌&&◌, ◌==◌, find}
 use Rattle.std.specs.Option.{option_map, option_map_or, option_and_then}
-use Rattle.std.specs.Cmp.{nat_cmp_total}
 use Rattle.std.specs.Cmp.Lexicographic.{slice_cmp}
-use Rattle.std.specs.FinMap.{FinMap, get, entries, get-entries, nat_cmp-IsAntisymmetric}
+use Rattle.std.specs.FinMap.{get, entries, get-entries, nat_cmp-IsAntisymmetric}
 use Rattle.fc_names.specs.Names.{Path, folded, is_same_name}
 use Rattle.fc_dirs.specs.declared.Entry.{Entry}
 use Rattle.fc_image.proofs.PathsLemmas.{cut}
@@ -13,7 +12,7 @@ use Rattle.fc_tree.specs.Nodes.{child, number_of}
 use Rattle.fc_tree.proofs.NumberLemmas.{number_from-push, own_name}
 use Rattle.fc_tree.proofs.MemberLemmas.{contains_cases, no_element}
 use Rattle.fc_tree.proofs.TreeLemmas.{value_is}
-use Rattle.fc_tree.proofs.PlaceLemmas.{Stands, LastStep, child_stands, last_step}
+use Rattle.fc_tree.proofs.PlaceLemmas.{Stands, child_stands, last_step}
 use Rattle.fc_nodes.specs.Edits.{Nodes}
 use Rattle.fc_nodes.proofs.ShapeLemmas.{held_by, held_as}
 
@@ -94,7 +93,7 @@ pub record Step (nodes : Nodes) (front : Path) (last : List ℕ) (dir n : ℕ) :
 module _ (nodes nodes' : Nodes) (turn : Path → Path) (Fine : Path → Type 0) (start : number_of nodes' (turn []) ≡ Some 0)
     (shorter : (front : Path) (last : List ℕ) (dir n : ℕ) → Step nodes front last dir n → Fine (front ++ last ∷ []) → Fine front)
     (step : (front : Path) (last : List ℕ) (dir n : ℕ) → Step nodes front last dir n → Fine (front ++ last ∷ []) → number_of nodes' (turn front) ≡ Some dir
-        → number_of nodes' (turn (front ++ last ∷ [])) ≡ Some n) where
+    → number_of nodes' (turn (front ++ last ∷ [])) ≡ Some n) where
   way_long : (long : ℕ) (path : Path) (n : ℕ) → length path ≡ long → number_of nodes path ≡ Some n → Fine path → number_of nodes' (turn path) ≡ Some n
   way_long long [] n e is fine = start ∙ is
   way_long zero (x ∷ path) n e is fine = absurd (omega arith)
