@@ -1,9 +1,9 @@
 -- Edits of a volume's objects: what they make of the listings, and what they make of the nodes.
-use Rattle.std.specs.Prelude.{◌≡◌, ℕ, not, true, false, List, [], ◌∷◌, ◌++◌, length, map, insert, remove, slice_get, slice_set, if◌then◌else◌, Option, Some, None, Ok, Contains, IsPermutation}
+use Rattle.std.specs.Prelude.{◌≡◌, ℕ, not, true, false, List, [], ◌∷◌, ◌++◌, length, map, insert, remove, slice_get, slice_set, if◌then◌else◌, Some, None, Ok, Contains, IsPermutation}
 use Rattle.std.specs.Option.{option_map_or}
 use Rattle.std.specs.Ordering.{nat_cmp}
 use Rattle.std.specs.FinMap.{FinMap, get, insert as put, remove as take}
-use Rattle.fc_names.specs.Names.{Path, is_same_path, folded_path}
+use Rattle.fc_names.specs.Names.{is_same_path, folded_path}
 use Rattle.fc_model.specs.Tree.{is_prefix}
 use Rattle.fc_dirs.specs.declared.Entry.{Entry}
 use Rattle.fc_dirs.specs.Entries.{has_name, without_entry}

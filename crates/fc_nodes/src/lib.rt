@@ -1,10 +1,44 @@
 //! What edits of a volume's objects make of its numbered nodes and of its owners.
 #![tactic(auto)]
 
-ghost use Rattle.std.specs.Prelude.{◌≡◌};
-ghost use Rattle.fc_nodes.specs.Edits.{Nodes};
+ghost use Rattle.fc_nodes.specs.Laws.{AddedLaw, DirectoryAddedLaw, OwnerLaw, RemovedLaw, RenamedLaw, ReplacedLaw, RewordedLaw, TransferredLaw};
 
-/// Placeholder.
-pub fn placeholder()
-    ensures { (nodes : Nodes) → nodes ≡ nodes }
+/// An object of a directory is the owner that its numbers say.
+pub fn owners()
+    ensures { OwnerLaw }
+{}
+
+/// After `set` and `mark` nodes and owners follow.
+pub fn reworded()
+    ensures { RewordedLaw }
+{}
+
+/// After a file is written over another nodes and owners follow.
+pub fn replaced()
+    ensures { ReplacedLaw }
+{}
+
+/// After `delete` nodes and owners follow.
+pub fn removed()
+    ensures { RemovedLaw }
+{}
+
+/// After `save` and `create` of a new file nodes and owners follow.
+pub fn added()
+    ensures { AddedLaw }
+{}
+
+/// After `cdir` nodes and owners follow.
+pub fn directory_added()
+    ensures { DirectoryAddedLaw }
+{}
+
+/// After `rename` within a directory nodes and owners follow.
+pub fn renamed()
+    ensures { RenamedLaw }
+{}
+
+/// After `rename` to another directory nodes and owners follow.
+pub fn transferred()
+    ensures { TransferredLaw }
 {}
