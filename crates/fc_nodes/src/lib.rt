@@ -1,6 +1,7 @@
 //! What edits of a volume's objects make of its numbered nodes and of its owners.
 #![tactic(auto)]
 
+ghost use Rattle.fc_nodes.specs.Rows.{NodeRows};
 ghost use Rattle.fc_nodes.specs.Laws.{AddedLaw, DirectoryAddedLaw, OwnerLaw, RemovedLaw, RenamedLaw, ReplacedLaw, RewordedLaw, TransferredLaw};
 
 /// An object of a directory is the owner that its numbers say.
@@ -41,4 +42,9 @@ pub fn renamed()
 /// After `rename` to another directory nodes and owners follow.
 pub fn transferred()
     ensures { TransferredLaw }
+{}
+
+/// A small tree whose directory is renamed, worked out.
+pub fn rows()
+    ensures { NodeRows }
 {}
