@@ -7,3 +7,5 @@ pub mod ChildLemmas
 pub mod NodeLemmas
 pub mod DeleteLemmas
 pub mod WalkLemmas
+pub mod HolderLemmas
+pub mod CdirLemmas

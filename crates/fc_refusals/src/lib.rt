@@ -2,12 +2,14 @@
 //! aren't. It needs neither disk nor memory.
 #![tactic(auto)]
 
+mod cdir;
 mod delete;
 mod names;
 mod places;
 mod set;
 mod target;
 
+pub use cdir::judge_cdir;
 pub use delete::judge_delete;
 pub use set::judge_set;
 pub use target::Target;
