@@ -9,3 +9,4 @@ pub mod DeleteLemmas
 pub mod WalkLemmas
 pub mod HolderLemmas
 pub mod CdirLemmas
+pub mod SaveLemmas

@@ -6,10 +6,12 @@ mod cdir;
 mod delete;
 mod names;
 mod places;
+mod save;
 mod set;
 mod target;
 
 pub use cdir::judge_cdir;
 pub use delete::judge_delete;
+pub use save::judge_save;
 pub use set::judge_set;
-pub use target::Target;
+pub use target::{Slot, Target};

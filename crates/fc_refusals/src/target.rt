@@ -8,3 +8,12 @@ pub struct Target {
     pub at: usize,
     pub node: u64,
 }
+
+/// Where `save` and `create` put a file.
+#[derive(Clone, Copy, Debug, PartialEq, Eq)]
+pub enum Slot {
+    /// A new entry of the directory of this node.
+    New(u64),
+    /// In the place of a file.
+    Over(Target),
+}
