@@ -10,3 +10,4 @@ pub mod WalkLemmas
 pub mod HolderLemmas
 pub mod CdirLemmas
 pub mod SaveLemmas
+pub mod AboveLemmas

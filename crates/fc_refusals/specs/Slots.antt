@@ -1,10 +1,15 @@
 -- Where files are put, and objects moved to, among the objects of a walk.
-use Rattle.std.specs.Prelude.{◌≡◌, ℕ, false, List}
+use Rattle.std.specs.Prelude.{◌≡◌, ◌<◌, ℕ, true, false, List, length, Some, Contains}
 use Rattle.std.specs.Ordering.{nat_cmp}
 use Rattle.std.specs.FinMap.{FinMap}
-use Rattle.fc_names.specs.Names.{Path}
-use Rattle.fc_image.specs.Walk.{Listing, is_directory_object}
+use Rattle.fc_names.specs.Names.{Path, is_same_name, is_same_path}
+use Rattle.fc_model.specs.Tree.{holder, last_name}
+use Rattle.fc_model.specs.Answer.{is_above}
+use Rattle.fc_image.specs.Walk.{Listing, Object, is_directory_object}
+use Rattle.fc_image.specs.Objects.{objects_of}
 use Rattle.fc_tree.specs.declared.node.Node.{Node}
+use Rattle.fc_tree.specs.Nodes.{number_of}
+use Rattle.fc_refusals.specs.declared.target.Renaming.{Renaming}
 use Rattle.fc_refusals.specs.declared.target.Slot.{Slot}
 use Rattle.fc_refusals.specs.declared.target.Target.{Target}
 use Rattle.fc_refusals.specs.Targets.{IsTarget, IsVacant}
@@ -18,3 +23,20 @@ pub record IsFile (nodes : FinMap nat_cmp Node) (listings : List Listing) (path 
 abbrev pub IsSlot : FinMap nat_cmp Node → List Listing → Path → Slot → Type 0
 IsSlot nodes listings path (Slot.New dir) = IsVacant nodes listings path dir
 IsSlot nodes listings path (Slot.Over target) = IsFile nodes listings path target
+
+-- Nothing but what is renamed is at the new path, and the node is that of the directory that holds it then, which isn't below
+-- what is renamed.
+pub record IsDestination (nodes : FinMap nat_cmp Node) (listings : List Listing) (from to : Path) (n : ℕ) : Type 0 where
+  pub listing : Listing
+  pub listed : Contains listings listing
+  pub above : is_same_path (holder to) listing.object.path ≡ true
+  pub holder_is : number_of nodes listing.object.path ≡ Some n
+  pub no_root : 0 < length to
+  pub free : (o : Object) → Contains (objects_of listings) o → is_same_path to o.path ≡ true → is_same_path from o.path ≡ true
+  pub named : (o : Object) → Contains listing.children o → is_same_name (last_name to) o.entry.name ≡ true → is_same_path from o.path ≡ true
+  pub not_into : is_above from to ≡ false
+
+-- what is renamed, and to where
+pub record IsRenaming (nodes : FinMap nat_cmp Node) (listings : List Listing) (from to : Path) (r : Renaming) : Type 0 where
+  pub target : IsTarget nodes listings from r.target
+  pub destination : IsDestination nodes listings from to r.holder

@@ -6,12 +6,14 @@ mod cdir;
 mod delete;
 mod names;
 mod places;
+mod rename;
 mod save;
 mod set;
 mod target;
 
 pub use cdir::judge_cdir;
 pub use delete::judge_delete;
+pub use rename::judge_rename;
 pub use save::judge_save;
 pub use set::judge_set;
-pub use target::{Slot, Target};
+pub use target::{Renaming, Slot, Target};

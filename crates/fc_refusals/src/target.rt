@@ -17,3 +17,10 @@ pub enum Slot {
     /// In the place of a file.
     Over(Target),
 }
+
+/// What `rename` does: which object gets another name, and the node of the directory that holds it then.
+#[derive(Clone, Copy, Debug, PartialEq, Eq)]
+pub struct Renaming {
+    pub target: Target,
+    pub holder: u64,
+}

@@ -1,0 +1,48 @@
+-- Which path is that of a directory above another.
+use Rattle.std.proofs.Common.{◌≡◌, ℕ, suc, Bool, true, false, not, ◌&&◌, List, [], ◌∷◌, length, take, refl, sym, ap, ap₂, ◌∙◌, arith}
+use Rattle.std.specs.Prelude.{◌==◌}
+use Rattle.std.specs.Str.{bytes_eq}
+use Rattle.std.specs.Cmp.Lexicographic.{bytes_decides}
+use Rattle.std.proofs.lemmas.Bool.Decides.{nat_tests}
+use Rattle.fc_names.specs.Names.{Path, folded, folded_path, is_same_name}
+use Rattle.fc_names.proofs.FoldOrder.{fold_law}
+use Rattle.fc_model.specs.Tree.{is_prefix}
+use Rattle.fc_model.specs.Answer.{is_above}
+
+-- names that are left to compare
+abbrev pub stands_above : Path → Path → Bool
+stands_above [] [] = false
+stands_above [] (y ∷ ys) = true
+stands_above (x ∷ xs) [] = false
+stands_above (x ∷ xs) (y ∷ ys) = is_same_name x y && stands_above xs ys
+
+same_name : (x y : List ℕ) → is_same_name x y ≡ bytes_eq (folded x) (folded y)
+same_name x y = by (is_same_name x y) refl (bytes_eq (folded x) (folded y)) refl
+  where
+    by : (a : Bool) → is_same_name x y ≡ a → (b : Bool) → bytes_eq (folded x) (folded y) ≡ b → a ≡ b
+    by true e true f = refl
+    by true e false f = absurd (let g = (bytes_decides (folded x) (folded y)).1 ((fold_law.folds x y).0 e) in cc)
+    by false e true f = absurd (let g = (fold_law.folds x y).1 ((bytes_decides (folded x) (folded y)).0 f) in cc)
+    by false e false f = refl
+
+long_one : {X : Type 0} (x : X) (xs : List X) → length (x ∷ xs) ≡ suc (length xs)
+long_one x xs = omega arith
+
+prefix_more : (a b : List ℕ) (p q : Path) → is_prefix (a ∷ p) (b ∷ q) ≡ (bytes_eq a b && is_prefix p q)
+prefix_more a b p q = ?
+
+same_longer : (x y : List ℕ) (p q : Path) → (length (x ∷ p) == length (y ∷ q)) ≡ (length p == length q)
+same_longer x y p q = ?
+
+and_assoc : (a b c : Bool) → ((a && b) && c) ≡ (a && (b && c))
+and_assoc true b c = refl
+and_assoc false b c = refl
+
+pub above_is : (p q : Path) → stands_above p q ≡ is_above p q
+above_is [] [] = refl
+above_is [] (y ∷ q) = ?
+above_is (x ∷ p) [] = ?
+above_is (x ∷ p) (y ∷ q) =
+    ap₂ (λ (a b : Bool). a && b) (same_name x y) (above_is p q)
+    ∙ sym (ap₂ (λ (a b : Bool). a && not b) (prefix_more (folded x) (folded y) (folded_path p) (folded_path q)) (same_longer x y p q)
+    ∙ and_assoc (bytes_eq (folded x) (folded y)) (is_prefix (folded_path p) (folded_path q)) (not (length p == length q)))
