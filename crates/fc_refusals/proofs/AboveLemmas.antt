@@ -1,5 +1,5 @@
 -- Which path is that of a directory above another.
-use Rattle.std.proofs.Common.{◌≡◌, ℕ, suc, Bool, true, false, not, ◌&&◌, List, [], ◌∷◌, length, take, refl, sym, ap, ap₂, ◌∙◌, arith}
+use Rattle.std.proofs.Common.{◌≡◌, ℕ, Bool, true, false, not, ◌&&◌, List, [], ◌∷◌, length, refl, sym, ap₂, ◌∙◌, arith}
 use Rattle.std.specs.Prelude.{◌==◌}
 use Rattle.std.specs.Str.{bytes_eq}
 use Rattle.std.specs.Cmp.Lexicographic.{bytes_decides}
@@ -25,14 +25,11 @@ same_name x y = by (is_same_name x y) refl (bytes_eq (folded x) (folded y)) refl
     by false e true f = absurd (let g = (fold_law.folds x y).1 ((bytes_decides (folded x) (folded y)).0 f) in cc)
     by false e false f = refl
 
-long_one : {X : Type 0} (x : X) (xs : List X) → length (x ∷ xs) ≡ suc (length xs)
-long_one x xs = omega arith
-
 prefix_more : (a b : List ℕ) (p q : Path) → is_prefix (a ∷ p) (b ∷ q) ≡ (bytes_eq a b && is_prefix p q)
-prefix_more a b p q = ?
+prefix_more a b p q = refl
 
 same_longer : (x y : List ℕ) (p q : Path) → (length (x ∷ p) == length (y ∷ q)) ≡ (length p == length q)
-same_longer x y p q = ?
+same_longer x y p q = grind (arith, nat_tests)
 
 and_assoc : (a b c : Bool) → ((a && b) && c) ≡ (a && (b && c))
 and_assoc true b c = refl
@@ -40,8 +37,8 @@ and_assoc false b c = refl
 
 pub above_is : (p q : Path) → stands_above p q ≡ is_above p q
 above_is [] [] = refl
-above_is [] (y ∷ q) = ?
-above_is (x ∷ p) [] = ?
+above_is [] (y ∷ q) = grind (arith, nat_tests)
+above_is (x ∷ p) [] = refl
 above_is (x ∷ p) (y ∷ q) =
     ap₂ (λ (a b : Bool). a && b) (same_name x y) (above_is p q)
     ∙ sym (ap₂ (λ (a b : Bool). a && not b) (prefix_more (folded x) (folded y) (folded_path p) (folded_path q)) (same_longer x y p q)

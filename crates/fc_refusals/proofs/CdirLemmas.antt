@@ -1,6 +1,6 @@
 -- Why `cdir` is refused, by what was found among the nodes.
-use Rattle.std.proofs.Common.{◌≡◌, ℕ, Bool, true, false, not, ◌||◌, List, [], ◌∷◌, refl, sym, ap, ap₂, ◌∙◌, Option, Some, None, is_some, nat_cmp}
-use Rattle.std.specs.Prelude.{Result, Ok}
+use Rattle.std.proofs.Common.{◌≡◌, ℕ, Bool, true, false, not, ◌||◌, List, [], ◌∷◌, refl, sym, ap, ◌∙◌, Option, Some, None, is_some, nat_cmp}
+use Rattle.std.specs.Prelude.{Ok}
 use Rattle.std.specs.FinMap.{FinMap}
 use Rattle.fc_names.specs.declared.name.NameForm.{NameForm}
 use Rattle.fc_names.specs.declared.refusal.Refusal.{Refusal}

@@ -1,6 +1,6 @@
 -- Why `delete` is refused, by what was found among the nodes.
 use Rattle.std.proofs.Common.{◌≡◌, ℕ, Bool, false, List, [], ◌∷◌, ap, refl, sym, subst, nat_cmp, Option, Some, None}
-use Rattle.std.specs.Prelude.{Result, Ok, IfOk}
+use Rattle.std.specs.Prelude.{Result, IfOk}
 use Rattle.std.specs.Option.{ok_or}
 use Rattle.std.specs.FinMap.{FinMap}
 use Rattle.fc_names.specs.declared.name.NameForm.{NameForm}
@@ -14,9 +14,9 @@ use Rattle.fc_image.specs.Layout.{Layout}
 use Rattle.fc_image.specs.Walk.{Listing}
 use Rattle.fc_image.specs.Sound.{AreSound}
 use Rattle.fc_tree.specs.declared.node.Node.{Node}
-use Rattle.fc_tree.specs.Nodes.{found_in, HoldObjects}
+use Rattle.fc_tree.specs.Nodes.{HoldObjects}
 use Rattle.fc_refusals.specs.declared.target.Target.{Target}
-use Rattle.fc_refusals.specs.Places.{has_entries_at, number_found, target_in}
+use Rattle.fc_refusals.specs.Places.{has_entries_at, target_in}
 use Rattle.fc_refusals.specs.Targets.{IsRemovable}
 use Rattle.fc_refusals.proofs.ReasonLemmas.{first, test}
 use Rattle.fc_refusals.proofs.NodeLemmas.{removable}

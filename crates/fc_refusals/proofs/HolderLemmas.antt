@@ -1,6 +1,6 @@
 -- The directory that holds what is at a path, and whether something is there.
-use Rattle.std.proofs.Common.{◌≡◌, ◌<◌, ℕ, Bool, true, false, not, ◌&&◌, ◌||◌, List, [], ◌∷◌, ◌++◌, length, refl, sym, ap, ap₂, subst, ◌∙◌, arith, eqb-true, Option, Some, None, nat_cmp, find, is_some, if◌then◌else◌}
-use Rattle.std.specs.Prelude.{Contains, Result, Ok, Err, slice_get}
+use Rattle.std.proofs.Common.{◌≡◌, ◌<◌, ℕ, Bool, true, false, ◌&&◌, List, [], ◌∷◌, ◌++◌, length, refl, sym, ap, ap₂, subst, ◌∙◌, arith, eqb-true, Option, Some, None, nat_cmp, is_some, if◌then◌else◌}
+use Rattle.std.specs.Prelude.{Contains, Result, Ok, Err}
 use Rattle.std.specs.FinMap.{FinMap}
 use Rattle.fc_names.specs.declared.refusal.Refusal.{Refusal}
 use Rattle.fc_names.specs.declared.refusal.Refusal.TheVariants as refusals
@@ -12,7 +12,7 @@ use Rattle.fc_dirs.specs.Entries.{has_name}
 use Rattle.fc_dirs.specs.Directory.{entries_of}
 use Rattle.fc_image.specs.Layout.{Layout}
 use Rattle.fc_image.specs.Walk.{Object, Listing, is_directory_object}
-use Rattle.fc_image.specs.Objects.{objects_of, object_at, tree_of, node_of}
+use Rattle.fc_image.specs.Objects.{objects_of, tree_of}
 use Rattle.fc_image.specs.Sound.{AreSound}
 use Rattle.fc_image.proofs.PathsLemmas.{cut, same_last, unless}
 use Rattle.fc_tree.specs.declared.node.Node.{Node}
@@ -162,7 +162,8 @@ module _ (layout : Layout) (listings : List Listing) (nodes : FinMap nat_cmp Nod
             let there = child_there n (sym e) in
             ap is_some (sym (node_of_object image layout listings sound path there.object there.among there.same))
 
-    never_there : None ≡ child nodes dir name → (p : Object) → Contains (objects_of listings) p → is_same_path path p.path ≡ true → ⊥
+    -- no object is at the path then
+    pub never_there : None ≡ child nodes dir name → (p : Object) → Contains (objects_of listings) p → is_same_path path p.path ≡ true → ⊥
     never_there e p at same = no_object [] layout listings path p (no_child [] e) at same
 
     -- a child of the listing with the name is at the path

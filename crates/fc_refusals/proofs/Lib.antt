@@ -11,3 +11,4 @@ pub mod HolderLemmas
 pub mod CdirLemmas
 pub mod SaveLemmas
 pub mod AboveLemmas
+pub mod RenameLemmas

@@ -1,6 +1,5 @@
 -- What the node says to which a path leads, told of the tree.
 use Rattle.std.proofs.Common.{◌≡◌, inl, inr, ℕ, Bool, true, false, false, List, [], ◌∷◌, length, map, nat_lt, refl, sym, ap, subst, ◌∙◌, Option, Some, None, nat_cmp, if◌then◌else◌}
-use Rattle.std.specs.Prelude.{Ok}
 use Rattle.std.specs.Option.{option_map_or}
 use Rattle.std.specs.FinMap.{FinMap, get}
 use Rattle.std.proofs.lemmas.List.{length-map}
@@ -10,7 +9,7 @@ use Rattle.fc_model.specs.Answer.{has_entries, is_directory_at, is_locked_at}
 use Rattle.fc_dirs.specs.declared.Entry.{Entry}
 use Rattle.fc_image.specs.Layout.{Layout}
 use Rattle.fc_image.specs.Walk.{Object, Listing, is_directory_object, object_bytes}
-use Rattle.fc_image.specs.Objects.{objects_of, listing_at, node_of, tree_of}
+use Rattle.fc_image.specs.Objects.{listing_at, node_of, tree_of}
 use Rattle.fc_image.specs.Sound.{AreSound}
 use Rattle.fc_tree.specs.declared.node.Node.{Node}
 use Rattle.fc_tree.specs.Nodes.{body_of, is_directory_node, HoldObjects}

@@ -1,6 +1,6 @@
 -- Why `save` and `create` are refused, by what was found among the nodes.
 use Rattle.std.proofs.Common.{◌≡◌, ℕ, Bool, true, false, List, [], ◌∷◌, refl, sym, ap, ◌∙◌, Option, Some, None, nat_cmp}
-use Rattle.std.specs.Prelude.{Result, Ok, Err}
+use Rattle.std.specs.Prelude.{Ok, Err}
 use Rattle.std.specs.Option.{option_map_or}
 use Rattle.std.specs.FinMap.{FinMap}
 use Rattle.fc_names.specs.declared.name.NameForm.{NameForm}
@@ -11,7 +11,7 @@ use Rattle.fc_model.specs.Command.{Command}
 use Rattle.fc_model.specs.Tree.{Node as ModelNode, Tree, holder, is_directory_body}
 use Rattle.fc_model.specs.Answer.{first_of, holder_refusal, is_directory_at, is_locked_at, is_name_bad, reasons, when}
 use Rattle.fc_image.specs.Layout.{Layout}
-use Rattle.fc_image.specs.Walk.{Object, Listing, is_directory_object}
+use Rattle.fc_image.specs.Walk.{Listing, is_directory_object}
 use Rattle.fc_image.specs.Objects.{tree_of}
 use Rattle.fc_image.specs.Sound.{AreSound}
 use Rattle.fc_tree.specs.declared.node.Node.{Node}

@@ -1,11 +1,10 @@
-use Rattle.std.proofs.Common.{rules, ◌≡◌, ◌∙◌, sym, refl, Some, None}
-use Rattle.std.specs.Prelude.{Ok, Err}
+use Rattle.std.proofs.Common.{rules, ◌≡◌, ◌∙◌, sym, refl, Some}
+use Rattle.std.specs.Prelude.{Err}
 use Rattle.fc_model.specs.Answer.{is_present}
 use Rattle.fc_image.specs.Objects.{tree_of}
 use Rattle.fc_tree.specs.Nodes.{nodes_of}
-use Rattle.fc_model.specs.Tree.{holder}
 use Rattle.fc_refusals.specs.Targets.{refusal_of}
-use Rattle.fc_refusals.proofs.HolderLemmas.{directory_there, holder_is, named, present_is, unnamed, vacant_is}
+use Rattle.fc_refusals.proofs.HolderLemmas.{holder_is, named, unnamed}
 use Rattle.fc_refusals.proofs.CdirLemmas.{cdir_found, cdir_refusal, name_good, root_refused, vacant_given}
 use Rattle.fc_refusals.proofs.cdir.judge_cdir.Goals as goal
 

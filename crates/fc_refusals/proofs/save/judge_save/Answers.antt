@@ -32,7 +32,7 @@ returns-in_default-child-clause-refusal c = λ image layout listings load exec l
     (e, e)
 
 pub returns-in_default-child-clause-slot : goal.returns-in_default-child-clause-slot
-returns-in_default-child-clause-slot c = 
+returns-in_default-child-clause-slot c =
     vacant_given (nodes_of c.args.tree.now) c.args.path.now c.in-Some.name.now c.in_ok-dir.dir None c.in-Some.ensures c.in_ok-dir.ensures c.in_default-child.ensures refl
 
 pub returns-then-is_directory-clause-refusal : goal.returns-then-is_directory-clause-refusal
