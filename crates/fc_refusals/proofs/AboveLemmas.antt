@@ -1,5 +1,5 @@
 -- Which path is that of a directory above another.
-use Rattle.std.proofs.Common.{◌≡◌, ℕ, Bool, true, false, not, ◌&&◌, List, [], ◌∷◌, length, refl, sym, ap₂, ◌∙◌, arith}
+use Rattle.std.proofs.Common.{◌≡◌, ℕ, Bool, true, false, not, ◌&&◌, List, [], ◌∷◌, ◌++◌, length, refl, sym, ap₂, ◌∙◌, arith}
 use Rattle.std.specs.Prelude.{◌==◌}
 use Rattle.std.specs.Str.{bytes_eq}
 use Rattle.std.specs.Cmp.Lexicographic.{bytes_decides}
@@ -16,7 +16,7 @@ stands_above [] (y ∷ ys) = true
 stands_above (x ∷ xs) [] = false
 stands_above (x ∷ xs) (y ∷ ys) = is_same_name x y && stands_above xs ys
 
-same_name : (x y : List ℕ) → is_same_name x y ≡ bytes_eq (folded x) (folded y)
+pub same_name : (x y : List ℕ) → is_same_name x y ≡ bytes_eq (folded x) (folded y)
 same_name x y = by (is_same_name x y) refl (bytes_eq (folded x) (folded y)) refl
   where
     by : (a : Bool) → is_same_name x y ≡ a → (b : Bool) → bytes_eq (folded x) (folded y) ≡ b → a ≡ b
@@ -43,3 +43,17 @@ above_is (x ∷ p) (y ∷ q) =
     ap₂ (λ (a b : Bool). a && b) (same_name x y) (above_is p q)
     ∙ sym (ap₂ (λ (a b : Bool). a && not b) (prefix_more (folded x) (folded y) (folded_path p) (folded_path q)) (same_longer x y p q)
     ∙ and_assoc (bytes_eq (folded x) (folded y)) (is_prefix (folded_path p) (folded_path q)) (not (length p == length q)))
+
+both_hold : (a b : Bool) → (a && b) ≡ true → (a ≡ true) × (b ≡ true)
+both_hold true true e = (refl, refl)
+both_hold true false e = absurd (cc)
+both_hold false b e = absurd (cc)
+
+-- a path at or above another is above what that holds
+pub above_child : (p front : Path) (last : List ℕ) → is_prefix (folded_path p) (folded_path front) ≡ true → stands_above p (front ++ last ∷ []) ≡ true
+above_child [] [] last h = refl
+above_child [] (y ∷ front) last h = refl
+above_child (x ∷ p) [] last h = absurd (cc)
+above_child (x ∷ p) (y ∷ front) last h =
+    let parts = both_hold (bytes_eq (folded x) (folded y)) (is_prefix (folded_path p) (folded_path front)) (sym (prefix_more (folded x) (folded y) (folded_path p) (folded_path front)) ∙ h) in
+    ap₂ (λ (a b : Bool). a && b) (same_name x y ∙ parts.0) (above_child p front last parts.1)

@@ -51,7 +51,7 @@ root_refused image layout listings form read_only path sound e =
     cdir_refusal (tree_of image layout listings) form read_only [] None false true read_only refl refl (root_present image layout listings sound) refl
     ∙ ap (λ (q : Path). first_of (reasons (tree_of image layout listings) form read_only (Command.Cdir q))) (sym e)
 
--- the same, where the holder is found
+-- the same, if the holder is found
 pub cdir_found : (image : List ℕ) (layout : Layout) (listings : List Listing) (nodes : FinMap nat_cmp Node) (form : NameForm) (read_only : Bool) (path : Path)
     (name : List ℕ) (dir : ℕ) (m : Option ℕ) (there shut : Bool) → AreSound layout listings → HoldObjects nodes listings
     → Some name ≡ own_name path → true ≡ is_writable form name → Ok dir ≡ directory_found nodes (found_in nodes (holder path)) → m ≡ child nodes dir name → there ≡ is_some m → shut ≡ read_only

@@ -11,4 +11,5 @@ pub mod HolderLemmas
 pub mod CdirLemmas
 pub mod SaveLemmas
 pub mod AboveLemmas
+pub mod FreeNameLemmas
 pub mod RenameLemmas

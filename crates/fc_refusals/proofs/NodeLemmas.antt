@@ -1,4 +1,4 @@
--- What the node says to which a path leads, told of the tree.
+-- What the node to which a path leads says of the tree.
 use Rattle.std.proofs.Common.{◌≡◌, inl, inr, ℕ, Bool, true, false, false, List, [], ◌∷◌, length, map, nat_lt, refl, sym, ap, subst, ◌∙◌, Option, Some, None, nat_cmp, if◌then◌else◌}
 use Rattle.std.specs.Option.{option_map_or}
 use Rattle.std.specs.FinMap.{FinMap, get}

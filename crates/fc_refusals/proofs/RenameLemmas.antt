@@ -1,4 +1,4 @@
--- Why `rename` is refused, by what was found among the nodes, and where it leads.
+-- Why `rename` is refused, by what was found among the nodes, and to which directory it leads.
 use Rattle.std.proofs.Common.{◌≡◌, ℕ, Bool, true, false, not, ◌&&◌, List, [], ◌∷◌, length, refl, sym, ap, ap₂, subst, ◌∙◌, arith, eqb-true, eq-eqb, Option, Some, None, is_some, nat_cmp}
 use Rattle.std.specs.Prelude.{Contains, ◌==◌, Ok, Err, if◌then◌else◌}
 use Rattle.std.specs.FinMap.{FinMap}
@@ -21,10 +21,12 @@ use Rattle.fc_tree.proofs.PlaceLemmas.{one_path, same_number}
 use Rattle.fc_tree.proofs.SoundLemmas.{folds_alike, same_by_folds, same_object}
 use Rattle.fc_tree.proofs.TreeLemmas.{node_of_object}
 use Rattle.fc_tree.proofs.WalkedLemmas.{child_is_object, same_some}
+use Rattle.fc_refusals.specs.declared.target.Renaming.{Renaming}
 use Rattle.fc_refusals.specs.declared.target.Target.{Target}
 use Rattle.fc_refusals.specs.Places.{directory_found, is_locked_node, is_other, number_found, own_name, refusal_to_root, target_in}
 use Rattle.fc_refusals.specs.Slots.{IsDestination, IsRenaming}
 use Rattle.fc_refusals.proofs.CdirLemmas.{name_good, root_present}
+use Rattle.fc_refusals.proofs.FreeNameLemmas.{across, within}
 use Rattle.fc_refusals.proofs.FoundLemmas.{LeadsTo, leads_to, path_is}
 use Rattle.fc_refusals.proofs.HolderLemmas.{IsDirectoryAt, IsNamed, child_there, directory_there, holder_is, named, named_there, never_there, no_child}
 use Rattle.fc_refusals.proofs.NodeLemmas.{locked_is}
@@ -149,10 +151,16 @@ module _ (layout : Layout) (listings : List Listing) (nodes : FinMap nat_cmp Nod
 
   pub renaming : (target : Target) → Some target ≡ target_in nodes n → false ≡ is_other (child nodes dir name) n → false ≡ is_root from → false ≡ is_above from to
       → IsRenaming nodes listings from to (record { target = target; holder = dir })
-  renaming target e only other into = record {
-    target = target_found layout listings nodes sound held from n a other target e;
-    destination = destination only into;
-  }
+  renaming target e only other into =
+      let found = target_found layout listings nodes sound held from n a other target e in
+      let leads = destination only into in
+      let r : Renaming = record { target = target; holder = dir } in
+      record {
+        target = found;
+        destination = leads;
+        within = within layout listings nodes sound from to r found leads;
+        across = across layout listings nodes sound from to r found leads;
+      }
 
 -- ---- what was found
 

@@ -1,4 +1,4 @@
--- Where paths lead among nodes, and where entries stand in their directories.
+-- Which nodes paths lead to, and at which places entries stand in their directories.
 use Rattle.std.specs.Prelude.{ℕ, Bool, false, not, ◌==◌, nat_lt, length, List, [], ◌∷◌, if◌then◌else◌, Option, Some, None, Result, Ok, Err, option_map}
 use Rattle.std.specs.List.{position}
 use Rattle.std.specs.Option.{option_and_then, option_map_or}
@@ -35,7 +35,7 @@ abbrev pub is_other : Option ℕ → ℕ → Bool
 is_other None n = false
 is_other (Some m) n = not (m == n)
 
--- the same where a directory is needed
+-- the same if a directory is needed
 abbrev pub directory_found : FinMap nat_cmp Node → Found → Result ℕ Refusal
 directory_found nodes (founds.Node n) = if is_directory_node nodes n then Ok n else Err refusals.NotDirectory
 directory_found nodes founds.Absent = Err refusals.NotFound

@@ -1,4 +1,4 @@
-// Where paths lead, and where entries stand in their directories.
+// Which nodes paths lead to, and at which places entries stand in their directories.
 ghost use Rattle.std.specs.Prelude.{◌≡◌, option_map};
 ghost use Rattle.fc_model.specs.Tree.{holder};
 ghost use Rattle.fc_model.specs.Answer.{is_above, is_root};
@@ -63,7 +63,7 @@ pub fn is_directory(tree: &Tree, n: u64) -> bool
     }
 }
 
-// Where a path without its last name leads.
+// What a path without its last name leads to.
 fn find_holder(tree: &Tree, path: &Path) -> Found
     ensures { result ≡ found_in (nodes_of tree.now) (holder path.now) }
 {

@@ -18,8 +18,8 @@ use crate::target::Slot;
 use fc_names::{NameForm, Path, Refusal};
 use fc_tree::Tree;
 
-/// Where `save` and `create` put a file, or why they are refused: the name can't be written, the path of the holder
-/// leads to no directory, a directory or a locked file is at the path, or nothing may be changed.
+/// The place at which `save` and `create` put a file, or why they are refused: the name can't be written, the path of
+/// the holder leads to no directory, a directory or a locked file is at the path, or nothing may be changed.
 pub fn judge_save(
     tree: &Tree,
     form: NameForm,

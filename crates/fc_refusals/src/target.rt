@@ -9,7 +9,7 @@ pub struct Target {
     pub node: u64,
 }
 
-/// Where `save` and `create` put a file.
+/// The place at which `save` and `create` put a file.
 #[derive(Clone, Copy, Debug, PartialEq, Eq)]
 pub enum Slot {
     /// A new entry of the directory of this node.
