@@ -1,4 +1,6 @@
 pub mod CommitLemmas
 pub mod LeavingLemmas
+pub mod PlacedLemmas
+pub mod PlacesLemmas
 pub mod SlackLemmas
 pub mod SpaceLemmas

@@ -37,14 +37,14 @@ pub returns-clause-taken : goal.returns-clause-taken
 returns-clause-taken g c =
     subst (λ (ps : List Part). HasTaken c.args.map.now c.commit_zones.new.map c.args.plan.now.id (fronts ps)) c.deref.ensures.value
     (took c.args.map.now c.take.new.map c.commit_zones.new.map c.args.plan.now.id (fronts c.deref.result.now)
-    (record { geometry = c.take.ensures.edits.geometry; runs = c.take.ensures.runs; holes = c.take.ensures.holes; gained = c.take.ensures.gained; others = c.take.ensures.others }) c.commit_zones.ensures.runs)
+    (record { geometry = c.take.ensures.edits.geometry; runs = c.take.ensures.runs; holes = c.take.ensures.holes; own = c.take.ensures.own; gained = c.take.ensures.gained; others = c.take.ensures.others }) c.commit_zones.ensures.runs)
 
 pub returns-clause-space : goal.returns-clause-space
 returns-clause-space g c =
     taken_space c.args.map.now c.commit_zones.new.map c.args.plan.now.id (fronts c.args.plan.now.parts.items) c.is_map.ensures
     (subst (λ (ps : List Part). HasTaken c.args.map.now c.commit_zones.new.map c.args.plan.now.id (fronts ps)) c.deref.ensures.value
     (took c.args.map.now c.take.new.map c.commit_zones.new.map c.args.plan.now.id (fronts c.deref.result.now)
-    (record { geometry = c.take.ensures.edits.geometry; runs = c.take.ensures.runs; holes = c.take.ensures.holes; gained = c.take.ensures.gained; others = c.take.ensures.others }) c.commit_zones.ensures.runs))
+    (record { geometry = c.take.ensures.edits.geometry; runs = c.take.ensures.runs; holes = c.take.ensures.holes; own = c.take.ensures.own; gained = c.take.ensures.gained; others = c.take.ensures.others }) c.commit_zones.ensures.runs))
 
 pub returns-clause-after : goal.returns-clause-after
 returns-clause-after g c =
