@@ -1,10 +1,12 @@
 -- What a place is good for.
-use Rattle.std.proofs.Common.{◌≡◌, ◌<◌, ◌≤◌, ◌&&◌, ◌||◌, ◌==◌, ◌+◌, ◌*◌, ◌/◌, inl, inr, ℕ, Bool, true, false, cond, List, [], ◌∷◌, refl, sym, ap, ap₂, subst, ◌∙◌, arith, Some, None, Option, nat_cmp, eq-eqb}
+use Rattle.std.proofs.Common.{◌≡◌, ◌<◌, ◌≤◌, ◌&&◌, ◌||◌, ◌==◌, ◌+◌, ◌*◌, ◌-◌, ◌/◌, drop, nat_le, inl, inr, ℕ, Bool, true, false, cond, List, [], ◌∷◌, refl, sym, ap, ap₂, subst, ◌∙◌, arith, Some, None, Option, nat_cmp, eq-eqb}
 use Rattle.std.specs.Prelude.{nat_eq, nat_lt}
 use Rattle.std.specs.FinMap.{FinMap}
 use Rattle.std.proofs.lemmas.Bool.{cases_eq, eqb-true, lt-ltb, ne_eqb}
 use Rattle.fc_names.specs.Names.{Path}
+use Rattle.std.specs.Int.{div_ceil}
 use Rattle.fc_record.specs.declared.Geometry.{Geometry}
+use Rattle.fc_record.specs.Record.{id_limit}
 use Rattle.fc_alloc.specs.declared.owner.Owner.{Owner}
 use Rattle.fc_newmap.specs.Map.{Map, ZoneRun, bits_in, id_runs, is_used, sectors_of}
 use Rattle.fc_newmap.specs.NewMap.{IsNewMap}
@@ -26,7 +28,7 @@ use Rattle.fc_changes.proofs.PlacedLemmas.{is_shared}
 use Rattle.fc_placing.specs.declared.placing.Placing.{Placing}
 use Rattle.fc_placing.specs.declared.placing.Placing.TheVariants.{Nowhere, Shared, New}
 use Rattle.fc_placing.specs.Leaving.{OwnOnly, is_kept}
-use Rattle.fc_placing.specs.Places.{IsFilePlace, IsOwnPlan, PlaceLaw, address_in, id_in, parts_in, shared_id}
+use Rattle.fc_placing.specs.Places.{IsFilePlace, IsOwnPlan, PlaceLaw, address_in, id_in, parts_in, shared_id, slack_left}
 use Rattle.fc_placing.proofs.SlackLemmas.{same_slack}
 
 alone : (m : Map) (bytes low : ℕ) (plan : Plan) (o : Object) → IsOwnPlan m bytes plan → o.entry.address ≡ 256 * plan.id + low → IsInNewSpace m bytes low plan.id (fronts plan.parts.items) o
@@ -42,7 +44,7 @@ low_small false = omega arith
 module _ (m : Map) (nodes : FinMap nat_cmp Node) (listings : List Listing) (owners : List Owner) (dir : Path) (number bytes : ℕ)
     (is : IsNewMap m) (sound : AreSound (Layout.New m) listings) (held : HoldObjects nodes listings) (are : AreOwners owners nodes (Layout.New m) (objects_of listings))
     (numbered : number_of nodes dir ≡ Some number) (o : Object) where
-  abbrev same : _
+  same : slack_left m owners number bytes ≡ slack m (objects_of listings) dir bytes
   same = same_slack m nodes listings owners dir number bytes is sound held are numbered
 
   file : (place : Placing) → IsFilePlace m owners number bytes place → o.entry.address ≡ address_in m place bytes → IsFileAt m (objects_of listings) dir bytes (id_in place) (parts_in place) o
@@ -69,10 +71,11 @@ module _ (m : Map) (nodes : FinMap nat_cmp Node) (listings : List Listing) (owne
 place_stays : (m m' : Map) (address bytes : ℕ) → m'.geometry ≡ m.geometry → id_runs m' (id_of address) ≡ id_runs m (id_of address)
     → sectors_at (Layout.New m') address bytes ≡ sectors_at (Layout.New m) address bytes
 unfolding sectors_at
-place_stays m m' address bytes geometry runs = ap (cond (bytes == 0) (Some [])) place
-  where
-    place : new_sectors m' address bytes ≡ new_sectors m address bytes
-    place = ?
+place_stays m m' address bytes geometry runs =
+    ap₂ (λ (g : Geometry) (rs : List ZoneRun).
+    cond (bytes == 0) (Some [])
+    (cond (nat_le 2 (id_of address) && nat_lt (id_of address) (id_limit g))
+    (first_part (div_ceil bytes g.sector) (drop ((low_of address - 1) * (g.share / g.sector)) (sectors_of g rs))) None)) geometry runs
 
 pub place_law : PlaceLaw
 place_law = record {
