@@ -1,3 +1,4 @@
+pub mod AddressLemmas
 pub mod CommitLemmas
 pub mod LeavingLemmas
 pub mod PlacedLemmas

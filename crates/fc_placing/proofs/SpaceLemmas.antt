@@ -52,6 +52,9 @@ range_rises from n k lt =
 below : (n x : ℕ) → Contains (range_with_len 0 n) x → x < n
 below n x (k, low, is) = let inside : k < n = omega (arith, low, length-range_with_len 0 n) in omega (arith, inside, is, get_or-range_with_len 0 n k x inside)
 
+pub low_in_range : (from n x : ℕ) → Contains (range_with_len from n) x → x < from + n
+low_in_range from n x (k, low, is) = let inside : k < n = omega (arith, low, length-range_with_len from n) in omega (arith, inside, is, get_or-range_with_len from n k x inside)
+
 module _ (m : Map) (plan : Option Plan) (gone zones : List ℕ) (are : zones ≡ zones_changed m plan gone) where
   pub zones_rise : IsStrictlyIncreasing zones
   zones_rise = subst IsStrictlyIncreasing (sym are) (IsStrictlyIncreasing-filter (is_changed m plan None gone) (zone_numbers m.geometry) (range_rises 0 m.geometry.zones))

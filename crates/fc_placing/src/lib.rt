@@ -2,11 +2,13 @@
 //! places for new objects.
 #![tactic(auto)]
 
+mod addressing;
 mod committing;
 mod leaving;
 mod placing;
 mod space;
 
+pub use addressing::address_of;
 pub use fc_plan::{Plan, PlanError};
 pub use fc_slack::Share;
 pub use leaving::{left_by, left_by_replaced};

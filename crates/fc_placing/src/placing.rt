@@ -1,10 +1,7 @@
 // Places for new objects.
 
-ghost use Rattle.std.specs.Prelude.{◌≡◌, ◌<◌, ◌^◌, [], None, IfOk, IsErrOf};
-ghost use Rattle.fc_newmap.specs.Map.{bits_in, hole_runs};
-ghost use Rattle.fc_effects.specs.Sharing.{new_ids, units};
-ghost use Rattle.fc_plan.specs.declared.supply.PlanError.TheVariants as errors;
-ghost use Rattle.fc_placing.specs.Places.{IsFilePlace, IsOwnPlan, PlaceLaw, RefusesOwnSpace, RefusesSpace, SlackLaw, slack_left};
+ghost use Rattle.std.specs.Prelude.{◌<◌, ◌^◌, IfOk};
+ghost use Rattle.fc_placing.specs.Places.{IsFilePlace, IsOwnPlan, PlaceLaw, RefusesOwnSpace, RefusesSpace, SlackLaw, id_in};
 
 use fc_alloc::Owners;
 use fc_newmap::NewMap;
@@ -69,6 +66,7 @@ pub fn place_file(
 ) -> Result<Placing, PlanError>
     requires few { bytes < 2 ^ 63 }
     ensures place { IfOk result (IsFilePlace map.now owners.now dir bytes) }
+    ensures id { IfOk result (λ place. id_in place < 2 ^ 24) }
     ensures refused { RefusesSpace map.now owners.now dir bytes result }
 {
     map.is_map();

@@ -8,6 +8,7 @@ use Rattle.fc_slack.specs.Slack.{holdings, place_in}
 use Rattle.fc_placing.specs.declared.placing.Placing.TheVariants.{Nowhere, Shared, New}
 use Rattle.fc_placing.specs.declared.placing.Placing.{Placing}
 use Rattle.fc_placing.specs.Places.{slack_left}
+use Rattle.fc_placing.proofs.AddressLemmas.{plan_id, share_id}
 use Rattle.fc_placing.proofs.PlacesLemmas.{empty_refused, error_refused, new_refused, shared_refused}
 use Rattle.fc_placing.proofs.placing.place_file.Goals as goal
 
@@ -31,3 +32,12 @@ returns-in-Err-clause-refused c =
     let none : slack_left c.args.map.now c.args.owners.now c.args.dir c.args.bytes ≡ None =
     ap (λ (owners : List Owner). slack_left c.args.map.now owners c.args.dir c.args.bytes) (sym c.list.ensures.same) ∙ sym c.in_ok-share.ensures ∙ ap (option_map place_in) c.in_default.is in
     error_refused c.args.map.now c.is_map.ensures c.args.owners.now c.args.dir c.args.bytes Placing c.in-Err.error none c.in-Err.ensures.refused
+
+pub returns-in-Some-clause-id : goal.returns-in-Some-clause-id
+returns-in-Some-clause-id c =
+    let found : slack_left c.args.map.now c.args.owners.now c.args.dir c.args.bytes ≡ Some (place_in c.in-Some.share) =
+    ap (λ (owners : List Owner). slack_left c.args.map.now owners c.args.dir c.args.bytes) (sym c.list.ensures.same) ∙ sym c.in_ok-share.ensures ∙ ap (option_map place_in) c.in-Some.is in
+    share_id c.args.map.now c.is_map.ensures c.args.owners.now c.args.dir c.args.bytes (place_in c.in-Some.share) found
+
+pub returns-in-Ok-clause-id : goal.returns-in-Ok-clause-id
+returns-in-Ok-clause-id c = plan_id c.args.map.now c.is_map.ensures c.args.bytes c.in-Ok.plan c.in-Ok.ensures.place
