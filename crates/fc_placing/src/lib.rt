@@ -4,11 +4,13 @@
 
 mod addressing;
 mod committing;
+mod extents;
 mod leaving;
 mod placing;
 mod space;
 
 pub use addressing::address_of;
+pub use extents::extents_of;
 pub use fc_plan::{Plan, PlanError};
 pub use fc_slack::Share;
 pub use leaving::{left_by, left_by_replaced};
