@@ -6,3 +6,4 @@ pub mod PlacedLemmas
 pub mod PlacesLemmas
 pub mod SlackLemmas
 pub mod SpaceLemmas
+pub mod UsedLemmas
