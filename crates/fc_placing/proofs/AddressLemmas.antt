@@ -1,9 +1,9 @@
 -- Addresses of new files.
-use Rattle.std.proofs.Common.{◌≡◌, ◌<◌, ◌≤◌, ◌&&◌, ◌==◌, ◌+◌, ◌-◌, ◌*◌, ◌/◌, ◌^◌, inl, inr, min, ℕ, Bool, true, false, cond, List, [], ◌∷◌, map, refl, sym, ap, ap₂, subst, ◌∙◌, arith, Some, None, Option, nat_le}
-use Rattle.std.specs.Prelude.{Contains, nat_eq}
-use Rattle.std.specs.List.{find, flat_map, range_with_len}
+use Rattle.std.proofs.Common.{◌≡◌, ◌<◌, ◌≤◌, ◌&&◌, ◌==◌, ◌+◌, ◌-◌, ◌*◌, ◌/◌, ◌^◌, inl, inr, min, ℕ, Bool, true, false, cond, List, map, refl, sym, ap, subst, ◌∙◌, arith, Some, None, nat_le}
+use Rattle.std.specs.Prelude.{nat_eq}
+use Rattle.std.specs.List.{find, range_with_len}
 use Rattle.std.specs.Int.{next_multiple_of}
-use Rattle.std.proofs.Math.Nat.{mul-le-mul_right, pow-le-pow_right}
+use Rattle.std.proofs.Math.Nat.{pow-le-pow_right}
 use Rattle.std.proofs.lemmas.Bool.{cases_lt, le-leb, leb-true}
 use Rattle.std.proofs.lemmas.Nat.{mul-le, pow_pos}
 use Rattle.fc_record.specs.declared.Geometry.{Geometry}
@@ -18,7 +18,7 @@ use Rattle.fc_effects.specs.Placed.{has_spare_share}
 use Rattle.fc_effects.specs.Sharing.{holdings_in, is_shareable, is_spare, shares, slack_among}
 use Rattle.fc_plan.specs.declared.plan.Plan.{Plan}
 use Rattle.fc_slack.specs.Slack.{holdings}
-use Rattle.fc_slack.proofs.Shares.{idlen_few, ids_few}
+use Rattle.fc_slack.proofs.Shares.{ids_few}
 use Rattle.fc_changes.proofs.BasicLemmas.{in_flat}
 use Rattle.fc_changes.proofs.PlacedLemmas.{found_in}
 use Rattle.fc_placing.specs.Places.{IsOwnPlan, slack_left}

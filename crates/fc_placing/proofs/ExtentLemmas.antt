@@ -1,10 +1,10 @@
 -- The sectors of an object in new space, before the map has its runs.
-use Rattle.std.proofs.Common.{◌≡◌, ◌<◌, ◌≤◌, ◌&&◌, ◌==◌, ◌+◌, ◌-◌, ◌*◌, ◌/◌, ◌%◌, inl, inr, max, min, ℕ, zero, suc, Bool, true, false, cond, List, [], ◌∷◌, ◌++◌, get_or, length, map, take, drop, filter, nat_le, refl, sym, ap, ap₂, subst, ◌∙◌, arith, Some, None, Option, append-nil, append_assoc, eq-eqb}
+use Rattle.std.proofs.Common.{◌≡◌, ◌<◌, ◌≤◌, ◌&&◌, ◌==◌, ◌+◌, ◌-◌, ◌*◌, ◌/◌, ◌%◌, inl, inr, max, min, ℕ, zero, suc, Bool, true, false, cond, List, [], ◌∷◌, ◌++◌, get_or, length, take, drop, filter, nat_le, refl, sym, ap, ap₂, subst, ◌∙◌, arith, Some, None, Option, append-nil, append_assoc, eq-eqb}
 use Rattle.std.specs.Prelude.{All, AllPairs, Contains, IsPermutation, nat_lt, not}
 use Rattle.std.specs.List.{AllByRecursion, flat_map, range_with_len}
 use Rattle.std.specs.Int.{div_ceil, next_multiple_of}
 use Rattle.std.proofs.Math.Nat.{lt_of_mul-lt-mul_right, mul-le-mul_right, mul_assoc}
-use Rattle.std.proofs.lemmas.Bool.{cases_eq, cases_lt, eqb-true, le-leb, leb-true, le-ltb, lt-ltb, ne_eqb}
+use Rattle.std.proofs.lemmas.Bool.{cases_eq, cases_lt, le-leb, leb-true, le-ltb, lt-ltb, ne_eqb}
 use Rattle.std.proofs.lemmas.Grind.{div_ceil_times, flat_map-append}
 use Rattle.std.proofs.lemmas.List.{length-append, map-append}
 use Rattle.std.proofs.lemmas.List.Elements.{All-contains, All-from_recursion, Contains-get_or, filter-append, recursion_from_All}
@@ -17,23 +17,20 @@ use Rattle.fc_objects.specs.Extents.{extent_sectors, sectors_in}
 use Rattle.fc_record.specs.declared.Geometry.{Geometry}
 use Rattle.fc_record.specs.Record.{end_bit, first_bit, id_limit}
 use Rattle.fc_newmap.specs.Map.{Map, ZoneRun, bits_in, extent_of, first_sector, home_zone, hole_runs, id_runs, is_used, run_sectors, search_order, sector_count, sectors_of}
-use Rattle.fc_newmap.specs.NewMap.{IsNewMap, IsOfRecord}
+use Rattle.fc_newmap.specs.NewMap.{IsNewMap}
 use Rattle.fc_newmap.specs.RunsLaw.{IsGeometry}
 use Rattle.fc_newmap.specs.Walk.{IsInZone}
 use Rattle.fc_newmap.proofs.GeometryLemmas.{geometry_of_valid}
-use Rattle.fc_newmap.proofs.HeldLemmas.{geometry_facts}
 use Rattle.fc_newmap.proofs.RunsLemmas.{sectors_add}
 use Rattle.fc_image.specs.Layout.{Layout, first_part, id_of, id_sectors, is_object_id, low_of, low_start, new_sectors, sectors_at}
 use Rattle.fc_image.proofs.EntriesLemmas.{from_filter, in_mapped}
-use Rattle.fc_effects.specs.Placed.{BeginsBefore, HasRunLength, IsFront}
+use Rattle.fc_effects.specs.Placed.{BeginsBefore, HasRunLength}
 use Rattle.fc_effects.specs.Sharing.{units}
 use Rattle.fc_space.specs.Index.{is_met}
 use Rattle.fc_space.specs.Space.{HaveSectors}
 use Rattle.fc_plan.specs.declared.plan.Part.{Part}
 use Rattle.fc_plan.specs.declared.plan.Plan.{Plan}
-use Rattle.fc_plan.specs.Applied.{parts_in_order}
 use Rattle.fc_plan.specs.Parts.{front_at, fronts}
-use Rattle.fc_plan.specs.Plan.{IsFrontOfOne}
 use Rattle.fc_plan.specs.Taking.{as_runs, with_id}
 use Rattle.fc_plan.proofs.InOrder.{none_listed, own_of_new, parts_in_turn, unused_none}
 use Rattle.fc_plan.proofs.MapLemmas.{IsPlaced, holes_placed}

@@ -1,8 +1,8 @@
 -- What a place is good for.
-use Rattle.std.proofs.Common.{◌≡◌, ◌<◌, ◌≤◌, ◌&&◌, ◌||◌, ◌==◌, ◌+◌, ◌*◌, ◌-◌, ◌/◌, drop, nat_le, inl, inr, ℕ, Bool, true, false, cond, List, [], ◌∷◌, refl, sym, ap, ap₂, subst, ◌∙◌, arith, Some, None, Option, nat_cmp, eq-eqb}
-use Rattle.std.specs.Prelude.{nat_eq, nat_lt}
+use Rattle.std.proofs.Common.{◌≡◌, ◌<◌, ◌&&◌, ◌||◌, ◌==◌, ◌+◌, ◌*◌, ◌-◌, ◌/◌, drop, nat_le, inl, inr, ℕ, Bool, true, false, cond, List, [], ◌∷◌, refl, sym, ap, ap₂, subst, ◌∙◌, arith, Some, None, nat_cmp}
+use Rattle.std.specs.Prelude.{nat_lt}
 use Rattle.std.specs.FinMap.{FinMap}
-use Rattle.std.proofs.lemmas.Bool.{cases_eq, eqb-true, lt-ltb, ne_eqb}
+use Rattle.std.proofs.lemmas.Bool.{lt-ltb, ne_eqb}
 use Rattle.fc_names.specs.Names.{Path}
 use Rattle.std.specs.Int.{div_ceil}
 use Rattle.fc_record.specs.declared.Geometry.{Geometry}
@@ -10,7 +10,7 @@ use Rattle.fc_record.specs.Record.{id_limit}
 use Rattle.fc_alloc.specs.declared.owner.Owner.{Owner}
 use Rattle.fc_newmap.specs.Map.{Map, ZoneRun, bits_in, id_runs, is_used, sectors_of}
 use Rattle.fc_newmap.specs.NewMap.{IsNewMap}
-use Rattle.fc_image.specs.Layout.{Layout, first_part, id_of, id_sectors, is_object_id, low_of, new_sectors, sectors_at}
+use Rattle.fc_image.specs.Layout.{Layout, first_part, id_of, low_of, sectors_at}
 use Rattle.fc_image.specs.Walk.{Listing, Object}
 use Rattle.fc_image.specs.Objects.{has_sectors, is_owner_of, objects_of}
 use Rattle.fc_image.specs.Sound.{AreSound}
@@ -27,7 +27,7 @@ use Rattle.fc_changes.proofs.BasicLemmas.{clash, or_false}
 use Rattle.fc_changes.proofs.PlacedLemmas.{is_shared}
 use Rattle.fc_placing.specs.declared.placing.Placing.{Placing}
 use Rattle.fc_placing.specs.declared.placing.Placing.TheVariants.{Nowhere, Shared, New}
-use Rattle.fc_placing.specs.Leaving.{OwnOnly, is_kept}
+use Rattle.fc_placing.specs.Leaving.{OwnOnly}
 use Rattle.fc_placing.specs.Places.{IsFilePlace, IsOwnPlan, PlaceLaw, address_in, id_in, parts_in, shared_id, slack_left}
 use Rattle.fc_placing.proofs.SlackLemmas.{same_slack}
 

@@ -1,8 +1,7 @@
 -- Places for new objects, and the refusals for want of space.
 use Rattle.std.proofs.Common.{◌≡◌, ◌<◌, ◌≤◌, ◌&&◌, ◌+◌, ◌*◌, ℕ, Bool, true, false, cond, List, [], ◌∷◌, length, refl, sym, ap, ap₂, subst, ◌∙◌, arith, Some, None, Option, nat_cmp, lt-ltb}
-use Rattle.std.specs.Prelude.{Contains, Result, Ok, Err, IfOk, IsErrOf, is_some, nat_eq, nat_lt}
+use Rattle.std.specs.Prelude.{Contains, Result, Ok, Err, IfOk, IsErrOf, is_some, nat_lt}
 use Rattle.std.specs.FinMap.{FinMap}
-use Rattle.std.specs.Option.{option_and_then, option_map_or}
 use Rattle.std.proofs.lemmas.Bool.{le-ltb}
 use Rattle.fc_names.specs.Names.{Path}
 use Rattle.fc_names.specs.declared.refusal.Refusal.{Refusal}
@@ -16,24 +15,22 @@ use Rattle.fc_image.specs.Layout.{Layout}
 use Rattle.fc_image.specs.Objects.{objects_of}
 use Rattle.fc_image.specs.Opening.{Opened}
 use Rattle.fc_image.specs.Sound.{AreSound}
-use Rattle.fc_effects.specs.Placed.{IsFewest, IsPlan, chosen_bits}
-use Rattle.fc_effects.specs.Sharing.{new_ids, slack, slack_among, units}
-use Rattle.fc_effects.specs.Short.{Growth, gain_in, growth_in, growth_units, has_room, is_alone, is_full_with, moved_growth, needed_bits, needed_ids, new_length, object_units, one_if, short, slack_for, slack_in, space_reasons}
+use Rattle.fc_effects.specs.Placed.{IsPlan}
+use Rattle.fc_effects.specs.Sharing.{new_ids, units}
+use Rattle.fc_effects.specs.Short.{growth_in, growth_units, moved_growth, needed_bits, needed_ids, new_length, object_units, one_if, short, slack_for, slack_in, space_reasons}
 use Rattle.fc_plan.specs.declared.plan.Plan.{Plan}
 use Rattle.fc_plan.specs.declared.supply.PlanError.{PlanError}
 use Rattle.fc_plan.specs.declared.supply.PlanError.TheVariants as errors
 use Rattle.fc_plan.specs.Parts.{fronts}
 use Rattle.fc_plan.specs.Supply.{Stock, stock_of}
-use Rattle.fc_plan.proofs.Fewest.{chosen_bits-le, excess, excess-longer}
+use Rattle.fc_plan.proofs.Fewest.{chosen_bits-le, excess-longer}
 use Rattle.fc_plan.proofs.Two.{can_take}
 use Rattle.fc_plan.proofs.Units.{units_some}
 use Rattle.fc_changes.proofs.BasicLemmas.{and_false, and_then_none, first_in, map_or_none}
 use Rattle.fc_tree.specs.declared.node.Node.{Node}
 use Rattle.fc_tree.specs.Nodes.{HoldObjects, number_of}
 use Rattle.fc_tree.specs.Parts.{AreOwners}
-use Rattle.fc_placing.specs.declared.placing.Placing.{Placing}
-use Rattle.fc_placing.specs.declared.placing.Placing.TheVariants.{Nowhere, Shared, New}
-use Rattle.fc_placing.specs.Places.{AnswersShort, FitsDirectory, IsFilePlace, IsOwnPlan, RefusesOwnSpace, RefusesSpace, WantsOwnSpace, WantsSpace, slack_left}
+use Rattle.fc_placing.specs.Places.{AnswersShort, FitsDirectory, IsOwnPlan, RefusesOwnSpace, RefusesSpace, WantsSpace, slack_left}
 use Rattle.fc_placing.proofs.SlackLemmas.{same_slack}
 
 -- ---- the refusals for want of space

@@ -1,13 +1,11 @@
 -- Changes of space on a map, committed one after another.
-use Rattle.std.proofs.Common.{◌≡◌, ◌<◌, ◌≤◌, ◌⊎◌, inl, inr, ℕ, zero, suc, ◌+◌, ◌-◌, ◌^◌, ◌==◌, Bool, true, false, cond, List, [], ◌∷◌, ◌++◌, length, get_or, map, refl, sym, ap, ap₂, subst, ◌∙◌, arith, Some, None, Option}
-use Rattle.std.specs.Prelude.{All, Contains, IsPermutation, filter, not, ◌||◌, slice_range, slice_index}
-use Rattle.std.specs.List.{AllByRecursion, find, flat_map, list_any, range_with_len}
+use Rattle.std.proofs.Common.{◌≡◌, ◌<◌, ◌⊎◌, inl, inr, ℕ, ◌+◌, ◌-◌, ◌^◌, ◌==◌, Bool, true, false, cond, List, [], ◌∷◌, ◌++◌, length, refl, sym, ap, ap₂, subst, ◌∙◌, arith, Some, None, Option}
+use Rattle.std.specs.Prelude.{All, Contains, IsPermutation, filter, ◌||◌, slice_index}
+use Rattle.std.specs.List.{AllByRecursion, find, list_any, range_with_len}
 use Rattle.std.specs.List.Sorted.{IsStrictlyIncreasing}
-use Rattle.std.proofs.lemmas.List.{append-nil}
 use Rattle.std.proofs.lemmas.List.Elements.{Contains-get_or}
 use Rattle.std.proofs.lemmas.List.FromFn.{get_or-range_with_len, length-range_with_len}
 use Rattle.std.proofs.lemmas.List.Kept.{IsStrictlyIncreasing-filter}
-use Rattle.std.proofs.lemmas.Bool.{eqb-true}
 use Rattle.fc_bytes.specs.Bits.{bits}
 use Rattle.fc_record.specs.declared.Geometry.{Geometry}
 use Rattle.fc_zone.specs.declared.Run.{Run}
@@ -23,10 +21,10 @@ use Rattle.fc_newmap.specs.RunsLaw.{placed}
 use Rattle.fc_newmap.proofs.HeldLemmas.{geometry_facts}
 use Rattle.fc_newmap.proofs.PlaceLemmas.{id_runs_by_zones}
 use Rattle.fc_copies.specs.Committing.{KeepsContents}
-use Rattle.fc_copies.specs.Copies.{CommitEnds, HoldsCopies}
+use Rattle.fc_copies.specs.Copies.{HoldsCopies}
 use Rattle.fc_image.proofs.EntriesLemmas.{from_filter}
 use Rattle.fc_effects.specs.Placed.{holes_left, stands_at}
-use Rattle.fc_effects.specs.Steady.{KeepsOrWritesLinks, ZoneSteady, holes_with, has_id_that, runs_that, zone_holes}
+use Rattle.fc_effects.specs.Steady.{ZoneSteady, holes_with, has_id_that, runs_that, zone_holes}
 use Rattle.fc_plan.specs.declared.plan.Plan.{Plan}
 use Rattle.fc_plan.specs.Applied.{is_changed, unless_gone}
 use Rattle.fc_plan.specs.Giving.{has_run_of, is_given, is_one_of, stays_given}

@@ -1,6 +1,6 @@
 -- What goes back has runs.
-use Rattle.std.proofs.Common.{◌≡◌, ◌<◌, ◌≤◌, ◌||◌, ◌==◌, ℕ, zero, suc, Bool, true, false, cond, List, [], ◌∷◌, length, map, take, drop, filter, refl, sym, ap, subst, ◌∙◌, arith, Some, None, Option, nat_cmp}
-use Rattle.std.specs.Prelude.{Contains, IsPermutation, nat_lt}
+use Rattle.std.proofs.Common.{◌≡◌, ◌<◌, ◌||◌, ◌==◌, ℕ, zero, suc, Bool, true, false, cond, List, [], length, map, take, drop, filter, refl, sym, ap, ◌∙◌, arith, Some, None, Option, nat_cmp}
+use Rattle.std.specs.Prelude.{Contains}
 use Rattle.std.specs.List.{find}
 use Rattle.std.specs.FinMap.{FinMap}
 use Rattle.std.specs.Option.{option_and_then, option_to_list}
@@ -8,11 +8,11 @@ use Rattle.std.proofs.lemmas.Bool.{eqb-true, ltb-true}
 use Rattle.std.proofs.lemmas.List.Sorted.{Contains-permutation}
 use Rattle.fc_alloc.specs.declared.owner.Owner.{Owner}
 use Rattle.fc_alloc.specs.Owners.{is_node}
-use Rattle.fc_newmap.specs.Map.{Map, ZoneRun, id_runs, is_used, sectors_of}
+use Rattle.fc_newmap.specs.Map.{Map, is_used, sectors_of}
 use Rattle.fc_newmap.specs.NewMap.{IsNewMap}
 use Rattle.fc_newmap.proofs.HeldLemmas.{geometry_facts}
 use Rattle.fc_image.specs.Layout.{Layout, id_of, id_sectors, low_of, low_start}
-use Rattle.fc_image.specs.Walk.{Listing, Object}
+use Rattle.fc_image.specs.Walk.{Listing}
 use Rattle.fc_image.specs.Objects.{has_sectors, objects_of}
 use Rattle.fc_image.specs.Sound.{AreSound}
 use Rattle.fc_image.specs.Edits.{IsAt}

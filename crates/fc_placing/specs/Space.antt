@@ -1,5 +1,5 @@
 -- Changes of space on a map, each committed by itself.
-use Rattle.std.specs.Prelude.{◌≡◌, ◌<◌, ℕ, ◌++◌, false, List, [], filter, IsPermutation, Option, Some, None}
+use Rattle.std.specs.Prelude.{◌≡◌, ◌<◌, ℕ, ◌++◌, false, List, [], filter, IsPermutation, Option, None}
 use Rattle.fc_record.specs.Kinds.{map_record}
 use Rattle.fc_newmap.specs.Map.{Map, ZoneRun, hole_runs, id_runs, runs_of, sector_of, zone_numbers}
 use Rattle.fc_newmap.specs.NewMap.{IsNewMap}

@@ -1,4 +1,4 @@
-use Rattle.std.proofs.Common.{◌≡◌, ◌+◌, ◌-◌, ◌*◌, ◌^◌, ◌∙◌, min, ℕ, ap, arith}
+use Rattle.std.proofs.Common.{◌-◌, ◌*◌, ◌^◌, ◌∙◌, min, ℕ, ap, arith}
 use Rattle.fc_newmap.specs.Map.{bits_in}
 use Rattle.fc_plan.specs.Parts.{fronts}
 use Rattle.fc_placing.proofs.AddressLemmas.{share_low, spare_else, spare_then}

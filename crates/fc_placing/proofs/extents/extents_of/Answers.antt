@@ -1,4 +1,4 @@
-use Rattle.std.proofs.Common.{◌≡◌, ◌++◌, ◌-◌, ◌∙◌, [], true, false, ℕ, List, ap, ap₂, sym, subst, take, length}
+use Rattle.std.proofs.Common.{◌≡◌, ◌++◌, ◌-◌, ◌∙◌, true, false, ℕ, List, ap, ap₂, sym, subst, take, length}
 use Rattle.std.specs.Prelude.{All}
 use Rattle.std.specs.Int.{div_ceil}
 use Rattle.fc_device.specs.declared.disk.Extent.{Extent}

@@ -1,4 +1,4 @@
-use Rattle.std.proofs.Common.{◌≡◌, ◌++◌, ◌∷◌, ◌∙◌, [], true, not, min, ap, sym}
+use Rattle.std.proofs.Common.{◌≡◌, ◌++◌, ◌∷◌, ◌∙◌, [], true, not, ap}
 use Rattle.std.specs.Result.{is_ok}
 use Rattle.fc_placing.proofs.ExtentLemmas.{one_pushed}
 use Rattle.fc_placing.proofs.extents.push.Goals as goal

@@ -1,11 +1,11 @@
-use Rattle.std.proofs.Common.{◌≡◌, ◌<◌, ◌+◌, ◌++◌, ◌∷◌, ◌∙◌, [], ℕ, List, ap, sym, subst, take, get_or, length}
+use Rattle.std.proofs.Common.{◌≡◌, ◌<◌, ◌+◌, ◌++◌, ◌∷◌, ◌∙◌, [], List, ap, sym, subst, take, get_or, length}
 use Rattle.std.specs.Prelude.{All}
 use Rattle.std.proofs.lemmas.List.{take_more}
 use Rattle.std.proofs.lemmas.List.Elements.{All-get_or}
 use Rattle.fc_newmap.specs.Walk.{IsInZone}
 use Rattle.fc_plan.specs.declared.plan.Part.{Part}
 use Rattle.fc_plan.specs.Parts.{front_at}
-use Rattle.fc_placing.proofs.ExtentLemmas.{none_pushed, part_pushed}
+use Rattle.fc_placing.proofs.ExtentLemmas.{part_pushed}
 use Rattle.fc_placing.proofs.extents.push_met.Goals as goal
 
 pub push_part-requires-clause-part : goal.push_part-requires-clause-part

@@ -1,6 +1,6 @@
-use Rattle.std.proofs.Common.{◌≡◌, ℕ, List, Option, sym, subst}
+use Rattle.std.proofs.Common.{ℕ, Option, sym, subst}
 use Rattle.std.specs.Option.{option_to_list}
-use Rattle.fc_placing.specs.Leaving.{LeavesIds, LeavesUsed, left_among}
+use Rattle.fc_placing.specs.Leaving.{LeavesIds, LeavesUsed}
 use Rattle.fc_placing.proofs.LeavingLemmas.{leaves_ids}
 use Rattle.fc_placing.proofs.UsedLemmas.{leaves_used}
 use Rattle.fc_placing.proofs.leaving.left_by_replaced.Goals as goal

@@ -1,10 +1,7 @@
-use Rattle.std.proofs.Common.{◌≡◌, ◌∙◌, ℕ, List, ap, sym, Some, None, Option}
-use Rattle.std.specs.Prelude.{nat_eq}
+use Rattle.std.proofs.Common.{◌≡◌, ◌∙◌, List, ap, sym, Some, None}
 use Rattle.std.specs.Option.{option_map}
 use Rattle.fc_alloc.specs.declared.owner.Owner.{Owner}
-use Rattle.fc_effects.specs.Sharing.{slack_among}
-use Rattle.fc_slack.specs.declared.share.Share.{Share}
-use Rattle.fc_slack.specs.Slack.{holdings, place_in}
+use Rattle.fc_slack.specs.Slack.{place_in}
 use Rattle.fc_placing.specs.declared.placing.Placing.TheVariants.{Nowhere, Shared, New}
 use Rattle.fc_placing.specs.declared.placing.Placing.{Placing}
 use Rattle.fc_placing.specs.Places.{slack_left}
