@@ -16,3 +16,6 @@ pub use fc_slack::Share;
 pub use leaving::{left_by, left_by_replaced};
 pub use placing::{Placing, place_alone, place_directory, place_file, places, slack_by_owners};
 pub use space::{give_space, steps, take_space};
+
+#[cfg(test)]
+mod tests;
