@@ -16,4 +16,5 @@ pub mod CdirLemmas
 pub mod CommittedLemmas
 pub mod RenamedLemmas
 pub mod MovedLemmas
+pub mod CopiedLemmas
 pub mod StepsLemmas
