@@ -33,10 +33,9 @@ use Rattle.fc_image.specs.Edits.{Apart, AreChildren, IsApartFrom, IsAt, IsListin
 use Rattle.fc_image.specs.Order.{directories, held, listed}
 use Rattle.fc_image.specs.Sound.{AreSound}
 use Rattle.fc_image.specs.TreeEdits.{IsMove, IsObjectEdit}
-use Rattle.fc_image.specs.Commanded.{Each, IsMoved}
+use Rattle.fc_image.specs.Commanded.{IsMoved}
 use Rattle.fc_image.specs.MapEdits.{IsMapEdit, IsNewMapEdit, KeepsPlace, OpensEdited}
 use Rattle.fc_image.specs.InPlace.{says_now}
-use Rattle.fc_image.specs.Answered.{OpensWithTree}
 use Rattle.fc_image.proofs.CommandLemmas.{command_law, objects_law, other_path as not_there, same_by_folds}
 use Rattle.fc_image.proofs.EditLemmas.{stay_law}
 use Rattle.fc_image.proofs.EntriesLemmas.{entries_law, from_filter, from_map, in_filter, in_mapped, same_some}
@@ -46,9 +45,9 @@ use Rattle.fc_image.proofs.MapEditLemmas.{file_stays, held_in, is_file, known_ap
 use Rattle.fc_image.proofs.MoveLemmas.{not_true}
 use Rattle.fc_image.proofs.OneZoneLemmas.{and_first, and_second}
 use Rattle.fc_image.proofs.OrderLemmas.{apart_shuffled}
-use Rattle.fc_image.proofs.PathsLemmas.{itself, many}
+use Rattle.fc_image.proofs.PathsLemmas.{itself}
 use Rattle.fc_image.proofs.RelistLemmas.{apart_behind, edited_apart_law, folded_long, map_itself, prefix_long, prefix_step}
-use Rattle.fc_image.proofs.RenameLemmas.{alone, child_path, child_stays, last_pushed, many_shuffled, moved_itself}
+use Rattle.fc_image.proofs.RenameLemmas.{alone, child_path, child_stays, last_pushed, moved_itself}
 use Rattle.fc_image.proofs.ShuffleLemmas.{IsPermutation-flat_map, flipped}
 use Rattle.fc_image.proofs.TreeLemmas.{folds_alike}
 use Rattle.fc_image.proofs.WrittenLemmas.{cut, written_law}
@@ -63,6 +62,7 @@ use Rattle.fc_changes.specs.Changed.{IsChanged}
 use Rattle.fc_changes.specs.Copied.{CopiedLaw, IsCopyChange}
 use Rattle.fc_changes.proofs.BasicLemmas.{and_false, any_in, cases_cons, clash, first_in, in_any, in_flat, long_pushed, next_in, not_zero, or_cases, or_left, or_second, unless, without_it}
 use Rattle.fc_changes.proofs.BeforeLemmas.{Had, boot_stays, child_in, had, listed_in, map_edit, object_from, object_lies, opened_as, other_path, parts, says_old, sound}
+use Rattle.fc_changes.proofs.BesideLemmas.{all_listed, beside_first, each_itself, three}
 use Rattle.fc_changes.proofs.ChangeLemmas.{a_sector, opened}
 use Rattle.fc_changes.proofs.DirectoriesLemmas.{Lasts, entries_now, no_new_holder}
 use Rattle.fc_changes.proofs.MadeLemmas.{file_low_small, stands_new, turned}
@@ -74,57 +74,6 @@ use Rattle.fc_changes.proofs.ReadsLemmas.{entry_at, lies_in, other_dir, reads_ba
 use Rattle.fc_changes.proofs.RenamedLemmas.{each_apart}
 use Rattle.fc_changes.proofs.SpaceLemmas.{owned_same, runs_stay, space_steady, untaken_is}
 use Rattle.fc_changes.proofs.AfterLemmas.{behind_stays, holder_stays, outside_steady}
-
--- ---- lists
-
--- how many pass a test
-counted : (t : Object → Bool) (xs : List Object) → length (filter t xs) ≡ many t xs
-unfolding many
-counted t [] = refl
-counted t (x ∷ xs) = by (t x) (counted t xs)
-  where
-    by : (b : Bool) → length (filter t xs) ≡ many t xs → length (cond b (x ∷ filter t xs) (filter t xs)) ≡ (let n : ℕ = cond b 1 0 in n) + many t xs
-    by true h = omega (arith, h)
-    by false h = omega (arith, h)
-
--- one does, if some do
-one_of : (t : Object → Bool) (xs : List Object) → 0 < many t xs → (x : Object) × Contains xs x × (t x ≡ true)
-unfolding many
-one_of t [] some = absurd (omega (arith, some))
-one_of t (x ∷ xs) some = by (t x) refl some (one_of t xs)
-  where
-    by : (b : Bool) → t x ≡ b → 0 < (let n : ℕ = cond b 1 0 in n) + many t xs → (0 < many t xs → (y : Object) × Contains xs y × (t y ≡ true))
-        → (y : Object) × Contains (x ∷ xs) y × (t y ≡ true)
-    by true h low later = (x, first_in x xs, h)
-    by false h low later = (let r = later (omega (arith, low)) in (r.0, next_in x r.0 xs r.1, r.2))
-
--- if more than one owns an identifier, another one than the first does
-beside_first : (t : Object → Bool) (all xs : List Object) (x : Object) → IsPermutation all (x ∷ xs) → 1 < length (filter t all) → (y : Object) × Contains xs y × (t y ≡ true)
-unfolding many
-beside_first t all xs x order several =
-    let whole = many_shuffled t all (x ∷ xs) order in
-    let long = counted t all in
-    let one : (let n : ℕ = cond (t x) 1 0 in n) ≤ 1 = at_most (t x) in
-    one_of t xs (omega (arith, whole, long, several, one))
-  where
-    at_most : (b : Bool) → (let n : ℕ = cond b 1 0 in n) ≤ 1
-    at_most true = omega arith
-    at_most false = omega arith
-
-three : (a b c : Bool) → (a && b && c) ≡ true → (a ≡ true) × (b ≡ true) × (c ≡ true)
-three true true true h = (refl, refl, refl)
-three false b c h = absurd (cc)
-three true false c h = absurd (cc)
-three true true false h = absurd (cc)
-
-each_itself : (R : Object → Object → Type 0) (xs : List Object) → ((x : Object) → Contains xs x → R x x) → Each R xs xs
-each_itself R [] all = tt
-each_itself R (x ∷ xs) all = (all x (first_in x xs), each_itself R xs (λ y at. all y (next_in x y xs at)))
-
-all_listed : (kind : Kind) (m : Map) (image : List ℕ) (xs : List Listing) → ((k : Listing) → Contains xs k → IsListing (reader_of image (Layout.New m)) (Layout.New m) k)
-    → StayListed (reader_of image (Layout.New m)) (Layout.New m) xs
-all_listed kind m image [] all = tt
-all_listed kind m image (x ∷ xs) all = (all x (first_in x xs), all_listed kind m image xs (λ k at. all k (next_in x k xs at)))
 
 module _ (kind : Kind) (r : DiscRecord) (image image' : List ℕ) (m m' : Map) (ls : List Listing) (from to : Path) (rest : List Listing) (src l : Listing) (src_content l_content : Directory) (i : ℕ)
     (o copy : Object) (id : ℕ) (parts' : List ZoneRun) (e : IsCopyChange kind r image image' (opened kind m ls) m m' from to rest src l src_content l_content i o copy id parts') where
@@ -420,7 +369,7 @@ module _ (kind : Kind) (r : DiscRecord) (image image' : List ℕ) (m m' : Map) (
 
   rest_says : StayListed (reader_of image' layout') layout' rest
   rest_says =
-      stay_law.other image image' layout layout' rest (sym form_stays) (ap (λ (g : Geometry). g.sector) same) (all_listed kind m image rest (λ k at. says k (rest_in k at))) dir_stays
+      stay_law.other image image' layout layout' rest (sym form_stays) (ap (λ (g : Geometry). g.sector) same) (all_listed m image rest (λ k at. says k (rest_in k at))) dir_stays
       (λ k at p child. at_now p (child_in kind r image m ls new opens k p (rest_in k at) child))
 
   -- ---- the new image opens
@@ -468,10 +417,364 @@ module _ (kind : Kind) (r : DiscRecord) (image image' : List ℕ) (m m' : Map) (
       Contains-permutation (held all) (held ls) p (IsPermutation-sym (held ls) (held all) (IsPermutation-flat_map (λ (x : Listing). x.children) ls all e.found))
       (Contains-permutation (o ∷ kept) (held all) p (IsPermutation-sym (held all) (o ∷ kept) held_cut) (next_in o p kept at))
 
-  pub opened_again : (w : OpensEdited kind image' layout' (src' ∷ l' ∷ rest)) × IsObjectEdit image image' layout layout' ls w.found (o ∷ []) (copy ∷ [])
+  opened_again : (w : OpensEdited kind image' layout' (src' ∷ l' ∷ rest)) × IsObjectEdit image image' layout layout' ls w.found (o ∷ []) (copy ∷ [])
   opened_again =
       map_edit_law.any kind r edit.0 image image' v m m' top.root (λ (p : Object). p) (src' ∷ l' ∷ rest) (o ∷ []) (copy ∷ []) kept [] kept is_edit (IsPermutation-refl kept)
       (λ p at. record { path = refl; name = refl; attrs = refl; load = refl; exec = refl; bytes = λ is. file_stays m m' image image' p same (file_same p (kept_held p at) is) })
 
   abbrev found : List Listing
   found = opened_again.0.found
+
+  abbrev opens_now : OpensAs image' kind (opened kind m' found)
+  opens_now = opened_again.0.opens
+
+  in_found : (k : Listing) → Contains (src' ∷ l' ∷ rest) k → Contains found k
+  in_found k at = Contains-permutation (src' ∷ l' ∷ rest) found k opened_again.0.order at
+
+  src_there : Contains found src'
+  src_there = in_found src' (first_in src' (l' ∷ rest))
+
+  l_there : Contains found l'
+  l_there = in_found l' (next_in src' l' (l' ∷ rest) (first_in l' rest))
+
+  rest_there : (k : Listing) → Contains rest k → Contains found k
+  rest_there k at = in_found k (next_in src' k (l' ∷ rest) (next_in l' k rest at))
+
+  sound_now : AreSound layout' found
+  sound_now = sound kind r image' m' found new opens_now
+
+  lasts : (k : Listing) → Contains ls k → Lasts found k
+  lasts k at = elim (cases_cons src (l ∷ rest) k (Contains-permutation ls all k e.found at)) [
+    | inl is ↦ subst (Lasts found) is (record { now = src'; there = src_there; path = refl; address = refl; sectors = refl })
+    | inr later ↦ (elim (cases_cons l rest k later) [
+      | inl is ↦ subst (Lasts found) is (record { now = l'; there = l_there; path = refl; address = refl; sectors = refl })
+      | inr further ↦ record { now = k; there = rest_there k further; path = refl; address = refl; sectors = refl }
+    ])
+  ]
+
+  -- the same object is listed
+  same_listing : (k : Listing) → Contains ls k → (n : Listing) × Contains found n × (n.object ≡ k.object)
+  same_listing k at = elim (cases_cons src (l ∷ rest) k (Contains-permutation ls all k e.found at)) [
+    | inl is ↦ (src', src_there, ap (λ (x : Listing). x.object) is)
+    | inr later ↦ (elim (cases_cons l rest k later) [
+      | inl is ↦ (l', l_there, ap (λ (x : Listing). x.object) is)
+      | inr further ↦ (k, rest_there k further, refl)
+    ])
+  ]
+
+  -- ---- the objects
+
+  abbrev now_had : Had kind r image' m' found new opens_now
+  now_had = had kind r image' m' found new opens_now
+
+  root_stays : now_had.root ≡ top.root
+  root_stays =
+      let k = from_map (λ (x : Listing). x.object) ls top.root
+      (Contains-permutation (top.root ∷ directories (held ls)) (listed ls) top.root (IsPermutation-sym (listed ls) (top.root ∷ directories (held ls)) top.all.all) (first_in top.root (directories (held ls)))) in
+      let n = same_listing k.0 k.1 in
+      let there : Contains (objects_of found) top.root = subst (λ (p : Object). Contains (objects_of found) p) (n.2 ∙ k.2) (listed_in kind r image' m' found new opens_now n.0 n.1) in
+      let first : Contains (objects_of found) now_had.root = subst (λ (os : List Object). Contains os now_had.root) (sym now_had.objects) (first_in now_had.root (held found)) in
+      same_some now_had.root top.root
+      (sym (lookup_law.object layout' found [] now_had.root sound_now first (ap (λ (p : Path). is_same_path [] p) now_had.is_root.path ∙ itself []))
+      ∙ lookup_law.object layout' found [] top.root sound_now there (ap (λ (p : Path). is_same_path [] p) top.is_root.path ∙ itself []))
+
+  objects_now : IsPermutation (objects_of found) (copy ∷ stay)
+  objects_now =
+      subst (λ (xs : List Object). IsPermutation xs (copy ∷ stay)) (ap (λ (p : Object). p ∷ held found) (sym root_stays) ∙ sym now_had.objects)
+      (IsPermutation-trans (top.root ∷ held found) (top.root ∷ copy ∷ kept) (copy ∷ stay)
+      (IsPermutation-cons top.root (held found) (copy ∷ kept)
+      (IsPermutation-trans (held found) (held (src' ∷ l' ∷ rest)) (copy ∷ kept)
+      (IsPermutation-flat_map (λ (x : Listing). x.children) found (src' ∷ l' ∷ rest) (IsPermutation-sym (src' ∷ l' ∷ rest) found opened_again.0.order)) held_now))
+      (IsPermutation-middle (top.root ∷ []) copy kept))
+
+  stay_now : (p : Object) → Contains stay p → Contains (objects_of found) p
+  stay_now p at = Contains-permutation (copy ∷ stay) (objects_of found) p (IsPermutation-sym (objects_of found) (copy ∷ stay) objects_now) (next_in copy p stay at)
+
+  copy_in : Contains (objects_of found) copy
+  copy_in = Contains-permutation (copy ∷ stay) (objects_of found) copy (IsPermutation-sym (objects_of found) (copy ∷ stay) objects_now) (first_in copy stay)
+
+  -- ---- nothing is below a file
+
+  the_one : (k : Listing) → Contains ls k → is_same_path o.path k.object.path ≡ true → k.object ≡ o
+  the_one k at is =
+      same_some k.object o
+      (sym (lookup_law.object layout ls o.path k.object old_sound (listed_in kind r image m ls new opens k at) is)
+      ∙ lookup_law.object layout ls o.path o old_sound o_in (itself o.path))
+
+  o_path : o.path ≡ src.object.path ++ o.entry.name ∷ []
+  o_path = child_path layout src.object.path (entries_of src.content) src.children o (says src src_in).1 o_child
+
+  o_long : length o.path ≡ suc (length src.object.path)
+  o_long = ap (λ (p : Path). length p) o_path ∙ long_pushed src.object.path o.entry.name
+
+  not_above_root : (p : Path) → p ≡ [] → is_prefix (folded_path o.path) (folded_path p) ≡ false
+  not_above_root p none = unless (is_prefix (folded_path o.path) (folded_path p)) (λ h.
+      let low' = prefix_long o.path p h in
+      let long = o_long in
+      let short : length p ≡ 0 = ap (λ (q : Path). length q) none in
+      omega (arith, low', long, short))
+
+  not_below : (n : ℕ) (k : Listing) → Contains ls k → length k.object.path < n → is_prefix (folded_path o.path) (folded_path k.object.path) ≡ false
+  not_below zero k at short = absurd (omega (arith, short))
+  not_below (suc n) k at short =
+      elim (cases_cons top.root (directories (held ls)) k.object
+      (Contains-permutation (listed ls) (top.root ∷ directories (held ls)) k.object top.all.all (in_mapped (λ (x : Listing). x.object) ls k at))) [
+        | inl is ↦ not_above_root k.object.path (ap (λ (p : Object). p.path) (sym is) ∙ top.is_root.path)
+        | inr kid ↦ (let d = in_flat (λ (x : Listing). x.children) ls k.object (from_filter is_directory_object (held ls) k.object kid) in
+            let path = child_path layout d.0.object.path (entries_of d.0.content) d.0.children k.object (says d.0 d.1).1 d.2 in
+            let long = ap (λ (p : Path). length p) path ∙ long_pushed d.0.object.path k.object.entry.name in
+            let other : is_same_path o.path k.object.path ≡ false =
+            unless (is_same_path o.path k.object.path) (λ same'. clash (is_directory_object k.object) (filter_test is_directory_object (held ls) k.object kid) (ap is_directory_object (the_one k at same') ∙ file)) in
+            ap (λ (p : Path). is_prefix (folded_path o.path) (folded_path p)) path
+            ∙ prefix_step o.path d.0.object.path k.object.entry.name (ap (λ (p : Path). is_same_path o.path p) (sym path) ∙ other)
+            ∙ not_below n d.0 d.1 (omega (arith, long, short)))
+      ]
+
+  dir_apart : (k : Listing) → Contains ls k → is_prefix (folded_path o.path) (folded_path k.object.path) ≡ false
+  dir_apart k at = not_below (suc (length k.object.path)) k at (omega arith)
+
+  stay_apart : (p : Object) → Contains stay p → is_prefix (folded_path o.path) (folded_path p.path) ≡ false
+  stay_apart p at = elim (object_from kind r image m ls new opens p (stay_in p at)) [
+    | inl top' ↦ ap (λ (x : Object). is_prefix (folded_path o.path) (folded_path x.path)) (sym top'.2) ∙ dir_apart top'.0 top'.1
+    | inr kid ↦ child_stays layout kid.0 o.path p (says kid.0 kid.1).1 kid.2 (dir_apart kid.0 kid.1) (stay_other p at)
+  ]
+
+  -- ---- the tree
+
+  root_is_directory : is_directory_object top.root ≡ true
+  root_is_directory = ap (λ (x : Entry). is_directory x.attrs) top.is_root.entry
+
+  stay_moved : (p : Object) → Contains stay p → IsMoved o.path copy.path image image' layout layout' p p
+  stay_moved p at = record {
+    path = sym (ap (λ (b : Bool). cond b (copy.path ++ drop (length o.path) p.path) p.path) (stay_apart p at));
+    name = sym (ap (λ (b : Bool). cond b (last_name copy.path) p.entry.name) (stay_other p at));
+    attrs = refl;
+    load = refl;
+    exec = refl;
+    bytes = λ is. elim (cases_cons top.root kept p at) [
+      | inl root ↦ absurd (clash (is_directory_object p) (ap is_directory_object (sym root) ∙ root_is_directory) is)
+      | inr other ↦ file_stays m m' image image' p same (file_same p (kept_held p other) is)
+    ];
+  }
+
+  copy_last : last_name copy.path ≡ last_name to
+  copy_last = ap (λ (p : Path). last_name p) e.path_now ∙ last_pushed l.object.path (last_name to)
+
+  copy_moved : IsMoved o.path copy.path image image' layout layout' o copy
+  copy_moved = record {
+    path = sym (moved_itself o.path copy.path o.path refl);
+    name = copy_name ∙ sym copy_last ∙ sym (ap (λ (b : Bool). cond b (last_name copy.path) o.entry.name) (itself o.path));
+    attrs = ap (λ (x : Entry). x.attrs) e.entry;
+    load = ap (λ (x : Entry). x.load) e.entry;
+    exec = ap (λ (x : Entry). x.exec) e.entry;
+    bytes = λ is. e.stored;
+  }
+
+  move : IsMove image image' layout layout' ls found o.path copy.path
+  move =
+      objects_law.moved o.path copy.path image image' layout layout' ls found (o ∷ stay) (copy ∷ stay) old_sound sound_now objects_cut objects_now
+      (copy_moved, each_itself (IsMoved o.path copy.path image image' layout layout') stay stay_moved)
+
+  tree : tree_of image' layout' found ≡ changed (tree_of image layout ls) c
+  tree = command_law.rename image image' layout layout' ls found from to o.path copy.path move e.from_is e.to_is (sym copy_last)
+
+  -- ---- paths
+
+  from_folds : folded_path from ≡ folded_path o.path
+  from_folds = folds_alike from o.path e.from_is
+
+  after_same : (p : Path) → is_prefix (folded_path o.path) (folded_path p) ≡ false → path_after c p ≡ p
+  after_same p no' = ap (λ (f : Path). cond (is_prefix f (folded_path p)) (to ++ drop (length from) p) p) from_folds ∙ ap (λ (b : Bool). cond b (to ++ drop (length from) p) p) no'
+
+  from_holds : is_same_path (holder from) src.object.path ≡ true
+  from_holds = (lies_in from src.object.path o.entry.name (ap (λ (p : Path). is_same_path from p) (sym o_path) ∙ e.from_is)).holds
+
+  to_holds : is_same_path (holder to) l.object.path ≡ true
+  to_holds = (lies_in to l.object.path (last_name to) (ap (λ (p : Path). is_same_path to p) (sym e.path_now) ∙ e.to_is)).holds
+
+  renamed_not : (p : Path) → is_same_path o.path p ≡ false → is_same_path p from ≡ false
+  renamed_not p h = unless (is_same_path p from) (λ g'. clash (is_same_path o.path p) (same_by_folds o.path p (sym from_folds ∙ sym (folds_alike p from g'))) h)
+
+  named_not : (p : Path) → is_same_path o.path p ≡ false → is_same_path from p ≡ false
+  named_not p h = unless (is_same_path from p) (λ g'. clash (is_same_path o.path p) (same_by_folds o.path p (sym from_folds ∙ folds_alike from p g')) h)
+
+  src_other : (k : Listing) → Contains (l ∷ rest) k → is_same_path src.object.path k.object.path ≡ false
+  src_other k at = other_path kind r image m ls new opens edit.0 image' m' edit.1 src k (l ∷ rest) e.found at
+
+  l_other : (k : Listing) → Contains (src ∷ rest) k → is_same_path l.object.path k.object.path ≡ false
+  l_other k at = other_path kind r image m ls new opens edit.0 image' m' edit.1 l k (src ∷ rest) found_l at
+
+  -- ---- the directories
+
+  abbrev view : Opened
+  view = opened kind m' found
+
+  holder_same : (k : Listing) → Contains ls k → holder_address found k.object.path ≡ holder_address ls k.object.path
+  holder_same k at = holder_stays kind r image m ls new opens m' image' e.map found opens_now edit.0 edit.1 k at (λ d there role. lasts d there)
+
+  edited_by : (k : Listing) (made : Option Entry) (a b : Bool) → is_same_path (holder from) k.object.path ≡ a → is_same_path (holder to) k.object.path ≡ b
+      → edited c k.object.path made (entries_of k.content) ≡ (let kept' : List Entry = cond a (without_name (last_name from) (entries_of k.content)) (entries_of k.content) in cond b (with_made made kept') kept')
+  edited_by k made a b h g' =
+      ap₂ (λ (x y : Bool). let kept' : List Entry = cond x (without_name (last_name from) (entries_of k.content)) (entries_of k.content) in cond y (with_made made kept') kept') h g'
+
+  kept_name : (k : Listing) → is_same_path o.path k.object.path ≡ false → (x : Directory) → HasName c k.object.path x
+  kept_name k other (Directory.Small dir) = ap (λ (b : Bool). cond b (padded_name 10 (last_name to)) dir.name) (named_not k.object.path other)
+  kept_name k other (Directory.Big dir) = subst (λ (b : Bool). RenamedHead b dir (last_name to) dir.name) (sym (named_not k.object.path other)) refl
+
+  rest_steady : (k : Listing) → Contains rest k → DirectorySteady image image' v view c k k
+  rest_steady k at =
+      let other = not_there o.path k.object.path (dir_apart k (rest_in k at)) in
+      record {
+        entries = sym (edited_by k (named_entry view c) false false (other_dir (holder from) src.object.path k.object.path from_holds (src_other k (next_in l k rest at))) (other_dir (holder to) l.object.path k.object.path to_holds (l_other k (next_in src k rest at))))
+            ∙ sym (entries_now v view c e.no_growth k);
+        head = inl (record {
+          bytes = file_stays m m' image image' k.object same (dir_stays k at);
+          parent = λ gets. absurd (clash (gets_parent v c k.object.path) gets (ap₂ (λ (x y : Bool). x || y) (renamed_not k.object.path other) (no_new_holder v view c e.no_growth k.object.path)));
+          name = kept_name k other k.content;
+        });
+      }
+
+  old_there : object_at ls from ≡ Some o
+  old_there = lookup_law.object layout ls from o old_sound o_in e.from_is
+
+  now_there : object_at found to ≡ Some copy
+  now_there = lookup_law.object layout' found to copy sound_now copy_in e.to_is
+
+  named_now : named_entry view c ≡ Some copy.entry
+  named_now = named_rename view copy now_there
+    where
+      named_rename : (u : Opened) (x : Object) → object_at u.listings to ≡ Some x → named_entry u (Command.Rename from to) ≡ Some x.entry
+      named_rename u x h = rw h refl
+
+  src_entries : entries_of src_content ≡ edited c src.object.path (named_entry view c) (entries_of src.content)
+  src_entries =
+      e.k_entries
+      ∙ edit_law.removed (entries_of src.content) i o.entry (last_name from) (old_sound.apart src src_in) (entry_at layout src.object.path (entries_of src.content) src.children i o (says src src_in).1 e.at)
+      (same_name_turned (last_name from) o.entry.name (lies_in from src.object.path o.entry.name (ap (λ (p : Path). is_same_path from p) (sym o_path) ∙ e.from_is)).named)
+      ∙ sym (edited_by src (named_entry view c) true false from_holds (other_dir (holder to) l.object.path src.object.path to_holds (l_other src (first_in src rest))))
+
+  absent : has_name (entries_of l.content) copy.entry.name ≡ false
+  absent = ap (has_name (entries_of l.content)) copy_name ∙ e.absent
+
+  l_entries : entries_of l_content ≡ edited c l.object.path (named_entry view c) (entries_of l.content)
+  l_entries =
+      let old = entries_of l.content in
+      e.l_entries ∙ sym (ap (λ (b : Bool). cond b (map (replaced_entry copy.entry) old) (with_entry copy.entry old)) absent) ∙ ap (λ (q : Option Entry). with_made q old) (sym named_now)
+      ∙ sym (edited_by l (named_entry view c) false true (other_dir (holder from) src.object.path l.object.path from_holds (src_other l (first_in l rest))) to_holds)
+
+  src_steady : DirectorySteady image image' v view c src src'
+  src_steady = record {
+    entries = src_entries ∙ sym (entries_now v view c e.no_growth src);
+    head = inr (record {
+      may = or_left (holds_named c src.object.path || is_renamed_by c src.object.path || _) _ (or_left (holds_named c src.object.path || is_renamed_by c src.object.path) _
+          (or_left (holds_named c src.object.path) _ (or_left (is_same_path (holder from) src.object.path) _ from_holds)));
+      says = subst (λ (a : ℕ). IsRewritten c src.object.path a src.content src_content) (sym (holder_same src src_in)) e.k_directory.says;
+      bytes = e.k_directory.bytes;
+    });
+  }
+
+  l_steady : DirectorySteady image image' v view c l l'
+  l_steady = record {
+    entries = l_entries ∙ sym (entries_now v view c e.no_growth l);
+    head = inr (record {
+      may = or_left (holds_named c l.object.path || is_renamed_by c l.object.path || _) _ (or_left (holds_named c l.object.path || is_renamed_by c l.object.path) _
+          (or_left (holds_named c l.object.path) _ (or_second (is_same_path (holder from) l.object.path) (is_same_path (holder to) l.object.path) to_holds)));
+      says = subst (λ (a : ℕ). IsRewritten c l.object.path a l.content l_content) (sym (holder_same l l_in)) e.l_directory.says;
+      bytes = e.l_directory.bytes;
+    });
+  }
+
+  some_steady : (k n : Listing) → Contains ls k → Contains found n → n.object.path ≡ k.object.path → DirectorySteady image image' v view c k n
+      → IsSomeAnd (listing_at found (path_after c k.object.path)) (DirectorySteady image image' v view c k)
+  some_steady k n at there path d =
+      subst (λ (x : Option Listing). IsSomeAnd x (DirectorySteady image image' v view c k))
+      (sym (lookup_law.listing layout' found (path_after c k.object.path) n sound_now there (ap₂ is_same_path (after_same k.object.path (dir_apart k at)) path ∙ itself k.object.path))) d
+
+  directories_now : DirectoriesSteady image image' v view c
+  directories_now k at stands = elim (cases_cons src (l ∷ rest) k (Contains-permutation ls all k e.found at)) [
+    | inl is ↦ subst (λ (x : Listing). IsSomeAnd (listing_at found (path_after c x.object.path)) (DirectorySteady image image' v view c x)) is (some_steady src src' src_in src_there refl src_steady)
+    | inr later ↦ (elim (cases_cons l rest k later) [
+      | inl is ↦ subst (λ (x : Listing). IsSomeAnd (listing_at found (path_after c x.object.path)) (DirectorySteady image image' v view c x)) is (some_steady l l' l_in l_there refl l_steady)
+      | inr further ↦ some_steady k k at (rest_there k further) refl (rest_steady k further)
+    ])
+  ]
+
+  -- ---- space
+
+  its_length : new_length v c ≡ o.entry.len
+  its_length =
+      ap (λ (q : Option Object). option_map_or (λ (x : Object). cond (is_copied v from to x) x.entry.len 0) q 0) old_there ∙ ap (λ (b : Bool). cond b o.entry.len 0) e.copied
+
+  copies : copies_file v c ≡ true
+  copies = ap (λ (q : Option Object). option_map_or (is_copied v from to) q false) old_there ∙ e.copied
+
+  its_id_is : id_of copy.entry.address ≡ id
+  its_id_is = id_is m m' o.entry.len low id parts' [] copy e.before.is_map same small e.place e.space
+
+  made : object_parts m m' v c (made_object view c) ≡ id_runs m' id
+  made =
+      ap (λ (q : Option Object). object_parts m m' v c q) now_there
+      ∙ ap (λ (n : ℕ). cond (nat_lt 0 (units m.geometry n)) (id_runs m' (id_of copy.entry.address)) []) its_length
+      ∙ ap (λ (b : Bool). cond b (id_runs m' (id_of copy.entry.address)) []) (lt-ltb 0 (units m.geometry o.entry.len) (units_some m o.entry.len e.before.is_map e.place.some))
+      ∙ ap (id_runs m') its_id_is
+
+  untaken : holes_untaken v view c m m' ≡ holes_left (hole_runs m) parts'
+  untaken = untaken_is v view c m m' (id_runs m' id) e.no_growth made ∙ same_left m m' o.entry.len low id parts' [] copy e.before.is_map same small e.place e.space
+
+  space : NewMapSteady v view c m m'
+  space =
+      space_steady v view c m m' id parts' [] e.space zones_there (λ some. (fresh some, owned_same (objects_of found) (copy ∷ stay) id objects_now ∙ (its_place.owned some).0, (its_place.owned some).1))
+      (gives_to (objects_of found) stay_now) e.no_growth (no_owner_low m (objects_of ls) (λ p at. (lies p at).placed) 1 (omega arith)) untaken same
+
+  low_again : file_low m'.geometry (bits_in (id_runs m' (id_of copy.entry.address)) * m'.geometry.bit_bytes) copy.entry.len ≡ low
+  low_again =
+      ap (λ (g : Geometry). file_low g (bits_in (id_runs m' (id_of copy.entry.address)) * g.bit_bytes) copy.entry.len) same
+      ∙ ap₂ (λ (k len : ℕ). file_low m.geometry (bits_in (id_runs m' k) * m.geometry.bit_bytes) len) its_id_is (ap (λ (x : Entry). x.len) e.entry)
+      ∙ ap (λ (k : ℕ). file_low m.geometry (k * m.geometry.bit_bytes) o.entry.len) (same_bits m m' o.entry.len low id parts' [] copy e.before.is_map same small e.place e.space)
+
+  stands : StandsInNewSpace m m' o.entry.len copy
+  stands =
+      stands_new m m' o.entry.len low id parts' [] copy e.before.is_map same small e.place e.space
+      (ap (λ (b : Bool). cond b 0 (file_low m'.geometry (bits_in (id_runs m' (id_of copy.entry.address)) * m'.geometry.bit_bytes) copy.entry.len)) copy_file ∙ low_again)
+
+  placed_now : NewObjectPlaced m m' (new_length v c) None (made_object view c)
+  placed_now =
+      subst (λ (n : ℕ). NewObjectPlaced m m' n None (made_object view c)) (sym its_length)
+      (λ some. subst (λ (q : Option Object). IsSomeAnd q (StandsInNewSpace m m' o.entry.len)) (sym now_there) stands)
+
+  entry_steady : (form : NameForm) → EntrySteady form (is_moved_by c) (Some o) copy
+  entry_steady form = record { last = inl (ap (λ (x : Entry). x.last) e.entry); len = λ dir. absurd (clash (is_directory_object copy) dir copy_file) }
+
+  copied_at : IsChanged kind image image' v m' (src' ∷ l' ∷ rest) c
+  copied_at = record {
+    found = found;
+    order = opened_again.0.order;
+    changes = record {
+      opens = record { opens = opens_now; copies = subst (λ (g : Geometry). HoldsCopies g m'.zones image') (sym same) e.map.copies };
+      tree = tree;
+      placed = record {
+        object = placed_now;
+        empty = λ h. absurd (cc);
+        growth = subst (λ (q : Option Growth). GrowthPlacedIn v view c q) (sym e.no_growth) tt;
+      };
+      steady = record {
+        directories = directories_now;
+        named = subst (λ (b : Bool). NamedStays v view c b) (sym copies) tt;
+        entry = subst (λ (q : Option Object). IfSome q (EntrySteady (dir_form layout) (is_moved_by c) (object_at ls from))) (sym now_there)
+            (subst (λ (q : Option Object). EntrySteady (dir_form layout) (is_moved_by c) q copy) (sym old_there) (entry_steady (dir_form layout)));
+        made = tt;
+        space = space;
+        outside = outside_steady kind r image m ls new opens m' image' e.map found opens_now c (l.object.sectors ++ more) e.no_growth e.written busy free;
+        behind = behind_stays kind r image m ls new opens image' (l.object.sectors ++ more) e.written busy;
+      };
+    };
+  }
+
+-- ---- the law
+
+pub copied_law : CopiedLaw
+copied_law kind r image image' v m m' from to rest k l k_content l_content i o copy id parts e =
+    subst (λ (u : Opened). IsCopyChange kind r image image' u m m' from to rest k l k_content l_content i o copy id parts
+    → IsChanged kind image image' u m' (says_now k k_content (remove k.children i) ∷ says_now l l_content (insert l.children (entry_place copy.entry.name (entries_of l.content)) copy) ∷ rest) (Command.Rename from to))
+    (opened_as kind r image v m e.before.new_kind e.before.opens e.before.layout)
+    (copied_at kind r image image' m m' v.listings from to rest k l k_content l_content i o copy id parts) e
