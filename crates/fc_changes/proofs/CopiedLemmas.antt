@@ -1,12 +1,11 @@
 -- Rename of a file that is copied.
-use Rattle.std.proofs.Common.{◌≡◌, ◌<◌, ◌≤◌, ◌⊎◌, inl, inr, zero, suc, ℕ, ◌+◌, ◌*◌, Bool, true, false, cond, List, [], ◌∷◌, ◌++◌, length, map, refl, sym, ap, ap₂, subst, ◌∙◌, arith, Some, None, Option}
+use Rattle.std.proofs.Common.{◌≡◌, ◌<◌, ◌≤◌, inl, inr, zero, suc, ℕ, ◌*◌, Bool, true, false, cond, List, [], ◌∷◌, ◌++◌, length, map, refl, sym, ap, ap₂, subst, ◌∙◌, arith, Some, None, Option}
 use Rattle.std.specs.Prelude.{Ok, Err, Contains, IsPermutation, IfSome, IsSomeAnd, insert, remove, not, filter, drop, ◌&&◌, ◌||◌, ◌==◌, nat_le, nat_lt}
 use Rattle.std.specs.List.{list_any}
 use Rattle.std.specs.Option.{option_map_or}
 use Rattle.std.proofs.lemmas.Bool.{eqb-true, lt-ltb, ltb-true}
-use Rattle.std.proofs.lemmas.List.Elements.{Contains-append_cases, Contains-append_left, Contains-append_right}
+use Rattle.std.proofs.lemmas.List.Elements.{Contains-append_left, Contains-append_right}
 use Rattle.std.proofs.lemmas.List.Sorted.{Contains-permutation, IsPermutation-append_left, IsPermutation-append_right, IsPermutation-cons, IsPermutation-insert, IsPermutation-middle, IsPermutation-refl, IsPermutation-sym, IsPermutation-trans, length_permutation}
-use Rattle.std.proofs.lemmas.List.{append_assoc}
 use Rattle.fc_names.specs.declared.name.NameForm.{NameForm}
 use Rattle.fc_names.specs.declared.name.NameForm.TheVariants.{Ten, Long}
 use Rattle.fc_names.specs.Names.{Path, folded_path, is_directory, is_same_path}
@@ -41,12 +40,12 @@ use Rattle.fc_image.proofs.EditLemmas.{stay_law}
 use Rattle.fc_image.proofs.EntriesLemmas.{entries_law, from_filter, from_map, in_filter, in_mapped, same_some}
 use Rattle.fc_image.proofs.HolesLemmas.{Lies, apart_at, apart_from, in_id}
 use Rattle.fc_image.proofs.LookupLemmas.{lookup_law}
-use Rattle.fc_image.proofs.MapEditLemmas.{file_stays, held_in, is_file, known_apart, known_root, map_edit_law, places_law}
+use Rattle.fc_image.proofs.MapEditLemmas.{file_stays, is_file, known_apart, known_root, map_edit_law, places_law}
 use Rattle.fc_image.proofs.MoveLemmas.{not_true}
-use Rattle.fc_image.proofs.OneZoneLemmas.{and_first, and_second}
+use Rattle.fc_image.proofs.OneZoneLemmas.{and_second}
 use Rattle.fc_image.proofs.OrderLemmas.{apart_shuffled}
 use Rattle.fc_image.proofs.PathsLemmas.{itself}
-use Rattle.fc_image.proofs.RelistLemmas.{apart_behind, edited_apart_law, folded_long, map_itself, prefix_long, prefix_step}
+use Rattle.fc_image.proofs.RelistLemmas.{apart_behind, edited_apart_law, map_itself, prefix_long, prefix_step}
 use Rattle.fc_image.proofs.RenameLemmas.{alone, child_path, child_stays, last_pushed, moved_itself}
 use Rattle.fc_image.proofs.ShuffleLemmas.{IsPermutation-flat_map, flipped}
 use Rattle.fc_image.proofs.TreeLemmas.{folds_alike}
@@ -55,7 +54,7 @@ use Rattle.fc_effects.specs.Effect.{copies_file}
 use Rattle.fc_effects.specs.Sharing.{units}
 use Rattle.fc_effects.specs.Short.{Growth, is_copied, is_sharing, new_length}
 use Rattle.fc_effects.specs.Placed.{GrowthPlacedIn, NewObjectPlaced, StandsInNewSpace, file_low, holes_left, made_object, object_parts}
-use Rattle.fc_effects.specs.Steady.{AreWritten, DirectoriesSteady, DirectorySteady, EntrySteady, HasName, IsRewritten, NamedStays, NewMapSteady, RenamedHead, edited, gets_parent, holds_named, holes_untaken, is_moved_by, is_renamed_by, named_entry, path_after, replaced_entry, with_made, without_name}
+use Rattle.fc_effects.specs.Steady.{DirectoriesSteady, DirectorySteady, EntrySteady, HasName, IsRewritten, NamedStays, NewMapSteady, RenamedHead, edited, gets_parent, holds_named, holes_untaken, is_moved_by, is_renamed_by, named_entry, path_after, replaced_entry, with_made, without_name}
 use Rattle.fc_plan.proofs.Units.{units_some}
 use Rattle.fc_changes.specs.Owed.{GivesBack, IsDirectoryWritten}
 use Rattle.fc_changes.specs.Changed.{IsChanged}
