@@ -1,6 +1,7 @@
 //! What edits of a volume's objects make of its numbered nodes and of its owners.
 #![tactic(auto)]
 
+ghost use Rattle.fc_nodes.specs.Copied.{CopiedLaw};
 ghost use Rattle.fc_nodes.specs.Laws.{AddedLaw, DirectoryAddedLaw, OwnerLaw, RemovedLaw, RenamedLaw, ReplacedLaw, RewordedLaw, TransferredLaw};
 
 /// An object of a directory is the owner that its numbers say.
@@ -41,4 +42,9 @@ pub fn renamed()
 /// After `rename` to another directory nodes and owners follow.
 pub fn transferred()
     ensures { TransferredLaw }
+{}
+
+/// After `rename` of a file that is copied nodes and owners follow.
+pub fn copied()
+    ensures { CopiedLaw }
 {}
