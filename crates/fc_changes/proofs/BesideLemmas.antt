@@ -1,14 +1,21 @@
--- Lists of objects: who owns an identifier beside a first owner, and what holds of each.
-use Rattle.std.proofs.Common.{◌≡◌, ◌<◌, ◌≤◌, ℕ, ◌+◌, Bool, true, false, cond, List, [], ◌∷◌, length, refl, arith}
-use Rattle.std.specs.Prelude.{Contains, IsPermutation, filter, ◌&&◌}
+-- Lists of objects: who owns an identifier beside a first owner, and what holds of each object.
+use Rattle.std.proofs.Common.{◌≡◌, ◌<◌, ◌≤◌, inl, inr, ℕ, ◌+◌, Bool, true, false, cond, List, [], ◌∷◌, length, refl, sym, ap, subst, ◌∙◌, arith}
+use Rattle.std.specs.Prelude.{Contains, IsPermutation, filter, not, ◌&&◌, ◌||◌, ◌==◌, nat_lt}
+use Rattle.std.specs.List.{list_any}
+use Rattle.std.proofs.lemmas.Bool.{eqb-true, ltb-true}
+use Rattle.std.proofs.lemmas.List.Sorted.{Contains-permutation}
 use Rattle.fc_newmap.specs.Map.{Map}
-use Rattle.fc_image.specs.Layout.{Layout}
+use Rattle.fc_image.specs.Layout.{Layout, id_of}
 use Rattle.fc_image.specs.Walk.{Listing, Object, reader_of}
+use Rattle.fc_image.specs.Objects.{has_sectors, is_owned, is_owner_of, owner_count}
 use Rattle.fc_image.specs.Edits.{IsListing, StayListed}
 use Rattle.fc_image.specs.Commanded.{Each}
+use Rattle.fc_image.proofs.OneZoneLemmas.{and_second}
 use Rattle.fc_image.proofs.PathsLemmas.{many}
 use Rattle.fc_image.proofs.RenameLemmas.{many_shuffled}
-use Rattle.fc_changes.proofs.BasicLemmas.{first_in, next_in}
+use Rattle.fc_effects.specs.Short.{is_sharing}
+use Rattle.fc_changes.specs.Owed.{GivesBack}
+use Rattle.fc_changes.proofs.BasicLemmas.{any_in, cases_cons, first_in, in_any, next_in}
 
 -- how many pass a test
 counted : (t : Object → Bool) (xs : List Object) → length (filter t xs) ≡ many t xs
@@ -61,3 +68,36 @@ pub all_listed : (m : Map) (image : List ℕ) (xs : List Listing) → ((k : List
     → StayListed (reader_of image (Layout.New m)) (Layout.New m) xs
 all_listed m image [] all = tt
 all_listed m image (x ∷ xs) all = (all x (first_in x xs), all_listed m image xs (λ k at. all k (next_in x k xs at)))
+
+-- ---- a shared identifier
+
+module _ (m : Map) (objects stay : List Object) (o : Object) (cut : IsPermutation objects (o ∷ stay)) (shares : is_sharing (Layout.New m) objects o ≡ true) where
+  its_id : (k : ℕ) → is_owner_of k o ≡ true → id_of o.entry.address ≡ k
+  its_id k own = eqb-true (id_of o.entry.address) k (and_second (has_sectors o) (id_of o.entry.address == k) own)
+
+  -- its other owner
+  another : (k : ℕ) → id_of o.entry.address ≡ k → (k == 2) ≡ false → (q : Object) × Contains stay q × (is_owner_of k q ≡ true)
+  another k is two =
+      let several = ltb-true 1 (owner_count objects k) (subst (λ (n : ℕ). nat_lt 1 (owner_count objects n) ≡ true) is (and_second (has_sectors o) (nat_lt 1 (owner_count objects (id_of o.entry.address))) shares)) in
+      let none : (let n : ℕ = cond (k == 2) 1 0 in n) ≡ 0 = ap (λ (b : Bool). let n : ℕ = cond b 1 0 in n) two in
+      beside_first (is_owner_of k) objects stay o cut (omega (arith, several, none))
+
+  owned_still : (after : List Object) → ((p : Object) → Contains stay p → Contains after p) → (k : ℕ) → is_owned objects k ≡ true → is_owned after k ≡ true
+  owned_still after stays k own = by (k == 2) refl own
+    where
+      by : (b : Bool) → (k == 2) ≡ b → (b || list_any (is_owner_of k) objects) ≡ true → (b || list_any (is_owner_of k) after) ≡ true
+      by true two h = refl
+      by false two h =
+          let p = in_any (is_owner_of k) objects h in
+          elim (cases_cons o stay p.0 (Contains-permutation objects (o ∷ stay) p.0 cut p.1)) [
+            | inl is ↦ (let q = another k (its_id k (ap (is_owner_of k) is ∙ p.2)) two in any_in (is_owner_of k) after q.0 (stays q.0 q.1) q.2)
+            | inr other ↦ any_in (is_owner_of k) after p.0 (stays p.0 other) p.2
+          ]
+
+  -- without the object no identifier goes back
+  pub shared_stays : (after : List Object) → ((p : Object) → Contains stay p → Contains after p) → GivesBack m [] objects after
+  shared_stays after stays = record { exactly = λ k used. by k (is_owned objects k) refl }
+    where
+      by : (k : ℕ) (b : Bool) → is_owned objects k ≡ b → false ≡ (b && not (is_owned after k))
+      by k false h = refl
+      by k true h = sym (ap not (owned_still after stays k h))

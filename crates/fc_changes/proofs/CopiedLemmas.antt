@@ -3,7 +3,7 @@ use Rattle.std.proofs.Common.{◌≡◌, ◌<◌, ◌≤◌, inl, inr, zero, suc
 use Rattle.std.specs.Prelude.{Ok, Err, Contains, IsPermutation, IfSome, IsSomeAnd, insert, remove, not, filter, drop, ◌&&◌, ◌||◌, ◌==◌, nat_le, nat_lt}
 use Rattle.std.specs.List.{list_any}
 use Rattle.std.specs.Option.{option_map_or}
-use Rattle.std.proofs.lemmas.Bool.{eqb-true, lt-ltb, ltb-true}
+use Rattle.std.proofs.lemmas.Bool.{eqb-true, lt-ltb}
 use Rattle.std.proofs.lemmas.List.Elements.{Contains-append_left, Contains-append_right}
 use Rattle.std.proofs.lemmas.List.Sorted.{Contains-permutation, IsPermutation-append_left, IsPermutation-append_right, IsPermutation-cons, IsPermutation-insert, IsPermutation-middle, IsPermutation-refl, IsPermutation-sym, IsPermutation-trans, length_permutation}
 use Rattle.fc_names.specs.declared.name.NameForm.{NameForm}
@@ -25,7 +25,7 @@ use Rattle.fc_dirs.proofs.EditLemmas.{edit_law}
 use Rattle.fc_image.specs.Layout.{Layout, dir_form, id_of, is_among, is_apart}
 use Rattle.fc_image.specs.Report.{holder_address}
 use Rattle.fc_image.specs.Walk.{Listing, Object, is_directory_object, object_bytes, object_size, reader_of}
-use Rattle.fc_image.specs.Objects.{has_sectors, is_movable, is_owned, is_owner_of, listing_at, object_at, objects_of, owner_count, tree_of}
+use Rattle.fc_image.specs.Objects.{is_movable, is_owned, is_owner_of, listing_at, object_at, objects_of, tree_of}
 use Rattle.fc_image.specs.Opening.{Opened, reserved_in}
 use Rattle.fc_image.specs.Stays.{HasSectorsOf, IsNewKind, OpensAs}
 use Rattle.fc_image.specs.Edits.{Apart, AreChildren, IsApartFrom, IsAt, IsListing, StayListed}
@@ -42,7 +42,6 @@ use Rattle.fc_image.proofs.HolesLemmas.{Lies, apart_at, apart_from, in_id}
 use Rattle.fc_image.proofs.LookupLemmas.{lookup_law}
 use Rattle.fc_image.proofs.MapEditLemmas.{file_stays, is_file, known_apart, known_root, map_edit_law, places_law}
 use Rattle.fc_image.proofs.MoveLemmas.{not_true}
-use Rattle.fc_image.proofs.OneZoneLemmas.{and_second}
 use Rattle.fc_image.proofs.OrderLemmas.{apart_shuffled}
 use Rattle.fc_image.proofs.PathsLemmas.{itself}
 use Rattle.fc_image.proofs.RelistLemmas.{apart_behind, edited_apart_law, map_itself, prefix_long, prefix_step}
@@ -61,7 +60,7 @@ use Rattle.fc_changes.specs.Changed.{IsChanged}
 use Rattle.fc_changes.specs.Copied.{CopiedLaw, IsCopyChange}
 use Rattle.fc_changes.proofs.BasicLemmas.{and_false, any_in, cases_cons, clash, first_in, in_any, in_flat, long_pushed, next_in, not_zero, or_cases, or_left, or_second, unless, without_it}
 use Rattle.fc_changes.proofs.BeforeLemmas.{Had, boot_stays, child_in, had, listed_in, map_edit, object_from, object_lies, opened_as, other_path, parts, says_old, sound}
-use Rattle.fc_changes.proofs.BesideLemmas.{all_listed, beside_first, each_itself, three}
+use Rattle.fc_changes.proofs.BesideLemmas.{all_listed, each_itself, shared_stays, three}
 use Rattle.fc_changes.proofs.ChangeLemmas.{a_sector, opened}
 use Rattle.fc_changes.proofs.DirectoriesLemmas.{Lasts, entries_now, no_new_holder}
 use Rattle.fc_changes.proofs.MadeLemmas.{file_low_small, stands_new, turned}
@@ -193,33 +192,9 @@ module _ (kind : Kind) (r : DiscRecord) (image image' : List ℕ) (m m' : Map) (
 
   -- ---- owners
 
-  its_id : (k : ℕ) → is_owner_of k o ≡ true → id_of o.entry.address ≡ k
-  its_id k own = eqb-true (id_of o.entry.address) k (and_second (has_sectors o) (id_of o.entry.address == k) own)
-
-  another : (k : ℕ) → id_of o.entry.address ≡ k → (k == 2) ≡ false → (q : Object) × Contains stay q × (is_owner_of k q ≡ true)
-  another k is two =
-      let several = ltb-true 1 (owner_count (objects_of ls) k) (subst (λ (n : ℕ). nat_lt 1 (owner_count (objects_of ls) n) ≡ true) is (and_second (has_sectors o) (nat_lt 1 (owner_count (objects_of ls) (id_of o.entry.address))) shares.2)) in
-      let none : (let n : ℕ = cond (k == 2) 1 0 in n) ≡ 0 = ap (λ (b : Bool). let n : ℕ = cond b 1 0 in n) two in
-      beside_first (is_owner_of k) (objects_of ls) stay o objects_cut (omega (arith, several, none))
-
-  owned_still : (after : List Object) → ((p : Object) → Contains stay p → Contains after p) → (k : ℕ) → is_owned (objects_of ls) k ≡ true → is_owned after k ≡ true
-  owned_still after stays k own = by (k == 2) refl own
-    where
-      by : (b : Bool) → (k == 2) ≡ b → (b || list_any (is_owner_of k) (objects_of ls)) ≡ true → (b || list_any (is_owner_of k) after) ≡ true
-      by true two h = refl
-      by false two h =
-          let p = in_any (is_owner_of k) (objects_of ls) h in
-          elim (cases_cons o stay p.0 (Contains-permutation (objects_of ls) (o ∷ stay) p.0 objects_cut p.1)) [
-            | inl is ↦ (let q = another k (its_id k (ap (is_owner_of k) is ∙ p.2)) two in any_in (is_owner_of k) after q.0 (stays q.0 q.1) q.2)
-            | inr other ↦ any_in (is_owner_of k) after p.0 (stays p.0 other) p.2
-          ]
-
+  -- nothing goes back
   gives_to : (after : List Object) → ((p : Object) → Contains stay p → Contains after p) → GivesBack m [] (objects_of ls) after
-  gives_to after stays = record { exactly = λ k used. by k (is_owned (objects_of ls) k) refl }
-    where
-      by : (k : ℕ) (b : Bool) → is_owned (objects_of ls) k ≡ b → false ≡ (b && not (is_owned after k))
-      by k false h = refl
-      by k true h = sym (ap not (owned_still after stays k h))
+  gives_to after stays = shared_stays m (objects_of ls) stay o objects_cut shares.2 after stays
 
   its_place : NewPlace kind m (objects_of ls) stay id parts' copy
   its_place = new_place kind r image m ls new opens m' o.entry.len id parts' [] copy stay e.before.is_map same e.space (gives_to (copy ∷ stay) (λ p at. next_in copy p stay at)) e.placed its_size low small e.place
