@@ -1,6 +1,6 @@
 -- Commits of a map of which nothing or something has changed.
-use Rattle.std.proofs.Common.{◌≡◌, ◌<◌, ◌≤◌, ℕ, zero, suc, true, false, cond, Bool, List, [], ◌∷◌, length, get_or, map, refl, sym, ap, ap₂, subst, ◌∙◌, arith, inl, inr, Some, IsFalse}
-use Rattle.std.specs.Prelude.{Contains, Ok, Err, Result, slice_index}
+use Rattle.std.proofs.Common.{◌≡◌, ◌<◌, ℕ, suc, true, List, [], ◌∷◌, length, get_or, refl, sym, ap, ap₂, subst, ◌∙◌, arith, inl, inr, Some, IsFalse}
+use Rattle.std.specs.Prelude.{Contains, Ok}
 use Rattle.std.specs.List.{range_with_len}
 use Rattle.std.specs.Option.{ForSome}
 use Rattle.std.proofs.lemmas.List.{length-map}
@@ -15,10 +15,9 @@ use Rattle.fc_newmap.specs.Map.{Map, sector_of}
 use Rattle.fc_newmap.specs.NewMap.{IsNewMap}
 use Rattle.fc_newmap.specs.Edits.{AreEdits}
 use Rattle.fc_newmap.proofs.GeometryLemmas.{header_high}
-use Rattle.fc_copies.specs.declared.Which.{Which}
-use Rattle.fc_copies.specs.declared.Which.TheVariants.{One, Two}
+use Rattle.fc_copies.specs.declared.Which.TheVariants.{One}
 use Rattle.fc_copies.specs.Committing.{CanWrite}
-use Rattle.fc_copies.specs.Copies.{ChangesCopies, Chooses, CommitEnds, CommitLeaves, HoldsCopies, chosen, copy_of, copy_start, is_sound, unsound_zone}
+use Rattle.fc_copies.specs.Copies.{ChangesCopies, CommitEnds, CommitLeaves, HoldsCopies, chosen, copy_of, copy_start, is_sound}
 
 pub same_sectors : (xs ys : List (List ℕ)) → length xs ≡ length ys → ((k : ℕ) → k < length xs → get_or xs k [] ≡ get_or ys k []) → xs ≡ ys
 same_sectors [] [] long same = refl

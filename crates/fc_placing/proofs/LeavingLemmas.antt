@@ -3,7 +3,7 @@ use Rattle.std.proofs.Common.{◌≡◌, ◌&&◌, ◌||◌, ◌==◌, ◌⊎◌
 use Rattle.std.specs.Prelude.{Contains, IsPermutation, not}
 use Rattle.std.specs.List.{find, list_any}
 use Rattle.std.specs.FinMap.{FinMap}
-use Rattle.std.specs.Option.{option_and_then, option_map_or, option_to_list, unwrap_or}
+use Rattle.std.specs.Option.{option_and_then, option_to_list, unwrap_or}
 use Rattle.std.proofs.lemmas.Bool.{eqb-true, ne_eqb}
 use Rattle.std.proofs.lemmas.List.Sorted.{Contains-permutation, IsPermutation-sym, list_any-IsPermutation}
 use Rattle.fc_names.specs.Names.{is_same_path}
@@ -12,13 +12,13 @@ use Rattle.fc_alloc.specs.Owners.{is_node}
 use Rattle.fc_newmap.specs.Map.{Map, is_used}
 use Rattle.fc_image.specs.Layout.{Layout, id_of}
 use Rattle.fc_image.specs.Walk.{Object, Listing}
-use Rattle.fc_image.specs.Objects.{has_sectors, is_owned, is_owner_of, objects_of}
+use Rattle.fc_image.specs.Objects.{has_sectors, is_owner_of, objects_of}
 use Rattle.fc_image.specs.Sound.{AreSound}
 use Rattle.fc_image.proofs.PathsLemmas.{is_at, itself, many}
 use Rattle.fc_effects.specs.Steady.{is_given_back}
 use Rattle.fc_plan.specs.Giving.{is_one_of}
 use Rattle.fc_changes.specs.Owed.{GivesBack}
-use Rattle.fc_changes.proofs.BasicLemmas.{clash, cases_cons, first_in, next_in, or_false, unless}
+use Rattle.fc_changes.proofs.BasicLemmas.{clash, cases_cons, first_in, next_in}
 use Rattle.fc_changes.proofs.SpaceLemmas.{owned_same}
 use Rattle.fc_tree.specs.declared.node.Node.{Node}
 use Rattle.fc_tree.specs.Nodes.{HoldObjects, number_of}
@@ -26,7 +26,7 @@ use Rattle.fc_tree.specs.Parts.{AreOwners, owner_of}
 use Rattle.fc_tree.proofs.MemberLemmas.{found_passes, from_map, in_filter, in_map, many_permuted, some_many}
 use Rattle.fc_tree.proofs.PlaceLemmas.{one_path}
 use Rattle.fc_tree.proofs.SoundLemmas.{same_by_folds, same_object}
-use Rattle.fc_tree.proofs.WalkedLemmas.{few_objects, same_some}
+use Rattle.fc_tree.proofs.WalkedLemmas.{few_objects}
 use Rattle.fc_placing.specs.Leaving.{LeavesIds, OwnOnly, has_other, is_kept, left_among, left_of}
 
 -- ---- lists

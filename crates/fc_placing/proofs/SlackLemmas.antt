@@ -1,11 +1,11 @@
 -- Which identifier a file may share, by owners and by objects.
-use Rattle.std.proofs.Common.{◌≡◌, ◌&&◌, ◌||◌, ◌==◌, ◌<◌, ◌≤◌, ◌+◌, ◌-◌, ◌*◌, suc, inl, inr, ℕ, Bool, true, false, cond, List, [], ◌∷◌, ◌++◌, length, map, take, drop, filter, refl, sym, ap, ap₂, subst, ◌∙◌, arith, Some, None, Option, nat_cmp, nat_le, eq-eqb}
+use Rattle.std.proofs.Common.{◌≡◌, ◌&&◌, ◌||◌, ◌==◌, ◌+◌, ◌-◌, ◌*◌, suc, ℕ, Bool, true, false, cond, List, [], ◌∷◌, ◌++◌, length, map, take, drop, filter, refl, sym, ap, ap₂, ◌∙◌, arith, Some, None, Option, nat_cmp, nat_le, eq-eqb}
 use Rattle.std.specs.Prelude.{Contains, IsPermutation, not, nat_eq, nat_lt}
-use Rattle.std.specs.List.{find, flat_map, list_all, list_any, range_with_len}
+use Rattle.std.specs.List.{find, flat_map, list_all, list_any}
 use Rattle.std.specs.FinMap.{FinMap}
 use Rattle.std.specs.Int.{div_ceil}
 use Rattle.std.specs.Option.{option_map_or, unwrap_or}
-use Rattle.std.proofs.lemmas.Bool.{cases_lt, eqb-true, leb-true, ne_eqb}
+use Rattle.std.proofs.lemmas.Bool.{leb-true, ne_eqb}
 use Rattle.std.proofs.lemmas.List.{length-take}
 use Rattle.std.proofs.lemmas.List.Sorted.{list_any-IsPermutation}
 use Rattle.fc_names.specs.Names.{Path, is_same_path}
@@ -15,14 +15,14 @@ use Rattle.fc_newmap.specs.Map.{Map}
 use Rattle.fc_newmap.specs.NewMap.{IsNewMap}
 use Rattle.fc_model.specs.Tree.{holder}
 use Rattle.fc_image.specs.Layout.{Layout, dir_form, first_part, id_of, id_sectors, is_apart, is_object_id, low_of, low_start, new_sectors, sectors_at}
-use Rattle.fc_image.specs.Walk.{Object, Listing, is_directory_object, object_size}
+use Rattle.fc_image.specs.Walk.{Object, Listing, object_size}
 use Rattle.fc_image.specs.Objects.{has_sectors, objects_of}
 use Rattle.fc_image.specs.Sound.{AreSound}
 use Rattle.fc_image.specs.Edits.{IsAt}
 use Rattle.fc_image.proofs.EntriesLemmas.{from_filter}
 use Rattle.fc_image.proofs.HolesLemmas.{Each-contains, Each-objects, Lies, walk_lies}
 use Rattle.fc_effects.specs.Sharing.{Holding, holding_of, holdings_in, is_shareable, is_spare, may_share_with, shares, slack, slack_among}
-use Rattle.fc_slack.specs.Slack.{allows, holding_in, holdings, is_good, is_room, leaves_free, may_share, shares_from}
+use Rattle.fc_slack.specs.Slack.{allows, holding_in, holdings, is_good, leaves_free, shares_from}
 use Rattle.fc_slack.proofs.Shares.{slack_is, slack_none, some_sectors}
 use Rattle.fc_tree.specs.declared.node.Node.{Node}
 use Rattle.fc_tree.specs.Nodes.{HoldObjects, number_of}

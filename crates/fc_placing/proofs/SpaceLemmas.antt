@@ -1,13 +1,11 @@
 -- Changes of space on a map, committed one after another.
-use Rattle.std.proofs.Common.{◌≡◌, ◌<◌, ◌≤◌, ◌⊎◌, inl, inr, ℕ, zero, suc, ◌+◌, ◌^◌, Bool, true, false, cond, List, [], ◌∷◌, ◌++◌, length, get_or, map, refl, sym, ap, ap₂, subst, ◌∙◌, arith, Some, None, Option}
-use Rattle.std.specs.Prelude.{All, Contains, IsPermutation, filter, not, ◌||◌, slice_range, slice_index}
-use Rattle.std.specs.List.{AllByRecursion, flat_map, range_with_len}
+use Rattle.std.proofs.Common.{◌≡◌, ◌<◌, ◌⊎◌, inl, inr, ℕ, ◌+◌, ◌-◌, ◌^◌, ◌==◌, Bool, true, false, cond, List, [], ◌∷◌, ◌++◌, length, refl, sym, ap, ap₂, subst, ◌∙◌, arith, Some, None, Option}
+use Rattle.std.specs.Prelude.{All, Contains, IsPermutation, filter, ◌||◌, slice_index}
+use Rattle.std.specs.List.{AllByRecursion, find, list_any, range_with_len}
 use Rattle.std.specs.List.Sorted.{IsStrictlyIncreasing}
-use Rattle.std.proofs.lemmas.List.{append-nil}
 use Rattle.std.proofs.lemmas.List.Elements.{Contains-get_or}
 use Rattle.std.proofs.lemmas.List.FromFn.{get_or-range_with_len, length-range_with_len}
 use Rattle.std.proofs.lemmas.List.Kept.{IsStrictlyIncreasing-filter}
-use Rattle.std.proofs.lemmas.Bool.{eqb-true}
 use Rattle.fc_bytes.specs.Bits.{bits}
 use Rattle.fc_record.specs.declared.Geometry.{Geometry}
 use Rattle.fc_zone.specs.declared.Run.{Run}
@@ -23,22 +21,22 @@ use Rattle.fc_newmap.specs.RunsLaw.{placed}
 use Rattle.fc_newmap.proofs.HeldLemmas.{geometry_facts}
 use Rattle.fc_newmap.proofs.PlaceLemmas.{id_runs_by_zones}
 use Rattle.fc_copies.specs.Committing.{KeepsContents}
-use Rattle.fc_copies.specs.Copies.{CommitEnds, HoldsCopies}
+use Rattle.fc_copies.specs.Copies.{HoldsCopies}
 use Rattle.fc_image.proofs.EntriesLemmas.{from_filter}
-use Rattle.fc_effects.specs.Placed.{holes_left}
-use Rattle.fc_effects.specs.Steady.{KeepsOrWritesLinks, ZoneSteady, holes_with, has_id_that, runs_that, zone_holes}
+use Rattle.fc_effects.specs.Placed.{holes_left, stands_at}
+use Rattle.fc_effects.specs.Steady.{ZoneSteady, holes_with, has_id_that, runs_that, zone_holes}
 use Rattle.fc_plan.specs.declared.plan.Plan.{Plan}
 use Rattle.fc_plan.specs.Applied.{is_changed, unless_gone}
 use Rattle.fc_plan.specs.Giving.{has_run_of, is_given, is_one_of, stays_given}
 use Rattle.fc_plan.specs.Parts.{KeepsZones, fronts, has_part}
-use Rattle.fc_plan.specs.Taking.{as_runs, run_taken, runs_taken}
+use Rattle.fc_plan.specs.Taking.{as_runs, hole_taken, run_taken, runs_taken}
 use Rattle.fc_plan.proofs.Applies.{no_parts}
 use Rattle.fc_plan.proofs.Changes.{not_listed}
 use Rattle.fc_plan.proofs.Composed.{given_after_take, given_at_holes}
 use Rattle.fc_plan.proofs.Left.{left_of_none}
 use Rattle.fc_changes.specs.Laws.{GaveBack}
 use Rattle.fc_changes.specs.Owed.{IsMapAfter, IsSpaceEdit}
-use Rattle.fc_changes.proofs.BasicLemmas.{cases_cons, clash}
+use Rattle.fc_changes.proofs.BasicLemmas.{cases_cons, clash, first_in, next_in, or_false}
 use Rattle.fc_changes.proofs.CommittedLemmas.{geometry_same, index_part, kept_links, record_same, steady_zone}
 use Rattle.fc_placing.specs.Space.{HasTaken, IsMapEdited, StepsLaw, zones_changed}
 
@@ -51,6 +49,9 @@ range_rises from n k lt =
 
 below : (n x : ℕ) → Contains (range_with_len 0 n) x → x < n
 below n x (k, low, is) = let inside : k < n = omega (arith, low, length-range_with_len 0 n) in omega (arith, inside, is, get_or-range_with_len 0 n k x inside)
+
+pub low_in_range : (from n x : ℕ) → Contains (range_with_len from n) x → x < from + n
+low_in_range from n x (k, low, is) = let inside : k < n = omega (arith, low, length-range_with_len from n) in omega (arith, inside, is, get_or-range_with_len from n k x inside)
 
 module _ (m : Map) (plan : Option Plan) (gone zones : List ℕ) (are : zones ≡ zones_changed m plan gone) where
   pub zones_rise : IsStrictlyIncreasing zones
@@ -120,6 +121,7 @@ took m mid m' id parts taken kept = record {
   geometry = kept.geometry ∙ taken.geometry;
   runs = λ z low. kept.runs z ∙ taken.runs z low;
   holes = holes_same mid m' kept ∙ taken.holes;
+  own = ids_same mid m' kept id ∙ taken.own;
   gained = subst (λ (runs : List ZoneRun). IsPermutation runs (id_runs m id ++ as_runs id parts)) (sym (ids_same mid m' kept id)) taken.gained;
   others = λ other ne. ids_same mid m' kept other ∙ taken.others other ne;
 }
@@ -229,6 +231,47 @@ taken_then m mid m' id parts gone is a taken b given stays = record {
   others = λ k other. given.others k (λ none. absurd (omega (arith, none))) ∙ ap (unless_gone gone k) ((taken_space m mid id parts is taken).others k other);
 }
 
+-- ---- the zones of what goes back later
+
+any_append : {X : Type 0} (p : X → Bool) (xs ys : List X) → list_any p (xs ++ ys) ≡ (list_any p xs || list_any p ys)
+any_append p [] ys = refl
+any_append p (x ∷ xs) ys = ap (λ (b : Bool). p x || b) (any_append p xs ys) ∙ or_assoc (p x) (list_any p xs) (list_any p ys)
+  where
+    or_assoc : (a b c : Bool) → (a || (b || c)) ≡ ((a || b) || c)
+    or_assoc true b c = refl
+    or_assoc false b c = refl
+
+module _ (gone : List ℕ) (id : ℕ) (parts : List ZoneRun) (stays : is_one_of gone id ≡ false) (z : ℕ) where
+  abbrev goes : Run → Bool
+  goes run = has_id_that (is_one_of gone) run.kind
+
+  one_same : (run : Run) → list_any goes (run_taken id parts z run) ≡ goes run
+  one_same run = by run.kind refl (find (stands_at (z, run)) parts)
+    where
+      rest_same : (b : Bool) (len : ℕ) → run.kind ≡ kinds.Hole → list_any goes (cond b [] (record run { start = run.start + len; len = run.len - len } ∷ [])) ≡ false
+      rest_same true len hole = refl
+      rest_same false len hole = ap (λ (k : RunKind). has_id_that (is_one_of gone) k || false) hole
+
+      by : (k : RunKind) → run.kind ≡ k → (o : Option ZoneRun) → list_any goes (cond (is_hole k) (hole_taken id o run) (run ∷ [])) ≡ goes run
+      by kinds.Hole hole None = or_false (goes run)
+      by kinds.Hole hole (Some part) =
+          ap₂ (λ (a b : Bool). a || b) stays (rest_same (part.1.len == run.len) part.1.len hole) ∙ sym (ap (has_id_that (is_one_of gone)) hole)
+      by (kinds.Id k) is o = or_false (goes run)
+
+  same_goes : (runs : List Run) → has_run_of gone (runs_taken id parts z runs) ≡ has_run_of gone runs
+  same_goes [] = refl
+  same_goes (run ∷ runs) = any_append goes (run_taken id parts z run) (runs_taken id parts z runs) ∙ ap₂ (λ (a b : Bool). a || b) (one_same run) (same_goes runs)
+
+filter_same : (p q : ℕ → Bool) (xs : List ℕ) → ((x : ℕ) → Contains xs x → p x ≡ q x) → filter p xs ≡ filter q xs
+filter_same p q [] same = refl
+filter_same p q (x ∷ xs) same = ap₂ (λ (b : Bool) (ys : List ℕ). cond b (x ∷ ys) ys) (same x (first_in x xs)) (filter_same p q xs (λ y at. same y (next_in x y xs at)))
+
+listed : (m mid : Map) (id : ℕ) (parts : List ZoneRun) (gone : List ℕ) → HasTaken m mid id parts → is_one_of gone id ≡ false → zones_changed mid None gone ≡ zones_changed m None gone
+listed m mid id parts gone taken stays =
+    ap (λ (g : Geometry). filter (is_changed mid None None gone) (zone_numbers g)) taken.geometry
+    ∙ filter_same (is_changed mid None None gone) (is_changed m None None gone) (zone_numbers m.geometry)
+    (λ z at. ap (has_run_of gone) (taken.runs z (below m.geometry.zones z at)) ∙ same_goes gone id parts stays z (runs_of m z))
+
 any_id : (m m' : Map) (id : ℕ) (gone : List ℕ) → IsSpaceEdit m m' 0 [] gone → IsSpaceEdit m m' id [] gone
 any_id m m' id gone given = record {
   holes = given.holes;
@@ -237,4 +280,4 @@ any_id m m' id gone given = record {
 }
 
 pub steps_law : StepsLaw
-steps_law = record { edited = edited_then; taken = taken_then; given = any_id; after = after }
+steps_law = record { edited = edited_then; taken = taken_then; listed = listed; given = any_id; after = after }

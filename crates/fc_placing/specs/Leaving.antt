@@ -7,6 +7,7 @@ use Rattle.std.specs.FinMap.{FinMap}
 use Rattle.fc_alloc.specs.declared.owner.Owner.{Owner}
 use Rattle.fc_alloc.specs.Owners.{is_node}
 use Rattle.fc_newmap.specs.Map.{Map, is_used}
+use Rattle.fc_newmap.specs.NewMap.{IsNewMap}
 use Rattle.fc_image.specs.Layout.{Layout}
 use Rattle.fc_image.specs.Walk.{Object, Listing}
 use Rattle.fc_image.specs.Objects.{is_owner_of, objects_of}
@@ -14,6 +15,7 @@ use Rattle.fc_image.specs.Sound.{AreSound}
 use Rattle.fc_tree.specs.declared.node.Node.{Node}
 use Rattle.fc_tree.specs.Nodes.{number_of, HoldObjects}
 use Rattle.fc_tree.specs.Parts.{AreOwners}
+use Rattle.fc_plan.specs.Giving.{is_one_of}
 use Rattle.fc_changes.specs.Owed.{GivesBack}
 
 -- the identifier is the one that is kept
@@ -42,3 +44,8 @@ LeavesIds owners node kept gone = (m : Map) (nodes : FinMap nat_cmp Node) (listi
     → AreSound (Layout.New m) listings → HoldObjects nodes listings → AreOwners owners nodes (Layout.New m) (objects_of listings)
     → number_of nodes o.path ≡ Some node → IsPermutation (objects_of listings) (o ∷ stay) → OwnOnly m kept new
     → GivesBack m gone (objects_of listings) (new ++ stay)
+
+-- No identifier without runs goes back, as that of a plan that is taken before.
+abbrev pub LeavesUsed : List Owner → List ℕ → Type 0
+LeavesUsed owners gone = (m : Map) (nodes : FinMap nat_cmp Node) (listings : List Listing) (id : ℕ) → IsNewMap m → AreSound (Layout.New m) listings
+    → AreOwners owners nodes (Layout.New m) (objects_of listings) → is_used m id ≡ false → is_one_of gone id ≡ false

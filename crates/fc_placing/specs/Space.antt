@@ -1,5 +1,5 @@
 -- Changes of space on a map, each committed by itself.
-use Rattle.std.specs.Prelude.{◌≡◌, ◌<◌, ℕ, ◌++◌, false, List, [], filter, IsPermutation, Option, Some, None}
+use Rattle.std.specs.Prelude.{◌≡◌, ◌<◌, ℕ, ◌++◌, false, List, [], filter, IsPermutation, Option, None}
 use Rattle.fc_record.specs.Kinds.{map_record}
 use Rattle.fc_newmap.specs.Map.{Map, ZoneRun, hole_runs, id_runs, runs_of, sector_of, zone_numbers}
 use Rattle.fc_newmap.specs.NewMap.{IsNewMap}
@@ -9,7 +9,7 @@ use Rattle.fc_effects.specs.Steady.{KeepsOrWritesLinks, ZoneSteady}
 use Rattle.fc_plan.specs.declared.plan.Plan.{Plan}
 use Rattle.fc_plan.specs.Applied.{is_changed}
 use Rattle.fc_plan.specs.Giving.{is_one_of}
-use Rattle.fc_plan.specs.Taking.{as_runs, runs_taken}
+use Rattle.fc_plan.specs.Taking.{as_runs, own_runs, runs_taken}
 use Rattle.fc_changes.specs.Owed.{IsMapAfter, IsSpaceEdit}
 
 -- the zones in which a plan takes something, or identifiers give something back, as `fc_plan::changed_zones` lists them
@@ -29,6 +29,7 @@ pub record HasTaken (m m' : Map) (id : ℕ) (parts : List ZoneRun) : Type 0 wher
   pub geometry : m'.geometry ≡ m.geometry
   pub runs : (z : ℕ) → z < m.geometry.zones → runs_of m' z ≡ runs_taken id parts z (runs_of m z)
   pub holes : hole_runs m' ≡ holes_left (hole_runs m) parts
+  pub own : id_runs m' id ≡ own_runs m id parts
   pub gained : IsPermutation (id_runs m' id) (id_runs m id ++ as_runs id parts)
   pub others : (other : ℕ) → (other ≡ id → ⊥) → id_runs m' other ≡ id_runs m other
 
@@ -39,6 +40,8 @@ pub record StepsLaw : Type 0 where
   pub edited : (m mid m' : Map) → IsMapEdited m mid → IsMapEdited mid m' → IsMapEdited m m'
   pub taken : (m mid m' : Map) (id : ℕ) (parts : List ZoneRun) (gone : List ℕ) → IsNewMap m → IsMapEdited m mid → HasTaken m mid id parts → IsMapEdited mid m' → IsSpaceEdit mid m' 0 [] gone
       → is_one_of gone id ≡ false → IsSpaceEdit m m' id parts gone
+  -- what is to go back later can be listed before anything is taken
+  pub listed : (m mid : Map) (id : ℕ) (parts : List ZoneRun) (gone : List ℕ) → HasTaken m mid id parts → is_one_of gone id ≡ false → zones_changed mid None gone ≡ zones_changed m None gone
   -- if nothing is taken, the identifier means nothing
   pub given : (m m' : Map) (id : ℕ) (gone : List ℕ) → IsSpaceEdit m m' 0 [] gone → IsSpaceEdit m m' id [] gone
   pub after : (m m' : Map) (image : List ℕ) → IsMapEdited m m' → HoldsCopies m.geometry m'.zones image → IsMapAfter m m' image

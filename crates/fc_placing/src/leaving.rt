@@ -4,7 +4,7 @@ ghost use Rattle.std.specs.Prelude.{◌≡◌, None};
 ghost use Rattle.std.specs.Option.{option_to_list};
 ghost use Rattle.std.specs.List.{find};
 ghost use Rattle.fc_alloc.specs.Owners.{is_node};
-ghost use Rattle.fc_placing.specs.Leaving.{LeavesIds, has_other, is_kept, left_among};
+ghost use Rattle.fc_placing.specs.Leaving.{LeavesIds, LeavesUsed, has_other, is_kept, left_among};
 
 use fc_alloc::{Owner, Owners};
 
@@ -47,7 +47,8 @@ fn left_among(owners: &Owners, node: u64, kept: Option<u32>) -> Option<u32>
 /// The identifier that goes back if the object of a node goes: its own, if no other object has it, and it isn't the map's.
 /// The owners are gone over twice, and no memory is taken.
 pub fn left_by(owners: &Owners, node: u64) -> Option<u32>
-    ensures { LeavesIds owners.now node None (option_to_list result) }
+    ensures exactly { LeavesIds owners.now node None (option_to_list result) }
+    ensures used { LeavesUsed owners.now (option_to_list result) }
 {
     left_among(owners, node, None)
 }
@@ -55,7 +56,8 @@ pub fn left_by(owners: &Owners, node: u64) -> Option<u32>
 /// The same if an object comes in the place of the one that goes: `shared` is the identifier of others that it shares, if
 /// it does.
 pub fn left_by_replaced(owners: &Owners, node: u64, shared: Option<u32>) -> Option<u32>
-    ensures { LeavesIds owners.now node shared (option_to_list result) }
+    ensures exactly { LeavesIds owners.now node shared (option_to_list result) }
+    ensures used { LeavesUsed owners.now (option_to_list result) }
 {
     left_among(owners, node, shared)
 }

@@ -2,11 +2,20 @@
 //! places for new objects.
 #![tactic(auto)]
 
+mod addressing;
 mod committing;
+mod extents;
 mod leaving;
 mod placing;
 mod space;
 
+pub use addressing::address_of;
+pub use extents::extents_of;
+pub use fc_plan::{Plan, PlanError};
+pub use fc_slack::Share;
 pub use leaving::{left_by, left_by_replaced};
-pub use placing::slack_by_owners;
+pub use placing::{Placing, place_alone, place_directory, place_file, places, slack_by_owners};
 pub use space::{give_space, steps, take_space};
+
+#[cfg(test)]
+mod tests;

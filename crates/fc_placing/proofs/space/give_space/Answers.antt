@@ -1,13 +1,11 @@
-use Rattle.std.proofs.Common.{◌≡◌, ◌<◌, ◌∙◌, ℕ, List, [], sym, subst, ap, None, Some}
+use Rattle.std.proofs.Common.{◌<◌, sym, subst, None}
 use Rattle.std.specs.Prelude.{All}
 use Rattle.std.proofs.lemmas.Result.{on_ok_weaker}
 use Rattle.fc_device.proofs.DiskLaws.{laws}
 use Rattle.fc_device.proofs.StopLemmas.{keeps_weaker}
 use Rattle.fc_record.specs.declared.Geometry.{Geometry}
-use Rattle.fc_newmap.specs.Map.{Map}
 use Rattle.fc_copies.specs.declared.Which.TheVariants.{One}
 use Rattle.fc_copies.specs.Copies.{ChangesCopies, CommitEnds, CommitLeaves, HoldsCopies, copy_of}
-use Rattle.fc_plan.specs.Giving.{has_run_of}
 use Rattle.fc_changes.proofs.CommittedLemmas.{space_law}
 use Rattle.fc_changes.proofs.StepsLemmas.{writes_law}
 use Rattle.fc_placing.specs.Space.{IsMapEdited}

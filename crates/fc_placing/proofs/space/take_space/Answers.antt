@@ -1,15 +1,13 @@
-use Rattle.std.proofs.Common.{◌≡◌, ◌<◌, ◌∙◌, ℕ, List, [], sym, subst, ap, None, Some}
+use Rattle.std.proofs.Common.{◌<◌, List, [], sym, subst, Some}
 use Rattle.std.specs.Prelude.{All}
 use Rattle.std.proofs.lemmas.Result.{on_ok_weaker}
 use Rattle.fc_device.proofs.DiskLaws.{laws}
 use Rattle.fc_device.proofs.StopLemmas.{keeps_weaker}
 use Rattle.fc_record.specs.declared.Geometry.{Geometry}
-use Rattle.fc_newmap.specs.Map.{Map}
 use Rattle.fc_copies.specs.declared.Which.TheVariants.{One}
 use Rattle.fc_copies.specs.Copies.{ChangesCopies, CommitEnds, CommitLeaves, HoldsCopies, copy_of}
 use Rattle.fc_plan.specs.declared.plan.Part.{Part}
 use Rattle.fc_plan.specs.Parts.{KeepsZones, fronts, has_part}
-use Rattle.fc_changes.proofs.CommittedLemmas.{space_law}
 use Rattle.fc_changes.proofs.StepsLemmas.{writes_law}
 use Rattle.fc_placing.specs.Space.{HasTaken, IsMapEdited}
 use Rattle.fc_placing.proofs.CommitLemmas.{can_write}
@@ -37,14 +35,14 @@ pub returns-clause-taken : goal.returns-clause-taken
 returns-clause-taken g c =
     subst (λ (ps : List Part). HasTaken c.args.map.now c.commit_zones.new.map c.args.plan.now.id (fronts ps)) c.deref.ensures.value
     (took c.args.map.now c.take.new.map c.commit_zones.new.map c.args.plan.now.id (fronts c.deref.result.now)
-    (record { geometry = c.take.ensures.edits.geometry; runs = c.take.ensures.runs; holes = c.take.ensures.holes; gained = c.take.ensures.gained; others = c.take.ensures.others }) c.commit_zones.ensures.runs)
+    (record { geometry = c.take.ensures.edits.geometry; runs = c.take.ensures.runs; holes = c.take.ensures.holes; own = c.take.ensures.own; gained = c.take.ensures.gained; others = c.take.ensures.others }) c.commit_zones.ensures.runs)
 
 pub returns-clause-space : goal.returns-clause-space
 returns-clause-space g c =
     taken_space c.args.map.now c.commit_zones.new.map c.args.plan.now.id (fronts c.args.plan.now.parts.items) c.is_map.ensures
     (subst (λ (ps : List Part). HasTaken c.args.map.now c.commit_zones.new.map c.args.plan.now.id (fronts ps)) c.deref.ensures.value
     (took c.args.map.now c.take.new.map c.commit_zones.new.map c.args.plan.now.id (fronts c.deref.result.now)
-    (record { geometry = c.take.ensures.edits.geometry; runs = c.take.ensures.runs; holes = c.take.ensures.holes; gained = c.take.ensures.gained; others = c.take.ensures.others }) c.commit_zones.ensures.runs))
+    (record { geometry = c.take.ensures.edits.geometry; runs = c.take.ensures.runs; holes = c.take.ensures.holes; own = c.take.ensures.own; gained = c.take.ensures.gained; others = c.take.ensures.others }) c.commit_zones.ensures.runs))
 
 pub returns-clause-after : goal.returns-clause-after
 returns-clause-after g c =

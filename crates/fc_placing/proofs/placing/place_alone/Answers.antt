@@ -1,0 +1,12 @@
+use Rattle.fc_placing.proofs.PlacesLemmas.{own_plan, own_refused}
+use Rattle.fc_placing.proofs.placing.place_alone.Goals as goal
+
+pub returns-clause-place : goal.returns-clause-place
+returns-clause-place c =
+    own_plan c.args.map.now c.is_map.ensures c.args.bytes c.requires.some c.in_ok-supply.supply c.plan.new.self c.in_ok-supply.ensures c.plan.result c.plan.ensures.plan c.plan.ensures.id
+
+pub returns-clause-refused : goal.returns-clause-refused
+returns-clause-refused c =
+    own_refused c.args.map.now c.is_map.ensures c.args.bytes c.requires.some c.in_ok-supply.supply c.plan.new.self c.in_ok-supply.ensures c.plan.result
+    (own_plan c.args.map.now c.is_map.ensures c.args.bytes c.requires.some c.in_ok-supply.supply c.plan.new.self c.in_ok-supply.ensures c.plan.result c.plan.ensures.plan c.plan.ensures.id)
+    c.plan.ensures.ids c.plan.ensures.full
