@@ -13,6 +13,7 @@ pub mod DirectoryAddedLemmas
 pub mod MovedLemmas
 pub mod RenamedLemmas
 pub mod TransferredLemmas
+pub mod CopiedLemmas
 pub mod CutLemmas
 pub mod MapLemmas
 pub mod SayLemmas

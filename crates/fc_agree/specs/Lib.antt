@@ -3,3 +3,4 @@ pub mod Laws
 pub mod Cuts
 pub mod Maps
 pub mod Sayable
+pub mod Copied

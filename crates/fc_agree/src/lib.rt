@@ -2,6 +2,7 @@
 //! image's bytes.
 #![tactic(auto)]
 
+ghost use Rattle.fc_agree.specs.Copied.{CopiedLaw};
 ghost use Rattle.fc_agree.specs.Cuts.{CutLaw};
 ghost use Rattle.fc_agree.specs.Laws.{AddedLaw, AgreedLaw, DirectoryAddedLaw, RemovedLaw, RenamedLaw, ReplacedLaw, RewordedLaw, TransferredLaw};
 ghost use Rattle.fc_agree.specs.Maps.{MapLaw};
@@ -60,4 +61,9 @@ pub fn renamed()
 /// After `rename` to another directory the parts agree.
 pub fn transferred()
     ensures { TransferredLaw }
+{}
+
+/// After `rename` of a file that is copied the parts agree.
+pub fn copied()
+    ensures { CopiedLaw }
 {}

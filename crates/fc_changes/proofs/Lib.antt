@@ -16,4 +16,6 @@ pub mod CdirLemmas
 pub mod CommittedLemmas
 pub mod RenamedLemmas
 pub mod MovedLemmas
+pub mod BesideLemmas
+pub mod CopiedLemmas
 pub mod StepsLemmas

@@ -97,7 +97,7 @@ use Rattle.std.proofs.lemmas.List.{take-take}
 use Rattle.fc_changes.proofs.RenamedLemmas.{each_apart, folds_append}
 
 -- both parts are apart
-both_apart : (xs ys zs : List ℕ) → is_apart xs ys ≡ true → is_apart xs zs ≡ true → is_apart xs (ys ++ zs) ≡ true
+pub both_apart : (xs ys zs : List ℕ) → is_apart xs ys ≡ true → is_apart xs zs ≡ true → is_apart xs (ys ++ zs) ≡ true
 both_apart xs ys zs a b = apart_from xs (ys ++ zs) (λ s i j. elim (in_either ys zs s j) [
   | Ok first ↦ clash (is_among ys s) first (apart_at xs ys s a i)
   | Err second ↦ clash (is_among zs s) second (apart_at xs zs s b i)

@@ -2,3 +2,4 @@ pub mod Owed
 pub mod Changed
 pub mod Laws
 pub mod Rows
+pub mod Copied

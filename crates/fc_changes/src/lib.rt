@@ -1,6 +1,7 @@
 //! From what the calls of a command leave on a disc with a new map, to what the command promises.
 #![tactic(auto)]
 
+ghost use Rattle.fc_changes.specs.Copied.{CopiedLaw};
 ghost use Rattle.fc_changes.specs.Rows.{OwedRows};
 ghost use Rattle.fc_changes.specs.Laws.{CommittedLaw, DeletedLaw, DirectoryMadeLaw, FiledLaw, MovedLaw, RenamedLaw, RewordedLaw, SpaceLaw, WritesLaw};
 
@@ -42,6 +43,11 @@ pub fn renamed()
 /// After `rename` to another directory the disc is as it promises.
 pub fn moved()
     ensures { MovedLaw }
+{}
+
+/// After `rename` of a file that is copied the disc is as it promises.
+pub fn copied()
+    ensures { CopiedLaw }
 {}
 
 /// What changes owe, on a small map, worked out.

@@ -13,3 +13,4 @@ pub mod AddedLemmas
 pub mod MovingLemmas
 pub mod RenamedLemmas
 pub mod TransferredLemmas
+pub mod CopiedLemmas

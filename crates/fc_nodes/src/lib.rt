@@ -2,6 +2,7 @@
 #![tactic(auto)]
 
 ghost use Rattle.fc_nodes.specs.Rows.{NodeRows};
+ghost use Rattle.fc_nodes.specs.Copied.{CopiedLaw};
 ghost use Rattle.fc_nodes.specs.Laws.{AddedLaw, DirectoryAddedLaw, OwnerLaw, RemovedLaw, RenamedLaw, ReplacedLaw, RewordedLaw, TransferredLaw};
 
 /// An object of a directory is the owner that its numbers say.
@@ -47,4 +48,9 @@ pub fn transferred()
 /// A small tree whose directory is renamed, worked out.
 pub fn rows()
     ensures { NodeRows }
+{}
+
+/// After `rename` of a file that is copied nodes and owners follow.
+pub fn copied()
+    ensures { CopiedLaw }
 {}

@@ -8,3 +8,4 @@ pub mod MovingLemmas
 pub mod ApartLemmas
 pub mod StepLemmas
 pub mod StoredLemmas
+pub mod CopiedLemmas

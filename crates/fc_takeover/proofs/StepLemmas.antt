@@ -58,7 +58,7 @@ before kind start image v m ready =
 
 -- ---- writes
 
-joined : (m : Map) (xs ys zs a b c : List ℕ) → IsWritten m xs a b → IsWritten m ys b c → ((s : ℕ) → is_among xs s ≡ true → is_among zs s ≡ true)
+pub joined : (m : Map) (xs ys zs a b c : List ℕ) → IsWritten m xs a b → IsWritten m ys b c → ((s : ℕ) → is_among xs s ≡ true → is_among zs s ≡ true)
     → ((s : ℕ) → is_among ys s ≡ true → is_among zs s ≡ true) → IsWritten m zs a c
 joined m xs ys zs a b c first second in_first in_second =
     written_bytes_law.within m (xs ++ ys) zs a c (λ s h. elim (in_either xs ys s h) [
@@ -67,7 +67,7 @@ joined m xs ys zs a b c first second in_first in_second =
     ])
     (writes_law.then m xs ys a b c first second)
 
-never : (zs : List ℕ) (s : ℕ) → is_among [] s ≡ true → is_among zs s ≡ true
+pub never : (zs : List ℕ) (s : ℕ) → is_among [] s ≡ true → is_among zs s ≡ true
 never zs s h = absurd (cc)
 
 -- after a commit
@@ -75,7 +75,7 @@ committed_after : (m : Map) (xs a b c : List ℕ) → IsWritten m xs a b → IsW
 committed_after m xs a b c first second = joined m xs [] xs a b c first second (λ s h. h) (never xs)
 
 -- a directory keeps what was written
-dir_kept : (m m' : Map) (l : Object) (content : Directory) (ys mid image' : List ℕ) → m'.geometry ≡ m.geometry → is_apart l.sectors (map_sectors m.geometry) ≡ true → is_apart l.sectors ys ≡ true
+pub dir_kept : (m m' : Map) (l : Object) (content : Directory) (ys mid image' : List ℕ) → m'.geometry ≡ m.geometry → is_apart l.sectors (map_sectors m.geometry) ≡ true → is_apart l.sectors ys ≡ true
     → IsWritten m ys mid image' → AreWritten (object_bytes mid (Layout.New m) l) content → AreWritten (object_bytes image' (Layout.New m') l) content
 dir_kept m m' l content ys mid image' same map apart w are =
     subst (λ (bs : List ℕ). AreWritten bs content)
@@ -87,7 +87,7 @@ same_long : (p q : Path) → is_same_path p q ≡ true → length p ≡ length q
 same_long p q same = sym (folded_long p) ∙ ap (λ (x : Path). length x) (folds_alike p q same) ∙ folded_long q
 
 module _ (kind : Kind) (image : List ℕ) (v : Opened) (m : Map) (by : OpensBy kind image v m) where
-  map_apart : (l : Listing) → Contains v.listings l → is_apart l.object.sectors (map_sectors m.geometry) ≡ true
+  pub map_apart : (l : Listing) → Contains v.listings l → is_apart l.object.sectors (map_sectors m.geometry) ≡ true
   map_apart l at = objects_law.no_map kind image v m l.object by (objects_law.listed kind image v m l by at)
 
   -- what a directory holds isn't at its path
@@ -202,7 +202,7 @@ module _ (kind : Kind) (image : List ℕ) (v : Opened) (m : Map) (by : OpensBy k
   size_of_new Ten = refl
   size_of_new Long = refl
 
-  none_given : (o : Object) → GivesBack m [] (objects_of v.listings) (o ∷ objects_of v.listings)
+  pub none_given : (o : Object) → GivesBack m [] (objects_of v.listings) (o ∷ objects_of v.listings)
   none_given o = record { exactly = λ k used. given k (is_owned (objects_of v.listings) k) refl }
     where
       given : (k : ℕ) (b : Bool) → is_owned (objects_of v.listings) k ≡ b → false ≡ (b && not (is_owned (o ∷ objects_of v.listings) k))
@@ -348,7 +348,7 @@ module _ (kind : Kind) (image : List ℕ) (v : Opened) (m : Map) (by : OpensBy k
 
 -- ---- the laws
 
-listed_first : (v : Opened) (l : Listing) (rest : List Listing) → IsPermutation v.listings (l ∷ rest) → Contains v.listings l
+pub listed_first : (v : Opened) (l : Listing) (rest : List Listing) → IsPermutation v.listings (l ∷ rest) → Contains v.listings l
 listed_first v l rest found = Contains-permutation (l ∷ rest) v.listings l (IsPermutation-sym v.listings (l ∷ rest) found) (first_in l rest)
 
 pub steps_law : StepsLaw

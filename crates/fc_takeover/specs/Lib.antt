@@ -3,3 +3,4 @@ pub mod Writes
 pub mod Places
 pub mod Laws
 pub mod Steps
+pub mod Copied

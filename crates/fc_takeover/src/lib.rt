@@ -1,6 +1,7 @@
 //! From what a command's calls leave on the image and of the nodes, to what a method of a volume promises of both.
 #![tactic(auto)]
 
+ghost use Rattle.fc_takeover.specs.Copied.{CopiedStepsLaw, CopiedTakesOver};
 ghost use Rattle.fc_takeover.specs.Laws.{DeletedTakesOver, DirectoryMadeTakesOver, FiledTakesOver, MovedTakesOver, RenamedTakesOver, RepairedTakesOver, RewordedTakesOver};
 ghost use Rattle.fc_takeover.specs.Places.{ObjectsLaw, PlacesLaw};
 ghost use Rattle.fc_takeover.specs.Repairs.{RepairLaw};
@@ -67,7 +68,17 @@ pub fn moved()
     ensures { MovedTakesOver }
 {}
 
-/// Each command, one write after another.
+/// After `rename` of a file that is copied the volume stands for the new image.
+pub fn copied()
+    ensures { CopiedTakesOver }
+{}
+
+/// That command, one write after another.
+pub fn copied_steps()
+    ensures { CopiedStepsLaw }
+{}
+
+/// Each other command, one write after another.
 pub fn steps()
     ensures { StepsLaw }
 {}
