@@ -29,7 +29,7 @@ use Rattle.fc_nodes.proofs.WaysLemmas.{AreApart, pushed}
 use Rattle.fc_nodes.proofs.FitsLemmas.{ChildFits, DirectoryFits, apart, fits, not_pushed}
 use Rattle.fc_nodes.proofs.ListLemmas.{put_at, either, in_first, map_fixed, to_front}
 use Rattle.fc_nodes.proofs.FollowLemmas.{AllFit, follow}
-use Rattle.fc_nodes.proofs.OtherLemmas.{OneDirectory, here_in, others_in, other_number, fits_here, not_file, fresh, objects_count, all_objects, top_object, root_at}
+use Rattle.fc_nodes.proofs.OtherLemmas.{here_in, others_in, other_number, fits_here, not_file, fresh, objects_count, all_objects, top_object, root_at}
 use Rattle.fc_nodes.proofs.KeptLemmas.{apart_after, way_kept, child_kept}
 use Rattle.fc_nodes.proofs.OwnerLemmas.{owners_among, among_one, owners_edited, found_objects, owner_known, keeps_way}
 
@@ -41,11 +41,8 @@ pub record IsNew (nodes : Nodes) (l : Listing) (o : Object) (dir number : ℕ) (
   pub path : o.path ≡ l.object.path ++ o.entry.name ∷ []
   pub absent : has_name (entries_of l.content) o.entry.name ≡ false
 
-module _ {nodes : Nodes} {layout : Layout} {listings rest : List Listing} {l : Listing} {o : Object} {dir number : ℕ} {body : Body} (content : Directory) (j : ℕ)
+module _ (nodes : Nodes) (layout : Layout) (listings rest : List Listing) (l : Listing) (content : Directory) (j : ℕ) (o : Object) (dir number : ℕ) (body : Body)
     (h : IsHeld nodes layout listings) (found : IsPermutation listings (l ∷ rest)) (new : IsNew nodes l o dir number body) where
-  abbrev here : OneDirectory nodes layout listings rest l dir
-  here = record { held = h; found = found; dir_is = new.dir_is }
-
   abbrev node : Node
   node = record { holder = dir; entry = o.entry; body = body }
 
@@ -70,7 +67,7 @@ module _ {nodes : Nodes} {layout : Layout} {listings rest : List Listing} {l : L
       cc
 
   here_fits : DirectoryFits nodes dir l
-  here_fits = fits_here here
+  here_fits = fits_here layout listings nodes h.sound h.held l rest found dir new.dir_is
 
   dir_off : dir ≡ number → ⊥
   dir_off = free_said dir (body_in l.content) here_fits.says
@@ -82,7 +79,7 @@ module _ {nodes : Nodes} {layout : Layout} {listings rest : List Listing} {l : L
       free_held top.number top.holder_number (root layout listings h.sound).entry (ap (option_map held_by) top.is) (at ∙ sym zero_)
     where
       top_at : number_of nodes (root layout listings h.sound).path ≡ Some 0
-      top_at = root_at h
+      top_at = root_at layout listings nodes h.sound h.held
 
   held_off : (m : ℕ) → (m ≡ number → ⊥) → held_as after m ≡ held_as nodes m
   held_off m other = ap (option_map held_by) (put_other said_now number m node other) ∙ body_held nodes dir (body_in content) m
@@ -102,11 +99,11 @@ module _ {nodes : Nodes} {layout : Layout} {listings rest : List Listing} {l : L
   own_apart : (a : ℕ) (e : Entry) → held_as after number ≡ Some (a, e) → (m : ℕ) (d : Entry) → held_as nodes m ≡ Some (a, d) → (m ≡ 0 → ⊥) → (m ≡ number → ⊥) → folded d.name ≡ folded e.name → ⊥
   own_apart a e is m d is_m lower_m other same =
       let pair : (dir, o.entry) ≡ (a, e) = same_some (dir, o.entry) (a, e) (sym held_own ∙ is) in
-      fresh here o.entry.name new.absent m d (is_m ∙ ap (λ (p : ℕ × Entry). Some (p.0, d)) (sym pair)) lower_m
+      fresh layout listings nodes h.sound h.held l rest found dir new.dir_is o.entry.name new.absent m d (is_m ∙ ap (λ (p : ℕ × Entry). Some (p.0, d)) (sym pair)) lower_m
       (same ∙ ap (λ (p : ℕ × Entry). folded p.1.name) (sym pair))
 
   apart_now : AreApart after
-  apart_now = apart_after nodes after number (apart h) (record { others = held_off; own = own_apart })
+  apart_now = apart_after nodes after number (apart layout listings nodes h.sound h.held) (record { others = held_off; own = own_apart })
 
   leads : (path : Path) (n : ℕ) → number_of nodes path ≡ Some n → number_of after path ≡ Some n
   leads path n is =
@@ -119,7 +116,7 @@ module _ {nodes : Nodes} {layout : Layout} {listings rest : List Listing} {l : L
       ∙ pushed after l.object.path o.entry.name dir number o.entry apart_now (leads l.object.path dir new.dir_is) held_own lower refl
 
   file_kept : (n : ℕ) → says_at nodes n ≡ Some bodies.File → says_at after n ≡ Some bodies.File
-  file_kept n is = said_off n (free_said n bodies.File is) (not_file here n is) ∙ is
+  file_kept n is = said_off n (free_said n bodies.File is) (not_file layout listings nodes h.sound h.held l rest found dir new.dir_is n is) ∙ is
 
   beside : (d n : ℕ) (path : Path) (p : Object) → ChildFits nodes d path n p → ChildFits after d path n p
   beside d n path p was =
@@ -143,11 +140,11 @@ module _ {nodes : Nodes} {layout : Layout} {listings rest : List Listing} {l : L
 
   other_now : (k : Listing) → Contains rest k → (n : ℕ) × DirectoryFits after n k
   other_now k at =
-      let f = fits h k (others_in here k at) in (
+      let f = fits layout listings nodes h.sound h.held k (others_in layout listings nodes h.sound h.held l rest found k at) in (
         f.0,
         record {
           at = leads k.object.path f.0 f.1.at;
-          says = said_off f.0 (free_said f.0 (body_in k.content) f.1.says) (other_number here k f.0 at f.1.at) ∙ f.1.says;
+          says = said_off f.0 (free_said f.0 (body_in k.content) f.1.says) (other_number layout listings nodes h.sound h.held l rest found dir new.dir_is k f.0 at f.1.at) ∙ f.1.says;
           root = λ top. root_now k.object (f.1.root top);
           kids = λ p kid. (let c = f.1.kids p kid in (c.0, beside f.0 c.0 k.object.path p c.1));
         },
@@ -162,7 +159,7 @@ module _ {nodes : Nodes} {layout : Layout} {listings rest : List Listing} {l : L
   count =
       let more = put_length said_now number node (edited_other nodes dir (λ node. record node { body = body_in content }) number (λ e. dir_off (sym e)) ∙ new.free) in
       let said = edited_length nodes dir (λ node. record node { body = body_in content }) in
-      let before = objects_count h (l ∷ rest) found in
+      let before = objects_count layout listings nodes h.sound h.held (l ∷ rest) found in
       let kids = length_permutation (insert l.children j o) (o ∷ l.children) (put_at l.children j o) in
       let old = length-append l.children (held rest) in
       let fresh_ = length-append (insert l.children j o) (held rest) in
@@ -175,11 +172,11 @@ module _ {nodes : Nodes} {layout : Layout} {listings rest : List Listing} {l : L
 
   pub tops : (k : Listing) → Contains now k → k.object.path ≡ [] → k.object ≡ top
   tops k at is =
-      ⊎_elim (λ same. sym (ap (λ (d : Listing). d.object) same) ∙ in_listings l (here_in here) (ap (λ (d : Listing). d.object.path) same ∙ is))
-      (λ later. in_listings k (others_in here k later) is) (contains_cases (says_now l content (insert l.children j o)) k rest at)
+      ⊎_elim (λ same. sym (ap (λ (d : Listing). d.object) same) ∙ in_listings l (here_in layout listings nodes h.sound h.held l rest found) (ap (λ (d : Listing). d.object.path) same ∙ is))
+      (λ later. in_listings k (others_in layout listings nodes h.sound h.held l rest found k later) is) (contains_cases (says_now l content (insert l.children j o)) k rest at)
     where
       in_listings : (d : Listing) → Contains listings d → d.object.path ≡ [] → d.object ≡ top
-      in_listings d among path = top_object h d.object (listed_directory layout listings h.sound d among).0 path
+      in_listings d among path = top_object layout listings nodes h.sound h.held d.object (listed_directory layout listings h.sound d among).0 path
 
   abbrev kept : List Object
   kept = top ∷ (l.children ++ held rest)
@@ -189,11 +186,11 @@ module _ {nodes : Nodes} {layout : Layout} {listings rest : List Listing} {l : L
       → OwnersEdited owners owners' [] (owners_with layout' dir number o) → IsPermutation objects (top ∷ held now) → IsPermutation owners' (owners_among after layout' objects)
   added_owners owners owners' layout' objects owned edited all =
       owners_edited nodes after layout layout' (λ p. p) (objects_of listings) objects [] (o ∷ []) kept owners owners'
-      (all_objects h (l ∷ rest) found)
+      (all_objects layout listings nodes h.sound h.held (l ∷ rest) found)
       (subst (λ (os : List Object). IsPermutation objects (o ∷ os)) (sym (map_fixed (λ (p : Object). p) kept (λ p at. refl)))
       (IsPermutation-trans objects (top ∷ held now) (o ∷ kept) all (to_front top o (insert l.children j o) l.children (held rest) (put_at l.children j o))))
       (λ p at. keeps_way nodes after layout layout' listings h.held leads owned.first p
-      (in_first (objects_of listings) kept (all_objects h (l ∷ rest) found) p at))
+      (in_first (objects_of listings) kept (all_objects layout listings nodes h.sound h.held (l ∷ rest) found) p at))
       (subst (λ (ws : List Owner). OwnersEdited owners owners' [] ws)
       (sym (among_one after layout' layout' o dir number (owner_known after layout' layout' o dir number above leads_own (λ low. refl)))) edited) owned.owned
     where
@@ -211,17 +208,17 @@ module _ (nodes nodes' : Nodes) (layout : Layout) (listings listings' rest : Lis
   file_nodes =
       subst (λ (ls : List Listing). NodesFollow nodes' ls) (sym e.listings_are)
       (subst (λ (ns : Nodes). NodesFollow ns (says_now l content (insert l.children j o) ∷ rest)) (sym e.nodes_are)
-      (follow _ (says_now l content (insert l.children j o) ∷ rest) (all_now content j h e.found new_file)
-      (count content j h e.found new_file)))
+      (follow _ (says_now l content (insert l.children j o) ∷ rest) (all_now nodes layout listings rest l content j o dir number bodies.File h e.found new_file)
+      (count nodes layout listings rest l content j o dir number bodies.File h e.found new_file)))
 
   file_owners : (owners owners' : List Owner) (layout' : Layout) → IsOwned owners nodes layout layout' listings
       → OwnersEdited owners owners' [] (owners_with layout' dir number o) → OwnersFollow owners' nodes' layout' listings'
   file_owners owners owners' layout' owned edited =
       subst (λ (ls : List Listing). OwnersFollow owners' nodes' layout' ls) (sym e.listings_are)
       (subst (λ (ns : Nodes). OwnersFollow owners' ns layout' (says_now l content (insert l.children j o) ∷ rest)) (sym e.nodes_are)
-      (λ again sound same. added_owners content j h e.found new_file owners owners' layout' (objects_of again) owned edited
+      (λ again sound same. added_owners nodes layout listings rest l content j o dir number bodies.File h e.found new_file owners owners' layout' (objects_of again) owned edited
       (found_objects layout' (says_now l content (insert l.children j o) ∷ rest) again (root layout listings h.sound) sound same
-      (tops content j h e.found new_file))))
+      (tops nodes layout listings rest l content j o dir number bodies.File h e.found new_file))))
 
 pub added_law : AddedLaw
 added_law = record {
@@ -254,8 +251,8 @@ module _ (nodes nodes' : Nodes) (layout : Layout) (listings listings' rest : Lis
 
   own_fits : DirectoryFits with_node number d
   own_fits = record {
-    at = leads_own content j h e.found new_dir;
-    says = said_own content j h e.found new_dir;
+    at = leads_own nodes layout listings rest l content j d.object dir number (body_in d.content) h e.found new_dir;
+    says = said_own nodes layout listings rest l content j d.object dir number (body_in d.content) h e.found new_dir;
     root = λ top. absurd (never_root top);
     kids = λ p at. absurd (no_element p (subst (λ (os : List Object). Contains os p) e.empty at));
   }
@@ -263,7 +260,7 @@ module _ (nodes nodes' : Nodes) (layout : Layout) (listings listings' rest : Lis
   all_with_it : AllFit with_node with_it
   all_with_it k at =
       ⊎_elim (λ same. subst (λ (c : Listing). (n : ℕ) × DirectoryFits with_node n c) same (number, own_fits))
-      (λ later. all_now content j h e.found new_dir k later)
+      (λ later. all_now nodes layout listings rest l content j d.object dir number (body_in d.content) h e.found new_dir k later)
       (contains_cases d k (says_now l content (insert l.children j d.object) ∷ rest) at)
 
   same_held : held with_it ≡ held (says_now l content (insert l.children j d.object) ∷ rest)
@@ -274,18 +271,18 @@ module _ (nodes nodes' : Nodes) (layout : Layout) (listings listings' rest : Lis
       subst (λ (ls : List Listing). NodesFollow nodes' ls) (sym e.listings_are)
       (subst (λ (ns : Nodes). NodesFollow ns with_it) (sym e.nodes_are)
       (follow with_node with_it all_with_it
-      (count content j h e.found new_dir ∙ ap (λ (os : List Object). 1 + length os) (sym same_held))))
+      (count nodes layout listings rest l content j d.object dir number (body_in d.content) h e.found new_dir ∙ ap (λ (os : List Object). 1 + length os) (sym same_held))))
 
   directory_owners : (owners owners' : List Owner) (layout' : Layout) → IsOwned owners nodes layout layout' listings
       → OwnersEdited owners owners' [] (owners_with layout' dir number d.object) → OwnersFollow owners' nodes' layout' listings'
   directory_owners owners owners' layout' owned edited =
       subst (λ (ls : List Listing). OwnersFollow owners' nodes' layout' ls) (sym e.listings_are)
       (subst (λ (ns : Nodes). OwnersFollow owners' ns layout' with_it) (sym e.nodes_are)
-      (λ again sound same. added_owners content j h e.found new_dir owners owners' layout' (objects_of again) owned edited
+      (λ again sound same. added_owners nodes layout listings rest l content j d.object dir number (body_in d.content) h e.found new_dir owners owners' layout' (objects_of again) owned edited
       (subst (λ (os : List Object). IsPermutation (objects_of again) (root layout listings h.sound ∷ os)) same_held
       (found_objects layout' with_it again (root layout listings h.sound) sound same
       (λ k at path. ⊎_elim (λ is. absurd (never_root (ap (λ (c : Listing). c.object.path) is ∙ path)))
-      (λ later. tops content j h e.found new_dir k later path)
+      (λ later. tops nodes layout listings rest l content j d.object dir number (body_in d.content) h e.found new_dir k later path)
       (contains_cases d k (says_now l content (insert l.children j d.object) ∷ rest) at))))))
 
 pub directory_added_law : DirectoryAddedLaw

@@ -27,7 +27,7 @@ use Rattle.fc_nodes.proofs.FitsLemmas.{ChildFits, DirectoryFits, apart, fits}
 use Rattle.fc_nodes.proofs.ListLemmas.{cut_at, set_at, either, in_first, to_front, map_fixed, held_relisted, held_fixed}
 use Rattle.fc_nodes.proofs.OwnerLemmas.{owners_among, among-append, among_permuted, among_one, owners_edited, found_objects, owner_known, owner_law, keeps_way}
 use Rattle.fc_nodes.proofs.FollowLemmas.{AllFit, follow}
-use Rattle.fc_nodes.proofs.OtherLemmas.{OneDirectory, OneObject, unlike, here_in, others_in, other_number, fits_here, not_file, left_in, left_other, rest_other, number_lower, kid_fits, objects_count, top_object, left_objects, objects_cut}
+use Rattle.fc_nodes.proofs.OtherLemmas.{unlike, here_in, others_in, other_number, fits_here, not_file, left_in, left_other, rest_other, number_lower, kid_fits, objects_count, top_object, left_objects, objects_cut}
 use Rattle.fc_nodes.proofs.KeptLemmas.{apart_after, StillHeld, way_kept, child_kept}
 
 -- what replaces object o, and what becomes of all others
@@ -38,14 +38,8 @@ pub record IsChange (o x : Object) (g : Object → Object) : Type 0 where
   pub paths : (p : Object) → (g p).path ≡ p.path
   pub others : (p : Object) → is_same_path o.path p.path ≡ false → g p ≡ p
 
-module _ {nodes : Nodes} {layout : Layout} {listings rest : List Listing} {l : Listing} {i : ℕ} {o x : Object} {dir number : ℕ} {g : Object → Object}
-    (content : Directory) (h : IsHeld nodes layout listings) (found : IsPermutation listings (l ∷ rest)) (child : IsChild nodes listings l i o dir number) (change : IsChange o x g) where
-  abbrev here : OneDirectory nodes layout listings rest l dir
-  here = record { held = h; found = found; dir_is = child.dir_is }
-
-  abbrev one : OneObject nodes layout listings rest l dir i o number
-  one = record { here = here; at = child.at; number_is = child.number_is }
-
+module _ (nodes : Nodes) (layout : Layout) (listings rest : List Listing) (l : Listing) (content : Directory) (i : ℕ) (o x : Object) (dir number : ℕ) (g : Object → Object)
+    (h : IsHeld nodes layout listings) (found : IsPermutation listings (l ∷ rest)) (child : IsChild nodes listings l i o dir number) (change : IsChange o x g) where
   abbrev pub after : Nodes
   after = with_entry number x.entry (with_body dir (body_in content) nodes)
 
@@ -53,10 +47,10 @@ module _ {nodes : Nodes} {layout : Layout} {listings rest : List Listing} {l : L
   now = says_now l content (slice_set l.children i x) ∷ relisted g as_before rest
 
   lower : number ≡ 0 → ⊥
-  lower = number_lower one
+  lower = number_lower layout listings nodes h.sound h.held l rest found dir child.dir_is i o child.at number child.number_is
 
   was : ChildFits nodes dir l.object.path number o
-  was = kid_fits one
+  was = kid_fits layout listings nodes h.sound h.held l rest found dir child.dir_is i o child.at number child.number_is
 
   held_other : (m : ℕ) → (m ≡ number → ⊥) → held_as after m ≡ held_as nodes m
   held_other m other = entry_other (with_body dir (body_in content) nodes) number x.entry m other ∙ body_held nodes dir (body_in content) m
@@ -70,20 +64,20 @@ module _ {nodes : Nodes} {layout : Layout} {listings rest : List Listing} {l : L
   said_here : says_at after dir ≡ Some (body_in content)
   said_here =
       entry_said (with_body dir (body_in content) nodes) number x.entry dir
-      ∙ body_said nodes dir (body_in content) (body_in l.content) (fits_here here).says
+      ∙ body_said nodes dir (body_in content) (body_in l.content) (fits_here layout listings nodes h.sound h.held l rest found dir child.dir_is).says
 
   file_kept : (n : ℕ) → says_at nodes n ≡ Some bodies.File → says_at after n ≡ Some bodies.File
-  file_kept n is = said_other n (not_file here n is) ∙ is
+  file_kept n is = said_other n (not_file layout listings nodes h.sound h.held l rest found dir child.dir_is n is) ∙ is
 
   own_apart : (a : ℕ) (e : Entry) → held_as after number ≡ Some (a, e) → (m : ℕ) (d : Entry) → held_as nodes m ≡ Some (a, d) → (m ≡ 0 → ⊥) → (m ≡ number → ⊥) → folded d.name ≡ folded e.name → ⊥
   own_apart a e is m d is_m lower_m other same =
       let pair : (dir, x.entry) ≡ (a, e) = same_some (dir, x.entry) (a, e) (sym held_own ∙ is) in
       let is_o : held_as nodes number ≡ Some (a, o.entry) = was.held ∙ ap (λ (p : ℕ × Entry). Some (p.0, o.entry)) pair in
-      other (apart h m number a d o.entry is_m is_o lower_m lower
+      other (apart layout listings nodes h.sound h.held m number a d o.entry is_m is_o lower_m lower
       (same ∙ sym (ap (λ (p : ℕ × Entry). folded p.1.name) pair) ∙ ap folded change.name))
 
   apart_now : AreApart after
-  apart_now = apart_after nodes after number (apart h) (record { others = held_other; own = own_apart })
+  apart_now = apart_after nodes after number (apart layout listings nodes h.sound h.held) (record { others = held_other; own = own_apart })
 
   still : (n a : ℕ) (d : Entry) → held_as nodes n ≡ Some (a, d) → StillHeld after n a d
   still n a d is = by (cases_eq n number)
@@ -116,9 +110,10 @@ module _ {nodes : Nodes} {layout : Layout} {listings rest : List Listing} {l : L
   kid_now p at =
       ⊎_elim (λ same. (number, subst (ChildFits after dir l.object.path number) same itself_fits))
       (λ left.
-      let f = (fits_here here).kids p
-      (left_in one p left) in
-      (f.0, beside dir f.0 l.object.path p f.1 (left_other one p f.0 left f.1.at)))
+      let here = here_in layout listings nodes h.sound h.held l rest found in
+      let f = (fits_here layout listings nodes h.sound h.held l rest found dir child.dir_is).kids p
+      (left_in layout listings nodes h.sound h.held l rest found dir child.dir_is i o child.at number child.number_is p left) in
+      (f.0, beside dir f.0 l.object.path p f.1 (left_other layout listings nodes h.sound h.held l rest found dir child.dir_is i o child.at number child.number_is p f.0 left f.1.at)))
       (either (slice_set l.children i x) x (remove l.children i) (set_at l.children i o x child.at) p at)
 
   -- the root stays
@@ -127,7 +122,7 @@ module _ {nodes : Nodes} {layout : Layout} {listings rest : List Listing} {l : L
 
   here_now : DirectoryFits after dir (says_now l content (slice_set l.children i x))
   here_now =
-      let was' = fits_here here in
+      let was' = fits_here layout listings nodes h.sound h.held l rest found dir child.dir_is in
       record {
         at = leads l.object.path dir child.dir_is;
         says = said_here;
@@ -140,11 +135,11 @@ module _ {nodes : Nodes} {layout : Layout} {listings rest : List Listing} {l : L
 
   other_now : (k : Listing) → Contains rest k → (n : ℕ) × DirectoryFits after n (record { object = g k.object; content = k.content; children = map g k.children })
   other_now k at =
-      let f = fits h k (others_in here k at) in (
+      let f = fits layout listings nodes h.sound h.held k (others_in layout listings nodes h.sound h.held l rest found k at) in (
         f.0,
         record {
           at = ap (number_of after) (change.paths k.object) ∙ leads k.object.path f.0 f.1.at;
-          says = said_other f.0 (other_number here k f.0 at f.1.at) ∙ f.1.says;
+          says = said_other f.0 (other_number layout listings nodes h.sound h.held l rest found dir child.dir_is k f.0 at f.1.at) ∙ f.1.says;
           root = λ top.
               (let top' = sym (change.paths k.object) ∙ top in
               let same = unchanged k.object 0 (ap (number_of nodes) top') (λ e. lower (sym e)) in
@@ -152,7 +147,7 @@ module _ {nodes : Nodes} {layout : Layout} {listings rest : List Listing} {l : L
           kids = λ p kid.
               (let q = from_map g k.children p kid in
               let c = f.1.kids q.0 q.1 in
-              let other = rest_other one k q.0 c.0 at q.1 c.1.at in
+              let other = rest_other layout listings nodes h.sound h.held l rest found dir child.dir_is i o child.at number child.number_is k q.0 c.0 at q.1 c.1.at in
               let same : q.0 ≡ p = sym (unchanged q.0 c.0 c.1.at other) ∙ q.2 in (
                 c.0,
                 subst (λ (path : Path). ChildFits after f.0 path c.0 p) (sym (change.paths k.object))
@@ -176,7 +171,7 @@ module _ {nodes : Nodes} {layout : Layout} {listings rest : List Listing} {l : L
       count =
           let edited = edited_length (with_body dir (body_in content) nodes) number (λ node. record node { entry = x.entry }) in
           let said = edited_length nodes dir (λ node. record node { body = body_in content }) in
-          let before = objects_count h (l ∷ rest) found in
+          let before = objects_count layout listings nodes h.sound h.held (l ∷ rest) found in
           let kids = length_permutation l.children (o ∷ remove l.children i) (cut_at l.children i o child.at) in
           let set = length_permutation (slice_set l.children i x) (x ∷ remove l.children i) (set_at l.children i o x child.at) in
           let others = held_relisted g as_before rest in
@@ -188,9 +183,9 @@ module _ {nodes : Nodes} {layout : Layout} {listings rest : List Listing} {l : L
 
   fixed_kid : (k : Listing) (p : Object) → Contains rest k → Contains k.children p → g p ≡ p
   fixed_kid k p at kid =
-      let f = fits h k (others_in here k at) in
+      let f = fits layout listings nodes h.sound h.held k (others_in layout listings nodes h.sound h.held l rest found k at) in
       let c = f.1.kids p kid in
-      unchanged p c.0 c.1.at (rest_other one k p c.0 at kid c.1.at)
+      unchanged p c.0 c.1.at (rest_other layout listings nodes h.sound h.held l rest found dir child.dir_is i o child.at number child.number_is k p c.0 at kid c.1.at)
 
   abbrev top : Object
   top = root layout listings h.sound
@@ -205,21 +200,21 @@ module _ {nodes : Nodes} {layout : Layout} {listings rest : List Listing} {l : L
     where
       first : (path : Path) → k.object.path ≡ path → l.object ≡ k.object → k.object ≡ top
       first path e same =
-          sym same ∙ top_object h l.object
-          (listed_directory layout listings h.sound l (here_in here)).0 (ap (λ (p : Object). p.path) same ∙ is)
+          sym same ∙ top_object layout listings nodes h.sound h.held l.object
+          (listed_directory layout listings h.sound l (here_in layout listings nodes h.sound h.held l rest found)).0 (ap (λ (p : Object). p.path) same ∙ is)
 
       other : (d : Listing) → Contains rest d → g d.object ≡ k.object → k.object ≡ top
       other d among same =
           let path : d.object.path ≡ [] = sym (change.paths d.object) ∙ ap (λ (p : Object). p.path) same ∙ is in
           sym same ∙ unchanged d.object 0 (ap (number_of nodes) path) (λ e. lower (sym e))
-          ∙ top_object h d.object
-          (listed_directory layout listings h.sound d (others_in here d among)).0 path
+          ∙ top_object layout listings nodes h.sound h.held d.object
+          (listed_directory layout listings h.sound d (others_in layout listings nodes h.sound h.held l rest found d among)).0 path
 
   abbrev kept : List Object
-  kept = left_objects one
+  kept = left_objects layout listings nodes h.sound h.held l rest found dir child.dir_is i o child.at number child.number_is
 
   cut : IsPermutation (objects_of listings) (o ∷ kept)
-  cut = objects_cut one
+  cut = objects_cut layout listings nodes h.sound h.held l rest found dir child.dir_is i o child.at number child.number_is
 
   cut_now : (layout' : Layout) (again : List Listing) → AreSound layout' again → IsPermutation now again → IsPermutation (objects_of again) (x ∷ kept)
   cut_now layout' again sound same =

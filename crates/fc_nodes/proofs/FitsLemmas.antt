@@ -9,15 +9,15 @@ use Rattle.fc_dirs.specs.declared.Entry.{Entry}
 use Rattle.fc_image.specs.Layout.{Layout}
 use Rattle.fc_image.specs.Walk.{Object, Listing, is_directory_object}
 use Rattle.fc_image.specs.Objects.{objects_of}
+use Rattle.fc_image.specs.Sound.{AreSound}
 use Rattle.fc_image.proofs.PathsLemmas.{itself}
 use Rattle.fc_tree.specs.declared.node.Body.TheVariants as bodies
-use Rattle.fc_tree.specs.Nodes.{number_of, body_in, body_of}
+use Rattle.fc_tree.specs.Nodes.{number_of, body_in, body_of, HoldObjects}
 use Rattle.fc_tree.proofs.WalkedLemmas.{same_some, root_path, child_path, child_is_object, listed_directory, listing_found, no_listing, holder-push}
 use Rattle.fc_tree.proofs.SoundLemmas.{same_by_folds, fold_pushed, root_or_child, same_object, same_listing}
 use Rattle.fc_tree.proofs.PlaceLemmas.{one_path, same_number}
 use Rattle.fc_tree.proofs.FindLemmas.{object_of_number}
 use Rattle.fc_nodes.specs.Edits.{Nodes}
-use Rattle.fc_nodes.specs.Laws.{IsHeld}
 use Rattle.fc_nodes.proofs.ShapeLemmas.{held_by, held_as, said, says_at, some_mapped}
 use Rattle.fc_nodes.proofs.WaysLemmas.{AreApart}
 
@@ -40,26 +40,26 @@ pub not_pushed : (p : Path) (x : List ℕ) → [] ≡ p ++ x ∷ [] → ⊥
 not_pushed [] x e = cc
 not_pushed (y ∷ p) x e = cc
 
-module _ {nodes : Nodes} {layout : Layout} {listings : List Listing} (all : IsHeld nodes layout listings) where
+module _ (layout : Layout) (listings : List Listing) (nodes : Nodes) (sound : AreSound layout listings) (held : HoldObjects nodes listings) where
   abbrev Among : Object → Type 0
   Among o = Contains (objects_of listings) o
 
   -- objects of one number are one, and so are directories
   pub one_number : (o p : Object) (n : ℕ) → Among o → Among p → number_of nodes o.path ≡ Some n → number_of nodes p.path ≡ Some n → o ≡ p
   one_number o p n at bt e f =
-      same_object layout listings all.sound o.path o p at bt (itself o.path) (same_by_folds o.path p.path (one_path nodes n (length o.path) o.path p.path refl e f))
+      same_object layout listings sound o.path o p at bt (itself o.path) (same_by_folds o.path p.path (one_path nodes n (length o.path) o.path p.path refl e f))
 
   pub one_directory : (l k : Listing) (n : ℕ) → Contains listings l → Contains listings k → number_of nodes l.object.path ≡ Some n → number_of nodes k.object.path ≡ Some n → l ≡ k
   one_directory l k n at bt e f =
-      same_listing layout listings all.sound l.object.path l k at bt (itself l.object.path)
+      same_listing layout listings sound l.object.path l k at bt (itself l.object.path)
       (same_by_folds l.object.path k.object.path (one_path nodes n (length l.object.path) l.object.path k.object.path refl e f))
 
   child_fits : (l : Listing) (o : Object) (dir : ℕ) → Contains listings l → Contains l.children o → number_of nodes l.object.path ≡ Some dir
       → (n : ℕ) × ChildFits nodes dir l.object.path n o
   child_fits l o dir at kid above =
-      let among = child_is_object layout listings all.sound l o at kid in
-      let h = all.held.each o among in
-      let path = child_path layout listings all.sound l o at kid in
+      let among = child_is_object layout listings sound l o at kid in
+      let h = held.each o among in
+      let path = child_path layout listings sound l o at kid in
       let up : h.holder_number ≡ dir =
       same_some h.holder_number dir (sym h.at_holder ∙ ap (number_of nodes) (ap holder path ∙ holder-push l.object.path o.entry.name) ∙ above) in (
         h.number,
@@ -67,13 +67,13 @@ module _ {nodes : Nodes} {layout : Layout} {listings : List Listing} (all : IsHe
           path_is = path;
           at = h.at_path;
           held = ap (option_map held_by) h.is ∙ ap (λ k. Some (k, o.entry)) up;
-          file = λ is. ap (option_map said) h.is ∙ ap (λ k. Some (body_of k)) (no_listing layout listings all.sound o among is);
+          file = λ is. ap (option_map said) h.is ∙ ap (λ k. Some (body_of k)) (no_listing layout listings sound o among is);
         },
       )
 
   root_entry_held : (l : Listing) → Contains listings l → l.object.path ≡ [] → held_as nodes 0 ≡ Some (0, l.object.entry)
   root_entry_held l at top =
-      let h = all.held.each l.object (listed_directory layout listings all.sound l at).0 in
+      let h = held.each l.object (listed_directory layout listings sound l at).0 in
       let number : h.number ≡ 0 = same_some h.number 0 (sym h.at_path ∙ ap (number_of nodes) top) in
       let up : h.holder_number ≡ 0 = same_some h.holder_number 0 (sym h.at_holder ∙ ap (λ (p : Path). number_of nodes (holder p)) top) in
       ap (λ k. option_map held_by (get nodes k)) (sym number) ∙ ap (option_map held_by) h.is ∙ ap (λ k. Some (k, l.object.entry)) up
@@ -81,11 +81,11 @@ module _ {nodes : Nodes} {layout : Layout} {listings : List Listing} (all : IsHe
   -- each directory fits
   pub fits : (l : Listing) → Contains listings l → (n : ℕ) × DirectoryFits nodes n l
   fits l at =
-      let h = all.held.each l.object (listed_directory layout listings all.sound l at).0 in (
+      let h = held.each l.object (listed_directory layout listings sound l at).0 in (
         h.number,
         record {
           at = h.at_path;
-          says = ap (option_map said) h.is ∙ ap (λ k. Some (body_of k)) (listing_found layout listings all.sound l at);
+          says = ap (option_map said) h.is ∙ ap (λ k. Some (body_of k)) (listing_found layout listings sound l at);
           root = root_entry_held l at;
           kids = λ o kid. child_fits l o h.number at kid h.at_path;
         },
@@ -116,23 +116,22 @@ module _ {nodes : Nodes} {layout : Layout} {listings : List Listing} (all : IsHe
   pub holds : (n h : ℕ) (e : Entry) → held_as nodes n ≡ Some (h, e) → (n ≡ 0 → ⊥) → Holds n h e
   holds n h e is lower =
       let node = some_mapped held_by (get nodes n) (h, e) is in
-      let o = object_of_number layout listings nodes all.sound all.held n node.0 node.1 in
-      ⊎_elim (λ top. absurd (lower (same_some n 0 (sym o.2 ∙ ap (λ (p : Object). number_of nodes p.path) (sym top) ∙ ap (number_of nodes) (root_path layout listings all.sound)))))
-      (λ kid. let f = fits kid.0 kid.1 in by kid.0 o.0 f.0 kid.1 kid.2 f.1.at o.2)
-      (root_or_child layout listings all.sound o.0 o.1)
-    where
-      by : (dir : Listing) (o : Object) (d : ℕ) → Contains listings dir → Contains dir.children o → number_of nodes dir.object.path ≡ Some d → number_of nodes o.path ≡ Some n → Holds n h e
-      by dir o d listed kid above at =
-          let pair : (d, o.entry) ≡ (h, e) = same_some (d, o.entry) (h, e) (sym (kid_at dir o d n listed kid above at).held ∙ is) in
-          record {
-            dir = dir;
-            o = o;
-            listed = listed;
-            kid = kid;
-            above = above ∙ ap (λ (p : ℕ × Entry). Some p.0) pair;
-            at = at;
-            entry = ap (λ (p : ℕ × Entry). p.1) pair;
-          }
+      let o = object_of_number layout listings nodes sound held n node.0 node.1 in
+      ⊎_elim (λ top. absurd (lower (same_some n 0 (sym o.2 ∙ ap (λ (p : Object). number_of nodes p.path) (sym top) ∙ ap (number_of nodes) (root_path layout listings sound)))))
+      (λ kid.
+      let f = fits kid.0 kid.1 in
+      let k = kid_at kid.0 o.0 f.0 n kid.1 kid.2 f.1.at o.2 in
+      let pair : (f.0, o.0.entry) ≡ (h, e) = same_some (f.0, o.0.entry) (h, e) (sym k.held ∙ is) in
+      record {
+        dir = kid.0;
+        o = o.0;
+        listed = kid.1;
+        kid = kid.2;
+        above = f.1.at ∙ ap (λ (p : ℕ × Entry). Some p.0) pair;
+        at = o.2;
+        entry = ap (λ (p : ℕ × Entry). p.1) pair;
+      })
+      (root_or_child layout listings sound o.0 o.1)
 
   -- the names of each directory are apart
   pub apart : AreApart nodes
@@ -140,8 +139,8 @@ module _ {nodes : Nodes} {layout : Layout} {listings : List Listing} (all : IsHe
       let a = holds m h d is_m lower_m in
       let b = holds n h e is_n lower_n in
       let up = one_path nodes h (length a.dir.object.path) a.dir.object.path b.dir.object.path refl a.above b.above in
-      let path_a = child_path layout listings all.sound a.dir a.o a.listed a.kid in
-      let path_b = child_path layout listings all.sound b.dir b.o b.listed b.kid in
+      let path_a = child_path layout listings sound a.dir a.o a.listed a.kid in
+      let path_b = child_path layout listings sound b.dir b.o b.listed b.kid in
       let names : folded a.o.entry.name ≡ folded b.o.entry.name =
       ap (λ (x : Entry). folded x.name) a.entry ∙ same ∙ ap (λ (x : Entry). folded x.name) (sym b.entry) in
       let folds : folded_path a.o.path ≡ folded_path b.o.path =
@@ -152,7 +151,7 @@ module _ {nodes : Nodes} {layout : Layout} {listings : List Listing} (all : IsHe
   -- the number of a directory's object isn't the root's
   pub kid_lower : (l : Listing) (o : Object) (n : ℕ) → Contains listings l → Contains l.children o → number_of nodes o.path ≡ Some n → n ≡ 0 → ⊥
   kid_lower l o n at kid e zero =
-      let path = child_path layout listings all.sound l o at kid in
+      let path = child_path layout listings sound l o at kid in
       let folds = one_path nodes n (length o.path) o.path [] refl e (ap (λ k. Some k) (sym zero)) in
       let long : folded_path [] ≡ folded_path l.object.path ++ folded o.entry.name ∷ [] = sym folds ∙ ap folded_path path ∙ fold_pushed l.object.path o.entry.name in
       not_pushed (folded_path l.object.path) (folded o.entry.name) long

@@ -93,7 +93,7 @@ pub record IsMoving (nodes after : Nodes) (layout : Layout) (listings : List Lis
   pub said_own : is_directory_object o ≡ true → says_at after number ≡ Some (body_in now)
   pub file_own : is_directory_object o ≡ false → says_at after number ≡ Some bodies.File
 
-module _ {nodes after : Nodes} {layout : Layout} {listings : List Listing} {k l : Listing} {home dir : ℕ} {o : Object} {number : ℕ} {name : List ℕ} {now : Directory}
+module _ (nodes after : Nodes) (layout : Layout) (listings : List Listing) (k l : Listing) (home dir : ℕ) (o : Object) (number : ℕ) (name : List ℕ) (now : Directory)
     (m : IsMoving nodes after layout listings k l home dir o number name now) where
   abbrev pub from : Path
   from = o.path
@@ -120,7 +120,7 @@ module _ {nodes after : Nodes} {layout : Layout} {listings : List Listing} {k l 
       m.fresh n d (is_n ∙ ap (λ (p : ℕ × Entry). Some (p.0, d)) (sym pair)) lower_n other (same ∙ ap (λ (p : ℕ × Entry). folded p.1.name) (sym pair))
 
   apart_now : AreApart after
-  apart_now = apart_after nodes after number (apart m.held) (record { others = m.held_off; own = own_apart })
+  apart_now = apart_after nodes after number (apart layout listings nodes m.held.sound m.held.held) (record { others = m.held_off; own = own_apart })
 
   -- paths beside the object lead as they did
   pub leads : (path : Path) (n : ℕ) → number_of nodes path ≡ Some n → is_prefix (folded_path from) (folded_path path) ≡ false → number_of after path ≡ Some n
@@ -165,7 +165,7 @@ module _ {nodes after : Nodes} {layout : Layout} {listings : List Listing} {k l 
 
   not_directory : (n d : ℕ) (c : Listing) → Contains listings c → number_of nodes c.object.path ≡ Some d → says_at nodes n ≡ Some bodies.File → n ≡ d → ⊥
   not_directory n d c at is_d is same =
-      let f = fits_at m.held c d at is_d in
+      let f = fits_at layout listings nodes m.held.sound m.held.held c d at is_d in
       no_file c.content (same_some (body_in c.content) bodies.File (sym f.says ∙ ap (says_at nodes) (sym same) ∙ is))
 
   file_kept : (n : ℕ) → (n ≡ number → ⊥) → says_at nodes n ≡ Some bodies.File → says_at after n ≡ Some bodies.File
@@ -206,9 +206,9 @@ module _ {nodes after : Nodes} {layout : Layout} {listings : List Listing} {k l 
   -- what is the root after the move was the root
   pub root_known : (c : Listing) → Contains listings c → (moved c.object).path ≡ [] → c.object ≡ root layout listings m.held.sound
   root_known c at top =
-      let f = fits m.held c at in
+      let f = fits layout listings nodes m.held.sound m.held.held c at in
       let zero_ : f.0 ≡ 0 = same_some f.0 0 (sym (leads_moved c.object.path f.0 f.1.at) ∙ ap (number_of after) top) in
-      one_number m.held c.object (root layout listings m.held.sound) 0 (listed_directory layout listings m.held.sound c at).0
+      one_number layout listings nodes m.held.sound m.held.held c.object (root layout listings m.held.sound) 0 (listed_directory layout listings m.held.sound c at).0
       (root_object layout listings m.held.sound) (f.1.at ∙ ap (λ j. Some j) zero_) (ap (number_of nodes) (root_path layout listings m.held.sound))
 
   -- and it doesn't move
@@ -252,7 +252,7 @@ module _ {nodes after : Nodes} {layout : Layout} {listings : List Listing} {k l 
       says : (d ≡ number) ⊎ (d ≡ number → ⊥) → says_at after d ≡ Some (body_in (as_moved o now c))
       says (inl same) =
           let own : c.object ≡ o =
-          one_number m.held c.object o number (listed_directory layout listings m.held.sound c at).0 m.among (was.at ∙ ap (λ j. Some j) same) m.number_is in
+          one_number layout listings nodes m.held.sound m.held.held c.object o number (listed_directory layout listings m.held.sound c at).0 m.among (was.at ∙ ap (λ j. Some j) same) m.number_is in
           ap (says_at after) same ∙ m.said_own (ap is_directory_object (sym own) ∙ (listed_directory layout listings m.held.sound c at).1)
           ∙ ap (λ (b : Bool). Some (body_in (cond b now c.content))) (sym (ap (λ (x : Object). is_same_path x.path o.path) own ∙ itself o.path))
       says (inr other) =
@@ -287,7 +287,7 @@ module _ {nodes after : Nodes} {layout : Layout} {listings : List Listing} {k l 
 
       of_child : (c : Listing) → Contains listings c → Contains c.children p → KeepsOwner nodes after layout layout' p (moved p)
       of_child c among kid =
-          let f = fits m.held c among in
+          let f = fits layout listings nodes m.held.sound m.held.held c among in
           let path = child_path layout listings m.held.sound c p among kid in
           let path' = ap (moved_path from to) path ∙ moved_step from to c.object.path p.entry.name (ap (is_same_path from) (sym path) ∙ not_spelled p.path n is other) in
           keeps_owner nodes after layout layout' p (moved p) f.0 n (ap (number_of nodes) (ap holder path ∙ holder-push c.object.path p.entry.name) ∙ f.1.at) is

@@ -12,18 +12,18 @@ use Rattle.fc_image.specs.Layout.{Layout}
 use Rattle.fc_image.specs.Walk.{Object, Listing}
 use Rattle.fc_image.specs.Objects.{objects_of}
 use Rattle.fc_image.specs.Order.{held}
+use Rattle.fc_image.specs.Sound.{AreSound}
 use Rattle.fc_image.proofs.PathsLemmas.{many, is_at, itself, unless, listed_few}
 use Rattle.fc_image.proofs.ShuffleLemmas.{IsPermutation-flat_map}
 use Rattle.fc_image.proofs.RelistLemmas.{folded_long}
 use Rattle.std.proofs.lemmas.List.{length_push}
 use Rattle.fc_tree.specs.declared.node.Body.TheVariants as bodies
-use Rattle.fc_tree.specs.Nodes.{number_of, body_in}
+use Rattle.fc_tree.specs.Nodes.{number_of, body_in, HoldObjects}
 use Rattle.fc_tree.proofs.MemberLemmas.{no_element, contains_cases, contains_here, contains_later, in_map, some_many, many_permuted}
 use Rattle.fc_tree.proofs.WalkedLemmas.{same_some, root, root_path, root_and_held, given, few_objects, child_path}
 use Rattle.fc_tree.proofs.SoundLemmas.{root_object, folds_alike, same_by_folds, children_stored}
 use Rattle.fc_tree.proofs.PlaceLemmas.{one_path, same_number}
 use Rattle.fc_nodes.specs.Edits.{Nodes}
-use Rattle.fc_nodes.specs.Laws.{IsHeld}
 use Rattle.fc_nodes.proofs.ShapeLemmas.{held_as, says_at}
 use Rattle.fc_nodes.proofs.WaysLemmas.{not_missed, folds_same}
 use Rattle.fc_nodes.proofs.ListLemmas.{cut_at, to_front, in_first, either, map_remove}
@@ -55,168 +55,156 @@ two_pass t x y others low h at g =
     let more = some_many t others y at g in
     absurd (omega (arith, one, more, low))
 
-module _ {nodes : Nodes} {layout : Layout} {listings : List Listing} (h : IsHeld nodes layout listings) where
+module _ (layout : Layout) (listings : List Listing) (nodes : Nodes) (sound : AreSound layout listings) (held_all : HoldObjects nodes listings) where
   few_listings : (path : Path) → many (λ (k : Listing). is_at path k.object) listings ≤ 1
   unfolding many
   few_listings path =
-      let w = given layout listings h.sound in
-      let few = listed_few h.sound.read layout (is_at path) (root layout listings h.sound ∷ []) listings w.2 in
-      let most = subst (λ (os : List Object). many (is_at path) os ≤ 1) (root_and_held layout listings h.sound) (few_objects layout listings h.sound path) in
+      let w = given layout listings sound in
+      let few = listed_few sound.read layout (is_at path) (root layout listings sound ∷ []) listings w.2 in
+      let most = subst (λ (os : List Object). many (is_at path) os ≤ 1) (root_and_held layout listings sound) (few_objects layout listings sound path) in
       omega (arith, few, most)
 
   same_number_path : (p q : Path) (n : ℕ) → number_of nodes p ≡ Some n → number_of nodes q ≡ Some n → is_same_path p q ≡ true
   same_number_path p q n e f = same_by_folds p q (one_path nodes n (length p) p q refl e f)
 
   -- all objects, by their directories in any order
-  pub all_objects : (others : List Listing) → IsPermutation listings others → IsPermutation (objects_of listings) (root layout listings h.sound ∷ held others)
+  pub all_objects : (others : List Listing) → IsPermutation listings others → IsPermutation (objects_of listings) (root layout listings sound ∷ held others)
   all_objects others found =
-      subst (λ (os : List Object). IsPermutation os (root layout listings h.sound ∷ held others)) (sym (root_and_held layout listings h.sound))
-      (IsPermutation-cons (root layout listings h.sound) (held listings) (held others) (IsPermutation-flat_map (λ (k : Listing). k.children) listings others found))
+      subst (λ (os : List Object). IsPermutation os (root layout listings sound ∷ held others)) (sym (root_and_held layout listings sound))
+      (IsPermutation-cons (root layout listings sound) (held listings) (held others) (IsPermutation-flat_map (λ (k : Listing). k.children) listings others found))
 
   -- an object at the root's path is the root
-  pub top_object : (o : Object) → Contains (objects_of listings) o → o.path ≡ [] → o ≡ root layout listings h.sound
+  pub top_object : (o : Object) → Contains (objects_of listings) o → o.path ≡ [] → o ≡ root layout listings sound
   top_object o at top =
-      one_number h o (root layout listings h.sound) 0 at (root_object layout listings h.sound) (ap (number_of nodes) top)
-      (ap (number_of nodes) (root_path layout listings h.sound))
+      one_number layout listings nodes sound held_all o (root layout listings sound) 0 at (root_object layout listings sound) (ap (number_of nodes) top)
+      (ap (number_of nodes) (root_path layout listings sound))
 
-  pub root_at : number_of nodes (root layout listings h.sound).path ≡ Some 0
-  root_at = ap (number_of nodes) (root_path layout listings h.sound)
+  pub root_at : number_of nodes (root layout listings sound).path ≡ Some 0
+  root_at = ap (number_of nodes) (root_path layout listings sound)
 
   -- as many nodes as objects
   pub objects_count : (others : List Listing) → IsPermutation listings others → len nodes ≡ 1 + length (held others)
   objects_count others found =
-      let same = length_permutation (objects_of listings) (root layout listings h.sound ∷ held others) (all_objects others found) in
-      omega (arith, same, h.held.no_more)
+      let same = length_permutation (objects_of listings) (root layout listings sound ∷ held others) (all_objects others found) in
+      omega (arith, same, held_all.no_more)
 
   -- beside an object of a number there is no other
   pub other_object : (o : Object) (others : List Object) → IsPermutation (objects_of listings) (o ∷ others) → (p : Object) (n : ℕ) → Contains others p
       → number_of nodes o.path ≡ Some n → number_of nodes p.path ≡ Some n → ⊥
   other_object o others all p n at e f =
-      let few = subst (λ k. k ≤ 1) (sym (many_permuted (is_at o.path) (objects_of listings) (o ∷ others) all)) (few_objects layout listings h.sound o.path) in
+      let few = subst (λ k. k ≤ 1) (sym (many_permuted (is_at o.path) (objects_of listings) (o ∷ others) all)) (few_objects layout listings sound o.path) in
       two_pass (is_at o.path) o p others few (itself o.path) at (same_number_path o.path p.path n e f)
 
--- One directory of sound listings, by the number of its node, and the others.
-pub record OneDirectory (nodes : Nodes) (layout : Layout) (listings others : List Listing) (l : Listing) (dir : ℕ) : Type 0 where
-  pub held : IsHeld nodes layout listings
-  pub found : IsPermutation listings (l ∷ others)
-  pub dir_is : number_of nodes l.object.path ≡ Some dir
+  module _ (l : Listing) (others : List Listing) (found : IsPermutation listings (l ∷ others)) where
+    pub here_in : Contains listings l
+    here_in = in_first listings (l ∷ others) found l (contains_here l others)
 
--- One object of it, by the number of its node.
-pub record OneObject (nodes : Nodes) (layout : Layout) (listings others : List Listing) (l : Listing) (dir i : ℕ) (o : Object) (number : ℕ) : Type 0 where
-  pub here : OneDirectory nodes layout listings others l dir
-  pub at : slice_get l.children i ≡ Some o
-  pub number_is : number_of nodes o.path ≡ Some number
+    pub others_in : (k : Listing) → Contains others k → Contains listings k
+    others_in k at = in_first listings (l ∷ others) found k (contains_later l k others at)
 
-module _ {nodes : Nodes} {layout : Layout} {listings others : List Listing} {l : Listing} {dir : ℕ} (here : OneDirectory nodes layout listings others l dir) where
-  pub here_in : Contains listings l
-  here_in = in_first listings (l ∷ others) here.found l (contains_here l others)
+    -- the other directories have other numbers
+    pub other_directory : (k : Listing) (n : ℕ) → Contains others k → number_of nodes l.object.path ≡ Some n → number_of nodes k.object.path ≡ Some n → ⊥
+    other_directory k n at e f =
+        let few = subst (λ j. j ≤ 1) (sym (many_permuted (λ (d : Listing). is_at l.object.path d.object) listings (l ∷ others) found)) (few_listings l.object.path) in
+        two_pass (λ (d : Listing). is_at l.object.path d.object) l k others few (itself l.object.path) at (same_number_path l.object.path k.object.path n e f)
 
-  pub others_in : (k : Listing) → Contains others k → Contains listings k
-  others_in k at = in_first listings (l ∷ others) here.found k (contains_later l k others at)
+    module _ (dir : ℕ) (dir_is : number_of nodes l.object.path ≡ Some dir) where
+      pub other_number : (k : Listing) (n : ℕ) → Contains others k → number_of nodes k.object.path ≡ Some n → n ≡ dir → ⊥
+      other_number k n at e same = other_directory k dir at dir_is (e ∙ ap (λ j. Some j) same)
 
-  -- the other directories have other numbers
-  pub other_directory : (k : Listing) (n : ℕ) → Contains others k → number_of nodes l.object.path ≡ Some n → number_of nodes k.object.path ≡ Some n → ⊥
-  other_directory k n at e f =
-      let few = subst (λ j. j ≤ 1) (sym (many_permuted (λ (d : Listing). is_at l.object.path d.object) listings (l ∷ others) here.found)) (few_listings here.held l.object.path) in
-      two_pass (λ (d : Listing). is_at l.object.path d.object) l k others few (itself l.object.path) at (same_number_path here.held l.object.path k.object.path n e f)
+      pub fits_here : DirectoryFits nodes dir l
+      fits_here = fits_at layout listings nodes sound held_all l dir here_in dir_is
 
-  pub other_number : (k : Listing) (n : ℕ) → Contains others k → number_of nodes k.object.path ≡ Some n → n ≡ dir → ⊥
-  other_number k n at e same = other_directory k dir at here.dir_is (e ∙ ap (λ j. Some j) same)
+      -- a file's number isn't the directory's
+      pub not_file : (n : ℕ) → says_at nodes n ≡ Some bodies.File → n ≡ dir → ⊥
+      not_file n is same =
+          no_file l.content (same_some (body_in l.content) bodies.File (sym fits_here.says ∙ ap (says_at nodes) (sym same) ∙ is))
 
-  pub fits_here : DirectoryFits nodes dir l
-  fits_here = fits_at here.held l dir here_in here.dir_is
+      -- what the directory holds has its entry
+      pub kid_entry : (m : ℕ) (d : Entry) → held_as nodes m ≡ Some (dir, d) → (m ≡ 0 → ⊥)
+          → (o : Object) × Contains l.children o × (number_of nodes o.path ≡ Some m) × (o.entry ≡ d)
+      kid_entry m d is lower =
+          let h = holds layout listings nodes sound held_all m dir d is lower in
+          let same = one_directory layout listings nodes sound held_all h.dir l dir h.listed here_in h.above dir_is in
+          (h.o, subst (λ (k : Listing). Contains k.children h.o) same h.kid, h.at, h.entry)
 
-  -- a file's number isn't the directory's
-  pub not_file : (n : ℕ) → says_at nodes n ≡ Some bodies.File → n ≡ dir → ⊥
-  not_file n is same =
-      no_file l.content (same_some (body_in l.content) bodies.File (sym fits_here.says ∙ ap (says_at nodes) (sym same) ∙ is))
+      -- a name that no entry has is no node's in the directory
+      pub fresh : (name : List ℕ) → has_name (entries_of l.content) name ≡ false → (m : ℕ) (d : Entry) → held_as nodes m ≡ Some (dir, d) → (m ≡ 0 → ⊥)
+          → folded d.name ≡ folded name → ⊥
+      fresh name absent m d is lower same =
+          let k = kid_entry m d is lower in
+          name_there (entries_of l.content) name d
+          (subst (λ (es : List Entry). Contains es d) (children_stored layout listings sound l here_in)
+          (subst (Contains (map (λ (o : Object). o.entry) l.children)) k.3 (in_map (λ (o : Object). o.entry) l.children k.0 k.1))) same absent
 
-  -- what the directory holds has its entry
-  pub kid_entry : (m : ℕ) (d : Entry) → held_as nodes m ≡ Some (dir, d) → (m ≡ 0 → ⊥)
-      → (o : Object) × Contains l.children o × (number_of nodes o.path ≡ Some m) × (o.entry ≡ d)
-  kid_entry m d is lower =
-      let h = holds here.held m dir d is lower in
-      let same = one_directory here.held h.dir l dir h.listed here_in h.above here.dir_is in
-      (h.o, subst (λ (k : Listing). Contains k.children h.o) same h.kid, h.at, h.entry)
+      module _ (i : ℕ) (o : Object) (at : slice_get l.children i ≡ Some o) (number : ℕ) (number_is : number_of nodes o.path ≡ Some number) where
+        pub kids_cut : IsPermutation l.children (o ∷ remove l.children i)
+        kids_cut = cut_at l.children i o at
 
-  -- a name that no entry has is no node's in the directory
-  pub fresh : (name : List ℕ) → has_name (entries_of l.content) name ≡ false → (m : ℕ) (d : Entry) → held_as nodes m ≡ Some (dir, d) → (m ≡ 0 → ⊥)
-      → folded d.name ≡ folded name → ⊥
-  fresh name absent m d is lower same =
-      let k = kid_entry m d is lower in
-      name_there (entries_of l.content) name d
-      (subst (λ (es : List Entry). Contains es d) (children_stored layout listings here.held.sound l here_in)
-      (subst (Contains (map (λ (o : Object). o.entry) l.children)) k.3 (in_map (λ (o : Object). o.entry) l.children k.0 k.1))) same absent
+        pub kid_in : Contains l.children o
+        kid_in = in_first l.children (o ∷ remove l.children i) kids_cut o (contains_here o (remove l.children i))
 
-module _ {nodes : Nodes} {layout : Layout} {listings others : List Listing} {l : Listing} {dir i : ℕ} {o : Object} {number : ℕ}
-    (one : OneObject nodes layout listings others l dir i o number) where
-  pub kids_cut : IsPermutation l.children (o ∷ remove l.children i)
-  kids_cut = cut_at l.children i o one.at
+        pub left_in : (p : Object) → Contains (remove l.children i) p → Contains l.children p
+        left_in p left = in_first l.children (o ∷ remove l.children i) kids_cut p (contains_later o p (remove l.children i) left)
 
-  pub kid_in : Contains l.children o
-  kid_in = in_first l.children (o ∷ remove l.children i) kids_cut o (contains_here o (remove l.children i))
+        -- the other objects
+        abbrev pub left_objects : List Object
+        left_objects = root layout listings sound ∷ (remove l.children i ++ held others)
 
-  pub left_in : (p : Object) → Contains (remove l.children i) p → Contains l.children p
-  left_in p left = in_first l.children (o ∷ remove l.children i) kids_cut p (contains_later o p (remove l.children i) left)
+        pub objects_cut : IsPermutation (objects_of listings) (o ∷ left_objects)
+        objects_cut =
+            IsPermutation-trans (objects_of listings) (root layout listings sound ∷ (l.children ++ held others)) (o ∷ left_objects) (all_objects (l ∷ others) found)
+            (to_front (root layout listings sound) o l.children (remove l.children i) (held others) kids_cut)
 
-  -- the other objects
-  abbrev pub left_objects : List Object
-  left_objects = root layout listings one.here.held.sound ∷ (remove l.children i ++ held others)
+        pub left_other : (p : Object) (n : ℕ) → Contains (remove l.children i) p → number_of nodes p.path ≡ Some n → n ≡ number → ⊥
+        left_other p n left e same =
+            other_object o left_objects objects_cut p number
+            (contains_later (root layout listings sound) p (remove l.children i ++ held others) (Contains-append_left (remove l.children i) (held others) p left)) number_is
+            (e ∙ ap (λ k. Some k) same)
 
-  pub objects_cut : IsPermutation (objects_of listings) (o ∷ left_objects)
-  objects_cut =
-      IsPermutation-trans (objects_of listings) (root layout listings one.here.held.sound ∷ (l.children ++ held others)) (o ∷ left_objects) (all_objects one.here.held (l ∷ others) one.here.found)
-      (to_front (root layout listings one.here.held.sound) o l.children (remove l.children i) (held others) kids_cut)
+        pub rest_other : (k : Listing) (p : Object) (n : ℕ) → Contains others k → Contains k.children p → number_of nodes p.path ≡ Some n → n ≡ number → ⊥
+        rest_other k p n among kid e same =
+            other_object o left_objects objects_cut p number
+            (contains_later (root layout listings sound) p (remove l.children i ++ held others) (Contains-append_right (remove l.children i) (held others) p (held_in others k p among kid)))
+            number_is (e ∙ ap (λ k. Some k) same)
+          where
+            held_in : (ls : List Listing) (k : Listing) (p : Object) → Contains ls k → Contains k.children p → Contains (held ls) p
+            held_in [] k p at kid = absurd (no_element k at)
+            held_in (d ∷ ls) k p at kid =
+                ⊎_elim (λ same. Contains-append_left d.children (held ls) p (subst (λ (x : Listing). Contains x.children p) (sym same) kid))
+                (λ later. Contains-append_right d.children (held ls) p (held_in ls k p later kid)) (contains_cases d k ls at)
 
-  pub left_other : (p : Object) (n : ℕ) → Contains (remove l.children i) p → number_of nodes p.path ≡ Some n → n ≡ number → ⊥
-  left_other p n left e same =
-      other_object one.here.held o left_objects objects_cut p number
-      (contains_later (root layout listings one.here.held.sound) p (remove l.children i ++ held others) (Contains-append_left (remove l.children i) (held others) p left)) one.number_is
-      (e ∙ ap (λ k. Some k) same)
+        pub number_lower : number ≡ 0 → ⊥
+        number_lower = kid_lower layout listings nodes sound held_all l o number here_in kid_in number_is
 
-  pub rest_other : (k : Listing) (p : Object) (n : ℕ) → Contains others k → Contains k.children p → number_of nodes p.path ≡ Some n → n ≡ number → ⊥
-  rest_other k p n among kid e same =
-      other_object one.here.held o left_objects objects_cut p number
-      (contains_later (root layout listings one.here.held.sound) p (remove l.children i ++ held others) (Contains-append_right (remove l.children i) (held others) p (held_in others k p among kid)))
-      one.number_is (e ∙ ap (λ k. Some k) same)
-    where
-      held_in : (ls : List Listing) (k : Listing) (p : Object) → Contains ls k → Contains k.children p → Contains (held ls) p
-      held_in [] k p at kid = absurd (no_element k at)
-      held_in (d ∷ ls) k p at kid =
-          ⊎_elim (λ same. Contains-append_left d.children (held ls) p (subst (λ (x : Listing). Contains x.children p) (sym same) kid))
-          (λ later. Contains-append_right d.children (held ls) p (held_in ls k p later kid)) (contains_cases d k ls at)
+        -- a directory isn't what it holds
+        pub dir_lower : dir ≡ number → ⊥
+        dir_lower same =
+            let folds = one_path nodes number (length l.object.path) l.object.path o.path refl (dir_is ∙ ap (λ k. Some k) same) number_is in
+            let path = child_path layout listings sound l o here_in kid_in in
+            let long = ap (λ (p : Path). length p) (folds ∙ ap folded_path path) in
+            let short = folded_long l.object.path in
+            let longer = folded_long (l.object.path ++ o.entry.name ∷ []) in
+            let pushed = length_push l.object.path o.entry.name in
+            absurd (omega (arith, long, short, longer, pushed))
 
-  pub number_lower : number ≡ 0 → ⊥
-  number_lower = kid_lower one.here.held l o number (here_in one.here) kid_in one.number_is
+        pub kid_fits : ChildFits nodes dir l.object.path number o
+        kid_fits = kid_at layout listings nodes sound held_all l o dir number here_in kid_in dir_is number_is
 
-  -- a directory isn't what it holds
-  pub dir_lower : dir ≡ number → ⊥
-  dir_lower same =
-      let folds = one_path nodes number (length l.object.path) l.object.path o.path refl (one.here.dir_is ∙ ap (λ k. Some k) same) one.number_is in
-      let path = child_path layout listings one.here.held.sound l o (here_in one.here) kid_in in
-      let long = ap (λ (p : Path). length p) (folds ∙ ap folded_path path) in
-      let short = folded_long l.object.path in
-      let longer = folded_long (l.object.path ++ o.entry.name ∷ []) in
-      let pushed = length_push l.object.path o.entry.name in
-      absurd (omega (arith, long, short, longer, pushed))
+        -- an object of the directory that has another number is left
+        pub is_left : (p : Object) (n : ℕ) → Contains l.children p → number_of nodes p.path ≡ Some n → (n ≡ number → ⊥) → Contains (remove l.children i) p
+        is_left p n kid e other =
+            ⊎_elim (λ same. absurd (other (same_some n number (sym e ∙ ap (λ (x : Object). number_of nodes x.path) (sym same) ∙ number_is)))) (λ left. left)
+            (either l.children o (remove l.children i) kids_cut p kid)
 
-  pub kid_fits : ChildFits nodes dir l.object.path number o
-  kid_fits = kid_at one.here.held l o dir number (here_in one.here) kid_in one.here.dir_is one.number_is
-
-  -- an object of the directory that has another number is left
-  pub is_left : (p : Object) (n : ℕ) → Contains l.children p → number_of nodes p.path ≡ Some n → (n ≡ number → ⊥) → Contains (remove l.children i) p
-  is_left p n kid e other =
-      ⊎_elim (λ same. absurd (other (same_some n number (sym e ∙ ap (λ (x : Object). number_of nodes x.path) (sym same) ∙ one.number_is)))) (λ left. left)
-      (either l.children o (remove l.children i) kids_cut p kid)
-
-  -- a name that no other entry has is no other node's
-  pub fresh_beside : (name : List ℕ) → has_name (remove (entries_of l.content) i) name ≡ false → (m : ℕ) (d : Entry) → held_as nodes m ≡ Some (dir, d) → (m ≡ 0 → ⊥)
-      → (m ≡ number → ⊥) → folded d.name ≡ folded name → ⊥
-  fresh_beside name absent m d is lower other same =
-      let k = kid_entry one.here m d is lower in
-      let left = is_left k.0 m k.1 k.2 other in
-      let entries : map (λ (x : Object). x.entry) (remove l.children i) ≡ remove (entries_of l.content) i =
-      map_remove (λ (x : Object). x.entry) l.children i ∙ ap (λ (es : List Entry). remove es i) (children_stored layout listings one.here.held.sound l (here_in one.here)) in
-      name_there (remove (entries_of l.content) i) name d
-      (subst (λ (es : List Entry). Contains es d) entries
-      (subst (Contains (map (λ (x : Object). x.entry) (remove l.children i))) k.3 (in_map (λ (x : Object). x.entry) (remove l.children i) k.0 left))) same absent
+        -- a name that no other entry has is no other node's
+        pub fresh_beside : (name : List ℕ) → has_name (remove (entries_of l.content) i) name ≡ false → (m : ℕ) (d : Entry) → held_as nodes m ≡ Some (dir, d) → (m ≡ 0 → ⊥)
+            → (m ≡ number → ⊥) → folded d.name ≡ folded name → ⊥
+        fresh_beside name absent m d is lower other same =
+            let k = kid_entry m d is lower in
+            let left = is_left k.0 m k.1 k.2 other in
+            let entries : map (λ (x : Object). x.entry) (remove l.children i) ≡ remove (entries_of l.content) i =
+            map_remove (λ (x : Object). x.entry) l.children i ∙ ap (λ (es : List Entry). remove es i) (children_stored layout listings sound l here_in) in
+            name_there (remove (entries_of l.content) i) name d
+            (subst (λ (es : List Entry). Contains es d) entries
+            (subst (Contains (map (λ (x : Object). x.entry) (remove l.children i))) k.3 (in_map (λ (x : Object). x.entry) (remove l.children i) k.0 left))) same absent

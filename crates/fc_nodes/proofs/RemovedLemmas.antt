@@ -30,7 +30,7 @@ use Rattle.fc_nodes.proofs.WaysLemmas.{AreApart, stands_held}
 use Rattle.fc_nodes.proofs.FitsLemmas.{ChildFits, DirectoryFits, apart, fits, holds, one_number, one_directory}
 use Rattle.fc_nodes.proofs.ListLemmas.{cut_at, in_first, map_fixed}
 use Rattle.fc_nodes.proofs.FollowLemmas.{AllFit, follow}
-use Rattle.fc_nodes.proofs.OtherLemmas.{OneDirectory, OneObject, here_in, others_in, other_number, fits_here, not_file, left_in, left_other, rest_other, number_lower, dir_lower, kid_fits, objects_count, top_object, root_at, left_objects, objects_cut, other_object}
+use Rattle.fc_nodes.proofs.OtherLemmas.{here_in, others_in, other_directory, other_number, fits_here, not_file, left_in, left_other, rest_other, number_lower, dir_lower, kid_fits, objects_count, top_object, root_at, left_objects, objects_cut, other_object}
 use Rattle.fc_nodes.proofs.KeptLemmas.{apart_after, way_kept, child_kept}
 use Rattle.fc_nodes.proofs.OwnerLemmas.{among_one, owners_edited, found_objects, owner_law, keeps_owner, KeepsOwner}
 
@@ -53,46 +53,40 @@ module _ (nodes : Nodes) (layout : Layout) (listings out rest : List Listing) (l
   cut : IsPermutation listings (l ∷ (out ++ rest))
   cut = IsPermutation-trans listings (out ++ l ∷ rest) (l ∷ (out ++ rest)) found (IsPermutation-middle out l rest)
 
-  abbrev here : OneDirectory nodes layout listings (out ++ rest) l dir
-  here = record { held = h; found = cut; dir_is = child.dir_is }
-
-  abbrev one : OneObject nodes layout listings (out ++ rest) l dir i o number
-  one = record { here = here; at = child.at; number_is = child.number_is }
-
   lower : number ≡ 0 → ⊥
-  lower = number_lower one
+  lower = number_lower layout listings nodes h.sound h.held l (out ++ rest) cut dir child.dir_is i o child.at number child.number_is
 
   was : ChildFits nodes dir l.object.path number o
-  was = kid_fits one
+  was = kid_fits layout listings nodes h.sound h.held l (out ++ rest) cut dir child.dir_is i o child.at number child.number_is
 
   among : Contains (objects_of listings) o
-  among = in_first (objects_of listings) (o ∷ left_objects one)
-      (objects_cut one) o
-      (contains_here o (left_objects one))
+  among = in_first (objects_of listings) (o ∷ left_objects layout listings nodes h.sound h.held l (out ++ rest) cut dir child.dir_is i o child.at number child.number_is)
+      (objects_cut layout listings nodes h.sound h.held l (out ++ rest) cut dir child.dir_is i o child.at number child.number_is) o
+      (contains_here o (left_objects layout listings nodes h.sound h.held l (out ++ rest) cut dir child.dir_is i o child.at number child.number_is))
 
   out_in : (k : Listing) → Contains out k → Contains listings k
-  out_in k at = others_in here k (Contains-append_left out rest k at)
+  out_in k at = others_in layout listings nodes h.sound h.held l (out ++ rest) cut k (Contains-append_left out rest k at)
 
   rest_in : (k : Listing) → Contains rest k → Contains listings k
-  rest_in k at = others_in here k (Contains-append_right out rest k at)
+  rest_in k at = others_in layout listings nodes h.sound h.held l (out ++ rest) cut k (Contains-append_right out rest k at)
 
   -- a directory of o's number is o's, and so it is empty
   empty_there : (k : Listing) → Contains listings k → number_of nodes k.object.path ≡ Some number → (p : Object) → Contains k.children p → ⊥
   empty_there k at is p kid = by out alone out_in
     where
       same : k.object ≡ o
-      same = one_number h k.object o number (listed_directory layout listings h.sound k at).0 among is child.number_is
+      same = one_number layout listings nodes h.sound h.held k.object o number (listed_directory layout listings h.sound k at).0 among is child.number_is
 
       by : (ds : List Listing) → GoesAlone ds o → ((d : Listing) → Contains ds d → Contains listings d) → ⊥
       by [] g ins = let two : true ≡ false = sym (listed_directory layout listings h.sound k at).1 ∙ ap is_directory_object same ∙ g in cc
       by (d ∷ []) g ins =
-          let one = one_directory h k d number at (ins d (contains_here d [])) is (ap (λ (x : Object). number_of nodes x.path) g.0 ∙ child.number_is) in
+          let one = one_directory layout listings nodes h.sound h.held k d number at (ins d (contains_here d [])) is (ap (λ (x : Object). number_of nodes x.path) g.0 ∙ child.number_is) in
           no_element p (subst (λ (os : List Object). Contains os p) (ap (λ (x : Listing). x.children) one ∙ g.2) kid)
       by (d ∷ e ∷ ds) g ins = g
 
   nothing_below : (m : ℕ) (d : Entry) → held_as nodes m ≡ Some (number, d) → (m ≡ 0 → ⊥) → ⊥
   nothing_below m d is lower_m =
-      let k = holds h m number d is lower_m in
+      let k = holds layout listings nodes h.sound h.held m number d is lower_m in
       empty_there k.dir k.listed k.above k.o k.kid
 
   -- none of the directories that stay has its number
@@ -103,12 +97,13 @@ module _ (nodes : Nodes) (layout : Layout) (listings out rest : List Listing) (l
       at_number = is ∙ ap (λ j. Some j) e
 
       same : k.object ≡ o
-      same = one_number h k.object o number (listed_directory layout listings h.sound k (rest_in k at)).0 among at_number child.number_is
+      same = one_number layout listings nodes h.sound h.held k.object o number (listed_directory layout listings h.sound k (rest_in k at)).0 among at_number child.number_is
 
       by : (ds : List Listing) → GoesAlone ds o → IsPermutation listings (ds ++ l ∷ rest) → ⊥
       by [] g f = let two : true ≡ false = sym (listed_directory layout listings h.sound k (rest_in k at)).1 ∙ ap is_directory_object same ∙ g in cc
       by (d ∷ []) g f =
-          other_number (record { held = h; found = f; dir_is = ap (λ (x : Object). number_of nodes x.path) g.0 ∙ child.number_is }) k number (contains_later l k rest at) at_number refl
+          other_directory layout listings nodes h.sound h.held d (l ∷ rest) f k number (contains_later l k rest at)
+          (ap (λ (x : Object). number_of nodes x.path) g.0 ∙ child.number_is) at_number
       by (d ∷ e ∷ ds) g f = g
 
   -- ---- the nodes that are left
@@ -122,15 +117,15 @@ module _ (nodes : Nodes) (layout : Layout) (listings out rest : List Listing) (l
   said_here : says_at after dir ≡ Some (body_in content)
   said_here =
       ap (option_map said) (take_other (with_body dir (body_in content) nodes) number dir
-      (dir_lower one))
-      ∙ body_said nodes dir (body_in content) (body_in l.content) (fits_here here).says
+      (dir_lower layout listings nodes h.sound h.held l (out ++ rest) cut dir child.dir_is i o child.at number child.number_is))
+      ∙ body_said nodes dir (body_in content) (body_in l.content) (fits_here layout listings nodes h.sound h.held l (out ++ rest) cut dir child.dir_is).says
 
   own_gone : (a : ℕ) (e : Entry) → held_as after number ≡ Some (a, e) → ⊥
   own_gone a e is = let none : ◌≡◌ {A = Option (ℕ × Entry)} None (Some (a, e)) = sym (ap (option_map held_by) (take_here (with_body dir (body_in content) nodes) number)) ∙ is in cc
 
   apart_now : AreApart after
   apart_now =
-      apart_after nodes after number (apart h)
+      apart_after nodes after number (apart layout listings nodes h.sound h.held)
       (record { others = held_off; own = λ a e is m d is_m lower_m other same. own_gone a e is })
 
   -- paths to other numbers lead as they did
@@ -143,7 +138,7 @@ module _ (nodes : Nodes) (layout : Layout) (listings out rest : List Listing) (l
       path n is (λ at. other (same_some n number (sym is ∙ at)))
 
   file_kept : (n : ℕ) → (n ≡ number → ⊥) → says_at nodes n ≡ Some bodies.File → says_at after n ≡ Some bodies.File
-  file_kept n other is = said_off n other (not_file here n is) ∙ is
+  file_kept n other is = said_off n other (not_file layout listings nodes h.sound h.held l (out ++ rest) cut dir child.dir_is n is) ∙ is
 
   beside : (d n : ℕ) (path : Path) (p : Object) → ChildFits nodes d path n p → (n ≡ number → ⊥) → ChildFits after d path n p
   beside d n path p was' other =
@@ -151,35 +146,35 @@ module _ (nodes : Nodes) (layout : Layout) (listings out rest : List Listing) (l
 
   here_now : DirectoryFits after dir (says_now l content (remove l.children i))
   here_now =
-      let was' = fits_here here in
+      let was' = fits_here layout listings nodes h.sound h.held l (out ++ rest) cut dir child.dir_is in
       record {
         at = leads l.object.path dir child.dir_is
-            (dir_lower one);
+            (dir_lower layout listings nodes h.sound h.held l (out ++ rest) cut dir child.dir_is i o child.at number child.number_is);
         says = said_here;
         root = λ top. held_off 0 (λ e. lower (sym e)) ∙ was'.root top;
         kids = λ p left.
-            (let f = was'.kids p (left_in one p left) in (
+            (let f = was'.kids p (left_in layout listings nodes h.sound h.held l (out ++ rest) cut dir child.dir_is i o child.at number child.number_is p left) in (
               f.0,
               beside dir f.0 l.object.path p f.1
-                  (left_other one p f.0 left f.1.at),
+                  (left_other layout listings nodes h.sound h.held l (out ++ rest) cut dir child.dir_is i o child.at number child.number_is p f.0 left f.1.at),
             ));
       }
 
   other_now : (k : Listing) → Contains rest k → (n : ℕ) × DirectoryFits after n k
   other_now k at =
-      let f = fits h k (rest_in k at) in
+      let f = fits layout listings nodes h.sound h.held k (rest_in k at) in
       let off = rest_off k f.0 at f.1.at in (
         f.0,
         record {
           at = leads k.object.path f.0 f.1.at off;
           says = said_off f.0 off
-              (other_number here k f.0 (Contains-append_right out rest k at) f.1.at) ∙ f.1.says;
+              (other_number layout listings nodes h.sound h.held l (out ++ rest) cut dir child.dir_is k f.0 (Contains-append_right out rest k at) f.1.at) ∙ f.1.says;
           root = λ top. held_off 0 (λ e. lower (sym e)) ∙ f.1.root top;
           kids = λ p kid.
               (let c = f.1.kids p kid in (
                 c.0,
                 beside f.0 c.0 k.object.path p c.1
-                    (rest_other one k p c.0 (Contains-append_right out rest k at) kid c.1.at),
+                    (rest_other layout listings nodes h.sound h.held l (out ++ rest) cut dir child.dir_is i o child.at number child.number_is k p c.0 (Contains-append_right out rest k at) kid c.1.at),
               ));
         },
       )
@@ -197,7 +192,7 @@ module _ (nodes : Nodes) (layout : Layout) (listings out rest : List Listing) (l
           let node = some_mapped held_by _ (dir, o.entry) (body_held nodes dir (body_in content) number ∙ was.held) in
           let less = take_length (with_body dir (body_in content) nodes) number node.0 node.1 in
           let said = edited_length nodes dir (λ node. record node { body = body_in content }) in
-          let before = objects_count h (l ∷ (out ++ rest)) cut in
+          let before = objects_count layout listings nodes h.sound h.held (l ∷ (out ++ rest)) cut in
           let kids = length_permutation l.children (o ∷ remove l.children i) (cut_at l.children i o child.at) in
           let old = length-append l.children (held (out ++ rest)) in
           let others = ap (λ (os : List Object). length os) (nothing_held out rest o alone) in
@@ -210,24 +205,24 @@ module _ (nodes : Nodes) (layout : Layout) (listings out rest : List Listing) (l
   top = root layout listings h.sound
 
   abbrev kept : List Object
-  kept = left_objects one
+  kept = left_objects layout listings nodes h.sound h.held l (out ++ rest) cut dir child.dir_is i o child.at number child.number_is
 
   all_cut : IsPermutation (objects_of listings) (o ∷ kept)
-  all_cut = objects_cut one
+  all_cut = objects_cut layout listings nodes h.sound h.held l (out ++ rest) cut dir child.dir_is i o child.at number child.number_is
 
   tops : (k : Listing) → Contains now k → k.object.path ≡ [] → k.object ≡ top
   tops k at is =
-      ⊎_elim (λ same. sym (ap (λ (d : Listing). d.object) same) ∙ in_listings l (here_in here) (ap (λ (d : Listing). d.object.path) same ∙ is))
+      ⊎_elim (λ same. sym (ap (λ (d : Listing). d.object) same) ∙ in_listings l (here_in layout listings nodes h.sound h.held l (out ++ rest) cut) (ap (λ (d : Listing). d.object.path) same ∙ is))
       (λ later. in_listings k (rest_in k later) is) (contains_cases (says_now l content (remove l.children i)) k rest at)
     where
       in_listings : (d : Listing) → Contains listings d → d.object.path ≡ [] → d.object ≡ top
-      in_listings d among' path = top_object h d.object (listed_directory layout listings h.sound d among').0 path
+      in_listings d among' path = top_object layout listings nodes h.sound h.held d.object (listed_directory layout listings h.sound d among').0 path
 
   keeps : (layout' : Layout) → ((low : ℕ) → first_in layout' low ≡ first_in layout low) → (p : Object) → Contains kept p → KeepsOwner nodes after layout layout' p p
   keeps layout' first p at =
       let among' = in_first (objects_of listings) (o ∷ kept) all_cut p (contains_later o p kept at) in
       let n = h.held.each p among' in
-      let other : n.number ≡ number → ⊥ = λ e. other_object h o kept all_cut p number at child.number_is (n.at_path ∙ ap (λ k. Some k) e) in
+      let other : n.number ≡ number → ⊥ = λ e. other_object layout listings nodes h.sound h.held o kept all_cut p number at child.number_is (n.at_path ∙ ap (λ k. Some k) e) in
       let is : held_as nodes n.number ≡ Some (n.holder_number, p.entry) = ap (option_map held_by) n.is in
       let above : n.holder_number ≡ number → ⊥ = λ e.
       ⊎_elim (λ zero_. lower (sym e ∙ root_holder p n.number n.holder_number among' n.at_path n.at_holder zero_))
@@ -237,7 +232,7 @@ module _ (nodes : Nodes) (layout : Layout) (listings out rest : List Listing) (l
     where
       root_holder : (q : Object) (m a : ℕ) → Contains (objects_of listings) q → number_of nodes q.path ≡ Some m → number_of nodes (holder q.path) ≡ Some a → m ≡ 0 → a ≡ 0
       root_holder q m a among' is up e =
-          let same = one_number h q top 0 among' (root_object layout listings h.sound) (is ∙ ap (λ k. Some k) e) (root_at h) in
+          let same = one_number layout listings nodes h.sound h.held q top 0 among' (root_object layout listings h.sound) (is ∙ ap (λ k. Some k) e) (root_at layout listings nodes h.sound h.held) in
           same_some a 0 (sym up ∙ ap (λ (x : Object). number_of nodes (holder x.path)) same ∙ ap (λ (path : Path). number_of nodes (holder path)) (root_path layout listings h.sound))
 
   removed_owners : (owners owners' : List Owner) (layout' : Layout) → IsOwned owners nodes layout layout' listings

@@ -27,19 +27,13 @@ use Rattle.fc_nodes.proofs.ShapeLemmas.{held_by, said, says_at, some_mapped, bod
 use Rattle.fc_nodes.proofs.FitsLemmas.{ChildFits, DirectoryFits, fits}
 use Rattle.fc_nodes.proofs.ListLemmas.{cut_at, moved_at, either, in_first, to_front, map_fixed, map_append, held_mapped, held_relisted}
 use Rattle.fc_nodes.proofs.FollowLemmas.{AllFit, follow}
-use Rattle.fc_nodes.proofs.OtherLemmas.{OneDirectory, OneObject, others_in, other_number, fits_here, left_in, left_other, rest_other, number_lower, dir_lower, kid_fits, objects_count, top_object, left_objects, objects_cut, other_object, fresh_beside}
+use Rattle.fc_nodes.proofs.OtherLemmas.{others_in, other_number, fits_here, left_in, left_other, rest_other, number_lower, dir_lower, kid_fits, objects_count, top_object, left_objects, objects_cut, other_object, fresh_beside}
 use Rattle.fc_nodes.proofs.MovingLemmas.{IsMoving, child_stays, itself_fits, directory_moved, directory_stays, root_moved, top_fixed, fixed, keeps, above_own}
 use Rattle.fc_nodes.proofs.OwnerLemmas.{owners_among, among-append, among_permuted, among_one, owners_edited, found_objects, owner_known, owner_law, same_owner}
 
 module _ (nodes : Nodes) (layout : Layout) (listings rest : List Listing) (l : Listing) (content : Directory) (i j : ℕ) (o : Object) (dir number : ℕ) (name : List ℕ) (now : Directory)
     (h : IsHeld nodes layout listings) (found : IsPermutation listings (l ∷ rest)) (child : IsChild nodes listings l i o dir number)
     (absent : has_name (without_entry i (entries_of l.content)) name ≡ false) where
-  abbrev here : OneDirectory nodes layout listings rest l dir
-  here = record { held = h; found = found; dir_is = child.dir_is }
-
-  abbrev one : OneObject nodes layout listings rest l dir i o number
-  one = record { here = here; at = child.at; number_is = child.number_is }
-
   abbrev entry_now : Entry
   entry_now = record o.entry { name = name }
 
@@ -59,19 +53,19 @@ module _ (nodes : Nodes) (layout : Layout) (listings rest : List Listing) (l : L
   listings_now = says_now l content (insert (remove l.children i) j (g o)) ∷ relisted g (as_moved o now) rest
 
   was : ChildFits nodes dir l.object.path number o
-  was = kid_fits one
+  was = kid_fits layout listings nodes h.sound h.held l rest found dir child.dir_is i o child.at number child.number_is
 
   here_fits : DirectoryFits nodes dir l
-  here_fits = fits_here here
+  here_fits = fits_here layout listings nodes h.sound h.held l rest found dir child.dir_is
 
   dir_off : dir ≡ number → ⊥
-  dir_off = dir_lower one
+  dir_off = dir_lower layout listings nodes h.sound h.held l rest found dir child.dir_is i o child.at number child.number_is
 
   abbrev kept : List Object
-  kept = left_objects one
+  kept = left_objects layout listings nodes h.sound h.held l rest found dir child.dir_is i o child.at number child.number_is
 
   cut : IsPermutation (objects_of listings) (o ∷ kept)
-  cut = objects_cut one
+  cut = objects_cut layout listings nodes h.sound h.held l rest found dir child.dir_is i o child.at number child.number_is
 
   beside : is_prefix (folded_path o.path) (folded_path l.object.path) ≡ false
   beside = ap (λ (p : Path). is_prefix (folded_path p) (folded_path l.object.path)) was.path_is ∙ holder_first l.object.path o.entry.name
@@ -96,10 +90,10 @@ module _ (nodes : Nodes) (layout : Layout) (listings rest : List Listing) (l : L
     dir_is = child.dir_is;
     among = in_first (objects_of listings) (o ∷ kept) cut o (contains_here o kept);
     number_is = child.number_is;
-    lower = number_lower one;
+    lower = number_lower layout listings nodes h.sound h.held l rest found dir child.dir_is i o child.at number child.number_is;
     not_into = beside;
     fresh = λ n d is lower other same.
-        fresh_beside one name absent n d is lower other same;
+        fresh_beside layout listings nodes h.sound h.held l rest found dir child.dir_is i o child.at number child.number_is name absent n d is lower other same;
     held_off = λ n other. own_held o number now renamed_node n ∙ entry_other said_now number entry_now n other ∙ body_held nodes dir (body_in content) n;
     held_own = own_held o number now renamed_node number
         ∙ entry_held said_now number dir entry_now o.entry (body_held nodes dir (body_in content) number ∙ was.held);
@@ -110,29 +104,29 @@ module _ (nodes : Nodes) (layout : Layout) (listings rest : List Listing) (l : L
 
   kid_now : (p : Object) → Contains (insert (remove l.children i) j (g o)) p → (n : ℕ) × ChildFits after dir l.object.path n p
   kid_now p at =
-      ⊎_elim (λ same. (number, subst (ChildFits after dir l.object.path number) same (itself_fits moving)))
+      ⊎_elim (λ same. (number, subst (ChildFits after dir l.object.path number) same (itself_fits nodes after layout listings l l dir dir o number name now moving)))
       (λ left.
-      let f = here_fits.kids p (left_in one p left) in (
+      let f = here_fits.kids p (left_in layout listings nodes h.sound h.held l rest found dir child.dir_is i o child.at number child.number_is p left) in (
         f.0,
-        child_stays moving dir f.0 l.object.path p f.1
-            (left_other one p f.0 left f.1.at) beside,
+        child_stays nodes after layout listings l l dir dir o number name now moving dir f.0 l.object.path p f.1
+            (left_other layout listings nodes h.sound h.held l rest found dir child.dir_is i o child.at number child.number_is p f.0 left f.1.at) beside,
       ))
       (either (insert (remove l.children i) j (g o)) (g o) (remove l.children i) (moved_at l.children i j (g o)) p at)
 
   other_now : (k : Listing) → Contains rest k → (n : ℕ) × DirectoryFits after n (record { object = g k.object; content = as_moved o now k; children = map g k.children })
   other_now k at =
-      let k_in = others_in here k at in
-      let f = fits h k k_in in
-      let away = other_number here k f.0 at f.1.at in (
+      let k_in = others_in layout listings nodes h.sound h.held l rest found k at in
+      let f = fits layout listings nodes h.sound h.held k k_in in
+      let away = other_number layout listings nodes h.sound h.held l rest found dir child.dir_is k f.0 at f.1.at in (
         f.0,
-        directory_moved moving k f.0 k_in f.1 away away
-            (λ p n kid is. rest_other one k p n at kid is),
+        directory_moved nodes after layout listings l l dir dir o number name now moving k f.0 k_in f.1 away away
+            (λ p n kid is. rest_other layout listings nodes h.sound h.held l rest found dir child.dir_is i o child.at number child.number_is k p n at kid is),
       )
 
   all_now : AllFit after listings_now
   all_now k at =
       ⊎_elim (λ same. subst (λ (d : Listing). (n : ℕ) × DirectoryFits after n d) same
-      (dir, directory_stays moving l dir content (insert (remove l.children i) j (g o)) here_fits beside said_here kid_now))
+      (dir, directory_stays nodes after layout listings l l dir dir o number name now moving l dir content (insert (remove l.children i) j (g o)) here_fits beside said_here kid_now))
       (λ later.
       let q = from_map (λ (d : Listing). record { object = g d.object; content = as_moved o now d; children = map g d.children }) rest k later in
       subst (λ (d : Listing). (n : ℕ) × DirectoryFits after n d) q.2 (other_now q.0 q.1))
@@ -146,7 +140,7 @@ module _ (nodes : Nodes) (layout : Layout) (listings rest : List Listing) (l : L
           let own = own_length o number now renamed_node in
           let edited = edited_length said_now number (λ node. record node { entry = entry_now }) in
           let said = edited_length nodes dir (λ node. record node { body = body_in content }) in
-          let before = objects_count h (l ∷ rest) found in
+          let before = objects_count layout listings nodes h.sound h.held (l ∷ rest) found in
           let kids = length_permutation l.children (o ∷ remove l.children i) (cut_at l.children i o child.at) in
           let kids' = length_permutation (insert (remove l.children i) j (g o)) (g o ∷ remove l.children i) (moved_at l.children i j (g o)) in
           let others = held_relisted g (as_moved o now) rest in
@@ -162,33 +156,33 @@ module _ (nodes : Nodes) (layout : Layout) (listings rest : List Listing) (l : L
   tops : (k : Listing) → Contains listings_now k → k.object.path ≡ [] → k.object ≡ top
   unfolding moving
   tops k at is =
-      ⊎_elim (λ same. sym (ap (λ (d : Listing). d.object) same) ∙ top_object h l.object (listed_directory layout listings h.sound l child.listed).0
+      ⊎_elim (λ same. sym (ap (λ (d : Listing). d.object) same) ∙ top_object layout listings nodes h.sound h.held l.object (listed_directory layout listings h.sound l child.listed).0
       (ap (λ (d : Listing). d.object.path) same ∙ is))
       (λ later.
       let q = from_map (λ (d : Listing). record { object = g d.object; content = as_moved o now d; children = map g d.children }) rest k later in
       let object = ap (λ (d : Listing). d.object) q.2 in
-      sym object ∙ root_moved moving q.0 (others_in here q.0 q.1)
+      sym object ∙ root_moved nodes after layout listings l l dir dir o number name now moving q.0 (others_in layout listings nodes h.sound h.held l rest found q.0 q.1)
       (ap (λ (x : Object). x.path) object ∙ is))
       (contains_cases (says_now l content (insert (remove l.children i) j (g o))) k (relisted g (as_moved o now) rest) at)
 
   left_fixed : map g (remove l.children i) ≡ remove l.children i
   left_fixed = map_fixed g (remove l.children i) (λ p left.
-      let f = here_fits.kids p (left_in one p left) in
-      fixed moving dir f.0 l.object.path p f.1
-      (left_other one p f.0 left f.1.at) beside)
+      let f = here_fits.kids p (left_in layout listings nodes h.sound h.held l rest found dir child.dir_is i o child.at number child.number_is p left) in
+      fixed nodes after layout listings l l dir dir o number name now moving dir f.0 l.object.path p f.1
+      (left_other layout listings nodes h.sound h.held l rest found dir child.dir_is i o child.at number child.number_is p f.0 left f.1.at) beside)
 
   kept_now : map g kept ≡ top ∷ (remove l.children i ++ held (relisted g (as_moved o now) rest))
   unfolding moving
   kept_now =
-      ap₂ (λ (p : Object) (ps : List Object). p ∷ ps) (top_fixed moving)
+      ap₂ (λ (p : Object) (ps : List Object). p ∷ ps) (top_fixed nodes after layout listings l l dir dir o number name now moving)
       (map_append g (remove l.children i) (held rest) ∙ ap₂ (λ (ps qs : List Object). ps ++ qs) left_fixed (sym (held_mapped g (as_moved o now) rest)))
 
   renamed_owners : (owners : List Owner) (layout' : Layout) → IsOwned owners nodes layout layout' listings → OwnersFollow owners after layout' listings_now
   renamed_owners owners layout' owned again sound same =
       let gone = among_one nodes layout layout o dir number (owner_law nodes layout listings l i o dir number h child) in
-      let its = itself_fits moving in
+      let its = itself_fits nodes after layout listings l l dir dir o number name now moving in
       let come = among_one after layout' layout' (g o) dir number
-      (owner_known after layout' layout' (g o) dir number (above_own moving) its.at (λ low. refl))
+      (owner_known after layout' layout' (g o) dir number (above_own nodes after layout listings l l dir dir o number name now moving) its.at (λ low. refl))
       ∙ same_owner layout layout' dir number o (g o) owned.first refl refl refl in
       let all : IsPermutation owners (owners_among nodes layout (o ∷ []) ++ owners_among nodes layout kept) =
       subst (IsPermutation owners) (among-append nodes layout (o ∷ []) kept)
@@ -201,8 +195,8 @@ module _ (nodes : Nodes) (layout : Layout) (listings rest : List Listing) (l : L
       (λ p at.
       let among = in_first (objects_of listings) (o ∷ kept) cut p (contains_later o p kept at) in
       let n = h.held.each p among in
-      keeps moving layout' owned.first p n.number among n.at_path
-      (λ e. other_object h o kept cut p number at child.number_is (n.at_path ∙ ap (λ k. Some k) e)))
+      keeps nodes after layout listings l l dir dir o number name now moving layout' owned.first p n.number among n.at_path
+      (λ e. other_object layout listings nodes h.sound h.held o kept cut p number at child.number_is (n.at_path ∙ ap (λ k. Some k) e)))
       (record { rest = owners_among nodes layout kept; before = all; after = subst (λ (ws : List Owner). IsPermutation owners (ws ++ owners_among nodes layout kept)) (gone ∙ sym come) all })
       owned.owned
 

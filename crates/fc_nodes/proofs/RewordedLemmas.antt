@@ -22,16 +22,16 @@ reworded_nodes : (nodes nodes' : Nodes) (layout : Layout) (listings listings' re
     → IsHeld nodes layout listings → IsReworded nodes nodes' listings listings' rest l content i o dir number g → NodesFollow nodes' listings'
 reworded_nodes nodes nodes' layout listings listings' rest l content i o dir number g h e =
     subst (λ (ls : List Listing). NodesFollow nodes' ls) (sym e.listings_are)
-    (subst (λ (ns : Nodes). NodesFollow ns (now content h e.found e.child (word_change o g e.rewording))) (sym e.nodes_are)
-    (follow_change content h e.found e.child (word_change o g e.rewording)))
+    (subst (λ (ns : Nodes). NodesFollow ns (now nodes layout listings rest l content i o (g o) dir number g h e.found e.child (word_change o g e.rewording))) (sym e.nodes_are)
+    (follow_change nodes layout listings rest l content i o (g o) dir number g h e.found e.child (word_change o g e.rewording)))
 
 reworded_owners : (owners : List Owner) (nodes nodes' : Nodes) (layout layout' : Layout) (listings listings' rest : List Listing) (l : Listing) (content : Directory) (i : ℕ) (o : Object) (dir number : ℕ)
     (g : Object → Object) → IsHeld nodes layout listings → IsReworded nodes nodes' listings listings' rest l content i o dir number g → IsOwned owners nodes layout layout' listings
     → OwnersFollow owners nodes' layout' listings'
 reworded_owners owners nodes nodes' layout layout' listings listings' rest l content i o dir number g h e owned =
     subst (λ (ls : List Listing). OwnersFollow owners nodes' layout' ls) (sym e.listings_are)
-    (subst (λ (ns : Nodes). OwnersFollow owners ns layout' (now content h e.found e.child (word_change o g e.rewording))) (sym e.nodes_are)
-    (owners_same content h e.found e.child (word_change o g e.rewording) owners layout' owned
+    (subst (λ (ns : Nodes). OwnersFollow owners ns layout' (now nodes layout listings rest l content i o (g o) dir number g h e.found e.child (word_change o g e.rewording))) (sym e.nodes_are)
+    (owners_same nodes layout listings rest l content i o (g o) dir number g h e.found e.child (word_change o g e.rewording) owners layout' owned
     (same_owner layout layout' dir number o (g o) owned.first (e.rewording.address o) (e.rewording.kind o) (e.rewording.sectors o))))
 
 pub reworded_law : RewordedLaw
@@ -47,21 +47,21 @@ module _ (nodes nodes' : Nodes) (layout : Layout) (listings listings' rest : Lis
   change : IsChange p o (λ q. q)
   change = file_change p o e.path e.name e.was_file e.file
 
-  listed_now : listings' ≡ now content h e.found e.child change
+  listed_now : listings' ≡ now nodes layout listings rest l content i p o dir number (λ q. q) h e.found e.child change
   listed_now = e.listings_are ∙ ap (λ (ls : List Listing). says_now l content (slice_set l.children i o) ∷ ls) (sym (relisted_itself rest))
 
   replaced_nodes : NodesFollow nodes' listings'
   replaced_nodes =
       subst (λ (ls : List Listing). NodesFollow nodes' ls) (sym listed_now)
-      (subst (λ (ns : Nodes). NodesFollow ns (now content h e.found e.child change)) (sym e.nodes_are)
-      (follow_change content h e.found e.child change))
+      (subst (λ (ns : Nodes). NodesFollow ns (now nodes layout listings rest l content i p o dir number (λ q. q) h e.found e.child change)) (sym e.nodes_are)
+      (follow_change nodes layout listings rest l content i p o dir number (λ q. q) h e.found e.child change))
 
   replaced_owners : (owners owners' : List Owner) (layout' : Layout) → IsOwned owners nodes layout layout' listings
       → OwnersEdited owners owners' (owners_with layout dir number p) (owners_with layout' dir number o) → OwnersFollow owners' nodes' layout' listings'
   replaced_owners owners owners' layout' owned edited =
       subst (λ (ls : List Listing). OwnersFollow owners' nodes' layout' ls) (sym listed_now)
-      (subst (λ (ns : Nodes). OwnersFollow owners' ns layout' (now content h e.found e.child change)) (sym e.nodes_are)
-      (owners_change content h e.found e.child change owners owners' layout' owned edited))
+      (subst (λ (ns : Nodes). OwnersFollow owners' ns layout' (now nodes layout listings rest l content i p o dir number (λ q. q) h e.found e.child change)) (sym e.nodes_are)
+      (owners_change nodes layout listings rest l content i p o dir number (λ q. q) h e.found e.child change owners owners' layout' owned edited))
 
 pub replaced_law : ReplacedLaw
 replaced_law = record {

@@ -30,7 +30,7 @@ use Rattle.fc_nodes.proofs.ShapeLemmas.{held_by, held_as, said, says_at, some_ma
 use Rattle.fc_nodes.proofs.FitsLemmas.{ChildFits, DirectoryFits, fits}
 use Rattle.fc_nodes.proofs.ListLemmas.{cut_at, put_at, either, in_first, map_fixed, map_append, held_mapped, held_relisted}
 use Rattle.fc_nodes.proofs.FollowLemmas.{AllFit, follow}
-use Rattle.fc_nodes.proofs.OtherLemmas.{OneDirectory, OneObject, here_in, others_in, other_number, fits_here, left_in, left_other, rest_other, number_lower, dir_lower, kid_fits, objects_count, top_object, left_objects, objects_cut, other_object, fresh}
+use Rattle.fc_nodes.proofs.OtherLemmas.{here_in, others_in, other_number, fits_here, left_in, left_other, rest_other, number_lower, dir_lower, kid_fits, objects_count, top_object, left_objects, objects_cut, other_object, fresh}
 use Rattle.fc_nodes.proofs.MovingLemmas.{IsMoving, child_stays, itself_fits, directory_moved, directory_stays, root_moved, top_fixed, fixed, keeps, above_own}
 use Rattle.fc_nodes.proofs.OwnerLemmas.{owners_among, among_one, owners_edited, found_objects, owner_known, owner_law, same_owner}
 
@@ -66,26 +66,17 @@ module _ (nodes : Nodes) (layout : Layout) (listings rest : List Listing) (k l :
   turned : IsPermutation listings (l ∷ k ∷ rest)
   turned = IsPermutation-trans listings (k ∷ l ∷ rest) (l ∷ k ∷ rest) found (IsPermutation-middle (k ∷ []) l rest)
 
-  abbrev here : OneDirectory nodes layout listings (l ∷ rest) k from_dir
-  here = record { held = h; found = found; dir_is = child.dir_is }
-
-  abbrev there : OneDirectory nodes layout listings (k ∷ rest) l dir
-  there = record { held = h; found = turned; dir_is = dir_is }
-
-  abbrev one : OneObject nodes layout listings (l ∷ rest) k from_dir i o number
-  one = record { here = here; at = child.at; number_is = child.number_is }
-
   was : ChildFits nodes from_dir k.object.path number o
-  was = kid_fits one
+  was = kid_fits layout listings nodes h.sound h.held k (l ∷ rest) found from_dir child.dir_is i o child.at number child.number_is
 
   k_fits : DirectoryFits nodes from_dir k
-  k_fits = fits_here here
+  k_fits = fits_here layout listings nodes h.sound h.held k (l ∷ rest) found from_dir child.dir_is
 
   l_fits : DirectoryFits nodes dir l
-  l_fits = fits_here there
+  l_fits = fits_here layout listings nodes h.sound h.held l (k ∷ rest) turned dir dir_is
 
   from_off : from_dir ≡ number → ⊥
-  from_off = dir_lower one
+  from_off = dir_lower layout listings nodes h.sound h.held k (l ∷ rest) found from_dir child.dir_is i o child.at number child.number_is
 
   -- the object doesn't go into itself
   dir_off : dir ≡ number → ⊥
@@ -95,13 +86,13 @@ module _ (nodes : Nodes) (layout : Layout) (listings rest : List Listing) (k l :
       cc
 
   dirs_apart : dir ≡ from_dir → ⊥
-  dirs_apart = other_number here l dir (contains_here l rest) dir_is
+  dirs_apart = other_number layout listings nodes h.sound h.held k (l ∷ rest) found from_dir child.dir_is l dir (contains_here l rest) dir_is
 
   abbrev kept : List Object
-  kept = left_objects one
+  kept = left_objects layout listings nodes h.sound h.held k (l ∷ rest) found from_dir child.dir_is i o child.at number child.number_is
 
   cut : IsPermutation (objects_of listings) (o ∷ kept)
-  cut = objects_cut one
+  cut = objects_cut layout listings nodes h.sound h.held k (l ∷ rest) found from_dir child.dir_is i o child.at number child.number_is
 
   k_beside : is_prefix (folded_path o.path) (folded_path k.object.path) ≡ false
   k_beside = ap (λ (p : Path). is_prefix (folded_path p) (folded_path k.object.path)) was.path_is ∙ holder_first k.object.path o.entry.name
@@ -135,14 +126,14 @@ module _ (nodes : Nodes) (layout : Layout) (listings rest : List Listing) (k l :
   moving = record {
     held = h;
     k_in = child.listed;
-    l_in = here_in there;
+    l_in = here_in layout listings nodes h.sound h.held l (k ∷ rest) turned;
     home_is = child.dir_is;
     dir_is = dir_is;
     among = in_first (objects_of listings) (o ∷ kept) cut o (contains_here o kept);
     number_is = child.number_is;
-    lower = number_lower one;
+    lower = number_lower layout listings nodes h.sound h.held k (l ∷ rest) found from_dir child.dir_is i o child.at number child.number_is;
     not_into = not_into;
-    fresh = λ n d is lower other same. fresh there name absent n d is lower same;
+    fresh = λ n d is lower other same. fresh layout listings nodes h.sound h.held l (k ∷ rest) turned dir dir_is name absent n d is lower same;
     held_off = λ n other. own_held o number now moved_node n ∙ holder_other renamed_node number dir n other ∙ entry_other said_now number entry_now n other ∙ held_before n;
     held_own = own_held o number now moved_node number ∙ holder_held renamed_node number dir from_dir entry_now
         (entry_held said_now number from_dir entry_now o.entry (held_before number ∙ was.held));
@@ -156,43 +147,43 @@ module _ (nodes : Nodes) (layout : Layout) (listings rest : List Listing) (k l :
 
   l_kid_off : (p : Object) (n : ℕ) → Contains l.children p → number_of nodes p.path ≡ Some n → n ≡ number → ⊥
   l_kid_off p n kid is =
-      rest_other one l p n (contains_here l rest) kid is
+      rest_other layout listings nodes h.sound h.held k (l ∷ rest) found from_dir child.dir_is i o child.at number child.number_is l p n (contains_here l rest) kid is
 
   k_kid_now : (p : Object) → Contains (remove k.children i) p → (n : ℕ) × ChildFits after from_dir k.object.path n p
   k_kid_now p left =
-      let f = k_fits.kids p (left_in one p left) in (
+      let f = k_fits.kids p (left_in layout listings nodes h.sound h.held k (l ∷ rest) found from_dir child.dir_is i o child.at number child.number_is p left) in (
         f.0,
-        child_stays moving from_dir f.0 k.object.path p f.1
-            (left_other one p f.0 left f.1.at) k_beside,
+        child_stays nodes after layout listings k l from_dir dir o number name now moving from_dir f.0 k.object.path p f.1
+            (left_other layout listings nodes h.sound h.held k (l ∷ rest) found from_dir child.dir_is i o child.at number child.number_is p f.0 left f.1.at) k_beside,
       )
 
   l_kid_now : (p : Object) → Contains (insert l.children j (g o)) p → (n : ℕ) × ChildFits after dir l.object.path n p
   l_kid_now p at =
-      ⊎_elim (λ same. (number, subst (ChildFits after dir l.object.path number) same (itself_fits moving)))
+      ⊎_elim (λ same. (number, subst (ChildFits after dir l.object.path number) same (itself_fits nodes after layout listings k l from_dir dir o number name now moving)))
       (λ old.
       let f = l_fits.kids p old in
-      (f.0, child_stays moving dir f.0 l.object.path p f.1 (l_kid_off p f.0 old f.1.at) not_into))
+      (f.0, child_stays nodes after layout listings k l from_dir dir o number name now moving dir f.0 l.object.path p f.1 (l_kid_off p f.0 old f.1.at) not_into))
       (either (insert l.children j (g o)) (g o) l.children (put_at l.children j (g o)) p at)
 
   rest_in : (d : Listing) → Contains rest d → Contains listings d
-  rest_in d at = others_in here d (contains_later l d rest at)
+  rest_in d at = others_in layout listings nodes h.sound h.held k (l ∷ rest) found d (contains_later l d rest at)
 
   other_now : (d : Listing) → Contains rest d → (n : ℕ) × DirectoryFits after n (record { object = g d.object; content = as_moved o now d; children = map g d.children })
   other_now d at =
-      let f = fits h d (rest_in d at) in (
+      let f = fits layout listings nodes h.sound h.held d (rest_in d at) in (
         f.0,
-        directory_moved moving d f.0 (rest_in d at) f.1
-            (other_number here d f.0 (contains_later l d rest at) f.1.at)
-            (other_number there d f.0 (contains_later k d rest at) f.1.at)
-            (λ p n kid is. rest_other one d p n (contains_later l d rest at) kid is),
+        directory_moved nodes after layout listings k l from_dir dir o number name now moving d f.0 (rest_in d at) f.1
+            (other_number layout listings nodes h.sound h.held k (l ∷ rest) found from_dir child.dir_is d f.0 (contains_later l d rest at) f.1.at)
+            (other_number layout listings nodes h.sound h.held l (k ∷ rest) turned dir dir_is d f.0 (contains_later k d rest at) f.1.at)
+            (λ p n kid is. rest_other layout listings nodes h.sound h.held k (l ∷ rest) found from_dir child.dir_is i o child.at number child.number_is d p n (contains_later l d rest at) kid is),
       )
 
   all_now : AllFit after listings_now
   all_now d at =
       ⊎_elim (λ same. subst (λ (c : Listing). (n : ℕ) × DirectoryFits after n c) same
-      (from_dir, directory_stays moving k from_dir k_content (remove k.children i) k_fits k_beside k_says k_kid_now))
+      (from_dir, directory_stays nodes after layout listings k l from_dir dir o number name now moving k from_dir k_content (remove k.children i) k_fits k_beside k_says k_kid_now))
       (λ more. ⊎_elim (λ same. subst (λ (c : Listing). (n : ℕ) × DirectoryFits after n c) same
-      (dir, directory_stays moving l dir l_content (insert l.children j (g o)) l_fits not_into l_says l_kid_now))
+      (dir, directory_stays nodes after layout listings k l from_dir dir o number name now moving l dir l_content (insert l.children j (g o)) l_fits not_into l_says l_kid_now))
       (λ later.
       let q = from_map (λ (c : Listing). record { object = g c.object; content = as_moved o now c; children = map g c.children }) rest d later in
       subst (λ (c : Listing). (n : ℕ) × DirectoryFits after n c) q.2 (other_now q.0 q.1))
@@ -209,7 +200,7 @@ module _ (nodes : Nodes) (layout : Layout) (listings rest : List Listing) (k l :
           let edited = edited_length said_now number (λ node. record node { entry = entry_now }) in
           let l_said = edited_length k_said dir (λ node. record node { body = body_in l_content }) in
           let said' = edited_length nodes from_dir (λ node. record node { body = body_in k_content }) in
-          let before = objects_count h (k ∷ l ∷ rest) found in
+          let before = objects_count layout listings nodes h.sound h.held (k ∷ l ∷ rest) found in
           let kids = length_permutation k.children (o ∷ remove k.children i) (cut_at k.children i o child.at) in
           let kids' = length_permutation (insert l.children j (g o)) (g o ∷ l.children) (put_at l.children j (g o)) in
           let others = held_relisted g (as_moved o now) rest in
@@ -228,28 +219,28 @@ module _ (nodes : Nodes) (layout : Layout) (listings rest : List Listing) (k l :
   unfolding moving
   tops d at is =
       ⊎_elim (λ same. old k child.listed (ap (λ (c : Listing). c.object) same))
-      (λ more. ⊎_elim (λ same. old l (here_in there) (ap (λ (c : Listing). c.object) same))
+      (λ more. ⊎_elim (λ same. old l (here_in layout listings nodes h.sound h.held l (k ∷ rest) turned) (ap (λ (c : Listing). c.object) same))
       (λ later.
       let q = from_map (λ (c : Listing). record { object = g c.object; content = as_moved o now c; children = map g c.children }) rest d later in
       let object = ap (λ (c : Listing). c.object) q.2 in
-      sym object ∙ root_moved moving q.0 (rest_in q.0 q.1) (ap (λ (x : Object). x.path) object ∙ is))
+      sym object ∙ root_moved nodes after layout listings k l from_dir dir o number name now moving q.0 (rest_in q.0 q.1) (ap (λ (x : Object). x.path) object ∙ is))
       (contains_cases (says_now l l_content (insert l.children j (g o))) d (relisted g (as_moved o now) rest) more))
       (contains_cases (says_now k k_content (remove k.children i)) d (says_now l l_content (insert l.children j (g o)) ∷ relisted g (as_moved o now) rest) at)
     where
       old : (c : Listing) → Contains listings c → c.object ≡ d.object → d.object ≡ top
       old c among same =
-          sym same ∙ top_object h c.object (listed_directory layout listings h.sound c among).0 (ap (λ (x : Object). x.path) same ∙ is)
+          sym same ∙ top_object layout listings nodes h.sound h.held c.object (listed_directory layout listings h.sound c among).0 (ap (λ (x : Object). x.path) same ∙ is)
 
   left_fixed : map g (remove k.children i) ≡ remove k.children i
   left_fixed = map_fixed g (remove k.children i) (λ p left.
-      let f = k_fits.kids p (left_in one p left) in
-      fixed moving from_dir f.0 k.object.path p f.1
-      (left_other one p f.0 left f.1.at) k_beside)
+      let f = k_fits.kids p (left_in layout listings nodes h.sound h.held k (l ∷ rest) found from_dir child.dir_is i o child.at number child.number_is p left) in
+      fixed nodes after layout listings k l from_dir dir o number name now moving from_dir f.0 k.object.path p f.1
+      (left_other layout listings nodes h.sound h.held k (l ∷ rest) found from_dir child.dir_is i o child.at number child.number_is p f.0 left f.1.at) k_beside)
 
   l_fixed : map g l.children ≡ l.children
   l_fixed = map_fixed g l.children (λ p kid.
       let f = l_fits.kids p kid in
-      fixed moving dir f.0 l.object.path p f.1 (l_kid_off p f.0 kid f.1.at) not_into)
+      fixed nodes after layout listings k l from_dir dir o number name now moving dir f.0 l.object.path p f.1 (l_kid_off p f.0 kid f.1.at) not_into)
 
   abbrev rest_held : List Object
   rest_held = held (relisted g (as_moved o now) rest)
@@ -257,7 +248,7 @@ module _ (nodes : Nodes) (layout : Layout) (listings rest : List Listing) (k l :
   kept_now : map g kept ≡ top ∷ (remove k.children i ++ (l.children ++ rest_held))
   unfolding moving
   kept_now =
-      ap₂ (λ (p : Object) (ps : List Object). p ∷ ps) (top_fixed moving)
+      ap₂ (λ (p : Object) (ps : List Object). p ∷ ps) (top_fixed nodes after layout listings k l from_dir dir o number name now moving)
       (map_append g (remove k.children i) (l.children ++ held rest)
       ∙ ap₂ (λ (ps qs : List Object). ps ++ qs) left_fixed
       (map_append g l.children (held rest) ∙ ap₂ (λ (ps qs : List Object). ps ++ qs) l_fixed (sym (held_mapped g (as_moved o now) rest))))
@@ -277,9 +268,9 @@ module _ (nodes : Nodes) (layout : Layout) (listings rest : List Listing) (k l :
       → OwnersEdited owners owners' (owners_with layout from_dir number o) (owners_with layout dir number o) → OwnersFollow owners' after layout' listings_now
   transferred_owners owners owners' layout' owned edited again sound same =
       let gone = among_one nodes layout layout o from_dir number (owner_law nodes layout listings k i o from_dir number h child) in
-      let its = itself_fits moving in
+      let its = itself_fits nodes after layout listings k l from_dir dir o number name now moving in
       let come = among_one after layout' layout' (g o) dir number
-      (owner_known after layout' layout' (g o) dir number (above_own moving) its.at (λ low. refl))
+      (owner_known after layout' layout' (g o) dir number (above_own nodes after layout listings k l from_dir dir o number name now moving) its.at (λ low. refl))
       ∙ same_owner layout layout' dir number o (g o) owned.first refl refl refl in
       owners_edited nodes after layout layout' g (objects_of listings) (objects_of again) (o ∷ []) (g o ∷ []) kept owners owners' cut
       (subst (λ (os : List Object). IsPermutation (objects_of again) (g o ∷ os)) (sym kept_now)
@@ -288,8 +279,8 @@ module _ (nodes : Nodes) (layout : Layout) (listings rest : List Listing) (k l :
       (λ p at.
       let among = in_first (objects_of listings) (o ∷ kept) cut p (contains_later o p kept at) in
       let n = h.held.each p among in
-      keeps moving layout' owned.first p n.number among n.at_path
-      (λ e. other_object h o kept cut p number at child.number_is (n.at_path ∙ ap (λ m. Some m) e)))
+      keeps nodes after layout listings k l from_dir dir o number name now moving layout' owned.first p n.number among n.at_path
+      (λ e. other_object layout listings nodes h.sound h.held o kept cut p number at child.number_is (n.at_path ∙ ap (λ m. Some m) e)))
       (subst (λ (ws : List Owner). OwnersEdited owners owners' ws (owners_among after layout' (g o ∷ []))) (sym gone)
       (subst (λ (ws : List Owner). OwnersEdited owners owners' (owners_with layout from_dir number o) ws) (sym come) edited))
       owned.owned

@@ -45,12 +45,12 @@ pub fn transferred()
     ensures { TransferredLaw }
 {}
 
-/// A small tree whose directory is renamed, worked out.
-pub fn rows()
-    ensures { NodeRows }
-{}
-
 /// After `rename` of a file that is copied nodes and owners follow.
 pub fn copied()
     ensures { CopiedLaw }
+{}
+
+/// A small tree whose directory is renamed, worked out.
+pub fn rows()
+    ensures { NodeRows }
 {}
