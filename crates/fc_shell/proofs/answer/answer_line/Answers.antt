@@ -1,4 +1,4 @@
-use Rattle.std.proofs.Common.{rules, Ok, Err, refl, sym, ap, subst, ◌∙◌}
+use Rattle.std.proofs.Common.{not, rules, Ok, Err, refl, sym, ap, subst, ◌∙◌}
 use Rattle.fc_device.proofs.DiskLaws.{laws}
 use Rattle.fc_device.proofs.StopLemmas.{reads_start}
 use Rattle.fc_effects.specs.Effect.{State}
@@ -19,7 +19,7 @@ pub answer_command-requires-clause-built : goal.answer_command-requires-clause-b
 answer_command-requires-clause-built g c = not_false c.in-Ok.asked (ap is_unbuilt_command (sym c.in-Ok.ensures) ∙ c.requires.built)
 
 pub answer_command-requires-clause-new_map : goal.answer_command-requires-clause-new_map
-answer_command-requires-clause-new_map g c = λ e. c.requires.new_map (ap is_changing (c.in-Ok.ensures ∙ ap Ok e))
+answer_command-requires-clause-new_map g c reads = c.requires.new_map (ap is_changing c.in-Ok.ensures ∙ ap not reads)
 
 pub returns-in-Ok-clause-step : goal.returns-in-Ok-clause-step
 returns-in-Ok-clause-step g c = c.answer_command.ensures.step c.args.line.now c.in-Ok.ensures
