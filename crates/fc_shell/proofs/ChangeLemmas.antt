@@ -279,11 +279,11 @@ module _ {D K : Type 0} {d : Ghosts D} (law : Laws d) (k : Sinks K) (kind : Kind
       let refused : refusal_in s.view s.image was.read_only c ≡ Some r =
       refusal_is (refusal_in s.view s.image was.read_only c) r (asked.refused s.view s.image (sound_law s.image kind s.view opens) parts) in
       unchanged (Refused r) result asked (λ fault. absurd (cc)) (λ reads.
-          left_ends law kind was s line old new (k.taken before) (k.taken after) quiet told opens (refusal_line r) result (refused_step kind was.read_only s line c changes is r refused) reads parts tells.1.no_disk tells.0)
+      left_ends law kind was s line old new (k.taken before) (k.taken after) quiet told opens (refusal_line r) result (refused_step kind was.read_only s line c changes is r refused) reads parts tells.1.no_disk tells.0)
   change_ends (Err NoMemory) result asked tells =
       unchanged NoMemory result asked (λ fault. absurd (cc)) (λ reads.
-          subst (λ (x : Result Bool LineFault). LineEnds d old new kind was.read_only s was line (k.taken before) (k.taken after) x) (sym tells.0)
-          (unbegun_ends law kind was s line old new (k.taken before) (k.taken after) quiet told opens LineFault.NoMemory reads (ap k.taken (sym tells.1))))
+      subst (λ (x : Result Bool LineFault). LineEnds d old new kind was.read_only s was line (k.taken before) (k.taken after) x) (sym tells.0)
+      (unbegun_ends law kind was s line old new (k.taken before) (k.taken after) quiet told opens LineFault.NoMemory reads (ap k.taken (sym tells.1))))
   change_ends (Err DiskFault) result asked tells =
       subst (λ (x : Result Bool LineFault). LineEnds d old new kind was.read_only s v line (k.taken before) (k.taken after) x) (sym tells.0)
       (fault_ends d kind was.read_only s v line c old new (k.taken before) (k.taken after) changes is (ap k.taken tells.1))

@@ -31,11 +31,7 @@ pub fn tell_done<K: Sink>(out: &mut K) -> Result<bool, LineFault>
 }
 
 // Writes the line of a refusal. After any other error nothing is written.
-fn tell_error<K: Sink>(
-    alloc: Global,
-    out: &mut K,
-    error: CommandError,
-) -> Result<bool, LineFault>
+fn tell_error<K: Sink>(alloc: Global, out: &mut K, error: CommandError) -> Result<bool, LineFault>
     ensures { Tells K.Sink out.old out.new (Err error) result }
 {
     match error {
