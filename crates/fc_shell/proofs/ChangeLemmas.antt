@@ -5,7 +5,6 @@ use Rattle.std.specs.Option.{option_map}
 use Rattle.fc_device.specs.declared.disk.Disk.{Ghosts}
 use Rattle.fc_device.specs.declared.streams.Sink.{Ghosts as Sinks}
 use Rattle.fc_device.specs.Calls.{OnlyReads}
-use Rattle.fc_device.specs.Faults.{Rose}
 use Rattle.fc_device.proofs.DiskLaws.{Laws}
 use Rattle.fc_device.proofs.StopLemmas.{reads_start}
 use Rattle.fc_names.specs.declared.name.NameForm.{NameForm}
@@ -38,10 +37,10 @@ use Rattle.fc_volume.specs.Changing.{AnswersBy, refusal_in}
 use Rattle.fc_volume.specs.Compacting.{UnlessFault}
 use Rattle.fc_volume.specs.Volume.{StandsFor, Volume, parts_of}
 use Rattle.fc_shell.specs.declared.answer.LineFault.{LineFault}
-use Rattle.fc_shell.specs.Answered.{Answered, IsCaused, OnlyTells}
+use Rattle.fc_shell.specs.Answered.{Answered, IsCaused}
 use Rattle.fc_shell.specs.Built.{is_reading_line}
 use Rattle.fc_shell.specs.Changing.{IsAsked, Tells}
-use Rattle.fc_shell.specs.Line.{GoesOn, IsDone, IsReady, KeepsGoing, LeavesTree, LineEnds}
+use Rattle.fc_shell.specs.Line.{IsDone, IsReady, KeepsGoing, LineEnds}
 use Rattle.fc_shell.specs.Modes.{plain_mode}
 use Rattle.fc_shell.specs.Writing.{Wrote, WrotePart}
 use Rattle.fc_shell.proofs.AnsweredLemmas.{caused_alone}
