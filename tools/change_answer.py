@@ -142,6 +142,12 @@ def tree_after(state, c):
 # ---- space
 
 
+def low_byte(shape, room, length):
+    """The low byte of a new file in so many bytes of new space: 1 where another share unit is left after it."""
+    end = -(-length // shape.share) * shape.share
+    return int(end + shape.share <= room and end // shape.share <= 254)
+
+
 class Needs:
     """What an accepted command needs: [Short]'s n, Slack, N and g; `refusal` is the number that it owes, or 0."""
 

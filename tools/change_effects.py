@@ -3,7 +3,7 @@
 Each function answers a list of differences in words; the list is empty where all is as it has to be.
 """
 import change_directories
-from change_answer import OLD_HOLES, given, tree_after
+from change_answer import OLD_HOLES, given, low_byte, tree_after
 from change_state import changed_sectors
 from filecore import BOOT_BLOCK, BOOT_SIZE, old_map_check, spelled_path
 
@@ -109,14 +109,6 @@ def taken(change, holes, parts, bits, who):
     return sorted(left), found
 
 
-def low_byte(change, parts, length):
-    """The low byte of a file in new space."""
-    shape = change.before.map.shape
-    end = -(-length // shape.share) * shape.share
-    room = sum(bits for zone, start, bits in parts) * shape.bit_bytes
-    return int(end + shape.share <= room and end // shape.share <= 254)
-
-
 def address_differences(change):
     """The address of the named object, where it doesn't lie in new space."""
     made, needs, c = change.made(), change.needs, change.c
@@ -144,7 +136,9 @@ def object_placed(change):
     parts = change.after.runs_of(made.address // 256)
     found = fresh_identifier(change, made.address // 256, "the new object")
     left, wrong = taken(change, holes, parts, needs.object_bits(), "the new object")
-    low = 0 if made.is_directory() else low_byte(change, parts, needs.length)
+    shape = change.before.map.shape
+    room = sum(bits for zone, start, bits in parts) * shape.bit_bytes
+    low = 0 if made.is_directory() else low_byte(shape, room, needs.length)
     if made.address % 256 != low:
         wrong.append("the new object has low byte %d instead of %d" % (made.address % 256, low))
     return left, found + wrong
