@@ -202,7 +202,7 @@ def map_differences(change):
     left, wrong = growth_placed(change, left)
     found += wrong
     wanted, there = runs_after(change, left, given_back(change)), sorted(change.after.map.runs, key=lambda run: run[:3])
-    missing, extra = ([run for run in one if run not in other] for one, other in ((wanted, there), (there, wanted)))
+    missing, extra = (sorted(set(one) - set(other), key=lambda run: run[:3]) for one, other in ((wanted, there), (there, wanted)))
     found += ["no run: " + run_text(run) for run in missing[:3]] + ["a run that should not be: " + run_text(run) for run in extra[:3]]
     return found
 

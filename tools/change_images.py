@@ -33,29 +33,79 @@ def nearly_full(name):
     """A fragmented disc whose holes were given to one file, but for a few."""
     def make(chance):
         volume = fragments(name)(chance)
-        kept, identifier, room = chance.randint(1, 6), volume.new_identifier(), 0
-        places = [(zone, at) for zone, runs in enumerate(volume.runs) for at, run in enumerate(runs) if run[1] is None]
-        for zone, at in chance.sample(places, max(0, len(places) - kept)):
-            bits = volume.runs[zone][at][0]
-            volume.runs[zone][at] = bits, identifier
-            room += bits * volume.shape.bit_bytes
-        if room:
-            add(volume, volume.root, File(b"Filler", chance.randbytes(room - chance.randrange(volume.shape.sector)), identifier * 256))
+        leave_few_holes(volume, chance)
         return volume
     return make
 
 
-def few_identifiers(chance):
-    """A disc of whose identifiers at most three are left, while many holes are."""
-    volume = full_identifiers()
-    runs = [(zone, at) for zone, found in enumerate(volume.runs) for at, run in enumerate(found) if run[1] not in (None, 2, 3)]
-    for number, (zone, at) in enumerate(chance.sample(runs, 40)):
-        if chance.random() < 0.08:
-            volume.runs[zone][at] = volume.runs[zone][at][0], None
-        else:
-            identifier = volume.runs[zone][at][1]
-            volume.root.insert(File(b"F%d" % number, chance.randbytes(chance.randint(1, 256)), identifier * 256 + chance.randint(0, 1)))
+def leave_few_holes(volume, chance):
+    """Gives most of the free space to one file, and leaves a few holes, not all of them as they were."""
+    least, identifier, room = volume.shape.least, volume.new_identifier(), 0
+    places = [(zone, at) for zone, runs in enumerate(volume.runs) for at, run in enumerate(runs) if run[1] is None]
+    kept = chance.sample(places, min(len(places), chance.randint(1, 6)))
+    for zone, at in sorted(places, reverse=True):
+        bits = volume.runs[zone][at][0]
+        left = bits if bits < 2 * least else min(bits - least, least * chance.randint(1, 5)) if (zone, at) in kept else 0
+        if left < bits:
+            volume.runs[zone][at:at + 1] = [(bits - left, identifier)] + ([(left, None)] if left else [])
+            room += (bits - left) * volume.shape.bit_bytes
+    if room:
+        add(volume, volume.root, File(b"Filler", chance.randbytes(room - chance.randrange(volume.shape.sector)), identifier * 256))
+
+
+def few_identifiers(make_volume):
+    """A disc of whose identifiers at most four are left, while many holes are."""
+    def make(chance):
+        volume = make_volume(chance)
+        runs = [(zone, at) for zone, found in enumerate(volume.runs) for at, run in enumerate(found) if run[1] is not None and run[1] > 3]
+        lost = set(range(3, volume.shape.id_limit)) - {entry.address // 256 for entry in volume.objects() if entry.address}
+        chosen = [place for place in runs if volume.runs[place[0]][place[1]][1] in lost]
+        for number, (zone, at) in enumerate(chance.sample(chosen, chance.randint(10, 40))):
+            bits, identifier = volume.runs[zone][at]
+            if number < chance.randint(0, 4):
+                volume.runs[zone][at] = bits, None
+            else:
+                content = chance.randbytes(chance.randint(1, bits * volume.shape.bit_bytes))
+                add(volume, volume.root, File(b"F%d" % number, content, identifier * 256 + chance.randint(0, 1)))
+        return volume
+    return make
+
+
+def few_identifiers_big(chance):
+    """All identifiers of a disc with big directories have runs, most of them lost."""
+    volume = hard_disc(8, 11, 8, 16, big=True)
+    growing_directories(volume, chance, 3)
+    least = volume.shape.least
+    for identifier in range(volume.next_identifier, volume.shape.id_limit):
+        zone = next(zone for zone, runs in enumerate(volume.runs) if runs[-1][1] is None and runs[-1][0] >= 2 * least)
+        length, owner = volume.runs[zone].pop()
+        volume.runs[zone] += [(least, identifier), (length - least, None)]
     return volume
+
+
+def growing_directories(volume, chance, most):
+    """Big directories of which little is left, each with some directories in it, alone in their identifiers or not."""
+    holders = [volume.root]
+    for number in range(chance.randint(1, most)):
+        holder = chance.choice(holders)
+        made = add(volume, holder, volume.directory(holder, b"Grow%d" % number, low=chance.choice((0, 0, 1))))
+        holders.append(made)
+        for at in range(chance.randint(0, 2)):
+            inner = add(volume, made, volume.directory(made, b"In%d" % at))
+            inner.insert(volume.file(b"File", chance.randbytes(chance.randint(1, 3000))))
+    for holder in holders:
+        if chance.random() < 0.8:
+            fill_big(volume, chance, holder)
+
+
+def growing(make_volume):
+    def make(chance):
+        volume = make_volume()
+        growing_directories(volume, chance, 4)
+        if chance.random() < 0.4:
+            leave_few_holes(volume, chance)
+        return volume
+    return make
 
 
 def full_directory(name):
@@ -104,6 +154,8 @@ def add_big_directory(volume, chance, holder, name, identifier, units):
         return 1
     made = add(volume, holder, Directory(name, identifier * 256 + low))
     made.holder = holder
+    if chance.random() < 0.6:
+        add(volume, made, volume.directory(made, b"Inner"))
     fill_big(volume, chance, made)
     return max(low, 1) + needed + chance.choice((0, 0, 1, 2))
 
@@ -147,6 +199,7 @@ def in_the_map(make_volume):
         made = add(volume, volume.root, Directory(b"InMap", 2 * 256 + low))
         made.holder = volume.root
         if volume.form == "big":
+            add(volume, made, volume.directory(made, b"Inner"))
             fill_big(volume, chance, made)
         low += units + chance.randint(0, 1)
         for number in range(chance.randint(1, 3)):
@@ -156,7 +209,11 @@ def in_the_map(make_volume):
 
 
 def add(volume, holder, entry):
-    return holder.insert(entry)
+    """Inserts an entry; where a big directory can't hold it, files of 0 bytes make room."""
+    holder.insert(entry)
+    while volume.form == "big" and not big_fits(holder):
+        holder.entries.remove(next(one for one in holder.entries if not one.is_directory and not one.data))
+    return entry
 
 
 def shares():
@@ -181,7 +238,9 @@ NEW = {
     "shared, units of two sectors": shared(shares), "shared, big": shared(big_shares),
     **{"in identifier 2, " + name: in_the_map(FRESH[name]) for name in ("E", "F", "E+", "F+")},
     "in identifier 2, nine zones": in_the_map(SHAPES["nine-zones"]), "in identifier 2, big": in_the_map(big_shares),
-    "few identifiers": few_identifiers, "two holes": lambda chance: two_holes(),
+    **{"growing " + name: growing(FRESH[name]) for name in ("E+", "F+")}, "growing, big": growing(big_shares),
+    "few identifiers": few_identifiers(lambda chance: full_identifiers()), "few identifiers, big": few_identifiers(few_identifiers_big),
+    "two holes": lambda chance: two_holes(),
 }
 
 

@@ -7,6 +7,7 @@ MOODS = {  # how often each command is drawn
     "all": dict(save=5, create=5, cdir=3, delete=4, rename=6, set=2),
     "fill": dict(save=3, create=9, cdir=2, delete=1, rename=2, set=1),
     "names": dict(save=1, create=6, cdir=3, delete=1, rename=6, set=1),
+    "grow": dict(save=2, create=6, cdir=3, delete=1, rename=5, set=1),
     "empty": dict(save=1, create=1, cdir=1, delete=8, rename=3, set=1),
 }
 READING = ("cat", "load", "digest", "free", "check")
@@ -26,6 +27,8 @@ class Drawer:
         self.state = None
 
     def line(self, state):
+        if state.form == "big" and self.state is None and self.chance.random() < 0.5:
+            self.mood = "grow"
         self.state = state
         draw = self.chance.random()
         if draw < 0.02:
@@ -47,7 +50,7 @@ class Drawer:
         return "save %s %s %s" % (self.made_or_there(), self.words(), data.hex() or "-")
 
     def create(self):
-        empty = 0.7 if self.mood == "names" else 0.1
+        empty = 0.7 if self.mood in ("names", "grow") else 0.1
         return "create %s %s %d" % (self.made_or_there(), self.words(), 0 if self.chance.random() < empty else self.length())
 
     def cdir(self):
@@ -116,11 +119,18 @@ class Drawer:
 
     def directory(self):
         found = self.state.disc.directories
+        if self.mood == "grow" and self.chance.random() < 0.6:
+            return self.path_to(min((one for one in self.chance.sample(found, min(len(found), 4))), key=self.room_in))
         if self.favourite not in self.state.heads or self.chance.random() < 0.05:
             self.favourite = tuple(name.upper() for name in self.chance.choice(found).path)
         if self.mood in ("names", "fill") and self.chance.random() < 0.7 and self.favourite in self.state.heads:
             return self.path_to(self.state.objects[self.favourite])
         return self.path_to(self.chance.choice(found))
+
+    @staticmethod
+    def room_in(directory):
+        """About how many bytes are left in a big directory."""
+        return -sum(28 + len(entry.name) // 4 * 4 + 4 for entry in directory.entries) % 2048
 
     def name(self):
         draw = self.chance.random()

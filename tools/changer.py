@@ -3,15 +3,19 @@
 It edits a copy of the image in memory and draws what the standard leaves open by chance. Its refusals are those of
 tools/change_answer.py. With the name of a fault it does one thing wrong.
 """
-from change_answer import WORDS, Command, low_byte, owed_refusal
-from change_state import State, head_space, name_space, size_for
+from change_answer import WORDS, low_byte, owed_refusal
+from change_state import head_space, name_space, size_for
 from filecore import folded, old_map_check, put, small_directory_check, big_directory_check, zone_check
 
-FAULTS = ("space given back first", "shared identifier given back", "words lost", "attributes lost", "save renames", "file not copied",
-          "parent left", "sequence kept", "entry at the end", "no slack", "low byte 0", "hole not joined", "second copy left",
-          "root size in one copy", "holder left", "lost run released", "children left", "zeros not written", "all holes joined",
-          "one hole too many", "title changed", "not the first hole", "place kept", "last byte lost", "head form lost", "repair forgotten",
-          "MapFull at 82", "unused places left")
+FAULTS = {  # and words of the names of the discs over which each is sought first
+    "space given back first": "nearly", "shared identifier given back": "shared", "words lost": "", "attributes lost": "table",
+    "save renames": "", "file not copied": "shared", "parent left": "fragmented", "sequence kept": "", "entry at the end": "",
+    "no slack": "shared", "low byte 0": "", "hole not joined": "", "second copy left": "", "root size in one copy": "growing",
+    "holder left": "growing", "lost run released": "fragmented", "children left": "shared", "zeros not written": "",
+    "all holes joined": "fragmented", "one hole too many": "", "title changed": "fragmented", "place kept": "", "head form lost": "growing",
+    "repair forgotten": "", "not the first hole": "old", "last byte lost": "old", "MapFull at 82": "old, 82 holes",
+    "unused places left": "old",
+}
 
 
 class Item:
@@ -493,9 +497,8 @@ class Edit:
         self.image[0:512] = block
 
 
-def changed(image, line, fault=None, chance=None):
-    """The reply to a changing line, and the image afterwards; the refusal only, where it is refused."""
-    state, c = State(image), Command(line)
+def changed(state, c, fault, chance):
+    """The reply to a changing command, and the image afterwards: the same one, where it is refused."""
     number, needs = owed_refusal(state, c)
     if number == 14 and needs and fault == "space given back first" and Edit(state, c, needs, fault, chance).gone():
         try:
@@ -505,5 +508,5 @@ def changed(image, line, fault=None, chance=None):
     if not number and needs and fault == "MapFull at 82" and not state.is_new and needs.gives_back() and len(needs.old_holes_after()) == 82:
         number = 16
     if number:
-        return "error %d %s\n" % (number, WORDS[number]), image
+        return "error %d %s\n" % (number, WORDS[number]), state.data
     return "ok\n", Edit(state, c, needs, fault, chance).run()

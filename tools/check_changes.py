@@ -13,6 +13,7 @@ the script is printed, and the images are kept. Exit status 1 if there is any.
 """
 import argparse
 import collections
+import functools
 import os
 import random
 import re
@@ -30,7 +31,8 @@ from change_batch import TreeState, batch_differences
 from change_effects import differences
 from change_state import State
 from filecore import spelled_path
-from images import VOLUMES
+from images import VOLUMES, full_identifiers, two_holes
+from volumes import FRESH
 
 TOOLS = os.path.dirname(os.path.realpath(__file__))
 PROGRAM = os.path.join(TOOLS, "..", "crates", "fcore", "out", "fcore")
@@ -65,13 +67,14 @@ class Stand:
         self.fault, self.chance = fault, random.Random(1)
 
     def run(self, image, script, read_only=False):
-        replies = []
+        replies, state = [], opened(image)
         for line in read_image.lines_of(script):
             c = Command(line)
             if c.fault or c.word not in CHANGING or read_only:
-                replies.append(reading_reply(State(image), line, read_only))
+                replies.append(reading_reply(state, line, read_only))
             else:
-                reply, image = changer.changed(image, line, self.fault, self.chance)
+                reply, image = changer.changed(state, c, self.fault, self.chance)
+                state = state if image is state.data else opened(image)
                 replies.append(reply)
         return status_of(replies), "".join(replies), image
 
@@ -107,7 +110,9 @@ def looks(c):
     return [one.encode() for one in dict.fromkeys(found)]
 
 
+@functools.lru_cache(maxsize=4)
 def opened(image):
+    """The state of an image; images are opened again and again."""
     try:
         return State(image)
     except read_image.Fault as fault:
@@ -181,14 +186,15 @@ class Run:
         self.read_only = self.chance.random() < 0.03
         self.script, self.text, self.last = [], "", self.image
 
-    def go(self):
+    def go(self, at_once=True):
         """All differences, as a text; nothing where there are none."""
         try:
             if self.options.batch:
                 self.draw_all()
             else:
                 self.one_by_one()
-            self.at_once()
+            if at_once:
+                self.at_once()
             return ""
         except Difference as found:
             return self.report(found)
@@ -248,7 +254,7 @@ def check(actor, options):
         found = Run(actor, options, number, counts).go()
         if found:
             failed += 1
-            print(found + "\n")
+            print(found + "\n", flush=True)
             if failed == options.most:
                 break
     if options.table:
@@ -275,14 +281,57 @@ def check_program(options):
 # ---- the self-test
 
 
-def found_after(fault, old, options):
-    """Over how many commands a fault was found, or None."""
-    options.old, start, counts = old, time.time(), collections.Counter()
-    number = 0
+def rows():
+    """Rows of the standard that change discs: a disc, a script, and the replies."""
+    names = "".join("create $.N%02d Z Z 0\n" % at for at in range(62))
+    found = [
+        (FRESH["E"], "create $.A Z Z 815105\ncreate $.A Z Z 815104\nfree\ncreate $.B Z Z 1\ncreate $.C Z Z 0",
+         "error 14 DiscFull / ok / free 0 0 / ok / error 14 DiscFull / ok"),
+        (two_holes, "create $.A Z Z 5120\nfree\ncreate $.B Z Z 1", "ok / free 0 0 / ok / ok"),
+        (FRESH["E"], "save $.Ab FFFFFF00 Z 01\nsave $.aB FFFFFF00 Z 02\ncat $\nload $.AB",
+         "ok / ok / Ab 00000003 ffffff00 00000000 1 / ok / 02 / ok"),
+        (FRESH["E"], "cdir $.D\ncdir $.D.E\nrename $.D $.D.E.X\nrename $.D $.D.Q.X\nrename $.D $.D\nrename $ $.X\nrename $.D $\ndelete $.D",
+         "ok / ok / error 8 IntoItself / error 3 NotFound / ok / error 7 RootRefused / error 6 Exists / error 10 NotEmpty"),
+        (FRESH["E"], "save $.A Z Z 4142\nsave $.B Z Z 43\nfree\ndelete $.A\nload $.B\nfree\ndelete $.B\nfree",
+         "ok / ok / free 813056 813056 / ok / ok / 43 / ok / free 813056 813056 / ok / ok / free 815104 815104 / ok"),
+        (FRESH["E"], "save $.L Z Z 01\nset $.L Z Z RL\ndelete $.L\nrename $.L $.M\nsave $.L Z Z 02\ncat $\nload $.L",
+         "ok / ok / error 9 Locked / error 9 Locked / error 9 Locked / L 00000005 00000000 00000000 1 / ok / 01 / ok"),
+        (FRESH["E"], "create $.A Z Z 2048\ncreate $.B Z Z 2048\ncreate $.C Z Z 4096\ndelete $.A\nfree",
+         "ok / ok / ok / ok / free 808960 806912 / ok"),
+        (full_identifiers, "create $.A Z Z 1", "error 13 IdsFull"),
+        (FRESH["L"], "save $.A Z Z 01\ncdir $.D\nfree", "ok / ok / free 652032 652032 / ok"),
+        (FRESH["E"], "save $.A Z Z 4142\nsave $.B Z Z 43\ncdir $.D\nrename $.B $.D.B\nload $.D.B\nfree",
+         "ok / ok / ok / ok / 43 / ok / free 808960 808960 / ok"),
+        (FRESH["E+"], names + "free\ncreate $.N62 Z Z 0\nfree", "ok / " * 62 + "free 815104 815104 / ok / ok / free 813056 811008 / ok"),
+        (FRESH["E+"], "save $.Notes_of_the_second_year Z Z 4142\ncat $", "ok / Notes_of_the_second_year 00000003 00000000 00000000 2 / ok"),
+        (FRESH["E"], "save $.Notes_of_the_second_year Z Z 4142\ncat $", "error 2 BadName / ok"),
+        (FRESH["E"], "".join("create $.N%02d Z Z 0\n" % at for at in range(77)) + "create $.New Z Z 0\ncreate $.n05 Z Z 1",
+         "ok / " * 77 + "error 12 DirFull / ok"),
+        (FRESH["E"], "create $.error Z Z 0\ncat $", "ok / error 00000003 00000000 00000000 0 / ok"),
+    ]
+    return [(make, re.sub(r"\bZ\b", "00000000", script), wanted) for make, script, wanted in found]
+
+
+def rows_differ():
+    """The worked rows of the standard over tools/changer.py, in words."""
+    found = []
+    for make, script, wanted in rows():
+        status, text, image = Stand().run(bytes(make().image()), script.encode())
+        if text.replace("\n", " / ") != wanted + " / ":
+            found.append("%s\n  wanted %s\n  got    %s" % (script.replace("\n", ", ")[:200], wanted[-200:], text.replace("\n", " / ")[-200:]))
+    return found
+
+
+def found_after(fault, words, options):
+    """Over how many commands a fault was found, and what was found first; None where it wasn't."""
+    options.old = "old" in words
+    start, counts, number = time.time(), collections.Counter(), 0
+    names = list(change_images.OLD if options.old else change_images.NEW)
+    chosen = [at for at, name in enumerate(names) if words.split(", ")[-1] in name] or list(range(len(names)))
     while time.time() < start + SELF_TEST_SECONDS:
-        run = Run(Stand(fault), options, number, counts)
+        run = Run(Stand(fault), options, chosen[number % len(chosen)] + number // len(chosen) * len(names), counts)
         run.report = str
-        found = run.go()
+        found = run.go(at_once=False)
         if found:
             return sum(count for (word, what), count in counts.items() if word != "event"), found.split("\n")[0]
         number += 1
@@ -290,16 +339,17 @@ def found_after(fault, old, options):
 
 
 def self_test(options):
-    options.built, options.table = list(CHANGING), False
-    good = True
+    options.built = list(CHANGING)
+    wrong = rows_differ()
+    print("\n".join(wrong + ["%d rows, %d differ" % (len(rows()), len(wrong))]), flush=True)
+    good = not wrong
     for old in (False, True):
-        options.old, options.images = old, 2 * len(change_images.OLD if old else change_images.NEW)
+        options.old = old
         good = check(Stand(), options) and good
-    for fault in changer.FAULTS:
-        old = fault in ("not the first hole", "last byte lost", "MapFull at 82", "unused places left")
-        found = found_after(fault, old, options)
+    for fault, words in changer.FAULTS.items():
+        found = found_after(fault, words, options)
         good = good and found is not None
-        print("%s: %s" % (fault, "NOT FOUND" if found is None else "found after %d commands: %s" % found))
+        print("%s: %s" % (fault, "NOT FOUND" if found is None else "found after %d commands: %s" % found), flush=True)
     return good
 
 
