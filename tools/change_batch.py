@@ -98,8 +98,9 @@ def follow(state, script, text, read_only):
         if there != wanted and not (is_change and is_space_refusal(there)):
             return state, changed, refused, "%s: the reply is %r instead of %r" % (line.decode("latin-1")[:200], there[:200], wanted[:200])
         refused = refused or bool(re.fullmatch(r"error [0-9]+ [A-Za-z]+\n", there))
+        changed = changed or there == "ok\n" and (is_change or c.word == "compact")
         if is_change and there == "ok\n":
-            state, changed = state.with_tree(tree_after(state, c)), True
+            state = state.with_tree(tree_after(state, c))
     return state, changed, refused, "more text than replies: %r" % text[:200] if text else ""
 
 

@@ -1,5 +1,5 @@
 """Draws lines of changing commands, most of them aimed at what is there and at the edges of space, by chance."""
-from change_answer import CHANGING
+from change_answer import CHANGING, Command
 from change_images import random_name
 from filecore import NOT_SPELLED
 
@@ -14,7 +14,8 @@ READING = ("cat", "load", "digest", "free", "check")
 HOSTILE = ("", "$.", "$..A", "A", "$.%1F", "$.%7", "$.A%", "$.%00", "$.A.", "$.A:B", "$.a*", "$$", "$.%", "$.%2e%2E", "$.A%20B", "$.%7F", "$.%E9x")
 LINES = (b"", b"#", b"sav $.A", b"save $.A 0 0 00", b"cdir", b"cdir $.A ", b"create $.A 00000000 00000000 007", b"set $.A 00000000 00000000 LR",
          b"create $.A 00000000 00000000 4294967296", b"delete $ $", b"rename $.A", b"save $.A 00000000 00000000 123", b"cat  $",
-         b"set $.A 00000000 00000000 ", b"create $.A 00000000 00000000 4294967295")
+         b"set $.A 00000000 00000000 ", b"cat $.\xe9", b"save\t$.A 00000000 00000000 00", b"delete $.A\r", b"FREE", b"free ", b" free",
+         b"create $.A 00000000 00000000 4294967295")
 
 
 class Drawer:
@@ -22,6 +23,8 @@ class Drawer:
 
     def __init__(self, chance, built):
         self.chance, self.built = chance, [word for word in CHANGING if word in built]
+        self.compacts = "compact" in built
+        self.lines = [line for line in LINES if not line or Command(line).fault or Command(line).word in built]
         self.mood = chance.choice(sorted(MOODS))
         self.favourite = None  # a directory in which names are often made
         self.state = None
@@ -32,10 +35,12 @@ class Drawer:
         self.state = state
         draw = self.chance.random()
         if draw < 0.02:
-            return self.chance.choice(LINES)
+            return self.chance.choice(self.lines)
         if draw < 0.04:
             word = self.chance.choice(READING)
             return (word if word in ("free", "check") else "%s %s" % (word, self.there())).encode()
+        if draw > 0.985 and self.compacts:
+            return b"compact"
         weights = MOODS[self.mood]
         word = self.chance.choices(self.built, [weights[word] for word in self.built])[0]
         return getattr(self, word)().encode()

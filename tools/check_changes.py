@@ -8,7 +8,7 @@ Commands are drawn by chance over the image as it stands, and run one by one, fo
 The reply has to be that of [Answer] and [Short] over the image before; the image after has to be one that [Placed] and [Steady]
 allow (tools/change_effects.py), and the program has to say of it what tools/read_image.py says. Then the whole script runs
 over the first image at once; with --batch it runs at once only. --old takes old maps in place of new ones. Without --only, the
-commands are those that the program has: it answers 9 to others. --table counts replies and events. The first difference ends a disc:
+commands are those that the program has: it answers 9 to others. Few images are spread over the kinds of discs. --table counts replies and events. The first difference ends a disc:
 the script is printed, and the images are kept. Exit status 1 if there is any.
 """
 import argparse
@@ -22,6 +22,7 @@ import sys
 import tempfile
 import time
 
+import check_crash
 import change_images
 import change_scripts
 import changer
@@ -38,7 +39,11 @@ TOOLS = os.path.dirname(os.path.realpath(__file__))
 PROGRAM = os.path.join(TOOLS, "..", "crates", "fcore", "out", "fcore")
 TRY = {"save": "save $.hello 00000000 00000000 00", "create": "create $.hello 00000000 00000000 0", "cdir": "cdir $.hello",
        "delete": "delete $.None", "rename": "rename $.None $.B", "set": "set $.None 00000000 00000000 -"}
-SELF_TEST_SECONDS = 30
+SELF_TEST_SECONDS, MOST_SECONDS = 30, 120
+
+
+class Difference(Exception):
+    """What was found, in lines."""
 
 
 # ---- who answers
@@ -49,15 +54,22 @@ class Program:
 
     def __init__(self, path, folder):
         self.path, self.image = os.path.realpath(path), os.path.join(folder, "disc.adf")
+        self.there = None  # what the file holds
 
     def run(self, image, script, read_only=False):
         """Status, text and the image afterwards."""
-        with open(self.image, "wb") as file:
-            file.write(image)
+        if image is not self.there:
+            with open(self.image, "wb") as file:
+                file.write(image)
         words = [self.path, self.image] + (["--read-only"] if read_only else [])
-        ran = subprocess.run(words, input=script, stdout=subprocess.PIPE, stderr=subprocess.STDOUT, check=False, timeout=120)
+        try:
+            ran = subprocess.run(words, input=script, stdout=subprocess.PIPE, stderr=subprocess.STDOUT, check=False, timeout=MOST_SECONDS)
+        except subprocess.TimeoutExpired:
+            raise Difference("no answer after %d seconds" % MOST_SECONDS) from None
         with open(self.image, "rb") as file:
-            return ran.returncode, ran.stdout.decode("latin-1"), file.read()
+            found = file.read()
+        self.there = image if found == image else found
+        return ran.returncode, ran.stdout.decode("latin-1"), self.there
 
 
 class Stand:
@@ -97,10 +109,6 @@ def reading_reply(state, line, read_only=False):
 # ---- one command
 
 
-class Difference(Exception):
-    """What was found, in lines."""
-
-
 def looks(c):
     """Lines that read what a command may have touched."""
     found = ["free", "check"]
@@ -136,7 +144,7 @@ def step(actor, state, line, read_only, counts):
     c = Command(line)
     status, text, image = actor.run(state.data, b"\n".join([line] + looks(c)) + b"\n", read_only)
     number, needs = owed_refusal(state, c, read_only)
-    changes = c.word in CHANGING and not c.fault and not number
+    changes = c.word in CHANGING + ("compact",) and not number
     counts[c.word, WORDS[number]] += 1
     first = refusal_text(number) if number else "ok\n" if changes else reading_reply(state, line, read_only)
     if not text.startswith(first):
@@ -147,10 +155,11 @@ def step(actor, state, line, read_only, counts):
         after = state
     else:
         after = opened(image)
-        found = differences(state, after, c, needs)
+        found = differences(state, after, c, needs) if needs else check_crash.faults_at_end(state.data, image)
         if found:
             raise Difference("\n".join(found[:12]))
-        count_events(needs, after, counts)
+        if needs:
+            count_events(needs, after, counts)
     replies_differ(after, c, first, (status, text), read_only)
     return after
 
@@ -245,12 +254,14 @@ class Run:
 
 def built_commands(program, old):
     image = bytes(VOLUMES["d-files" if old else "hello"]().image())
-    return [word for word in CHANGING if program.run(image, (TRY[word] + "\n").encode())[0] != 9]
+    return [word for word in CHANGING if program.run(image, (TRY[word] + "\n").encode())[0] != 9] + ([] if old else ["compact"])
 
 
 def check(actor, options):
     counts, failed = collections.Counter(), 0
-    for number in range(options.first, options.first + options.images):
+    kinds = len(change_images.OLD if options.old else change_images.NEW)
+    for at in range(options.images):
+        number = options.first + (at * kinds // options.images if options.images < kinds else at)
         found = Run(actor, options, number, counts).go()
         if found:
             failed += 1
@@ -272,7 +283,7 @@ def check_program(options):
         program = Program(options.program, folder)
         built = built_commands(program, options.old)
         options.built = options.only.split(",") if options.only else built
-        if not options.built:
+        if not set(options.built) & set(CHANGING):
             print("no command that changes %s maps is built" % ("old" if options.old else "new"))
             return True
         return check(program, options)
