@@ -176,6 +176,18 @@ def big_fits(directory):
     return 28 + head_space(directory) + 28 * len(directory.entries) + len(big_heap(directory)[0]) + 8 <= directory.size
 
 
+def second_forms(chance):
+    """Directories whose heads' names have the second form where it differs from the first, with a word 0 after the heap."""
+    volume = FRESH[chance.choice(("E+", "F+"))]()
+    holders = [volume.root]
+    for number in range(10):
+        holder = chance.choice(holders)
+        holders.append(add(volume, holder, volume.directory(holder, b"Dir%d" % number)))
+    for directory in holders:
+        directory.form, directory.head_name = 2, b"Named by 4b."[:chance.choice((4, 8, 12))]
+    return volume
+
+
 def in_the_map(make_volume):
     """Objects in identifier 2, which the map owns too."""
     def make(chance):
@@ -239,6 +251,7 @@ NEW = {
     **{"in identifier 2, " + name: in_the_map(FRESH[name]) for name in ("E", "F", "E+", "F+")},
     "in identifier 2, nine zones": in_the_map(SHAPES["nine-zones"]), "in identifier 2, big": in_the_map(big_shares),
     **{"growing " + name: growing(FRESH[name]) for name in ("E+", "F+")}, "growing, big": growing(big_shares),
+    "second forms": second_forms,
     "few identifiers": few_identifiers(lambda chance: full_identifiers()), "few identifiers, big": few_identifiers(few_identifiers_big),
     "two holes": lambda chance: two_holes(),
 }

@@ -14,7 +14,7 @@ FAULTS = {  # and words of the names of the discs over which each is sought firs
     "holder left": "growing", "lost run released": "fragmented", "children left": "shared", "zeros not written": "",
     "all holes joined": "fragmented", "one hole too many": "", "title changed": "fragmented", "place kept": "", "head form lost": "growing",
     "repair forgotten": "", "not the first hole": "old", "last byte lost": "old", "MapFull at 82": "old, 82 holes",
-    "unused places left": "old",
+    "unused places left": "old", "second form misread": "second forms", "short rest left": "nearly", "repair before a refusal": "",
 }
 
 
@@ -97,7 +97,7 @@ class Folder:
             return packed, at
         return kept, places
 
-    def big(self, parent, sequence, chance, form):
+    def big(self, parent, sequence, chance, form, fault):
         heap, places = self.heap(chance)
         block, first = bytearray(self.size), 28 + head_space(form, self.name)
         names = first + 28 * len(self.items)
@@ -112,7 +112,7 @@ class Folder:
             block[first + 28 * at:first + 28 * at + 28] = b"".join(word.to_bytes(4, "little") for word in words)
         block[names:end] = heap
         block[-1] = big_directory_check(block, end)
-        if form == 2 and end + 12 <= self.size and big_directory_check(block, end + 4) == block[-1]:
+        if fault != "second form misread" and form == 2 and end + 12 <= self.size and big_directory_check(block, end + 4) == block[-1]:
             block[end] = 1  # else it would be read in the first form
         return block
 
@@ -123,7 +123,7 @@ class Folder:
         form = self.head.form
         if fault == "head form lost" or head_space(1, self.name) == head_space(2, self.name):
             form = 1
-        return self.big(parent, sequence, chance, form)
+        return self.big(parent, sequence, chance, form, fault)
 
 
 def empty_folder(form, name, parent):
@@ -167,6 +167,8 @@ class NewSpace:
             holes = holes[-1:] + holes[:-1]
         for length, place in holes:
             part = length if length < max(missing, least) + least else max(missing, least)
+            if self.fault == "short rest left" and length > missing:
+                part = missing
             parts.append((place, part))
             missing -= part
             if missing <= 0:
@@ -497,6 +499,14 @@ class Edit:
         self.image[0:512] = block
 
 
+def repaired(state):
+    """The image with two equal copies of the map."""
+    if not state.is_new or len(set(state.copies())) == 1:
+        return state.data
+    chosen, start = b"".join(state.map.chosen_copy(state.data)), state.map.shape.map_sector * state.sector
+    return state.data[:start] + chosen + chosen + state.data[start + 2 * len(chosen):]
+
+
 def changed(state, c, fault, chance):
     """The reply to a changing command, and the image afterwards: the same one, where it is refused."""
     number, needs = owed_refusal(state, c)
@@ -508,5 +518,5 @@ def changed(state, c, fault, chance):
     if not number and needs and fault == "MapFull at 82" and not state.is_new and needs.gives_back() and len(needs.old_holes_after()) == 82:
         number = 16
     if number:
-        return "error %d %s\n" % (number, WORDS[number]), state.data
+        return "error %d %s\n" % (number, WORDS[number]), repaired(state) if fault == "repair before a refusal" else state.data
     return "ok\n", Edit(state, c, needs, fault, chance).run()

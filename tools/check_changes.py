@@ -2,7 +2,8 @@
 """Changes discs of all kinds with the built program, and compares each reply and each image with what the standard allows.
 
 usage: tools/check_changes.py [--program PATH] [--seed N] [--images N] [--commands N] [--only WORD,..] [--old] [--batch] [--table]
-       tools/check_changes.py --self-test    the same looks over tools/changer.py, and over it with each of its faults
+       tools/check_changes.py --self-test    the same looks over tools/changer.py, and over it with each of its faults; with
+                                             --only FAULT over that alone
 
 Commands are drawn by chance over the image as it stands, and run one by one, followed by reading lines over what they touched.
 The reply has to be that of [Answer] and [Short] over the image before; the image after has to be one that [Placed] and [Steady]
@@ -21,6 +22,7 @@ import subprocess
 import sys
 import tempfile
 import time
+import traceback
 
 import check_crash
 import change_images
@@ -113,8 +115,9 @@ def looks(c):
     """Lines that read what a command may have touched."""
     found = ["free", "check"]
     if not c.fault:
+        reading = "load " if c.word == "save" else "digest "
         for names in c.paths:
-            found += ["cat " + spelled_path(names[:-1]), "cat " + spelled_path(names), "digest " + spelled_path(names)]
+            found += ["cat " + spelled_path(names[:-1]), "cat " + spelled_path(names), reading + spelled_path(names)]
     return [one.encode() for one in dict.fromkeys(found)]
 
 
@@ -200,6 +203,7 @@ class Run:
         try:
             if self.options.batch:
                 self.draw_all()
+                self.counts["lines", "at once"] += len(self.script)
             else:
                 self.one_by_one()
             if at_once:
@@ -207,6 +211,8 @@ class Run:
             return ""
         except Difference as found:
             return self.report(found)
+        except Exception:  # an image on which the check itself trips has to be seen too
+            return self.report(traceback.format_exc())
 
     def one_by_one(self):
         state = opened(self.image)
@@ -349,15 +355,21 @@ def found_after(fault, words, options):
     return None
 
 
-def self_test(options):
-    options.built = list(CHANGING)
+def without_fault(options):
+    """Whether the rows and the commands over discs agree."""
     wrong = rows_differ()
     print("\n".join(wrong + ["%d rows, %d differ" % (len(rows()), len(wrong))]), flush=True)
     good = not wrong
     for old in (False, True):
         options.old = old
         good = check(Stand(), options) and good
-    for fault, words in changer.FAULTS.items():
+    return good
+
+
+def self_test(options):
+    options.built = list(CHANGING)
+    good = bool(options.only) or without_fault(options)
+    for fault, words in changer.FAULTS.items() if not options.only else [(options.only, changer.FAULTS[options.only])]:
         found = found_after(fault, words, options)
         good = good and found is not None
         print("%s: %s" % (fault, "NOT FOUND" if found is None else "found after %d commands: %s" % found), flush=True)
