@@ -15,6 +15,8 @@ FAULTS = {  # and words of the names of the discs over which each is sought firs
     "all holes joined": "fragmented", "one hole too many": "", "title changed": "fragmented", "place kept": "", "head form lost": "growing",
     "repair forgotten": "", "not the first hole": "old", "last byte lost": "old", "MapFull at 82": "old, 82 holes",
     "unused places left": "old", "second form misread": "second forms", "short rest left": "nearly", "repair before a refusal": "",
+    "entries sorted": "", "word changed": "", "reserved bytes lost": "", "bits past the end lost": "user", "written past the object": "fragmented",
+    "set clears attributes": "table",
 }
 
 
@@ -103,7 +105,8 @@ class Folder:
         names = first + 28 * len(self.items)
         end = names + len(heap)
         block[0] = block[-4] = sequence
-        block[4:8], block[-8:-4], block[-3:-1] = b"SBPr", b"oven", self.head.reserved
+        block[4:8], block[-8:-4] = b"SBPr", b"oven"
+        block[-3:-1] = self.head.reserved if fault != "reserved bytes lost" else bytes(2)
         for at, value in enumerate((len(self.name), self.size, len(self.items), len(heap), parent)):
             put(block, 8 + 4 * at, 4, value)
         block[28:first] = padded(self.name, first - 28)
@@ -118,6 +121,12 @@ class Folder:
 
     def written(self, parent, fault, chance):
         sequence = (self.head.sequence + (fault != "sequence kept")) % 256
+        if fault == "entries sorted":
+            self.items.sort(key=lambda item: folded(item.name))
+        if fault == "word changed" and self.state.form != "big":
+            self.block[1:5] = self.block[-5:-1] = b"Nick" if self.state.form == "D" else b"Hugo"
+        if fault == "reserved bytes lost" and self.state.form != "big":
+            self.block[slice(2008, 2010) if self.state.form == "D" else slice(1260, 1274)] = bytes(2 if self.state.form == "D" else 14)
         if self.state.form != "big":
             return self.small(parent, sequence)
         form = self.head.form
@@ -219,7 +228,7 @@ class NewSpace:
         shape, sector = self.shape, bytearray(old)
         bits = int.from_bytes(old, "little")
         first, end = shape.first(zone), shape.end(zone)
-        bits &= ~((1 << end) - (1 << first))
+        bits &= ~((1 << end) - (1 << first)) if self.fault != "bits past the end lost" else (1 << first) - 1
         before, links = 8, {}
         for (other, start), (length, owner) in sorted(self.runs.items()):
             if other == zone:
@@ -262,6 +271,10 @@ class Edit:
             self.image[start:start + count] = content[done:done + count]
             done += count
         assert done == len(content), (done, len(content))
+        if self.fault == "written past the object" and extents and self.state.is_new:
+            end = sum(extents[-1])
+            if end + 16 <= self.state.disc_bytes() and end // self.state.sector not in self.state.map.reserved:
+                self.image[end:end + 16] = bytes(16)
 
     def places_of(self, entry):
         return [(sector * self.state.sector, self.state.sector) for sector in entry.sectors]
@@ -402,7 +415,7 @@ class Edit:
     def set(self):
         holder = self.folder(self.c.key()[:-1])
         item = holder.find(self.c.key()[-1])
-        item.attributes = item.attributes & ~7 | self.c.access
+        item.attributes = item.attributes & (8 if self.fault == "set clears attributes" else ~7) | self.c.access
         item.load, item.execution, item.raw = self.c.load, self.c.execution, None
 
     def rename(self):
