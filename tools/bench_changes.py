@@ -56,7 +56,7 @@ class Bench:
         return int(next(line for line in lines if line.endswith("total")).split()[3]) if traced else len(lines) - 1
 
     def a_command(self, image, lines):
-        """Microseconds and calls of one of the lines; None where the command isn't built. The image stays."""
+        """Microseconds and calls of one of the lines; None if the command isn't built. The image stays."""
         script, found = "".join(line + "\n" for line in lines).encode(), []
         for measure in (self.seconds, self.calls):
             taken = []
@@ -72,7 +72,8 @@ class Bench:
         """A row for each command."""
         for word, found in lines.items():
             result = self.a_command(image, found)
-            print("%s, %s: %s" % (title, word, "not built" if result is None else "%.0f microseconds, %.1f calls a command" % result), flush=True)
+            text = "%.0f microseconds, %.1f calls a command" % result if result else "not built"
+            print("%s, %s: %s" % (title, word, text), flush=True)
 
 
 def saving(first, last):
@@ -83,7 +84,8 @@ def saving(first, last):
 def commands(paths, fresh, others):
     """LINES lines of each command: over files that are there, over paths that aren't, and to other directories."""
     return {
-        "save": ["save %s %s %s" % (path, WORDS, "5a" * 100) for path in fresh], "create": ["create %s %s 100" % (path, WORDS) for path in fresh],
+        "save": ["save %s %s %s" % (path, WORDS, "5a" * 100) for path in fresh],
+        "create": ["create %s %s 100" % (path, WORDS) for path in fresh],
         "save over a file": ["save %s %s %s" % (path, WORDS, "5a" * 100) for path in paths], "cdir": ["cdir " + path for path in fresh],
         "delete": ["delete " + path for path in paths], "set": ["set %s FFFFFD00 00000000 R" % path for path in paths],
         "rename": ["rename %s %sx" % (path, path) for path in paths],

@@ -46,7 +46,7 @@ class Command:
         return key_of(self.paths[0])
 
     def target(self):
-        """Where the object is afterwards."""
+        """The key of the object afterwards."""
         return key_of(self.paths[-1])
 
 
@@ -54,7 +54,7 @@ class Command:
 
 
 def absence(state, key, whole):
-    """3 or 4 for a path that has to be there; only its proper prefixes count where it isn't whole."""
+    """3 or 4 for a path that has to be there; of a path that isn't whole only the proper prefixes count."""
     for size in range(len(key) + 1 if whole else len(key)):
         if not state.is_directory(key[:size]):
             if key[:size] not in state.objects:
@@ -143,7 +143,7 @@ def tree_after(state, c):
 
 
 def low_byte(shape, room, length):
-    """The low byte of a new file in so many bytes of new space: 1 where another share unit is left after it."""
+    """The low byte of a new file in so many bytes of new space: 1 if another share unit is left after it."""
     end = -(-length // shape.share) * shape.share
     return int(end + shape.share <= room and end // shape.share <= 254)
 
@@ -204,7 +204,7 @@ class Needs:
     # directories
 
     def gaining(self):
-        """The key of the directory that gets a name, and the names that it then has; None where none gets one."""
+        """The key of the directory that gets a name, and the names that it then has; None if none gets one."""
         c, objects = self.c, self.state.objects
         holder = c.target()[:-1]
         if c.word in MAKING and c.target() not in objects or c.word == "rename" and c.key()[:-1] != holder:

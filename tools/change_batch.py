@@ -53,7 +53,8 @@ class TreeState:
 
     @staticmethod
     def of(state):
-        return TreeState(state, {path: (*node[:3], None if node[3] is None else state.content(node[3])) for path, node in state.tree().items()})
+        nodes = state.tree().items()
+        return TreeState(state, {path: (*node[:3], None if node[3] is None else state.content(node[3])) for path, node in nodes})
 
     def with_tree(self, tree):
         return TreeState(self.first, tree)
@@ -96,7 +97,8 @@ def follow(state, script, text, read_only):
         there = next_reply(text, wanted)
         text = text[len(there):]
         if there != wanted and not (is_change and is_space_refusal(there)):
-            return state, changed, refused, "%s: the reply is %r instead of %r" % (line.decode("latin-1")[:200], there[:200], wanted[:200])
+            words = line.decode("latin-1")[:200], there[:200], wanted[:200]
+            return state, changed, refused, "%s: the reply is %r instead of %r" % words
         refused = refused or bool(re.fullmatch(r"error [0-9]+ [A-Za-z]+\n", there))
         changed = changed or there == "ok\n" and (is_change or c.word == "compact")
         if is_change and there == "ok\n":
@@ -105,9 +107,17 @@ def follow(state, script, text, read_only):
 
 
 def tree_faults(wanted, found):
-    faults = ["%s is missing, or should not be there" % spelled_path(path) for path in set(wanted.nodes) ^ set(found.nodes)]
-    faults += ["%s is another object" % spelled_path(path) for path in set(wanted.nodes) & set(found.nodes) if wanted.nodes[path] != found.nodes[path]]
-    return sorted(faults)
+    odd, both = set(wanted.nodes) ^ set(found.nodes), set(wanted.nodes) & set(found.nodes)
+    faults = ["%s is missing, or should not be there" % spelled_path(path) for path in odd]
+    return sorted(faults + ["%s is another object" % spelled_path(path) for path in both if wanted.nodes[path] != found.nodes[path]])
+
+
+def touching(state):
+    """How many holes touch the one before them; a zone begins a new row."""
+    if not state.is_new:
+        return sum(sum(one) == other[0] for one, other in zip(state.old_holes(), state.old_holes()[1:]))
+    holes = state.holes()
+    return sum(one[0] == other[0] and one[1] + one[2] == other[1] for one, other in zip(holes, holes[1:]))
 
 
 def layout_faults(before, after, changed):
@@ -119,6 +129,8 @@ def layout_faults(before, after, changed):
         found.append("space was lost")
     if before.idle_sectors() & changed_sectors(before, after):
         found.append("bytes of lost space have changed")
+    if touching(after) > touching(before):
+        found.append("more holes touch than before")
     if before.is_new and changed and len(set(after.copies())) != 1:
         found.append("the two copies of the map differ")
     if before.data[before.disc_bytes():] != after.data[before.disc_bytes():]:

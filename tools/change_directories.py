@@ -1,6 +1,6 @@
 """What a changing command may do to directories: their entries, in their order, and what a rewritten head says ([Steady]).
 
-Where the standard leaves a choice (a heap packed or appended to, the padding of names that were there, the last mark of a small
+If the standard leaves a choice (a heap packed or appended to, the padding of names that were there, the last mark of a small
 directory, the length of a small directory in an entry that a command names), each allowed form passes.
 """
 from change_state import head_space, name_in, name_space, same_name, size_for
@@ -10,7 +10,7 @@ NEW_WORDS = {"D": b"Nick", "L": b"Hugo", "big": b"SBPr"}
 
 
 class Line:
-    """An entry with all its fields. `lengths`: those that it may have, where there is a choice; `lasts` likewise."""
+    """An entry with all its fields. `lengths`: those that it may have, if there is a choice; `lasts` likewise."""
 
     def __init__(self, entry, last, raw=None):
         self.name, self.attributes, self.load, self.execution = entry.name, entry.attributes, entry.load, entry.execution
@@ -18,8 +18,9 @@ class Line:
         self.raw = raw
 
     def differences(self, other):
-        """Where the entry that is there, `other`, isn't this one."""
-        fields = [field for field in ("name", "attributes", "load", "execution", "address") if getattr(self, field) != getattr(other, field)]
+        """The fields in which the entry that is there, `other`, isn't this one."""
+        fields = ("name", "attributes", "load", "execution", "address")
+        fields = [field for field in fields if getattr(self, field) != getattr(other, field)]
         fields += ["length"] if not other.lengths <= self.lengths else []
         fields += ["last byte"] if not other.lasts <= self.lasts else []
         return fields
@@ -55,7 +56,7 @@ def place_for(lines, name):
 
 
 def wanted_lines(change, key):
-    """The entries that the directory has to have, where `key` is its place before the command."""
+    """The entries that the directory has to have; `key` is its place before the command."""
     c, lines = change.c, lines_of(change.before, key)
     grown = change.needs.grown
     for line in lines:
@@ -153,7 +154,7 @@ def heap_fault(change, key, old, new, count):
 
 
 def head_name_fault(change, key, old, new, entries):
-    """A renamed directory has its new name in its head where that has space beside its heap, whichever heap is written."""
+    """A renamed directory has its new name in its head if there is space for it beside its heap, whichever heap is written."""
     name, kept = new_name(change, key), [old.name]
     if name:
         packed = sum(name_space(entry.name) for entry in entries)

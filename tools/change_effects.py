@@ -1,6 +1,6 @@
 """What a changing command may do to an image: the differences from [Answer]'s tree, [Placed] and [Steady] of the standard.
 
-Each function answers a list of differences in words; the list is empty where all is as it has to be.
+Each function answers a list of differences in words; the list is empty if all is as it has to be.
 """
 import change_directories
 from change_answer import OLD_HOLES, given, low_byte, tree_after
@@ -18,7 +18,7 @@ class Change:
         self.changed = changed_sectors(before, after)
 
     def key_after(self, key):
-        """Where an object of before is afterwards, or None where it is deleted."""
+        """The key afterwards of an object of before; None if it is deleted."""
         source, target = self.c.key(), self.c.target()
         if self.c.word == "delete" and key == source:
             return None
@@ -27,7 +27,7 @@ class Change:
         return key
 
     def made(self):
-        """The object for which there was new space or slack, or which the command renames or sets; None where it is deleted."""
+        """The object for which there was new space or slack, or which the command renames or sets; None if it is deleted."""
         return None if self.c.word == "delete" else self.after.objects[self.c.target()]
 
     def takes_space(self):
@@ -110,7 +110,7 @@ def taken(change, holes, parts, bits, who):
 
 
 def address_differences(change):
-    """The address of the named object, where it doesn't lie in new space."""
+    """The address of the named object, unless it lies in new space."""
     made, needs, c = change.made(), change.needs, change.c
     if made is None or change.takes_space():
         return []
@@ -155,7 +155,8 @@ def growth_placed(change, holes):
         found.append("the grown directory has %d bytes instead of %d" % (size, needs.size))
     old = change.before.objects[needs.grown]
     if not change.has_new_address():
-        found += [] if grown.address == old.address else ["the grown directory has the address %x instead of %x" % (grown.address, old.address)]
+        if grown.address != old.address:
+            found.append("the grown directory has the address %x instead of %x" % (grown.address, old.address))
     else:
         found += fresh_identifier(change, grown.address // 256, "the grown directory")
         found += ["the grown directory has low byte %d" % (grown.address % 256)] if grown.address % 256 else []
@@ -210,8 +211,9 @@ def map_differences(change):
 def zone_differences(change):
     """Bits outside the allocation bits, links, and the record."""
     shape, found = change.before.map.shape, []
+    copies = chosen_copy(change.before), change.after.copies()[0]
     for zone in range(shape.zones):
-        old, new = ((copy[zone * shape.sector:(zone + 1) * shape.sector]) for copy in (chosen_copy(change.before), change.after.copies()[0]))
+        old, new = (copy[zone * shape.sector:(zone + 1) * shape.sector] for copy in copies)
         bits, others = (int.from_bytes(sector, "little") >> shape.end(zone) for sector in (old, new))
         if bits != others:
             found.append("bits past the end of zone %d have changed" % zone)

@@ -15,7 +15,6 @@ from volumes import FRESH, Directory, File, OldVolume, big_heap, head_space
 TABLE = ("hello", "e-files", "f-files", "e-plus-files", "f-plus-files", "f-user", "e-plus-grown", "scattered-directories", "scattered-big",
          "small-sectors", "large-sectors", "wide-disc")
 OLD_TABLE = ("d-files", "l-files", "l-7-units", "l-8-units", "l-640-units", "l-82-holes")
-MOST_BYTES = 20000000  # of a disc
 
 
 # ---- what new maps hold
@@ -120,19 +119,14 @@ def full_directory(name):
     return make
 
 
-def identifier_of_room(volume, chance, room):
-    """An identifier with so many bytes and a bit more, and its number of share units."""
-    identifier = volume.place(room)
-    return identifier, room // volume.shape.share
-
-
 def shared(make_volume):
-    """Files that share identifiers, with slack between and behind them; for big directories one with room, or without."""
+    """Files that share identifiers, with slack between and after them; for big directories one with room, or without."""
     def make(chance):
         volume = make_volume()
         holders = [volume.root, add(volume, volume.root, volume.directory(volume.root, b"Docs"))]
         for number in range(chance.randint(3, 8)):
-            identifier, units = identifier_of_room(volume, chance, chance.randint(2, 12) * max(volume.shape.share, 1024))
+            room = chance.randint(2, 12) * max(volume.shape.share, 1024)
+            identifier, units = volume.place(room), room // volume.shape.share
             low, holder = chance.randint(1, 2), chance.choice(holders)
             if volume.form == "big" and chance.random() < 0.5:
                 low = add_big_directory(volume, chance, holder, b"Dir%d" % number, identifier, units)
@@ -172,12 +166,12 @@ def fill_big(volume, chance, directory):
             return
 
 
-def big_fits(directory):
-    return 28 + head_space(directory) + 28 * len(directory.entries) + len(big_heap(directory)[0]) + 8 <= directory.size
+def big_fits(directory, more=0):
+    return 28 + head_space(directory) + 28 * len(directory.entries) + len(big_heap(directory)[0]) + more + 8 <= directory.size
 
 
 def second_forms(chance):
-    """Directories whose heads' names have the second form where it differs from the first, with a word 0 after the heap."""
+    """Directories whose heads' names have the second form, and lengths in which it differs from the first, with a word 0 after the heap."""
     volume = FRESH[chance.choice(("E+", "F+"))]()
     holders = [volume.root]
     for number in range(10):
@@ -221,7 +215,7 @@ def in_the_map(make_volume):
 
 
 def add(volume, holder, entry):
-    """Inserts an entry; where a big directory can't hold it, files of 0 bytes make room."""
+    """Inserts an entry; if a big directory can't hold it, files of 0 bytes make room."""
     holder.insert(entry)
     while volume.form == "big" and not big_fits(holder):
         holder.entries.remove(next(one for one in holder.entries if not one.is_directory and not one.data))
@@ -260,13 +254,8 @@ NEW = {
 # ---- old maps
 
 
-def old_directory(volume, chance, holder, number):
-    made = holder.insert(volume.directory(holder, b"D%d" % number))
-    return made
-
-
-def old_filled(form, units, holes):
-    """A disc of an old map with files, holes and lost space in turn."""
+def old_filled(form, units, holes, most_steps=8):
+    """A disc of an old map with files, holes and lost space in turn; a hole has at most so many sectors, a file some times as many."""
     def make(chance):
         size = units(chance)
         volume = OldVolume(form, size)
@@ -275,13 +264,13 @@ def old_filled(form, units, holes):
             number += 1
             draw, holder = chance.random(), chance.choice(directories)
             if draw < 0.3:
-                volume.hole(chance.randint(1, 8) * volume.step)
+                volume.hole(chance.randint(1, most_steps) * volume.step)
             elif draw < 0.35:
                 volume.lose(volume.step)
-            elif draw < 0.45 and len(holder.entries) < most:
-                directories.append(old_directory(volume, chance, holder, number))
+            elif draw < (0.45 if most_steps > 2 else 0.38) and len(holder.entries) < most:
+                directories.append(holder.insert(volume.directory(holder, b"D%d" % number)))
             elif len(holder.entries) < most:
-                length = chance.choice((1, 255, 256, 257, 1024, chance.randint(1, 4000)))
+                length = chance.choice((1, 255, 256, 257, 1024, chance.randint(1, 500 * most_steps)))
                 holder.insert(volume.file(b"F%d" % number, chance.randbytes(length)))
             elif all(len(one.entries) >= most for one in directories):
                 break
@@ -301,7 +290,7 @@ OLD = {
     **{"fresh " + name: lambda chance, name=name: FRESH[name]() for name in ("D", "L")},
     **{"table " + name: table(name) for name in OLD_TABLE},
     **{"filled " + form: old_filled(form, many_units(form), 60) for form in "DL"},
-    **{"82 holes " + form: old_filled(form, many_units(form), 82) for form in "DL"},
+    **{"82 holes " + form: old_filled(form, many_units(form), 82, 1 if form == "D" else 2) for form in "DL"},
     "filled, small": old_filled("L", lambda chance: chance.randint(64, 1280), 40),
     "tiny": old_filled("L", lambda chance: chance.randint(7, 90), 40),
 }
@@ -329,14 +318,14 @@ def decorate(volume, chance):
 
 
 def decorate_big(directory, chance):
-    """Another form, another name in the head, a longer heap; taken back where the parts don't fit."""
+    """Another form, another name in the head, a longer heap; taken back if the parts don't fit."""
     for field, value in (("form", 2), ("head_name", random_name(chance, "big")), ("heap_tail", 4 * chance.randint(1, 20))):
         kept = getattr(directory, field)
         if chance.random() < 0.4:
             setattr(directory, field, value)
             if not big_fits(directory):
                 setattr(directory, field, kept)
-    if chance.random() < 0.3 and 28 + head_space(directory) + 28 * len(directory.entries) + len(big_heap(directory)[0]) + 12 <= directory.size:
+    if chance.random() < 0.3 and big_fits(directory, 4):
         directory.spare_words = chance.getrandbits(32)
 
 
@@ -384,7 +373,9 @@ def random_name(chance, form):
     """Few letters, so that names meet; in big directories sometimes long ones, about the lengths of words."""
     most = 255 if form == "big" else 10
     draw = chance.random()
-    size = chance.randint(1, 3) if draw < 0.4 else chance.choice((most, most - 1, 4, 8)) if draw < 0.55 else chance.randint(1, min(most, 24))
+    size = chance.randint(1, 3 if draw < 0.4 else min(most, 24))
+    if 0.4 < draw < 0.55:
+        size = chance.choice((most, most - 1, 4, 8))
     letters = b"AaBb01" if draw < 0.5 else b"AbCdEfGh!-_+xyz0123456789" + (b"" if form == "L" else b"\xe9\x80\xff")
     return bytes(chance.choice(letters) for at in range(size))
 
@@ -398,6 +389,8 @@ def image_of(number, old=False):
     volume = recipes[name](chance)
     if number >= len(names) or not name.startswith("fresh"):
         decorate(volume, chance)
+    for directory in volume.directories():
+        directory.guards_form = True
     image = noisy(bytearray(volume.image()), chance)
     if not old and chance.random() < 0.3:
         image = torn(image, chance)

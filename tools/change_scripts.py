@@ -11,9 +11,10 @@ MOODS = {  # how often each command is drawn
     "empty": dict(save=1, create=1, cdir=1, delete=8, rename=3, set=1),
 }
 READING = ("cat", "load", "digest", "free", "check")
-HOSTILE = ("", "$.", "$..A", "A", "$.%1F", "$.%7", "$.A%", "$.%00", "$.A.", "$.A:B", "$.a*", "$$", "$.%", "$.%2e%2E", "$.A%20B", "$.%7F", "$.%E9x")
-LINES = (b"", b"#", b"sav $.A", b"save $.A 0 0 00", b"cdir", b"cdir $.A ", b"create $.A 00000000 00000000 007", b"set $.A 00000000 00000000 LR",
-         b"create $.A 00000000 00000000 4294967296", b"delete $ $", b"rename $.A", b"save $.A 00000000 00000000 123", b"cat  $",
+HOSTILE = ("$.", "$..A", "A", "$.%1F", "$.%7", "$.A%", "$.%00", "$.A.", "$.A:B", "$.a*", "$$", "$.%", "$.%2e%2E", "$.A%20B", "$.%7F",
+           "$.%E9x")
+LINES = (b"", b"#", b"sav $.A", b"save $.A 0 0 00", b"cdir", b"cdir $.A ", b"create $.A 00000000 00000000 007",
+         b"set $.A 00000000 00000000 LR", b"create $.A 00000000 00000000 4294967296", b"delete $ $", b"rename $.A", b"save $.A 00000000 00000000 123", b"cat  $",
          b"set $.A 00000000 00000000 ", b"cat $.\xe9", b"save\t$.A 00000000 00000000 00", b"delete $.A\r", b"FREE", b"free ", b" free",
          b"create $.A 00000000 00000000 4294967295")
 
@@ -109,7 +110,7 @@ class Drawer:
         """An object that is there, mostly; now and then a path that isn't right."""
         draw = self.chance.random()
         if draw < 0.02:
-            return self.chance.choice(HOSTILE) or "$.None"
+            return self.chance.choice(HOSTILE)
         if draw < 0.05:
             return self.made()
         entries = list(self.state.objects.values())
@@ -143,6 +144,8 @@ class Drawer:
             return self.spelled([self.chance.choice((b"A B", b"\x7f", b"a:b", b"x" * 11, b"\xe9", b"y" * 255, b"."))])[2:]
         if draw < 0.03:
             return self.chance.choice(("%0A", "x" * 256, "%2", "#"))
+        if self.mood == "grow" and draw < 0.5 and self.state.form == "big":
+            return "".join(self.chance.choices("abcdefgh", k=self.chance.randint(60, 255)))
         return self.spelled([random_name(self.chance, self.state.form)])[2:]
 
     def made(self):

@@ -6,7 +6,7 @@ from filecore import SMALL_SIZE, big_directory_check, folded, number
 from read_image import Disc, NewMap, cut_name, kind_of
 
 MAP_OWNER = "the map"  # identifier 2 has it as an owner that no entry shows
-TAILS = {  # of small directories: where last mark, reserved bytes, parent, title and name stand
+TAILS = {  # of small directories: the places of last mark, reserved bytes, parent, title and name
     "D": dict(mark=2007, reserved=(2008, 2010), parent=2010, title=(2013, 2032), name=(2032, 2042)),
     "L": dict(mark=1227, reserved=(1260, 1274), parent=1238, title=(1241, 1260), name=(1228, 1238)),
 }

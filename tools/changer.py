@@ -11,12 +11,12 @@ FAULTS = {  # and words of the names of the discs over which each is sought firs
     "space given back first": "nearly", "shared identifier given back": "shared", "words lost": "", "attributes lost": "table",
     "save renames": "", "file not copied": "shared", "parent left": "fragmented", "sequence kept": "", "entry at the end": "",
     "no slack": "shared", "low byte 0": "", "hole not joined": "", "second copy left": "", "root size in one copy": "growing",
-    "holder left": "growing", "lost run released": "fragmented", "children left": "shared", "zeros not written": "",
+    "holder left": "growing", "lost run released": "fragmented", "children left": "shared", "left identifier lost": "shared", "zeros not written": "",
     "all holes joined": "fragmented", "one hole too many": "", "title changed": "fragmented", "place kept": "", "head form lost": "growing",
     "repair forgotten": "", "not the first hole": "old", "last byte lost": "old", "MapFull at 82": "old, 82 holes",
     "unused places left": "old", "second form misread": "second forms", "short rest left": "nearly", "repair before a refusal": "",
-    "entries sorted": "", "word changed": "", "reserved bytes lost": "", "bits past the end lost": "user", "written past the object": "fragmented",
-    "set clears attributes": "table",
+    "entries sorted": "", "word changed": "", "reserved bytes lost": "", "bits past the end lost": "user",
+    "written past the object": "fragmented", "set clears attributes": "table",
 }
 
 
@@ -175,7 +175,8 @@ class NewSpace:
         elif self.fault == "one hole too many" and len(holes) > 1 and holes[-1][0] < bits:
             holes = holes[-1:] + holes[:-1]
         for length, place in holes:
-            part = length if length < max(missing, least) + least else max(missing, least)
+            wanted = max(missing, least)
+            part = length if length < wanted + least else wanted
             if self.fault == "short rest left" and length > missing:
                 part = missing
             parts.append((place, part))
@@ -185,7 +186,7 @@ class NewSpace:
         raise AssertionError("no space")
 
     def take(self, bits, identifier=None):
-        """Space for an identifier, a new one if none is given; without runs in `runs` for it yet where it is given."""
+        """Space for an identifier, a new one if none is given; a grown directory's own one may be given."""
         identifier = identifier or self.chance.choice(self.free)
         if identifier in self.free:
             self.free.remove(identifier)
@@ -215,7 +216,8 @@ class NewSpace:
         after = (zone, start + self.runs[place][0])
         if after in self.runs and self.runs[after][1] is None:
             self.runs[place][0] += self.runs.pop(after)[0]
-        before = next((one for one, (length, owner) in self.runs.items() if one[0] == zone and one[1] + length == start and owner is None), None)
+        holes = [(one, length) for one, (length, owner) in self.runs.items() if one[0] == zone and owner is None]
+        before = next((one for one, length in holes if one[1] + length == start), None)
         if before:
             self.runs[before][0] += self.runs.pop(place)[0]
 
@@ -282,7 +284,7 @@ class Edit:
     # space
 
     def gone(self):
-        """The places of the runs that go, where an identifier loses its last owner."""
+        """The places of the runs that go, if an identifier loses its last owner."""
         c, state = self.c, self.state
         entry = state.objects.get(c.key()) if c.word in ("delete", "save", "create") else None
         if not state.is_new or entry is None or not entry.sectors or entry.address < 3 * 256:
@@ -336,8 +338,9 @@ class Edit:
         extents = None
         if needs.growth:
             identifier = address // 256 if needs.alone else None
-            if identifier:
-                gone = {place for place, run in self.space.runs.items() if run[1] == identifier}
+            old = self.state.owners[address // 256]
+            if identifier or old == [key] and self.fault != "left identifier lost":  # the last owner goes
+                gone = {place for place, run in self.space.runs.items() if run[1] == address // 256}
             identifier, bits, places = self.space.take(needs.growth_bits(), identifier)
             extents = self.space.extents(identifier, places)
             address = address if needs.alone else identifier * 256
@@ -521,7 +524,7 @@ def repaired(state):
 
 
 def changed(state, c, fault, chance):
-    """The reply to a changing command, and the image afterwards: the same one, where it is refused."""
+    """The reply to a changing command, and the image afterwards: the same one, if it is refused."""
     number, needs = owed_refusal(state, c)
     if number == 14 and needs and fault == "space given back first" and Edit(state, c, needs, fault, chance).gone():
         try:

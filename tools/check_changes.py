@@ -9,8 +9,8 @@ Commands are drawn by chance over the image as it stands, and run one by one, fo
 The reply has to be that of [Answer] and [Short] over the image before; the image after has to be one that [Placed] and [Steady]
 allow (tools/change_effects.py), and the program has to say of it what tools/read_image.py says. Then the whole script runs
 over the first image at once; with --batch it runs at once only. --old takes old maps in place of new ones. Without --only, the
-commands are those that the program has: it answers 9 to others. Few images are spread over the kinds of discs. --table counts replies and events. The first difference ends a disc:
-the script is printed, and the images are kept. Exit status 1 if there is any.
+commands are those that the program has: it answers 9 to others. Few images are spread over the kinds of discs. --table counts
+replies and events. The first difference ends a disc: the script is printed, and the images are kept. Exit status 1 if there is any.
 """
 import argparse
 import collections
@@ -199,7 +199,7 @@ class Run:
         self.script, self.text, self.last = [], "", self.image
 
     def go(self, at_once=True):
-        """All differences, as a text; nothing where there are none."""
+        """All differences, as a text; nothing if there are none."""
         try:
             if self.options.batch:
                 self.draw_all()
@@ -232,7 +232,8 @@ class Run:
             self.script.append(line)
             if line and not line.startswith(b"#"):
                 c = Command(line)
-                if c.word in CHANGING and not refusal_of(state, c, self.read_only) and (not c.is_making_file() or c.file_length() < 1 << 22):
+                is_change = c.word in CHANGING and not refusal_of(state, c, self.read_only)
+                if is_change and not (c.is_making_file() and c.file_length() >= 1 << 22):
                     state = state.with_tree(tree_after(state, c))
 
     def at_once(self):
@@ -245,7 +246,8 @@ class Run:
 
     def report(self, found):
         folder = tempfile.mkdtemp(prefix="check_changes-")
-        for name, content in (("first.adf", self.image), ("before.adf", self.last), ("script", b"".join(line + b"\n" for line in self.script))):
+        script = b"".join(line + b"\n" for line in self.script)
+        for name, content in (("first.adf", self.image), ("before.adf", self.last), ("script", script)):
             with open(os.path.join(folder, name), "wb") as file:
                 file.write(content)
         lines = ["disc %d, %s, seed %d%s%s" % (self.number, self.name, self.options.seed, ", --old" if self.options.old else "",
@@ -335,12 +337,13 @@ def rows_differ():
     for make, script, wanted in rows():
         status, text, image = Stand().run(bytes(make().image()), script.encode())
         if text.replace("\n", " / ") != wanted + " / ":
-            found.append("%s\n  wanted %s\n  got    %s" % (script.replace("\n", ", ")[:200], wanted[-200:], text.replace("\n", " / ")[-200:]))
+            parts = script.replace("\n", ", ")[:200], wanted[-200:], text.replace("\n", " / ")[-200:]
+            found.append("%s\n  wanted %s\n  got    %s" % parts)
     return found
 
 
 def found_after(fault, words, options):
-    """Over how many commands a fault was found, and what was found first; None where it wasn't."""
+    """Over how many commands a fault was found, and what was found first; None if it wasn't."""
     options.old = "old" in words
     start, counts, number = time.time(), collections.Counter(), 0
     names = list(change_images.OLD if options.old else change_images.NEW)

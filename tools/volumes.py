@@ -46,6 +46,7 @@ class Directory(Entry):
         self.form = 1  # of a big directory's head name: 1 or 2
         self.heap_tail = 0  # bytes of the heap behind the names
         self.spare_words = 0  # what stands behind the heap
+        self.guards_form = False  # of a big directory: whether the word after the heap keeps the second form from being read as the first
         self.reserved = b""  # what the reserved bytes begin with
 
     def insert(self, entry):
@@ -138,6 +139,8 @@ def big_directory(directory):
     block[-8:-4] = b"oven"
     block[-3:-3 + len(directory.reserved)] = directory.reserved
     block[-1] = big_directory_check(block, end)
+    if directory.guards_form and directory.form == 2 and end + 12 <= len(block) and big_directory_check(block, end + 4) == block[-1]:
+        block[end] ^= 1  # or it would be read in the first form
     return block
 
 
