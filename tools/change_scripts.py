@@ -31,7 +31,7 @@ class Drawer:
         self.state = None
 
     def line(self, state):
-        if state.form == "big" and self.state is None and self.chance.random() < 0.5:
+        if state.form == "big" and self.state is None and self.chance.random() < 0.6:
             self.mood = "grow"
         self.state = state
         draw = self.chance.random()
@@ -125,18 +125,20 @@ class Drawer:
 
     def directory(self):
         found = self.state.disc.directories
-        if self.mood == "grow" and self.chance.random() < 0.6:
-            return self.path_to(min((one for one in self.chance.sample(found, min(len(found), 4))), key=self.room_in))
+        if self.mood == "grow" and self.state.form == "big" and self.chance.random() < 0.8:
+            few = self.chance.sample(found, min(len(found), self.chance.choice((4, 99))))
+            return self.path_to(min(few, key=self.room_in))
         if self.favourite not in self.state.heads or self.chance.random() < 0.05:
             self.favourite = tuple(name.upper() for name in self.chance.choice(found).path)
         if self.mood in ("names", "fill") and self.chance.random() < 0.7 and self.favourite in self.state.heads:
             return self.path_to(self.state.objects[self.favourite])
         return self.path_to(self.chance.choice(found))
 
-    @staticmethod
-    def room_in(directory):
-        """About how many bytes are left in a big directory."""
-        return -sum(28 + len(entry.name) // 4 * 4 + 4 for entry in directory.entries) % 2048
+    def room_in(self, directory):
+        """About how many bytes are left in a big directory; in a tree without an image, up to 2048 bytes."""
+        head = self.state.heads[tuple(name.upper() for name in directory.path)]
+        used = 40 + sum(28 + len(entry.name) // 4 * 4 + 4 for entry in directory.entries)
+        return head.size - used if head else -used % 2048
 
     def name(self):
         draw = self.chance.random()
@@ -144,8 +146,8 @@ class Drawer:
             return self.spelled([self.chance.choice((b"A B", b"\x7f", b"a:b", b"x" * 11, b"\xe9", b"y" * 255, b"."))])[2:]
         if draw < 0.03:
             return self.chance.choice(("%0A", "x" * 256, "%2", "#"))
-        if self.mood == "grow" and draw < 0.5 and self.state.form == "big":
-            return "".join(self.chance.choices("abcdefgh", k=self.chance.randint(60, 255)))
+        if self.mood == "grow" and draw < 0.8 and self.state.form == "big":
+            return "".join(self.chance.choices("abcdefgh", k=self.chance.randint(120, 255)))
         return self.spelled([random_name(self.chance, self.state.form)])[2:]
 
     def made(self):

@@ -344,10 +344,10 @@ def rows_differ():
 
 def found_after(fault, words, options):
     """Over how many commands a fault was found, and what was found first; None if it wasn't."""
-    options.old = "old" in words
+    options.old = "old" in words.split()
     start, counts, number = time.time(), collections.Counter(), 0
     names = list(change_images.OLD if options.old else change_images.NEW)
-    chosen = [at for at, name in enumerate(names) if words.split(", ")[-1] in name] or list(range(len(names)))
+    chosen = [at for at, name in enumerate(names) if all(word in name for word in words.split() if word != "old")]
     while time.time() < start + SELF_TEST_SECONDS:
         run = Run(Stand(fault), options, chosen[number % len(chosen)] + number // len(chosen) * len(names), counts)
         run.report = str
