@@ -2,6 +2,7 @@
 """Changes discs of all kinds with the built program, and compares each reply and each image with what the standard allows.
 
 usage: tools/check_changes.py [--program PATH] [--seed N] [--images N] [--commands N] [--only WORD,..] [--old] [--batch] [--table]
+                              [--first N] [--most N]    from disc N on; ends after N discs that differ
        tools/check_changes.py --self-test    the same looks over tools/changer.py, and over it with each of its faults; with
                                              --only FAULT over that alone
 
@@ -352,7 +353,7 @@ def found_after(fault, words, options):
         run = Run(Stand(fault), options, chosen[number % len(chosen)] + number // len(chosen) * len(names), counts)
         run.report = str
         found = run.go(at_once=False)
-        if found:
+        if found and not found.startswith("Traceback"):  # a changer that gives up over a disc shows nothing
             return sum(count for (word, what), count in counts.items() if word != "event"), found.split("\n")[0]
         number += 1
     return None
