@@ -40,7 +40,7 @@ class Drawer:
         if draw < 0.04:
             word = self.chance.choice(READING)
             return (word if word in ("free", "check") else "%s %s" % (word, self.there())).encode()
-        if draw > 0.985 and self.compacts:
+        if draw > 0.98 and self.compacts:
             return b"compact"
         weights = MOODS[self.mood]
         word = self.chance.choices(self.built, [weights[word] for word in self.built])[0]

@@ -18,6 +18,7 @@ FAULTS = {  # and words of the names of the discs over which each is sought firs
     "unused places left": "old", "second form misread": "second forms", "short rest left": "nearly", "repair before a refusal": "",
     "entries sorted": "", "word changed": "", "reserved bytes lost": "", "bits past the end lost": "user",
     "written past the object": "fragmented", "set clears attributes": "table",
+    "object not slid": "old filled", "last hole forgotten": "old filled", "parents left by compaction": "old filled",
 }
 
 
@@ -482,7 +483,7 @@ class Edit:
 
     def write_map(self):
         if not self.space:
-            self.write_old_map()
+            write_holes(self.image, self.state, self.holes, self.fault == "unused places left")
             return
         shape, sector = self.space.shape, self.state.sector
         start = shape.map_sector * sector
@@ -499,21 +500,6 @@ class Edit:
                 is_kept = self.fault == "second copy left" and copy or self.fault == "repair forgotten" and new == old
                 if not is_kept:
                     self.image[place:place + sector] = new
-
-    def write_old_map(self):
-        c, state, step = self.c, self.state, self.state.sector // 256
-        if self.holes == state.old_holes():
-            return
-        block = self.image[0:512]
-        for at in (0, 256):
-            if self.fault != "unused places left":
-                block[at:at + 246] = bytes(246)
-        for at, (start, length) in enumerate(self.holes):
-            put(block, 3 * at, 3, start * step)
-            put(block, 256 + 3 * at, 3, length * step)
-        block[510] = 3 * len(self.holes)
-        block[255], block[511] = old_map_check(block[0:256], 255), old_map_check(block[256:512], 255)
-        self.image[0:512] = block
 
 
 def repaired(state):
@@ -537,3 +523,61 @@ def changed(state, c, fault, chance):
     if number:
         return "error %d %s\n" % (number, WORDS[number]), repaired(state) if fault == "repair before a refusal" else state.data
     return "ok\n", Edit(state, c, needs, fault, chance).run()
+
+
+# ---- compaction of an old map
+
+
+def squashed(state, fault):
+    """The image after `compact` on an old map: each object slides into the hole before it."""
+    image, step = bytearray(state.data), state.sector // 256
+    things = [(start, length, "hole") for start, length in state.old_holes()]
+    things += [(entry.sectors[0], len(entry.sectors), key) for key, entry in state.objects.items() if entry.sectors and key]
+    things += [(sector, 1, None) for sector in state.idle_sectors() | set(state.disc.root.sectors)]
+    free, holes, moved, end = 0, [], {}, 0
+    for start, length, thing in sorted(things, key=lambda one: one[0]):
+        if thing == "hole":
+            free += length
+        elif thing is None or fault == "object not slid" and free and length == 1:
+            holes += [(start - free, free)] if free else []
+            free = 0
+        elif free:
+            moved[thing] = (start - free) * step
+            content = state.data[start * state.sector:(start + length) * state.sector]
+            image[(start - free) * state.sector:(start - free + length) * state.sector] = content
+        end = start + length
+    holes += [(end - free, free)] if free and fault != "last hole forgotten" else []
+    address = {key: moved.get(key, entry.address) for key, entry in state.objects.items()}
+    for key in state.heads:
+        children = {item: address[key + (folded(item.name),)] for item in state.objects[key].entries}
+        has_moved = any(item.address != place for item, place in children.items())
+        if has_moved or key[:-1] in moved and fault != "parents left by compaction":
+            block = moved_folder(state, key, children, address[key[:-1]] if key[:-1] in moved else state.heads[key].parent)
+            image[address[key] * 256:address[key] * 256 + len(block)] = block
+    write_holes(image, state, holes)
+    return bytes(image)
+
+
+def moved_folder(state, key, children, parent):
+    """The bytes of a directory with its entries' new addresses."""
+    folder = Folder(state, key)
+    for item, place in zip(folder.items, children.values()):
+        if item.address != place:
+            item.raw = item.raw[:22] + place.to_bytes(3, "little") + item.raw[25:]
+    return folder.small(parent, (folder.head.sequence + 1) % 256)
+
+
+def write_holes(image, state, holes, keeps_unused=False):
+    """An old map with these holes, each a first sector and sectors."""
+    step, block = state.sector // 256, image[0:512]
+    if holes == state.old_holes():
+        return
+    for at in (0, 256):
+        if not keeps_unused:
+            block[at:at + 246] = bytes(246)
+    for at, (start, length) in enumerate(holes):
+        put(block, 3 * at, 3, start * step)
+        put(block, 256 + 3 * at, 3, length * step)
+    block[510] = 3 * len(holes)
+    block[255], block[511] = old_map_check(block[0:256], 255), old_map_check(block[256:512], 255)
+    image[0:512] = block

@@ -27,7 +27,9 @@ import traceback
 
 import check_crash
 import change_images
+import change_rows
 import change_scripts
+import change_squash
 import changer
 import read_image
 from change_answer import CHANGING, WORDS, Command, owed_refusal, refusal_of, tree_after
@@ -35,13 +37,12 @@ from change_batch import TreeState, batch_differences
 from change_effects import differences
 from change_state import State
 from filecore import spelled_path
-from images import VOLUMES, full_identifiers, two_holes
-from volumes import FRESH
+from images import VOLUMES
 
 TOOLS = os.path.dirname(os.path.realpath(__file__))
 PROGRAM = os.path.join(TOOLS, "..", "crates", "fcore", "out", "fcore")
 TRY = {"save": "save $.hello 00000000 00000000 00", "create": "create $.hello 00000000 00000000 0", "cdir": "cdir $.hello",
-       "delete": "delete $.None", "rename": "rename $.None $.B", "set": "set $.None 00000000 00000000 -"}
+       "delete": "delete $.None", "rename": "rename $.None $.B", "set": "set $.None 00000000 00000000 -", "compact": "compact"}
 SELF_TEST_SECONDS, MOST_SECONDS = 30, 120
 
 
@@ -57,11 +58,11 @@ class Program:
 
     def __init__(self, path, folder):
         self.path, self.image = os.path.realpath(path), os.path.join(folder, "disc.adf")
-        self.there = None  # what the file holds
+        self.left = b""  # what the file holds
 
     def run(self, image, script, read_only=False):
         """Status, text and the image afterwards."""
-        if image is not self.there:
+        if image is not self.left:
             with open(self.image, "wb") as file:
                 file.write(image)
         words = [self.path, self.image] + (["--read-only"] if read_only else [])
@@ -71,24 +72,29 @@ class Program:
             raise Difference("no answer after %d seconds" % MOST_SECONDS) from None
         with open(self.image, "rb") as file:
             found = file.read()
-        self.there = image if found == image else found
-        return ran.returncode, ran.stdout.decode("latin-1"), self.there
+        self.left = image if found == image else found
+        return ran.returncode, ran.stdout.decode("latin-1"), self.left
 
 
 class Stand:
     """tools/changer.py in the program's place; reading lines are answered by the reader."""
 
     def __init__(self, fault=None):
-        self.fault, self.chance = fault, random.Random(1)
+        self.fault, self.chance, self.left = fault, random.Random(1), b""
 
     def run(self, image, script, read_only=False):
         replies, state = [], opened(image)
         for line in read_image.lines_of(script):
             c = Command(line)
-            if c.fault or c.word not in CHANGING or read_only:
+            if c.word == "compact" and not read_only and not state.is_new:
+                image = self.left = changer.squashed(state, self.fault)
+                state = opened(image)
+                replies.append("ok\n")
+            elif c.fault or c.word not in CHANGING or read_only:
                 replies.append(reading_reply(state, line, read_only))
             else:
                 reply, image = changer.changed(state, c, self.fault, self.chance)
+                self.left = image
                 state = state if image is state.data else opened(image)
                 replies.append(reply)
         return status_of(replies), "".join(replies), image
@@ -159,13 +165,18 @@ def step(actor, state, line, read_only, counts):
         after = state
     else:
         after = opened(image)
-        found = differences(state, after, c, needs) if needs else check_crash.faults_at_end(state.data, image)
+        found = differences(state, after, c, needs) if needs else compaction_differences(state, after)
         if found:
             raise Difference("\n".join(found[:12]))
         if needs:
             count_events(needs, after, counts)
     replies_differ(after, c, first, (status, text), read_only)
     return after
+
+
+def compaction_differences(before, after):
+    """tools/check_crash.py has the same looks over new maps."""
+    return check_crash.faults_at_end(before.data, after.data) if before.is_new else change_squash.differences(before, after)
 
 
 def count_events(needs, after, counts):
@@ -248,14 +259,34 @@ class Run:
     def report(self, found):
         folder = tempfile.mkdtemp(prefix="check_changes-")
         script = b"".join(line + b"\n" for line in self.script)
-        for name, content in (("first.adf", self.image), ("before.adf", self.last), ("script", script)):
+        for name, content in (("first.adf", self.image), ("before.adf", self.last), ("after.adf", self.actor.left), ("script", script)):
             with open(os.path.join(folder, name), "wb") as file:
                 file.write(content)
         lines = ["disc %d, %s, seed %d%s%s" % (self.number, self.name, self.options.seed, ", --old" if self.options.old else "",
                                              ", --read-only" if self.read_only else "")]
         lines += ["after %d lines, of which the last are" % len(self.script)]
         lines += ["  " + line.decode("latin-1")[:300] for line in self.script[-4:]]
-        return "\n".join(lines + [str(found), "kept in %s: first.adf, before.adf (before the last line), script" % folder])
+        return "\n".join(lines + [str(found), "kept in %s: first.adf, before.adf and after.adf (the last line), script" % folder])
+
+
+# ---- rows
+
+
+def rows_differ(actor, options):
+    """The worked rows of the standard, of those commands that are built, in words."""
+    wrong, count = [], 0
+    for make, script, wanted, *read_only in change_rows.ROWS:
+        words = {line.split()[0] for line in script.split("\n")} & set(CHANGING + ("compact",))
+        image = bytes(make().image())
+        is_old = isinstance(opened(image).map, read_image.OldMap)
+        if is_old == options.old and words <= set(options.built):
+            count += 1
+            status, text, end = actor.run(image, re.sub(r"\bZ\b", "00000000", script).encode() + b"\n", bool(read_only))
+            if text.replace("\n", " / ") != wanted + " / ":
+                parts = script.replace("\n", ", ")[-200:], wanted[-200:], text.replace("\n", " / ")[-200:]
+                wrong.append("%s\n  wanted %s\n  got    %s" % parts)
+    print("\n".join(wrong + ["%d rows of the standard, %d differ" % (count, len(wrong))]), flush=True)
+    return bool(wrong)
 
 
 # ---- which commands are built
@@ -263,7 +294,7 @@ class Run:
 
 def built_commands(program, old):
     image = bytes(VOLUMES["d-files" if old else "hello"]().image())
-    return [word for word in CHANGING if program.run(image, (TRY[word] + "\n").encode())[0] != 9] + ([] if old else ["compact"])
+    return [word for word, line in TRY.items() if program.run(image, (line + "\n").encode())[0] != 9]
 
 
 def check(actor, options):
@@ -295,57 +326,17 @@ def check_program(options):
         if not set(options.built) & set(CHANGING):
             print("no command that changes %s maps is built" % ("old" if options.old else "new"))
             return True
-        return check(program, options)
+        wrong = rows_differ(program, options)
+        return check(program, options) and not wrong
 
 
 # ---- the self-test
 
 
-def rows():
-    """Rows of the standard that change discs: a disc, a script, and the replies."""
-    names = "".join("create $.N%02d Z Z 0\n" % at for at in range(62))
-    found = [
-        (FRESH["E"], "create $.A Z Z 815105\ncreate $.A Z Z 815104\nfree\ncreate $.B Z Z 1\ncreate $.C Z Z 0",
-         "error 14 DiscFull / ok / free 0 0 / ok / error 14 DiscFull / ok"),
-        (two_holes, "create $.A Z Z 5120\nfree\ncreate $.B Z Z 1", "ok / free 0 0 / ok / ok"),
-        (FRESH["E"], "save $.Ab FFFFFF00 Z 01\nsave $.aB FFFFFF00 Z 02\ncat $\nload $.AB",
-         "ok / ok / Ab 00000003 ffffff00 00000000 1 / ok / 02 / ok"),
-        (FRESH["E"], "cdir $.D\ncdir $.D.E\nrename $.D $.D.E.X\nrename $.D $.D.Q.X\nrename $.D $.D\nrename $ $.X\nrename $.D $\ndelete $.D",
-         "ok / ok / error 8 IntoItself / error 3 NotFound / ok / error 7 RootRefused / error 6 Exists / error 10 NotEmpty"),
-        (FRESH["E"], "save $.A Z Z 4142\nsave $.B Z Z 43\nfree\ndelete $.A\nload $.B\nfree\ndelete $.B\nfree",
-         "ok / ok / free 813056 813056 / ok / ok / 43 / ok / free 813056 813056 / ok / ok / free 815104 815104 / ok"),
-        (FRESH["E"], "save $.L Z Z 01\nset $.L Z Z RL\ndelete $.L\nrename $.L $.M\nsave $.L Z Z 02\ncat $\nload $.L",
-         "ok / ok / error 9 Locked / error 9 Locked / error 9 Locked / L 00000005 00000000 00000000 1 / ok / 01 / ok"),
-        (FRESH["E"], "create $.A Z Z 2048\ncreate $.B Z Z 2048\ncreate $.C Z Z 4096\ndelete $.A\nfree",
-         "ok / ok / ok / ok / free 808960 806912 / ok"),
-        (full_identifiers, "create $.A Z Z 1", "error 13 IdsFull"),
-        (FRESH["L"], "save $.A Z Z 01\ncdir $.D\nfree", "ok / ok / free 652032 652032 / ok"),
-        (FRESH["E"], "save $.A Z Z 4142\nsave $.B Z Z 43\ncdir $.D\nrename $.B $.D.B\nload $.D.B\nfree",
-         "ok / ok / ok / ok / 43 / ok / free 808960 808960 / ok"),
-        (FRESH["E+"], names + "free\ncreate $.N62 Z Z 0\nfree", "ok / " * 62 + "free 815104 815104 / ok / ok / free 813056 811008 / ok"),
-        (FRESH["E+"], "save $.Notes_of_the_second_year Z Z 4142\ncat $", "ok / Notes_of_the_second_year 00000003 00000000 00000000 2 / ok"),
-        (FRESH["E"], "save $.Notes_of_the_second_year Z Z 4142\ncat $", "error 2 BadName / ok"),
-        (FRESH["E"], "".join("create $.N%02d Z Z 0\n" % at for at in range(77)) + "create $.New Z Z 0\ncreate $.n05 Z Z 1",
-         "ok / " * 77 + "error 12 DirFull / ok"),
-        (FRESH["E"], "create $.error Z Z 0\ncat $", "ok / error 00000003 00000000 00000000 0 / ok"),
-    ]
-    return [(make, re.sub(r"\bZ\b", "00000000", script), wanted) for make, script, wanted in found]
-
-
-def rows_differ():
-    """The worked rows of the standard over tools/changer.py, in words."""
-    found = []
-    for make, script, wanted in rows():
-        status, text, image = Stand().run(bytes(make().image()), script.encode())
-        if text.replace("\n", " / ") != wanted + " / ":
-            parts = script.replace("\n", ", ")[:200], wanted[-200:], text.replace("\n", " / ")[-200:]
-            found.append("%s\n  wanted %s\n  got    %s" % parts)
-    return found
-
-
 def found_after(fault, words, options):
     """Over how many commands a fault was found, and what was found first; None if it wasn't."""
     options.old = "old" in words.split()
+    options.built = list(CHANGING) + ["compact"] * options.old
     start, counts, number = time.time(), collections.Counter(), 0
     names = list(change_images.OLD if options.old else change_images.NEW)
     chosen = [at for at, name in enumerate(names) if all(word in name for word in words.split() if word != "old")]
@@ -361,11 +352,10 @@ def found_after(fault, words, options):
 
 def without_fault(options):
     """Whether the rows and the commands over discs agree."""
-    wrong = rows_differ()
-    print("\n".join(wrong + ["%d rows, %d differ" % (len(rows()), len(wrong))]), flush=True)
-    good = not wrong
+    good = True
     for old in (False, True):
-        options.old = old
+        options.old, options.built = old, list(CHANGING) + ["compact"] * old
+        good = not rows_differ(Stand(), options) and good
         good = check(Stand(), options) and good
     return good
 
