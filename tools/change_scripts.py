@@ -14,7 +14,8 @@ READING = ("cat", "load", "digest", "free", "check")
 HOSTILE = ("$.", "$..A", "A", "$.%1F", "$.%7", "$.A%", "$.%00", "$.A.", "$.A:B", "$.a*", "$$", "$.%", "$.%2e%2E", "$.A%20B", "$.%7F",
            "$.%E9x")
 LINES = (b"", b"#", b"sav $.A", b"save $.A 0 0 00", b"cdir", b"cdir $.A ", b"create $.A 00000000 00000000 007",
-         b"set $.A 00000000 00000000 LR", b"create $.A 00000000 00000000 4294967296", b"delete $ $", b"rename $.A", b"save $.A 00000000 00000000 123", b"cat  $",
+         b"set $.A 00000000 00000000 LR", b"create $.A 00000000 00000000 4294967296", b"delete $ $", b"rename $.A",
+         b"save $.A 00000000 00000000 123", b"cat  $",
          b"set $.A 00000000 00000000 ", b"cat $.\xe9", b"save\t$.A 00000000 00000000 00", b"delete $.A\r", b"FREE", b"free ", b" free",
          b"create $.A 00000000 00000000 4294967295")
 
