@@ -1,6 +1,7 @@
 """Draws lines of changing commands, most of them aimed at what is there and at the edges of space, by chance."""
 from change_answer import CHANGING, Command
 from change_images import random_name
+from change_state import State
 from filecore import NOT_SPELLED
 
 MOODS = {  # how often each command is drawn
@@ -18,6 +19,8 @@ LINES = (b"", b"#", b"sav $.A", b"save $.A 0 0 00", b"cdir", b"cdir $.A ", b"cre
          b"save $.A 00000000 00000000 123", b"cat  $",
          b"set $.A 00000000 00000000 ", b"cat $.\xe9", b"save\t$.A 00000000 00000000 00", b"delete $.A\r", b"FREE", b"free ", b" free",
          b"create $.A 00000000 00000000 4294967295")
+REFUSED = (b"delete $", b"cdir $", b"save $ 00000000 00000000 00", b"create $.A%20B 00000000 00000000 0", b"rename $ $.Root",
+           b"set $ 00000000 00000000 -")  # while the copies of the map differ: a refusal mustn't mend them
 
 
 class Drawer:
@@ -36,6 +39,8 @@ class Drawer:
             self.mood = "grow"
         self.state = state
         draw = self.chance.random()
+        if draw < 0.5 and isinstance(state, State) and state.is_new and len(set(state.copies())) > 1:
+            return self.chance.choice([line for line in REFUSED if line.split()[0].decode() in self.built])
         if draw < 0.02:
             return self.chance.choice(self.lines)
         if draw < 0.04:
