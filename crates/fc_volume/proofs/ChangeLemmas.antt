@@ -1,13 +1,10 @@
 -- What a volume promises of a command that changes it, from what it wrote and what became of its parts.
-use Rattle.std.proofs.Common.{◌≡◌, ◌≤◌, ◌+◌, ◌*◌, ◌/◌, ℕ, Bool, true, false, List, [], refl, sym, ap, subst, ◌∙◌, Some, IsTrue, IsFalse}
+use Rattle.std.proofs.Common.{◌≡◌, ℕ, List, [], refl, sym, subst, ◌∙◌, Some}
 use Rattle.std.specs.Prelude.{Result, Ok, Err, OnOk, IfErr}
 use Rattle.std.specs.Option.{ForSome}
 use Rattle.fc_device.specs.declared.disk.Disk.{Ghosts}
-use Rattle.fc_device.specs.Calls.{SameForm, StopsAndExitsLeave}
-use Rattle.fc_device.specs.Faults.{Rose}
-use Rattle.fc_device.proofs.DiskLaws.{Laws}
-use Rattle.fc_device.proofs.StopLemmas.{weaker}
-use Rattle.fc_image.specs.Layout.{Layout, disc_sectors, sector_bytes}
+use Rattle.fc_device.specs.Calls.{StopsAndExitsLeave}
+use Rattle.fc_image.specs.Layout.{Layout}
 use Rattle.fc_image.specs.Opening.{Opened}
 use Rattle.fc_image.specs.Stays.{IsNewLayout, OpensAs}
 use Rattle.fc_record.specs.declared.Kind.{Kind}
@@ -18,9 +15,9 @@ use Rattle.fc_tree.specs.Parts.{ArePartsOf}
 use Rattle.fc_takeover.specs.Places.{PlacesLaw}
 use Rattle.fc_volume.specs.declared.lines.CommandError.{CommandError}
 use Rattle.fc_volume.specs.declared.lines.CommandError.TheVariants.{Refused, NoMemory, DiskFault}
-use Rattle.fc_volume.specs.Changing.{ChangeKeeps, WritesOnlyPlaces, WritesPlaces}
+use Rattle.fc_volume.specs.Changing.{WritesOnlyPlaces, WritesPlaces}
 use Rattle.fc_volume.specs.Compacting.{UnlessFault}
-use Rattle.fc_volume.specs.Volume.{StandsFor, Volume, parts_of}
+use Rattle.fc_volume.specs.Volume.{Volume, parts_of}
 
 -- ---- answers
 

@@ -1,27 +1,21 @@
 -- `delete`: from what is ready in memory and written, to what it promises.
-use Rattle.std.proofs.Common.{◌≡◌, ◌<◌, ◌≤◌, ◌+◌, ◌*◌, ◌==◌, ◌||◌, ℕ, Bool, true, false, cond, List, [], ◌∷◌, length, get_or, slice_get, slice_set, remove, ◌++◌, find, Option, Some, None, refl, sym, ap, ap₂, subst, ◌∙◌, arith, ◌-◌, ◌/◌, is_some}
-use Rattle.std.specs.Prelude.{Contains, IsPermutation, All, Ok, Err, Result, OnOk}
-use Rattle.std.specs.Option.{ForSome}
-use Rattle.std.specs.Ordering.{nat_cmp}
-use Rattle.std.specs.FinMap.{FinMap, get, remove as take}
-use Rattle.fc_device.specs.declared.disk.Disk.{Ghosts}
-use Rattle.fc_device.specs.declared.disk.Extent.{Extent}
-use Rattle.fc_names.specs.Names.{Path, is_same_path}
+use Rattle.std.proofs.Common.{◌≡◌, ◌≤◌, ◌*◌, ◌||◌, ℕ, Bool, true, false, cond, List, [], ◌∷◌, length, remove, ◌++◌, find, Some, None, refl, sym, ap, subst, ◌∙◌, ◌-◌, ◌/◌, is_some}
+use Rattle.std.specs.Prelude.{Contains, IsPermutation}
+use Rattle.std.specs.FinMap.{remove as take}
+use Rattle.fc_names.specs.Names.{Path}
 use Rattle.fc_names.specs.declared.name.NameForm.{NameForm}
 use Rattle.fc_names.specs.declared.name.NameForm.TheVariants as forms
 use Rattle.fc_record.specs.declared.Kind.{Kind}
-use Rattle.fc_newmap.specs.Map.{Map, map_sectors}
+use Rattle.fc_newmap.specs.Map.{Map}
 use Rattle.fc_changes.proofs.BasicLemmas.{first_in, next_in}
 use Rattle.fc_newmap.specs.NewMap.{IsNewMap}
 use Rattle.fc_alloc.specs.declared.owner.Owner.{Owner}
 use Rattle.fc_model.specs.Command.{Command}
 use Rattle.fc_dirs.specs.declared.Entry.{Entry}
-use Rattle.fc_dirs.specs.declared.SmallForm.{SmallForm}
-use Rattle.fc_dirs.specs.Small.{tail_of}
 use Rattle.fc_dirs.specs.Directory.{Directory, entries_of}
 use Rattle.fc_drafts.specs.Draft.{directory_in, size_of, with_head, with_less}
 use Rattle.fc_drafts.specs.Rewriting.{HasLeft}
-use Rattle.fc_image.specs.Layout.{Layout, dir_form, disc_sectors, is_among, sectors_at}
+use Rattle.fc_image.specs.Layout.{Layout, dir_form, sectors_at}
 use Rattle.fc_image.specs.Edits.{IsAt}
 use Rattle.fc_image.specs.InPlace.{says_now}
 use Rattle.fc_image.specs.Objects.{objects_of}
@@ -29,26 +23,22 @@ use Rattle.fc_image.specs.Opening.{Opened}
 use Rattle.fc_image.specs.Report.{holder_address}
 use Rattle.fc_image.specs.Sound.{AreSound}
 use Rattle.fc_image.specs.Stays.{OpensAs}
-use Rattle.fc_image.specs.Walk.{Listing, Object, is_directory_object, object_size}
-use Rattle.fc_model.specs.Tree.{holder}
+use Rattle.fc_image.specs.Walk.{Listing, Object, object_size}
 use Rattle.fc_objects.specs.Extents.{sectors_in}
-use Rattle.fc_space.specs.Space.{layout_of}
 use Rattle.fc_tree.specs.declared.node.Node.{Node}
-use Rattle.fc_tree.specs.Agree.{Agree, HasForm, IsDirectory}
+use Rattle.fc_tree.specs.Agree.{Agree, HasForm}
 use Rattle.fc_tree.specs.Counts.{address_in}
-use Rattle.fc_tree.specs.Nodes.{HoldObjects, body_in, nodes_of}
-use Rattle.fc_tree.specs.Parts.{ArePartsOf, Parts}
+use Rattle.fc_tree.specs.Nodes.{HoldObjects, body_in}
+use Rattle.fc_tree.specs.Parts.{Parts}
 use Rattle.fc_tree.proofs.WalkedLemmas.{same_some}
-use Rattle.fc_nodes.specs.Edits.{IsRemoved, Nodes, NodesFollow, OwnersEdited, OwnersFollow, owner_with, owners_with, with_body}
-use Rattle.fc_agree.specs.Agreed.{AgreeOn, CanSay}
+use Rattle.fc_nodes.specs.Edits.{IsRemoved, Nodes, NodesFollow, OwnersEdited, OwnersFollow, owner_with, with_body}
 use Rattle.fc_takeover.specs.Laws.{TakesOver}
-use Rattle.fc_takeover.specs.Places.{OpensBy}
 use Rattle.fc_changes.specs.Owed.{GivesBack, GoesAlone, IsWritten, IsSpaceEdit}
 use Rattle.fc_placing.specs.Space.{IsMapEdited}
 use Rattle.fc_placing.proofs.LeavingLemmas.{owner_is}
 use Rattle.fc_alloc.specs.Owners.{has_node, is_node}
 use Rattle.fc_image.specs.Objects.{has_sectors}
-use Rattle.fc_tree.specs.Parts.{AreOwners, owner_of}
+use Rattle.fc_tree.specs.Parts.{AreOwners}
 use Rattle.fc_dirs.proofs.SearchLemmas.{is_some-find}
 use Rattle.std.proofs.lemmas.List.Sorted.{IsPermutation-refl}
 use Rattle.std.proofs.lemmas.Bool.{eqb-true}
@@ -57,9 +47,8 @@ use Rattle.fc_refusals.specs.declared.target.Target.{Target}
 use Rattle.fc_refusals.specs.Targets.{IsRemovable, IsTarget}
 use Rattle.fc_volume.specs.declared.changes.removal.Removal.{Removal}
 use Rattle.fc_volume.specs.ChangeLaws.{ChangeLaws}
-use Rattle.fc_volume.specs.Changing.{ChangesParts, WritesPlaces}
-use Rattle.fc_volume.specs.Rewrites.{IsRepairedAndWritten}
-use Rattle.fc_volume.specs.Deleting.{HasRemoved, IsDeleteReady, IsWrittenWithout}
+use Rattle.fc_volume.specs.Changing.{WritesPlaces}
+use Rattle.fc_volume.specs.Deleting.{IsDeleteReady, IsWrittenWithout}
 use Rattle.fc_volume.proofs.SetLemmas.{says_it, size_of_form}
 use Rattle.fc_volume.proofs.SettingLemmas.{one_content}
 use Rattle.fc_volume.proofs.TargetLemmas as target_of

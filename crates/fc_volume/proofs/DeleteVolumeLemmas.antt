@@ -1,8 +1,6 @@
 -- `delete` of a volume: what it changes, and what the volume stands for afterwards.
-use Rattle.std.proofs.Common.{◌≡◌, ◌<◌, ◌≤◌, ◌+◌, ◌*◌, ◌/◌, ℕ, Bool, true, false, List, ◌∷◌, ◌++◌, refl, sym, ap, subst, ◌∙◌, Some, IsFalse, length, arith}
-use Rattle.std.specs.Prelude.{Result, All, IsPermutation, Contains}
-use Rattle.std.specs.Option.{ForSome, option_map}
-use Rattle.std.specs.FinMap.{get}
+use Rattle.std.proofs.Common.{◌≡◌, ◌<◌, ◌≤◌, ◌+◌, ◌*◌, ◌/◌, ℕ, true, false, List, ◌∷◌, refl, sym, ap, subst, ◌∙◌, Some, arith}
+use Rattle.std.specs.Prelude.{All, IsPermutation, Contains}
 use Rattle.fc_device.specs.declared.disk.Disk.{Ghosts}
 use Rattle.fc_device.specs.Calls.{SameForm, StopsAndExitsLeave}
 use Rattle.fc_alloc.specs.declared.owner.Owner.{Owner}
@@ -27,27 +25,21 @@ use Rattle.fc_takeover.specs.Laws.{TakesOver}
 use Rattle.fc_refusals.specs.declared.target.Target.{Target}
 use Rattle.fc_volume.specs.declared.changes.removal.Removal.{Removal}
 use Rattle.fc_volume.specs.declared.copies.Copies.{Copies}
-use Rattle.fc_volume.specs.declared.copies.Copies.TheVariants.{Equal}
 use Rattle.fc_volume.specs.ChangeLaws.{ChangeLaws}
-use Rattle.fc_volume.specs.Changing.{ChangesParts, HasChanged, WritesPlaces}
+use Rattle.fc_volume.specs.Changing.{HasChanged, WritesPlaces}
 use Rattle.fc_volume.specs.Deleting.{HasRemoved, IsDeleteReady, IsRemovalDone}
 use Rattle.fc_volume.specs.Volume.{HasCopies, HoldsMap, StandsFor, Volume, parts_of}
-use Rattle.fc_newmap.specs.NewMap.{IsNewMap}
 use Rattle.fc_image.specs.Sound.{AreSound}
 use Rattle.fc_image.specs.Walk.{Listing}
 use Rattle.fc_tree.specs.Nodes.{HoldObjects}
-use Rattle.fc_tree.proofs.WalkedLemmas.{child_is_object, contained, same_some}
-use Rattle.fc_agree.specs.Agreed.{AgreeOn}
-use Rattle.fc_refusals.specs.Targets.{IsRemovable, IsTarget}
+use Rattle.fc_refusals.specs.Targets.{IsRemovable}
 use Rattle.fc_volume.proofs.PieceLemmas.{all_low}
 use Rattle.fc_volume.proofs.SetVolumeLemmas.{HasMap}
 use Rattle.fc_volume.proofs.DeleteLemmas.{IsGoing, agrees, long, takes_over, writes_places}
 use Rattle.fc_volume.proofs.DeleteLemmas as deleted
 use Rattle.fc_alloc.specs.Owners.{has_node}
-use Rattle.fc_device.specs.declared.disk.Extent.{Extent}
-use Rattle.fc_dirs.specs.declared.Entry.{Entry}
 use Rattle.fc_record.specs.declared.Geometry.{Geometry}
-use Rattle.fc_image.specs.Layout.{is_apart, map_place, sectors_at}
+use Rattle.fc_image.specs.Layout.{is_apart, map_place}
 use Rattle.fc_image.specs.Opening.{boot_place, reserved_in}
 use Rattle.fc_image.proofs.HolesLemmas.{apart_at, apart_from}
 use Rattle.fc_newmap.proofs.PlaceLemmas.{in_front}

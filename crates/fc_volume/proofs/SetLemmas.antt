@@ -1,16 +1,11 @@
 -- `set`: from what is ready in memory and written, to what it promises.
-use Rattle.std.proofs.Common.{◌≡◌, ◌<◌, ◌≤◌, ◌+◌, ◌*◌, ◌==◌, ◌||◌, ℕ, Bool, true, false, cond, List, [], ◌∷◌, length, get_or, slice_get, slice_set, Option, Some, None, refl, sym, ap, ap₂, subst, ◌∙◌, arith}
-use Rattle.std.specs.Prelude.{Contains, IsPermutation, All, Ok, Err, Result, OnOk}
-use Rattle.std.specs.Option.{ForSome}
-use Rattle.std.specs.Ordering.{nat_cmp}
-use Rattle.std.specs.FinMap.{FinMap, get}
-use Rattle.fc_device.specs.declared.disk.Disk.{Ghosts}
-use Rattle.fc_device.specs.declared.disk.Extent.{Extent}
+use Rattle.std.proofs.Common.{◌≡◌, ◌<◌, ◌≤◌, ◌*◌, ◌||◌, ℕ, Bool, true, false, cond, List, ◌∷◌, length, slice_get, slice_set, refl, sym, ap, subst, ◌∙◌}
+use Rattle.std.specs.Prelude.{Contains}
 use Rattle.fc_names.specs.Names.{Path, is_same_path}
 use Rattle.fc_names.specs.declared.name.NameForm.{NameForm}
 use Rattle.fc_names.specs.declared.name.NameForm.TheVariants as forms
 use Rattle.fc_record.specs.declared.Kind.{Kind}
-use Rattle.fc_newmap.specs.Map.{Map, map_sectors}
+use Rattle.fc_newmap.specs.Map.{Map}
 use Rattle.fc_newmap.specs.NewMap.{IsNewMap}
 use Rattle.fc_alloc.specs.declared.owner.Owner.{Owner}
 use Rattle.fc_model.specs.Command.{Command}
@@ -21,7 +16,7 @@ use Rattle.fc_dirs.specs.Directory.{Directory, entries_of}
 use Rattle.fc_drafts.specs.Draft.{IsSayable, directory_in, size_of, with_changed, with_head}
 use Rattle.fc_drafts.specs.Entries.{set_entry}
 use Rattle.fc_drafts.specs.Rewriting.{HasReplaced}
-use Rattle.fc_image.specs.Layout.{Layout, dir_form, disc_sectors, is_among, sectors_at}
+use Rattle.fc_image.specs.Layout.{Layout, dir_form, sectors_at}
 use Rattle.fc_image.specs.Commanded.{set_object}
 use Rattle.fc_image.specs.Edits.{IsAt}
 use Rattle.fc_image.specs.InPlace.{says_now}
@@ -30,19 +25,16 @@ use Rattle.fc_image.specs.Opening.{Opened}
 use Rattle.fc_image.specs.Report.{holder_address}
 use Rattle.fc_image.specs.Sound.{AreSound}
 use Rattle.fc_image.specs.Stays.{OpensAs}
-use Rattle.fc_image.specs.Walk.{Listing, Object, is_directory_object, object_size}
+use Rattle.fc_image.specs.Walk.{Listing, Object, object_size}
 use Rattle.fc_image.proofs.PathsLemmas.{itself}
-use Rattle.fc_model.specs.Tree.{holder}
 use Rattle.fc_objects.specs.Extents.{sectors_in}
-use Rattle.fc_space.specs.Space.{layout_of}
 use Rattle.fc_tree.specs.declared.node.Node.{Node}
 use Rattle.fc_tree.specs.Agree.{Agree, HasForm, IsDirectory}
 use Rattle.fc_tree.specs.Counts.{address_in}
-use Rattle.fc_tree.specs.Nodes.{HoldObjects, body_in, nodes_of}
+use Rattle.fc_tree.specs.Nodes.{HoldObjects, body_in}
 use Rattle.fc_tree.specs.Parts.{ArePartsOf, Parts}
 use Rattle.fc_tree.proofs.WalkedLemmas.{same_some}
 use Rattle.fc_nodes.specs.Edits.{IsReworded, Nodes, NodesFollow, OwnersFollow, as_before, relisted, with_body, with_entry}
-use Rattle.fc_agree.specs.Agreed.{AgreeOn, CanSay}
 use Rattle.fc_takeover.specs.Laws.{TakesOver}
 use Rattle.fc_takeover.specs.Places.{OpensBy}
 use Rattle.fc_changes.specs.Owed.{IsWritten}
@@ -50,7 +42,7 @@ use Rattle.fc_refusals.specs.declared.target.Target.{Target}
 use Rattle.fc_refusals.specs.Targets.{IsTarget}
 use Rattle.fc_volume.specs.declared.changes.reword.Rewording.{Rewording}
 use Rattle.fc_volume.specs.ChangeLaws.{ChangeLaws}
-use Rattle.fc_volume.specs.Changing.{ChangesParts, WritesPlaces}
+use Rattle.fc_volume.specs.Changing.{WritesPlaces}
 use Rattle.fc_volume.specs.Rewrites.{IsRepairedAndWritten}
 use Rattle.fc_volume.specs.Setting.{IsSetReady}
 use Rattle.fc_volume.proofs.SettingLemmas.{one_content}

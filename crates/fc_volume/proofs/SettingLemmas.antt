@@ -1,5 +1,5 @@
 -- A target's directory and entry, made ready in memory.
-use Rattle.std.proofs.Common.{◌≡◌, ◌<◌, ℕ, List, length, get_or, slice_get, Option, Some, None, refl, sym, ap, subst, ◌∙◌}
+use Rattle.std.proofs.Common.{◌≡◌, ◌<◌, ℕ, List, length, get_or, slice_get, Option, Some, sym, ap, subst, ◌∙◌}
 use Rattle.std.specs.Ordering.{nat_cmp}
 use Rattle.std.specs.FinMap.{FinMap, get}
 use Rattle.std.proofs.lemmas.Option.{slice_get-get_or}
@@ -10,10 +10,8 @@ use Rattle.fc_drafts.specs.Entries.{set_entry}
 use Rattle.fc_drafts.specs.Laws.{EntryLaw}
 use Rattle.fc_drafts.proofs.FindLemmas.{held}
 use Rattle.fc_image.specs.Layout.{Layout}
-use Rattle.fc_tree.specs.declared.node.Body.{Body}
 use Rattle.fc_tree.specs.declared.node.Node.{Node}
 use Rattle.fc_tree.specs.Nodes.{body_in}
-use Rattle.fc_tree.specs.Agree.{content_in}
 use Rattle.fc_tree.proofs.WalkedLemmas.{element_at, same_some}
 use Rattle.fc_volume.specs.Rewrites.{HoldsEntry}
 

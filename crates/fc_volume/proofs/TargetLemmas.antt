@@ -1,16 +1,14 @@
 -- The node of a listed directory: what it says, where it lies, and who holds it.
-use Rattle.std.proofs.Common.{◌≡◌, ◌<◌, ◌≤◌, ℕ, zero, suc, ◌+◌, ◌*◌, ◌^◌, ◌/◌, ◌%◌, ◌==◌, ◌&&◌, Bool, true, false, cond, not, find, List, [], ◌∷◌, length, drop, map, slice_get, Option, Some, None, refl, sym, ap, subst, ◌∙◌, arith, min, mod-lt, eq-eqb}
-use Rattle.std.specs.Prelude.{Contains, Ok, IsSome, is_none, is_some, nat_le, nat_lt}
+use Rattle.std.proofs.Common.{◌≡◌, ◌<◌, ◌≤◌, ℕ, zero, suc, ◌+◌, ◌^◌, ◌==◌, ◌&&◌, Bool, true, false, cond, not, find, List, [], ◌∷◌, drop, map, slice_get, Option, Some, None, refl, sym, ap, subst, ◌∙◌, arith, mod-lt, eq-eqb}
+use Rattle.std.specs.Prelude.{Contains, is_none, is_some, nat_le, nat_lt}
 use Rattle.std.specs.Int.{div_ceil}
 use Rattle.std.specs.Option.{option_map, option_map_or}
 use Rattle.std.specs.Ordering.{nat_cmp}
 use Rattle.std.specs.FinMap.{FinMap, get}
 use Rattle.std.proofs.lemmas.Bool.{eqb-true, leb-true, ltb-true}
 use Rattle.std.proofs.lemmas.Option.{slice_get_within}
-use Rattle.std.proofs.lemmas.List.{length-map}
 use Rattle.std.proofs.lemmas.Nat.{div-add-mod'}
 use Rattle.std.proofs.Math.Nat.{pow-le-pow_right}
-use Rattle.fc_names.specs.declared.name.NameForm.{NameForm}
 use Rattle.fc_names.specs.declared.name.NameForm.TheVariants as forms
 use Rattle.fc_record.specs.declared.DiscRecord.{DiscRecord}
 use Rattle.fc_record.specs.declared.Geometry.{Geometry}
@@ -18,7 +16,6 @@ use Rattle.fc_record.specs.declared.RecordFault.{RecordFault}
 use Rattle.fc_record.specs.Record.{conditions, geometry, id_limit, is_idlen_right, is_sector_right, is_valid, record_fault}
 use Rattle.fc_newmap.specs.Map.{Map}
 use Rattle.fc_newmap.specs.NewMap.{IsNewMap, IsOfRecord}
-use Rattle.fc_newmap.proofs.GeometryLemmas.{facts_of_valid}
 use Rattle.fc_dirs.specs.declared.Entry.{Entry}
 use Rattle.fc_dirs.specs.Directory.{Directory, entries_of}
 use Rattle.fc_drafts.specs.Draft.{CanAddress}
@@ -34,7 +31,7 @@ use Rattle.fc_tree.specs.Agree.{HasForm}
 use Rattle.fc_tree.specs.Counts.{address_in}
 use Rattle.fc_tree.specs.Laws.{EntriesLaw}
 use Rattle.fc_tree.specs.Nodes.{HasNode, HoldObjects, body_in, body_of, number_of}
-use Rattle.fc_tree.proofs.WalkedLemmas.{contained, holder_listed, listed_directory, listing_found, place_of, same_some}
+use Rattle.fc_tree.proofs.WalkedLemmas.{holder_listed, listed_directory, listing_found, place_of, same_some}
 use Rattle.fc_volume.specs.Rewrites.{HoldsEntry}
 use Rattle.fc_volume.proofs.ReadingLemmas.{each_at}
 

@@ -1,10 +1,9 @@
 -- What writing a directory leaves of an image.
-use Rattle.std.proofs.Common.{◌≡◌, ◌<◌, ◌≤◌, ◌⊎◌, inl, inr, ℕ, zero, suc, ◌+◌, ◌*◌, ◌||◌, ◌==◌, Bool, true, false, List, [], ◌∷◌, length, get_or, refl, sym, ap, subst, ◌∙◌, arith, eq-eqb}
+use Rattle.std.proofs.Common.{◌≡◌, ◌<◌, ◌≤◌, ◌⊎◌, inl, inr, ℕ, zero, suc, ◌+◌, ◌*◌, ◌||◌, ◌==◌, Bool, true, false, List, [], ◌∷◌, length, get_or, refl, ap, subst, ◌∙◌, arith, eq-eqb}
 use Rattle.std.proofs.lemmas.Bool.{cases_lt}
 use Rattle.fc_device.specs.declared.disk.Disk.{Ghosts}
 use Rattle.fc_device.specs.declared.disk.Extent.{Extent}
 use Rattle.fc_device.specs.Calls.{StopsAndExitsLeave}
-use Rattle.fc_device.specs.Sectors.{sector_at}
 use Rattle.fc_newmap.specs.Map.{Map, map_sectors}
 use Rattle.fc_newmap.proofs.PlaceLemmas.{in_range}
 use Rattle.fc_copies.specs.Copies.{ChangesCopies}

@@ -10,14 +10,14 @@ use Rattle.fc_names.specs.declared.refusal.Refusal.{Refusal}
 use Rattle.fc_newmap.specs.Map.{Map}
 use Rattle.fc_model.specs.Command.{Command}
 use Rattle.fc_model.specs.Answer.{changed, first_of, reasons}
-use Rattle.fc_image.specs.Layout.{Layout, dir_form, is_apart, sector_bytes}
+use Rattle.fc_image.specs.Layout.{Layout, dir_form, is_apart}
 use Rattle.fc_image.specs.Walk.{Object, is_directory_object}
 use Rattle.fc_image.specs.Objects.{objects_of, tree_of}
 use Rattle.fc_image.specs.Opening.{Opened, boot_place}
 use Rattle.fc_image.specs.Sound.{AreSound}
 use Rattle.fc_image.specs.Stays.{IsNewLayout, OpensAs}
 use Rattle.fc_image.specs.Written.{WritesOnly}
-use Rattle.fc_effects.specs.Effect.{Changes, State}
+use Rattle.fc_effects.specs.Effect.{Changes}
 use Rattle.fc_effects.specs.Short.{short}
 use Rattle.fc_effects.specs.Steady.{idle_sectors, may_be_rewritten}
 use Rattle.fc_tree.specs.Parts.{ArePartsOf, Parts}

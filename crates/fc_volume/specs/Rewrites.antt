@@ -12,7 +12,7 @@ use Rattle.fc_image.specs.Layout.{Layout, dir_form, sectors_at}
 use Rattle.fc_image.specs.Walk.{object_size}
 use Rattle.fc_objects.specs.Bytes.{first_bytes}
 use Rattle.fc_objects.specs.Extents.{sectors_in}
-use Rattle.fc_objects.specs.Written.{AreApart, HasParts, IsPartWritten}
+use Rattle.fc_objects.specs.Written.{AreApart, IsPartWritten}
 use Rattle.fc_tree.specs.declared.node.Node.{Node}
 use Rattle.fc_tree.specs.Counts.{address_in}
 use Rattle.fc_tree.specs.Nodes.{body_in}

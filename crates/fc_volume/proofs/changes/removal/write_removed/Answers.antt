@@ -1,4 +1,4 @@
-use Rattle.std.proofs.Common.{List, [], ℕ, subst, ◌∙◌}
+use Rattle.std.proofs.Common.{List, [], ℕ, subst}
 use Rattle.fc_changes.specs.Owed.{IsSpaceEdit}
 use Rattle.fc_device.proofs.DiskLaws.{laws}
 use Rattle.fc_device.proofs.StopLemmas.{keeps_then, keeps_weaker, led}
