@@ -40,7 +40,7 @@ fn prepare_set(
     let node = tree.node(target.holder).unwrap();
     let mut draft = draft_of(alloc, &node.body)?;
     let e = &draft.entries()[target.at];
-    let entry = set_entry(e, exec, load, access)?;
+    let entry = set_entry(e, load, exec, access)?;
     let own = set_entry(e, load, exec, access)?;
     draft.replace(holder_address(tree, node), target.at, entry);
     let directory = Rewrite::prepare(alloc, places, target.holder, node, draft)?;
