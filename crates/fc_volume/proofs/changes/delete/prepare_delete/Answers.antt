@@ -23,6 +23,6 @@ returns c =
       left = rw (sym c.holder_address.ensures, c.in_ok-directory.ensures.says) c.leave.ensures;
       prepared = rw c.in_ok-directory.ensures.says c.in_ok-directory.ensures;
       number = refl;
-      leaves = subst (LeavesIds c.args.owners.now c.args.target.node None) (sym c.in_ok-gone.ensures) c.left_by.ensures;
+      leaves = subst (LeavesIds c.args.owners.now c.args.target.node None) (sym c.in_ok-gone.ensures) c.left_by.ensures.exactly;
       zones = λ m is. c.in_ok-zones.ensures m is ∙ ap (zones_changed m None) c.deref.ensures.value;
     }
