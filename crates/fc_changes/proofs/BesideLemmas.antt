@@ -18,7 +18,7 @@ use Rattle.fc_changes.specs.Owed.{GivesBack}
 use Rattle.fc_changes.proofs.BasicLemmas.{any_in, cases_cons, first_in, in_any, next_in}
 
 -- how many pass a test
-counted : (t : Object → Bool) (xs : List Object) → length (filter t xs) ≡ many t xs
+pub counted : (t : Object → Bool) (xs : List Object) → length (filter t xs) ≡ many t xs
 unfolding many
 counted t [] = refl
 counted t (x ∷ xs) = by (t x) (counted t xs)

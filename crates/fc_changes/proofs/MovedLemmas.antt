@@ -103,7 +103,7 @@ both_apart xs ys zs a b = apart_from xs (ys ++ zs) (λ s i j. elim (in_either ys
   | Err second ↦ clash (is_among zs s) second (apart_at xs zs s b i)
 ])
 
-holder_folds : (p : Path) → folded_path (holder p) ≡ take (length p - 1) (folded_path p)
+pub holder_folds : (p : Path) → folded_path (holder p) ≡ take (length p - 1) (folded_path p)
 holder_folds p = go (length p - 1) p
   where
     go : (n : ℕ) (q : Path) → folded_path (take n q) ≡ take n (folded_path q)

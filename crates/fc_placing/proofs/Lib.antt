@@ -1,5 +1,6 @@
 pub mod AddressLemmas
 pub mod CommitLemmas
+pub mod CopyingLemmas
 pub mod ExtentLemmas
 pub mod LeavingLemmas
 pub mod PlacedLemmas

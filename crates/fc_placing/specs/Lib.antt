@@ -1,3 +1,4 @@
+pub mod Copying
 pub mod Extents
 pub mod Leaving
 pub mod Places

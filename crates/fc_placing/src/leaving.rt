@@ -18,15 +18,15 @@ fn is_kept(kept: Option<u32>, id: u32) -> bool
     }
 }
 
-// Whether an owner of another node has an identifier.
-fn has_other(owners: &[Owner], node: u64, id: u32) -> bool
+/// Whether an owner of another node has an identifier.
+pub fn has_other(owners: &[Owner], node: u64, id: u32) -> bool
     ensures { result ≡ has_other owners.now node id }
 {
     owners.iter().any(|o| o.id == id && o.node != node)
 }
 
-// The owner of a node.
-fn owner_of(owners: &[Owner], node: u64) -> Option<Owner>
+/// The owner of a node.
+pub fn owner_of(owners: &[Owner], node: u64) -> Option<Owner>
     ensures { result ≡ find (is_node node) owners.now }
 {
     owners.iter().copied().find(|o| o.node == node)

@@ -4,12 +4,14 @@
 
 mod addressing;
 mod committing;
+mod copying;
 mod extents;
 mod leaving;
 mod placing;
 mod space;
 
 pub use addressing::address_of;
+pub use copying::is_copied;
 pub use extents::extents_of;
 pub use fc_plan::{Plan, PlanError};
 pub use fc_slack::Share;
