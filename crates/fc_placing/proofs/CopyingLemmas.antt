@@ -1,14 +1,13 @@
 -- Whether a rename copies a file.
-use Rattle.std.proofs.Common.{◌≡◌, ◌<◌, ◌&&◌, ◌||◌, ◌==◌, ℕ, ◌+◌, ◌-◌, zero, suc, Bool, true, false, cond, List, [], ◌∷◌, length, take, refl, sym, ap, ap₂, subst, ◌∙◌, arith, Some, None, Option, nat_cmp, eq-eqb, ne_eqb}
+use Rattle.std.proofs.Common.{◌≡◌, ◌&&◌, ◌||◌, ◌==◌, ℕ, ◌+◌, ◌-◌, zero, suc, Bool, true, false, cond, List, [], ◌∷◌, length, take, refl, sym, ap, ap₂, ◌∙◌, arith, Some, None, Option, nat_cmp, eq-eqb}
 use Rattle.std.specs.Prelude.{Contains, IsPermutation, filter, not, nat_lt, remove}
-use Rattle.std.specs.List.{find, list_any}
+use Rattle.std.specs.List.{list_any}
 use Rattle.std.specs.FinMap.{FinMap}
 use Rattle.std.specs.Option.{option_map_or, unwrap_or}
 use Rattle.std.proofs.lemmas.Bool.{eqb-true, lt-ltb, ltb-true}
 use Rattle.std.proofs.lemmas.List.Sorted.{IsPermutation-remove}
-use Rattle.fc_names.specs.Names.{Path, folded, folded_path, is_same_path}
+use Rattle.fc_names.specs.Names.{Path, folded_path, is_same_path}
 use Rattle.fc_alloc.specs.declared.owner.Owner.{Owner}
-use Rattle.fc_alloc.specs.Owners.{is_node}
 use Rattle.fc_newmap.specs.Map.{Map}
 use Rattle.fc_model.specs.Tree.{holder}
 use Rattle.fc_image.specs.Layout.{Layout, id_of}
@@ -29,7 +28,6 @@ use Rattle.fc_tree.proofs.PlaceLemmas.{one_path, same_number}
 use Rattle.fc_tree.proofs.SoundLemmas.{folds_alike, same_by_folds}
 use Rattle.fc_tree.proofs.WalkedLemmas.{same_some}
 use Rattle.fc_placing.specs.Copying.{SaysCopied, copied_among, copied_of}
-use Rattle.fc_placing.specs.Leaving.{has_other}
 use Rattle.fc_placing.proofs.LeavingLemmas.{others_are, owner_is}
 
 -- one passes, if some do
