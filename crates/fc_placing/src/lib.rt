@@ -9,7 +9,7 @@ mod leaving;
 mod placing;
 mod space;
 
-pub use addressing::address_of;
+pub use addressing::{address_of, directory_address};
 pub use extents::extents_of;
 pub use fc_plan::{Plan, PlanError};
 pub use fc_slack::Share;
