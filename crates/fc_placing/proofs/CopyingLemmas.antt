@@ -1,6 +1,6 @@
--- Whether a rename copies a file.
-use Rattle.std.proofs.Common.{◌≡◌, ◌&&◌, ◌||◌, ◌==◌, ℕ, ◌+◌, ◌-◌, zero, suc, Bool, true, false, cond, List, [], ◌∷◌, length, take, refl, sym, ap, ap₂, ◌∙◌, arith, Some, None, Option, nat_cmp, eq-eqb}
-use Rattle.std.specs.Prelude.{Contains, IsPermutation, filter, not, nat_lt, remove}
+-- Whether a rename copies a file, and what it wants of space.
+use Rattle.std.proofs.Common.{◌≡◌, ◌<◌, ◌&&◌, ◌||◌, ◌==◌, ℕ, ◌+◌, ◌-◌, zero, suc, Bool, true, false, cond, List, [], ◌∷◌, length, take, refl, sym, ap, ap₂, subst, ◌∙◌, arith, Some, None, Option, nat_cmp, eq-eqb}
+use Rattle.std.specs.Prelude.{Contains, IsPermutation, filter, not, is_some, nat_lt, remove}
 use Rattle.std.specs.List.{list_any}
 use Rattle.std.specs.FinMap.{FinMap}
 use Rattle.std.specs.Option.{option_map_or, unwrap_or}
@@ -10,16 +10,24 @@ use Rattle.fc_names.specs.Names.{Path, folded_path, is_same_path}
 use Rattle.fc_alloc.specs.declared.owner.Owner.{Owner}
 use Rattle.fc_newmap.specs.Map.{Map}
 use Rattle.fc_model.specs.Tree.{holder}
-use Rattle.fc_image.specs.Layout.{Layout, id_of}
-use Rattle.fc_image.specs.Walk.{Object, Listing, is_directory_object}
+use Rattle.fc_model.specs.Command.{Command}
+use Rattle.fc_dirs.specs.Directory.{directory_size}
+use Rattle.fc_image.specs.Layout.{Layout, dir_form, id_of, sectors_at}
+use Rattle.fc_image.specs.Walk.{Object, Listing, is_directory_object, object_size}
+use Rattle.fc_image.specs.Opening.{Opened}
+use Rattle.fc_image.specs.Edits.{IsAt}
 use Rattle.fc_image.specs.Objects.{has_sectors, is_owner_of, objects_of, owner_count}
 use Rattle.fc_image.specs.Sound.{AreSound}
+use Rattle.fc_image.proofs.LookupLemmas.{lookup_law}
+use Rattle.fc_image.proofs.MoveLemmas.{not_true}
+use Rattle.fc_image.proofs.OneZoneLemmas.{and_first}
 use Rattle.fc_image.proofs.PathsLemmas.{many}
 use Rattle.fc_image.proofs.RelistLemmas.{folded_long}
 use Rattle.fc_image.proofs.RenameLemmas.{many_shuffled}
-use Rattle.fc_effects.specs.Short.{is_sharing}
+use Rattle.fc_effects.specs.Sharing.{units}
+use Rattle.fc_effects.specs.Short.{is_copied, is_sharing, new_length, object_units, slack_for}
 use Rattle.fc_changes.proofs.BasicLemmas.{unless}
-use Rattle.fc_changes.proofs.BesideLemmas.{counted}
+use Rattle.fc_changes.proofs.BesideLemmas.{counted, three}
 use Rattle.fc_changes.proofs.MovedLemmas.{holder_folds}
 use Rattle.fc_tree.specs.declared.node.Node.{Node}
 use Rattle.fc_tree.specs.Nodes.{HoldObjects, number_of}
@@ -27,8 +35,9 @@ use Rattle.fc_tree.specs.Parts.{AreOwners, owner_of}
 use Rattle.fc_tree.proofs.PlaceLemmas.{one_path, same_number}
 use Rattle.fc_tree.proofs.SoundLemmas.{folds_alike, same_by_folds}
 use Rattle.fc_tree.proofs.WalkedLemmas.{same_some}
-use Rattle.fc_placing.specs.Copying.{SaysCopied, copied_among, copied_of}
+use Rattle.fc_placing.specs.Copying.{CopiesLaw, SaysCopied, copied_among, copied_of}
 use Rattle.fc_placing.proofs.LeavingLemmas.{others_are, owner_is}
+use Rattle.fc_placing.proofs.PlacesLemmas.{none_refused, short_is, space_refusal}
 
 -- one passes, if some do
 any_many : (t : Object → Bool) (xs : List Object) → list_any t xs ≡ nat_lt 0 (many t xs)
@@ -146,3 +155,54 @@ pub says_copied : (owners : List Owner) (node dir : ℕ) → SaysCopied owners n
 says_copied owners node dir v m nodes from to there o layout sound held are at from_is numbered above dir_is =
     copied_is m nodes v.listings owners node dir from to there o sound held are at from_is numbered above dir_is
     ∙ ap (λ (y : Layout). not (is_directory_object o) && not (is_same_path (holder from) (holder to)) && is_sharing y (objects_of v.listings) o) (sym layout)
+
+-- ---- what it wants of space
+
+none_at : (layout : Layout) (address : ℕ) (sectors : List ℕ) → sectors_at layout address 0 ≡ Some sectors → sectors ≡ []
+unfolding sectors_at
+none_at layout address sectors h = sym (same_some [] sectors h)
+
+shares_of : (v : Opened) (from to : Path) (o : Object) → is_copied v from to o ≡ true
+    → (not (is_directory_object o) ≡ true) × (not (is_same_path (holder from) (holder to)) ≡ true) × (is_sharing v.layout (objects_of v.listings) o ≡ true)
+shares_of v from to o copied = three (not (is_directory_object o)) (not (is_same_path (holder from) (holder to))) (is_sharing v.layout (objects_of v.listings) o) copied
+
+sharing_some : (layout : Layout) (objects : List Object) (o : Object) → is_sharing layout objects o ≡ true → has_sectors o ≡ true
+sharing_some (Layout.Old space) objects o e = absurd (cc)
+sharing_some (Layout.New m) objects o e = and_first (has_sectors o) (nat_lt 1 (owner_count objects (id_of o.entry.address))) e
+
+some_bytes : (v : Opened) (m : Map) (from to : Path) (o : Object) → IsAt (Layout.New m) o → is_copied v from to o ≡ true → 0 < o.entry.len
+some_bytes v m from to o at copied = by o.entry.len refl
+  where
+    shares : (not (is_directory_object o) ≡ true) × (not (is_same_path (holder from) (holder to)) ≡ true) × (is_sharing v.layout (objects_of v.listings) o ≡ true)
+    shares = shares_of v from to o copied
+
+    size : object_size (dir_form (Layout.New m)) o.entry ≡ o.entry.len
+    size = ap (λ (b : Bool). cond b (directory_size (dir_form (Layout.New m)) o.entry.len) o.entry.len) (not_true (is_directory_object o) shares.0)
+
+    by : (n : ℕ) → o.entry.len ≡ n → 0 < n
+    by zero e =
+        let none = none_at (Layout.New m) o.entry.address o.sectors (subst (λ (n : ℕ). sectors_at (Layout.New m) o.entry.address n ≡ Some o.sectors) (size ∙ e) at) in
+        let long = ltb-true 0 (length o.sectors) (sharing_some v.layout (objects_of v.listings) o shares.2) in
+        absurd (let empty = ap (λ (xs : List ℕ). length xs) none in omega (arith, empty, long))
+    by (suc n) e = omega arith
+
+length_wanted : (v : Opened) (m : Map) (from to : Path) (o : Object) → AreSound (Layout.New m) v.listings → Contains (objects_of v.listings) o → is_same_path from o.path ≡ true
+    → (b : Bool) → is_copied v from to o ≡ b → new_length v (Command.Rename from to) ≡ cond b o.entry.len 0
+length_wanted v m from to o sound at same b copied =
+    ap (λ (q : Option Object). option_map_or (λ (x : Object). cond (is_copied v from to x) x.entry.len 0) q 0) (lookup_law.object (Layout.New m) v.listings from o sound at same)
+    ∙ ap (λ (c : Bool). cond c o.entry.len 0) copied
+
+no_units : (m : Map) (v : Opened) (c : Command) → new_length v c ≡ 0 → object_units m v c ≡ 0
+no_units m v c none = by (is_some (slack_for v c))
+  where
+    by : (b : Bool) → cond b 0 (units m.geometry (new_length v c)) ≡ 0
+    by true = refl
+    by false = ap (units m.geometry) none
+
+pub copies_law : CopiesLaw
+copies_law = record {
+  some = some_bytes;
+  wants = λ v m from to o sound at same copied. record { len = length_wanted v m from to o sound at same true copied; no_slack = refl };
+  wants_none = λ v m from to o sound at same copied. length_wanted v m from to o sound at same false copied;
+  unrefused = λ v m c new none fits. short_is m v c new fits ∙ ap (space_refusal m) (no_units m v c none) ∙ none_refused m 0 (omega arith) (omega arith);
+}

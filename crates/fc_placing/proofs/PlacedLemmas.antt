@@ -10,12 +10,14 @@ use Rattle.fc_record.specs.Record.{id_limit}
 use Rattle.fc_alloc.specs.declared.owner.Owner.{Owner}
 use Rattle.fc_newmap.specs.Map.{Map, ZoneRun, bits_in, id_runs, is_used, sectors_of}
 use Rattle.fc_newmap.specs.NewMap.{IsNewMap}
-use Rattle.fc_image.specs.Layout.{Layout, first_part, id_of, low_of, sectors_at}
+use Rattle.fc_image.specs.Layout.{Layout, dir_form, first_part, id_of, low_of, sectors_at}
 use Rattle.fc_image.specs.Walk.{Listing, Object}
 use Rattle.fc_image.specs.Objects.{has_sectors, is_owner_of, objects_of}
 use Rattle.fc_image.specs.Sound.{AreSound}
 use Rattle.fc_effects.specs.Placed.{file_low, has_spare_share}
 use Rattle.fc_effects.specs.Sharing.{slack}
+use Rattle.fc_effects.specs.Short.{new_dir_size}
+use Rattle.fc_names.specs.declared.name.NameForm.TheVariants.{Ten, Long}
 use Rattle.fc_plan.specs.declared.plan.Plan.{Plan}
 use Rattle.fc_plan.specs.Parts.{fronts}
 use Rattle.fc_slack.specs.Slack.{place_in}
@@ -77,10 +79,18 @@ place_stays m m' address bytes geometry runs =
     (cond (nat_le 2 (id_of address) && nat_lt (id_of address) (id_limit g))
     (first_part (div_ceil bytes g.sector) (drop ((low_of address - 1) * (g.share / g.sector)) (sectors_of g rs))) None)) geometry runs
 
+directory : (m : Map) → new_dir_size (dir_form (Layout.New m)) ≡ 2048
+directory m = by (m.geometry.version == 0)
+  where
+    by : (b : Bool) → new_dir_size (cond b Ten Long) ≡ 2048
+    by true = refl
+    by false = refl
+
 pub place_law : PlaceLaw
 place_law = record {
   file = λ m nodes listings owners dir number bytes place o is sound held are numbered good address. file m nodes listings owners dir number bytes is sound held are numbered o place good address;
   alone = alone;
+  directory = directory;
   owns = λ m nodes listings owners dir number bytes place o is sound held are numbered good address some. owns m nodes listings owners dir number bytes is sound held are numbered o place good address some;
   stays = place_stays;
 }

@@ -14,7 +14,7 @@ use Rattle.fc_zone.specs.declared.RunKind.TheVariants as kinds
 use Rattle.fc_zone.specs.declared.ZoneShape.{ZoneShape}
 use Rattle.fc_zone.specs.Edits.{KeepsLinks}
 use Rattle.fc_zone.specs.Zone.{field_at, hole_starts}
-use Rattle.fc_newmap.specs.Map.{Map, ZoneRun, all_runs, has_id, hole_runs, id_runs, is_hole, runs_in, runs_of, search_order, sector_of, shape, zone_numbers}
+use Rattle.fc_newmap.specs.Map.{Map, ZoneRun, all_runs, has_id, hole_runs, id_runs, is_hole, runs_in, runs_of, search_order, sector_of, shape, zone_numbers, map_sectors}
 use Rattle.fc_newmap.specs.NewMap.{IsNewMap}
 use Rattle.fc_newmap.specs.Edits.{AreEdits, KeepsRuns}
 use Rattle.fc_newmap.specs.RunsLaw.{placed}
@@ -35,7 +35,9 @@ use Rattle.fc_plan.proofs.Changes.{not_listed}
 use Rattle.fc_plan.proofs.Composed.{given_after_take, given_at_holes}
 use Rattle.fc_plan.proofs.Left.{left_of_none}
 use Rattle.fc_changes.specs.Laws.{GaveBack}
-use Rattle.fc_changes.specs.Owed.{IsMapAfter, IsSpaceEdit}
+use Rattle.fc_device.specs.Sectors.{sector_at}
+use Rattle.fc_image.specs.Layout.{is_among}
+use Rattle.fc_changes.specs.Owed.{IsMapAfter, IsSpaceEdit, IsWritten}
 use Rattle.fc_changes.proofs.BasicLemmas.{cases_cons, clash, first_in, next_in, or_false}
 use Rattle.fc_changes.proofs.CommittedLemmas.{geometry_same, index_part, kept_links, record_same, steady_zone}
 use Rattle.fc_placing.specs.Space.{HasTaken, IsMapEdited, StepsLaw, zones_changed}
@@ -279,5 +281,14 @@ any_id m m' id gone given = record {
   others = λ k other. given.others k (λ none. absurd (omega (arith, none)));
 }
 
+written : (m m' : Map) (sectors image image' : List ℕ) → m'.geometry ≡ m.geometry → IsWritten m' sectors image image' → IsWritten m sectors image image'
+written m m' sectors image image' geometry w = record {
+  length_stays = w.length_stays;
+  writes =
+      subst
+      (λ (g : Geometry). (s : ℕ) → is_among sectors s ≡ false → is_among (map_sectors g) s ≡ false → sector_at g.sector image' s ≡ sector_at g.sector image s)
+      geometry w.writes;
+}
+
 pub steps_law : StepsLaw
-steps_law = record { edited = edited_then; taken = taken_then; listed = listed; given = any_id; after = after }
+steps_law = record { edited = edited_then; taken = taken_then; listed = listed; given = any_id; after = after; written = written }

@@ -10,7 +10,7 @@ use Rattle.fc_alloc.specs.declared.owner.Owner.{Owner}
 use Rattle.fc_newmap.specs.Map.{Map, ZoneRun, bits_in, hole_runs, id_runs, is_used}
 use Rattle.fc_newmap.specs.NewMap.{IsNewMap}
 use Rattle.fc_model.specs.Command.{Command}
-use Rattle.fc_image.specs.Layout.{Layout, id_of, sectors_at}
+use Rattle.fc_image.specs.Layout.{Layout, dir_form, id_of, sectors_at}
 use Rattle.fc_image.specs.Walk.{Listing, Object}
 use Rattle.fc_image.specs.Objects.{has_sectors, objects_of}
 use Rattle.fc_image.specs.Opening.{Opened}
@@ -20,7 +20,7 @@ use Rattle.fc_tree.specs.Nodes.{number_of, HoldObjects}
 use Rattle.fc_tree.specs.Parts.{AreOwners}
 use Rattle.fc_effects.specs.Placed.{IsPlan, file_low}
 use Rattle.fc_effects.specs.Sharing.{new_ids, slack, slack_among, units}
-use Rattle.fc_effects.specs.Short.{gain_in, growth_in, is_full_with, new_length, short, slack_for, slack_in}
+use Rattle.fc_effects.specs.Short.{gain_in, growth_in, is_full_with, new_dir_size, new_length, short, slack_for, slack_in}
 use Rattle.fc_plan.specs.declared.plan.Plan.{Plan}
 use Rattle.fc_plan.specs.declared.supply.PlanError.{PlanError}
 use Rattle.fc_plan.specs.declared.supply.PlanError.TheVariants as errors
@@ -92,7 +92,9 @@ pub record PlaceLaw : Type 0 where
       → IsFileAt m (objects_of listings) dir bytes (id_in place) (parts_in place) o
   -- an object alone in its identifier
   pub alone : (m : Map) (bytes low : ℕ) (plan : Plan) (o : Object) → IsOwnPlan m bytes plan → o.entry.address ≡ 256 * plan.id + low → IsInNewSpace m bytes low plan.id (fronts plan.parts.items) o
-  -- which identifier it owns (`left_by_replaced`)
+  -- the bytes of a new directory
+  pub directory : (m : Map) → new_dir_size (dir_form (Layout.New m)) ≡ 2048
+  -- which identifier a file owns (`left_by_replaced`)
   pub owns : (m : Map) (nodes : FinMap nat_cmp Node) (listings : List Listing) (owners : List Owner) (dir : Path) (number bytes : ℕ) (place : Placing) (o : Object)
       → IsNewMap m → AreSound (Layout.New m) listings → HoldObjects nodes listings → AreOwners owners nodes (Layout.New m) (objects_of listings)
       → number_of nodes dir ≡ Some number → IsFilePlace m owners number bytes place → o.entry.address ≡ address_in m place bytes → has_sectors o ≡ nat_lt 0 bytes

@@ -10,7 +10,7 @@ use Rattle.fc_plan.specs.declared.plan.Plan.{Plan}
 use Rattle.fc_plan.specs.Applied.{is_changed}
 use Rattle.fc_plan.specs.Giving.{is_one_of}
 use Rattle.fc_plan.specs.Taking.{as_runs, own_runs, runs_taken}
-use Rattle.fc_changes.specs.Owed.{IsMapAfter, IsSpaceEdit}
+use Rattle.fc_changes.specs.Owed.{IsMapAfter, IsSpaceEdit, IsWritten}
 
 -- the zones in which a plan takes something, or identifiers give something back, as `fc_plan::changed_zones` lists them
 abbrev pub zones_changed : Map → Option Plan → List ℕ → List ℕ
@@ -45,3 +45,5 @@ pub record StepsLaw : Type 0 where
   -- if nothing is taken, the identifier means nothing
   pub given : (m m' : Map) (id : ℕ) (gone : List ℕ) → IsSpaceEdit m m' 0 [] gone → IsSpaceEdit m m' id [] gone
   pub after : (m m' : Map) (image : List ℕ) → IsMapEdited m m' → HoldsCopies m.geometry m'.zones image → IsMapAfter m m' image
+  -- what may be written is said by the geometry alone
+  pub written : (m m' : Map) (sectors image image' : List ℕ) → m'.geometry ≡ m.geometry → IsWritten m' sectors image image' → IsWritten m sectors image image'

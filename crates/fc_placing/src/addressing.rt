@@ -9,7 +9,7 @@ ghost use Rattle.fc_placing.specs.Places.{address_in, id_in};
 
 use crate::placing::Placing;
 use fc_newmap::NewMap;
-use fc_plan::Part;
+use fc_plan::{Part, Plan};
 use fc_record::Geometry;
 
 // The bits of some parts, or the greatest number if they are more.
@@ -66,4 +66,12 @@ pub fn address_of(place: &Placing, map: &NewMap, bytes: u64) -> u32
         Placing::Shared(share) => address(share.id, share.low),
         Placing::New(plan) => address(plan.id, file_low(map.geometry(), &plan.parts, bytes)),
     }
+}
+
+/// The address of a directory that is placed so.
+pub fn directory_address(plan: &Plan) -> u32
+    requires { plan.now.id < 2 ^ 24 }
+    ensures { result ≡ 256 * plan.now.id }
+{
+    address(plan.id, 0)
 }

@@ -1,7 +1,7 @@
 // Whether a rename copies a file.
 
 ghost use Rattle.std.specs.Prelude.{◌≡◌, List, ℕ};
-ghost use Rattle.fc_placing.specs.Copying.{SaysCopied, copied_among};
+ghost use Rattle.fc_placing.specs.Copying.{CopiesLaw, SaysCopied, copied_among};
 
 use crate::leaving::{has_other, owner_of};
 use fc_alloc::{Owner, Owners};
@@ -26,3 +26,8 @@ pub fn is_copied(owners: &Owners, node: u64, dir: u64) -> bool
 {
     copied_among(owners.list(), node, dir)
 }
+
+/// What a rename wants of space.
+pub fn copies()
+    ensures { CopiesLaw }
+{}

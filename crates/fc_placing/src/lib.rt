@@ -10,8 +10,8 @@ mod leaving;
 mod placing;
 mod space;
 
-pub use addressing::address_of;
-pub use copying::is_copied;
+pub use addressing::{address_of, directory_address};
+pub use copying::{copies, is_copied};
 pub use extents::extents_of;
 pub use fc_plan::{Plan, PlanError};
 pub use fc_slack::Share;

@@ -36,6 +36,7 @@ pub fn place_alone(alloc: Global, map: &NewMap, bytes: u64) -> Result<Plan, Plan
     requires some { 0 < bytes }
     requires few { bytes < 2 ^ 63 }
     ensures place { IfOk result (IsOwnPlan map.now bytes) }
+    ensures id { IfOk result (λ plan. plan.id < 2 ^ 24) }
     ensures refused { RefusesOwnSpace map.now bytes result }
 {
     map.is_map();
@@ -49,6 +50,7 @@ const DIRECTORY_BYTES: u64 = 2048;
 /// A place for a new directory.
 pub fn place_directory(alloc: Global, map: &NewMap) -> Result<Plan, PlanError>
     ensures place { IfOk result (IsOwnPlan map.now 2048) }
+    ensures id { IfOk result (λ plan. plan.id < 2 ^ 24) }
     ensures refused { RefusesOwnSpace map.now 2048 result }
 {
     place_alone(alloc, map, DIRECTORY_BYTES)

@@ -9,21 +9,26 @@ use fc_record::read_record;
 use std::alloc::Global;
 use std::test::Fail;
 
-// The map of a fresh E disc. `None` if there is no memory.
-fn fresh_e(alloc: Global) -> Option<NewMap> {
-    let mut zone = [0u8; 1024];
+// The map with these zones. `None` if it is none, or there is no memory.
+fn loaded(alloc: Global, zones: &[u8], sector: u32) -> Option<NewMap> {
+    let record = read_record(zones.get(4..64)?).ok()?;
+    let g = geometry(&record);
+    if g.sector != sector || zones.len() as u64 != u64::from(g.zones) * u64::from(g.sector) {
+        return None;
+    }
+    NewMap::load(Vec::from_slice(alloc, zones).ok()?, g).ok()
+}
+
+// The zone of a fresh E disc.
+fn fresh_e() -> [u8; 1024] {
+    let mut zone = [0; 1024];
     zone[..24].copy_from_slice(
         b"\x0f\x18\x82\xff\x0a\x05\x02\x02\x0f\x07\x01\0\0\x01\x20\x05\x03\x02\0\0\0\x80\x0c\0",
     );
     zone[64] = 2;
     zone[67] = 0x80;
     zone[863] = 0x80;
-    let record = read_record(zone.get(4..64)?).ok()?;
-    let g = geometry(&record);
-    if g.sector != 1024 || g.zones != 1 {
-        return None;
-    }
-    NewMap::load(Vec::from_slice(alloc, &zone).ok()?, g).ok()
+    zone
 }
 
 // The owner that a file of 100 bytes at the beginning of an identifier is.
@@ -53,7 +58,7 @@ fn is_sector(extents: &[Extent], first: u64) -> bool {
 #[test]
 fn a_file_and_one_in_its_slack(rt: HostRuntime) -> Result<(), Fail> {
     let alloc = rt.alloc();
-    let Some(mut map) = fresh_e(alloc) else {
+    let Some(mut map) = loaded(alloc, &fresh_e(), 1024) else {
         return Err("no map".into());
     };
     let mut owners = Owners::new(alloc);
