@@ -123,6 +123,8 @@ examples=$(PATH="$folder/bin:$PATH" python3 "$tools/readme_examples.py" "$tools/
 printf '%s\n' "$examples"
 python3 "$tools/check_outside.py" "$program" || failed=$((failed + 1))
 python3 "$tools/check_crash.py" "$program" || failed=$((failed + 1))
+python3 "$tools/check_changes.py" --program "$program" --images 16 --commands 20 || failed=$((failed + 1))
+python3 "$tools/check_changes.py" --program "$program" --images 8 --commands 20 --old || failed=$((failed + 1))
 python3 "$tools/check_fcdisc.py" "$tools/../scripts/fcdisc" "$program" || failed=$((failed + 1))
 install_is_right
 expect 'make install and make uninstall' 0 $?

@@ -2,6 +2,7 @@
 
 Written from docs/FORMAT.md, with Python's standard library alone; no code is shared with fcore.
 """
+import struct
 
 BOOT_BLOCK = 0xC00
 BOOT_SIZE = 512
@@ -32,7 +33,7 @@ def bytes_folded(total):
 
 
 def zone_check(sector):
-    words = [number(sector, at, 4) for at in range(0, len(sector), 4)]
+    words = words_of(sector, 0, len(sector))
     words[0] &= ~0xFF
     total = carry = 0
     for word in reversed(words):
@@ -65,7 +66,7 @@ def accumulated(total, numbers):
 
 
 def words_of(block, start, end):
-    return [number(block, at, 4) for at in range(start, end, 4)]
+    return list(struct.unpack_from("<%dI" % ((end - start) // 4), block, start))
 
 
 def small_directory_check(directory, end):
@@ -180,7 +181,7 @@ class Geometry:
 
 def folded(name):
     """A name as it is compared: `a` to `z` count as `A` to `Z`, other bytes as they are."""
-    return bytes(byte - 32 if 97 <= byte <= 122 else byte for byte in name)
+    return bytes(name).upper()
 
 
 def spelled(name):
@@ -205,4 +206,7 @@ NOT_DIRECTORY = refusal(4, "NotDirectory")
 IS_DIRECTORY = refusal(5, "IsDirectory")
 BAD_COMMAND = refusal(1, "BadCommand")
 BAD_NAME = refusal(2, "BadName")
+ROOT_REFUSED = refusal(7, "RootRefused")
+LOCKED = refusal(9, "Locked")
+NOT_EMPTY = refusal(10, "NotEmpty")
 READ_ONLY = refusal(11, "ReadOnly")

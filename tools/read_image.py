@@ -10,9 +10,10 @@ import re
 import sys
 from collections import deque
 
-from filecore import (AGREED, BAD_COMMAND, BAD_NAME, BIG_LIMIT, BOOT_BLOCK, BOOT_SIZE, IS_DIRECTORY, NOT_DIRECTORY, NOT_FOUND, READ_ONLY,
-                      NOT_SPELLED, RECORD_SIZE, SMALL_SIZE, UNIT, Geometry, Record, big_directory_check, boot_check,
-                      entry_line, folded, number, old_map_check, small_directory_check, spelled_path, zone_check)
+from filecore import (AGREED, BAD_COMMAND, BAD_NAME, BIG_LIMIT, BOOT_BLOCK, BOOT_SIZE, IS_DIRECTORY, LOCKED, NOT_DIRECTORY, NOT_EMPTY,
+                      NOT_FOUND, NOT_SPELLED, READ_ONLY, RECORD_SIZE, ROOT_REFUSED, SMALL_SIZE, UNIT, Geometry, Record,
+                      big_directory_check, boot_check, entry_line, folded, number, old_map_check, small_directory_check,
+                      spelled_path, zone_check)
 
 SCRIPT_LIMIT = 1 << 24
 
@@ -434,7 +435,8 @@ FORMS = {  # what follows the words that are paths
     "save": (1, f" {WORD} {WORD} (-|([0-9A-Fa-f][0-9A-Fa-f])+)"), "create": (1, f" {WORD} {WORD} (0|[1-9][0-9]{{0,9}})"),
     "set": (1, f" {WORD} {WORD} (-|(?=[RWL])R?W?L?)"),
 }
-BUILT = ("cat", "load", "digest", "free", "check", "compact")
+READING = ("cat", "load", "digest", "free", "check")
+BUILT = READING + ("compact", "delete", "set")
 
 
 def read_path(text):
@@ -479,6 +481,17 @@ def file_reply(disc, word, entry):
     return "%s\nok\n" % (content.hex() if word == "load" else hashlib.sha256(content).hexdigest())
 
 
+def change_reply(word, path, entry, read_only):
+    """The refusal, or `ok`: this reader changes nothing, so that a script goes on over the image as it was."""
+    if not path:
+        return ROOT_REFUSED
+    if word == "delete" and entry.attributes & 4:
+        return LOCKED
+    if word == "delete" and entry.is_directory() and entry.entries:
+        return NOT_EMPTY
+    return READ_ONLY if read_only else "ok\n"
+
+
 def reply(disc, word, paths, read_only):
     if word == "compact":  # of a disc on which nothing is left to do: this reader changes nothing
         return READ_ONLY if read_only else "ok\n"
@@ -489,6 +502,8 @@ def reply(disc, word, paths, read_only):
     entry, refused = disc.find(paths[0])
     if refused:
         return refused
+    if word in ("delete", "set"):
+        return change_reply(word, paths[0], entry, read_only)
     if word != "cat":
         return file_reply(disc, word, entry)
     if not entry.is_directory():
@@ -508,7 +523,7 @@ def answer(data, script, read_only=False):
         disc = Disc(data)
     except Fault as fault:
         return 3, str(fault)
-    if isinstance(disc.map, OldMap) and any(word == "compact" for word, paths in commands):
+    if isinstance(disc.map, OldMap) and any(word and word not in READING for word, paths in commands):
         return 9, ""
     replies = [reply(disc, word, paths, read_only) if word else paths for word, paths in commands]
     refused = any(re.fullmatch(r"error [0-9]+ [A-Za-z]+\n", one) for one in replies)

@@ -1,5 +1,5 @@
 """Runs of fcore beside the answers over single images: words, scripts, lines that are refused, fresh volumes, what isn't built."""
-from filecore import BAD_COMMAND, BAD_NAME, IS_DIRECTORY, NOT_DIRECTORY, NOT_FOUND, READ_ONLY
+from filecore import BAD_COMMAND, BAD_NAME, IS_DIRECTORY, LOCKED, NOT_DIRECTORY, NOT_EMPTY, NOT_FOUND, READ_ONLY, ROOT_REFUSED
 from volumes import FRESH
 
 SCRIPT_LIMIT = 1 << 24
@@ -75,8 +75,7 @@ def long_scripts():
 
 CHANGES = [
     f"save $.A {ZEROS} -", f"save $.A {ZEROS} 4142", f"save $.A%20B fffff000 FFFFF000 aA", f"create $.A {ZEROS} 0",
-    f"create $.A {ZEROS} 4294967295", "cdir $.D", "delete $.Hello", "delete $", "rename $.Hello $.B", "rename $ $",
-    f"set $.Hello {ZEROS} -", f"set $.Hello {ZEROS} RWL", f"set $.Hello {ZEROS} L", "reclaim",
+    f"create $.A {ZEROS} 4294967295", "cdir $.D", "rename $.Hello $.B", "rename $ $", "reclaim",
 ]
 
 
@@ -89,14 +88,39 @@ def compaction():
                made=("compacted.adf", "fresh-F.adf"))
 
 
+def refused_changes():
+    """Changes that are refused: no image of the table may change. What changes do is compared by tools/check_changes.py."""
+    hello = "48656c6c6f\nok\n"
+    yield lines_case("refused-changes", "hello.adf", [
+        ("delete $.None", NOT_FOUND), ("delete $.None.Deeper", NOT_FOUND), ("delete $.Hello.X", NOT_DIRECTORY), ("delete $", ROOT_REFUSED),
+        (f"set $.None {ZEROS} RWL", NOT_FOUND), (f"set $.Hello.X {ZEROS} -", NOT_DIRECTORY), (f"set $ {ZEROS} L", ROOT_REFUSED),
+        ("load $.hello", hello)])
+    yield lines_case("refused-changes-read-only", "hello.adf", [
+        ("delete $.None", NOT_FOUND), ("compact", READ_ONLY), ("delete $", ROOT_REFUSED), ("delete $.hello", READ_ONLY),
+        (f"set $ {ZEROS} RL", ROOT_REFUSED), (f"set $.Hello FFFFF000 {ZEROS[:8]} WL", READ_ONLY)], ["--read-only"])
+    for image in ("e-files.adf", "e-plus-files.adf"):
+        yield lines_case("locked-and-not-empty-" + image[:-4], image, [
+            ("delete $.Lengths.L1", LOCKED), ("delete $.lengths.l100%30", NOT_FOUND), ("delete $.Lengths", NOT_EMPTY),
+            ("delete $.Outer.Inner.Innermost", LOCKED), ("delete $.OUTER.INNER", NOT_EMPTY)])
+        yield lines_case("locked-and-read-only-" + image[:-4], image, [
+            ("delete $.Lengths.L1", LOCKED), ("delete $.Lengths.L1024", READ_ONLY), ("delete $.Lengths", NOT_EMPTY),
+            (f"set $.Lengths.L1 {ZEROS} -", READ_ONLY)], ["--read-only"])
+    yield Case("refused-change-fresh", ["--new", "E+", "set.adf"], f"set $ {ZEROS} R\n", 1, ROOT_REFUSED, made=("set.adf", "fresh-E+.adf"))
+
+
 def unbuilt():
     for at, line in enumerate(CHANGES):
         yield Case("change-%d" % at, ["hello.adf"], "load $.hello\n" + line + "\n", 9)
     yield Case("change-without-end", ["hello.adf"], "lod\nreclaim", 9)
-    yield Case("change-no-image", ["nothing.adf"], "delete $.A\n", 9)
+    yield Case("change-no-image", ["nothing.adf"], "cdir $.A\n", 9)
+    yield Case("delete-no-image", ["nothing.adf"], "delete $.A\n", 12)
+    yield Case("set-bad-image", ["zeros.adf"], f"set $.A {ZEROS} R\n", 3, "bad-image NoKind\n")
     yield Case("change-bad-image", ["zeros.adf"], "reclaim\n", 9)
     yield Case("change-read-only", ["--read-only", "hello.adf"], "reclaim\n", 9)
     yield Case("compact-old-map", ["d-files.adf"], "free\ncompact\n", 9)
+    yield Case("delete-old-map", ["d-files.adf"], "free\nlod\ndelete $.None\n", 9)
+    yield Case("set-old-map-read-only", ["--read-only", "d-files.adf"], f"cat $\nset $ {ZEROS} -", 9)
+    yield Case("set-fresh-old-map", ["--new", "L", "unset.adf"], f"set $.A {ZEROS} RW\n", 9, made=("unset.adf", "fresh-L.adf"))
     yield Case("compact-bad-image", ["zeros.adf"], "compact\n", 3, "bad-image NoKind\n")
     for at, words in enumerate((["--demo", "5"], ["--demo=10000"], ["--safe"], ["--safe", "--demo", "1"])):
         yield Case("option-%d" % at, [*words, "hello.adf"], "load $.hello\n", 9)
@@ -154,5 +178,5 @@ def fresh():
 
 
 def all_cases():
-    for group in (grammar, long_scripts, compaction, unbuilt, words, fresh):
+    for group in (grammar, long_scripts, compaction, refused_changes, unbuilt, words, fresh):
         yield from group()

@@ -46,6 +46,8 @@ class Directory(Entry):
         self.form = 1  # of a big directory's head name: 1 or 2
         self.heap_tail = 0  # bytes of the heap behind the names
         self.spare_words = 0  # what stands behind the heap
+        self.guards_form = False  # of a big directory: whether the word after the heap keeps the second form from being read as the first
+        self.reserved = b""  # what the reserved bytes begin with
 
     def insert(self, entry):
         """In the place of a new entry: before the first greater name."""
@@ -94,6 +96,8 @@ def small_directory(directory, form):
     block[name:name + 10] = padded(directory.head_name, 10)
     block[title:title + 19] = padded(directory.title, 19)
     put(block, parent, 3, directory.parent_field())
+    reserved = 2008 if form == "D" else 1260
+    block[reserved:reserved + len(directory.reserved)] = directory.reserved
     if form == "D":
         block[-1] = small_directory_check(block, 5 + 26 * len(directory.entries))
     return block
@@ -133,7 +137,10 @@ def big_directory(directory):
     if directory.spare_words:
         put(block, end, 4, directory.spare_words)
     block[-8:-4] = b"oven"
+    block[-3:-3 + len(directory.reserved)] = directory.reserved
     block[-1] = big_directory_check(block, end)
+    if directory.guards_form and directory.form == 2 and end + 12 <= len(block) and big_directory_check(block, end + 4) == block[-1]:
+        block[end] ^= 1  # or it would be read in the first form
     return block
 
 

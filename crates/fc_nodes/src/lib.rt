@@ -1,6 +1,7 @@
 //! What edits of a volume's objects make of its numbered nodes and of its owners.
 #![tactic(auto)]
 
+ghost use Rattle.fc_nodes.specs.Rows.{NodeRows};
 ghost use Rattle.fc_nodes.specs.Copied.{CopiedLaw};
 ghost use Rattle.fc_nodes.specs.Laws.{AddedLaw, DirectoryAddedLaw, OwnerLaw, RemovedLaw, RenamedLaw, ReplacedLaw, RewordedLaw, TransferredLaw};
 
@@ -47,4 +48,9 @@ pub fn transferred()
 /// After `rename` of a file that is copied nodes and owners follow.
 pub fn copied()
     ensures { CopiedLaw }
+{}
+
+/// A small tree whose directory is renamed, worked out.
+pub fn rows()
+    ensures { NodeRows }
 {}

@@ -14,35 +14,11 @@ use Rattle.fc_image.specs.Walk.{Object, Listing}
 use Rattle.fc_image.specs.Objects.{objects_of, listing_at, node_of, tree_entry, tree_of}
 use Rattle.fc_image.specs.Sound.{AreSound}
 use Rattle.fc_image.proofs.PathsLemmas.{itself}
+use Rattle.fc_tree.proofs.ChildrenLemmas.{below_front, front_below, is_below}
 use Rattle.fc_tree.proofs.MemberLemmas.{contains_here, from_map, no_element}
 use Rattle.fc_tree.proofs.WalkedLemmas.{child_is_object, child_path, listed_directory, listing_found, root, root_path}
 use Rattle.fc_tree.proofs.SoundLemmas.{key_total, key_exact, fold_pushed, folds_alike, listing_of, root_or_child, same_by_folds, same_object}
 use Rattle.fc_tree.proofs.TreeLemmas.{node_of_object, tree_get, value_is}
-
--- ---- keys below a directory
-
--- the key has one name more than the path, and begins with it
-abbrev is_below : Path → Path → Bool
-is_below path key = (length key == length path + 1) && is_prefix (folded_path path) key
-
--- a key below a path is that of the path with a name
-below_front : (path front : Path) (last : List ℕ) → is_below path (front ++ last ∷ []) ≡ true → front ≡ folded_path path
-below_front path front last h =
-    let whole = front ++ last ∷ [] in
-    let long : length whole ≡ length path + 1 = eqb-true _ _ (first_so (length whole == length path + 1) (is_prefix (folded_path path) whole) h) in
-    let prefix = (pointwise_decides bytes_decides (folded_path path) (take (length (folded_path path)) whole)).0 (second_so (length whole == length path + 1) (is_prefix (folded_path path) whole) h) in
-    let pushed = length_push front last in
-    let same : length (folded_path path) ≡ length path = length-map path folded in
-    sym (prefix ∙ take_at front (last ∷ []) (length (folded_path path)) (omega (arith, long, pushed, same)))
-
-front_below : (path : Path) (last : List ℕ) → is_below path (folded_path path ++ last ∷ []) ≡ true
-front_below path last =
-    let same : length (folded_path path) ≡ length path = length-map path folded in
-    let pushed = length_push (folded_path path) last in
-    ap₂ (λ (a b : Bool). a && b)
-    (eq-eqb (length (folded_path path ++ last ∷ [])) (length path + 1) (omega (arith, same, pushed)))
-    ((pointwise_decides bytes_decides (folded_path path) (take (length (folded_path path)) (folded_path path ++ last ∷ []))).1
-    (sym (take_at (folded_path path) (last ∷ []) (length (folded_path path)) refl)))
 
 -- a list with an element has some
 pub some_there : {X : Type 0} (x : X) (xs : List X) → nat_lt 0 (length (x ∷ xs)) ≡ true

@@ -1,6 +1,6 @@
 -- Why `delete` is refused, by what was found among the nodes.
 use Rattle.std.proofs.Common.{◌≡◌, ℕ, Bool, false, List, [], ◌∷◌, ap, refl, sym, subst, nat_cmp, Option, Some, None}
-use Rattle.std.specs.Prelude.{Result, Ok, IfOk}
+use Rattle.std.specs.Prelude.{Result, IfOk}
 use Rattle.std.specs.Option.{ok_or}
 use Rattle.std.specs.FinMap.{FinMap}
 use Rattle.fc_names.specs.declared.name.NameForm.{NameForm}
@@ -14,13 +14,13 @@ use Rattle.fc_image.specs.Layout.{Layout}
 use Rattle.fc_image.specs.Walk.{Listing}
 use Rattle.fc_image.specs.Sound.{AreSound}
 use Rattle.fc_tree.specs.declared.node.Node.{Node}
-use Rattle.fc_tree.specs.Nodes.{found_in, HoldObjects}
+use Rattle.fc_tree.specs.Nodes.{HoldObjects}
 use Rattle.fc_refusals.specs.declared.target.Target.{Target}
-use Rattle.fc_refusals.specs.Places.{has_entries_at, number_found, target_in}
+use Rattle.fc_refusals.specs.Places.{has_entries_at, target_in}
 use Rattle.fc_refusals.specs.Targets.{IsRemovable}
 use Rattle.fc_refusals.proofs.ReasonLemmas.{first, test}
 use Rattle.fc_refusals.proofs.NodeLemmas.{removable}
-use Rattle.fc_refusals.proofs.TargetLemmas.{target_found}
+use Rattle.fc_refusals.proofs.TargetLemmas.{Leads, target_found}
 
 -- the first of these is the refusal
 pub delete_refusal : (t : Tree) (form : NameForm) (read_only : Bool) (path : Path) (p : Option Refusal) (root locked some shut : Bool)
@@ -32,7 +32,7 @@ delete_refusal t form read_only path p root locked some shut there top lock full
 
 -- The target of a node without entries may go.
 pub removable_given : (nodes : FinMap nat_cmp Node) (path : Path) (n : ℕ) (refusal : Refusal) (t : Option Target) (r : Result Target Refusal)
-    → Ok n ≡ number_found (found_in nodes path) → false ≡ is_root path → false ≡ has_entries_at nodes n → t ≡ target_in nodes n → r ≡ ok_or t refusal
+    → Leads nodes path n → false ≡ is_root path → false ≡ has_entries_at nodes n → t ≡ target_in nodes n → r ≡ ok_or t refusal
     → IfOk r (λ (found : Target). (layout : Layout) (listings : List Listing) → AreSound layout listings → HoldObjects nodes listings → IsRemovable nodes listings path found)
 removable_given nodes path n refusal t r leads other none is e = subst (λ (x : Result Target Refusal). IfOk x Goes) (sym e) (by t is)
   where
@@ -41,4 +41,4 @@ removable_given nodes path n refusal t r leads other none is e = subst (λ (x : 
 
     by : (o : Option Target) → o ≡ target_in nodes n → IfOk (ok_or o refusal) Goes
     by None h = tt
-    by (Some x) h = λ layout listings sound held. removable layout listings nodes sound held path n leads x (target_found layout listings nodes sound held path n leads other x h) none
+    by (Some x) h = λ layout listings sound held. let there = leads layout listings sound held in removable layout listings nodes sound held path n there x (target_found layout listings nodes sound held path n there other x h) none

@@ -1,4 +1,4 @@
--- Where a path leads among nodes, told of the tree and of the objects that the nodes hold.
+-- What a path that leads among the nodes says of the tree, and of the objects that the nodes hold.
 use Rattle.std.proofs.Common.{◌≡◌, ⊎_elim, ℕ, true, false, List, [], ◌∷◌, refl, sym, ap, subst, ◌∙◌, Some, nat_cmp}
 use Rattle.std.specs.Prelude.{Contains, Result, Ok, Err}
 use Rattle.std.specs.FinMap.{FinMap}

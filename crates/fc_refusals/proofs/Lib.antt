@@ -7,3 +7,9 @@ pub mod ChildLemmas
 pub mod NodeLemmas
 pub mod DeleteLemmas
 pub mod WalkLemmas
+pub mod HolderLemmas
+pub mod CdirLemmas
+pub mod SaveLemmas
+pub mod AboveLemmas
+pub mod FreeNameLemmas
+pub mod RenameLemmas

@@ -1,35 +1,36 @@
--- What the node says to which a path leads, told of the tree.
-use Rattle.std.proofs.Common.{◌≡◌, inl, inr, ℕ, false, List, [], ◌∷◌, length, map, nat_lt, refl, sym, ap, subst, ◌∙◌, Option, Some, None, nat_cmp}
-use Rattle.std.specs.Prelude.{Ok}
+-- What the node to which a path leads says of the tree.
+use Rattle.std.proofs.Common.{◌≡◌, inl, inr, ℕ, Bool, true, false, false, List, [], ◌∷◌, length, map, nat_lt, refl, sym, ap, subst, ◌∙◌, Option, Some, None, nat_cmp, if◌then◌else◌}
 use Rattle.std.specs.Option.{option_map_or}
 use Rattle.std.specs.FinMap.{FinMap, get}
 use Rattle.std.proofs.lemmas.List.{length-map}
 use Rattle.fc_names.specs.Names.{Path, is_locked}
-use Rattle.fc_model.specs.Tree.{Node as ModelNode}
-use Rattle.fc_model.specs.Answer.{has_entries, is_locked_at}
+use Rattle.fc_model.specs.Tree.{Body as ModelBody, Node as ModelNode, is_directory_body}
+use Rattle.fc_model.specs.Answer.{has_entries, is_directory_at, is_locked_at}
 use Rattle.fc_dirs.specs.declared.Entry.{Entry}
 use Rattle.fc_image.specs.Layout.{Layout}
-use Rattle.fc_image.specs.Walk.{Object, Listing}
-use Rattle.fc_image.specs.Objects.{listing_at, tree_of}
+use Rattle.fc_image.specs.Walk.{Object, Listing, is_directory_object, object_bytes}
+use Rattle.fc_image.specs.Objects.{listing_at, node_of, tree_of}
 use Rattle.fc_image.specs.Sound.{AreSound}
 use Rattle.fc_tree.specs.declared.node.Node.{Node}
-use Rattle.fc_tree.specs.Nodes.{body_of, found_in, HoldObjects}
+use Rattle.fc_tree.specs.Nodes.{body_of, is_directory_node, HoldObjects}
+use Rattle.fc_tree.proofs.FindLemmas.{directory_at}
 use Rattle.fc_tree.proofs.FoundLemmas.{file_of_body}
 use Rattle.fc_tree.proofs.SoundLemmas.{children_stored, listing_of, same_object}
 use Rattle.fc_tree.proofs.TreeLemmas.{node_of_object}
 use Rattle.fc_tree.proofs.WalkedLemmas.{child_is_object, contained, same_some}
 use Rattle.fc_refusals.specs.declared.target.Target.{Target}
-use Rattle.fc_refusals.specs.Places.{entries_at, entries_in, has_entries_at, is_locked_node, number_found}
+use Rattle.fc_refusals.specs.Places.{entries_at, entries_in, has_entries_at, is_locked_node}
 use Rattle.fc_refusals.specs.Targets.{IsEmpty, IsRemovable, IsTarget}
 use Rattle.fc_refusals.proofs.ChildLemmas.{holds_some, kids, some_there}
-use Rattle.fc_refusals.proofs.FoundLemmas.{LeadsTo, leads_to}
+use Rattle.fc_refusals.proofs.FoundLemmas.{LeadsTo}
 use Rattle.fc_refusals.proofs.TargetLemmas.{entries_body}
 
-module _ (layout : Layout) (listings : List Listing) (nodes : FinMap nat_cmp Node) (sound : AreSound layout listings) (held : HoldObjects nodes listings)
-    (path : Path) (n : ℕ) (leads : Ok n ≡ number_found (found_in nodes path)) where
-  abbrev there : LeadsTo listings nodes path n
-  there = leads_to layout listings nodes path n sound held leads
+pub body_test : (image : List ℕ) (layout : Layout) (o : Object) (b : Bool) → is_directory_object o ≡ b → is_directory_body (node_of image layout o).body ≡ b
+body_test image layout o true e = ap (λ (c : Bool). is_directory_body (if c then ModelBody.Directory else ModelBody.File (object_bytes image layout o))) e
+body_test image layout o false e = ap (λ (c : Bool). is_directory_body (if c then ModelBody.Directory else ModelBody.File (object_bytes image layout o))) e
 
+module _ (layout : Layout) (listings : List Listing) (nodes : FinMap nat_cmp Node) (sound : AreSound layout listings) (held : HoldObjects nodes listings)
+    (path : Path) (n : ℕ) (there : LeadsTo listings nodes path n) where
   abbrev o : Object
   o = there.object
 
@@ -44,6 +45,13 @@ module _ (layout : Layout) (listings : List Listing) (nodes : FinMap nat_cmp Nod
   locked_is image =
       ap (λ (m : Option Node). option_map_or (λ (x : Node). is_locked x.entry.attrs) m false) node_is
       ∙ ap (λ (m : Option ModelNode). option_map_or (λ (x : ModelNode). is_locked x.attrs) m false) (sym (node_of_object image layout listings sound path o there.among there.same))
+
+  -- it is a directory's in the tree
+  pub directory_is : (image : List ℕ) → is_directory_node nodes n ≡ is_directory_at (tree_of image layout listings) path
+  directory_is image =
+      directory_at layout listings nodes sound held o n there.among there.number
+      ∙ sym (ap (λ (m : Option ModelNode). option_map_or (λ (x : ModelNode). is_directory_body x.body) m false) (node_of_object image layout listings sound path o there.among there.same)
+      ∙ body_test image layout o (is_directory_object o) refl)
 
   its_entries : entries_at nodes n ≡ entries_in (body_of (listing_at listings o.path))
   its_entries = ap (λ (m : Option Node). option_map_or (λ (x : Node). entries_in x.body) m []) node_is

@@ -85,10 +85,7 @@ module _ (layout : Layout) (listings : List Listing) (nodes : FinMap nat_cmp Nod
       let passes = own_name o.entry.name in
       cc
 
-  module _ (path : Path) (n : ℕ) (leads : Ok n ≡ number_found (found_in nodes path)) (other : false ≡ is_root path) where
-    abbrev there : LeadsTo listings nodes path n
-    there = leads_to layout listings nodes path n sound held leads
-
+  module _ (path : Path) (n : ℕ) (there : LeadsTo listings nodes path n) (other : false ≡ is_root path) where
     abbrev o : Object
     o = there.object
 
@@ -143,20 +140,30 @@ module _ (layout : Layout) (listings : List Listing) (nodes : FinMap nat_cmp Nod
         by None h f = child_placed l o above.1 above.2 h
         by (Some i) h f = cc
 
--- It is the target in each walk whose objects the nodes hold.
+-- ---- of any walk whose objects the nodes hold
+
+-- The path leads to the node.
+abbrev pub Leads : FinMap nat_cmp Node → Path → ℕ → Type 0
+Leads nodes path n = (layout : Layout) (listings : List Listing) → AreSound layout listings → HoldObjects nodes listings → LeadsTo listings nodes path n
+
+-- It is the target.
 abbrev pub IsTargetOf : FinMap nat_cmp Node → Path → Target → Type 0
 IsTargetOf nodes path t = (layout : Layout) (listings : List Listing) → AreSound layout listings → HoldObjects nodes listings → IsTarget nodes listings path t
 
+pub leads_on : (nodes : FinMap nat_cmp Node) (path : Path) (n : ℕ) → Ok n ≡ number_found (found_in nodes path) → Leads nodes path n
+leads_on nodes path n e layout listings sound held = leads_to layout listings nodes path n sound held e
+
 -- The target of a node to which a path leads is the object at the path.
 pub target_given : (nodes : FinMap nat_cmp Node) (path : Path) (n : ℕ) (refusal : Refusal) (t : Option Target) (r : Result Target Refusal)
-    → Ok n ≡ number_found (found_in nodes path) → false ≡ is_root path → t ≡ target_in nodes n → r ≡ ok_or t refusal → IfOk r (IsTargetOf nodes path)
+    → Leads nodes path n → false ≡ is_root path → t ≡ target_in nodes n → r ≡ ok_or t refusal → IfOk r (IsTargetOf nodes path)
 target_given nodes path n refusal None r leads other is e = subst (λ (x : Result Target Refusal). IfOk x (IsTargetOf nodes path)) (sym e) tt
 target_given nodes path n refusal (Some t) r leads other is e =
-    subst (λ (x : Result Target Refusal). IfOk x (IsTargetOf nodes path)) (sym e) (λ layout listings sound held. target_found layout listings nodes sound held path n leads other t is)
+    subst (λ (x : Result Target Refusal). IfOk x (IsTargetOf nodes path)) (sym e)
+    (λ layout listings sound held. target_found layout listings nodes sound held path n (leads layout listings sound held) other t is)
 
 -- There is one, so that nothing is refused.
 pub target_accepted : (layout : Layout) (listings : List Listing) (nodes : FinMap nat_cmp Node) (path : Path) (n : ℕ) (refusal : Refusal) (t : Option Target) (r : Result Target Refusal)
-    → AreSound layout listings → HoldObjects nodes listings → Ok n ≡ number_found (found_in nodes path) → false ≡ is_root path → t ≡ target_in nodes n → r ≡ ok_or t refusal
+    → AreSound layout listings → HoldObjects nodes listings → LeadsTo listings nodes path n → false ≡ is_root path → t ≡ target_in nodes n → r ≡ ok_or t refusal
     → refusal_of r ≡ None
-target_accepted layout listings nodes path n refusal None r sound held leads other is e = absurd (target_there layout listings nodes sound held path n leads other (sym is))
-target_accepted layout listings nodes path n refusal (Some t) r sound held leads other is e = ap refusal_of e
+target_accepted layout listings nodes path n refusal None r sound held there other is e = absurd (target_there layout listings nodes sound held path n there other (sym is))
+target_accepted layout listings nodes path n refusal (Some t) r sound held there other is e = ap refusal_of e

@@ -30,7 +30,7 @@ pub holder_more : (x y : List ℕ) (path : Path) → holder (x ∷ y ∷ path) �
 holder_more x y path =
     ap (λ (n : ℕ). take n (x ∷ y ∷ path)) (let e : length (x ∷ y ∷ path) - 1 ≡ suc (length (y ∷ path) - 1) = omega arith in e)
 
--- one name on, where another follows
+-- one name on, if another follows
 pub stepped : (nodes : FinMap nat_cmp Node) (at next : ℕ) (name second : List ℕ) (names rest : Path) → names ≡ second ∷ rest → true ≡ is_directory_node nodes at → Some next ≡ child nodes at name
     → found_from nodes at (holder (name ∷ names)) ≡ found_from nodes next (holder (second ∷ rest))
 stepped nodes at next name second names rest more dir there =

@@ -1,5 +1,5 @@
--- Where paths lead among nodes, and where entries stand in their directories.
-use Rattle.std.specs.Prelude.{ℕ, Bool, false, nat_lt, length, List, [], ◌∷◌, if◌then◌else◌, Option, Some, None, Result, Ok, Err, option_map}
+-- Which nodes paths lead to, and at which places entries stand in their directories.
+use Rattle.std.specs.Prelude.{ℕ, Bool, false, not, ◌==◌, nat_lt, length, List, [], ◌∷◌, if◌then◌else◌, Option, Some, None, Result, Ok, Err, option_map}
 use Rattle.std.specs.List.{position}
 use Rattle.std.specs.Option.{option_and_then, option_map_or}
 use Rattle.std.specs.Ordering.{nat_cmp}
@@ -8,6 +8,7 @@ use Rattle.fc_names.specs.declared.refusal.Refusal.{Refusal}
 use Rattle.fc_names.specs.declared.refusal.Refusal.TheVariants as refusals
 use Rattle.fc_names.specs.Names.{Path, is_locked, is_same_name}
 use Rattle.fc_model.specs.Tree.{last_name}
+use Rattle.fc_model.specs.Answer.{is_root}
 use Rattle.fc_dirs.specs.declared.Entry.{Entry}
 use Rattle.fc_tree.specs.declared.node.Body.{Body}
 use Rattle.fc_tree.specs.declared.node.Body.TheVariants as bodies
@@ -23,7 +24,18 @@ number_found (founds.Node n) = Ok n
 number_found founds.Absent = Err refusals.NotFound
 number_found founds.NotDirectory = Err refusals.NotDirectory
 
--- the same where a directory is needed
+-- why nothing at a path is renamed to the root's path
+abbrev pub refusal_to_root : Found → Path → Refusal
+refusal_to_root (founds.Node n) from = if is_root from then refusals.RootRefused else refusals.Exists
+refusal_to_root founds.Absent from = refusals.NotFound
+refusal_to_root founds.NotDirectory from = refusals.NotDirectory
+
+-- There is a node of another number.
+abbrev pub is_other : Option ℕ → ℕ → Bool
+is_other None n = false
+is_other (Some m) n = not (m == n)
+
+-- the same if a directory is needed
 abbrev pub directory_found : FinMap nat_cmp Node → Found → Result ℕ Refusal
 directory_found nodes (founds.Node n) = if is_directory_node nodes n then Ok n else Err refusals.NotDirectory
 directory_found nodes founds.Absent = Err refusals.NotFound

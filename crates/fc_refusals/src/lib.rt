@@ -2,12 +2,20 @@
 //! aren't. It needs neither disk nor memory.
 #![tactic(auto)]
 
+mod cdir;
 mod delete;
 mod names;
 mod places;
+mod rename;
+mod save;
 mod set;
 mod target;
+#[cfg(test)]
+mod tests;
 
+pub use cdir::judge_cdir;
 pub use delete::judge_delete;
+pub use rename::judge_rename;
+pub use save::judge_save;
 pub use set::judge_set;
-pub use target::Target;
+pub use target::{Renaming, Slot, Target};

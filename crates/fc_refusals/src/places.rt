@@ -1,13 +1,13 @@
-// Where paths lead, and where entries stand in their directories.
+// Which nodes paths lead to, and at which places entries stand in their directories.
 ghost use Rattle.std.specs.Prelude.{◌≡◌, option_map};
 ghost use Rattle.fc_model.specs.Tree.{holder};
-ghost use Rattle.fc_model.specs.Answer.{is_root};
+ghost use Rattle.fc_model.specs.Answer.{is_above, is_root};
 ghost use Rattle.fc_tree.specs.Nodes.{found_in, is_directory_node, nodes_of};
 ghost use Rattle.fc_refusals.specs.Places.{directory_found, entries_at, entries_in, has_entries_at, is_locked_node, number_found, own_name, place_of, target_in};
 
 use crate::target::Target;
 use fc_dirs::Entry;
-use fc_names::{Attrs, Name, Path, Refusal, fold_eq};
+use fc_names::{Attrs, Name, Path, Refusal, fold_cmp_bytes, fold_eq};
 use fc_tree::{Body, Found, Tree};
 
 /// Whether a path is the root's.
@@ -15,6 +15,20 @@ pub fn is_root(path: &Path) -> bool
     ensures { result ≡ is_root path.now }
 {
     path.names().next().is_none()
+}
+
+/// Whether the first path is that of a directory above the second, by their names alone.
+pub fn is_above(above: &Path, path: &Path) -> bool
+    ensures { result ≡ is_above above.now path.now }
+{
+    let mut rest = path.names();
+    for name in above.names() {
+        match rest.next() {
+            Some(other) if fold_cmp_bytes(name, other).is_eq() => {}
+            _ => return false,
+        }
+    }
+    rest.next().is_some()
 }
 
 /// The number of the node to which a path leads, or why it leads to none.
@@ -49,7 +63,7 @@ pub fn is_directory(tree: &Tree, n: u64) -> bool
     }
 }
 
-// Where a path without its last name leads.
+// What a path without its last name leads to.
 fn find_holder(tree: &Tree, path: &Path) -> Found
     ensures { result ≡ found_in (nodes_of tree.now) (holder path.now) }
 {

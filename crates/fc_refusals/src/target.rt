@@ -8,3 +8,19 @@ pub struct Target {
     pub at: usize,
     pub node: u64,
 }
+
+/// The place at which `save` and `create` put a file.
+#[derive(Clone, Copy, Debug, PartialEq, Eq)]
+pub enum Slot {
+    /// A new entry of the directory of this node.
+    New(u64),
+    /// In the place of a file.
+    Over(Target),
+}
+
+/// What `rename` does: which object gets another name, and the node of the directory that holds it then.
+#[derive(Clone, Copy, Debug, PartialEq, Eq)]
+pub struct Renaming {
+    pub target: Target,
+    pub holder: u64,
+}

@@ -1,3 +1,5 @@
+mod AccessLemmas
+mod ChangeLemmas
 mod CompactLemmas
 mod LineLemmas
 mod FreshLemmas

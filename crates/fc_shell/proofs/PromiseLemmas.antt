@@ -29,7 +29,7 @@ use Rattle.fc_shell.specs.declared.ending.End.TheVariants.{Done, Refused, BadWor
 use Rattle.fc_shell.specs.declared.answer.LineFault.{LineFault}
 use Rattle.fc_shell.specs.declared.answer.LineFault.TheVariants as lines
 use Rattle.fc_words.specs.declared.Format.{Format as Word}
-use Rattle.fc_shell.specs.Built.{has_compact, has_unbuilt}
+use Rattle.fc_shell.specs.Built.{has_changing, has_unbuilt}
 use Rattle.fc_shell.specs.Ends.{end_of, is_late}
 use Rattle.fc_shell.specs.Modes.{plain_mode}
 use Rattle.fc_shell.specs.Promise.{EndsByGiving, EndsByLength, EndsByOpening, EndsByScript, EndsOnFault, EndsOver, LacksMap, LacksNewMap}
@@ -115,7 +115,7 @@ module _ {D : Type 0} {d : Ghosts D} (law : Laws d) (old mid new : D) (first : L
 
     lacks_from : LacksNewMap d mid new false s script text → LacksNewMap d old new fresh s script text
     lacks_from x = record {
-      compacts = x.compacts;
+      changes = x.changes;
       old_map = x.old_map;
       not_begun = record {
         told = x.not_begun.told;
@@ -369,20 +369,20 @@ served_built result is = no_fresh (sym (ap is_late is) ∙ late_end result)
 pub lacks_ends : {D : Type 0} {d : Ghosts D} (law : Laws d) (disk : D) (s : State) (script : List ℕ) (layout : Layout) → layout ≡ s.view.layout → LacksMap layout script true → d.bytes disk ≡ Some s.image → d.pending disk ≡ false
     → LacksNewMap d disk disk false s script []
 lacks_ends {d = d} law disk s script layout same lacks told quiet = record {
-  compacts = lacks.0;
+  changes = lacks.0;
   old_map = λ new. lacks.1 (subst IsNewLayout (sym same) new);
   not_begun = record { told = refl; holds = told; settled = quiet; stops = λ there. (same_unwritten law disk).stops };
 }
 
--- ---- whether a map lacks what a script compacts
+-- ---- whether a script changes a disc whose map is an old one
 
 pub new_fits : (space : Space) (map : Map) (script : List ℕ) → space ≡ NewMapped map → LacksMap (layout_of space) script false
-new_fits space map script is compacts = subst (λ (x : Space). IsNewLayout (layout_of x)) (sym is) tt
+new_fits space map script is changes = subst (λ (x : Space). IsNewLayout (layout_of x)) (sym is) tt
 
-pub old_fits : (space : Space) (map : FreeSpace) (script : List ℕ) (r : Result Bool NoMem) → space ≡ OldMapped map → IfOk r (λ b. b ≡ has_compact script) → IfOk r (LacksMap (layout_of space) script)
+pub old_fits : (space : Space) (map : FreeSpace) (script : List ℕ) (r : Result Bool NoMem) → space ≡ OldMapped map → IfOk r (λ b. b ≡ has_changing script) → IfOk r (LacksMap (layout_of space) script)
 old_fits space map script (Err e) is told = tt
 old_fits space map script (Ok true) is told = (sym told, λ new. subst (λ (x : Space). IsNewLayout (layout_of x)) is new)
-old_fits space map script (Ok false) is told = λ compacts. absurd (no_fresh (told ∙ compacts))
+old_fits space map script (Ok false) is told = λ changes. absurd (no_fresh (told ∙ changes))
 
 pub unwritten_after : {D : Type 0} {d : Ghosts D} (law : Laws d) (old mid new : D) → OnlyShapes d old mid → IsUnwritten d mid new → IsUnwritten d old new
 unwritten_after law old mid new shapes now = record {

@@ -32,7 +32,7 @@ use Rattle.fc_shell.specs.Told.{told_line, told_lines}
 use Rattle.fc_shell.specs.declared.reply.Reply.{Reply}
 use Rattle.fc_shell.proofs.ErrorLemmas.{ok_no_error}
 use Rattle.fc_shell.proofs.ShortageLemmas.{shortage_none}
-use Rattle.fc_runs.specs.Run.{is_error}
+use Rattle.fc_runs.specs.Run.{is_error, keeps_tree}
 
 -- ---- replies in memory
 
@@ -83,21 +83,21 @@ not_false asked = by (is_built (command asked))
     by true e = refl
     by false e = absurd (cc)
 
--- a command that is built reads, but for `compact`
-pub built_reading : (asked : Told) → is_built (command asked) ≡ true → (asked ≡ Told.Compact → ⊥) → is_reading (command asked) ≡ true
-built_reading (Told.Cat path) built other = refl
-built_reading (Told.Load path) built other = refl
-built_reading (Told.Digest path) built other = refl
-built_reading Told.Free built other = refl
-built_reading Told.Check built other = refl
-built_reading (Told.Cdir path) built other = absurd (cc)
-built_reading (Told.Delete path) built other = absurd (cc)
-built_reading (Told.Save path w x bytes) built other = absurd (cc)
-built_reading (Told.Create path w x len) built other = absurd (cc)
-built_reading (Told.Rename from to) built other = absurd (cc)
-built_reading (Told.Set path w x access) built other = absurd (cc)
-built_reading Told.Compact built other = absurd (other refl)
-built_reading Told.Reclaim built other = absurd (cc)
+-- a command that is built and doesn't read changes the tree, but for `compact`
+pub built_changing : (asked : Told) → is_built (command asked) ≡ true → is_reading (command asked) ≡ false → (asked ≡ Told.Compact → ⊥) → keeps_tree (command asked) ≡ false
+built_changing (Told.Cat path) built changes other = absurd (cc)
+built_changing (Told.Load path) built changes other = absurd (cc)
+built_changing (Told.Digest path) built changes other = absurd (cc)
+built_changing Told.Free built changes other = absurd (cc)
+built_changing Told.Check built changes other = absurd (cc)
+built_changing (Told.Cdir path) built changes other = refl
+built_changing (Told.Delete path) built changes other = refl
+built_changing (Told.Save path w x bytes) built changes other = refl
+built_changing (Told.Create path w x len) built changes other = refl
+built_changing (Told.Rename from to) built changes other = refl
+built_changing (Told.Set path w x access) built changes other = refl
+built_changing Told.Compact built changes other = absurd (other refl)
+built_changing Told.Reclaim built changes other = absurd (cc)
 
 -- no other command reads
 pub no_other : (asked : Told) → is_reading (command asked) ≡ true → ((path : Path) → asked ≡ Told.Cat path → ⊥) → ((path : Path) → asked ≡ Told.Load path → ⊥)

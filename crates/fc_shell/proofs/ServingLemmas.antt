@@ -46,7 +46,7 @@ pub true_both : (a b : Bool) → a ≡ true → b ≡ true → (a && b) ≡ true
 true_both true b h k = k
 true_both false b h k = absurd (cc)
 
--- lines that write nothing, and lines that compact
+-- lines that write nothing, and lines that change the disc
 pub spares_first : (ro now : Bool) (line : List ℕ) (left : List (List ℕ)) → now ≡ ro → Spares ro (line ∷ left) → (now ≡ true) ⊎ (is_reading_line (command_of line) ≡ true)
 spares_first ro now line left same (inl locked) = inl (same ∙ locked)
 spares_first ro now line left same (inr reads) = inr (both_true (is_reading_line (command_of line)) (all_read left) reads).0

@@ -1,4 +1,4 @@
--- Which commands are built, which scripts compact, and which only read.
+-- Which commands are built, which scripts change the disc, and which only read.
 use Rattle.std.specs.Prelude.{◌≡◌, ◌⊎◌, Bool, true, false, not, List, ℕ, Result, Ok, Err}
 use Rattle.std.specs.List.{list_all, list_any}
 use Rattle.fc_names.specs.declared.refusal.Refusal.{Refusal}
@@ -7,9 +7,11 @@ use Rattle.fc_script.specs.Lines.{command_of}
 use Rattle.fc_runs.specs.ReadLaw.{is_reading}
 use Rattle.fc_runs.specs.Run.{commands_in}
 
--- A command that is built: each that reads, and `compact`.
+-- A command that is built: each that reads, and of those that change the disc these.
 abbrev pub is_built : Command → Bool
 is_built Command.Compact = true
+is_built (Command.Delete path) = true
+is_built (Command.Set path load exec access) = true
 is_built c = is_reading c
 
 -- A command that isn't built yet: each of the others.
@@ -21,18 +23,18 @@ is_unbuilt_command (Err refusal) = false
 abbrev pub has_unbuilt : List ℕ → Bool
 has_unbuilt script = list_any (λ line. is_unbuilt_command (command_of line)) (commands_in script)
 
--- The line spells `compact`, which is built for new maps only.
-abbrev pub is_compact : Result Command Refusal → Bool
-is_compact (Ok Command.Compact) = true
-is_compact r = false
+-- The line spells a command that changes the disc, or may. These are built for new maps only.
+abbrev pub is_changing : Result Command Refusal → Bool
+is_changing (Ok c) = not (is_reading c)
+is_changing (Err refusal) = false
 
 -- One of these lines does.
-abbrev pub any_compact : List (List ℕ) → Bool
-any_compact lines = list_any (λ line. is_compact (command_of line)) lines
+abbrev pub any_changing : List (List ℕ) → Bool
+any_changing lines = list_any (λ line. is_changing (command_of line)) lines
 
 -- A line of the script does.
-abbrev pub has_compact : List ℕ → Bool
-has_compact script = any_compact (commands_in script)
+abbrev pub has_changing : List ℕ → Bool
+has_changing script = any_changing (commands_in script)
 
 -- The line changes nothing: it spells no command, or one that reads.
 abbrev pub is_reading_line : Result Command Refusal → Bool

@@ -11,7 +11,7 @@ use Rattle.fc_shell.specs.declared.ending.End.{End}
 use Rattle.fc_shell.specs.declared.ending.End.TheVariants.{DiskFault, OutFault, NoMemory, NotBuilt, NoImage}
 use Rattle.fc_shell.specs.Ends.{AsksFor, FitsGiven, is_late, is_over_image}
 use Rattle.fc_shell.specs.Reading.{IsUnwritten}
-use Rattle.fc_shell.specs.Built.{has_compact, only_reads}
+use Rattle.fc_shell.specs.Built.{has_changing, only_reads}
 use Rattle.fc_shell.specs.Replies.{AsksUnbuilt, blank_size, image_for}
 
 -- The disk has the image that was asked for, as it was or fresh.
@@ -31,10 +31,10 @@ pub record LeavesUnbegun {D : Type 0} (d : Ghosts D) (r : Request) (old new : D)
   pub settled : d.pending new ≡ false
   pub unwritten : r.new ≡ None → IsUnwritten d old new
 
--- Something isn't built: of words or script, and nothing was asked of the disk; or `compact` for the old map of the image.
+-- Something isn't built: of words or script, and nothing was asked of the disk; or a command that changes the old map of the image.
 abbrev pub LeavesUnbuilt : {D : Type 0} → Ghosts D → Request → Option (List ℕ) → D → D → Type 0
 LeavesUnbuilt d r told old new = ((new ≡ old) × AsksUnbuilt r told)
-    ⊎ (LeavesUnbegun d r old new × ForSome told (λ text. has_compact text ≡ true))
+    ⊎ (LeavesUnbegun d r old new × ForSome told (λ text. has_changing text ≡ true))
 
 -- The run writes nothing over an image that is there: it may not change it, or its script, which is told, only reads.
 abbrev pub RunSpares : Request → Option (List ℕ) → Type 0

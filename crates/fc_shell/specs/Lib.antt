@@ -1,5 +1,6 @@
 pub mod Answered
 pub mod Built
+pub mod Changing
 pub mod Ends
 pub mod Kept
 pub mod Left

@@ -12,7 +12,7 @@ use Rattle.fc_runs.specs.Run.{Mode}
 use Rattle.fc_words.specs.CommandLine.{Request}
 use Rattle.fc_shell.specs.declared.ending.End.{End}
 use Rattle.fc_shell.specs.declared.ending.End.TheVariants.{Done, Refused, BadWords, BadImage, DiskFault, ScriptFault, OutFault, NoMemory, ScriptTooLong, NotBuilt, NoImage}
-use Rattle.fc_shell.specs.Built.{has_compact, has_unbuilt}
+use Rattle.fc_shell.specs.Built.{has_changing, has_unbuilt}
 use Rattle.fc_shell.specs.Modes.{plain_mode}
 use Rattle.fc_shell.specs.Replies.{blank_size, image_for, is_unbuilt, script_limit}
 
@@ -37,9 +37,9 @@ EndsOnFault d old new fault text NoMemory = HasNoRun d old new [] text
 EndsOnFault d old new fault text OutFault = (n : ℕ) × HasNoRun d old new (take n (bad_image_line fault)) text
 EndsOnFault d old new fault text end = ⊥
 
--- The script compacts, and the image has an old map. It was opened or made, and no line was begun.
+-- The script changes the disc, and the image has an old map. It was opened or made, and no line was begun.
 pub record LacksNewMap {D : Type 0} (d : Ghosts D) (old new : D) (fresh : Bool) (s : State) (script text : List ℕ) : Type 0 where
-  pub compacts : has_compact script ≡ true
+  pub changes : has_changing script ≡ true
   pub old_map : IsNewLayout s.view.layout → ⊥
   pub not_begun : HasNotSuited d old new fresh s text
 
@@ -86,7 +86,7 @@ abbrev pub Promise : {D : Type 0} → Ghosts D → D → D → (List ℕ → Opt
 Promise d old new gives image script text None end = EndsBefore d old new BadWords text end
 Promise d old new gives image script text (Some r) end = EndsByWords d old new gives r image script text (is_unbuilt r) end
 
--- whether a map lacks what a script compacts
+-- whether the map is an old one and the script changes the disc
 abbrev pub LacksMap : Layout → List ℕ → Bool → Type 0
-LacksMap layout script true = (has_compact script ≡ true) × (IsNewLayout layout → ⊥)
-LacksMap layout script false = has_compact script ≡ true → IsNewLayout layout
+LacksMap layout script true = (has_changing script ≡ true) × (IsNewLayout layout → ⊥)
+LacksMap layout script false = has_changing script ≡ true → IsNewLayout layout

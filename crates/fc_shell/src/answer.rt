@@ -1,17 +1,18 @@
 // The answer to a line of the script.
-ghost use Rattle.std.specs.Prelude.{◌≡◌, List, ℕ, true, Ok, IsFalse, IsTrue};
+ghost use Rattle.std.specs.Prelude.{◌≡◌, List, ℕ, true, false, Ok, IsFalse, IsTrue};
 ghost use Rattle.fc_device.specs.Calls.{OnlyReads};
 ghost use Rattle.fc_image.specs.Stays.{IsNewLayout};
-ghost use Rattle.fc_model.specs.Command.{Command as Model};
 ghost use Rattle.fc_runs.specs.ReadLaw.{is_reading};
 ghost use Rattle.fc_script.specs.Lines.{command_of};
 ghost use Rattle.fc_script.specs.Reading.{command};
 ghost use Rattle.fc_volume.specs.Volume.{StandsFor, parts_of};
 ghost use Rattle.fc_shell.specs.Answered.{Answered, ForState, IsCaused, volume_reply};
-ghost use Rattle.fc_shell.specs.Built.{is_built, is_compact, is_unbuilt_command};
+ghost use Rattle.fc_shell.specs.Built.{is_built, is_changing, is_unbuilt_command};
 ghost use Rattle.fc_shell.specs.Line.{KeepsGoing, LineEnds};
 
+use crate::built::is_reading;
 use crate::cat::cat;
+use crate::change::answer_change;
 use crate::check::check;
 use crate::compact::compact;
 use crate::digest::digest;
@@ -73,15 +74,19 @@ fn answer_command<D: Disk, K: Sink>(
     requires stands { StandsFor D.Disk volume.old disk.old }
     requires settled { IsFalse (D.pending disk.old) }
     requires built { is_built (command asked.now) ≡ true }
-    requires new_map { command asked.now ≡ Model.Compact → IsNewLayout (parts_of volume.old).layout }
+    requires new_map { is_reading (command asked.now) ≡ false → IsNewLayout (parts_of volume.old).layout }
+    requires spelled { (line : List ℕ) × (command_of line ≡ Ok (command asked.now)) }
     ensures step { (line : List ℕ) → command_of line ≡ Ok (command asked.now) → ForState (D.bytes disk.old) volume.old (λ kind s.
         LineEnds D.Disk disk.old disk.new kind volume.old.read_only s volume.new line (K.taken out.old) (K.taken out.new) result) }
     ensures keeps { (line : List ℕ) → command_of line ≡ Ok (command asked.now)
         → KeepsGoing D.Disk K.Sink disk.old disk.new out.old out.new volume.old volume.new line result }
 {
+    if is_reading(asked) {
+        return answer_reading(alloc, volume, disk, out, asked);
+    }
     match asked {
         Command::Compact => compact(alloc, volume, disk, out),
-        _ => answer_reading(alloc, volume, disk, out, asked),
+        _ => answer_change(alloc, volume, disk, out, asked),
     }
 }
 
@@ -99,7 +104,7 @@ pub fn answer_line<D: Disk, K: Sink>(
     requires stands { StandsFor D.Disk volume.old disk.old }
     requires settled { IsFalse (D.pending disk.old) }
     requires built { IsFalse (is_unbuilt_command (command_of line.now)) }
-    requires new_map { is_compact (command_of line.now) ≡ true → IsNewLayout (parts_of volume.old).layout }
+    requires new_map { is_changing (command_of line.now) ≡ true → IsNewLayout (parts_of volume.old).layout }
     ensures step { ForState (D.bytes disk.old) volume.old (λ kind s.
         LineEnds D.Disk disk.old disk.new kind volume.old.read_only s volume.new line.now (K.taken out.old) (K.taken out.new) result) }
     ensures keeps { KeepsGoing D.Disk K.Sink disk.old disk.new out.old out.new volume.old volume.new line.now result }

@@ -1,13 +1,35 @@
-// Whether a script asks for what isn't built.
+// Whether a script asks for what isn't built, and whether it changes the disc.
 ghost use Rattle.std.specs.Prelude.{◌≡◌, not, IfOk};
+ghost use Rattle.fc_runs.specs.ReadLaw.{is_reading};
 ghost use Rattle.fc_script.specs.Lines.{command_of};
 ghost use Rattle.fc_script.specs.Reading.{command};
-ghost use Rattle.fc_shell.specs.Built.{has_compact, has_unbuilt, is_built, is_compact, is_unbuilt_command};
+ghost use Rattle.fc_shell.specs.Built.{has_changing, has_unbuilt, is_built, is_changing, is_unbuilt_command};
 
 use crate::lines::CommandLines;
 use fc_device::NoMemory;
 use fc_script::{Command, LineError, read_line};
 use std::alloc::Global;
+
+/// Whether a command changes nothing.
+pub fn is_reading(asked: &Command) -> bool
+    ensures { result ≡ is_reading (command asked.now) }
+{
+    match asked {
+        Command::Cat { .. }
+        | Command::Load { .. }
+        | Command::Digest { .. }
+        | Command::Free
+        | Command::Check => true,
+        Command::Cdir { .. }
+        | Command::Delete { .. }
+        | Command::Save { .. }
+        | Command::Create { .. }
+        | Command::Rename { .. }
+        | Command::Set { .. }
+        | Command::Compact
+        | Command::Reclaim => false,
+    }
+}
 
 // Whether a command isn't built yet.
 fn lacks_command(asked: &Command) -> bool
@@ -19,13 +41,13 @@ fn lacks_command(asked: &Command) -> bool
         | Command::Digest { .. }
         | Command::Free
         | Command::Check
+        | Command::Delete { .. }
+        | Command::Set { .. }
         | Command::Compact => false,
         Command::Cdir { .. }
-        | Command::Delete { .. }
         | Command::Save { .. }
         | Command::Create { .. }
         | Command::Rename { .. }
-        | Command::Set { .. }
         | Command::Reclaim => true,
     }
 }
@@ -41,12 +63,12 @@ fn is_unbuilt(alloc: Global, line: &[u8]) -> Result<bool, NoMemory>
     }
 }
 
-// Whether a line spells `compact`.
-fn is_compact(alloc: Global, line: &[u8]) -> Result<bool, NoMemory>
-    ensures { IfOk result (λ compacts. compacts ≡ is_compact (command_of line.now)) }
+// Whether a line spells a command that changes the disc.
+fn is_changing(alloc: Global, line: &[u8]) -> Result<bool, NoMemory>
+    ensures { IfOk result (λ changes. changes ≡ is_changing (command_of line.now)) }
 {
     match read_line(alloc, line) {
-        Ok(command) => Ok(matches!(command, Command::Compact)),
+        Ok(command) => Ok(!is_reading(&command)),
         Err(LineError::BadCommand | LineError::BadName) => Ok(false),
         Err(LineError::NoMemory) => Err(NoMemory),
     }
@@ -65,13 +87,13 @@ pub fn has_unbuilt(alloc: Global, script: &[u8]) -> Result<bool, NoMemory>
     Ok(false)
 }
 
-/// Whether a line of a script spells `compact`.
-pub fn has_compact(alloc: Global, script: &[u8]) -> Result<bool, NoMemory>
-    ensures { IfOk result (λ compacts. compacts ≡ has_compact script.now) }
+/// Whether a line of a script spells a command that changes the disc.
+pub fn has_changing(alloc: Global, script: &[u8]) -> Result<bool, NoMemory>
+    ensures { IfOk result (λ changes. changes ≡ has_changing script.now) }
 {
     let mut lines = CommandLines::new(script);
     while let Some(line) = lines.next() {
-        if is_compact(alloc, line)? {
+        if is_changing(alloc, line)? {
             return Ok(true);
         }
     }

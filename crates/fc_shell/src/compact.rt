@@ -3,28 +3,16 @@ ghost use Rattle.std.specs.Prelude.{◌≡◌, List, ℕ, Ok, IsFalse, IsTrue};
 ghost use Rattle.fc_image.specs.Stays.{IsNewLayout};
 ghost use Rattle.fc_model.specs.Command.{Command as Model};
 ghost use Rattle.fc_script.specs.Lines.{command_of};
-ghost use Rattle.fc_script.specs.Texts.{ok_line};
 ghost use Rattle.fc_volume.specs.Volume.{StandsFor, parts_of};
-ghost use Rattle.fc_shell.specs.Answered.{Answered, ForState, OnlyTells};
+ghost use Rattle.fc_shell.specs.Answered.{ForState};
 ghost use Rattle.fc_shell.specs.Line.{KeepsGoing, LineEnds};
 
 use crate::answer::LineFault;
+use crate::change::tell_done;
 use crate::reply::{refusal, tell};
-use crate::sink::write_all;
 use fc_device::{Disk, Sink};
 use fc_volume::{CommandError, Volume};
 use std::alloc::Global;
-
-// Writes the reply to a command that was done. No memory is needed.
-fn tell_done<K: Sink>(out: &mut K) -> Result<bool, LineFault>
-    ensures answered { Answered ok_line (K.taken out.old) (K.taken out.new) result }
-    ensures only { OnlyTells K.Sink out.old out.new result }
-{
-    match write_all(out, b"ok\n") {
-        Ok(()) => Ok(false),
-        Err(_) => Err(LineFault::Out),
-    }
-}
 
 /// Answers `compact`, over a new map: compacts the disc, and then writes the reply. Answers whether the reply is an error line.
 pub fn compact<D: Disk, K: Sink>(

@@ -1,12 +1,13 @@
 //! The top of the filing system: a run of a script over an image.
 //!
-//! Commands that read are served, over images of every kind and over fresh volumes. What needs more is answered by
-//! `End::NotBuilt`.
+//! Commands that read are served, over images of every kind and over fresh volumes, and of those that change the disc
+//! `compact`, `delete` and `set`, over new maps. What needs more is answered by `End::NotBuilt`.
 #![tactic(auto)]
 
 mod answer;
 mod built;
 mod cat;
+mod change;
 mod check;
 mod compact;
 mod digest;
@@ -30,7 +31,7 @@ ghost use Rattle.fc_device.specs.Faults.{Rose};
 ghost use Rattle.fc_runs.specs.Run.{commands_in};
 ghost use Rattle.fc_words.specs.CommandLine.{Request, request_of};
 ghost use Rattle.fc_words.specs.Request.{request_in};
-ghost use Rattle.fc_shell.specs.Built.{Spares, has_compact, has_unbuilt};
+ghost use Rattle.fc_shell.specs.Built.{Spares, has_changing, has_unbuilt};
 ghost use Rattle.fc_shell.specs.Ends.{AsksFor, FitsGiven, is_early, is_late, is_over_image};
 ghost use Rattle.fc_shell.specs.Kept.{HasImage, LeavesDisk, LeavesUnbegun, LeavesUnbuilt, RunKeeps, RunSpares};
 ghost use Rattle.fc_shell.specs.Promise.{EndsByScript, EndsByWords, Promise};
@@ -63,7 +64,7 @@ fn run_script<D: Disk, K: Sink>(
     ensures keeps { RunKeeps D.Disk K.Sink (request_in asked.now) (Spares (request_in asked.now).read_only (commands_in script.now)) disk.old disk.new out.old out.new result }
     ensures unattached { has_unbuilt script.now ≡ true → (is_early result ≡ true) × (disk.new ≡ disk.old) × (out.new ≡ out.old) }
     ensures not_built { result ≡ End.NotBuilt → (out.new ≡ out.old) × (((disk.new ≡ disk.old) × (has_unbuilt script.now ≡ true))
-        ⊎ (LeavesUnbegun D.Disk (request_in asked.now) disk.old disk.new × (has_compact script.now ≡ true))) }
+        ⊎ (LeavesUnbegun D.Disk (request_in asked.now) disk.old disk.new × (has_changing script.now ≡ true))) }
     ensures ended { (is_late result ≡ true) ⊎ ((result ≡ End.NoImage) ⊎ (result ≡ End.NotBuilt)) }
 {
     // A law, for the proof alone: an image that is accepted opens as its own kind.
@@ -114,11 +115,11 @@ fn run_request<D: Disk, S: Source, K: Sink>(
 ///
 /// `words` are those after the program's name. In this order: the words, the whole script, the image, the fresh volume
 /// where one is asked for, opening, and the commands in turn. The first that fails ends the run. An image that is there
-/// is written by `compact` alone, and never where the words forbid it.
+/// is written by commands that change the disc alone, and never where the words forbid it.
 ///
 /// Where the source tells its script, two ends are settled whatever the disk tells. With words of the grammar that ask for
 /// nothing that isn't built, a script that is too long ends as `ScriptTooLong`, any other with a command that isn't built as
-/// `NotBuilt`, and the rest as neither, but for a `compact` over an old map (`NotBuilt`); only a call of the source may fail first, and memory may be short.
+/// `NotBuilt`, and the rest as neither, but for a command that changes an old map (`NotBuilt`); only a call of the source may fail first, and memory may be short.
 pub fn run<D: Disk, S: Source, K: Sink>(
     alloc: Global,
     words: &Vec<String>,
@@ -133,8 +134,9 @@ pub fn run<D: Disk, S: Source, K: Sink>(
         (text : List ℕ) × Wrote (K.taken out.old) (K.taken out.new) text
         × Promise D.Disk disk.old disk.new gives image lines text (request_of (map string_bytes words.now.items)) result))) }
 
-    // If the script doesn't compact, end and text are even those of words, script and image, unless a call failed or memory was short.
-    ensures reply { ForSome (D.gives disk.old) (λ gives. ForSome (S.left script.old) (λ text. ForSome (D.bytes disk.old) (λ image. has_compact text ≡ false →
+    // If the script changes nothing, or asks for what isn't built, end and text are even those of words, script and image, unless
+    // a call failed or memory was short.
+    ensures reply { ForSome (D.gives disk.old) (λ gives. ForSome (S.left script.old) (λ text. ForSome (D.bytes disk.old) (λ image. (has_unbuilt text ≡ true) ⊎ (has_changing text ≡ false) →
         EndsAs (run_reply (map string_bytes words.now.items) gives text image) result (K.taken out.old) (K.taken out.new)))) }
 
     // Words that aren't of the grammar, and no others, are bad; nothing is read, attached or written.
@@ -147,7 +149,7 @@ pub fn run<D: Disk, S: Source, K: Sink>(
     ensures asks { (r : Request) → request_of (map string_bytes words.now.items) ≡ Some r → AsksFor (r.image, blank_size r) result (D.asked disk.old) (D.asked disk.new) }
 
     // Nothing is attached or written where the words or the script ask for what isn't built, or the script is too long. Then
-    // the run ends before an image is asked for. These two ends have no other cause, but that the script compacts an old map:
+    // the run ends before an image is asked for. These two ends have no other cause, but that the script changes an old map:
     // then the image was opened, or made, and no line was begun (`promise`).
     ensures unbuilt { (r : Request) → request_of (map string_bytes words.now.items) ≡ Some r → is_unbuilt r ≡ true
         → ((result ≡ End.NotBuilt) ⊎ (result ≡ End.NoMemory)) × (script.new ≡ script.old) × (disk.new ≡ disk.old) × (out.new ≡ out.old) }

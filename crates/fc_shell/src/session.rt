@@ -11,7 +11,7 @@ ghost use Rattle.fc_runs.specs.Run.{commands_in};
 ghost use Rattle.fc_volume.specs.Volume.{StandsFor, parts_of};
 ghost use Rattle.fc_words.specs.Request.{request_in};
 ghost use Rattle.fc_shell.specs.Answered.{ForState, IsCaused};
-ghost use Rattle.fc_shell.specs.Built.{Spares, has_compact, has_unbuilt};
+ghost use Rattle.fc_shell.specs.Built.{Spares, has_changing, has_unbuilt};
 ghost use Rattle.fc_shell.specs.Ends.{end_of, is_late};
 ghost use Rattle.fc_shell.specs.Kept.{LeavesUnbegun, RunKeeps, SessionKeeps};
 ghost use Rattle.fc_shell.specs.Line.{GoesOn};
@@ -22,7 +22,7 @@ ghost use Rattle.fc_shell.specs.Serving.{ServesAs};
 ghost use Rattle.fc_shell.specs.Writing.{Wrote, WrotePart};
 
 use crate::answer::{LineFault, answer_line};
-use crate::built::has_compact;
+use crate::built::has_changing;
 use crate::ending::End;
 use crate::image::attach_image;
 use crate::lines::CommandLines;
@@ -49,7 +49,7 @@ fn serve<D: Disk, K: Sink>(
     requires stands { StandsFor D.Disk volume.old disk.old }
     requires settled { IsFalse (D.pending disk.old) }
     requires built { has_unbuilt script.now ≡ false }
-    requires new_map { has_compact script.now ≡ true → IsNewLayout (parts_of volume.old).layout }
+    requires new_map { has_changing script.now ≡ true → IsNewLayout (parts_of volume.old).layout }
     ensures served { ForState (D.bytes disk.old) volume.old (λ kind s.
         ServesAs D.Disk disk.old disk.new kind volume.old.read_only s script.now (K.taken out.old) (K.taken out.new) result) }
     ensures goes { GoesOn D.Disk disk.old disk.new }
@@ -96,13 +96,13 @@ fn tell_fault<K: Sink>(alloc: Global, out: &mut K, fault: ImageFault) -> End
     }
 }
 
-// Whether a script compacts, and the volume's map is an old one: that isn't built.
+// Whether a script changes the disc, and the volume's map is an old one: that isn't built.
 fn lacks_map(alloc: Global, volume: &Volume, script: &[u8]) -> Result<bool, NoMemory>
     ensures { IfOk result (LacksMap (parts_of volume.now).layout script.now) }
 {
     match volume.space() {
         Space::NewMapped(_) => Ok(false),
-        Space::OldMapped(_) => has_compact(alloc, script),
+        Space::OldMapped(_) => has_changing(alloc, script),
     }
 }
 
@@ -122,7 +122,7 @@ fn answer_volume<D: Disk, K: Sink>(
     ensures promise { ForState (D.bytes disk.old) volume.old (λ kind s. (text : List ℕ) × Wrote (K.taken out.old) (K.taken out.new) text
         × EndsOver D.Disk disk.old disk.new (plain_mode kind volume.old.read_only) false s script.now text result) }
     ensures keeps { SessionKeeps D.Disk K.Sink (Spares volume.old.read_only (commands_in script.now)) disk.old disk.new out.old out.new result }
-    ensures compacts { result ≡ End.NotBuilt → has_compact script.now ≡ true }
+    ensures changes { result ≡ End.NotBuilt → has_changing script.now ≡ true }
 {
     match lacks_map(alloc, volume, script) {
         Err(NoMemory) => End::NoMemory,
@@ -144,7 +144,7 @@ fn answer_image<D: Disk, K: Sink>(
     ensures promise { ForSome (D.bytes disk.old) (λ image. (text : List ℕ) × Wrote (K.taken out.old) (K.taken out.new) text
         × EndsByOpening D.Disk disk.old disk.new read_only false image script.now text (open_image image) result) }
     ensures keeps { SessionKeeps D.Disk K.Sink (Spares read_only (commands_in script.now)) disk.old disk.new out.old out.new result }
-    ensures compacts { result ≡ End.NotBuilt → has_compact script.now ≡ true }
+    ensures changes { result ≡ End.NotBuilt → has_changing script.now ≡ true }
 {
     // A law, for the proof alone: an image that is accepted opens as its own kind.
     fc_image::accepted();
@@ -170,7 +170,7 @@ pub fn answer_script<D: Disk, K: Sink>(
         × EndsByGiving D.Disk disk.old disk.new r image script.now text (gives r.image (blank_size r)) result)) }
     ensures keeps { RunKeeps D.Disk K.Sink (request_in asked.now) (Spares (request_in asked.now).read_only (commands_in script.now)) disk.old disk.new out.old out.new result }
     ensures late { (is_late result ≡ true) ⊎ ((result ≡ End.NoImage) ⊎ (result ≡ End.NotBuilt)) }
-    ensures not_built { result ≡ End.NotBuilt → LeavesUnbegun D.Disk (request_in asked.now) disk.old disk.new × (out.new ≡ out.old) × (has_compact script.now ≡ true) }
+    ensures not_built { result ≡ End.NotBuilt → LeavesUnbegun D.Disk (request_in asked.now) disk.old disk.new × (out.new ≡ out.old) × (has_changing script.now ≡ true) }
 {
     // Laws, for the proof alone: a fresh image is accepted, and one that is accepted opens as its own kind.
     fc_image::accepted();

@@ -29,7 +29,7 @@ abbrev keyed : Path → Node → Path × Node
 keyed front n = (front ++ folded n.name ∷ [], n)
 
 -- the key has one name more than the path, and begins with it
-abbrev is_below : Path → Path → Bool
+abbrev pub is_below : Path → Path → Bool
 is_below path key = (length key == length path + 1) && is_prefix (folded_path path) key
 
 then_level : (r : Ordering) → ordering_then r Equal ≡ r
@@ -50,7 +50,7 @@ is_prefix_of : (p q : Path) → p ≡ take (length p) q → is_prefix p q ≡ tr
 is_prefix_of p q e = (pointwise_decides bytes_decides p (take (length p) q)).1 e
 
 -- a key below a path is that of the path with a name
-below_front : (path front : Path) (last : List ℕ) → is_below path (front ++ last ∷ []) ≡ true → front ≡ folded_path path
+pub below_front : (path front : Path) (last : List ℕ) → is_below path (front ++ last ∷ []) ≡ true → front ≡ folded_path path
 below_front path front last h =
     let long : length (front ++ last ∷ []) ≡ length path + 1 = eqb-true _ _ (first_so (length (front ++ last ∷ []) == length path + 1) (is_prefix (folded_path path) (front ++ last ∷ [])) h) in
     let prefix = prefix_is (folded_path path) (front ++ last ∷ []) (second_so (length (front ++ last ∷ []) == length path + 1) (is_prefix (folded_path path) (front ++ last ∷ [])) h) in
@@ -61,7 +61,7 @@ below_front path front last h =
 both_so : (a b : Bool) → a ≡ true → b ≡ true → (a && b) ≡ true
 both_so a b e f = ap₂ (λ (x y : Bool). x && y) e f
 
-front_below : (path : Path) (last : List ℕ) → is_below path (folded_path path ++ last ∷ []) ≡ true
+pub front_below : (path : Path) (last : List ℕ) → is_below path (folded_path path ++ last ∷ []) ≡ true
 front_below path last =
     let same : length (folded_path path) ≡ length path = length-map path folded in
     let pushed = length_push (folded_path path) last in

@@ -1,34 +1,31 @@
 -- The parts of a volume whose map is compacted.
-use Rattle.std.proofs.Common.{◌≡◌, ◌≤◌, ◌⊎◌, inl, inr, ℕ, Bool, true, false, cond, List, [], ◌∷◌, ◌++◌, length, map, Option, Some, None, refl, sym, ap, ap₂, subst, ◌∙◌, arith}
-use Rattle.std.specs.Prelude.{Result, Ok, Err, Contains, IsPermutation, filter, ◌==◌, ◌||◌, ◌&&◌, nat_le, nat_lt}
-use Rattle.std.specs.List.{find, list_any}
+use Rattle.std.proofs.Common.{◌≡◌, ◌≤◌, ℕ, Bool, true, false, cond, List, [], ◌∷◌, ◌++◌, length, map, Option, Some, None, refl, sym, ap, ap₂, subst, ◌∙◌}
+use Rattle.std.specs.Prelude.{Ok, Contains, IsPermutation, filter, ◌==◌, ◌||◌, ◌&&◌, nat_le, nat_lt}
 use Rattle.std.specs.Ordering.{nat_cmp}
-use Rattle.std.specs.FinMap.{FinMap, get}
+use Rattle.std.specs.FinMap.{FinMap}
 use Rattle.std.proofs.lemmas.Bool.{eqb-true}
 use Rattle.std.proofs.lemmas.List.{length-map}
-use Rattle.fc_record.specs.declared.Geometry.{Geometry}
 use Rattle.fc_record.specs.declared.Kind.{Kind}
 use Rattle.fc_names.specs.Names.{Path, is_same_path}
-use Rattle.fc_zone.specs.declared.RunKind.{RunKind}
 use Rattle.fc_newmap.specs.Map.{Map, ZoneRun, all_runs, id_runs, map_sectors, sectors_of}
-use Rattle.fc_newmap.specs.RunsLaw.{IsGeometry, HasZones}
+use Rattle.fc_newmap.specs.RunsLaw.{IsGeometry}
 use Rattle.fc_newmap.proofs.HeldLemmas.{geometry_facts}
 use Rattle.fc_alloc.specs.declared.owner.Owner.{Owner}
 use Rattle.fc_alloc.specs.Owners.{is_id_owned}
 use Rattle.fc_image.specs.Layout.{Layout, dir_form, hole_sectors, id_of, is_among, sectors_at}
 use Rattle.fc_image.specs.Walk.{Listing, Object, Reader, object_size, walk}
-use Rattle.fc_image.specs.Objects.{has_sectors, is_movable, is_owned, is_owner_of, listing_at, objects_of}
+use Rattle.fc_image.specs.Objects.{has_sectors, is_movable, listing_at, objects_of}
 use Rattle.fc_image.specs.Opening.{boot_place, is_hole_or_movable, least_of, misplaced_sector, reserved_in}
-use Rattle.fc_image.specs.Moves.{listing_in, object_in, sectors_or_none}
+use Rattle.fc_image.specs.Moves.{listing_in, sectors_or_none}
 use Rattle.fc_image.proofs.EntriesLemmas.{from_map}
 use Rattle.fc_image.proofs.HolesLemmas.{EachListed, Has, Lies, holes_loose, id_no_hole, in_id, least_none, lies_step, loose_sectors, none_loose, walk_lies}
 use Rattle.fc_image.proofs.MoveLemmas.{in_carry, loose_before, loose_carry, objects_carry, sectors_carry, tight_from, unless}
 use Rattle.fc_image.proofs.RemapLemmas.{AllIn, carry, carry_listing, carry_walk, map_fixed}
 use Rattle.fc_compact.specs.Ready.{AreOwnersOf, is_movable_by}
 use Rattle.fc_tree.specs.declared.node.Node.{Node}
-use Rattle.fc_tree.specs.Agree.{Agree, AreWalked, HasForm, IsDirectory, reader_of_nodes}
+use Rattle.fc_tree.specs.Agree.{Agree, HasForm, IsDirectory, reader_of_nodes}
 use Rattle.fc_tree.specs.Nodes.{HasNode, HoldObjects, body_of}
-use Rattle.fc_tree.specs.Parts.{AreOwners, Parts, owner_of}
+use Rattle.fc_tree.specs.Parts.{AreOwners, owner_of}
 use Rattle.fc_volume.specs.Compacting.{IsCompacted}
 use Rattle.fc_volume.proofs.CarryLemmas.{carried, carries, fixed_stays, new_shape, no_fewer, stays_two}
 use Rattle.fc_volume.proofs.MisplacedLemmas.{id_owned}

@@ -1,6 +1,6 @@
 -- Where sectors come to lie when a map is compacted.
-use Rattle.std.proofs.Common.{◌≡◌, ◌<◌, ◌≤◌, ◌⊎◌, inl, inr, ℕ, zero, suc, ◌+◌, ◌*◌, ◌/◌, ◌%◌, Bool, true, false, cond, List, [], ◌∷◌, ◌++◌, length, map, Option, Some, None, refl, sym, ap, ap₂, subst, ◌∙◌, arith}
-use Rattle.std.specs.Prelude.{Result, Ok, Err, Contains, filter, ◌==◌, ◌||◌, ◌&&◌, nat_le}
+use Rattle.std.proofs.Common.{◌≡◌, ◌<◌, ◌≤◌, ◌⊎◌, inl, inr, ℕ, ◌+◌, ◌*◌, ◌/◌, ◌%◌, Bool, true, false, cond, List, [], ◌∷◌, ◌++◌, length, map, Option, Some, None, refl, sym, ap, ap₂, subst, ◌∙◌, arith}
+use Rattle.std.specs.Prelude.{Ok, Err, Contains, filter, ◌==◌, ◌||◌}
 use Rattle.std.specs.List.{find}
 use Rattle.std.proofs.lemmas.Bool.{eqb-true, eq-eqb}
 use Rattle.std.proofs.lemmas.List.{length-append}
@@ -15,10 +15,10 @@ use Rattle.fc_zone.specs.declared.RunKind.TheVariants as kinds
 use Rattle.fc_newmap.specs.Map.{Map, ZoneRun, all_runs, bits_in, has_id, hole_runs, id_runs, is_hole, run_sectors, sector_count, sectors_of}
 use Rattle.fc_newmap.specs.NewMap.{IsNewMap}
 use Rattle.fc_newmap.specs.RunsLaw.{IsGeometry, HasZones, HoldsSector}
-use Rattle.fc_newmap.proofs.CoverLemmas.{Distinct, id_Distinct, run_there}
+use Rattle.fc_newmap.proofs.CoverLemmas.{id_Distinct, run_there}
 use Rattle.fc_newmap.proofs.GeometryLemmas.{geometry_of_valid}
 use Rattle.fc_newmap.proofs.HeldLemmas.{geometry_facts}
-use Rattle.fc_newmap.proofs.PlaceLemmas.{contains_cases, contains_none, contains_here, contains_later, filter_in, held_in, holder_of, id_run_in, in_back, in_filter, in_id_runs, in_range, is_in, range_in}
+use Rattle.fc_newmap.proofs.PlaceLemmas.{contains_cases, contains_none, contains_here, contains_later, held_in, holder_of, id_run_in, in_back, in_filter, in_id_runs, in_range, is_in, range_in}
 use Rattle.fc_newmap.proofs.RunsLemmas.{runs_apart, sectors_add}
 use Rattle.fc_alloc.specs.declared.owner.Owner.{Owner}
 use Rattle.fc_effects.specs.Settled.{KeepsBits}
@@ -31,7 +31,7 @@ use Rattle.fc_image.specs.Walk.{Object}
 use Rattle.fc_image.specs.Objects.{is_movable}
 use Rattle.fc_image.specs.Opening.{is_hole_or_movable as loose}
 use Rattle.fc_image.proofs.HolesLemmas.{loose_sectors}
-use Rattle.fc_image.proofs.MoveLemmas.{CarriesIds, one_id, unless}
+use Rattle.fc_image.proofs.MoveLemmas.{CarriesIds, one_id}
 use Rattle.fc_image.proofs.RemapLemmas.{map_moved, moved_in, moved_one, moved_to}
 
 -- ---- the run that holds a sector

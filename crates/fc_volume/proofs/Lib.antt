@@ -13,3 +13,13 @@ mod RepairedLemmas
 mod CompactedLemmas
 mod StandsLemmas
 mod PieceLemmas
+mod WritingLemmas
+mod TakingLemmas
+mod SettingLemmas
+mod TargetLemmas
+mod JudgedLemmas
+mod SetLemmas
+mod ChangeLemmas
+mod SetVolumeLemmas
+mod DeleteLemmas
+mod DeleteVolumeLemmas

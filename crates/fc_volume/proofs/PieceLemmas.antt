@@ -35,7 +35,7 @@ use Rattle.fc_volume.proofs.ReadingLemmas.{each_at, file_sectors}
 
 -- ---- places
 
-all_low : (n : ℕ) (xs : List ℕ) → ((s : ℕ) → is_among xs s ≡ true → s < n) → All (λ s. s < n) xs
+pub all_low : (n : ℕ) (xs : List ℕ) → ((s : ℕ) → is_among xs s ≡ true → s < n) → All (λ s. s < n) xs
 all_low n [] low = All-nil (λ s. s < n)
 all_low n (x ∷ xs) low = All-cons (λ s. s < n) x xs (low x (first_among x xs)) (all_low n xs (λ s e. low s (in_back (x ∷ []) xs s e)))
 

@@ -1,10 +1,9 @@
 -- An image whose copies are made equal, before its map is compacted.
-use Rattle.std.proofs.Common.{◌≡◌, ◌<◌, ◌≤◌, ◌⊎◌, inl, inr, ℕ, ◌+◌, ◌*◌, false, List, refl, sym, ap, subst, ◌∙◌, arith}
-use Rattle.std.specs.Prelude.{Option, Some, Ok}
+use Rattle.std.proofs.Common.{◌≡◌, ◌<◌, ◌≤◌, ◌⊎◌, inl, inr, ℕ, ◌+◌, ◌*◌, false, List, refl, ap, subst, ◌∙◌}
+use Rattle.std.specs.Prelude.{Some}
 use Rattle.std.specs.Option.{ForSome}
 use Rattle.std.proofs.lemmas.Bool.{cases_lt}
 use Rattle.fc_device.specs.declared.disk.Disk.{Ghosts}
-use Rattle.fc_device.specs.Sectors.{sector_at}
 use Rattle.fc_device.specs.Calls.{StopsAndExitsLeave}
 use Rattle.fc_device.specs.Stops.{Keeps}
 use Rattle.fc_device.proofs.DiskLaws.{Laws}

@@ -6,3 +6,8 @@ pub mod Owners
 pub mod Mounting
 pub mod Reading
 pub mod Compacting
+pub mod Changing
+pub mod Rewrites
+pub mod Setting
+pub mod ChangeLaws
+pub mod Deleting

@@ -24,7 +24,7 @@ use fc_space::{Places, Space};
 use std::alloc::Global;
 
 // Makes the copies of a map equal, if they may differ.
-fn match_copies<D: Disk>(disk: &mut D, map: &NewMap, copies: Copies) -> Result<(), DiskFault>
+pub fn match_copies<D: Disk>(disk: &mut D, map: &NewMap, copies: Copies) -> Result<(), DiskFault>
     requires attached { IsTrue (D.attached disk.old) }
     requires settled { IsFalse (D.pending disk.old) }
     requires size { D.sector_size disk.old ≡ map.now.geometry.sector }

@@ -1,6 +1,7 @@
 //! Volumes: the filing system over one disk.
 #![tactic(auto)]
 
+mod changes;
 mod compacting;
 mod copies;
 mod lines;

@@ -29,7 +29,7 @@ fn is_directory(e: &Entry) -> bool
 }
 
 // The bytes of an object of an entry. Of a small directory they follow from its form.
-fn object_bytes(space: &Space, e: &Entry) -> u64
+pub fn object_bytes(space: &Space, e: &Entry) -> u64
     ensures { result ≡ object_size (dir_form (layout_of space.now)) e.now }
 {
     if !is_directory(e) {

@@ -5,6 +5,7 @@ use crate::Copies;
 use fc_alloc::Owners;
 use fc_space::{Places, Space};
 use fc_tree::Tree;
+use std::alloc::Global;
 use std::marker::Model;
 
 /// The filing system over one disk: its map, its objects as a tree, and who owns which identifier. A volume doesn't hold the
@@ -54,6 +55,13 @@ impl Volume {
         ensures { result.now ≡ self.now.owners }
     {
         &self.owners
+    }
+
+    /// Makes the index of the map again, which a change of the map drops. If memory is short, places are found as before.
+    pub fn renew_index(&mut self, alloc: Global)
+        ensures { self.new ≡ self.old }
+    {
+        let _ = self.places.index(alloc);
     }
 
     /// Whether the volume accepts commands. A volume stays unfit once a change of it ended in a fault of the disk.

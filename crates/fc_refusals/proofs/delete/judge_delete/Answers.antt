@@ -5,10 +5,10 @@ use Rattle.fc_model.specs.Answer.{has_entries, is_locked_at, is_root}
 use Rattle.fc_image.specs.Objects.{tree_of}
 use Rattle.fc_tree.specs.Nodes.{nodes_of}
 use Rattle.fc_refusals.specs.Targets.{refusal_of}
-use Rattle.fc_refusals.proofs.FoundLemmas.{path_is}
+use Rattle.fc_refusals.proofs.FoundLemmas.{leads_to, path_is}
 use Rattle.fc_refusals.proofs.NodeLemmas.{entries_is, locked_is}
 use Rattle.fc_refusals.proofs.DeleteLemmas.{delete_refusal, removable_given}
-use Rattle.fc_refusals.proofs.TargetLemmas.{target_accepted}
+use Rattle.fc_refusals.proofs.TargetLemmas.{leads_on, target_accepted}
 use Rattle.fc_refusals.proofs.delete.judge_delete.Goals as goal
 
 pub returns-in_err-n-clause-refusal : goal.returns-in_err-n-clause-refusal
@@ -34,7 +34,7 @@ returns-then-is_locked-clause-refusal c = λ image layout listings form sound he
     let nodes = nodes_of c.args.tree.now in
     delete_refusal t form c.args.read_only path None _ _ (has_entries t path) c.args.read_only
     (path_is image layout listings nodes path (Ok c.in_ok-n.n) sound held c.in_ok-n.ensures) c.if-is_root.ensures
-    (c.if-is_locked.ensures ∙ locked_is layout listings nodes sound held path c.in_ok-n.n c.in_ok-n.ensures image) refl refl
+    (c.if-is_locked.ensures ∙ locked_is layout listings nodes sound held path c.in_ok-n.n (leads_to layout listings nodes path c.in_ok-n.n sound held c.in_ok-n.ensures) image) refl refl
 
 pub returns-then-has_entries-clause-refusal : goal.returns-then-has_entries-clause-refusal
 returns-then-has_entries-clause-refusal c = λ image layout listings form sound held.
@@ -43,8 +43,8 @@ returns-then-has_entries-clause-refusal c = λ image layout listings form sound 
     let nodes = nodes_of c.args.tree.now in
     delete_refusal t form c.args.read_only path None _ _ _ c.args.read_only
     (path_is image layout listings nodes path (Ok c.in_ok-n.n) sound held c.in_ok-n.ensures) c.if-is_root.ensures
-    (c.if-is_locked.ensures ∙ locked_is layout listings nodes sound held path c.in_ok-n.n c.in_ok-n.ensures image)
-    (c.if-has_entries.ensures ∙ entries_is layout listings nodes sound held path c.in_ok-n.n c.in_ok-n.ensures image) refl
+    (c.if-is_locked.ensures ∙ locked_is layout listings nodes sound held path c.in_ok-n.n (leads_to layout listings nodes path c.in_ok-n.n sound held c.in_ok-n.ensures) image)
+    (c.if-has_entries.ensures ∙ entries_is layout listings nodes sound held path c.in_ok-n.n (leads_to layout listings nodes path c.in_ok-n.n sound held c.in_ok-n.ensures) image) refl
 
 pub returns-then-read_only-clause-refusal : goal.returns-then-read_only-clause-refusal
 returns-then-read_only-clause-refusal c = λ image layout listings form sound held.
@@ -53,8 +53,8 @@ returns-then-read_only-clause-refusal c = λ image layout listings form sound he
     let nodes = nodes_of c.args.tree.now in
     delete_refusal t form c.args.read_only path None _ _ _ _
     (path_is image layout listings nodes path (Ok c.in_ok-n.n) sound held c.in_ok-n.ensures) c.if-is_root.ensures
-    (c.if-is_locked.ensures ∙ locked_is layout listings nodes sound held path c.in_ok-n.n c.in_ok-n.ensures image)
-    (c.if-has_entries.ensures ∙ entries_is layout listings nodes sound held path c.in_ok-n.n c.in_ok-n.ensures image) (sym c.if-read_only.true)
+    (c.if-is_locked.ensures ∙ locked_is layout listings nodes sound held path c.in_ok-n.n (leads_to layout listings nodes path c.in_ok-n.n sound held c.in_ok-n.ensures) image)
+    (c.if-has_entries.ensures ∙ entries_is layout listings nodes sound held path c.in_ok-n.n (leads_to layout listings nodes path c.in_ok-n.n sound held c.in_ok-n.ensures) image) (sym c.if-read_only.true)
 
 pub returns-clause-refusal : goal.returns-clause-refusal
 returns-clause-refusal c = λ image layout listings form sound held.
@@ -62,13 +62,13 @@ returns-clause-refusal c = λ image layout listings form sound held.
     let path = c.args.path.now in
     let nodes = nodes_of c.args.tree.now in
     target_accepted layout listings nodes path c.in_ok-n.n refusals.NotFound c.target_in.result c.ok_or.result
-    sound held c.in_ok-n.ensures c.if-is_root.ensures c.target_in.ensures c.ok_or.ensures.value
+    sound held (leads_to layout listings nodes path c.in_ok-n.n sound held c.in_ok-n.ensures) c.if-is_root.ensures c.target_in.ensures c.ok_or.ensures.value
     ∙ delete_refusal t form c.args.read_only path None _ _ _ _
     (path_is image layout listings nodes path (Ok c.in_ok-n.n) sound held c.in_ok-n.ensures) c.if-is_root.ensures
-    (c.if-is_locked.ensures ∙ locked_is layout listings nodes sound held path c.in_ok-n.n c.in_ok-n.ensures image)
-    (c.if-has_entries.ensures ∙ entries_is layout listings nodes sound held path c.in_ok-n.n c.in_ok-n.ensures image) (sym c.if-read_only.false)
+    (c.if-is_locked.ensures ∙ locked_is layout listings nodes sound held path c.in_ok-n.n (leads_to layout listings nodes path c.in_ok-n.n sound held c.in_ok-n.ensures) image)
+    (c.if-has_entries.ensures ∙ entries_is layout listings nodes sound held path c.in_ok-n.n (leads_to layout listings nodes path c.in_ok-n.n sound held c.in_ok-n.ensures) image) (sym c.if-read_only.false)
 
 pub returns-clause-target : goal.returns-clause-target
 returns-clause-target c =
     removable_given (nodes_of c.args.tree.now) c.args.path.now c.in_ok-n.n refusals.NotFound c.target_in.result c.ok_or.result
-    c.in_ok-n.ensures c.if-is_root.ensures c.if-has_entries.ensures c.target_in.ensures c.ok_or.ensures.value
+    (leads_on (nodes_of c.args.tree.now) c.args.path.now c.in_ok-n.n c.in_ok-n.ensures) c.if-is_root.ensures c.if-has_entries.ensures c.target_in.ensures c.ok_or.ensures.value

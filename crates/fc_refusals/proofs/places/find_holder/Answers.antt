@@ -1,4 +1,4 @@
-use Rattle.std.proofs.Common.{◌≡◌, ◌∙◌, sym}
+use Rattle.std.proofs.Common.{◌∙◌, sym}
 use Rattle.fc_tree.specs.Nodes.{nodes_of}
 use Rattle.fc_refusals.proofs.WalkLemmas.{stepped}
 use Rattle.fc_refusals.proofs.places.find_holder.Goals as goal

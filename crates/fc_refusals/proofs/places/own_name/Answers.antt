@@ -1,4 +1,4 @@
-use Rattle.std.proofs.Common.{◌≡◌, ap, ◌∙◌, None}
+use Rattle.std.proofs.Common.{ap, ◌∙◌, None}
 use Rattle.fc_refusals.proofs.WalkLemmas.{last_from, last_is}
 use Rattle.fc_refusals.proofs.places.own_name.Goals as goal
 

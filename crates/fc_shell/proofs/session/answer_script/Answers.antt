@@ -56,7 +56,7 @@ returns-in-Ok-true-clause-not_built g c e =
     let here : c.attach_image.result ≡ Ok true = grind (arith, c.in-Ok-true.is, c.in-Ok-true.field-0-test) in
     let x = session_unbegun (laws g.met.D.Disk) g.K.Sink r (Spares r.read_only (commands_in c.args.script.now)) c.args.disk.now c.attach_image.new.disk c.answer_image.new.disk c.args.out.now c.answer_image.new.out c.answer_image.result
     (grind (arith, attach.asked, c.as_str.ensures.value)) (λ gives given. grind (arith, c.in-Ok-true.field-0-test, c.in-Ok-true.ensures.given gives given, c.as_str.ensures.value)) (attach.bytes here) attach.unwritten attach.cause.later c.answer_image.ensures.keeps e in
-    (x.0, x.1, c.answer_image.ensures.compacts e)
+    (x.0, x.1, c.answer_image.ensures.changes e)
 
 pub returns-in-Ok-true-clause-late : goal.returns-in-Ok-true-clause-late
 returns-in-Ok-true-clause-late g c = ⊎_elim (λ late. inl late) (λ built. inr (inr built)) c.answer_image.ensures.keeps.late

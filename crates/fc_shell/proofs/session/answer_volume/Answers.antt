@@ -45,8 +45,8 @@ pub returns-in-Ok-true-clause-keeps : goal.returns-in-Ok-true-clause-keeps
 returns-in-Ok-true-clause-keeps g c =
     session_same (laws g.met.D.Disk) g.K.Sink (Spares c.args.volume.now.read_only (commands_in c.args.script.now)) c.args.disk.now c.args.out.now End.NotBuilt c.requires.settled (inr refl)
 
-pub returns-in-Ok-true-clause-compacts : goal.returns-in-Ok-true-clause-compacts
-returns-in-Ok-true-clause-compacts g c e =
+pub returns-in-Ok-true-clause-changes : goal.returns-in-Ok-true-clause-changes
+returns-in-Ok-true-clause-changes g c e =
     let is : c.in-Ok-true.field-0 ≡ true = grind (arith, c.in-Ok-true.field-0-test) in
     (subst (LacksMap (parts_of c.args.volume.now).layout c.args.script.now) is c.in-Ok-true.ensures).0
 
@@ -77,5 +77,5 @@ returns-in-Ok-false-clause-keeps g c =
       not_built = λ e. absurd (served_built c.serve.result (sym is ∙ e));
     }
 
-pub returns-in-Ok-false-clause-compacts : goal.returns-in-Ok-false-clause-compacts
-returns-in-Ok-false-clause-compacts g c e = absurd (served_built c.serve.result (sym c.end_of.ensures ∙ e))
+pub returns-in-Ok-false-clause-changes : goal.returns-in-Ok-false-clause-changes
+returns-in-Ok-false-clause-changes g c e = absurd (served_built c.serve.result (sym c.end_of.ensures ∙ e))

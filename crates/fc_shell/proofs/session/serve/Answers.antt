@@ -8,7 +8,7 @@ use Rattle.fc_image.specs.Stays.{IsNewLayout}
 use Rattle.fc_volume.specs.Volume.{parts_of}
 use Rattle.fc_script.specs.Lines.{command_of}
 use Rattle.fc_shell.specs.declared.answer.LineFault.{LineFault}
-use Rattle.fc_shell.specs.Built.{Spares, any_compact, is_compact, is_unbuilt_command}
+use Rattle.fc_shell.specs.Built.{Spares, any_changing, is_changing, is_unbuilt_command}
 use Rattle.fc_shell.specs.Left.{commands_left}
 use Rattle.fc_shell.specs.Line.{IsReady, LineEnds}
 use Rattle.fc_shell.specs.Serving.{HasServed, ServesAs}
@@ -25,7 +25,7 @@ loop-line-init g c = record {
   built = subst (λ (lines : List (List ℕ)). list_any (λ line. is_unbuilt_command (command_of line)) lines ≡ false) (sym c.new-lines.ensures) c.requires.built;
   goes = goes_same (laws g.met.D.Disk) c.args.disk.now;
   ready = record { fit = c.requires.fit; stands = c.requires.stands; settled = c.requires.settled; read_only = refl; new_map = λ new. new };
-  compacts = subst (λ (lines : List (List ℕ)). any_compact lines ≡ true → IsNewLayout (parts_of c.args.volume.now).layout) (sym c.new-lines.ensures) c.requires.new_map;
+  changes = subst (λ (lines : List (List ℕ)). any_changing lines ≡ true → IsNewLayout (parts_of c.args.volume.now).layout) (sym c.new-lines.ensures) c.requires.new_map;
   reads = λ reads. (subst (λ (lines : List (List ℕ)). Spares c.args.volume.now.read_only lines) (sym c.new-lines.ensures) reads, reads_start (laws g.met.D.Disk) c.args.disk.now);
   out_faults = omega arith;
   served = λ image told kind view opens parts.
@@ -57,8 +57,8 @@ answer_line-requires-clause-new_map g c e =
     let line = c.in-Some.line.now in
     let left = commands_left c.next.new.self in
     c.loop-line.invariant.ready.new_map
-    (subst (λ (lines : List (List ℕ)). any_compact lines ≡ true → IsNewLayout (parts_of c.args.volume.now).layout) c.in-Some.ensures c.loop-line.invariant.compacts
-    (first_of_any (is_compact (command_of line)) (any_compact left) e))
+    (subst (λ (lines : List (List ℕ)). any_changing lines ≡ true → IsNewLayout (parts_of c.args.volume.now).layout) c.in-Some.ensures c.loop-line.invariant.changes
+    (first_of_any (is_changing (command_of line)) (any_changing left) e))
 
 pub loop-line-preserved : goal.loop-line-preserved
 loop-line-preserved g c =
@@ -75,8 +75,8 @@ loop-line-preserved g c =
           (subst (λ (lines : List (List ℕ)). list_any (λ line. is_unbuilt_command (command_of line)) lines ≡ false) cut so_far.built)).1;
       goes = goes_then (laws g.met.D.Disk) so_far.goes keeps.goes;
       ready = record { fit = ready.fit; stands = ready.stands; settled = ready.settled; read_only = ready.read_only ∙ so_far.ready.read_only; new_map = λ new. ready.new_map (so_far.ready.new_map new) };
-      compacts = λ e. subst (λ (lines : List (List ℕ)). any_compact lines ≡ true → IsNewLayout (parts_of c.args.volume.now).layout) cut so_far.compacts
-          (rest_of_any (is_compact (command_of line)) (any_compact left) e);
+      changes = λ e. subst (λ (lines : List (List ℕ)). any_changing lines ≡ true → IsNewLayout (parts_of c.args.volume.now).layout) cut so_far.changes
+          (rest_of_any (is_changing (command_of line)) (any_changing left) e);
       reads = λ reads.
           let was = so_far.reads reads in
           let spares : Spares c.args.volume.now.read_only (line ∷ left) = subst (λ (lines : List (List ℕ)). Spares c.args.volume.now.read_only lines) cut was.0 in (

@@ -6,7 +6,7 @@ use Rattle.fc_runs.specs.Run.{commands_in}
 use Rattle.fc_volume.specs.Volume.{parts_of}
 use Rattle.fc_script.specs.Lines.{command_of}
 use Rattle.fc_shell.specs.Answered.{ForState}
-use Rattle.fc_shell.specs.Built.{Spares, any_compact, is_unbuilt_command}
+use Rattle.fc_shell.specs.Built.{Spares, any_changing, is_unbuilt_command}
 use Rattle.fc_shell.specs.Left.{commands_left}
 use Rattle.fc_shell.specs.Line.{GoesOn, IsReady}
 use Rattle.fc_shell.specs.Serving.{HasServed}
@@ -17,7 +17,7 @@ invariant-loop-line g l = record {
   built : list_any (λ line. is_unbuilt_command (command_of line)) (commands_left l.lines) ≡ false;
   goes : GoesOn g.D.Disk l.fn.disk l.disk;
   ready : IsReady g.D.Disk l.disk l.fn.volume l.volume;
-  compacts : any_compact (commands_left l.lines) ≡ true → IsNewLayout (parts_of l.fn.volume).layout;
+  changes : any_changing (commands_left l.lines) ≡ true → IsNewLayout (parts_of l.fn.volume).layout;
   reads : Spares l.fn.volume.read_only (commands_in l.script) → Spares l.fn.volume.read_only (commands_left l.lines) × OnlyReads g.D.Disk l.fn.disk l.disk;
   out_faults : g.K.Sink.faults l.fn.out ≤ g.K.Sink.faults l.out;
   served : ForState (g.D.Disk.bytes l.fn.disk) l.fn.volume (λ kind s.

@@ -1,0 +1,381 @@
+-- Commands that change the tree, as lines of a script.
+use Rattle.std.proofs.Common.{◌≡◌, ◌⊎◌, ◌≤◌, ℕ, zero, suc, Bool, true, false, ◌||◌, List, [], ◌∷◌, ◌++◌, Option, Some, None, Result, Ok, Err, IfOk, IfErr, inl, inr, refl, sym, ap, ap₂, subst, ◌∙◌, arith}
+use Rattle.std.specs.Prelude.{if◌then◌else◌, slice_get}
+use Rattle.std.specs.Option.{option_map}
+use Rattle.fc_device.specs.declared.disk.Disk.{Ghosts}
+use Rattle.fc_device.specs.declared.streams.Sink.{Ghosts as Sinks}
+use Rattle.fc_device.specs.Calls.{OnlyReads}
+use Rattle.fc_device.proofs.DiskLaws.{Laws}
+use Rattle.fc_device.proofs.StopLemmas.{reads_start}
+use Rattle.fc_names.specs.declared.name.NameForm.{NameForm}
+use Rattle.fc_names.specs.declared.refusal.Refusal.{Refusal}
+use Rattle.fc_names.specs.declared.refusal.Refusal.TheVariants as refusals
+use Rattle.fc_record.specs.declared.Kind.{Kind}
+use Rattle.fc_model.specs.Tree.{Tree}
+use Rattle.fc_model.specs.Command.{Command}
+use Rattle.fc_model.specs.Answer.{answer, answer_or, changed, first_of, reasons}
+use Rattle.fc_image.specs.Layout.{Layout, dir_form}
+use Rattle.fc_image.specs.Objects.{tree_of}
+use Rattle.fc_image.specs.Opening.{Opened, reserved_in}
+use Rattle.fc_image.specs.Sound.{AreSound}
+use Rattle.fc_image.specs.Stays.{OpensAs}
+use Rattle.fc_effects.specs.Effect.{Changes, State, tree_in}
+use Rattle.fc_effects.specs.Short.{short}
+use Rattle.fc_script.specs.Lines.{command_of}
+use Rattle.fc_script.specs.Texts.{ok_line, refusal_line}
+use Rattle.fc_runs.specs.Early.{reply_begun}
+use Rattle.fc_runs.specs.ReadLaw.{is_reading, reading_reply}
+use Rattle.fc_runs.specs.Run.{Answers, Effect, Serves, Step, Takes, is_error, keeps_tree, keeps_tree_or, layout_reason, shortage}
+use Rattle.fc_runs.proofs.RepliesLemmas.{changing_reply}
+use Rattle.fc_tree.specs.Agree.{Agree, reader_of_nodes}
+use Rattle.fc_tree.specs.Nodes.{nodes_of}
+use Rattle.fc_tree.specs.Parts.{ArePartsOf}
+use Rattle.fc_tree.proofs.WalkedLemmas.{apart_names, sound_law}
+use Rattle.fc_volume.specs.declared.lines.CommandError.{CommandError}
+use Rattle.fc_volume.specs.declared.lines.CommandError.TheVariants.{DiskFault, NoMemory, Refused}
+use Rattle.fc_volume.specs.Changing.{AnswersBy, refusal_in}
+use Rattle.fc_volume.specs.Compacting.{UnlessFault}
+use Rattle.fc_volume.specs.Volume.{StandsFor, Volume, parts_of}
+use Rattle.fc_shell.specs.declared.answer.LineFault.{LineFault}
+use Rattle.fc_shell.specs.Answered.{Answered, IsCaused}
+use Rattle.fc_shell.specs.Built.{is_reading_line}
+use Rattle.fc_shell.specs.Changing.{IsAsked, Tells}
+use Rattle.fc_shell.specs.Line.{IsDone, IsReady, KeepsGoing, LineEnds}
+use Rattle.fc_shell.specs.Modes.{plain_mode}
+use Rattle.fc_shell.specs.Writing.{Wrote, WrotePart}
+use Rattle.fc_shell.proofs.AnsweredLemmas.{caused_alone}
+use Rattle.fc_shell.proofs.ErrorLemmas.{ok_no_error}
+use Rattle.fc_shell.proofs.StepLemmas.{left_ends, one_fault, unbegun_ends}
+use Rattle.fc_shell.proofs.WritingLemmas.{wrote_nothing}
+
+-- ---- which commands these are
+
+-- They don't read,
+pub not_reading : (c : Command) → keeps_tree c ≡ false → is_reading c ≡ false
+not_reading (Command.Cat path) changes = absurd (cc)
+not_reading (Command.Load path) changes = absurd (cc)
+not_reading (Command.Digest path) changes = absurd (cc)
+not_reading Command.Free changes = absurd (cc)
+not_reading Command.Check changes = absurd (cc)
+not_reading Command.Compact changes = absurd (cc)
+not_reading Command.Reclaim changes = absurd (cc)
+not_reading (Command.Save path load exec bytes) changes = refl
+not_reading (Command.Create path load exec len) changes = refl
+not_reading (Command.Cdir path) changes = refl
+not_reading (Command.Delete path) changes = refl
+not_reading (Command.Rename from to) changes = refl
+not_reading (Command.Set path load exec access) changes = refl
+not_reading (Command.Mark path attrs) changes = refl
+
+-- no layout refuses them,
+no_reason : (layout : Layout) (c : Command) → keeps_tree c ≡ false → layout_reason layout c ≡ None
+no_reason (Layout.New m) c changes = refl
+no_reason (Layout.Old space) (Command.Cat path) changes = refl
+no_reason (Layout.Old space) (Command.Load path) changes = refl
+no_reason (Layout.Old space) (Command.Digest path) changes = refl
+no_reason (Layout.Old space) Command.Free changes = refl
+no_reason (Layout.Old space) Command.Check changes = refl
+no_reason (Layout.Old space) Command.Compact changes = refl
+no_reason (Layout.Old space) Command.Reclaim changes = absurd (cc)
+no_reason (Layout.Old space) (Command.Save path load exec bytes) changes = refl
+no_reason (Layout.Old space) (Command.Create path load exec len) changes = refl
+no_reason (Layout.Old space) (Command.Cdir path) changes = refl
+no_reason (Layout.Old space) (Command.Delete path) changes = refl
+no_reason (Layout.Old space) (Command.Rename from to) changes = refl
+no_reason (Layout.Old space) (Command.Set path load exec access) changes = refl
+no_reason (Layout.Old space) (Command.Mark path attrs) changes = refl
+
+-- and outside the safe mode they do what is said of changes.
+effect_of : (kind : Kind) (read_only : Bool) (s next : State) (c : Command) (t : Tree) → keeps_tree c ≡ false → Changes kind s next c t → Effect (plain_mode kind read_only) s c t next
+effect_of kind read_only s next (Command.Cat path) t changes does = absurd (cc)
+effect_of kind read_only s next (Command.Load path) t changes does = absurd (cc)
+effect_of kind read_only s next (Command.Digest path) t changes does = absurd (cc)
+effect_of kind read_only s next Command.Free t changes does = absurd (cc)
+effect_of kind read_only s next Command.Check t changes does = absurd (cc)
+effect_of kind read_only s next Command.Compact t changes does = absurd (cc)
+effect_of kind read_only s next Command.Reclaim t changes does = absurd (cc)
+effect_of kind read_only s next (Command.Save path load exec bytes) t changes does = does
+effect_of kind read_only s next (Command.Create path load exec len) t changes does = does
+effect_of kind read_only s next (Command.Cdir path) t changes does = does
+effect_of kind read_only s next (Command.Delete path) t changes does = does
+effect_of kind read_only s next (Command.Rename from to) t changes does = does
+effect_of kind read_only s next (Command.Set path load exec access) t changes does = does
+effect_of kind read_only s next (Command.Mark path attrs) t changes does = does
+
+-- ---- the first refusal
+
+refused_by : (rs : List (Option Refusal)) (last : Option Refusal) (r : Refusal) → first_of (rs ++ last ∷ []) ≡ Some r
+    → (first_of rs ≡ Some r) ⊎ ((first_of rs ≡ None) × (last ≡ Some r))
+refused_by [] None r e = absurd (cc)
+refused_by [] (Some x) r e = inr (refl, e)
+refused_by (None ∷ rs) last r e = refused_by rs last r e
+refused_by (Some x ∷ rs) last r e = inl e
+
+accepted_by : (rs : List (Option Refusal)) (last : Option Refusal) → first_of (rs ++ last ∷ []) ≡ None → (first_of rs ≡ None) × (last ≡ None)
+accepted_by [] None e = (refl, refl)
+accepted_by [] (Some x) e = absurd (cc)
+accepted_by (None ∷ rs) last e = accepted_by rs last e
+accepted_by (Some x ∷ rs) last e = absurd (cc)
+
+-- A reason that is there refuses.
+is_there : (rs : List (Option Refusal)) (i : ℕ) (r : Refusal) → slice_get rs i ≡ Some (Some r) → first_of rs ≡ None → ⊥
+is_there [] i r at none = absurd (cc)
+is_there (Some x ∷ rs) i r at none = absurd (cc)
+is_there (None ∷ rs) zero r at none = absurd (cc)
+is_there (None ∷ rs) (suc i) r at none = is_there rs i r at none
+
+-- A volume that may not be changed refuses each of them.
+locked : (t : Tree) (form : NameForm) (c : Command) → keeps_tree c ≡ false → first_of (reasons t form true c) ≡ None → ⊥
+locked t form (Command.Cat path) changes none = absurd (cc)
+locked t form (Command.Load path) changes none = absurd (cc)
+locked t form (Command.Digest path) changes none = absurd (cc)
+locked t form Command.Free changes none = absurd (cc)
+locked t form Command.Check changes none = absurd (cc)
+locked t form Command.Compact changes none = absurd (cc)
+locked t form Command.Reclaim changes none = absurd (cc)
+locked t form (Command.Save path load exec bytes) changes none = is_there (reasons t form true (Command.Save path load exec bytes)) 4 refusals.ReadOnly refl none
+locked t form (Command.Create path load exec len) changes none = is_there (reasons t form true (Command.Create path load exec len)) 4 refusals.ReadOnly refl none
+locked t form (Command.Cdir path) changes none = is_there (reasons t form true (Command.Cdir path)) 3 refusals.ReadOnly refl none
+locked t form (Command.Delete path) changes none = is_there (reasons t form true (Command.Delete path)) 4 refusals.ReadOnly refl none
+locked t form (Command.Rename from to) changes none = is_there (reasons t form true (Command.Rename from to)) 7 refusals.ReadOnly refl none
+locked t form (Command.Set path load exec access) changes none = is_there (reasons t form true (Command.Set path load exec access)) 2 refusals.ReadOnly refl none
+locked t form (Command.Mark path attrs) changes none = is_there (reasons t form true (Command.Mark path attrs)) 2 refusals.ReadOnly refl none
+
+-- ---- what the volume answers
+
+done_accepted : {T : Type 0} (o : Option Refusal) (value : T) → AnswersBy o (Ok value) → o ≡ None
+done_accepted None value answers = refl
+done_accepted (Some r) value answers = absurd answers
+
+fault_accepted : (o : Option Refusal) → AnswersBy {T = Unit {0}} o (Err DiskFault) → o ≡ None
+fault_accepted None answers = refl
+fault_accepted (Some r) answers = absurd answers
+
+refusal_is : (o : Option Refusal) (r : Refusal) → AnswersBy {T = Unit {0}} o (Err (Refused r)) → o ≡ Some r
+refusal_is None r answers = absurd answers
+refusal_is (Some x) r answers = ap Some (sym answers)
+
+-- ---- steps
+
+shortage_as : (v : Opened) (c : Command) (o : Option Refusal) → keeps_tree c ≡ false → short v c ≡ o → shortage false v c ≡ option_map refusal_line o
+shortage_as v c o changes is =
+    ap₂ (λ (a b : Option Refusal). option_map refusal_line (first_of (a ∷ b ∷ []))) (no_reason v.layout c changes) is ∙ ap (option_map refusal_line) (alone o)
+  where
+    alone : (o : Option Refusal) → first_of (o ∷ []) ≡ o
+    alone None = refl
+    alone (Some r) = refl
+
+answer_accepted : (t : Tree) (form : NameForm) (read_only : Bool) (c : Command) → first_of (reasons t form read_only c) ≡ None → answer t form read_only c ≡ Ok (changed t c)
+unfolding answer
+answer_accepted t form read_only c none = ap (answer_or (changed t c)) none
+
+answer_refused : (t : Tree) (form : NameForm) (read_only : Bool) (c : Command) (r : Refusal) → first_of (reasons t form read_only c) ≡ Some r → answer t form read_only c ≡ Err r
+unfolding answer
+answer_refused t form read_only c r is = ap (answer_or (changed t c)) is
+
+module _ (kind : Kind) (read_only : Bool) (s : State) (line : List ℕ) (c : Command) (changes : keeps_tree c ≡ false) (is : command_of line ≡ Ok c) where
+  by_answer : (a : Result Tree Refusal) (reply : List ℕ) (next : State) → answer (tree_in s) (dir_form s.view.layout) read_only c ≡ a
+      → Answers (plain_mode kind read_only) s c a reply next → Step (plain_mode kind read_only) s line reply next
+  by_answer a reply next answered takes =
+      subst (λ (r : Result Command Refusal). Takes (plain_mode kind read_only) s r reply next) (sym is)
+      (subst (λ (x : Result Tree Refusal). Answers (plain_mode kind read_only) s c x reply next) (sym answered) takes)
+
+  by_shortage : (o : Option Refusal) (reply : List ℕ) (next : State) → first_of (reasons (tree_in s) (dir_form s.view.layout) read_only c) ≡ None → short s.view c ≡ o
+      → Serves (plain_mode kind read_only) s c (changed (tree_in s) c) (option_map refusal_line o) reply next → Step (plain_mode kind read_only) s line reply next
+  by_shortage o reply next accepted short_is serves =
+      by_answer (Ok (changed (tree_in s) c)) reply next (answer_accepted (tree_in s) (dir_form s.view.layout) read_only c accepted)
+      (subst (λ (x : Option (List ℕ)). Serves (plain_mode kind read_only) s c (changed (tree_in s) c) x reply next) (sym (shortage_as s.view c o changes short_is)) serves)
+
+  -- An accepted command is a step,
+  done_step : (next : State) → refusal_in s.view s.image read_only c ≡ None → Changes kind s next c (changed (tree_in s) c) → Step (plain_mode kind read_only) s line ok_line next
+  done_step next accepted does =
+      let both = accepted_by (reasons (tree_in s) (dir_form s.view.layout) read_only c) (short s.view c) accepted in
+      by_shortage None ok_line next both.0 both.1 (sym (changing_reply s next c changes), effect_of kind read_only s next c (changed (tree_in s) c) changes does)
+
+  -- and so is one that is refused.
+  refused_step : (r : Refusal) → refusal_in s.view s.image read_only c ≡ Some r → Step (plain_mode kind read_only) s line (refusal_line r) s
+  refused_step r refused = by (refused_by (reasons (tree_in s) (dir_form s.view.layout) read_only c) (short s.view c) r refused)
+    where
+      by : (first_of (reasons (tree_in s) (dir_form s.view.layout) read_only c) ≡ Some r)
+          ⊎ ((first_of (reasons (tree_in s) (dir_form s.view.layout) read_only c) ≡ None) × (short s.view c ≡ Some r)) → Step (plain_mode kind read_only) s line (refusal_line r) s
+      by (inl first) = by_answer (Err r) (refusal_line r) s (answer_refused (tree_in s) (dir_form s.view.layout) read_only c r first) (refl, refl)
+      by (inr last) = by_shortage (Some r) (refusal_line r) s last.0 last.1 (refl, refl)
+
+-- ---- what becomes of the line
+
+-- the line breaks off, after a call of the disk failed
+fault_ends : {D : Type 0} (d : Ghosts D) (kind : Kind) (read_only : Bool) (s : State) (v : Volume) (line : List ℕ) (c : Command) (old new : D) (before after : Option (List ℕ)) → keeps_tree c ≡ false
+    → command_of line ≡ Ok c → after ≡ before → LineEnds d old new kind read_only s v line before after (Err LineFault.Disk)
+fault_ends d kind read_only s v line c old new before after changes is same =
+    let begun : reply_begun (plain_mode kind read_only) s (command_of line) ≡ [] =
+    ap (reply_begun (plain_mode kind read_only) s) is ∙ ap (λ (b : Bool). if b then reading_reply (plain_mode kind read_only) s c else []) (not_reading c changes) in
+    let tree : keeps_tree_or false (command_of line) ≡ false = ap (keeps_tree_or false) is ∙ changes in
+    inr (record {
+      part = subst (WrotePart before after) (sym begun) (0, subst (λ (a : Option (List ℕ)). Wrote before a []) (sym same) (wrote_nothing before));
+      holds = λ never. absurd (never refl);
+      kept = λ keep. absurd (let clash : false ≡ true = sym tree ∙ keep in cc);
+    })
+
+module _ {D K : Type 0} {d : Ghosts D} (law : Laws d) (k : Sinks K) (kind : Kind) (s : State) (line : List ℕ) (c : Command) (was v : Volume) (old new : D) (before after : K)
+    (changes : keeps_tree c ≡ false) (is : command_of line ≡ Ok c) (quiet : d.pending old ≡ false) (told : d.bytes old ≡ Some s.image) (opens : OpensAs s.image kind s.view)
+    (parts : ArePartsOf (parts_of was) s.view) where
+  -- It was done.
+  done_ends : (done : Unit {0}) (result : Result Bool LineFault) → IsAsked d c was v old new (Ok done) → Tells k before after (Ok done) result
+      → LineEnds d old new kind was.read_only s v line (k.taken before) (k.taken after) result
+  done_ends done result asked tells = by result tells.0 tells.1.no_disk
+    where
+      accepted : refusal_in s.view s.image was.read_only c ≡ None
+      accepted = done_accepted (refusal_in s.view s.image was.read_only c) done (asked.refused s.view s.image (sound_law s.image kind s.view opens) parts)
+
+      other : List ℕ
+      other = (asked.changed s.image told).0
+
+      view : Opened
+      view = ((asked.changed s.image told).2 kind s.view opens parts).0
+
+      next : State
+      next = record { image = other; view = view }
+
+      does : Changes kind s next c (changed (tree_in s) c)
+      does = ((asked.changed s.image told).2 kind s.view opens parts).1
+
+      tree : keeps_tree_or (is_error ok_line) (command_of line) ≡ false
+      tree = ap (keeps_tree_or (is_error ok_line)) is ∙ ap (λ (b : Bool). b || keeps_tree c) (ok_no_error []) ∙ changes
+
+      step : IsDone d old new kind was.read_only s line ok_line next
+      step = record {
+        step = done_step kind was.read_only s line c changes is next accepted does;
+        holds = (asked.changed s.image told).1;
+        opens = does.opens.opens;
+        kept = λ keep. absurd (let clash : false ≡ true = sym tree ∙ keep in cc);
+      }
+
+      by : (result : Result Bool LineFault) → Answered ok_line (k.taken before) (k.taken after) result → (result ≡ Err LineFault.Disk → ⊥)
+          → LineEnds d old new kind was.read_only s v line (k.taken before) (k.taken after) result
+      by (Ok refused) answered never = record {
+        reply = ok_line;
+        next = next;
+        done = step;
+        parts = ((asked.changed s.image told).2 kind s.view opens parts).2;
+        wrote = answered.0;
+        refused_is = answered.1;
+      }
+      by (Err fault) answered never = inl (record { reply = ok_line; next = next; done = step; part = answered; no_disk = λ disk. never (ap Err disk) })
+
+  -- It left everything.
+  unchanged : (e : CommandError) (result : Result Bool LineFault) → IsAsked d c was v old new (Err e) → (e ≡ DiskFault → ⊥)
+      → (OnlyReads d old new → LineEnds d old new kind was.read_only s was line (k.taken before) (k.taken after) result)
+      → LineEnds d old new kind was.read_only s v line (k.taken before) (k.taken after) result
+  unchanged e result asked never ends =
+      let same = asked.keeps.unchanged never in
+      subst (λ (w : Volume). LineEnds d old new kind was.read_only s w line (k.taken before) (k.taken after) result) (sym same.0)
+      (ends (subst (λ (x : D). OnlyReads d old x) (sym same.1) (reads_start law old)))
+
+  pub change_ends : (done : Result (Unit {0}) CommandError) (result : Result Bool LineFault) → IsAsked d c was v old new done → Tells k before after done result
+      → LineEnds d old new kind was.read_only s v line (k.taken before) (k.taken after) result
+  change_ends (Ok done) result asked tells = done_ends done result asked tells
+  change_ends (Err (Refused r)) result asked tells =
+      let refused : refusal_in s.view s.image was.read_only c ≡ Some r =
+      refusal_is (refusal_in s.view s.image was.read_only c) r (asked.refused s.view s.image (sound_law s.image kind s.view opens) parts) in
+      unchanged (Refused r) result asked (λ fault. absurd (cc)) (λ reads.
+      left_ends law kind was s line old new (k.taken before) (k.taken after) quiet told opens (refusal_line r) result (refused_step kind was.read_only s line c changes is r refused) reads parts tells.1.no_disk tells.0)
+  change_ends (Err NoMemory) result asked tells =
+      unchanged NoMemory result asked (λ fault. absurd (cc)) (λ reads.
+      subst (λ (x : Result Bool LineFault). LineEnds d old new kind was.read_only s was line (k.taken before) (k.taken after) x) (sym tells.0)
+      (unbegun_ends law kind was s line old new (k.taken before) (k.taken after) quiet told opens LineFault.NoMemory reads (ap k.taken (sym tells.1))))
+  change_ends (Err DiskFault) result asked tells =
+      subst (λ (x : Result Bool LineFault). LineEnds d old new kind was.read_only s v line (k.taken before) (k.taken after) x) (sym tells.0)
+      (fault_ends d kind was.read_only s v line c old new (k.taken before) (k.taken after) changes is (ap k.taken tells.1))
+
+-- ---- what it keeps
+
+-- Parts that agree are those of a view, whatever is known of the disk's bytes.
+agreed_view : (v : Volume) → (kind : Kind) × Agree kind (parts_of v) → (view : Opened) × AreSound view.layout view.listings × ArePartsOf (parts_of v) view
+agreed_view v agree =
+    let a = agree.1 in (
+      record { kind = agree.0; layout = (parts_of v).layout; listings = a.listings },
+      record {
+        read = reader_of_nodes (nodes_of v.tree);
+        reserved = reserved_in agree.0 (parts_of v).layout;
+        address = a.root.entry.address;
+        size = a.root.entry.len;
+        walked = a.walked.walked;
+        apart = λ l at. apart_names l.content (a.walked.bodies l at);
+      },
+      record { layout = refl; nodes = a.walked.held; owners = a.owned },
+    )
+
+module _ {D K : Type 0} {d : Ghosts D} (law : Laws d) (k : Sinks K) (line : List ℕ) (c : Command) (was v : Volume) (old new : D) (before after : K)
+    (changes : keeps_tree c ≡ false) (is : command_of line ≡ Ok c) (stands : StandsFor d was old) where
+  -- A volume that may not be changed isn't.
+  spared : (done : Result (Unit {0}) CommandError) → IsAsked d c was v old new done → was.read_only ≡ true → (v ≡ was) × (new ≡ old)
+  spared done asked read_only = by done asked.keeps.unchanged answered
+    where
+      there : (view : Opened) × AreSound view.layout view.listings × ArePartsOf (parts_of was) view
+      there = agreed_view was stands.agree
+
+      answered : AnswersBy (refusal_in there.0 [] was.read_only c) done
+      answered = asked.refused there.0 [] there.1 there.2
+
+      never : refusal_in there.0 [] was.read_only c ≡ None → ⊥
+      never none = locked (tree_of [] there.0.layout there.0.listings) (dir_form there.0.layout) c changes
+          (accepted_by (reasons (tree_of [] there.0.layout there.0.listings) (dir_form there.0.layout) true c) (short there.0 c) (subst (λ (b : Bool). refusal_in there.0 [] b c ≡ None) read_only none)).0
+
+      by : (x : Result (Unit {0}) CommandError) → IfErr x (λ error. (error ≡ DiskFault → ⊥) → (v ≡ was) × (new ≡ old)) → AnswersBy (refusal_in there.0 [] was.read_only c) x → (v ≡ was) × (new ≡ old)
+      by (Ok value) same answers = absurd (never (done_accepted (refusal_in there.0 [] was.read_only c) value answers))
+      by (Err (Refused r)) same answers = same (λ fault. absurd (cc))
+      by (Err NoMemory) same answers = same (λ fault. absurd (cc))
+      by (Err DiskFault) same answers = absurd (never (fault_accepted (refusal_in there.0 [] was.read_only c) answers))
+
+  reads_nothing : (done : Result (Unit {0}) CommandError) → IsAsked d c was v old new done → (was.read_only ≡ true) ⊎ (is_reading_line (command_of line) ≡ true) → OnlyReads d old new × (v ≡ was)
+  reads_nothing done asked (inl read_only) =
+      let same = spared done asked read_only in (subst (λ (x : D). OnlyReads d old x) (sym same.1) (reads_start law old), same.0)
+  reads_nothing done asked (inr reads) = absurd (let clash : true ≡ false = sym reads ∙ ap is_reading_line is ∙ not_reading c changes in cc)
+
+  -- Unless the disk failed, the volume takes the next line.
+  ready : (done : Result (Unit {0}) CommandError) → IsAsked d c was v old new done → UnlessFault done (IsReady d new was v)
+  ready (Ok value) asked = record { fit = asked.keeps.fit; stands = asked.keeps.stands; settled = asked.keeps.settled; read_only = asked.keeps.rights; new_map = λ new. asked.keeps.new_map }
+  ready (Err (Refused r)) asked = record { fit = asked.keeps.fit; stands = asked.keeps.stands; settled = asked.keeps.settled; read_only = asked.keeps.rights; new_map = λ new. asked.keeps.new_map }
+  ready (Err NoMemory) asked = record { fit = asked.keeps.fit; stands = asked.keeps.stands; settled = asked.keeps.settled; read_only = asked.keeps.rights; new_map = λ new. asked.keeps.new_map }
+  ready (Err DiskFault) asked = tt
+
+  ready_if : (done : Result (Unit {0}) CommandError) (result : Result Bool LineFault) → UnlessFault done (IsReady d new was v) → Tells k before after done result → IfOk result (λ refused. IsReady d new was v)
+  ready_if done (Err fault) takes tells = tt
+  ready_if (Ok value) (Ok refused) takes tells = takes
+  ready_if (Err (Refused r)) (Ok refused) takes tells = takes
+  ready_if (Err NoMemory) (Ok refused) takes tells = takes
+  ready_if (Err DiskFault) (Ok refused) takes tells = absurd (let no = tells.0 in cc)
+
+  settled_if : (done : Result (Unit {0}) CommandError) (result : Result Bool LineFault) → UnlessFault done (IsReady d new was v) → Tells k before after done result → (result ≡ Err LineFault.Disk → ⊥)
+      → d.pending new ≡ false
+  settled_if (Ok value) result takes tells never = takes.settled
+  settled_if (Err (Refused r)) result takes tells never = takes.settled
+  settled_if (Err NoMemory) result takes tells never = takes.settled
+  settled_if (Err DiskFault) result takes tells never = absurd (never tells.0)
+
+  same_faults : after ≡ before → k.faults before ≤ k.faults after
+  same_faults same = let e = ap k.faults same in omega (arith, e)
+
+  caused : (done : Result (Unit {0}) CommandError) (result : Result Bool LineFault) → IsAsked d c was v old new done → Tells k before after done result → IsCaused d k old new before after result
+  caused (Ok value) result asked tells = caused_alone d k old new before after result tells.1
+  caused (Err (Refused r)) result asked tells = caused_alone d k old new before after result tells.1
+  caused (Err NoMemory) result asked tells = record {
+    later = same_faults tells.1;
+    disk = λ disk. absurd (let clash = one_fault result LineFault.NoMemory LineFault.Disk tells.0 disk in cc);
+    out = λ out. absurd (let clash = one_fault result LineFault.NoMemory LineFault.Out tells.0 out in cc);
+  }
+  caused (Err DiskFault) result asked tells = record {
+    later = same_faults tells.1;
+    disk = λ disk. asked.keeps.cause refl;
+    out = λ out. absurd (let clash = one_fault result LineFault.Disk LineFault.Out tells.0 out in cc);
+  }
+
+  pub change_keeps : (done : Result (Unit {0}) CommandError) (result : Result Bool LineFault) → IsAsked d c was v old new done → Tells k before after done result
+      → KeepsGoing d k old new before after was v line result
+  change_keeps done result asked tells = record {
+    goes = record { form = asked.keeps.form; stops = asked.keeps.goes; faults = asked.keeps.faults };
+    ready = ready_if done result (ready done asked) tells;
+    settled = settled_if done result (ready done asked) tells;
+    reads = reads_nothing done asked;
+    caused = caused done result asked tells;
+  }

@@ -1,0 +1,111 @@
+// Commands that change the disc.
+ghost use Rattle.std.specs.Prelude.{◌≡◌, List, ℕ, true, false, Ok, Err, IsFalse, IsTrue};
+ghost use Rattle.fc_image.specs.Stays.{IsNewLayout};
+ghost use Rattle.fc_runs.specs.Run.{keeps_tree};
+ghost use Rattle.fc_script.specs.Lines.{command_of};
+ghost use Rattle.fc_script.specs.Reading.{command};
+ghost use Rattle.fc_script.specs.Texts.{ok_line};
+ghost use Rattle.fc_volume.specs.Volume.{StandsFor, parts_of};
+ghost use Rattle.fc_shell.specs.Answered.{Answered, ForState, OnlyTells};
+ghost use Rattle.fc_shell.specs.Built.{is_built};
+ghost use Rattle.fc_shell.specs.Changing.{IsAsked, Tells};
+ghost use Rattle.fc_shell.specs.Line.{KeepsGoing, LineEnds};
+
+use crate::answer::LineFault;
+use crate::reply::{refusal, tell};
+use crate::sink::write_all;
+use fc_device::{Disk, Sink};
+use fc_script::Command;
+use fc_volume::{CommandError, Volume};
+use std::alloc::Global;
+
+/// Writes the reply to a command that was done. No memory is needed.
+pub fn tell_done<K: Sink>(out: &mut K) -> Result<bool, LineFault>
+    ensures answered { Answered ok_line (K.taken out.old) (K.taken out.new) result }
+    ensures only { OnlyTells K.Sink out.old out.new result }
+{
+    match write_all(out, b"ok\n") {
+        Ok(()) => Ok(false),
+        Err(_) => Err(LineFault::Out),
+    }
+}
+
+// Writes the line of a refusal. After any other error nothing is written.
+fn tell_error<K: Sink>(alloc: Global, out: &mut K, error: CommandError) -> Result<bool, LineFault>
+    ensures { Tells K.Sink out.old out.new (Err error) result }
+{
+    match error {
+        CommandError::Refused(reason) => tell(out, refusal(alloc, reason)),
+        CommandError::NoMemory => Err(LineFault::NoMemory),
+        CommandError::DiskFault => Err(LineFault::Disk),
+    }
+}
+
+// Writes the reply to a command that changes the disc, by what the volume answered. Answers whether it is an error line.
+fn tell_change<K: Sink>(
+    alloc: Global,
+    out: &mut K,
+    changed: Result<(), CommandError>,
+) -> Result<bool, LineFault>
+    ensures { Tells K.Sink out.old out.new changed result }
+{
+    match changed {
+        Ok(()) => tell_done(out),
+        Err(error) => tell_error(alloc, out, error),
+    }
+}
+
+// Asks a volume to do a command that changes the tree.
+fn change<D: Disk>(
+    alloc: Global,
+    volume: &mut Volume,
+    disk: &mut D,
+    asked: &Command,
+) -> Result<(), CommandError>
+    requires attached { IsTrue (D.attached disk.old) }
+    requires fit { IsTrue volume.old.fit }
+    requires stands { StandsFor D.Disk volume.old disk.old }
+    requires settled { IsFalse (D.pending disk.old) }
+    requires new_map { IsNewLayout (parts_of volume.old).layout }
+    requires built { is_built (command asked.now) ≡ true }
+    requires changes { keeps_tree (command asked.now) ≡ false }
+    requires spelled { (line : List ℕ) × (command_of line ≡ Ok (command asked.now)) }
+    ensures { IsAsked D.Disk (command asked.now) volume.old volume.new disk.old disk.new result }
+{
+    match asked {
+        Command::Delete { path } => volume.delete(alloc, disk, path),
+        Command::Set {
+            path,
+            load,
+            exec,
+            access,
+        } => volume.set(alloc, disk, path, *load, *exec, *access),
+        _ => unreachable!(),
+    }
+}
+
+/// Answers a command that changes the tree, over a new map: does it, and then writes the reply. Answers whether the reply
+/// is an error line.
+pub fn answer_change<D: Disk, K: Sink>(
+    alloc: Global,
+    volume: &mut Volume,
+    disk: &mut D,
+    out: &mut K,
+    asked: &Command,
+) -> Result<bool, LineFault>
+    requires attached { IsTrue (D.attached disk.old) }
+    requires fit { IsTrue volume.old.fit }
+    requires stands { StandsFor D.Disk volume.old disk.old }
+    requires settled { IsFalse (D.pending disk.old) }
+    requires new_map { IsNewLayout (parts_of volume.old).layout }
+    requires built { is_built (command asked.now) ≡ true }
+    requires changes { keeps_tree (command asked.now) ≡ false }
+    requires spelled { (line : List ℕ) × (command_of line ≡ Ok (command asked.now)) }
+    ensures step { (line : List ℕ) → command_of line ≡ Ok (command asked.now) → ForState (D.bytes disk.old) volume.old (λ kind s.
+        LineEnds D.Disk disk.old disk.new kind volume.old.read_only s volume.new line (K.taken out.old) (K.taken out.new) result) }
+    ensures keeps { (line : List ℕ) → command_of line ≡ Ok (command asked.now)
+        → KeepsGoing D.Disk K.Sink disk.old disk.new out.old out.new volume.old volume.new line result }
+{
+    let changed = change(alloc, volume, disk, asked);
+    tell_change(alloc, out, changed)
+}

@@ -1,0 +1,295 @@
+-- `set`: from what is ready in memory and written, to what it promises.
+use Rattle.std.proofs.Common.{◌≡◌, ◌<◌, ◌≤◌, ◌*◌, ◌||◌, ℕ, Bool, true, false, cond, List, ◌∷◌, length, slice_get, slice_set, refl, sym, ap, subst, ◌∙◌}
+use Rattle.std.specs.Prelude.{Contains}
+use Rattle.fc_names.specs.Names.{Path, is_same_path}
+use Rattle.fc_names.specs.declared.name.NameForm.{NameForm}
+use Rattle.fc_names.specs.declared.name.NameForm.TheVariants as forms
+use Rattle.fc_record.specs.declared.Kind.{Kind}
+use Rattle.fc_newmap.specs.Map.{Map}
+use Rattle.fc_newmap.specs.NewMap.{IsNewMap}
+use Rattle.fc_alloc.specs.declared.owner.Owner.{Owner}
+use Rattle.fc_model.specs.Command.{Command}
+use Rattle.fc_dirs.specs.declared.Entry.{Entry}
+use Rattle.fc_dirs.specs.declared.SmallForm.{SmallForm}
+use Rattle.fc_dirs.specs.Small.{tail_of}
+use Rattle.fc_dirs.specs.Directory.{Directory, entries_of}
+use Rattle.fc_drafts.specs.Draft.{IsSayable, directory_in, size_of, with_changed, with_head}
+use Rattle.fc_drafts.specs.Entries.{set_entry}
+use Rattle.fc_drafts.specs.Rewriting.{HasReplaced}
+use Rattle.fc_image.specs.Layout.{Layout, dir_form, sectors_at}
+use Rattle.fc_image.specs.Commanded.{set_object}
+use Rattle.fc_image.specs.Edits.{IsAt}
+use Rattle.fc_image.specs.InPlace.{says_now}
+use Rattle.fc_image.specs.Objects.{objects_of}
+use Rattle.fc_image.specs.Opening.{Opened}
+use Rattle.fc_image.specs.Report.{holder_address}
+use Rattle.fc_image.specs.Sound.{AreSound}
+use Rattle.fc_image.specs.Stays.{OpensAs}
+use Rattle.fc_image.specs.Walk.{Listing, Object, object_size}
+use Rattle.fc_image.proofs.PathsLemmas.{itself}
+use Rattle.fc_objects.specs.Extents.{sectors_in}
+use Rattle.fc_tree.specs.declared.node.Node.{Node}
+use Rattle.fc_tree.specs.Agree.{Agree, HasForm, IsDirectory}
+use Rattle.fc_tree.specs.Counts.{address_in}
+use Rattle.fc_tree.specs.Nodes.{HoldObjects, body_in}
+use Rattle.fc_tree.specs.Parts.{ArePartsOf, Parts}
+use Rattle.fc_tree.proofs.WalkedLemmas.{same_some}
+use Rattle.fc_nodes.specs.Edits.{IsReworded, Nodes, NodesFollow, OwnersFollow, as_before, relisted, with_body, with_entry}
+use Rattle.fc_takeover.specs.Laws.{TakesOver}
+use Rattle.fc_takeover.specs.Places.{OpensBy}
+use Rattle.fc_changes.specs.Owed.{IsWritten}
+use Rattle.fc_refusals.specs.declared.target.Target.{Target}
+use Rattle.fc_refusals.specs.Targets.{IsTarget}
+use Rattle.fc_volume.specs.declared.changes.reword.Rewording.{Rewording}
+use Rattle.fc_volume.specs.ChangeLaws.{ChangeLaws}
+use Rattle.fc_volume.specs.Changing.{WritesPlaces}
+use Rattle.fc_volume.specs.Rewrites.{IsRepairedAndWritten}
+use Rattle.fc_volume.specs.Setting.{IsSetReady}
+use Rattle.fc_volume.proofs.SettingLemmas.{one_content}
+use Rattle.fc_volume.proofs.TargetLemmas as target_of
+
+-- ---- directories
+
+-- a directory whose entry is replaced has the form that it had, and the entries with the new one
+pub form_stays : (form : NameForm) (len parent at : ℕ) (e : Entry) (old new : Directory) → HasReplaced parent at e old new → HasForm form len old → HasForm form len new
+form_stays form len parent at e old new is has = subst (HasForm form len) (sym is.is) (by form old has)
+  where
+    by : (f : NameForm) (dir : Directory) → HasForm f len dir → HasForm f len (with_head parent (with_changed at e dir))
+    by forms.Seven (Directory.Small dir) h = h
+    by forms.Ten (Directory.Small dir) h = h
+    by forms.Long (Directory.Small dir) h = absurd h
+    by forms.Seven (Directory.Big dir) h = absurd h
+    by forms.Ten (Directory.Big dir) h = absurd h
+    by forms.Long (Directory.Big dir) h = h
+
+pub entries_now : (parent at : ℕ) (e : Entry) (old new : Directory) → HasReplaced parent at e old new → entries_of new ≡ slice_set (entries_of old) at e
+entries_now parent at e old new is = ap entries_of is.is ∙ by old
+  where
+    by : (dir : Directory) → entries_of (with_head parent (with_changed at e dir)) ≡ slice_set (entries_of dir) at e
+    by (Directory.Small dir) = refl
+    by (Directory.Big dir) = refl
+
+-- the bytes of a directory of the disc's form are those that its entry asks for
+pub size_of_form : (form : NameForm) (e : Entry) (dir : Directory) → HasForm form e.len dir → Rattle.fc_names.specs.Names.is_directory e.attrs ≡ true → size_of dir ≡ object_size form e
+size_of_form form e dir has is = by form dir has ∙ ap (λ (b : Bool). cond b (Rattle.fc_dirs.specs.Directory.directory_size form e.len) e.len) (sym is)
+  where
+    by : (f : NameForm) (d : Directory) → HasForm f e.len d → size_of d ≡ Rattle.fc_dirs.specs.Directory.directory_size f e.len
+    by forms.Seven (Directory.Small d) h = ap (λ (s : SmallForm). (tail_of s).size) h
+    by forms.Ten (Directory.Small d) h = ap (λ (s : SmallForm). (tail_of s).size) h
+    by forms.Long (Directory.Small d) h = absurd h
+    by forms.Seven (Directory.Big d) h = absurd h
+    by forms.Ten (Directory.Big d) h = absurd h
+    by forms.Long (Directory.Big d) h = h
+
+pub says_it : (dir : Directory) → IsSayable dir → IsDirectory dir
+says_it (Directory.Small dir) is = is
+says_it (Directory.Big dir) is = is
+
+set_own : (path : Path) (load exec access : ℕ) (o : Object) → is_same_path path o.path ≡ true → (set_object path load exec access o).entry ≡ set_entry o.entry load exec access
+set_own path load exec access o same =
+    ap (λ (b : Bool). (cond b (record o { entry = set_entry o.entry load exec access }) o).entry) same
+
+-- ---- the edit
+
+-- What is known before anything is written.
+pub record IsReady (m : Map) (nodes : Nodes) (path : Path) (load exec access : ℕ) (t : Target) (r : Rewording) : Type 0 where
+  pub is_map : IsNewMap m
+  pub low : access < 8
+  pub targets : (layout : Layout) (listings : List Listing) → AreSound layout listings → HoldObjects nodes listings → IsTarget nodes listings path t
+  pub ready : IsSetReady nodes (Layout.New m) t load exec access r
+
+module _ (laws : ChangeLaws) (m : Map) (nodes : Nodes) (path : Path) (load exec access : ℕ) (t : Target) (r : Rewording) (is : IsReady m nodes path load exec access t r) where
+  abbrev pub content : Directory
+  content = directory_in r.directory.draft
+
+  abbrev pub nodes' : Nodes
+  nodes' = with_entry r.node r.entry (with_body r.directory.node (body_in content) nodes)
+
+  abbrev layout : Layout
+  layout = Layout.New m
+
+  abbrev pub sectors : List ℕ
+  sectors = sectors_in r.directory.place.items
+
+  module _ (listings : List Listing) (sound : AreSound (Layout.New m) listings) (held : HoldObjects nodes listings) where
+    abbrev pub target : IsTarget nodes listings path t
+    target = is.targets (Layout.New m) listings sound held
+
+    abbrev pub l : Listing
+    l = target.listing
+
+    abbrev pub o : Object
+    o = target.object
+
+    abbrev g : Object → Object
+    g = set_object o.path load exec access
+
+    abbrev node : Node
+    node = target_of.node nodes (Layout.New m) listings sound held l target.listed t.holder target.holder_is
+
+    node_is : node ≡ is.ready.node
+    node_is = target_of.one_node nodes (Layout.New m) listings sound held l target.listed t.holder target.holder_is is.ready.node is.ready.there
+
+    pub among : Contains (objects_of listings) l.object
+    among = target_of.among nodes (Layout.New m) listings sound held l target.listed t.holder target.holder_is
+
+    pub placed : IsAt (Layout.New m) l.object
+    placed = target_of.placed nodes (Layout.New m) listings sound held l target.listed t.holder target.holder_is
+
+    pub entry_is : is.ready.node.entry ≡ l.object.entry
+    entry_is = ap (λ (n : Node). n.entry) (sym node_is)
+
+    pub content_is : is.ready.content ≡ l.content
+    content_is =
+        one_content is.ready.content l.content
+        (sym is.ready.says ∙ ap (λ (n : Node). n.body) (sym node_is) ∙ target_of.says nodes (Layout.New m) listings sound held l target.listed t.holder target.holder_is)
+
+    was_is : is.ready.was ≡ o.entry
+    was_is =
+        same_some is.ready.was o.entry
+        (sym is.ready.at ∙ ap (λ (d : Directory). slice_get (entries_of d) t.at) content_is
+        ∙ target_of.child_entry (Layout.New m) listings l t.at o laws.entries sound target.listed target.at)
+
+    parent_is : address_in nodes is.ready.node.holder ≡ holder_address listings l.object.path
+    parent_is =
+        ap (λ (n : Node). address_in nodes n.holder) (sym node_is)
+        ∙ target_of.parent_is nodes (Layout.New m) listings sound held l target.listed t.holder target.holder_is
+
+    pub replaced : HasReplaced (holder_address listings l.object.path) t.at (set_entry o.entry load exec access) l.content content
+    replaced =
+        subst (λ (p : ℕ). HasReplaced p t.at (set_entry o.entry load exec access) l.content content) parent_is
+        (subst (λ (e : Entry). HasReplaced (address_in nodes is.ready.node.holder) t.at (set_entry e load exec access) l.content content) was_is
+        (subst (λ (d : Directory). HasReplaced (address_in nodes is.ready.node.holder) t.at (set_entry is.ready.was load exec access) d content) content_is is.ready.replaced))
+
+    pub sectors_are : sectors ≡ l.object.sectors
+    sectors_are =
+        same_some sectors l.object.sectors
+        (sym is.ready.prepared.place ∙ ap (λ (e : Entry). sectors_at (Layout.New m) e.address (object_size (dir_form (Layout.New m)) e)) entry_is ∙ placed)
+
+    new_entry : (g o).entry ≡ set_entry o.entry load exec access
+    new_entry = set_own o.path load exec access o (itself o.path)
+
+    abbrev pub rest : List Listing
+    rest = (laws.cuts.one listings l target.listed).0
+
+    abbrev pub listings' : List Listing
+    listings' = says_now l content (slice_set l.children t.at (g o)) ∷ relisted g as_before rest
+
+    pub entries_are : entries_of content ≡ slice_set (entries_of l.content) t.at (g o).entry
+    entries_are = entries_now (holder_address listings l.object.path) t.at (set_entry o.entry load exec access) l.content content replaced ∙ ap (slice_set (entries_of l.content) t.at) (sym new_entry)
+
+    entry_now : r.entry ≡ (g o).entry
+    entry_now = is.ready.entry ∙ ap (λ (e : Entry). set_entry e load exec access) was_is ∙ sym new_entry
+
+    pub edit : IsReworded nodes nodes' listings listings' rest l content t.at o t.holder t.node g
+    edit = record {
+      found = (laws.cuts.one listings l target.listed).1;
+      child = record { listed = target.listed; at = target.at; dir_is = target.holder_is; number_is = target.node_is };
+      rewording = laws.rewords.set o.path load exec access is.low;
+      entries = entries_are;
+      listings_are = refl;
+      nodes_are = λ i. with_entry (is.ready.number i) (entry_now i) (with_body (is.ready.prepared.node i) (body_in content) nodes);
+    }
+
+    pub nodes_follow : NodesFollow nodes' listings'
+    nodes_follow = laws.reworded.nodes nodes nodes' (Layout.New m) listings listings' rest l content t.at o t.holder t.node g (record { sound = sound; held = held }) edit
+
+    pub owners_follow : (owners : List Owner) → Rattle.fc_tree.specs.Parts.AreOwners owners nodes (Layout.New m) (objects_of listings) → OwnersFollow owners nodes' (Layout.New m) listings'
+    owners_follow owners owned =
+        laws.reworded.owners owners nodes nodes' (Layout.New m) (Layout.New m) listings listings' rest l content t.at o t.holder t.node g (record { sound = sound; held = held }) edit
+        (record { owned = owned; first = λ low. refl })
+
+  -- ---- the volume
+
+  -- the parts agree afterwards
+  pub agrees : (kind : Kind) (parts : Parts) (owners : List Owner) → parts.layout ≡ Layout.New m → parts.nodes ≡ nodes → parts.owners ≡ owners → Agree kind parts
+      → Agree kind (record { layout = Layout.New m; nodes = nodes'; owners = owners })
+  agrees kind parts owners at same own agree =
+      let now : Parts = record { layout = Layout.New m; nodes = nodes; owners = owners } in
+      let parts_are : parts ≡ now = λ i. record { layout = at i; nodes = same i; owners = own i } in
+      let a : Agree kind now = subst (Agree kind) parts_are agree in
+      let on = laws.agreed.named kind now m refl is.is_map a in
+      let sound = laws.agreed.sound kind m nodes owners a.root a.listings on in
+      let held = laws.agreed.held kind m nodes owners a.root a.listings on in
+      let k = l a.listings sound held in
+      laws.reworded_agree kind m nodes nodes' owners owners a.root a.listings (listings' a.listings sound held) (rest a.listings sound held) k content t.at (o a.listings sound held) t.holder t.node
+      (set_object (o a.listings sound held).path load exec access) on (edit a.listings sound held)
+      (record {
+        form = form_stays (dir_form (Layout.New m)) k.object.entry.len (holder_address a.listings k.object.path) t.at (set_entry (o a.listings sound held).entry load exec access) k.content content
+            (replaced a.listings sound held) (a.walked.forms k (target a.listings sound held).listed);
+        body = says_it content is.ready.prepared.sayable;
+      })
+      (record { nodes_follow = nodes_follow a.listings sound held; owners_follow = owners_follow a.listings sound held owners a.owned })
+
+  -- the bytes are as many as the directory's entry asks for
+  pub long : (kind : Kind) (owners : List Owner) → Agree kind (record { layout = Layout.New m; nodes = nodes; owners = owners })
+      → length r.directory.bytes.items ≡ object_size (dir_form (Layout.New m)) is.ready.node.entry
+  long kind owners a =
+      let now : Parts = record { layout = Layout.New m; nodes = nodes; owners = owners } in
+      let on = laws.agreed.named kind now m refl is.is_map a in
+      let sound = laws.agreed.sound kind m nodes owners a.root a.listings on in
+      let held = laws.agreed.held kind m nodes owners a.root a.listings on in
+      let k = l a.listings sound held in
+      let tg = target a.listings sound held in
+      is.ready.prepared.length_is ∙ is.ready.replaced.size ∙ ap size_of (content_is a.listings sound held)
+      ∙ size_of_form (dir_form (Layout.New m)) k.object.entry k.content (a.walked.forms k tg.listed)
+      (target_of.directory nodes (Layout.New m) a.listings sound held k tg.listed t.holder tg.holder_is)
+      ∙ ap (object_size (dir_form (Layout.New m))) (sym (entry_is a.listings sound held))
+
+  -- ---- the image
+
+  module _ (kind : Kind) (was : List ℕ) (view : Opened) (opens : OpensAs was kind view) (at : view.layout ≡ Layout.New m) (hold : HoldObjects nodes view.listings) where
+    abbrev pub view_sound : AreSound (Layout.New m) view.listings
+    view_sound = subst (λ (x : Layout). AreSound x view.listings) at (laws.opened was kind view opens)
+
+    abbrev k : Listing
+    k = l view.listings view_sound hold
+
+    pub takes_over : (owners : List Owner) (image : List ℕ) → Rattle.fc_tree.specs.Parts.AreOwners owners nodes (Layout.New m) (objects_of view.listings)
+        → length r.directory.bytes.items ≡ object_size (dir_form (Layout.New m)) is.ready.node.entry
+        → IsRepairedAndWritten m sectors r.directory.bytes.items was image → TakesOver kind was image view (Command.Set path load exec access) m nodes' owners
+    takes_over owners image owned len w =
+        let tg = target view.listings view_sound hold in
+        let by : OpensBy kind was view m = record { opens = opens; layout = at } in
+        let there = placed view.listings view_sound hold in
+        let same = sectors_are view.listings view_sound hold in
+        let part = subst (λ (xs : List ℕ). Rattle.fc_objects.specs.Written.IsPartWritten m.geometry.sector xs r.directory.bytes.items w.mid image) same w.part in
+        let size = len ∙ ap (object_size (dir_form (Layout.New m))) (entry_is view.listings view_sound hold) in
+        let room : length r.directory.bytes.items ≤ length k.object.sectors * m.geometry.sector = rw size (laws.writes.room m k.object is.is_map there) in
+        let back = (subst (λ (xs : List ℕ). Rattle.fc_objects.specs.Written.AreApart xs → length r.directory.bytes.items ≤ length xs * m.geometry.sector
+        → Rattle.fc_objects.specs.Bytes.first_bytes m.geometry.sector image xs (length r.directory.bytes.items) ≡ r.directory.bytes.items) same w.reads_back)
+        (laws.writes.apart m k.object is.is_map there) room in
+        laws.steps.set kind was w.mid image view m (rest view.listings view_sound hold) k content t.at (o view.listings view_sound hold) path load exec access nodes nodes' (listings' view.listings view_sound hold)
+        owners t.holder t.node is.low tg.path_is
+        (record { repair = record { opens = opens; layout = at; frame = w.repaired.frame; content = w.repaired.content }; is_map = is.is_map })
+        (record {
+          copies = w.equal;
+          found = (laws.cuts.one view.listings k tg.listed).1;
+          at = tg.at;
+          entries = entries_are view.listings view_sound hold;
+          directory = record {
+            says = (replaced view.listings view_sound hold).rewritten (Command.Set path load exec access) k.object.path refl;
+            written = laws.writes.part m k.object.sectors r.directory.bytes.items w.mid image part;
+            bytes = laws.writes.directory m m k.object content r.directory.bytes.items image (record { geometry = refl; long = size; reads_back = back }) is.ready.prepared.bytes;
+          };
+          map_stays = laws.writes.map_stays m k.object.sectors r.directory.bytes.items w.mid image (laws.objects.no_map kind was view m k.object by (among view.listings view_sound hold)) part;
+        })
+        (edit view.listings view_sound hold)
+        (record { nodes_follow = nodes_follow view.listings view_sound hold; owners_follow = owners_follow view.listings view_sound hold owners owned })
+
+    -- which sectors may be written
+    pub writes_places : (image : List ℕ) → IsWritten m sectors was image → WritesPlaces kind view m (Command.Set path load exec access) was image
+    writes_places image w =
+        let tg = target view.listings view_sound hold in
+        let may = laws.places.directory kind was view m (Command.Set path load exec access) k (record { opens = opens; layout = at }) tg.listed
+        (ap (λ (b : Bool). b || false || Rattle.fc_effects.specs.Steady.has_grown view (Command.Set path load exec access) k.object.path || Rattle.fc_effects.specs.Steady.has_new_holder view (Command.Set path load exec access) k.object.path) tg.above) in
+        let own = subst (λ (xs : List ℕ). IsWritten m xs was image) (sectors_are view.listings view_sound hold) w in
+        record {
+          length_stays = own.length_stays;
+          sectors = k.object.sectors;
+          writes = own.writes;
+          files = may.files;
+          dirs = may.dirs;
+          boot = may.boot;
+          idle = may.idle;
+        }

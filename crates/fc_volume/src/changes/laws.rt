@@ -1,0 +1,39 @@
+// Laws for commands that change a volume.
+ghost use Rattle.std.specs.Prelude.{◌≡◌};
+ghost use Rattle.fc_image.specs.Layout.{Layout};
+ghost use Rattle.fc_newmap.specs.Map.{Map};
+ghost use Rattle.fc_newmap.specs.NewMap.{IsNewMap};
+ghost use Rattle.fc_space.specs.Space.{layout_of};
+ghost use Rattle.fc_volume.specs.ChangeLaws.{ChangeLaws};
+
+use fc_space::{Places, Space};
+
+/// The laws of the crates below, in one record.
+pub fn change_laws()
+    ensures { ChangeLaws }
+{
+    fc_image::rewords();
+    fc_tree::opened();
+    fc_tree::stored_entries();
+    fc_nodes::owners();
+    fc_nodes::reworded();
+    fc_nodes::removed();
+    fc_agree::agreed();
+    fc_agree::cuts();
+    fc_agree::reworded();
+    fc_agree::removed();
+    fc_takeover::writes();
+    fc_takeover::objects();
+    fc_takeover::places();
+    fc_takeover::steps();
+}
+
+/// A law: a new map in memory is one.
+pub fn is_new_map(places: &Places)
+    ensures { (m : Map) → layout_of places.now ≡ Layout.New m → IsNewMap m }
+{
+    match places.space() {
+        Space::NewMapped(map) => map.is_map(),
+        Space::OldMapped(_) => {}
+    }
+}

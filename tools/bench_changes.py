@@ -1,0 +1,148 @@
+#!/usr/bin/env python3
+"""Times the commands that change a volume, over discs of 512 MB and more.
+
+usage: tools/bench_changes.py PROGRAM [FILES [OBJECTS]]    10,000 files, and 50,000 objects on the second disc
+
+Files of 100 bytes are saved in one script into 100 directories of a disc with big directories. At a tenth of the files and at all of
+them, and then over a disc of 1,000 directories and 50,000 files (tools/large_image.py), each command is run LINES times in one
+script: the time beside that of an empty script, and the calls of the system beside its calls, by strace or, without it, by the
+recorder of tools/check_outside.c, both a command. Commands that aren't built are left out.
+"""
+import os
+import shutil
+import subprocess
+import sys
+import tempfile
+import time
+
+from check_crash import TOOLS
+from fragmented import hard_disc
+from large_image import SparseFile, with_directories
+
+DIRECTORIES, LINES = 100, 500
+WORDS = "00000000 00000000"
+
+
+class Bench:
+    """The program, and how its calls of the system are counted."""
+
+    def __init__(self, program, folder):
+        self.program, self.folder = os.path.realpath(program), folder
+        self.work = os.path.join(folder, "work")
+        self.shim = os.path.join(folder, "shim.so")
+        if not shutil.which("strace"):
+            subprocess.run([os.environ.get("CC", "cc"), "-O2", "-shared", "-fPIC", "-o", self.shim, os.path.join(TOOLS, "check_outside.c")],
+                           check=True)
+
+    def seconds(self, image, script):
+        """How long a script takes over the image, which it changes."""
+        start = time.monotonic()
+        ran = subprocess.run([self.program, image], input=script, stdout=subprocess.PIPE, check=False)
+        taken = time.monotonic() - start
+        if ran.returncode not in (0, 9):
+            sys.exit("status %d: %s" % (ran.returncode, ran.stdout[-200:].decode()))
+        return None if ran.returncode == 9 else taken
+
+    def calls(self, image, script):
+        """How many calls of the system it makes."""
+        counts = os.path.join(self.folder, "calls")
+        traced = shutil.which("strace")
+        words = ["strace", "-f", "-c", "-o", counts, self.program, image] if traced else [self.program, image]
+        others = {} if traced else {"env": {"LD_PRELOAD": self.shim, "OUTSIDE_LOG": counts}}
+        subprocess.run(words, input=script, stdout=subprocess.DEVNULL, check=True, **others)
+        with open(counts) as file:
+            lines = file.read().split("\n")
+        os.unlink(counts)
+        return int(next(line for line in lines if line.endswith("total")).split()[3]) if traced else len(lines) - 1
+
+    def a_command(self, image, lines):
+        """Microseconds and calls of one of the lines; None if the command isn't built. The image stays."""
+        script, found = "".join(line + "\n" for line in lines).encode(), []
+        for measure in (self.seconds, self.calls):
+            taken = []
+            for one in (b"", script):
+                subprocess.run(["cp", "--sparse=always", image, self.work], check=True)
+                taken.append(measure(self.work, one))
+                if taken[-1] is None:
+                    return None
+            found.append((taken[1] - taken[0]) / len(lines))
+        return found[0] * 1e6, found[1]
+
+    def table(self, image, title, lines):
+        """A row for each command."""
+        for word, found in lines.items():
+            result = self.a_command(image, found)
+            text = "%.0f microseconds, %.1f calls a command" % result if result else "not built"
+            print("%s, %s: %s" % (title, word, text), flush=True)
+
+
+def saving(first, last):
+    """Lines that save so many files of 100 bytes in turn into the directories."""
+    return ["save $.D%d.File%d %s %s" % (at % DIRECTORIES, at, WORDS, ("%08x" % at) * 25) for at in range(first, last)]
+
+
+def commands(paths, fresh, others):
+    """LINES lines of each command: over files that are there, over paths that aren't, and to other directories."""
+    return {
+        "save": ["save %s %s %s" % (path, WORDS, "5a" * 100) for path in fresh],
+        "create": ["create %s %s 100" % (path, WORDS) for path in fresh],
+        "save over a file": ["save %s %s %s" % (path, WORDS, "5a" * 100) for path in paths], "cdir": ["cdir " + path for path in fresh],
+        "delete": ["delete " + path for path in paths], "set": ["set %s FFFFFD00 00000000 R" % path for path in paths],
+        "rename": ["rename %s %sx" % (path, path) for path in paths],
+        "rename to another directory": ["rename %s %s" % pair for pair in zip(paths, others)],
+        "load": ["load " + path for path in paths],
+    }
+
+
+def write(volume, path):
+    with open(path, "wb") as file:
+        volume.write(SparseFile(file, volume.shape.record.size))
+
+
+def empty_disc(path):
+    """A disc of 518 MB with big directories."""
+    volume = hard_disc(10, 15, 10, 62, big=True)
+    volume.root.size = 4096
+    for at in range(DIRECTORIES):
+        made = volume.root.insert(volume.directory(volume.root, b"D%d" % at, pieces=[(at % volume.shape.zones, 16)]))
+        made.holder = volume.root
+    write(volume, path)
+
+
+def main(program, files=10000, objects=50000):
+    with tempfile.TemporaryDirectory(dir=os.getcwd()) as folder:
+        image, bench = os.path.join(folder, "image"), Bench(program, folder)
+        empty_disc(image)
+        done = 0
+        for count in (files // 10, files):
+            taken = bench.seconds(image, "".join(line + "\n" for line in saving(done, count)).encode())
+            print("%d files saved in one script: %s" % (count - done, "not built" if taken is None else "%.2f s" % taken), flush=True)
+            if taken is None:
+                return
+            done = count
+            step = max(1, count // LINES)
+            paths = ["$.D%d.File%d" % (at % DIRECTORIES, at) for at in range(0, count, step)][:LINES]
+            fresh = ["$.D%d.New%d" % (at % DIRECTORIES, at) for at in range(LINES)]
+            others = ["$.D%d.File%d" % ((at + 1) % DIRECTORIES, at) for at in range(0, count, step)][:LINES]
+            bench.table(image, "%d files" % count, commands(paths, fresh, others))
+        directories = objects // 50
+        write(with_directories(directories), image)
+        places = range(0, directories, max(1, directories // DIRECTORIES))
+        chosen = [("$." + path, number) for path, number in directory_paths(directories, places)]
+        paths = ["%s.F%02d" % (path, at) for at in range(5) for path, number in chosen][:LINES]
+        fresh = ["%s.New%d" % (path, at) for at in range(5) for path, number in chosen][:LINES]
+        others = ["%s.Moved%d" % (chosen[(at + 1) % len(chosen)][0], at // len(chosen)) for at in range(len(paths))]
+        bench.table(image, "%d objects" % (51 * directories), commands(paths, fresh, others))
+
+
+def directory_paths(count, places):
+    """The paths of some directories of tools/large_image.py."""
+    volume = with_directories(count)
+    found = {one.name: volume.path_of(one)[2:] for one in volume.directories()[1:]}
+    return [(found[b"D%d" % at], at) for at in places]
+
+
+if __name__ == "__main__":
+    if len(sys.argv) not in (2, 3, 4):
+        sys.exit(__doc__)
+    main(sys.argv[1], *map(int, sys.argv[2:]))
