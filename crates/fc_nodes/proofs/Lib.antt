@@ -14,3 +14,4 @@ pub mod MovingLemmas
 pub mod RenamedLemmas
 pub mod TransferredLemmas
 pub mod CopiedLemmas
+pub mod OwningLemmas

@@ -3,6 +3,7 @@
 
 ghost use Rattle.fc_nodes.specs.Rows.{NodeRows};
 ghost use Rattle.fc_nodes.specs.Copied.{CopiedLaw};
+ghost use Rattle.fc_nodes.specs.Owning.{OwningLaw};
 ghost use Rattle.fc_nodes.specs.Laws.{AddedLaw, DirectoryAddedLaw, OwnerLaw, RemovedLaw, RenamedLaw, ReplacedLaw, RewordedLaw, TransferredLaw};
 
 /// An object of a directory is the owner that its numbers say.
@@ -53,4 +54,9 @@ pub fn copied()
 /// A small tree whose directory is renamed, worked out.
 pub fn rows()
     ensures { NodeRows }
+{}
+
+/// Owners that are changed in their place.
+pub fn owning()
+    ensures { OwningLaw }
 {}

@@ -9,3 +9,4 @@ pub mod ApartLemmas
 pub mod StepLemmas
 pub mod StoredLemmas
 pub mod CopiedLemmas
+pub mod CopiedBytesLemmas

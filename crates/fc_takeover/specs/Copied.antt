@@ -1,5 +1,6 @@
 -- `rename` of a file that is copied: what it writes, one step after another, and that it then has done what it promises.
-use Rattle.std.specs.Prelude.{◌≡◌, ◌*◌, ℕ, true, false, List, [], ◌∷◌, ◌++◌, slice_get, Some, None, IsPermutation}
+use Rattle.std.specs.Prelude.{◌≡◌, ◌<◌, ◌*◌, ℕ, true, false, List, [], ◌∷◌, ◌++◌, length, get_or, slice_get, Some, None, IsPermutation}
+use Rattle.fc_device.specs.Sectors.{sector_at}
 use Rattle.fc_names.specs.Names.{Path, is_same_path}
 use Rattle.fc_record.specs.declared.DiscRecord.{DiscRecord}
 use Rattle.fc_record.specs.declared.Kind.{Kind}
@@ -9,8 +10,8 @@ use Rattle.fc_model.specs.Command.{Command}
 use Rattle.fc_dirs.specs.Entries.{has_name, with_entry, without_entry}
 use Rattle.fc_dirs.specs.Directory.{Directory, entries_of}
 use Rattle.fc_alloc.specs.declared.owner.Owner.{Owner}
-use Rattle.fc_image.specs.Layout.{Layout}
-use Rattle.fc_image.specs.Walk.{Listing, Object, object_bytes}
+use Rattle.fc_image.specs.Layout.{Layout, dir_form}
+use Rattle.fc_image.specs.Walk.{Listing, Object, object_bytes, object_size}
 use Rattle.fc_image.specs.Opening.{Opened}
 use Rattle.fc_image.specs.Stays.{HasSectorsOf}
 use Rattle.fc_image.specs.Edits.{IsAt}
@@ -64,3 +65,15 @@ CopiedStepsLaw = (kind : Kind) (start image stored taken named image' : List ℕ
     → IsCopiedInSteps image stored taken named image' v m m' from to rest k l k_content l_content i o copy id parts
     → IsCopied nodes nodes' v.listings listings' rest k l k_content l_content i j o copy from_dir dir number (last_name to)
     → PartsFollow nodes' owners' (Layout.New m') listings' → TakesOver kind start image' v (Command.Rename from to) m' nodes' owners'
+
+-- ---- the copy's bytes
+
+-- Each sector of `to` now has the bytes that the sector of `from` of the same place had.
+abbrev pub AreCopied : ℕ → List ℕ → List ℕ → List ℕ → List ℕ → Type 0
+AreCopied size was image from to = (i : ℕ) → i < length to → sector_at size image (get_or to i 0) ≡ sector_at size was (get_or from i 0)
+
+-- An object of as many bytes, whose sectors have been copied one by one, has the bytes of the other.
+abbrev pub CopiedBytesLaw : Type 0
+CopiedBytesLaw = (m m' : Map) (o copy : Object) (was image : List ℕ) → m'.geometry ≡ m.geometry → IsAt (Layout.New m) o → IsAt (Layout.New m') copy
+    → object_size (dir_form (Layout.New m')) copy.entry ≡ object_size (dir_form (Layout.New m)) o.entry
+    → AreCopied m.geometry.sector was image o.sectors copy.sectors → object_bytes image (Layout.New m') copy ≡ object_bytes was (Layout.New m) o

@@ -1,7 +1,7 @@
 //! From what a command's calls leave on the image and of the nodes, to what a method of a volume promises of both.
 #![tactic(auto)]
 
-ghost use Rattle.fc_takeover.specs.Copied.{CopiedStepsLaw, CopiedTakesOver};
+ghost use Rattle.fc_takeover.specs.Copied.{CopiedBytesLaw, CopiedStepsLaw, CopiedTakesOver};
 ghost use Rattle.fc_takeover.specs.Laws.{DeletedTakesOver, DirectoryMadeTakesOver, FiledTakesOver, MovedTakesOver, RenamedTakesOver, RepairedTakesOver, RewordedTakesOver};
 ghost use Rattle.fc_takeover.specs.Places.{ObjectsLaw, PlacesLaw};
 ghost use Rattle.fc_takeover.specs.Repairs.{RepairLaw};
@@ -71,6 +71,11 @@ pub fn moved()
 /// After `rename` of a file that is copied the volume stands for the new image.
 pub fn copied()
     ensures { CopiedTakesOver }
+{}
+
+/// What was copied sector by sector has the same bytes.
+pub fn copied_bytes()
+    ensures { CopiedBytesLaw }
 {}
 
 /// That command, one write after another.
