@@ -8,3 +8,4 @@ pub mod PlacesLemmas
 pub mod SlackLemmas
 pub mod SpaceLemmas
 pub mod UsedLemmas
+pub mod HoleLemmas

@@ -1,6 +1,7 @@
 // The extents of an object in new space, before the map has its runs.
 
-ghost use Rattle.std.specs.Prelude.{◌≡◌, ◌<◌, ◌^◌, ◌-◌, ◌++◌, All, IfOk, length, take};
+ghost use Rattle.std.specs.Prelude.{◌≡◌, ◌<◌, ◌^◌, ◌-◌, ◌++◌, ℕ, true, All, IfOk, length, take};
+ghost use Rattle.fc_image.specs.Layout.{Layout, hole_sectors, is_among};
 ghost use Rattle.fc_newmap.specs.Map.{sectors_of};
 ghost use Rattle.fc_newmap.specs.NewMap.{IsOfRecord};
 ghost use Rattle.fc_newmap.specs.Walk.{IsInZone};
@@ -106,6 +107,7 @@ pub fn extents_of(
     requires own { IsOwnPlan map.now bytes plan.now }
     ensures place { IfOk result (λ place. IsOwnPlace map.now bytes plan.now (sectors_in place.items)) }
     ensures each { IfOk result (λ place. HaveSectors place.items) }
+    ensures holes { IfOk result (λ place. (s : ℕ) → is_among (sectors_in place.items) s ≡ true → is_among (hole_sectors (Layout.New map.now)) s ≡ true) }
 {
     let g = map.geometry();
     let need = bytes.div_ceil(u64::from(g.sector));

@@ -43,10 +43,13 @@ impl Places {
         Places { space, index: None }
     }
 
-    /// Makes the index of a new map. If memory is short, places are found as before.
+    /// Makes the index of a new map, unless there is one. If memory is short, places are found as before.
     pub fn index(&mut self, alloc: Global) -> Result<(), NoMemory>
         ensures { self.new ≡ self.old }
     {
+        if self.index.is_some() {
+            return Ok(());
+        }
         let Space::NewMapped(map) = &self.space else {
             return Ok(());
         };

@@ -136,8 +136,8 @@ impl Tree {
         put_slot(&mut self.slots, n, node);
     }
 
-    // The number of the next new node.
-    fn next_number(&mut self) -> u64
+    /// The number of the next new node, which none has.
+    pub fn next_number(&mut self) -> u64
         ensures number { result ≡ next_number self.old }
         ensures within { result ≤ bound_of self.old }
         ensures free { get (nodes_of self.old) result ≡ None }

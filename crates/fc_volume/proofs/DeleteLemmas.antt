@@ -1,5 +1,5 @@
 -- `delete`: from what is ready in memory and written, to what it promises.
-use Rattle.std.proofs.Common.{◌≡◌, ◌≤◌, ◌*◌, ◌||◌, ℕ, Bool, true, false, cond, List, [], ◌∷◌, length, remove, ◌++◌, find, Some, None, refl, sym, ap, subst, ◌∙◌, ◌-◌, ◌/◌, is_some}
+use Rattle.std.proofs.Common.{◌≡◌, ◌*◌, ◌||◌, ℕ, Bool, true, false, cond, List, [], ◌∷◌, length, remove, ◌++◌, find, Some, None, refl, sym, ap, subst, ◌∙◌, ◌-◌, ◌/◌, is_some}
 use Rattle.std.specs.Prelude.{Contains, IsPermutation}
 use Rattle.std.specs.FinMap.{remove as take}
 use Rattle.fc_names.specs.Names.{Path}
@@ -11,11 +11,10 @@ use Rattle.fc_changes.proofs.BasicLemmas.{first_in, next_in}
 use Rattle.fc_newmap.specs.NewMap.{IsNewMap}
 use Rattle.fc_alloc.specs.declared.owner.Owner.{Owner}
 use Rattle.fc_model.specs.Command.{Command}
-use Rattle.fc_dirs.specs.declared.Entry.{Entry}
 use Rattle.fc_dirs.specs.Directory.{Directory, entries_of}
 use Rattle.fc_drafts.specs.Draft.{directory_in, size_of, with_head, with_less}
 use Rattle.fc_drafts.specs.Rewriting.{HasLeft}
-use Rattle.fc_image.specs.Layout.{Layout, dir_form, sectors_at}
+use Rattle.fc_image.specs.Layout.{Layout, dir_form}
 use Rattle.fc_image.specs.Edits.{IsAt}
 use Rattle.fc_image.specs.InPlace.{says_now}
 use Rattle.fc_image.specs.Objects.{objects_of}
@@ -25,7 +24,6 @@ use Rattle.fc_image.specs.Sound.{AreSound}
 use Rattle.fc_image.specs.Stays.{OpensAs}
 use Rattle.fc_image.specs.Walk.{Listing, Object, object_size}
 use Rattle.fc_objects.specs.Extents.{sectors_in}
-use Rattle.fc_tree.specs.declared.node.Node.{Node}
 use Rattle.fc_tree.specs.Agree.{Agree, HasForm}
 use Rattle.fc_tree.specs.Counts.{address_in}
 use Rattle.fc_tree.specs.Nodes.{HoldObjects, body_in}
@@ -49,8 +47,8 @@ use Rattle.fc_volume.specs.declared.changes.removal.Removal.{Removal}
 use Rattle.fc_volume.specs.ChangeLaws.{ChangeLaws}
 use Rattle.fc_volume.specs.Changing.{WritesPlaces}
 use Rattle.fc_volume.specs.Deleting.{IsDeleteReady, IsWrittenWithout}
-use Rattle.fc_volume.proofs.SetLemmas.{says_it, size_of_form}
-use Rattle.fc_volume.proofs.SettingLemmas.{one_content}
+use Rattle.fc_volume.proofs.RewriteLemmas.{IsDirectoryBytes, says_it, size_of_form}
+use Rattle.fc_volume.proofs.RewriteLemmas as rewrite
 use Rattle.fc_volume.proofs.TargetLemmas as target_of
 
 -- ---- directories
@@ -127,12 +125,6 @@ module _ (laws : ChangeLaws) (m : Map) (nodes : Nodes) (owners : List Owner) (pa
     abbrev pub o : Object
     o = target.object
 
-    abbrev node : Node
-    node = target_of.node nodes (Layout.New m) listings sound held l target.listed t.holder target.holder_is
-
-    node_is : node ≡ is.ready.node
-    node_is = target_of.one_node nodes (Layout.New m) listings sound held l target.listed t.holder target.holder_is is.ready.node is.ready.there
-
     pub among : Contains (objects_of listings) l.object
     among = target_of.among nodes (Layout.New m) listings sound held l target.listed t.holder target.holder_is
 
@@ -140,17 +132,13 @@ module _ (laws : ChangeLaws) (m : Map) (nodes : Nodes) (owners : List Owner) (pa
     placed = target_of.placed nodes (Layout.New m) listings sound held l target.listed t.holder target.holder_is
 
     pub entry_is : is.ready.node.entry ≡ l.object.entry
-    entry_is = ap (λ (n : Node). n.entry) (sym node_is)
+    entry_is = rewrite.entry_is nodes m listings sound held l target.listed t.holder target.holder_is is.ready.node is.ready.there
 
     pub content_is : is.ready.content ≡ l.content
-    content_is =
-        one_content is.ready.content l.content
-        (sym is.ready.says ∙ ap (λ (n : Node). n.body) (sym node_is) ∙ target_of.says nodes (Layout.New m) listings sound held l target.listed t.holder target.holder_is)
+    content_is = rewrite.content_is nodes m listings sound held l target.listed t.holder target.holder_is is.ready.node is.ready.there is.ready.content is.ready.says
 
     parent_is : address_in nodes is.ready.node.holder ≡ holder_address listings l.object.path
-    parent_is =
-        ap (λ (n : Node). address_in nodes n.holder) (sym node_is)
-        ∙ target_of.parent_is nodes (Layout.New m) listings sound held l target.listed t.holder target.holder_is
+    parent_is = rewrite.parent_is nodes m listings sound held l target.listed t.holder target.holder_is is.ready.node is.ready.there
 
     pub left : HasLeft (holder_address listings l.object.path) t.at l.content content
     left =
@@ -158,9 +146,7 @@ module _ (laws : ChangeLaws) (m : Map) (nodes : Nodes) (owners : List Owner) (pa
         (subst (λ (d : Directory). HasLeft (address_in nodes is.ready.node.holder) t.at d content) content_is is.ready.left)
 
     pub sectors_are : sectors ≡ l.object.sectors
-    sectors_are =
-        same_some sectors l.object.sectors
-        (sym is.ready.prepared.place ∙ ap (λ (e : Entry). sectors_at (Layout.New m) e.address (object_size (dir_form (Layout.New m)) e)) entry_is ∙ placed)
+    sectors_are = rewrite.sectors_are nodes m listings sound held l target.listed t.holder target.holder_is is.ready.node is.ready.there sectors is.ready.prepared.place
 
     abbrev pub cut : (out rest : List Listing) × GoesAlone out o × IsPermutation listings (out ++ l ∷ rest)
     cut = laws.cuts.alone (Layout.New m) listings l t.at o sound target.listed target.at removable.empty
@@ -253,16 +239,17 @@ module _ (laws : ChangeLaws) (m : Map) (nodes : Nodes) (owners : List Owner) (pa
     takes_over m' owners' image owned len edited space there_owner absent written =
         let w = written.directory in
         let tg = target view.listings view_sound hold in
-        let there = placed view.listings view_sound hold in
-        let same = sectors_are view.listings view_sound hold in
         let c = cut view.listings view_sound hold in
         let s = others view.listings view_sound hold in
-        let part = subst (λ (xs : List ℕ). Rattle.fc_objects.specs.Written.IsPartWritten m.geometry.sector xs r.directory.bytes.items w.mid written.mid) same w.part in
-        let size = len ∙ ap (object_size (dir_form (Layout.New m))) (entry_is view.listings view_sound hold) in
-        let room : length r.directory.bytes.items ≤ length k.object.sectors * m.geometry.sector = rw size (laws.writes.room m k.object is.is_map there) in
-        let back = (subst (λ (xs : List ℕ). Rattle.fc_objects.specs.Written.AreApart xs → length r.directory.bytes.items ≤ length xs * m.geometry.sector
-        → Rattle.fc_objects.specs.Bytes.first_bytes m.geometry.sector written.mid xs (length r.directory.bytes.items) ≡ r.directory.bytes.items) same w.reads_back)
-        (laws.writes.apart m k.object is.is_map there) room in
+        let step : IsDirectoryBytes m view (Command.Delete path) k content r.directory.bytes.items sectors was written.mid = record {
+          is_map = is.is_map;
+          placed = placed view.listings view_sound hold;
+          sectors_are = sectors_are view.listings view_sound hold;
+          says = (left view.listings view_sound hold).rewritten (Command.Delete path) k.object.path refl;
+          long = len ∙ ap (object_size (dir_form (Layout.New m))) (entry_is view.listings view_sound hold);
+          bytes_are = is.ready.prepared.bytes;
+          written = w;
+        } in
         laws.steps.deleted kind was w.mid written.mid image view m m' path c.0 c.1 k content t.at (o view.listings view_sound hold) s.0 r.gone.items nodes nodes' (listings' view.listings view_sound hold)
         owners' t.holder t.node
         (record { repair = record { opens = opens; layout = at; frame = w.repaired.frame; content = w.repaired.content }; is_map = is.is_map })
@@ -273,11 +260,7 @@ module _ (laws : ChangeLaws) (m : Map) (nodes : Nodes) (owners : List Owner) (pa
           alone = c.2;
           others = s.1;
           entries = entries_are view.listings view_sound hold;
-          directory = record {
-            says = (left view.listings view_sound hold).rewritten (Command.Delete path) k.object.path refl;
-            written = laws.writes.part m k.object.sectors r.directory.bytes.items w.mid written.mid part;
-            bytes = laws.writes.directory m m k.object content r.directory.bytes.items written.mid (record { geometry = refl; long = size; reads_back = back }) is.ready.prepared.bytes;
-          };
+          directory = rewrite.directory_step laws m view (Command.Delete path) k content r.directory.bytes.items sectors was written.mid step;
           commit = written.commit;
           map = written.map;
           space = space;

@@ -1,5 +1,5 @@
 -- `delete` of a volume: what it changes, and what the volume stands for afterwards.
-use Rattle.std.proofs.Common.{◌≡◌, ◌<◌, ◌≤◌, ◌+◌, ◌*◌, ◌/◌, ℕ, true, false, List, ◌∷◌, refl, sym, ap, subst, ◌∙◌, Some, arith}
+use Rattle.std.proofs.Common.{◌≡◌, ◌<◌, ◌≤◌, ◌+◌, ◌*◌, ◌/◌, ℕ, true, false, List, ◌∷◌, refl, sym, ap, subst, ◌∙◌, Some, arith, cond, ◌==◌}
 use Rattle.std.specs.Prelude.{All, IsPermutation, Contains}
 use Rattle.fc_device.specs.declared.disk.Disk.{Ghosts}
 use Rattle.fc_device.specs.Calls.{SameForm, StopsAndExitsLeave}
@@ -8,6 +8,7 @@ use Rattle.fc_record.specs.declared.Kind.{Kind}
 use Rattle.fc_newmap.specs.Map.{Map}
 use Rattle.fc_names.specs.Names.{Path}
 use Rattle.fc_model.specs.Command.{Command}
+use Rattle.fc_names.specs.declared.name.NameForm.TheVariants.{Ten, Long}
 use Rattle.fc_image.specs.Layout.{Layout, disc_sectors, is_among, sector_bytes}
 use Rattle.fc_image.specs.Opening.{Opened}
 use Rattle.fc_image.specs.Objects.{objects_of}
@@ -163,3 +164,7 @@ module _ {D : Type 0} (d : Ghosts D) (laws : ChangeLaws) (m : Map) (v v' : Volum
           subst (λ (k : Copies). HasCopies k (layout_of v'.space) image) (sym has.copies)
           (subst (HasEqualCopies image) (sym o.2.layout ∙ sym layout') o.1.opens.copies));
     }
+
+-- a map of the same geometry has the same form of directories
+pub form_kept : (l l' : Layout) (m m' : Map) → l ≡ Layout.New m → l' ≡ Layout.New m' → m'.geometry ≡ m.geometry → dir_form l' ≡ dir_form l
+form_kept l l' m m' is is' same = ap dir_form is' ∙ ap (λ (g : Geometry). cond (g.version == 0) Ten Long) same ∙ ap dir_form (sym is)

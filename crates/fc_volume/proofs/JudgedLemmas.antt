@@ -63,10 +63,6 @@ refused_by T (Some s) r e = some_same s r e
     some_same : (a b : Refusal) → (let x : Option Refusal = Some a in x) ≡ Some b → b ≡ a
     some_same a b h = cc
 
-pub no_memory_by : (T : Type 0) (o : Option Refusal) → o ≡ None → AnswersBy {T = T} o (Err NoMemory)
-no_memory_by T None e = tt
-no_memory_by T (Some r) e = absurd (cc)
-
 pub done_by : {T : Type 0} (o : Option Refusal) (result : Result T CommandError) → o ≡ None → IfErr result (λ error. error ≡ DiskFault) → AnswersBy o result
 done_by (Some r) result e fails = absurd (cc)
 done_by None (Ok value) e fails = tt

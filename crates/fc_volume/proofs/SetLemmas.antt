@@ -1,5 +1,5 @@
 -- `set`: from what is ready in memory and written, to what it promises.
-use Rattle.std.proofs.Common.{◌≡◌, ◌<◌, ◌≤◌, ◌*◌, ◌||◌, ℕ, Bool, true, false, cond, List, ◌∷◌, length, slice_get, slice_set, refl, sym, ap, subst, ◌∙◌}
+use Rattle.std.proofs.Common.{◌≡◌, ◌<◌, ◌||◌, ℕ, Bool, true, false, cond, List, ◌∷◌, length, slice_get, slice_set, refl, sym, ap, subst, ◌∙◌}
 use Rattle.std.specs.Prelude.{Contains}
 use Rattle.fc_names.specs.Names.{Path, is_same_path}
 use Rattle.fc_names.specs.declared.name.NameForm.{NameForm}
@@ -10,13 +10,11 @@ use Rattle.fc_newmap.specs.NewMap.{IsNewMap}
 use Rattle.fc_alloc.specs.declared.owner.Owner.{Owner}
 use Rattle.fc_model.specs.Command.{Command}
 use Rattle.fc_dirs.specs.declared.Entry.{Entry}
-use Rattle.fc_dirs.specs.declared.SmallForm.{SmallForm}
-use Rattle.fc_dirs.specs.Small.{tail_of}
 use Rattle.fc_dirs.specs.Directory.{Directory, entries_of}
-use Rattle.fc_drafts.specs.Draft.{IsSayable, directory_in, size_of, with_changed, with_head}
+use Rattle.fc_drafts.specs.Draft.{directory_in, size_of, with_changed, with_head}
 use Rattle.fc_drafts.specs.Entries.{set_entry}
 use Rattle.fc_drafts.specs.Rewriting.{HasReplaced}
-use Rattle.fc_image.specs.Layout.{Layout, dir_form, sectors_at}
+use Rattle.fc_image.specs.Layout.{Layout, dir_form}
 use Rattle.fc_image.specs.Commanded.{set_object}
 use Rattle.fc_image.specs.Edits.{IsAt}
 use Rattle.fc_image.specs.InPlace.{says_now}
@@ -28,15 +26,13 @@ use Rattle.fc_image.specs.Stays.{OpensAs}
 use Rattle.fc_image.specs.Walk.{Listing, Object, object_size}
 use Rattle.fc_image.proofs.PathsLemmas.{itself}
 use Rattle.fc_objects.specs.Extents.{sectors_in}
-use Rattle.fc_tree.specs.declared.node.Node.{Node}
-use Rattle.fc_tree.specs.Agree.{Agree, HasForm, IsDirectory}
+use Rattle.fc_tree.specs.Agree.{Agree, HasForm}
 use Rattle.fc_tree.specs.Counts.{address_in}
 use Rattle.fc_tree.specs.Nodes.{HoldObjects, body_in}
 use Rattle.fc_tree.specs.Parts.{ArePartsOf, Parts}
 use Rattle.fc_tree.proofs.WalkedLemmas.{same_some}
 use Rattle.fc_nodes.specs.Edits.{IsReworded, Nodes, NodesFollow, OwnersFollow, as_before, relisted, with_body, with_entry}
 use Rattle.fc_takeover.specs.Laws.{TakesOver}
-use Rattle.fc_takeover.specs.Places.{OpensBy}
 use Rattle.fc_changes.specs.Owed.{IsWritten}
 use Rattle.fc_refusals.specs.declared.target.Target.{Target}
 use Rattle.fc_refusals.specs.Targets.{IsTarget}
@@ -45,7 +41,8 @@ use Rattle.fc_volume.specs.ChangeLaws.{ChangeLaws}
 use Rattle.fc_volume.specs.Changing.{WritesPlaces}
 use Rattle.fc_volume.specs.Rewrites.{IsRepairedAndWritten}
 use Rattle.fc_volume.specs.Setting.{IsSetReady}
-use Rattle.fc_volume.proofs.SettingLemmas.{one_content}
+use Rattle.fc_volume.proofs.RewriteLemmas.{IsDirectoryBytes, says_it, size_of_form}
+use Rattle.fc_volume.proofs.RewriteLemmas as rewrite
 use Rattle.fc_volume.proofs.TargetLemmas as target_of
 
 -- ---- directories
@@ -68,22 +65,6 @@ entries_now parent at e old new is = ap entries_of is.is ∙ by old
     by : (dir : Directory) → entries_of (with_head parent (with_changed at e dir)) ≡ slice_set (entries_of dir) at e
     by (Directory.Small dir) = refl
     by (Directory.Big dir) = refl
-
--- the bytes of a directory of the disc's form are those that its entry asks for
-pub size_of_form : (form : NameForm) (e : Entry) (dir : Directory) → HasForm form e.len dir → Rattle.fc_names.specs.Names.is_directory e.attrs ≡ true → size_of dir ≡ object_size form e
-size_of_form form e dir has is = by form dir has ∙ ap (λ (b : Bool). cond b (Rattle.fc_dirs.specs.Directory.directory_size form e.len) e.len) (sym is)
-  where
-    by : (f : NameForm) (d : Directory) → HasForm f e.len d → size_of d ≡ Rattle.fc_dirs.specs.Directory.directory_size f e.len
-    by forms.Seven (Directory.Small d) h = ap (λ (s : SmallForm). (tail_of s).size) h
-    by forms.Ten (Directory.Small d) h = ap (λ (s : SmallForm). (tail_of s).size) h
-    by forms.Long (Directory.Small d) h = absurd h
-    by forms.Seven (Directory.Big d) h = absurd h
-    by forms.Ten (Directory.Big d) h = absurd h
-    by forms.Long (Directory.Big d) h = h
-
-pub says_it : (dir : Directory) → IsSayable dir → IsDirectory dir
-says_it (Directory.Small dir) is = is
-says_it (Directory.Big dir) is = is
 
 set_own : (path : Path) (load exec access : ℕ) (o : Object) → is_same_path path o.path ≡ true → (set_object path load exec access o).entry ≡ set_entry o.entry load exec access
 set_own path load exec access o same =
@@ -124,12 +105,6 @@ module _ (laws : ChangeLaws) (m : Map) (nodes : Nodes) (path : Path) (load exec 
     abbrev g : Object → Object
     g = set_object o.path load exec access
 
-    abbrev node : Node
-    node = target_of.node nodes (Layout.New m) listings sound held l target.listed t.holder target.holder_is
-
-    node_is : node ≡ is.ready.node
-    node_is = target_of.one_node nodes (Layout.New m) listings sound held l target.listed t.holder target.holder_is is.ready.node is.ready.there
-
     pub among : Contains (objects_of listings) l.object
     among = target_of.among nodes (Layout.New m) listings sound held l target.listed t.holder target.holder_is
 
@@ -137,12 +112,10 @@ module _ (laws : ChangeLaws) (m : Map) (nodes : Nodes) (path : Path) (load exec 
     placed = target_of.placed nodes (Layout.New m) listings sound held l target.listed t.holder target.holder_is
 
     pub entry_is : is.ready.node.entry ≡ l.object.entry
-    entry_is = ap (λ (n : Node). n.entry) (sym node_is)
+    entry_is = rewrite.entry_is nodes m listings sound held l target.listed t.holder target.holder_is is.ready.node is.ready.there
 
     pub content_is : is.ready.content ≡ l.content
-    content_is =
-        one_content is.ready.content l.content
-        (sym is.ready.says ∙ ap (λ (n : Node). n.body) (sym node_is) ∙ target_of.says nodes (Layout.New m) listings sound held l target.listed t.holder target.holder_is)
+    content_is = rewrite.content_is nodes m listings sound held l target.listed t.holder target.holder_is is.ready.node is.ready.there is.ready.content is.ready.says
 
     was_is : is.ready.was ≡ o.entry
     was_is =
@@ -151,9 +124,7 @@ module _ (laws : ChangeLaws) (m : Map) (nodes : Nodes) (path : Path) (load exec 
         ∙ target_of.child_entry (Layout.New m) listings l t.at o laws.entries sound target.listed target.at)
 
     parent_is : address_in nodes is.ready.node.holder ≡ holder_address listings l.object.path
-    parent_is =
-        ap (λ (n : Node). address_in nodes n.holder) (sym node_is)
-        ∙ target_of.parent_is nodes (Layout.New m) listings sound held l target.listed t.holder target.holder_is
+    parent_is = rewrite.parent_is nodes m listings sound held l target.listed t.holder target.holder_is is.ready.node is.ready.there
 
     pub replaced : HasReplaced (holder_address listings l.object.path) t.at (set_entry o.entry load exec access) l.content content
     replaced =
@@ -162,9 +133,7 @@ module _ (laws : ChangeLaws) (m : Map) (nodes : Nodes) (path : Path) (load exec 
         (subst (λ (d : Directory). HasReplaced (address_in nodes is.ready.node.holder) t.at (set_entry is.ready.was load exec access) d content) content_is is.ready.replaced))
 
     pub sectors_are : sectors ≡ l.object.sectors
-    sectors_are =
-        same_some sectors l.object.sectors
-        (sym is.ready.prepared.place ∙ ap (λ (e : Entry). sectors_at (Layout.New m) e.address (object_size (dir_form (Layout.New m)) e)) entry_is ∙ placed)
+    sectors_are = rewrite.sectors_are nodes m listings sound held l target.listed t.holder target.holder_is is.ready.node is.ready.there sectors is.ready.prepared.place
 
     new_entry : (g o).entry ≡ set_entry o.entry load exec access
     new_entry = set_own o.path load exec access o (itself o.path)
@@ -250,15 +219,15 @@ module _ (laws : ChangeLaws) (m : Map) (nodes : Nodes) (path : Path) (load exec 
         → IsRepairedAndWritten m sectors r.directory.bytes.items was image → TakesOver kind was image view (Command.Set path load exec access) m nodes' owners
     takes_over owners image owned len w =
         let tg = target view.listings view_sound hold in
-        let by : OpensBy kind was view m = record { opens = opens; layout = at } in
-        let there = placed view.listings view_sound hold in
-        let same = sectors_are view.listings view_sound hold in
-        let part = subst (λ (xs : List ℕ). Rattle.fc_objects.specs.Written.IsPartWritten m.geometry.sector xs r.directory.bytes.items w.mid image) same w.part in
-        let size = len ∙ ap (object_size (dir_form (Layout.New m))) (entry_is view.listings view_sound hold) in
-        let room : length r.directory.bytes.items ≤ length k.object.sectors * m.geometry.sector = rw size (laws.writes.room m k.object is.is_map there) in
-        let back = (subst (λ (xs : List ℕ). Rattle.fc_objects.specs.Written.AreApart xs → length r.directory.bytes.items ≤ length xs * m.geometry.sector
-        → Rattle.fc_objects.specs.Bytes.first_bytes m.geometry.sector image xs (length r.directory.bytes.items) ≡ r.directory.bytes.items) same w.reads_back)
-        (laws.writes.apart m k.object is.is_map there) room in
+        let step : IsDirectoryBytes m view (Command.Set path load exec access) k content r.directory.bytes.items sectors was image = record {
+          is_map = is.is_map;
+          placed = placed view.listings view_sound hold;
+          sectors_are = sectors_are view.listings view_sound hold;
+          says = (replaced view.listings view_sound hold).rewritten (Command.Set path load exec access) k.object.path refl;
+          long = len ∙ ap (object_size (dir_form (Layout.New m))) (entry_is view.listings view_sound hold);
+          bytes_are = is.ready.prepared.bytes;
+          written = w;
+        } in
         laws.steps.set kind was w.mid image view m (rest view.listings view_sound hold) k content t.at (o view.listings view_sound hold) path load exec access nodes nodes' (listings' view.listings view_sound hold)
         owners t.holder t.node is.low tg.path_is
         (record { repair = record { opens = opens; layout = at; frame = w.repaired.frame; content = w.repaired.content }; is_map = is.is_map })
@@ -267,12 +236,9 @@ module _ (laws : ChangeLaws) (m : Map) (nodes : Nodes) (path : Path) (load exec 
           found = (laws.cuts.one view.listings k tg.listed).1;
           at = tg.at;
           entries = entries_are view.listings view_sound hold;
-          directory = record {
-            says = (replaced view.listings view_sound hold).rewritten (Command.Set path load exec access) k.object.path refl;
-            written = laws.writes.part m k.object.sectors r.directory.bytes.items w.mid image part;
-            bytes = laws.writes.directory m m k.object content r.directory.bytes.items image (record { geometry = refl; long = size; reads_back = back }) is.ready.prepared.bytes;
-          };
-          map_stays = laws.writes.map_stays m k.object.sectors r.directory.bytes.items w.mid image (laws.objects.no_map kind was view m k.object by (among view.listings view_sound hold)) part;
+          directory = rewrite.directory_step laws m view (Command.Set path load exec access) k content r.directory.bytes.items sectors was image step;
+          map_stays = rewrite.map_kept laws m view (Command.Set path load exec access) k content r.directory.bytes.items sectors was image step kind (record { opens = opens; layout = at })
+              (among view.listings view_sound hold);
         })
         (edit view.listings view_sound hold)
         (record { nodes_follow = nodes_follow view.listings view_sound hold; owners_follow = owners_follow view.listings view_sound hold owners owned })

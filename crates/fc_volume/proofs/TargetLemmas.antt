@@ -1,5 +1,5 @@
 -- The node of a listed directory: what it says, where it lies, and who holds it.
-use Rattle.std.proofs.Common.{◌≡◌, ◌<◌, ◌≤◌, ℕ, zero, suc, ◌+◌, ◌^◌, ◌==◌, ◌&&◌, Bool, true, false, cond, not, find, List, [], ◌∷◌, drop, map, slice_get, Option, Some, None, refl, sym, ap, subst, ◌∙◌, arith, mod-lt, eq-eqb}
+use Rattle.std.proofs.Common.{◌≡◌, ◌<◌, ◌≤◌, ℕ, zero, suc, ◌+◌, ◌*◌, ◌^◌, ◌==◌, ◌&&◌, Bool, true, false, cond, not, find, List, [], ◌∷◌, drop, map, slice_get, Option, Some, None, refl, sym, ap, subst, ◌∙◌, arith, mod-lt, eq-eqb}
 use Rattle.std.specs.Prelude.{Contains, is_none, is_some, nat_le, nat_lt}
 use Rattle.std.specs.Int.{div_ceil}
 use Rattle.std.specs.Option.{option_map, option_map_or}
@@ -112,6 +112,16 @@ short_idlen g is = subst (λ (h : Geometry). h.version ≡ 0 → h.idlen ≤ 15)
     of_record r valid zero_version =
         let right = ap (λ (b : Bool). nat_le (r.log2_sector + 3) r.idlen && nat_le r.idlen (cond b 15 19)) (sym (eq-eqb r.version 0 zero_version)) ∙ valid_idlen r valid in
         leb-true r.idlen 15 (both_true (nat_le (r.log2_sector + 3) r.idlen) (nat_le r.idlen 15) right).1
+
+-- so does that of any identifier
+pub few_ids : (m : Map) → IsNewMap m → dir_form (Layout.New m) ≡ forms.Ten → (id : ℕ) → id < 2 ^ m.geometry.idlen → 256 * id < 2 ^ 24
+few_ids m is small id low = by (m.geometry.version == 0) refl small
+  where
+    by : (b : Bool) → (m.geometry.version == 0) ≡ b → cond b forms.Ten forms.Long ≡ forms.Ten → 256 * id < 2 ^ 24
+    by true e f =
+        (let few : 2 ^ m.geometry.idlen ≤ 2 ^ 15 = pow-le-pow_right {n = 2} (omega arith) (short_idlen m.geometry is.of_record (eqb-true m.geometry.version 0 e)) in
+        omega (arith, low, few))
+    by false e f = absurd (cc)
 
 -- an address at which bytes lie fits the three bytes of a small directory
 low_address : (m : Map) (address bytes : ℕ) (xs : List ℕ) → IsNewMap m → m.geometry.version ≡ 0 → (bytes == 0) ≡ false → sectors_at (Layout.New m) address bytes ≡ Some xs → address < 2 ^ 24

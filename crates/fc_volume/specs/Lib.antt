@@ -9,5 +9,8 @@ pub mod Compacting
 pub mod Changing
 pub mod Rewrites
 pub mod Setting
+pub mod Storing
+pub mod Making
 pub mod ChangeLaws
 pub mod Deleting
+pub mod CdirLaws

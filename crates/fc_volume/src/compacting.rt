@@ -5,7 +5,7 @@ ghost use Rattle.fc_device.specs.Calls.{FailsByFault, SameForm, StopsAndExitsLea
 ghost use Rattle.fc_device.specs.Faults.{Rose};
 ghost use Rattle.fc_newmap.specs.Map.{Map};
 ghost use Rattle.fc_copies.specs.Copies.{HoldsCopies};
-ghost use Rattle.fc_image.specs.Layout.{Layout, disc_sectors, sector_bytes};
+ghost use Rattle.fc_image.specs.Layout.{Layout, dir_form, disc_sectors, sector_bytes};
 ghost use Rattle.fc_image.specs.Moves.{KeepsObjects};
 ghost use Rattle.fc_image.specs.Stays.{IsNewLayout};
 ghost use Rattle.fc_compact.specs.Compacting.{ChangesLoose};
@@ -127,6 +127,7 @@ impl Volume {
         ensures fit { UnlessFault result (self.new.fit ≡ true) }
         ensures unfit { result ≡ Err CommandError.DiskFault → self.new.fit ≡ false }
         ensures new_map { IsNewLayout (parts_of self.new).layout }
+        ensures form_stays { UnlessFault result (dir_form (parts_of self.new).layout ≡ dir_form (parts_of self.old).layout) }
         ensures rights { self.new.read_only ≡ self.old.read_only }
         ensures tree { self.new.tree ≡ self.old.tree }
         ensures form { SameForm D.Disk disk.old disk.new }

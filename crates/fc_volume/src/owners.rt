@@ -11,7 +11,7 @@ ghost use Rattle.fc_space.specs.Space.{layout_of};
 ghost use Rattle.fc_tree.specs.Agree.{AreWalked, InOrder};
 ghost use Rattle.fc_tree.specs.Nodes.{nodes_of};
 ghost use Rattle.fc_tree.specs.Parts.{AreOwners, first_in};
-ghost use Rattle.fc_volume.specs.Owners.{node_owner, owner_at, owners_below, with_owner};
+ghost use Rattle.fc_volume.specs.Owners.{entry_owner, node_owner, owner_at, owners_below, with_owner};
 
 use fc_alloc::{Owner, Owners};
 use fc_device::NoMemory;
@@ -70,10 +70,16 @@ fn sectors_for(space: &Space, bytes: u64) -> u64
 fn node_owner(space: &Space, n: u64, node: &Node) -> Owner
     ensures { result ≡ node_owner (layout_of space.now) n node.now }
 {
-    let e = &node.entry;
+    entry_owner(space, n, node.holder, &node.entry)
+}
+
+/// The owner that a node of this number is, by the number of its holder's node and by its entry.
+pub fn entry_owner(space: &Space, n: u64, holder: u64, e: &Entry) -> Owner
+    ensures { result ≡ entry_owner (layout_of space.now) n holder e.now }
+{
     Owner {
         id: e.address / 256,
-        dir: node.holder,
+        dir: holder,
         node: n,
         file: !is_directory(e),
         low: (e.address % 256) as u8,

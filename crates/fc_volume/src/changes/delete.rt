@@ -1,13 +1,14 @@
 // `delete`: a file, or an empty directory, goes.
 ghost use Rattle.std.specs.Prelude.{◌≡◌, None, IfOk, IsFalse, IsTrue, OnOk};
 ghost use Rattle.std.specs.Option.{option_to_list};
-ghost use Rattle.fc_image.specs.Layout.{Layout};
+ghost use Rattle.fc_image.specs.Layout.{Layout, dir_form};
 ghost use Rattle.fc_image.specs.Stays.{IsNewLayout};
 ghost use Rattle.fc_model.specs.Command.{Command};
 ghost use Rattle.fc_newmap.specs.Map.{Map};
 ghost use Rattle.fc_placing.specs.Space.{zones_changed};
 ghost use Rattle.fc_space.specs.Space.{layout_of};
 ghost use Rattle.fc_tree.specs.Nodes.{nodes_of};
+ghost use Rattle.fc_volume.specs.Compacting.{UnlessFault};
 ghost use Rattle.fc_volume.specs.Changing.{AnswersOver, ChangeKeeps, HasChanged, WritesOnlyPlaces};
 ghost use Rattle.fc_volume.specs.Deleting.{IsDeleteReady};
 ghost use Rattle.fc_volume.specs.Rewrites.{HoldsEntry};
@@ -102,6 +103,7 @@ impl Volume {
         ensures changed { OnOk result (HasChanged D.Disk (Command.Delete p.now) (parts_of self.old) (parts_of self.new) disk.old disk.new) }
         ensures places { WritesOnlyPlaces D.Disk (Command.Delete p.now) (parts_of self.old) disk.old disk.new }
         ensures keeps { ChangeKeeps D.Disk disk.old disk.new self.old self.new result }
+        ensures form_stays { UnlessFault result (dir_form (parts_of self.new).layout ≡ dir_form (parts_of self.old).layout) }
     {
         change_laws();
         is_new_map(&self.places);

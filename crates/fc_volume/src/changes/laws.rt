@@ -4,6 +4,7 @@ ghost use Rattle.fc_image.specs.Layout.{Layout};
 ghost use Rattle.fc_newmap.specs.Map.{Map};
 ghost use Rattle.fc_newmap.specs.NewMap.{IsNewMap};
 ghost use Rattle.fc_space.specs.Space.{layout_of};
+ghost use Rattle.fc_volume.specs.CdirLaws.{CdirLaws};
 ghost use Rattle.fc_volume.specs.ChangeLaws.{ChangeLaws};
 
 use fc_space::{Places, Space};
@@ -22,6 +23,24 @@ pub fn change_laws()
     fc_agree::cuts();
     fc_agree::reworded();
     fc_agree::removed();
+    fc_takeover::writes();
+    fc_takeover::objects();
+    fc_takeover::places();
+    fc_takeover::steps();
+}
+
+/// The laws of the crates below for a new directory, in one record.
+pub fn cdir_laws()
+    ensures { CdirLaws }
+{
+    fc_tree::opened();
+    fc_nodes::directory_added();
+    fc_agree::agreed();
+    fc_agree::cuts();
+    fc_agree::maps();
+    fc_agree::sayable();
+    fc_agree::directory_added();
+    fc_placing::places();
     fc_takeover::writes();
     fc_takeover::objects();
     fc_takeover::places();

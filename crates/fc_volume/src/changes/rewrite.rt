@@ -55,8 +55,8 @@ pub fn holder_address(tree: &Tree, node: &Node) -> u32
     }
 }
 
-// The bytes of a directory.
-fn bytes_of(alloc: Global, draft: &Draft) -> Result<Vec<u8>, NoMemory>
+/// The bytes of a directory.
+pub fn bytes_of(alloc: Global, draft: &Draft) -> Result<Vec<u8>, NoMemory>
     ensures written { IfOk result (λ bytes. AreWritten bytes.items (directory_in draft.now)) }
     ensures length { IfOk result (λ bytes. length bytes.items ≡ size_of (directory_in draft.now)) }
 {

@@ -1,10 +1,12 @@
 // `set`: other words and access bits for one object.
 ghost use Rattle.std.specs.Prelude.{◌≡◌, ◌<◌, IfOk, IsFalse, IsTrue, OnOk};
+ghost use Rattle.fc_image.specs.Layout.{dir_form};
 ghost use Rattle.fc_image.specs.Stays.{IsNewLayout};
 ghost use Rattle.fc_model.specs.Command.{Command};
 ghost use Rattle.fc_tree.specs.Counts.{address_in};
 ghost use Rattle.fc_tree.specs.Nodes.{nodes_of};
 ghost use Rattle.fc_space.specs.Space.{layout_of};
+ghost use Rattle.fc_volume.specs.Compacting.{UnlessFault};
 ghost use Rattle.fc_volume.specs.Changing.{AnswersOver, ChangeKeeps, HasChanged, WritesOnlyPlaces};
 ghost use Rattle.fc_volume.specs.Volume.{StandsFor, parts_of};
 ghost use Rattle.fc_volume.specs.Rewrites.{HoldsEntry};
@@ -77,6 +79,7 @@ impl Volume {
         ensures changed { OnOk result (HasChanged D.Disk (Command.Set p.now load exec access) (parts_of self.old) (parts_of self.new) disk.old disk.new) }
         ensures places { WritesOnlyPlaces D.Disk (Command.Set p.now load exec access) (parts_of self.old) disk.old disk.new }
         ensures keeps { ChangeKeeps D.Disk disk.old disk.new self.old self.new result }
+        ensures form_stays { UnlessFault result (dir_form (parts_of self.new).layout ≡ dir_form (parts_of self.old).layout) }
     {
         change_laws();
         is_new_map(&self.places);

@@ -9,8 +9,8 @@ use fc_dirs::Entry;
 use fc_drafts::Draft;
 use fc_tree::{Body, Tree};
 
-// What a directory says, as the body of its node.
-fn body_of(draft: Draft) -> Body
+/// What a directory says, as the body of its node.
+pub fn body_of(draft: Draft) -> Body
     ensures { result ≡ body_in (directory_in draft) }
 {
     match draft {

@@ -12,7 +12,7 @@ use Rattle.fc_volume.proofs.StandsLemmas.{new_layout}
 use Rattle.fc_volume.proofs.ChangeLemmas.{ok_both, ok_then, only_faults, places_written, unless_fault, writes_nothing}
 use Rattle.fc_volume.proofs.JudgedLemmas.{done_by, judged, refused_by, delete_takes_none}
 use Rattle.fc_volume.proofs.SetVolumeLemmas.{held_ready, object_there}
-use Rattle.fc_volume.proofs.DeleteVolumeLemmas.{apart, has_changed, made_going, on_disk, places_of, stands_now}
+use Rattle.fc_volume.proofs.DeleteVolumeLemmas.{apart, form_kept, has_changed, made_going, on_disk, places_of, stands_now}
 use Rattle.fc_volume.proofs.volume.Volume.delete.Goals as goal
 
 pub returns-in-Err-clause-refused : goal.returns-in-Err-clause-refused
@@ -112,3 +112,10 @@ returns-in-Ok-prepare_delete-clause-keeps g c =
 pub returns-in-Err-prepare_delete-clause-places : goal.returns-in-Err-prepare_delete-clause-places
 returns-in-Err-prepare_delete-clause-places g c = λ was told.
     (was, told, λ kind view m opens parts at. writes_nothing c.change_laws.ensures.places kind view m (Command.Delete c.args.p.now) was)
+
+pub returns-in-Ok-prepare_delete-clause-form_stays : goal.returns-in-Ok-prepare_delete-clause-form_stays
+returns-in-Ok-prepare_delete-clause-form_stays g c =
+    let map = new_layout (parts_of c.args.self.now).layout c.requires.new_map in
+    unless_fault c.remove.result _
+    (ok_then c.remove.result _ _ (λ all. (let done = all map.0 map.1 in form_kept _ _ map.0 done.0 map.1 done.1 done.2.edited.geometry)) c.remove.ensures.done)
+    c.remove.ensures.error

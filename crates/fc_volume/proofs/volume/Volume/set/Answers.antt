@@ -1,4 +1,4 @@
-use Rattle.std.proofs.Common.{sym, subst, ◌∙◌}
+use Rattle.std.proofs.Common.{ap, sym, subst, ◌∙◌}
 use Rattle.std.specs.Prelude.{Err}
 use Rattle.fc_device.proofs.DiskLaws.{laws}
 use Rattle.fc_device.proofs.StopLemmas.{weaker}
@@ -108,3 +108,7 @@ returns-in-Ok-prepare_set-clause-keeps g c =
 pub returns-in-Err-prepare_set-clause-places : goal.returns-in-Err-prepare_set-clause-places
 returns-in-Err-prepare_set-clause-places g c = λ was told.
     (was, told, λ kind view m opens parts at. writes_nothing c.change_laws.ensures.places kind view m (Command.Set c.args.p.now c.args.load c.args.exec c.args.access) was)
+
+pub returns-in-Ok-prepare_set-clause-form_stays : goal.returns-in-Ok-prepare_set-clause-form_stays
+returns-in-Ok-prepare_set-clause-form_stays g c =
+    unless_fault c.reword.result _ (ok_then c.reword.result _ _ (λ has. ap dir_form c.reword.ensures.layout) c.reword.ensures.volume) c.reword.ensures.error

@@ -1,0 +1,73 @@
+-- What the steps of writing a new object leave together.
+use Rattle.std.proofs.Common.{◌≡◌, ◌≤◌, ℕ, ◌*◌, ◌||◌, ◌==◌, Bool, true, false, List, [], ◌++◌, Option, Some, refl, sym, ap, subst, ◌∙◌}
+use Rattle.std.specs.List.{list_any}
+use Rattle.std.proofs.lemmas.List.Folds.{list_any-append}
+use Rattle.std.specs.Option.{ForSome}
+use Rattle.fc_device.specs.declared.disk.Disk.{Ghosts}
+use Rattle.fc_device.specs.declared.disk.Extent.{Extent}
+use Rattle.fc_record.specs.declared.Geometry.{Geometry}
+use Rattle.fc_newmap.specs.Map.{Map, map_sectors}
+use Rattle.fc_copies.specs.Copies.{HoldsCopies}
+use Rattle.fc_image.specs.Layout.{Layout, is_among, is_apart}
+use Rattle.fc_changes.specs.Owed.{IsMapAfter, IsWritten}
+use Rattle.fc_objects.specs.Extents.{sectors_in}
+use Rattle.fc_takeover.proofs.WriteLemmas.{written_bytes_law}
+use Rattle.fc_volume.specs.declared.copies.Copies.{Copies}
+use Rattle.fc_volume.specs.Compacting.{KeepsMap}
+use Rattle.fc_volume.specs.Storing.{AreStored, IsFirstStored, IsTakenAndNamed}
+use Rattle.fc_volume.specs.Volume.{HasCopies}
+
+none_of_both : (a b : Bool) → (a || b) ≡ false → (a ≡ false) × (b ≡ false)
+none_of_both true b e = absurd (cc)
+none_of_both false b e = (refl, e)
+
+-- A write to some sectors is one to more.
+module _ (m : Map) (xs ys image image' : List ℕ) where
+  parts : (s : ℕ) → is_among (xs ++ ys) s ≡ false → (is_among xs s ≡ false) × (is_among ys s ≡ false)
+  parts s out = none_of_both (is_among xs s) (is_among ys s) (sym (list_any-append (λ t. t == s) xs ys) ∙ out)
+
+  pub wider_first : IsWritten m xs image image' → IsWritten m (xs ++ ys) image image'
+  wider_first written = record { length_stays = written.length_stays; writes = λ s out no_map. written.writes s (parts s out).0 no_map }
+
+  pub wider_last : IsWritten m ys image image' → IsWritten m (xs ++ ys) image image'
+  wider_last written = record { length_stays = written.length_stays; writes = λ s out no_map. written.writes s (parts s out).1 no_map }
+
+same_told : (a b : List ℕ) → (let x : Option (List ℕ) = Some a in x) ≡ Some b → a ≡ b
+same_told a b e = cc
+
+-- by other words for the same
+stored_as : (size : ℕ) {place place' : List Extent} {bytes bytes' : List ℕ} {was image : List ℕ} → place ≡ place' → bytes ≡ bytes' → AreStored size (sectors_in place) bytes was image
+    → AreStored size (sectors_in place') bytes' was image
+stored_as size {place' = place'} {bytes = bytes} {was = was} {image = image} p b stored =
+    subst (λ (bs : List ℕ). AreStored size (sectors_in place') bs was image) b (subst (λ (es : List Extent). AreStored size (sectors_in es) bytes was image) p stored)
+
+pub first_stored : {D : Type 0} (d : Ghosts D) (old : D) (m : Map) (copies : Copies) (was : List ℕ) → d.bytes old ≡ Some was → ForSome (d.bytes old) (HasCopies copies (Layout.New m))
+    → (start : List ℕ) → d.bytes old ≡ Some start → (mid image : List ℕ) → (HasCopies copies (Layout.New m) start → KeepsMap m start mid) → HoldsCopies m.geometry m.zones mid
+    → {place place' : List Extent} {bytes bytes' : List ℕ} → place ≡ place' → bytes ≡ bytes' → AreStored m.geometry.sector (sectors_in place) bytes mid image
+    → IsFirstStored m (sectors_in place') bytes' was image
+first_stored d old m copies was told known start told' mid image kept equal p b stored = record {
+  mid = mid;
+  repaired = subst (λ (s : List ℕ). KeepsMap m s mid) (same_told start was (sym told' ∙ told)) (kept (known start told'));
+  equal = equal;
+  stored = stored_as m.geometry.sector p b stored;
+}
+
+pub taken_named : (m m' : Map) (was mid image : List ℕ) → IsWritten m [] was mid → IsMapAfter m m' mid → {place place' : List Extent} {bytes bytes' : List ℕ} → place ≡ place' → bytes ≡ bytes'
+    → AreStored m'.geometry.sector (sectors_in place) bytes mid image → IsTakenAndNamed m m' (sectors_in place') bytes' was image
+taken_named m m' was mid image commit after {place = place} {bytes = bytes} p b stored = record {
+  taken = mid;
+  commit = commit;
+  map = after;
+  stored = stored_as m.geometry.sector p b (subst (λ (g : Geometry). AreStored g.sector (sectors_in place) bytes mid image) after.geometry stored);
+}
+
+-- The copies of the map stay if an object that lies apart from it is written.
+pub copies_kept : (m : Map) (sectors bytes was image : List ℕ) → is_apart sectors (map_sectors m.geometry) ≡ true → IsFirstStored m sectors bytes was image → HoldsCopies m.geometry m.zones image
+copies_kept m sectors bytes was image apart first =
+    written_bytes_law.copies_stay m m.zones first.mid image (written_bytes_law.map_stays m sectors bytes first.mid image apart first.stored.part) first.equal
+
+pub one_map : (a b : Map) → Layout.New a ≡ Layout.New b → a ≡ b
+one_map a b e = cc
+
+pub by_maps : (P : Map → Map → Type 0) (a b c d : Map) → a ≡ b → c ≡ d → P a c → P b d
+by_maps P a b c d e f p = subst (P b) f (subst (λ (m : Map). P m c) e p)
