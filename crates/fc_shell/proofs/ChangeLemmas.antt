@@ -24,7 +24,7 @@ use Rattle.fc_effects.specs.Short.{short}
 use Rattle.fc_script.specs.Lines.{command_of}
 use Rattle.fc_script.specs.Texts.{ok_line, refusal_line}
 use Rattle.fc_runs.specs.Early.{reply_begun}
-use Rattle.fc_runs.specs.ReadLaw.{is_reading, reading_reply}
+use Rattle.fc_runs.specs.ReadLaw.{reading_reply}
 use Rattle.fc_runs.specs.Run.{Answers, Effect, Serves, Step, Takes, is_error, keeps_tree, keeps_tree_or, layout_reason, shortage}
 use Rattle.fc_runs.proofs.RepliesLemmas.{changing_reply}
 use Rattle.fc_tree.specs.Agree.{Agree, reader_of_nodes}
@@ -38,36 +38,20 @@ use Rattle.fc_volume.specs.Compacting.{UnlessFault}
 use Rattle.fc_volume.specs.Volume.{StandsFor, Volume, parts_of}
 use Rattle.fc_shell.specs.declared.answer.LineFault.{LineFault}
 use Rattle.fc_shell.specs.Answered.{Answered, IsCaused}
-use Rattle.fc_shell.specs.Built.{is_reading_line}
+use Rattle.fc_shell.specs.Built.{is_reading_line, lacks}
 use Rattle.fc_shell.specs.Changing.{IsAsked, Tells}
 use Rattle.fc_shell.specs.Line.{IsDone, IsReady, KeepsGoing, LineEnds}
 use Rattle.fc_shell.specs.Modes.{plain_mode}
 use Rattle.fc_shell.specs.Writing.{Wrote, WrotePart}
 use Rattle.fc_shell.proofs.AnsweredLemmas.{caused_alone}
 use Rattle.fc_shell.proofs.ErrorLemmas.{ok_no_error}
+use Rattle.fc_shell.proofs.LackingLemmas.{change_new, lacks_as_before, not_reading}
 use Rattle.fc_shell.proofs.StepLemmas.{left_ends, one_fault, unbegun_ends}
 use Rattle.fc_shell.proofs.WritingLemmas.{wrote_nothing}
 
 -- ---- which commands these are
 
--- They don't read,
-pub not_reading : (c : Command) → keeps_tree c ≡ false → is_reading c ≡ false
-not_reading (Command.Cat path) changes = absurd (cc)
-not_reading (Command.Load path) changes = absurd (cc)
-not_reading (Command.Digest path) changes = absurd (cc)
-not_reading Command.Free changes = absurd (cc)
-not_reading Command.Check changes = absurd (cc)
-not_reading Command.Compact changes = absurd (cc)
-not_reading Command.Reclaim changes = absurd (cc)
-not_reading (Command.Save path load exec bytes) changes = refl
-not_reading (Command.Create path load exec len) changes = refl
-not_reading (Command.Cdir path) changes = refl
-not_reading (Command.Delete path) changes = refl
-not_reading (Command.Rename from to) changes = refl
-not_reading (Command.Set path load exec access) changes = refl
-not_reading (Command.Mark path attrs) changes = refl
-
--- no layout refuses them,
+-- No layout refuses them,
 no_reason : (layout : Layout) (c : Command) → keeps_tree c ≡ false → layout_reason layout c ≡ None
 no_reason (Layout.New m) c changes = refl
 no_reason (Layout.Old space) (Command.Cat path) changes = refl
@@ -306,7 +290,7 @@ agreed_view v agree =
     )
 
 module _ {D K : Type 0} {d : Ghosts D} (law : Laws d) (k : Sinks K) (line : List ℕ) (c : Command) (was v : Volume) (old new : D) (before after : K)
-    (changes : keeps_tree c ≡ false) (is : command_of line ≡ Ok c) (stands : StandsFor d was old) where
+    (changes : keeps_tree c ≡ false) (is : command_of line ≡ Ok c) (built_for : lacks (parts_of was).layout c ≡ false) (stands : StandsFor d was old) where
   -- A volume that may not be changed isn't.
   spared : (done : Result (Unit {0}) CommandError) → IsAsked d c was v old new done → was.read_only ≡ true → (v ≡ was) × (new ≡ old)
   spared done asked read_only = by done asked.keeps.unchanged answered
@@ -334,10 +318,23 @@ module _ {D K : Type 0} {d : Ghosts D} (law : Laws d) (k : Sinks K) (line : List
 
   -- Unless the disk failed, the volume takes the next line.
   ready : (done : Result (Unit {0}) CommandError) → IsAsked d c was v old new done → UnlessFault done (IsReady d new was v)
-  ready (Ok value) asked = record { fit = asked.keeps.fit; stands = asked.keeps.stands; settled = asked.keeps.settled; read_only = asked.keeps.rights; new_map = λ new. asked.keeps.new_map }
-  ready (Err (Refused r)) asked = record { fit = asked.keeps.fit; stands = asked.keeps.stands; settled = asked.keeps.settled; read_only = asked.keeps.rights; new_map = λ new. asked.keeps.new_map }
-  ready (Err NoMemory) asked = record { fit = asked.keeps.fit; stands = asked.keeps.stands; settled = asked.keeps.settled; read_only = asked.keeps.rights; new_map = λ new. asked.keeps.new_map }
-  ready (Err DiskFault) asked = tt
+  ready done asked = by done asked.keeps.fit asked.keeps.stands asked.keeps.settled asked.form_stays
+    where
+      takes : v.fit ≡ true → StandsFor d v new → d.pending new ≡ false → dir_form (parts_of v).layout ≡ dir_form (parts_of was).layout → IsReady d new was v
+      takes fit stands settled same = record {
+        fit = fit;
+        stands = stands;
+        settled = settled;
+        read_only = asked.keeps.rights;
+        lacks_no_more = lacks_as_before (parts_of was).layout (parts_of v).layout (change_new (parts_of was).layout c changes built_for) asked.keeps.new_map same;
+      }
+
+      by : (x : Result (Unit {0}) CommandError) → UnlessFault x (v.fit ≡ true) → UnlessFault x (StandsFor d v new) → UnlessFault x (d.pending new ≡ false)
+          → UnlessFault x (dir_form (parts_of v).layout ≡ dir_form (parts_of was).layout) → UnlessFault x (IsReady d new was v)
+      by (Ok value) fit stands settled same = takes fit stands settled same
+      by (Err (Refused r)) fit stands settled same = takes fit stands settled same
+      by (Err NoMemory) fit stands settled same = takes fit stands settled same
+      by (Err DiskFault) fit stands settled same = tt
 
   ready_if : (done : Result (Unit {0}) CommandError) (result : Result Bool LineFault) → UnlessFault done (IsReady d new was v) → Tells k before after done result → IfOk result (λ refused. IsReady d new was v)
   ready_if done (Err fault) takes tells = tt

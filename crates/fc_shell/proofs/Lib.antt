@@ -4,6 +4,8 @@ mod CompactLemmas
 mod LineLemmas
 mod FreshLemmas
 mod KeptLemmas
+mod LackingLemmas
+mod LengthLemmas
 mod OutcomeLemmas
 mod PromiseLemmas
 mod ReadsLemmas

@@ -27,6 +27,7 @@ use Rattle.fc_shell.specs.Promise.{EndsBefore, EndsByGiving, EndsByLength, EndsB
 use Rattle.fc_shell.specs.Replies.{EndsAs, attached_reply, blank_size, command_reply, image_for, is_unbuilt, line_reply, opened_reply, replies_of, request_reply, script_limit, script_reply, served, silent}
 use Rattle.fc_shell.specs.Writing.{Wrote, WrotePart}
 use Rattle.fc_shell.proofs.ReadsLemmas.{one_row, one_step}
+use Rattle.fc_shell.proofs.LackingLemmas.{lacking_script}
 use Rattle.fc_shell.proofs.ServingLemmas.{both_true, neither, steps_weaker, true_both}
 use Rattle.fc_shell.proofs.WritingLemmas.{part_of_first}
 
@@ -134,7 +135,7 @@ module _ {D : Type 0} (d : Ghosts D) (old new : D) (before after : Option (List 
     over_as BadWords x = absurd x
     over_as (BadImage fault) x = absurd x
     over_as ScriptTooLong x = absurd x
-    over_as NotBuilt x = absurd (let clash : false ≡ true = sym calm ∙ x.changes in cc)
+    over_as NotBuilt x = absurd (let clash : false ≡ true = sym calm ∙ lacking_script s.view.layout script x.lacking in cc)
     over_as NoImage x = absurd x
 
   fault_as : (fault : ImageFault) (end : End) → EndsOnFault d old new fault text end → EndsAs (record { end = BadImage fault; text = bad_image_line fault }) end before after

@@ -1,5 +1,5 @@
 -- What a run promises, from what its parts do.
-use Rattle.std.proofs.Common.{◌≡◌, ◌≤◌, take, ◌⊎◌, inl, inr, ⊎_elim, ℕ, Bool, true, false, List, [], Option, Some, None, Result, Ok, Err, IfOk, refl, sym, ap, subst, ◌∙◌, arith}
+use Rattle.std.proofs.Common.{◌≡◌, ◌≤◌, take, ◌⊎◌, inl, inr, ⊎_elim, ℕ, Bool, true, false, List, [], Option, Some, None, Result, Ok, Err, refl, sym, ap, subst, ◌∙◌, arith}
 use Rattle.std.specs.Prelude.{is_some}
 use Rattle.fc_device.specs.declared.disk.Disk.{Ghosts}
 use Rattle.fc_device.specs.declared.streams.Sink.{Ghosts as Sinks}
@@ -11,13 +11,7 @@ use Rattle.fc_device.proofs.StopLemmas.{goes_on_same, started, weaker}
 use Rattle.fc_image.specs.declared.ImageFault.{ImageFault}
 use Rattle.fc_image.specs.Opening.{Opened, open_image}
 use Rattle.fc_image.specs.Layout.{Layout}
-use Rattle.fc_image.specs.Stays.{IsNewLayout, OpensAs}
-use Rattle.fc_device.specs.declared.disk.NoMemory.{NoMemory as NoMem}
-use Rattle.fc_newmap.specs.Map.{Map}
-use Rattle.fc_oldmap.specs.OldMap.{FreeSpace}
-use Rattle.fc_space.specs.declared.space.Space.{Space}
-use Rattle.fc_space.specs.declared.space.Space.TheVariants.{NewMapped, OldMapped}
-use Rattle.fc_space.specs.Space.{layout_of}
+use Rattle.fc_image.specs.Stays.{OpensAs}
 use Rattle.fc_record.specs.declared.Kind.{Kind}
 use Rattle.fc_effects.specs.Effect.{State}
 use Rattle.fc_runs.specs.Promises.{Cause, HasNoRun, HasRun, HasStopped, spares_disk}
@@ -29,10 +23,10 @@ use Rattle.fc_shell.specs.declared.ending.End.TheVariants.{Done, Refused, BadWor
 use Rattle.fc_shell.specs.declared.answer.LineFault.{LineFault}
 use Rattle.fc_shell.specs.declared.answer.LineFault.TheVariants as lines
 use Rattle.fc_words.specs.declared.Format.{Format as Word}
-use Rattle.fc_shell.specs.Built.{has_changing, has_unbuilt}
+use Rattle.fc_shell.specs.Built.{has_lacking, has_unbuilt}
 use Rattle.fc_shell.specs.Ends.{end_of, is_late}
 use Rattle.fc_shell.specs.Modes.{plain_mode}
-use Rattle.fc_shell.specs.Promise.{EndsByGiving, EndsByLength, EndsByOpening, EndsByScript, EndsOnFault, EndsOver, LacksMap, LacksNewMap}
+use Rattle.fc_shell.specs.Promise.{EndsByGiving, EndsByLength, EndsByOpening, EndsByScript, EndsOnFault, EndsOver, LacksCommand}
 use Rattle.fc_shell.specs.Reading.{IsUnwritten}
 use Rattle.fc_shell.specs.Replies.{blank_size, image_for}
 use Rattle.fc_shell.specs.Serving.{ServesAs}
@@ -113,10 +107,9 @@ module _ {D : Type 0} {d : Ghosts D} (law : Laws d) (old mid new : D) (first : L
       stops = λ was_quiet. stops_from has.end _ has.ended.replies was_quiet (has.stops quiet);
     }
 
-    lacks_from : LacksNewMap d mid new false s script text → LacksNewMap d old new fresh s script text
+    lacks_from : LacksCommand d mid new false s script text → LacksCommand d old new fresh s script text
     lacks_from x = record {
-      changes = x.changes;
-      old_map = x.old_map;
+      lacking = x.lacking;
       not_begun = record {
         told = x.not_begun.told;
         holds = x.not_begun.holds;
@@ -365,24 +358,13 @@ reads_unwritten reads = record { bytes_stay = reads.bytes; stops = reads.stops; 
 pub served_built : (result : Result Bool LineFault) → end_of result ≡ NotBuilt → ⊥
 served_built result is = no_fresh (sym (ap is_late is) ∙ late_end result)
 
--- no line of an old map's script was begun
-pub lacks_ends : {D : Type 0} {d : Ghosts D} (law : Laws d) (disk : D) (s : State) (script : List ℕ) (layout : Layout) → layout ≡ s.view.layout → LacksMap layout script true → d.bytes disk ≡ Some s.image → d.pending disk ≡ false
-    → LacksNewMap d disk disk false s script []
-lacks_ends {d = d} law disk s script layout same lacks told quiet = record {
-  changes = lacks.0;
-  old_map = λ new. lacks.1 (subst IsNewLayout (sym same) new);
+-- no line was begun of a script with a command that isn't built for the disc
+pub lacks_ends : {D : Type 0} {d : Ghosts D} (law : Laws d) (disk : D) (s : State) (script : List ℕ) (layout : Layout) → layout ≡ s.view.layout → has_lacking layout script ≡ true → d.bytes disk ≡ Some s.image → d.pending disk ≡ false
+    → LacksCommand d disk disk false s script []
+lacks_ends {d = d} law disk s script layout same lacking told quiet = record {
+  lacking = ap (λ (l : Layout). has_lacking l script) (sym same) ∙ lacking;
   not_begun = record { told = refl; holds = told; settled = quiet; stops = λ there. (same_unwritten law disk).stops };
 }
-
--- ---- whether a script changes a disc whose map is an old one
-
-pub new_fits : (space : Space) (map : Map) (script : List ℕ) → space ≡ NewMapped map → LacksMap (layout_of space) script false
-new_fits space map script is changes = subst (λ (x : Space). IsNewLayout (layout_of x)) (sym is) tt
-
-pub old_fits : (space : Space) (map : FreeSpace) (script : List ℕ) (r : Result Bool NoMem) → space ≡ OldMapped map → IfOk r (λ b. b ≡ has_changing script) → IfOk r (LacksMap (layout_of space) script)
-old_fits space map script (Err e) is told = tt
-old_fits space map script (Ok true) is told = (sym told, λ new. subst (λ (x : Space). IsNewLayout (layout_of x)) is new)
-old_fits space map script (Ok false) is told = λ changes. absurd (no_fresh (told ∙ changes))
 
 pub unwritten_after : {D : Type 0} {d : Ghosts D} (law : Laws d) (old mid new : D) → OnlyShapes d old mid → IsUnwritten d mid new → IsUnwritten d old new
 unwritten_after law old mid new shapes now = record {

@@ -2,11 +2,13 @@
 use Rattle.std.specs.Prelude.{◌≡◌, Bool, Result, Ok, Err, OnOk}
 use Rattle.fc_device.specs.declared.disk.Disk.{Ghosts}
 use Rattle.fc_device.specs.declared.streams.Sink.{Ghosts as Sinks}
+use Rattle.fc_image.specs.Layout.{dir_form}
 use Rattle.fc_model.specs.Command.{Command}
 use Rattle.fc_script.specs.Texts.{ok_line, refusal_line}
 use Rattle.fc_volume.specs.declared.lines.CommandError.{CommandError}
 use Rattle.fc_volume.specs.declared.lines.CommandError.TheVariants.{DiskFault, NoMemory, Refused}
 use Rattle.fc_volume.specs.Changing.{AnswersOver, ChangeKeeps, HasChanged}
+use Rattle.fc_volume.specs.Compacting.{UnlessFault}
 use Rattle.fc_volume.specs.Volume.{Volume, parts_of}
 use Rattle.fc_shell.specs.declared.answer.LineFault.{LineFault}
 use Rattle.fc_shell.specs.Answered.{Answered, OnlyTells}
@@ -16,6 +18,7 @@ pub record IsAsked {D : Type 0} (d : Ghosts D) (c : Command) (was v : Volume) (o
   pub refused : AnswersOver was c answer
   pub changed : OnOk answer (HasChanged d c (parts_of was) (parts_of v) old new)
   pub keeps : ChangeKeeps d old new was v answer
+  pub form_stays : UnlessFault answer (dir_form (parts_of v).layout ≡ dir_form (parts_of was).layout)
 
 -- What is told of its answer: `ok`, or the line of the refusal. After any other error nothing is.
 abbrev pub Tells : {K : Type 0} → Sinks K → K → K → Result (Unit {0}) CommandError → Result Bool LineFault → Type 0

@@ -3,16 +3,14 @@ use Rattle.std.specs.Prelude.{◌≡◌, ◌⊎◌, ℕ, Bool, true, false, nat_
 use Rattle.fc_device.specs.declared.disk.Disk.{Ghosts}
 use Rattle.fc_effects.specs.Effect.{State}
 use Rattle.fc_image.specs.declared.ImageFault.{ImageFault}
-use Rattle.fc_image.specs.Layout.{Layout}
 use Rattle.fc_image.specs.Opening.{Opened, open_image}
-use Rattle.fc_image.specs.Stays.{IsNewLayout}
 use Rattle.fc_runs.specs.Promises.{Cause, HasBrokenOff, HasNoRun, HasNotSuited, HasRun, IsUnmade}
 use Rattle.fc_runs.specs.Replies.{bad_image_line}
 use Rattle.fc_runs.specs.Run.{Mode}
 use Rattle.fc_words.specs.CommandLine.{Request}
 use Rattle.fc_shell.specs.declared.ending.End.{End}
 use Rattle.fc_shell.specs.declared.ending.End.TheVariants.{Done, Refused, BadWords, BadImage, DiskFault, ScriptFault, OutFault, NoMemory, ScriptTooLong, NotBuilt, NoImage}
-use Rattle.fc_shell.specs.Built.{has_changing, has_unbuilt}
+use Rattle.fc_shell.specs.Built.{has_lacking, has_unbuilt}
 use Rattle.fc_shell.specs.Modes.{plain_mode}
 use Rattle.fc_shell.specs.Replies.{blank_size, image_for, is_unbuilt, script_limit}
 
@@ -37,10 +35,10 @@ EndsOnFault d old new fault text NoMemory = HasNoRun d old new [] text
 EndsOnFault d old new fault text OutFault = (n : ℕ) × HasNoRun d old new (take n (bad_image_line fault)) text
 EndsOnFault d old new fault text end = ⊥
 
--- The script changes the disc, and the image has an old map. It was opened or made, and no line was begun.
-pub record LacksNewMap {D : Type 0} (d : Ghosts D) (old new : D) (fresh : Bool) (s : State) (script text : List ℕ) : Type 0 where
-  pub changes : has_changing script ≡ true
-  pub old_map : IsNewLayout s.view.layout → ⊥
+-- The script has a command that isn't built for such a disc: over an old map one that changes the disc, and over big directories
+-- one that adds an entry. The image was opened or made, and no line was begun.
+pub record LacksCommand {D : Type 0} (d : Ghosts D) (old new : D) (fresh : Bool) (s : State) (script text : List ℕ) : Type 0 where
+  pub lacking : has_lacking s.view.layout script ≡ true
   pub not_begun : HasNotSuited d old new fresh s text
 
 -- The image is accepted, and opens as s: its lines are steps from s on, whose replies were written.
@@ -51,7 +49,7 @@ EndsOver d old new mode fresh s script text ScriptFault = HasNoRun d old new [] 
 EndsOver d old new mode fresh s script text DiskFault = HasBrokenOff d old new mode fresh None s script text Cause.Disk
 EndsOver d old new mode fresh s script text OutFault = HasBrokenOff d old new mode fresh None s script text Cause.Out
 EndsOver d old new mode fresh s script text NoMemory = HasBrokenOff d old new mode fresh None s script text Cause.Memory
-EndsOver d old new mode fresh s script text NotBuilt = LacksNewMap d old new fresh s script text
+EndsOver d old new mode fresh s script text NotBuilt = LacksCommand d old new fresh s script text
 EndsOver d old new mode fresh s script text end = ⊥
 
 -- by what the image opens as
@@ -85,8 +83,3 @@ EndsByWords d old new gives r image script text false end = EndsByLength d old n
 abbrev pub Promise : {D : Type 0} → Ghosts D → D → D → (List ℕ → Option ℕ → Bool) → List ℕ → List ℕ → List ℕ → Option Request → End → Type 0
 Promise d old new gives image script text None end = EndsBefore d old new BadWords text end
 Promise d old new gives image script text (Some r) end = EndsByWords d old new gives r image script text (is_unbuilt r) end
-
--- whether the map is an old one and the script changes the disc
-abbrev pub LacksMap : Layout → List ℕ → Bool → Type 0
-LacksMap layout script true = (has_changing script ≡ true) × (IsNewLayout layout → ⊥)
-LacksMap layout script false = has_changing script ≡ true → IsNewLayout layout

@@ -1,14 +1,14 @@
 // Commands that change the disc.
-ghost use Rattle.std.specs.Prelude.{◌≡◌, List, ℕ, true, false, Ok, Err, IsFalse, IsTrue};
-ghost use Rattle.fc_image.specs.Stays.{IsNewLayout};
+ghost use Rattle.std.specs.Prelude.{◌≡◌, ◌≤◌, List, ℕ, length, true, false, Ok, Err, IsFalse, IsTrue};
 ghost use Rattle.fc_runs.specs.Run.{keeps_tree};
 ghost use Rattle.fc_script.specs.Lines.{command_of};
 ghost use Rattle.fc_script.specs.Reading.{command};
 ghost use Rattle.fc_script.specs.Texts.{ok_line};
 ghost use Rattle.fc_volume.specs.Volume.{StandsFor, parts_of};
 ghost use Rattle.fc_shell.specs.Answered.{Answered, ForState, OnlyTells};
-ghost use Rattle.fc_shell.specs.Built.{is_built};
+ghost use Rattle.fc_shell.specs.Built.{is_built, lacks};
 ghost use Rattle.fc_shell.specs.Changing.{IsAsked, Tells};
+ghost use Rattle.fc_shell.specs.Replies.{script_limit};
 ghost use Rattle.fc_shell.specs.Line.{KeepsGoing, LineEnds};
 
 use crate::answer::LineFault;
@@ -66,13 +66,14 @@ fn change<D: Disk>(
     requires fit { IsTrue volume.old.fit }
     requires stands { StandsFor D.Disk volume.old disk.old }
     requires settled { IsFalse (D.pending disk.old) }
-    requires new_map { IsNewLayout (parts_of volume.old).layout }
+    requires built_for { lacks (parts_of volume.old).layout (command asked.now) ≡ false }
     requires built { is_built (command asked.now) ≡ true }
     requires changes { keeps_tree (command asked.now) ≡ false }
-    requires spelled { (line : List ℕ) × (command_of line ≡ Ok (command asked.now)) }
+    requires spelled { (line : List ℕ) × (command_of line ≡ Ok (command asked.now)) × (length line ≤ script_limit) }
     ensures { IsAsked D.Disk (command asked.now) volume.old volume.new disk.old disk.new result }
 {
     match asked {
+        Command::Cdir { path } => volume.cdir(alloc, disk, path),
         Command::Delete { path } => volume.delete(alloc, disk, path),
         Command::Set {
             path,
@@ -84,7 +85,7 @@ fn change<D: Disk>(
     }
 }
 
-/// Answers a command that changes the tree, over a new map: does it, and then writes the reply. Answers whether the reply
+/// Answers a command that changes the tree and is built for such a disc: does it, and then writes the reply. Answers whether the reply
 /// is an error line.
 pub fn answer_change<D: Disk, K: Sink>(
     alloc: Global,
@@ -97,10 +98,10 @@ pub fn answer_change<D: Disk, K: Sink>(
     requires fit { IsTrue volume.old.fit }
     requires stands { StandsFor D.Disk volume.old disk.old }
     requires settled { IsFalse (D.pending disk.old) }
-    requires new_map { IsNewLayout (parts_of volume.old).layout }
+    requires built_for { lacks (parts_of volume.old).layout (command asked.now) ≡ false }
     requires built { is_built (command asked.now) ≡ true }
     requires changes { keeps_tree (command asked.now) ≡ false }
-    requires spelled { (line : List ℕ) × (command_of line ≡ Ok (command asked.now)) }
+    requires spelled { (line : List ℕ) × (command_of line ≡ Ok (command asked.now)) × (length line ≤ script_limit) }
     ensures step { (line : List ℕ) → command_of line ≡ Ok (command asked.now) → ForState (D.bytes disk.old) volume.old (λ kind s.
         LineEnds D.Disk disk.old disk.new kind volume.old.read_only s volume.new line (K.taken out.old) (K.taken out.new) result) }
     ensures keeps { (line : List ℕ) → command_of line ≡ Ok (command asked.now)

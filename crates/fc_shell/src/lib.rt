@@ -1,7 +1,7 @@
 //! The top of the filing system: a run of a script over an image.
 //!
-//! Commands that read are served, over images of every kind and over fresh volumes, and of those that change the disc
-//! `compact`, `delete` and `set`, over new maps. What needs more is answered by `End::NotBuilt`.
+//! Commands that read are served, over images of every kind and over fresh volumes. Commands that change the disc are served
+//! over new maps, those that add an entry only where directories have 2048 bytes. What needs more is answered by `End::NotBuilt`.
 #![tactic(auto)]
 
 mod answer;
@@ -24,7 +24,7 @@ mod session;
 mod sink;
 mod texts;
 
-ghost use Rattle.std.specs.Prelude.{◌≡◌, ◌≢◌, ◌⊎◌, ◌<◌, ◌++◌, [], ◌∷◌, List, ℕ, length, map, true, false, None, Some, IsFalse, option_map, string_bytes};
+ghost use Rattle.std.specs.Prelude.{◌≡◌, ◌≢◌, ◌⊎◌, ◌<◌, ◌≤◌, ◌++◌, [], ◌∷◌, List, ℕ, length, map, true, false, None, Some, IsFalse, option_map, string_bytes};
 ghost use Rattle.std.specs.Option.{ForSome};
 ghost use Rattle.fc_device.specs.Calls.{Untouched};
 ghost use Rattle.fc_device.specs.Faults.{Rose};
@@ -58,6 +58,7 @@ fn run_script<D: Disk, K: Sink>(
     disk: &mut D,
     out: &mut K,
 ) -> End
+    requires short { length script.now ≤ script_limit }
     ensures promise { let r = request_in asked.now in ForSome (D.gives disk.old) (λ gives. ForSome (D.bytes disk.old) (λ image.
         (text : List ℕ) × Wrote (K.taken out.old) (K.taken out.new) text
         × EndsByScript D.Disk disk.old disk.new gives r image script.now text (has_unbuilt script.now) result)) }
@@ -119,7 +120,7 @@ fn run_request<D: Disk, S: Source, K: Sink>(
 ///
 /// Where the source tells its script, two ends are settled whatever the disk tells. With words of the grammar that ask for
 /// nothing that isn't built, a script that is too long ends as `ScriptTooLong`, any other with a command that isn't built as
-/// `NotBuilt`, and the rest as neither, but for a command that changes an old map (`NotBuilt`); only a call of the source may fail first, and memory may be short.
+/// `NotBuilt`, and the rest as neither, but for a command that isn't built for the disc (`NotBuilt`); only a call of the source may fail first, and memory may be short.
 pub fn run<D: Disk, S: Source, K: Sink>(
     alloc: Global,
     words: &Vec<String>,
@@ -149,8 +150,8 @@ pub fn run<D: Disk, S: Source, K: Sink>(
     ensures asks { (r : Request) → request_of (map string_bytes words.now.items) ≡ Some r → AsksFor (r.image, blank_size r) result (D.asked disk.old) (D.asked disk.new) }
 
     // Nothing is attached or written where the words or the script ask for what isn't built, or the script is too long. Then
-    // the run ends before an image is asked for. These two ends have no other cause, but that the script changes an old map:
-    // then the image was opened, or made, and no line was begun (`promise`).
+    // the run ends before an image is asked for. These two ends have no other cause, but that a command isn't built for
+    // the disc: then the image was opened, or made, and no line was begun (`promise`).
     ensures unbuilt { (r : Request) → request_of (map string_bytes words.now.items) ≡ Some r → is_unbuilt r ≡ true
         → ((result ≡ End.NotBuilt) ⊎ (result ≡ End.NoMemory)) × (script.new ≡ script.old) × (disk.new ≡ disk.old) × (out.new ≡ out.old) }
     ensures unattached { ForSome (S.left script.old) (λ text. (script_limit < length text) ⊎ (has_unbuilt text ≡ true)

@@ -1,28 +1,27 @@
 // A script over an image, from its opening to the last reply.
-ghost use Rattle.std.specs.Prelude.{◌≡◌, ◌⊎◌, ◌≤◌, List, ℕ, true, false, Err, IfOk, IsFalse, IsTrue};
+ghost use Rattle.std.specs.Prelude.{◌≡◌, ◌⊎◌, ◌≤◌, List, ℕ, length, true, false, Err, IfOk, IsFalse, IsTrue};
 ghost use Rattle.std.specs.Option.{ForSome};
 ghost use Rattle.fc_device.specs.Calls.{OnlyReads};
 ghost use Rattle.fc_device.specs.Faults.{Rose};
 ghost use Rattle.fc_device.specs.Form.{IsFresh};
 ghost use Rattle.fc_image.specs.Opening.{open_image};
-ghost use Rattle.fc_image.specs.Stays.{IsNewLayout};
 ghost use Rattle.fc_runs.specs.Replies.{bad_image_line};
 ghost use Rattle.fc_runs.specs.Run.{commands_in};
 ghost use Rattle.fc_volume.specs.Volume.{StandsFor, parts_of};
 ghost use Rattle.fc_words.specs.Request.{request_in};
 ghost use Rattle.fc_shell.specs.Answered.{ForState, IsCaused};
-ghost use Rattle.fc_shell.specs.Built.{Spares, has_changing, has_unbuilt};
+ghost use Rattle.fc_shell.specs.Built.{Spares, has_changing, has_lacking, has_unbuilt};
 ghost use Rattle.fc_shell.specs.Ends.{end_of, is_late};
 ghost use Rattle.fc_shell.specs.Kept.{LeavesUnbegun, RunKeeps, SessionKeeps};
 ghost use Rattle.fc_shell.specs.Line.{GoesOn};
 ghost use Rattle.fc_shell.specs.Modes.{plain_mode};
-ghost use Rattle.fc_shell.specs.Promise.{EndsByGiving, EndsByOpening, EndsOver, LacksMap};
-ghost use Rattle.fc_shell.specs.Replies.{blank_size};
+ghost use Rattle.fc_shell.specs.Promise.{EndsByGiving, EndsByOpening, EndsOver};
+ghost use Rattle.fc_shell.specs.Replies.{blank_size, script_limit};
 ghost use Rattle.fc_shell.specs.Serving.{ServesAs};
 ghost use Rattle.fc_shell.specs.Writing.{Wrote, WrotePart};
 
 use crate::answer::{LineFault, answer_line};
-use crate::built::has_changing;
+use crate::built::has_lacking;
 use crate::ending::End;
 use crate::image::attach_image;
 use crate::lines::CommandLines;
@@ -30,7 +29,6 @@ use crate::sink::write_all;
 use crate::texts::bad_image_line;
 use fc_device::{Disk, DiskFault, Failed, NoMemory, Sink};
 use fc_image::ImageFault;
-use fc_space::Space;
 use fc_volume::{MountError, Volume};
 use fc_words::Words;
 use std::alloc::Global;
@@ -48,8 +46,9 @@ fn serve<D: Disk, K: Sink>(
     requires fit { IsTrue volume.old.fit }
     requires stands { StandsFor D.Disk volume.old disk.old }
     requires settled { IsFalse (D.pending disk.old) }
+    requires short { length script.now ≤ script_limit }
     requires built { has_unbuilt script.now ≡ false }
-    requires new_map { has_changing script.now ≡ true → IsNewLayout (parts_of volume.old).layout }
+    requires built_for { has_lacking (parts_of volume.old).layout script.now ≡ false }
     ensures served { ForState (D.bytes disk.old) volume.old (λ kind s.
         ServesAs D.Disk disk.old disk.new kind volume.old.read_only s script.now (K.taken out.old) (K.taken out.new) result) }
     ensures goes { GoesOn D.Disk disk.old disk.new }
@@ -96,17 +95,7 @@ fn tell_fault<K: Sink>(alloc: Global, out: &mut K, fault: ImageFault) -> End
     }
 }
 
-// Whether a script changes the disc, and the volume's map is an old one: that isn't built.
-fn lacks_map(alloc: Global, volume: &Volume, script: &[u8]) -> Result<bool, NoMemory>
-    ensures { IfOk result (LacksMap (parts_of volume.now).layout script.now) }
-{
-    match volume.space() {
-        Space::NewMapped(_) => Ok(false),
-        Space::OldMapped(_) => has_changing(alloc, script),
-    }
-}
-
-// Serves a script over a volume that was opened, unless it asks for what isn't built for the volume's map.
+// Serves a script over a volume that was opened, unless it asks for what isn't built for such a disc.
 fn answer_volume<D: Disk, K: Sink>(
     alloc: Global,
     volume: &mut Volume,
@@ -118,13 +107,14 @@ fn answer_volume<D: Disk, K: Sink>(
     requires fit { IsTrue volume.old.fit }
     requires stands { StandsFor D.Disk volume.old disk.old }
     requires settled { IsFalse (D.pending disk.old) }
+    requires short { length script.now ≤ script_limit }
     requires built { has_unbuilt script.now ≡ false }
     ensures promise { ForState (D.bytes disk.old) volume.old (λ kind s. (text : List ℕ) × Wrote (K.taken out.old) (K.taken out.new) text
         × EndsOver D.Disk disk.old disk.new (plain_mode kind volume.old.read_only) false s script.now text result) }
     ensures keeps { SessionKeeps D.Disk K.Sink (Spares volume.old.read_only (commands_in script.now)) disk.old disk.new out.old out.new result }
     ensures changes { result ≡ End.NotBuilt → has_changing script.now ≡ true }
 {
-    match lacks_map(alloc, volume, script) {
+    match has_lacking(alloc, volume.space(), script) {
         Err(NoMemory) => End::NoMemory,
         Ok(true) => End::NotBuilt,
         Ok(false) => end_of(serve(alloc, volume, disk, out, script)),
@@ -140,6 +130,7 @@ fn answer_image<D: Disk, K: Sink>(
     read_only: bool,
 ) -> End
     requires fresh { IsFresh D.attached D.pending D.sector_size disk.old }
+    requires short { length script.now ≤ script_limit }
     requires built { has_unbuilt script.now ≡ false }
     ensures promise { ForSome (D.bytes disk.old) (λ image. (text : List ℕ) × Wrote (K.taken out.old) (K.taken out.new) text
         × EndsByOpening D.Disk disk.old disk.new read_only false image script.now text (open_image image) result) }
@@ -164,6 +155,7 @@ pub fn answer_script<D: Disk, K: Sink>(
     disk: &mut D,
     out: &mut K,
 ) -> End
+    requires short { length script.now ≤ script_limit }
     requires built { has_unbuilt script.now ≡ false }
     ensures promise { let r = request_in asked.now in ForSome (D.gives disk.old) (λ gives. ForSome (D.bytes disk.old) (λ image.
         (text : List ℕ) × Wrote (K.taken out.old) (K.taken out.new) text

@@ -1,5 +1,7 @@
 // Whole runs over disks in memory: what is seen from outside, and that calls succeed. Images were worked out by other
 // programs.
+mod changes;
+
 use crate::run;
 use fc_device::{Failing, ListSink, ListSource, MemoryDisk, PlainDisk};
 use std::alloc::Global;
@@ -162,10 +164,20 @@ fn an_image_with_one_file(rt: HostRuntime) -> Result<(), Fail> {
         (&["--help", "disc"], b"load $.hello\n", 2, b""),
         (&["--safe", "disc"], b"load $.hello\n", 9, b""),
         (&["--demo", "1", "disc"], b"load $.hello\n", 9, b""),
-        (&["disc"], b"free\nsave $.A 00000000 00000000 -\n", 9, b""),
-        (&["disc"], b"create $.A 00000000 00000000 1\n", 9, b""),
-        (&["other"], b"free\ncdir $.A\nfree\n", 9, b""),
-        (&["disc"], b"free\nrename $.A $.B\ndelete $.A\n", 9, b""),
+        (
+            &["disc"],
+            b"save $.A.B 00000000 00000000 -\ncreate $ 00000000 00000000 1\n",
+            9,
+            b"",
+        ),
+        (&["disc"], b"free\nreclaim\n", 9, b""),
+        (&["other"], b"free\ncdir $.A\nfree\n", 12, b""),
+        (
+            &["disc"],
+            b"cdir $.A.B\ncdir $.Hello\ncdir $\ndelete $.A\n",
+            1,
+            b"error 3 NotFound\nerror 6 Exists\nerror 6 Exists\nerror 3 NotFound\n",
+        ),
         (
             &["disc"],
             b"set $.A 00000000 00000000 RWL\nset $ 00000000 00000000 R\ndelete $.Hello.A\ndelete $\n",
@@ -174,9 +186,9 @@ fn an_image_with_one_file(rt: HostRuntime) -> Result<(), Fail> {
         ),
         (
             &["--read-only", "disc"],
-            b"delete $.None\ndelete $.Hello\nset $.Hello 00000000 00000000 L",
+            b"delete $.None\ndelete $.Hello\nset $.Hello 00000000 00000000 L\ncdir $.Hello\ncdir $.D\n",
             1,
-            b"error 3 NotFound\nerror 11 ReadOnly\nerror 11 ReadOnly\n",
+            b"error 3 NotFound\nerror 11 ReadOnly\nerror 11 ReadOnly\nerror 6 Exists\nerror 11 ReadOnly\n",
         ),
         (
             &["--read-only", "disc"],
@@ -278,58 +290,6 @@ fn other_images(rt: HostRuntime) -> Result<(), Fail> {
         assert!(rt; status == *wanted);
         assert!(rt; written.as_slice() == *text);
     }
-    Ok(())
-}
-
-#[test]
-fn changes_of_fresh_volumes(rt: HostRuntime) -> Result<(), Fail> {
-    let alloc = rt.alloc();
-    let cases: [(&str, &[u8], u8, &[u8]); 6] = [
-        ("E", b"compact\n", 0, b"ok\n"),
-        (
-            "E+",
-            b"delete $.A\nfree\n",
-            1,
-            b"error 3 NotFound\nfree 815104 815104\nok\n",
-        ),
-        (
-            "F",
-            b"set $ 00000000 00000000 R\n",
-            1,
-            b"error 7 RootRefused\n",
-        ),
-        ("D", b"compact\n", 9, b""),
-        ("D", b"free\nset $.A 00000000 00000000 R\n", 9, b""),
-        ("L", b"free\ndelete $.A", 9, b""),
-    ];
-    for (format, script, wanted, text) in cases {
-        let words = ["--new", format, "disc"];
-        let (status, written, _) = outcome(alloc, words.as_slice(), Vec::new(alloc), script)?;
-        assert!(rt; status == wanted);
-        assert!(rt; written.as_slice() == text);
-    }
-    Ok(())
-}
-
-#[test]
-fn a_file_is_set_and_deleted(rt: HostRuntime) -> Result<(), Fail> {
-    let alloc = rt.alloc();
-    let script =
-        b"set $.hello fffff000 00000001 RL\ndelete $.Hello\ncat $\nset $.Hello 00000000 00000000 -\n\
-        load $.HELLO\ndelete $.Hello\ncat $\nfree\n"
-            .as_slice();
-    let text = b"ok\nerror 9 Locked\nHello 00000005 fffff000 00000001 5\nok\nok\n\
-        48656c6c6f\nok\nok\nok\nfree 815104 815104\nok\n"
-        .as_slice();
-    let (status, written, left) = outcome(alloc, &["disc"], hello(alloc, &[])?, script)?;
-    assert!(rt; status == 1);
-    assert!(rt; written.as_slice() == text);
-    let (status, written, _) = outcome(alloc, &["disc"], left, b"check\ndelete $.Hello\n")?;
-    assert!(rt; status == 1);
-    assert!(rt;
-        written.as_slice()
-            == b"files 0 dirs 1 lost 0 holes 1 free 815104 unsorted 0 parents 0\nok\nerror 3 NotFound\n".as_slice()
-    );
     Ok(())
 }
 

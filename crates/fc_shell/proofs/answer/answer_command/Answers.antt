@@ -1,24 +1,49 @@
-use Rattle.std.proofs.Common.{◌≡◌, true, Ok, ap, sym, ◌∙◌}
+use Rattle.std.proofs.Common.{◌≡◌, true, Ok, ap, sym, subst, ◌∙◌}
 use Rattle.fc_device.proofs.DiskLaws.{laws}
 use Rattle.fc_effects.specs.Effect.{State}
 use Rattle.fc_runs.specs.ReadLaw.{is_reading}
 use Rattle.fc_script.specs.Reading.{command}
+use Rattle.fc_volume.specs.Volume.{StandsFor, parts_of}
+use Rattle.fc_shell.specs.Answered.{Answered, ForState, volume_reply}
+use Rattle.fc_shell.specs.Line.{KeepsGoing, LineEnds}
+use Rattle.fc_shell.specs.Built.{lacks}
+use Rattle.fc_shell.proofs.LackingLemmas.{compact_new}
 use Rattle.fc_shell.proofs.ReplyLemmas.{built_changing}
 use Rattle.fc_shell.proofs.StepLemmas.{reading_ends, reading_keeps}
 use Rattle.fc_shell.proofs.answer.answer_command.Goals as goal
 
+pub answer_reading-requires-clause-fit : goal.answer_reading-requires-clause-fit
+answer_reading-requires-clause-fit g c = ap (λ w. w.fit) c.renew_index.ensures ∙ c.requires.fit
+
+pub answer_reading-requires-clause-stands : goal.answer_reading-requires-clause-stands
+answer_reading-requires-clause-stands g c = subst (λ w. StandsFor g.D.Disk w c.args.disk.now) (sym c.renew_index.ensures) c.requires.stands
+
 pub returns-then-is_reading-clause-step : goal.returns-then-is_reading-clause-step
 returns-then-is_reading-clause-step g c line is image told kind view opens parts =
     let s : State = record { image = image; view = view } in
+    let v = c.args.volume.now in
+    let old = c.args.disk.now in
+    let new = c.answer_reading.new.disk in
+    let before = g.K.Sink.taken c.args.out.now in
+    let after = g.K.Sink.taken c.answer_reading.new.out in
     let reads : is_reading (command c.args.asked.now) ≡ true = sym c.is_reading.ensures ∙ c.if-is_reading.true in
-    reading_ends (laws g.met.D.Disk) kind c.args.volume.now s line c.args.disk.now c.answer_reading.new.disk (g.K.Sink.taken c.args.out.now) (g.K.Sink.taken c.answer_reading.new.out)
+    let answered = subst (λ w. ForState (g.D.Disk.bytes old) w (λ kind s. Answered (volume_reply kind w s (command c.args.asked.now)) before after c.answer_reading.result)) c.renew_index.ensures
+    c.answer_reading.ensures.answered in
+    subst (λ w. LineEnds g.D.Disk old new kind v.read_only s w line before after c.answer_reading.result) (sym c.renew_index.ensures)
+    (reading_ends (laws g.met.D.Disk) kind v s line old new before after
     c.requires.settled told opens (command c.args.asked.now) c.answer_reading.result is reads c.answer_reading.ensures.reads parts
-    (c.answer_reading.ensures.answered image told kind view opens parts)
+    (answered image told kind view opens parts))
 
 pub returns-then-is_reading-clause-keeps : goal.returns-then-is_reading-clause-keeps
 returns-then-is_reading-clause-keeps g c line is =
-    reading_keeps (laws g.met.D.Disk) g.K.Sink c.args.volume.now line c.args.disk.now c.answer_reading.new.disk c.args.out.now c.answer_reading.new.out c.answer_reading.result
-    c.requires.settled c.requires.fit c.requires.stands c.answer_reading.ensures.reads c.answer_reading.ensures.caused
+    let v = c.args.volume.now in
+    subst (λ w. KeepsGoing g.D.Disk g.K.Sink c.args.disk.now c.answer_reading.new.disk c.args.out.now c.answer_reading.new.out v w line c.answer_reading.result) (sym c.renew_index.ensures)
+    (reading_keeps (laws g.met.D.Disk) g.K.Sink v line c.args.disk.now c.answer_reading.new.disk c.args.out.now c.answer_reading.new.out c.answer_reading.result
+    c.requires.settled c.requires.fit c.requires.stands c.answer_reading.ensures.reads c.answer_reading.ensures.caused)
+
+pub compact-requires-clause-new_map : goal.compact-requires-clause-new_map
+compact-requires-clause-new_map g c =
+    compact_new (parts_of c.args.volume.now).layout (ap (λ a. lacks (parts_of c.args.volume.now).layout (command a)) (sym c.in-Compact.is) ∙ c.requires.built_for)
 
 pub returns-in-Compact-clause-step : goal.returns-in-Compact-clause-step
 returns-in-Compact-clause-step g c line is = c.compact.ensures.step line (is ∙ ap (λ a. Ok (command a)) c.in-Compact.is)

@@ -1,4 +1,4 @@
-use Rattle.std.proofs.Common.{not, rules, Err, refl, sym, ap, subst, ◌∙◌}
+use Rattle.std.proofs.Common.{rules, Err, refl, sym, ap, subst, ◌∙◌}
 use Rattle.fc_device.proofs.DiskLaws.{laws}
 use Rattle.fc_device.proofs.StopLemmas.{reads_start}
 use Rattle.fc_effects.specs.Effect.{State}
@@ -8,8 +8,9 @@ use Rattle.fc_script.specs.declared.command.LineError.{LineError}
 use Rattle.fc_script.specs.Lines.{command_of}
 use Rattle.fc_script.specs.Reading.{Gives, command}
 use Rattle.fc_script.specs.Texts.{refusal_line}
+use Rattle.fc_volume.specs.Volume.{parts_of}
 use Rattle.fc_shell.specs.declared.answer.LineFault.{LineFault}
-use Rattle.fc_shell.specs.Built.{is_changing, is_unbuilt_command}
+use Rattle.fc_shell.specs.Built.{is_unbuilt_command, lacks_command}
 use Rattle.fc_shell.proofs.AnsweredLemmas.{caused_alone}
 use Rattle.fc_shell.proofs.ReplyLemmas.{not_false}
 use Rattle.fc_shell.proofs.StepLemmas.{reading_keeps, refusal_ends, unbegun_ends}
@@ -18,8 +19,11 @@ use Rattle.fc_shell.proofs.answer.answer_line.Goals as goal
 pub answer_command-requires-clause-built : goal.answer_command-requires-clause-built
 answer_command-requires-clause-built g c = not_false c.in-Ok.asked (ap is_unbuilt_command (sym c.in-Ok.ensures) ∙ c.requires.built)
 
-pub answer_command-requires-clause-new_map : goal.answer_command-requires-clause-new_map
-answer_command-requires-clause-new_map g c reads = c.requires.new_map (ap is_changing c.in-Ok.ensures ∙ ap not reads)
+pub answer_command-requires-clause-spelled : goal.answer_command-requires-clause-spelled
+answer_command-requires-clause-spelled g c = (c.args.line.now, c.in-Ok.ensures, c.requires.short)
+
+pub answer_command-requires-clause-built_for : goal.answer_command-requires-clause-built_for
+answer_command-requires-clause-built_for g c = ap (lacks_command (parts_of c.args.volume.now).layout) (sym c.in-Ok.ensures) ∙ c.requires.built_for
 
 pub returns-in-Ok-clause-step : goal.returns-in-Ok-clause-step
 returns-in-Ok-clause-step g c = c.answer_command.ensures.step c.args.line.now c.in-Ok.ensures

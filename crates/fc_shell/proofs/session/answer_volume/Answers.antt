@@ -1,4 +1,4 @@
-use Rattle.std.proofs.Common.{◌≡◌, Bool, true, false, [], inl, inr, refl, sym, ap, subst, ◌∙◌, arith}
+use Rattle.std.proofs.Common.{Bool, false, [], inl, inr, refl, sym, ap, subst, ◌∙◌, arith}
 use Rattle.fc_device.proofs.DiskLaws.{laws}
 use Rattle.fc_effects.specs.Effect.{State}
 use Rattle.fc_runs.specs.Promises.{Cause}
@@ -8,15 +8,14 @@ use Rattle.fc_shell.specs.declared.ending.End.{End}
 use Rattle.fc_shell.specs.Built.{Spares}
 use Rattle.fc_shell.specs.Ends.{end_of, is_late}
 use Rattle.fc_shell.specs.Modes.{plain_mode}
-use Rattle.fc_shell.specs.Promise.{EndsOver, LacksMap}
+use Rattle.fc_shell.specs.Promise.{EndsOver}
+use Rattle.fc_shell.proofs.LackingLemmas.{lacking_script}
 use Rattle.fc_shell.proofs.PromiseLemmas.{disk_end, lacks_ends, late_end, not_begun, out_end, reads_unwritten, same_unwritten, served_built, served_ends, session_same}
 use Rattle.fc_shell.proofs.WritingLemmas.{wrote_nothing}
 use Rattle.fc_shell.proofs.session.answer_volume.Goals as goal
 
-pub serve-requires-clause-new_map : goal.serve-requires-clause-new_map
-serve-requires-clause-new_map g c =
-    let is : c.in-Ok-false.field-0 ≡ false = grind (arith, c.in-Ok-false.field-0-test) in
-    subst (LacksMap (parts_of c.args.volume.now).layout c.args.script.now) is c.in-Ok-false.ensures
+pub serve-requires-clause-built_for : goal.serve-requires-clause-built_for
+serve-requires-clause-built_for g c = grind (arith, c.in-Ok-false.field-0-test, c.in-Ok-false.ensures, c.space.ensures)
 
 pub returns-in-Err-clause-promise : goal.returns-in-Err-clause-promise
 returns-in-Err-clause-promise g c image told kind view opens parts =
@@ -33,12 +32,11 @@ returns-in-Err-clause-keeps g c =
 
 pub returns-in-Ok-true-clause-promise : goal.returns-in-Ok-true-clause-promise
 returns-in-Ok-true-clause-promise g c image told kind view opens parts =
-    let is : c.in-Ok-true.field-0 ≡ true = grind (arith, c.in-Ok-true.field-0-test) in
     let v = c.args.volume.now in (
       [],
       wrote_nothing (g.K.Sink.taken c.args.out.now),
       lacks_ends (laws g.met.D.Disk) c.args.disk.now (record { image = image; view = view }) c.args.script.now (parts_of v).layout parts.layout
-          (subst (LacksMap (parts_of v).layout c.args.script.now) is c.in-Ok-true.ensures) told c.requires.settled,
+          (grind (arith, c.in-Ok-true.field-0-test, c.in-Ok-true.ensures, c.space.ensures)) told c.requires.settled,
     )
 
 pub returns-in-Ok-true-clause-keeps : goal.returns-in-Ok-true-clause-keeps
@@ -47,8 +45,7 @@ returns-in-Ok-true-clause-keeps g c =
 
 pub returns-in-Ok-true-clause-changes : goal.returns-in-Ok-true-clause-changes
 returns-in-Ok-true-clause-changes g c e =
-    let is : c.in-Ok-true.field-0 ≡ true = grind (arith, c.in-Ok-true.field-0-test) in
-    (subst (LacksMap (parts_of c.args.volume.now).layout c.args.script.now) is c.in-Ok-true.ensures).0
+    lacking_script (parts_of c.args.volume.now).layout c.args.script.now (grind (arith, c.in-Ok-true.field-0-test, c.in-Ok-true.ensures, c.space.ensures))
 
 pub returns-in-Ok-false-clause-promise : goal.returns-in-Ok-false-clause-promise
 returns-in-Ok-false-clause-promise g c image told kind view opens parts =

@@ -1,18 +1,20 @@
-use Rattle.std.proofs.Common.{◌≡◌, IfOk, Bool, true, false, Result, Ok, Err, List, ℕ, ◌∷◌, refl, sym, ap, subst, ◌∙◌, arith}
+use Rattle.std.proofs.Common.{◌≡◌, IfOk, Bool, false, Result, Ok, Err, List, ℕ, ◌∷◌, refl, sym, ap, subst, ◌∙◌, arith}
 use Rattle.std.specs.List.{list_any}
 use Rattle.std.proofs.lemmas.Result.{err_from_is_err_and}
 use Rattle.fc_device.proofs.DiskLaws.{laws}
 use Rattle.fc_device.proofs.StopLemmas.{reads_start, reads_then}
 use Rattle.fc_effects.specs.Effect.{State}
-use Rattle.fc_image.specs.Stays.{IsNewLayout}
 use Rattle.fc_volume.specs.Volume.{parts_of}
 use Rattle.fc_script.specs.Lines.{command_of}
 use Rattle.fc_shell.specs.declared.answer.LineFault.{LineFault}
-use Rattle.fc_shell.specs.Built.{Spares, any_changing, is_changing, is_unbuilt_command}
+use Rattle.fc_shell.specs.Built.{Spares, any_lacking, is_unbuilt_command, lacks_command}
 use Rattle.fc_shell.specs.Left.{commands_left}
 use Rattle.fc_shell.specs.Line.{IsReady, LineEnds}
 use Rattle.fc_shell.specs.Serving.{HasServed, ServesAs}
-use Rattle.fc_shell.proofs.ServingLemmas.{first_of_any, goes_same, goes_then, neither, served_all, served_more, served_part, served_start, rest_of_any, spares_first, spares_rest}
+use Rattle.fc_shell.specs.Replies.{script_limit}
+use Rattle.fc_shell.proofs.LackingLemmas.{still_built}
+use Rattle.fc_shell.proofs.LengthLemmas.{AreUpTo, commands_up_to}
+use Rattle.fc_shell.proofs.ServingLemmas.{goes_same, goes_then, neither, served_all, served_more, served_part, served_start, spares_first, spares_rest}
 use Rattle.fc_shell.proofs.StepLemmas.{caused_later, caused_ok, one_fault}
 use Rattle.fc_shell.proofs.session.serve.Goals as goal
 
@@ -23,9 +25,10 @@ same_result r fault p = p.1 ∙ ap Err p.2
 pub loop-line-init : goal.loop-line-init
 loop-line-init g c = record {
   built = subst (λ (lines : List (List ℕ)). list_any (λ line. is_unbuilt_command (command_of line)) lines ≡ false) (sym c.new-lines.ensures) c.requires.built;
+  short = subst (AreUpTo script_limit) (sym c.new-lines.ensures) (commands_up_to script_limit c.args.script.now c.requires.short);
   goes = goes_same (laws g.met.D.Disk) c.args.disk.now;
-  ready = record { fit = c.requires.fit; stands = c.requires.stands; settled = c.requires.settled; read_only = refl; new_map = λ new. new };
-  changes = subst (λ (lines : List (List ℕ)). any_changing lines ≡ true → IsNewLayout (parts_of c.args.volume.now).layout) (sym c.new-lines.ensures) c.requires.new_map;
+  ready = record { fit = c.requires.fit; stands = c.requires.stands; settled = c.requires.settled; read_only = refl; lacks_no_more = λ command none. none };
+  lacks_none = subst (λ (lines : List (List ℕ)). any_lacking (parts_of c.args.volume.now).layout lines ≡ false) (sym c.new-lines.ensures) c.requires.built_for;
   reads = λ reads. (subst (λ (lines : List (List ℕ)). Spares c.args.volume.now.read_only lines) (sym c.new-lines.ensures) reads, reads_start (laws g.met.D.Disk) c.args.disk.now);
   out_faults = omega arith;
   served = λ image told kind view opens parts.
@@ -45,6 +48,9 @@ answer_line-requires-clause-stands g c = c.loop-line.invariant.ready.stands
 pub answer_line-requires-clause-settled : goal.answer_line-requires-clause-settled
 answer_line-requires-clause-settled g c = c.loop-line.invariant.ready.settled
 
+pub answer_line-requires-clause-short : goal.answer_line-requires-clause-short
+answer_line-requires-clause-short g c = (subst (AreUpTo script_limit) c.in-Some.ensures c.loop-line.invariant.short).0
+
 pub answer_line-requires-clause-built : goal.answer_line-requires-clause-built
 answer_line-requires-clause-built g c =
     let line = c.in-Some.line.now in
@@ -52,13 +58,14 @@ answer_line-requires-clause-built g c =
     (neither (is_unbuilt_command (command_of line)) (list_any (λ line. is_unbuilt_command (command_of line)) left)
     (subst (λ (lines : List (List ℕ)). list_any (λ line. is_unbuilt_command (command_of line)) lines ≡ false) c.in-Some.ensures c.loop-line.invariant.built)).0
 
-pub answer_line-requires-clause-new_map : goal.answer_line-requires-clause-new_map
-answer_line-requires-clause-new_map g c e =
+pub answer_line-requires-clause-built_for : goal.answer_line-requires-clause-built_for
+answer_line-requires-clause-built_for g c =
     let line = c.in-Some.line.now in
     let left = commands_left c.next.new.self in
-    c.loop-line.invariant.ready.new_map
-    (subst (λ (lines : List (List ℕ)). any_changing lines ≡ true → IsNewLayout (parts_of c.args.volume.now).layout) c.in-Some.ensures c.loop-line.invariant.changes
-    (first_of_any (is_changing (command_of line)) (any_changing left) e))
+    let layout = (parts_of c.args.volume.now).layout in
+    still_built layout (parts_of c.loop-line.volume).layout c.loop-line.invariant.ready.lacks_no_more (command_of line)
+    (neither (lacks_command layout (command_of line)) (any_lacking layout left)
+    (subst (λ (lines : List (List ℕ)). any_lacking layout lines ≡ false) c.in-Some.ensures c.loop-line.invariant.lacks_none)).0
 
 pub loop-line-preserved : goal.loop-line-preserved
 loop-line-preserved g c =
@@ -73,10 +80,11 @@ loop-line-preserved g c =
     record {
       built = (neither (is_unbuilt_command (command_of line)) (list_any (λ line. is_unbuilt_command (command_of line)) left)
           (subst (λ (lines : List (List ℕ)). list_any (λ line. is_unbuilt_command (command_of line)) lines ≡ false) cut so_far.built)).1;
+      short = (subst (AreUpTo script_limit) cut so_far.short).1;
       goes = goes_then (laws g.met.D.Disk) so_far.goes keeps.goes;
-      ready = record { fit = ready.fit; stands = ready.stands; settled = ready.settled; read_only = ready.read_only ∙ so_far.ready.read_only; new_map = λ new. ready.new_map (so_far.ready.new_map new) };
-      changes = λ e. subst (λ (lines : List (List ℕ)). any_changing lines ≡ true → IsNewLayout (parts_of c.args.volume.now).layout) cut so_far.changes
-          (rest_of_any (is_changing (command_of line)) (any_changing left) e);
+      ready = record { fit = ready.fit; stands = ready.stands; settled = ready.settled; read_only = ready.read_only ∙ so_far.ready.read_only; lacks_no_more = λ command none. ready.lacks_no_more command (so_far.ready.lacks_no_more command none) };
+      lacks_none = (neither (lacks_command (parts_of c.args.volume.now).layout (command_of line)) (any_lacking (parts_of c.args.volume.now).layout left)
+          (subst (λ (lines : List (List ℕ)). any_lacking (parts_of c.args.volume.now).layout lines ≡ false) cut so_far.lacks_none)).1;
       reads = λ reads.
           let was = so_far.reads reads in
           let spares : Spares c.args.volume.now.read_only (line ∷ left) = subst (λ (lines : List (List ℕ)). Spares c.args.volume.now.read_only lines) cut was.0 in (

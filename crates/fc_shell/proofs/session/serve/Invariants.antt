@@ -1,23 +1,25 @@
-use Rattle.std.proofs.Common.{◌≡◌, ◌≤◌, true, false, length}
+use Rattle.std.proofs.Common.{◌≡◌, ◌≤◌, false, length}
 use Rattle.std.specs.List.{list_any}
 use Rattle.fc_device.specs.Calls.{OnlyReads}
-use Rattle.fc_image.specs.Stays.{IsNewLayout}
 use Rattle.fc_runs.specs.Run.{commands_in}
 use Rattle.fc_volume.specs.Volume.{parts_of}
 use Rattle.fc_script.specs.Lines.{command_of}
 use Rattle.fc_shell.specs.Answered.{ForState}
-use Rattle.fc_shell.specs.Built.{Spares, any_changing, is_unbuilt_command}
+use Rattle.fc_shell.specs.Built.{Spares, any_lacking, is_unbuilt_command}
 use Rattle.fc_shell.specs.Left.{commands_left}
 use Rattle.fc_shell.specs.Line.{GoesOn, IsReady}
 use Rattle.fc_shell.specs.Serving.{HasServed}
+use Rattle.fc_shell.specs.Replies.{script_limit}
+use Rattle.fc_shell.proofs.LengthLemmas.{AreUpTo}
 use Rattle.fc_shell.proofs.session.serve.Given as goal
 
 abbrev pub invariant-loop-line : goal.invariant-loop-line
 invariant-loop-line g l = record {
   built : list_any (λ line. is_unbuilt_command (command_of line)) (commands_left l.lines) ≡ false;
+  short : AreUpTo script_limit (commands_left l.lines);
   goes : GoesOn g.D.Disk l.fn.disk l.disk;
   ready : IsReady g.D.Disk l.disk l.fn.volume l.volume;
-  changes : any_changing (commands_left l.lines) ≡ true → IsNewLayout (parts_of l.fn.volume).layout;
+  lacks_none : any_lacking (parts_of l.fn.volume).layout (commands_left l.lines) ≡ false;
   reads : Spares l.fn.volume.read_only (commands_in l.script) → Spares l.fn.volume.read_only (commands_left l.lines) × OnlyReads g.D.Disk l.fn.disk l.disk;
   out_faults : g.K.Sink.faults l.fn.out ≤ g.K.Sink.faults l.out;
   served : ForState (g.D.Disk.bytes l.fn.disk) l.fn.volume (λ kind s.
