@@ -1,0 +1,2 @@
+pub mod BasicLemmas
+pub mod SpaceLemmas
