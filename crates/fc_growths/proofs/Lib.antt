@@ -1,2 +1,5 @@
 pub mod BasicLemmas
 pub mod SpaceLemmas
+pub mod ObjectLemmas
+pub mod OpeningLemmas
+pub mod ListingsLemmas

@@ -145,15 +145,19 @@ module _ (e : Growing) where
       let there = id_run_in e.m k q.0 was.some q.1.0 in
       any_in (λ (x : ZoneRun). has_id k x.1.kind) (all_runs e.m) q.0 there.0 there.1
 
-  abbrev top : Had e.kind e.r e.image e.m e.ls e.is.before.new_kind e.is.before.opens
+  abbrev pub top : Had e.kind e.r e.image e.m e.ls e.is.before.new_kind e.is.before.opens
   top = had e.kind e.r e.image e.m e.ls e.is.before.new_kind e.is.before.opens
 
-  pub l_directory : is_directory_object e.l.object ≡ true
-  l_directory = elim (cases_cons top.root (directories (held e.ls)) e.l.object
-      (Contains-permutation (listed e.ls) (top.root ∷ directories (held e.ls)) e.l.object top.all.all (in_mapped (λ (x : Listing). x.object) e.ls e.l l_in))) [
+  -- what is listed is a directory
+  pub dir_listed : (k : Listing) → Contains e.ls k → is_directory_object k.object ≡ true
+  dir_listed k at = elim (cases_cons top.root (directories (held e.ls)) k.object
+      (Contains-permutation (listed e.ls) (top.root ∷ directories (held e.ls)) k.object top.all.all (in_mapped (λ (x : Listing). x.object) e.ls k at))) [
         | inl is ↦ ap is_directory_object (sym is) ∙ ap (λ (x : _). is_directory x.attrs) top.is_root.entry
-        | inr kept ↦ filter_test is_directory_object (held e.ls) e.l.object kept
+        | inr kept ↦ filter_test is_directory_object (held e.ls) k.object kept
       ]
+
+  pub l_directory : is_directory_object e.l.object ≡ true
+  l_directory = dir_listed e.l l_in
 
   pub says_before : (k : Listing) → Contains e.ls k → IsListing (reader_of e.image (Layout.New e.m)) (Layout.New e.m) k
   says_before k at = one_says (reader_of e.image (Layout.New e.m)) (Layout.New e.m) e.ls k top.all.say at
