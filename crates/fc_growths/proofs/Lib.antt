@@ -3,3 +3,4 @@ pub mod SpaceLemmas
 pub mod ObjectLemmas
 pub mod OpeningLemmas
 pub mod ListingsLemmas
+pub mod SteadyLemmas

@@ -278,6 +278,9 @@ module _ (e : Growing) (n : NewObject e) where
         (again_says k k' at w.0, more.1),
       )
 
+  pub now_listed : AreListedBy (g e) rest rest'
+  now_listed = (all_listed e.again e.again' (λ k at. at) e.is.again_now).0
+
   -- ---- the directory itself
 
   abbrev pub l' : Listing
