@@ -4,3 +4,4 @@ pub mod ObjectLemmas
 pub mod OpeningLemmas
 pub mod ListingsLemmas
 pub mod SteadyLemmas
+pub mod PromisedLemmas

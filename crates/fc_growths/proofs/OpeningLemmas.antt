@@ -102,7 +102,7 @@ module _ (e : Growing) (n : NewObject e) where
     ])
   ]
 
-  left_owned : (k : ℕ) → is_left_by_growth (opened e.kind e.m e.ls) e.c k ≡ true → (is_owned (objects_of e.ls) k ≡ true) × (3 ≤ k)
+  pub left_owned : (k : ℕ) → is_left_by_growth (opened e.kind e.m e.ls) e.c k ≡ true → (is_owned (objects_of e.ls) k ≡ true) × (3 ≤ k)
   left_owned k left = elim e.is.lies [
     | inl there ↦ absurd (clash (is_left_by_growth (opened e.kind e.m e.ls) e.c k) left (left_there e there k))
     | inr moves ↦ (elim moves [

@@ -63,13 +63,6 @@ held_listed f (x ∷ xs) [] w = absurd w
 held_listed f [] (y ∷ ys) w = absurd w
 held_listed f (x ∷ xs) (y ∷ ys) w = ap₂ (λ (a b : List Object). a ++ b) w.1 (held_listed f xs ys w.2) ∙ sym (map-append f x.children (held xs))
 
--- all sectors of a list are the same
-all_same : (size : ℕ) (image image' sectors : List ℕ) → HasSectorsOf size sectors image image' → SameSectors size sectors image image'
-all_same size image image' [] same = All-nil (λ s. sector_at size image' s ≡ sector_at size image s)
-all_same size image image' (x ∷ sectors) same =
-    All-cons (λ s. sector_at size image' s ≡ sector_at size image s) x sectors (same x (ap (λ b. b || is_among sectors x) (eq-eqb x x refl)))
-    (all_same size image image' sectors (λ s h. same s (in_back (x ∷ []) sectors s h)))
-
 module _ (e : Growing) (n : NewObject e) where
   abbrev pub found : List Listing
   found = (opens_now e n).0.found
@@ -86,14 +79,14 @@ module _ (e : Growing) (n : NewObject e) where
   pub sound_now : AreSound (Layout.New e.m') (opens_now e n).0.found
   sound_now = sound e.kind e.r e.image' e.m' (opens_now e n).0.found e.is.before.new_kind (opens_now e n).0.opens
 
-  l_there : Contains (opens_now e n).0.found (l' e n)
+  pub l_there : Contains (opens_now e n).0.found (l' e n)
   l_there = in_found (l' e n) (Contains-append_right n.into (l' e n ∷ rest' e n) (l' e n) (first_in (l' e n) (rest' e n)))
 
-  rest_there : (k : Listing) → Contains (rest' e n) k → Contains (opens_now e n).0.found k
+  pub rest_there : (k : Listing) → Contains (rest' e n) k → Contains (opens_now e n).0.found k
   rest_there k at = in_found k (Contains-append_right n.into (l' e n ∷ rest' e n) k (next_in (l' e n) k (rest' e n) at))
 
   -- a directory that is written, and what it is afterwards
-  written_now : (ks ks' : List Listing) → AreWrittenFor e.image' v e.m' e.c e.l.object e.place ks ks' → (k : Listing) → Contains ks k
+  pub written_now : (ks ks' : List Listing) → AreWrittenFor e.image' v e.m' e.c e.l.object e.place ks ks' → (k : Listing) → Contains ks k
       → (k' : Listing) × Contains ks' k' × IsWrittenFor e.image' v e.m' e.c e.l.object e.place k k'
   written_now [] ks' w' k at = absurd (nothing_in k at)
   written_now (x ∷ ks) [] w' k at = absurd w'
@@ -158,7 +151,7 @@ module _ (e : Growing) (n : NewObject e) where
       (IsPermutation-trans (g e (top e).root ∷ e.o ∷ map (g e) (e.l.children ++ held (rest e n))) (e.o ∷ map (g e) ((top e).root ∷ (e.l.children ++ held (rest e n)))) (after e)
       (flipped (g e (top e).root) e.o (map (g e) (e.l.children ++ held (rest e n)))) (now_cut e n)))
 
-  now_in : (p : Object) → Contains (after e) p → Contains (objects_of (opens_now e n).0.found) p
+  pub now_in : (p : Object) → Contains (after e) p → Contains (objects_of (opens_now e n).0.found) p
   now_in p at = Contains-permutation (after e) (objects_of (opens_now e n).0.found) p (IsPermutation-sym (objects_of (opens_now e n).0.found) (after e) objects_now) at
 
   pub o_there : (path : Path) → is_same_path path e.o.path ≡ true → object_at (opens_now e n).0.found path ≡ Some e.o
