@@ -5,3 +5,5 @@ pub mod OpeningLemmas
 pub mod ListingsLemmas
 pub mod SteadyLemmas
 pub mod PromisedLemmas
+pub mod NewSpaceLemmas
+pub mod FiledLemmas

@@ -43,7 +43,7 @@ use Rattle.fc_changes.proofs.RenamedLemmas.{each_apart}
 use Rattle.fc_changes.proofs.SpaceLemmas.{still_owned}
 use Rattle.fc_growths.specs.Grown.{GrowsThere, NewPlace, TakesSpace, at_place}
 use Rattle.fc_growths.proofs.BasicLemmas.{among_flat, pick}
-use Rattle.fc_growths.proofs.SpaceLemmas.{Growing, after, form_stays, grown, grown_owned, grown_size, its, its_alone_now, l_in, l_object, l_used, len_some, left_there, lies, old_id, owns, runs_same, says_before, stay_at, stay_in, top, was, zones_now}
+use Rattle.fc_growths.proofs.SpaceLemmas.{Growing, after, form_stays, grown, grown_owned, grown_size, its, its_alone_now, l_directory, l_in, l_object, l_used, len_some, left_there, lies, old_id, owns, runs_same, says_before, stay_at, stay_in, top, was, zones_now}
 
 -- paths are the same from either side
 pub same_turned : (p q : Path) → is_same_path p q ≡ is_same_path q p
@@ -57,7 +57,7 @@ entries_grown dir o place (e ∷ es) =
     (ap (λ (b : Bool). cond b (record e { address = place.address; len = place.len }) e) (same_turned (dir ++ e.name ∷ []) o.path)) (entries_grown dir o place es)
 
 -- some bytes lie by the map's runs
-by_map : (m : Map) (address n : ℕ) (sectors : List ℕ) → 0 < n → sectors_at (Layout.New m) address n ≡ Some sectors → new_sectors m address n ≡ Some sectors
+pub by_map : (m : Map) (address n : ℕ) (sectors : List ℕ) → 0 < n → sectors_at (Layout.New m) address n ≡ Some sectors → new_sectors m address n ≡ Some sectors
 unfolding sectors_at
 by_map m address n sectors some h = by (n == 0) refl h
   where
@@ -106,6 +106,10 @@ module _ (e : Growing) where
     | inl is ↦ absurd (clash (is_same_path e.l.object.path p.path) (ap (λ (q : Object). is_same_path e.l.object.path q.path) (sym is) ∙ itself e.l.object.path) other)
     | inr later ↦ later
   ]
+
+  pub stays_file : (p : Object) → Contains (objects_of e.ls) p → is_directory_object p ≡ false → Contains e.stay p
+  stays_file p at file =
+      stays p at (unless (is_same_path e.l.object.path p.path) (λ same. clash (is_directory_object p) (ap is_directory_object (sym (same_object e.l.object p (l_object e) at same)) ∙ l_directory e) file))
 
   pub g_at : (p : Object) → Contains (objects_of e.ls) p → IsAt (Layout.New e.m') (g p)
   g_at p at = by (is_same_path e.l.object.path p.path) refl

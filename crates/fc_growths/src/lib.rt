@@ -1,2 +1,9 @@
 //! From what the calls of a command leave on a disc with a new map if a directory grows by it, to what the command promises.
 #![tactic(auto)]
+
+ghost use Rattle.fc_growths.specs.Laws.{GrownFiledLaw};
+
+/// After `save` and `create` of a file by which its directory grows the disc is as they promise.
+pub fn grown_filed()
+    ensures { GrownFiledLaw }
+{}
