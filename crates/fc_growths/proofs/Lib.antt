@@ -7,3 +7,4 @@ pub mod SteadyLemmas
 pub mod PromisedLemmas
 pub mod NewSpaceLemmas
 pub mod FiledLemmas
+pub mod CdirLemmas

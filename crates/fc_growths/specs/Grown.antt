@@ -21,14 +21,14 @@ use Rattle.fc_image.specs.Objects.{objects_of, object_at}
 use Rattle.fc_image.specs.Opening.{Opened, agreement, difference}
 use Rattle.fc_image.specs.Edits.{IsAt}
 use Rattle.fc_effects.specs.Sharing.{new_ids, units}
-use Rattle.fc_effects.specs.Short.{growth_in, has_room, is_alone}
+use Rattle.fc_effects.specs.Short.{growth_in, has_room, is_alone, new_dir_size}
 use Rattle.fc_effects.specs.Placed.{IsPlan, holes_left}
-use Rattle.fc_effects.specs.Steady.{AreWritten, IsRewritten, KeepsOrWritesLinks, ZoneSteady, has_new_holder, holes_with, is_given_back, is_left_by_growth, regrown_entry, runs_that, zone_holes}
+use Rattle.fc_effects.specs.Steady.{AreWritten, IsRewritten, KeepsOrWritesLinks, ZoneSteady, has_new_holder, holes_with, is_given_back, is_left_by_growth, new_directory, regrown_entry, runs_that, zone_holes}
 use Rattle.fc_plan.specs.Applied.{unless_gone}
 use Rattle.fc_plan.specs.Giving.{is_one_of}
 use Rattle.fc_plan.specs.Taking.{as_runs}
 use Rattle.fc_changes.specs.Owed.{IsBefore, IsWritten}
-use Rattle.fc_changes.specs.Changed.{IsEntryMade, IsFileAt, MakesFile}
+use Rattle.fc_changes.specs.Changed.{IsFileAt, IsInNewSpace, MakesFile}
 
 -- ---- the grown directory's place
 
@@ -184,3 +184,27 @@ pub record IsGrownFileChange (kind : Kind) (r : DiscRecord) (image image' : List
   pub at : IsAt (Layout.New m') o
   pub place_is : IsFileAt m (objects_of v.listings) (holder path) (length bytes) id parts o
   pub stored : object_bytes image' (Layout.New m') o ≡ bytes
+
+-- ---- cdir
+
+-- Directory l grows by the empty directory that d lists.
+pub record IsGrownDirectoryChange (kind : Kind) (r : DiscRecord) (image image' : List ℕ) (v : Opened) (m m' : Map) (path : Path)
+    (l : Listing) (content : Directory) (place : NewPlace) (again again' keep : List Listing) (d : Listing) (stay : List Object) (id : ℕ) (parts : List ZoneRun) (gone : List ℕ) : Type 0 where
+  pub free : object_at v.listings path ≡ None
+  pub growing : IsGrowing kind r image image' v m m' (Command.Cdir path) l content place again again' keep d.object stay id parts gone
+  -- the entry (`insert`)
+  pub path_now : d.object.path ≡ l.object.path ++ d.object.entry.name ∷ []
+  pub path_is : is_same_path path d.object.path ≡ true
+  pub entries : entries_of content ≡ with_entry d.object.entry (entries_of l.content)
+  pub name : d.object.entry.name ≡ last_name path
+  pub attrs : d.object.entry.attrs ≡ 8
+  pub load : d.object.entry.load ≡ 0
+  pub exec : d.object.entry.exec ≡ 0
+  pub last : d.object.entry.last ≡ 0
+  pub len : d.object.entry.len ≡ new_dir_size (dir_form v.layout)
+  -- its place, and what it says: its parent is the new address of l (`BigDir::empty`, then `write`)
+  pub at : IsAt (Layout.New m') d.object
+  pub place_is : IsInNewSpace m (new_dir_size (dir_form v.layout)) 0 id parts d.object
+  pub says : d.content ≡ new_directory (dir_form v.layout) place.address (last_name path)
+  pub empty : d.children ≡ []
+  pub stored : AreWritten (object_bytes image' (Layout.New m') d.object) d.content
