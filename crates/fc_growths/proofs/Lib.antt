@@ -8,3 +8,4 @@ pub mod PromisedLemmas
 pub mod NewSpaceLemmas
 pub mod FiledLemmas
 pub mod CdirLemmas
+pub mod MapLemmas
