@@ -9,3 +9,4 @@ pub mod NewSpaceLemmas
 pub mod FiledLemmas
 pub mod CdirLemmas
 pub mod MapLemmas
+pub mod RootLemmas

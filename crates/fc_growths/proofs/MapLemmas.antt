@@ -56,7 +56,7 @@ ids_same m m' kept id =
 
 -- ---- space
 
-space' : (m first mid m' : Map) (place : NewPlace) (object dir : Option Plan) (gone : List ℕ) → KeepsRuns m first → HasApplied first mid object dir gone
+pub space' : (m first mid m' : Map) (place : NewPlace) (object dir : Option Plan) (gone : List ℕ) → KeepsRuns m first → HasApplied first mid object dir gone
     → KeepsRuns mid m' → IfSome object HasParts → IfSome dir HasParts → place.id ≡ id_in dir → place.parts ≡ parts_in dir → IsGrowthSpace m m' (id_in object) (parts_in object) place gone
 space' m first mid m' place object dir gone start applied kept some_object some_dir id_is parts_are = record {
   holes = λ z low.
@@ -143,7 +143,7 @@ module _ (m mid m' : Map) (o : Object) (place : NewPlace) (start image' : List �
       | inr more ↦ (elim more [ inl middle ↦ omega (arith, middle) | inr large ↦ omega (arith, large) ])
     ]
 
-    fits : 56 ≤ length (sector_of m 0)
+    pub fits : 64 ≤ length (sector_of m 0)
     fits = let whole = is.whole 0 some_zone in let low = sector_long in omega (arith, whole, low)
 
     -- ---- by whether it is the root that grows
@@ -176,7 +176,7 @@ module _ (m mid m' : Map) (o : Object) (place : NewPlace) (start image' : List �
         by true zero' =
             ap (λ (k : ℕ). slice_range (bits (sector_of (with_zone m 0 now) k)) 8 24) (eqb-true z 0 zero')
             ∙ ap (λ (xs : List ℕ). slice_range (bits xs) 8 24) zone_there
-            ∙ link_same (sector_of m 0) now (root_front (sector_of m 0) place.address place.len fits) (root_back (sector_of m 0) place.address place.len fits) (root_long (sector_of m 0) place.address place.len fits)
+            ∙ link_same (sector_of m 0) now (root_front (sector_of m 0) place.address place.len (omega (arith, fits))) (root_back (sector_of m 0) place.address place.len (omega (arith, fits))) (root_long (sector_of m 0) place.address place.len (omega (arith, fits)))
             ∙ ap (λ (k : ℕ). slice_range (bits (sector_of m k)) 8 24) (sym (eqb-true z 0 zero'))
 
     field_first : (b : Bool) (z at : ℕ) → 512 ≤ at → field_at (shape m.geometry z) (bits (sector_of (first b) z)) at ≡ field_at (shape m.geometry z) (bits (sector_of m z)) at
@@ -188,7 +188,7 @@ module _ (m mid m' : Map) (o : Object) (place : NewPlace) (start image' : List �
         by true zero' =
             ap (λ (k : ℕ). field_at (shape m.geometry z) (bits (sector_of (with_zone m 0 now) k)) at) (eqb-true z 0 zero')
             ∙ ap (λ (xs : List ℕ). field_at (shape m.geometry z) (bits xs) at) zone_there
-            ∙ field_same (sector_of m 0) now (root_front (sector_of m 0) place.address place.len fits) (root_back (sector_of m 0) place.address place.len fits) (root_long (sector_of m 0) place.address place.len fits)
+            ∙ field_same (sector_of m 0) now (root_front (sector_of m 0) place.address place.len (omega (arith, fits))) (root_back (sector_of m 0) place.address place.len (omega (arith, fits))) (root_long (sector_of m 0) place.address place.len (omega (arith, fits)))
             (shape m.geometry z) at (zone0_high z at (eqb-true z 0 zero') high)
             ∙ ap (λ (k : ℕ). field_at (shape m.geometry z) (bits (sector_of m k)) at) (sym (eqb-true z 0 zero'))
           where
@@ -223,7 +223,7 @@ module _ (m mid m' : Map) (o : Object) (place : NewPlace) (start image' : List �
             field_by zero a from = field_first b zero a from
             field_by (suc k) a from = field_later b (suc k) a (unless (suc k == 0) (λ h. let none = eqb-true (suc k) 0 h in omega (arith, none)))
 
-    map_by : (b : Bool) → (length o.path == 0) ≡ b → KeepsRuns m (first b) → AreEdits (first b) mid → KeepsRuns mid m' → KeepsContents mid m' → CommitEnds m.geometry start m'.zones image' → IsMapGrown m m' image' o place
+    pub map_by : (b : Bool) → (length o.path == 0) ≡ b → KeepsRuns m (first b) → AreEdits (first b) mid → KeepsRuns mid m' → KeepsContents mid m' → CommitEnds m.geometry start m'.zones image' → IsMapGrown m m' image' o place
     map_by b root kept edits runs contents ends =
         let g = geometry_first b in
         let done = committed_law (first b) mid m' start image' edits runs contents (subst (λ (x : Geometry). CommitEnds x start m'.zones image') (sym g) ends) in

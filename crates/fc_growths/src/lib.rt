@@ -2,6 +2,7 @@
 #![tactic(auto)]
 
 ghost use Rattle.fc_growths.specs.Laws.{GrownDirectoryMadeLaw, GrownFiledLaw};
+ghost use Rattle.fc_growths.specs.Maps.{GrownMapsLaw};
 
 /// After `save` and `create` of a file by which its directory grows the disc is as they promise.
 pub fn grown_filed()
@@ -11,4 +12,9 @@ pub fn grown_filed()
 /// After `cdir` by which the directory that holds the new one grows the disc is as it promises.
 pub fn grown_directory_made()
     ensures { GrownDirectoryMadeLaw }
+{}
+
+/// What taking space, a new root and a commit leave is what growth owes of the map.
+pub fn grown_maps()
+    ensures { GrownMapsLaw }
 {}
