@@ -1,22 +1,20 @@
 -- Lists, tests and sizes.
-use Rattle.std.proofs.Common.{◌≡◌, ◌<◌, ◌≤◌, inl, inr, ℕ, zero, suc, Bool, true, false, cond, List, [], ◌∷◌, ◌++◌, length, take, refl, sym, ap, ap₂, subst, ◌∙◌, arith, Some, None, Option}
-use Rattle.std.specs.Prelude.{Contains, IsPermutation, filter, map, ◌==◌, nat_lt, Ok, Err, Result}
+use Rattle.std.proofs.Common.{◌≡◌, ◌<◌, ◌≤◌, inl, inr, ℕ, zero, suc, Bool, true, false, cond, List, [], ◌∷◌, length, refl, sym, ap, subst, arith, Some, None, Option}
+use Rattle.std.specs.Prelude.{Contains, IsPermutation, filter, nat_lt, Ok}
 use Rattle.std.specs.List.{flat_map}
 use Rattle.std.specs.Option.{option_and_then}
 use Rattle.std.proofs.lemmas.Bool.{ltb-true}
 use Rattle.std.proofs.lemmas.List.Sorted.{IsPermutation-refl, IsPermutation-trans, IsPermutation-cons, length_permutation}
-use Rattle.fc_dirs.specs.Directory.{Directory, directory_of, read_or}
-use Rattle.fc_dirs.specs.Big.{BigDir, big_fault, needed_size}
-use Rattle.fc_dirs.specs.declared.DirFault.{DirFault}
-use Rattle.fc_names.specs.declared.name.NameForm.{NameForm}
+use Rattle.fc_dirs.specs.Directory.{Directory, directory_of}
+use Rattle.fc_dirs.specs.Big.{big_fault, needed_size}
 use Rattle.fc_names.specs.declared.name.NameForm.TheVariants.{Long}
 use Rattle.fc_newmap.proofs.PlaceLemmas.{in_back, in_front}
-use Rattle.fc_image.specs.Layout.{Layout, is_among, bytes_in}
+use Rattle.fc_image.specs.Layout.{is_among, bytes_in}
 use Rattle.fc_image.specs.Walk.{Object}
 use Rattle.fc_image.proofs.EntriesLemmas.{in_filter, same_some}
 use Rattle.fc_image.proofs.ShuffleLemmas.{IsPermutation-filter, flipped}
 use Rattle.fc_effects.specs.Short.{Gain, Growth, growth_of, growth_with}
-use Rattle.fc_changes.proofs.BasicLemmas.{cases_cons, first_in, nothing_in}
+use Rattle.fc_changes.proofs.BasicLemmas.{cases_cons, nothing_in}
 
 -- ---- lists
 

@@ -1,52 +1,46 @@
 -- Cdir by which the directory that holds the new one grows.
-use Rattle.std.proofs.Common.{◌≡◌, ◌<◌, ◌≤◌, inl, inr, ℕ, zero, suc, ◌*◌, Bool, true, false, cond, List, [], ◌∷◌, ◌++◌, length, map, replicate, refl, sym, ap, ap₂, subst, ◌∙◌, arith, Some, None, Option}
-use Rattle.std.specs.Prelude.{Contains, IsPermutation, IfSome, insert, is_some, nat_lt, Ok, IsSomeAnd, ◌==◌}
-use Rattle.std.specs.Option.{option_map_or}
-use Rattle.std.proofs.lemmas.Bool.{eqb-true, lt-ltb}
+use Rattle.std.proofs.Common.{◌≡◌, ◌<◌, inl, ℕ, ◌*◌, Bool, true, false, cond, List, [], ◌∷◌, ◌++◌, map, refl, sym, ap, ap₂, subst, ◌∙◌, arith, Some, None, Option}
+use Rattle.std.specs.Prelude.{IsPermutation, IfSome, insert, Ok, IsSomeAnd}
+use Rattle.std.proofs.lemmas.Bool.{lt-ltb}
 use Rattle.fc_names.specs.Names.{Path, is_directory, is_same_path}
 use Rattle.fc_record.specs.declared.DiscRecord.{DiscRecord}
 use Rattle.fc_record.specs.declared.Geometry.{Geometry}
 use Rattle.fc_record.specs.declared.Kind.{Kind}
 use Rattle.fc_newmap.specs.Map.{Map, ZoneRun, bits_in, hole_runs, id_runs}
 use Rattle.fc_copies.specs.Copies.{HoldsCopies}
-use Rattle.fc_model.specs.Tree.{Tree, holder, last_name}
+use Rattle.fc_model.specs.Tree.{holder, last_name}
 use Rattle.fc_model.specs.Command.{Command}
-use Rattle.fc_model.specs.Answer.{changed}
 use Rattle.fc_dirs.specs.declared.Entry.{Entry}
 use Rattle.fc_dirs.specs.Entries.{entry_place, with_entry}
 use Rattle.fc_dirs.specs.Directory.{Directory, directory_size, entries_of, directory_of}
 use Rattle.fc_image.specs.Layout.{Layout, dir_form, id_of}
 use Rattle.fc_image.specs.Walk.{Listing, Object, is_directory_object, object_size, object_bytes, reader_of}
-use Rattle.fc_image.specs.Objects.{is_owner_of, object_at, objects_of, tree_of, listing_at}
+use Rattle.fc_image.specs.Objects.{is_owner_of, object_at}
 use Rattle.fc_image.specs.Opening.{Opened}
 use Rattle.fc_image.specs.Edits.{AreChildren, IsListing}
-use Rattle.fc_image.specs.Commanded.{IsFileMade}
-use Rattle.fc_image.specs.TreeEdits.{IsObjectEdit}
 use Rattle.fc_image.proofs.CommandLemmas.{command_law}
 use Rattle.fc_image.proofs.EntriesLemmas.{entries_law}
 use Rattle.fc_plan.proofs.Units.{units_some}
-use Rattle.fc_effects.specs.Sharing.{slack, units}
-use Rattle.fc_effects.specs.Short.{new_length, object_units, slack_for, new_dir_size}
-use Rattle.fc_effects.specs.Placed.{HasAddress, NewObjectPlaced, file_low, holes_left, is_written_empty, made_object, object_parts}
-use Rattle.fc_effects.specs.Steady.{EntrySteady, NamedStays, NewDirectory, edited, holds_named, is_moved_by, named_entry, named_object, replaced_entry, source_object, with_made, AreWritten, IsMadeDirectory, new_directory}
-use Rattle.fc_changes.specs.Changed.{IsChanged, IsFileAt, IsInNewSpace}
-use Rattle.fc_changes.proofs.BasicLemmas.{clash, first_in}
+use Rattle.fc_effects.specs.Sharing.{units}
+use Rattle.fc_effects.specs.Short.{object_units, new_dir_size}
+use Rattle.fc_effects.specs.Placed.{NewObjectPlaced, file_low, holes_left, made_object, object_parts}
+use Rattle.fc_effects.specs.Steady.{EntrySteady, NewDirectory, edited, named_entry, replaced_entry, with_made, AreWritten, IsMadeDirectory, new_directory}
+use Rattle.fc_changes.specs.Changed.{IsChanged}
+use Rattle.fc_changes.proofs.BasicLemmas.{first_in}
 use Rattle.fc_changes.proofs.BeforeLemmas.{opened_as, address_by}
 use Rattle.fc_changes.proofs.ChangeLemmas.{opened}
-use Rattle.fc_changes.proofs.DirectoriesLemmas.{plain_create, plain_save, plain_cdir}
-use Rattle.fc_changes.proofs.FiledLemmas.{MakesObject}
-use Rattle.fc_changes.proofs.MadeLemmas.{file_low_small, free_name, no_slack}
-use Rattle.fc_changes.proofs.PlacedLemmas.{is_shared}
+use Rattle.fc_changes.proofs.DirectoriesLemmas.{plain_cdir}
+use Rattle.fc_changes.proofs.MadeLemmas.{free_name}
 use Rattle.fc_changes.proofs.ReadsLemmas.{LiesIn, lies_in, other_dir, told}
-use Rattle.fc_growths.specs.Grown.{IsGrownFileChange, NewPlace, grown_says, IsGrownDirectoryChange, at_place}
-use Rattle.fc_growths.specs.Laws.{GrownFiledLaw, GrownDirectoryMadeLaw}
-use Rattle.fc_growths.proofs.SpaceLemmas.{Growing, l_in, owns, says_before, some_sector, was, form_stays}
+use Rattle.fc_growths.specs.Grown.{NewPlace, grown_says, IsGrownDirectoryChange}
+use Rattle.fc_growths.specs.Laws.{GrownDirectoryMadeLaw}
+use Rattle.fc_growths.proofs.SpaceLemmas.{Growing, l_in, owns, says_before, form_stays}
 use Rattle.fc_growths.proofs.ObjectLemmas.{kid_at}
 use Rattle.fc_growths.proofs.OpeningLemmas.{NewObject}
 use Rattle.fc_growths.proofs.ListingsLemmas.{opens_now}
 use Rattle.fc_growths.proofs.SteadyLemmas.{o_there, w, l_there, sound_now}
 use Rattle.fc_growths.proofs.PromisedLemmas.{behind_now, directories_now, growth_placed, outside_now, space_now}
-use Rattle.fc_growths.proofs.NewSpaceLemmas.{IsApartNew, a_sector_of, file_apart, file_fresh, id_is, same_bits, same_left, stands_new, new_apart, new_id_unused}
+use Rattle.fc_growths.proofs.NewSpaceLemmas.{IsApartNew, a_sector_of, id_is, same_left, stands_new, new_apart, new_id_unused}
 use Rattle.fc_names.specs.declared.name.NameForm.{NameForm}
 use Rattle.fc_names.specs.declared.name.NameForm.TheVariants.{Seven, Ten, Long}
 use Rattle.fc_dirs.specs.declared.SmallForm.TheVariants.{Bytes1280, Bytes2048}

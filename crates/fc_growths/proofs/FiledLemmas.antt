@@ -1,6 +1,6 @@
 -- Save and create of a new file by which its directory grows.
-use Rattle.std.proofs.Common.{◌≡◌, ◌<◌, ◌≤◌, inl, inr, ℕ, zero, suc, ◌*◌, Bool, true, false, cond, List, [], ◌∷◌, ◌++◌, length, map, replicate, refl, sym, ap, ap₂, subst, ◌∙◌, arith, Some, None, Option}
-use Rattle.std.specs.Prelude.{Contains, IsPermutation, IfSome, insert, is_some, nat_lt}
+use Rattle.std.proofs.Common.{◌≡◌, ◌<◌, inl, inr, ℕ, zero, suc, ◌*◌, Bool, true, false, cond, List, [], ◌∷◌, ◌++◌, length, map, replicate, refl, sym, ap, ap₂, subst, ◌∙◌, arith, Some, None, Option}
+use Rattle.std.specs.Prelude.{IsPermutation, IfSome, insert, is_some, nat_lt}
 use Rattle.std.specs.Option.{option_map_or}
 use Rattle.std.proofs.lemmas.Bool.{eqb-true, lt-ltb}
 use Rattle.fc_names.specs.Names.{Path, is_directory, is_same_path}
@@ -9,7 +9,7 @@ use Rattle.fc_record.specs.declared.Geometry.{Geometry}
 use Rattle.fc_record.specs.declared.Kind.{Kind}
 use Rattle.fc_newmap.specs.Map.{Map, ZoneRun, bits_in, hole_runs, id_runs}
 use Rattle.fc_copies.specs.Copies.{HoldsCopies}
-use Rattle.fc_model.specs.Tree.{Tree, holder, last_name}
+use Rattle.fc_model.specs.Tree.{holder, last_name}
 use Rattle.fc_model.specs.Command.{Command}
 use Rattle.fc_model.specs.Answer.{changed}
 use Rattle.fc_dirs.specs.declared.Entry.{Entry}
@@ -27,10 +27,9 @@ use Rattle.fc_image.proofs.EntriesLemmas.{entries_law}
 use Rattle.fc_plan.proofs.Units.{units_some}
 use Rattle.fc_effects.specs.Sharing.{slack, units}
 use Rattle.fc_effects.specs.Short.{new_length, object_units, slack_for}
-use Rattle.fc_effects.specs.Placed.{HasAddress, NewObjectPlaced, file_low, holes_left, is_written_empty, made_object, object_parts}
-use Rattle.fc_effects.specs.Steady.{EntrySteady, NamedStays, NewDirectory, edited, holds_named, is_moved_by, named_entry, named_object, replaced_entry, source_object, with_made}
+use Rattle.fc_effects.specs.Placed.{HasAddress, NewObjectPlaced, file_low, holes_left, made_object, object_parts}
+use Rattle.fc_effects.specs.Steady.{EntrySteady, edited, is_moved_by, named_entry, replaced_entry, source_object, with_made}
 use Rattle.fc_changes.specs.Changed.{IsChanged, IsFileAt, IsInNewSpace}
-use Rattle.fc_changes.proofs.BasicLemmas.{clash, first_in}
 use Rattle.fc_changes.proofs.BeforeLemmas.{opened_as}
 use Rattle.fc_changes.proofs.ChangeLemmas.{opened}
 use Rattle.fc_changes.proofs.DirectoriesLemmas.{plain_create, plain_save}
@@ -40,7 +39,7 @@ use Rattle.fc_changes.proofs.PlacedLemmas.{is_shared}
 use Rattle.fc_changes.proofs.ReadsLemmas.{LiesIn, lies_in, other_dir}
 use Rattle.fc_growths.specs.Grown.{IsGrownFileChange, NewPlace, grown_says}
 use Rattle.fc_growths.specs.Laws.{GrownFiledLaw}
-use Rattle.fc_growths.proofs.SpaceLemmas.{Growing, l_in, owns, says_before, some_sector, was}
+use Rattle.fc_growths.proofs.SpaceLemmas.{Growing, l_in, owns, says_before}
 use Rattle.fc_growths.proofs.ObjectLemmas.{kid_at}
 use Rattle.fc_growths.proofs.OpeningLemmas.{NewObject}
 use Rattle.fc_growths.proofs.ListingsLemmas.{opens_now}

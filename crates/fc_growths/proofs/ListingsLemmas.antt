@@ -1,62 +1,53 @@
 -- The directories list what they should after one has grown, and the new image opens.
-use Rattle.std.proofs.Common.{◌≡◌, ◌<◌, ◌≤◌, ◌⊎◌, inl, inr, ℕ, suc, ◌+◌, Bool, true, false, cond, List, [], ◌∷◌, ◌++◌, length, map, refl, sym, ap, ap₂, subst, ◌∙◌, arith, Some, None, Option, eq-eqb, length-append}
-use Rattle.std.specs.Prelude.{Ok, Err, Contains, IsPermutation, filter, not, ◌==◌, ◌&&◌, ◌||◌, nat_le}
-use Rattle.std.specs.List.{flat_map, list_any}
-use Rattle.std.proofs.lemmas.Bool.{eqb-true, le-leb, leb-true}
-use Rattle.std.proofs.lemmas.List.{append_assoc}
-use Rattle.std.proofs.lemmas.List.Elements.{Contains-append_cases, Contains-append_left, Contains-append_right}
-use Rattle.std.proofs.lemmas.List.Sorted.{Contains-permutation, IsPermutation-append_left, IsPermutation-append_right, IsPermutation-cons, IsPermutation-map, IsPermutation-refl, IsPermutation-sym, IsPermutation-trans, length_permutation, list_any-IsPermutation}
+use Rattle.std.proofs.Common.{◌≡◌, ℕ, Bool, true, false, cond, List, [], ◌∷◌, ◌++◌, length, map, refl, sym, ap, ap₂, subst, ◌∙◌, arith, eq-eqb, length-append}
+use Rattle.std.specs.Prelude.{Ok, Err, Contains, IsPermutation, ◌==◌, ◌&&◌, ◌||◌, nat_le}
+use Rattle.std.specs.List.{flat_map}
+use Rattle.std.proofs.lemmas.Bool.{eqb-true}
+use Rattle.std.proofs.lemmas.List.Elements.{Contains-append_left, Contains-append_right}
+use Rattle.std.proofs.lemmas.List.Sorted.{Contains-permutation, IsPermutation-append_left, IsPermutation-cons, IsPermutation-map, IsPermutation-refl, IsPermutation-sym, IsPermutation-trans, length_permutation, list_any-IsPermutation}
 use Rattle.fc_names.specs.Names.{Path, is_same_path}
 use Rattle.fc_names.specs.declared.name.NameForm.{NameForm}
-use Rattle.fc_names.specs.declared.name.NameForm.TheVariants.{Long}
 use Rattle.fc_record.specs.declared.DiscRecord.{DiscRecord}
-use Rattle.fc_record.specs.declared.Geometry.{Geometry}
 use Rattle.fc_record.specs.Kinds.{map_record}
-use Rattle.fc_zone.specs.declared.RunKind.{RunKind}
-use Rattle.fc_zone.specs.declared.RunKind.TheVariants as kinds
-use Rattle.fc_newmap.specs.Map.{Map, ZoneRun, all_runs, has_id, id_runs, is_used, map_sectors, sector_of, with_root}
-use Rattle.fc_newmap.proofs.PlaceLemmas.{filter_in, held_in, holder_of, in_either, in_front}
+use Rattle.fc_newmap.specs.Map.{id_runs, is_used, map_sectors, sector_of, with_root}
+use Rattle.fc_newmap.proofs.PlaceLemmas.{in_either, in_front}
 use Rattle.fc_dirs.specs.declared.Entry.{Entry}
-use Rattle.fc_dirs.specs.Directory.{Directory, directory_of, directory_size, entries_of}
-use Rattle.fc_image.specs.Layout.{Layout, dir_form, id_of, id_sectors, is_among, is_apart, map_place}
+use Rattle.fc_dirs.specs.Directory.{directory_of, directory_size, entries_of}
+use Rattle.fc_image.specs.Layout.{Layout, dir_form, is_among, is_apart, map_place}
 use Rattle.fc_image.specs.Walk.{Listing, Object, is_directory_object, object_bytes, reader_of, root_entry}
-use Rattle.fc_image.specs.Objects.{is_movable, is_owned, is_owner_of, objects_of}
-use Rattle.fc_image.specs.Opening.{agreement, boot_place, difference, is_hole_or_movable, reserved_in}
+use Rattle.fc_image.specs.Objects.{is_movable, is_owner_of, objects_of}
+use Rattle.fc_image.specs.Opening.{agreement, boot_place, difference, reserved_in}
 use Rattle.fc_image.specs.Stays.{HasSectorsOf}
-use Rattle.fc_image.specs.Edits.{Apart, AreChildren, IsAt, IsListing, IsRoot, StayListed}
+use Rattle.fc_image.specs.Edits.{AreChildren, IsListing, IsRoot, StayListed}
 use Rattle.fc_image.specs.Growths.{grown_entry}
 use Rattle.fc_image.proofs.OpenedLemmas.{edited_image_law}
 use Rattle.fc_image.specs.EditedWalk.{AreListedBy}
 use Rattle.fc_image.specs.MapEdits.{IsMapEdit, OpensEdited}
-use Rattle.fc_image.specs.Order.{directories, held, listed}
+use Rattle.fc_image.specs.Order.{held}
 use Rattle.fc_image.specs.TreeEdits.{IsObjectEdit}
-use Rattle.fc_image.proofs.EntriesLemmas.{entries_law, in_filter}
+use Rattle.fc_image.proofs.EntriesLemmas.{entries_law}
 use Rattle.fc_image.proofs.GrowthLemmas.{beside, children_grown}
-use Rattle.fc_image.proofs.HolesLemmas.{apart_at, apart_from, in_id, loose_sectors, none_loose}
-use Rattle.fc_image.proofs.MapEditLemmas.{file_stays, held_in as child_held, known_root, map_edit_law}
-use Rattle.fc_image.proofs.MoveLemmas.{id_loose, loose_before}
+use Rattle.fc_image.proofs.HolesLemmas.{apart_at, apart_from}
+use Rattle.fc_image.proofs.MapEditLemmas.{file_stays, known_root, map_edit_law}
 use Rattle.fc_image.proofs.OrderLemmas.{apart_shuffled, stay_append}
 use Rattle.fc_image.proofs.PathsLemmas.{itself}
-use Rattle.fc_image.proofs.RelistLemmas.{apart_behind, edited_apart_law, relisting_law}
+use Rattle.fc_image.proofs.RelistLemmas.{relisting_law}
 use Rattle.fc_image.proofs.RenameLemmas.{child_path}
 use Rattle.fc_image.proofs.RewordLemmas.{other_long, same_long}
-use Rattle.fc_image.proofs.ShuffleLemmas.{IsPermutation-flat_map, flat_map-append, flipped}
+use Rattle.fc_image.proofs.ShuffleLemmas.{IsPermutation-flat_map, flipped}
 use Rattle.fc_model.specs.Tree.{holder}
-use Rattle.fc_effects.specs.Steady.{has_new_holder, is_idle, is_given_back, is_left_by_growth}
-use Rattle.fc_changes.proofs.BasicLemmas.{any_in, cases_cons, clash, first_in, in_any, in_flat, next_in, nothing_in, or_left, or_second, unless}
+use Rattle.fc_effects.specs.Steady.{has_new_holder}
+use Rattle.fc_changes.proofs.BasicLemmas.{clash, first_in, next_in, or_left, unless}
 use Rattle.fc_changes.proofs.BeforeLemmas.{boot_stays, chosen_copies, map_of_new, other_path}
 use Rattle.fc_changes.proofs.ChangeLemmas.{opened}
-use Rattle.fc_changes.proofs.OutsideLemmas.{AreBusy, both_busy, low_owned, object_busy, owned_busy}
+use Rattle.fc_changes.proofs.OutsideLemmas.{AreBusy, both_busy, object_busy}
 use Rattle.fc_changes.proofs.ReadsLemmas.{lies_in, reads_back}
-use Rattle.fc_changes.proofs.SpaceLemmas.{no_runs, not_given, still_owned}
-
-use Rattle.fc_growths.specs.Grown.{AreWrittenFor, GrowsThere, HasRoot, IsWrittenFor, NewPlace, TakesSpace, at_place, grown_says, zone0_with}
-use Rattle.fc_growths.proofs.BasicLemmas.{among_flat, pick}
-use Rattle.fc_growths.proofs.SpaceLemmas.{Growing, after, dir_listed, alone_not_two, form_now, form_stays, grown, grown_owned, grown_owns, its, its_high, its_taken, its_was, l_directory, l_high, l_in, l_object, l_owned, left_alone, left_elsewhere, left_there, lies, none_same, old_id, owned_by, owner_id, owner_used, owns, runs_same, says_before, stay_after, stay_at, stay_in, stay_places, top, was, zones_now}
-use Rattle.fc_growths.proofs.ObjectLemmas.{apart_before, child_object, entries_grown, g, g_all, g_at, g_itself, g_kept, g_stays, grown_apart, kid_other, listed_object, old_apart, one_of_both, same_object, some_now, stay_other, stays}
-
+use Rattle.fc_growths.specs.Grown.{AreWrittenFor, IsWrittenFor, grown_says}
+use Rattle.fc_growths.proofs.BasicLemmas.{pick}
+use Rattle.fc_growths.proofs.SpaceLemmas.{Growing, after, dir_listed, form_now, form_stays, grown, l_directory, l_in, l_object, lies, says_before, stay_at, stay_in, stay_places, top, was}
+use Rattle.fc_growths.proofs.ObjectLemmas.{child_object, entries_grown, g, g_all, g_at, g_itself, g_kept, g_stays, grown_apart, kid_other, listed_object, old_apart, same_object, stay_other, stays}
 -- what is known of the new object, and of what the grown directory lists
-use Rattle.fc_growths.proofs.OpeningLemmas.{NewObject, after_fixed, apart_now, both_apart, grown_busy, grown_free, o_busy, o_free, runs_fixed}
+use Rattle.fc_growths.proofs.OpeningLemmas.{NewObject, after_fixed, apart_now, grown_busy, grown_free, o_busy, o_free, runs_fixed}
 
 module _ (e : Growing) (n : NewObject e) where
   abbrev pub rest : List Listing
@@ -240,9 +231,9 @@ module _ (e : Growing) (n : NewObject e) where
   keep_says k at =
       let old = says_before e k (keep_in k at) in (
         subst (λ (bs : List ℕ). directory_of (dir_form (Layout.New e.m')) bs ≡ Ok k.content) (sym (file_stays e.m e.m' e.image e.image' k.object e.is.map.geometry (keep_stored k at)))
-        (subst (λ (f : NameForm). directory_of f (object_bytes e.image (Layout.New e.m) k.object) ≡ Ok k.content) (form_stays e) old.0),
+            (subst (λ (f : NameForm). directory_of f (object_bytes e.image (Layout.New e.m) k.object) ≡ Ok k.content) (form_stays e) old.0),
         entries_law.placed (Layout.New e.m) (Layout.New e.m') k.object.path (entries_of k.content) k.children old.1
-        (λ p child. stay_at e p (stays e p (child_object e k p (keep_in k at) child) (keep_children k at p child))),
+            (λ p child. stay_at e p (stays e p (child_object e k p (keep_in k at) child) (keep_children k at p child))),
       )
 
   again_says : (k k' : Listing) → Contains e.again k → IsWrittenFor e.image' (opened e.kind e.m e.ls) e.m' e.c e.l.object e.place k k' → IsListing (reader_of e.image' (Layout.New e.m')) (Layout.New e.m') k'
@@ -253,8 +244,8 @@ module _ (e : Growing) (n : NewObject e) where
       (λ p child. g_at e p (child_object e k p (again_in k at) child)) in (
         subst (λ (x : Object). reader_of e.image' (Layout.New e.m') x ≡ Ok k'.content) (sym w.object) (subst (λ (f : NameForm). directory_of f (object_bytes e.image' (Layout.New e.m') k.object) ≡ Ok k'.content) (form_stays e) reads),
         subst (λ (x : Object). AreChildren (Layout.New e.m') x.path (entries_of k'.content) k'.children) (sym w.object)
-        (subst (λ (es : List Entry). AreChildren (Layout.New e.m') k.object.path es k'.children) (sym (w.entries ∙ entries_grown k.object.path e.l.object e.place (entries_of k.content)))
-        (subst (λ (ps : List Object). AreChildren (Layout.New e.m') k.object.path (map (grown_entry e.l.object.path e.place.address e.place.len k.object.path) (entries_of k.content)) ps) (sym w.children) lists)),
+            (subst (λ (es : List Entry). AreChildren (Layout.New e.m') k.object.path es k'.children) (sym (w.entries ∙ entries_grown k.object.path e.l.object e.place (entries_of k.content)))
+            (subst (λ (ps : List Object). AreChildren (Layout.New e.m') k.object.path (map (grown_entry e.l.object.path e.place.address e.place.len k.object.path) (entries_of k.content)) ps) (sym w.children) lists)),
       )
 
   keep_listed : (ks : List Listing) → ((k : Listing) → Contains ks k → Contains e.keep k) → AreListedBy (g e) ks ks × StayListed (reader_of e.image' (Layout.New e.m')) (Layout.New e.m') ks
@@ -315,8 +306,10 @@ module _ (e : Growing) (n : NewObject e) where
       (IsPermutation-trans ((top e).root ∷ kept) (objects_of e.ls) (e.l.object ∷ e.stay) (IsPermutation-sym (objects_of e.ls) ((top e).root ∷ kept) objects_cut) e.is.others)))
 
   fixed : (k : ℕ) → is_movable (objects_of e.ls) k ≡ false → is_used e.m k ≡ true → (id_runs e.m' k ≡ id_runs e.m k) × (is_movable (e.o ∷ map (g e) ((top e).root ∷ kept)) k ≡ false)
-  fixed k still used = (runs_fixed e n k still used,
-      ap (λ (b : Bool). ((k == 2) || b) && nat_le 3 k) (list_any-IsPermutation (is_owner_of k) (e.o ∷ map (g e) ((top e).root ∷ kept)) (after e) now_cut) ∙ after_fixed e n k still used)
+  fixed k still used = (
+    runs_fixed e n k still used,
+    ap (λ (b : Bool). ((k == 2) || b) && nat_le 3 k) (list_any-IsPermutation (is_owner_of k) (e.o ∷ map (g e) ((top e).root ∷ kept)) (after e) now_cut) ∙ after_fixed e n k still used,
+  )
 
   pub listings_now : List Listing
   listings_now = n.into ++ l' ∷ rest'

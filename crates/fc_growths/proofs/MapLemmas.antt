@@ -1,11 +1,11 @@
 -- From edits of a map to what growth owes of it.
-use Rattle.std.proofs.Common.{◌≡◌, ◌<◌, ◌≤◌, ◌⊎◌, inl, inr, ℕ, zero, suc, ◌+◌, ◌-◌, ◌*◌, ◌^◌, Bool, true, false, cond, List, [], ◌∷◌, ◌++◌, length, take, drop, refl, sym, ap, ap₂, subst, ◌∙◌, arith, Some, None, Option, eq-eqb, get_or-set_same, get_or-set_other}
+use Rattle.std.proofs.Common.{◌≡◌, ◌<◌, ◌≤◌, ◌⊎◌, inl, inr, ℕ, zero, suc, ◌+◌, ◌-◌, ◌^◌, Bool, true, false, cond, List, [], ◌∷◌, ◌++◌, length, take, drop, refl, sym, ap, ap₂, subst, ◌∙◌, arith, Some, None, Option, eq-eqb, get_or-set_same, get_or-set_other}
 use Rattle.std.specs.Prelude.{Contains, IsPermutation, IfSome, filter, slice_index, slice_range, ◌==◌}
 use Rattle.std.specs.List.{AllByRecursion}
 use Rattle.std.proofs.lemmas.Bool.{eqb-true}
 use Rattle.std.proofs.lemmas.List.{drop-drop}
 use Rattle.fc_bytes.specs.Bits.{bits, num}
-use Rattle.fc_bytes.specs.BitLaws.{bits-drop, bits-take, length-bits}
+use Rattle.fc_bytes.specs.BitLaws.{bits-drop, bits-take}
 use Rattle.fc_record.specs.declared.Geometry.{Geometry}
 use Rattle.fc_record.specs.Record.{first_bit}
 use Rattle.fc_record.specs.Kinds.{map_record}
@@ -19,7 +19,6 @@ use Rattle.fc_newmap.specs.Map.{Map, ZoneRun, all_runs, has_id, hole_runs, id_ru
 use Rattle.fc_newmap.specs.Edits.{AreEdits, KeepsRuns}
 use Rattle.fc_newmap.specs.NewMap.{IsNewMap}
 use Rattle.fc_newmap.specs.RunsLaw.{placed}
-use Rattle.fc_newmap.proofs.GeometryLemmas.{header_high}
 use Rattle.fc_newmap.proofs.HeldLemmas.{geometry_facts}
 use Rattle.fc_newmap.proofs.RootLemmas.{root_back, root_front, root_long}
 use Rattle.fc_copies.specs.Copies.{CommitEnds, HoldsCopies}
@@ -29,14 +28,12 @@ use Rattle.fc_effects.specs.Placed.{holes_left}
 use Rattle.fc_effects.specs.Steady.{KeepsOrWritesLinks, ZoneSteady, has_id_that, holes_with, runs_that, zone_holes}
 use Rattle.fc_plan.specs.declared.plan.Plan.{Plan}
 use Rattle.fc_plan.specs.Applied.{IsOther, IsTakenIn, id_in, parts_in, unless_gone}
-use Rattle.fc_plan.specs.Parts.{fronts}
 use Rattle.fc_plan.specs.Giving.{is_one_of}
 use Rattle.fc_plan.specs.Taking.{as_runs}
-use Rattle.fc_changes.specs.Owed.{IsMapAfter}
 use Rattle.fc_changes.proofs.CommittedLemmas.{committed_law, index_part, same_part}
 use Rattle.fc_changes.proofs.BasicLemmas.{clash, unless}
 use Rattle.fc_growths.specs.Grown.{IsGrowthSpace, IsMapGrown, NewPlace, zone0_with, zone_with}
-use Rattle.fc_growths.specs.Maps.{HasApplied, HasParts, rooted_map}
+use Rattle.fc_growths.specs.Maps.{HasApplied, HasParts}
 
 -- ---- maps with the same runs
 
@@ -213,11 +210,13 @@ module _ (m mid m' : Map) (o : Object) (place : NewPlace) (start image' : List �
             → AllByRecursion (λ at. first_bit z ≤ at) ats
             → AllByRecursion (λ at. (Contains (hole_starts (runs_of m z)) at × (field_at (shape m.geometry z) (bits (sector_of m' z)) at ≡ field_at (shape m.geometry z) (bits (sector_of m z)) at)) ⊎ (field_at (shape m.geometry z) (bits (sector_of m' z)) at < 2 ^ 15)) ats
         each [] a h = tt
-        each (at ∷ ats) a h =
-            (elim a.0 [
-              | inl was ↦ inl (subst (λ (runs : List Run). Contains (hole_starts runs) at) (kept.runs z) was.0, was.1 ∙ field_by z at h.0)
-              | inr small ↦ inr small
-            ], each ats a.1 h.1)
+        each (at ∷ ats) a h = (
+          elim a.0 [
+            | inl was ↦ inl (subst (λ (runs : List Run). Contains (hole_starts runs) at) (kept.runs z) was.0, was.1 ∙ field_by z at h.0)
+            | inr small ↦ inr small
+          ],
+          each ats a.1 h.1,
+        )
           where
             field_by : (k a : ℕ) → first_bit k ≤ a → field_at (shape m.geometry k) (bits (sector_of (first b) k)) a ≡ field_at (shape m.geometry k) (bits (sector_of m k)) a
             field_by zero a from = field_first b zero a from

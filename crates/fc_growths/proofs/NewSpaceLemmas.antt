@@ -1,10 +1,8 @@
 -- Where a new file lies whose directory grows.
-use Rattle.std.proofs.Common.{◌≡◌, ◌<◌, ◌≤◌, inl, inr, ℕ, zero, suc, ◌+◌, ◌-◌, ◌*◌, ◌/◌, ◌%◌, Bool, true, false, cond, List, [], ◌∷◌, ◌++◌, length, map, refl, sym, ap, ap₂, subst, ◌∙◌, arith, Some, None, Option, eq-eqb}
-use Rattle.std.specs.Prelude.{Contains, IsPermutation, filter, find, not, is_some, ◌==◌, ◌&&◌, ◌||◌, nat_lt, nat_le}
-use Rattle.std.specs.List.{flat_map, fold, list_all, list_any, range_with_len}
-use Rattle.std.specs.Option.{option_map_or}
-use Rattle.std.proofs.lemmas.Bool.{eqb-true, le-leb, lt-ltb, ltb-true}
-use Rattle.std.proofs.lemmas.List.Sorted.{Contains-permutation, IsPermutation-sym, sum_by-IsPermutation}
+use Rattle.std.proofs.Common.{◌≡◌, ◌<◌, ◌≤◌, inl, inr, ℕ, ◌+◌, ◌-◌, ◌*◌, ◌/◌, ◌%◌, Bool, true, false, cond, List, [], ◌∷◌, length, map, refl, sym, ap, subst, ◌∙◌, arith, Some, None}
+use Rattle.std.specs.Prelude.{Contains, IsPermutation, filter, find, not, ◌==◌, ◌&&◌, nat_lt}
+use Rattle.std.specs.List.{fold, list_all, range_with_len}
+use Rattle.std.proofs.lemmas.List.Sorted.{Contains-permutation, sum_by-IsPermutation}
 use Rattle.fc_names.specs.Names.{Path, is_same_path}
 use Rattle.fc_names.specs.declared.name.NameForm.{NameForm}
 use Rattle.fc_record.specs.declared.Geometry.{Geometry}
@@ -17,14 +15,13 @@ use Rattle.fc_image.specs.Layout.{Layout, dir_form, id_of, is_among, is_apart, l
 use Rattle.fc_image.specs.Walk.{Object, is_directory_object, object_size}
 use Rattle.fc_image.specs.Objects.{has_sectors, is_owned, is_owner_of, objects_of}
 use Rattle.fc_image.specs.Edits.{IsAt}
-use Rattle.fc_image.proofs.EntriesLemmas.{from_filter, in_filter, in_mapped, same_some}
+use Rattle.fc_image.proofs.EntriesLemmas.{in_filter, in_mapped, same_some}
 use Rattle.fc_image.proofs.HolesLemmas.{apart_at}
 use Rattle.fc_image.proofs.MapEditLemmas.{places_law}
 use Rattle.fc_image.proofs.MoveLemmas.{not_true}
 use Rattle.fc_image.proofs.OneZoneLemmas.{and_first, and_second}
 use Rattle.fc_effects.specs.Sharing.{Holding, holding_of, holdings_in, is_shareable, is_spare, may_share_with, new_ids, shares, slack, slack_among, units}
 use Rattle.fc_effects.specs.Placed.{IsNewId, IsTaken, StandsInNewSpace, file_low, first_low, holes_left}
-use Rattle.fc_plan.specs.Plan.{AreApart}
 use Rattle.fc_plan.specs.Taking.{as_runs, with_id}
 use Rattle.fc_plan.proofs.Composed.{left_in_order}
 use Rattle.fc_plan.proofs.Order.{rising_of}
@@ -33,12 +30,12 @@ use Rattle.fc_plan.proofs.Plans.{rising_apart}
 use Rattle.fc_plan.proofs.Shorts.{are_new_ids}
 use Rattle.fc_plan.proofs.Units.{units_some}
 use Rattle.fc_changes.specs.Changed.{IsFileAt, IsInNewSpace, IsInSlack, IsNowhere}
-use Rattle.fc_changes.proofs.BasicLemmas.{any_in, cases_cons, clash, first_in, nothing_in, unless}
+use Rattle.fc_changes.proofs.BasicLemmas.{any_in, cases_cons, clash, first_in, nothing_in}
 use Rattle.fc_changes.proofs.ChangeLemmas.{a_sector}
 use Rattle.fc_changes.proofs.MadeLemmas.{file_low_small}
 use Rattle.fc_changes.proofs.PlacedLemmas.{IsShared, filter_test, found_in, is_shared}
 use Rattle.fc_growths.proofs.ObjectLemmas.{by_map, one_of_both, stays_file}
-use Rattle.fc_growths.proofs.SpaceLemmas.{Growing, form_stays, its, its_elsewhere, l_directory, l_object, l_owns, l_used, new_unused, old_id, owner_id, owned_by, owner_used, owns, sectors_some, some_sector, stay_at, stay_in, stay_runs, was}
+use Rattle.fc_growths.proofs.SpaceLemmas.{Growing, form_stays, its, its_elsewhere, l_directory, l_object, l_owns, l_used, new_unused, old_id, owner_id, owned_by, owner_used, owns, some_sector, stay_at, stay_in, stay_runs, was}
 
 -- ---- in new space
 

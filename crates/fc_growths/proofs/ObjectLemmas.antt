@@ -1,14 +1,13 @@
 -- The objects of a disc of which a directory grows: which is which, and where they lie.
-use Rattle.std.proofs.Common.{◌≡◌, ◌<◌, ◌≤◌, inl, inr, ℕ, suc, Bool, true, false, cond, List, [], ◌∷◌, ◌++◌, length, map, refl, sym, ap, ap₂, subst, ◌∙◌, arith, Some, None, Option}
-use Rattle.std.specs.Prelude.{Ok, Contains, IsPermutation, filter, not, ◌==◌, ◌&&◌, ◌||◌}
-use Rattle.std.specs.List.{flat_map}
+use Rattle.std.proofs.Common.{◌≡◌, ◌<◌, ◌≤◌, inl, inr, ℕ, Bool, true, false, cond, List, [], ◌∷◌, ◌++◌, length, map, refl, sym, ap, ap₂, subst, ◌∙◌, arith, Some, Option}
+use Rattle.std.specs.Prelude.{Contains, filter, not, ◌==◌}
 use Rattle.std.specs.Option.{option_map_or}
-use Rattle.std.proofs.lemmas.Bool.{eqb-true, le-leb}
-use Rattle.std.proofs.lemmas.List.Sorted.{Contains-permutation, IsPermutation-sym}
+use Rattle.std.proofs.lemmas.Bool.{eqb-true}
+use Rattle.std.proofs.lemmas.List.Sorted.{Contains-permutation}
 use Rattle.fc_names.specs.Names.{Path, is_same_path}
 use Rattle.fc_names.specs.declared.name.NameForm.{NameForm}
 use Rattle.fc_record.specs.declared.Geometry.{Geometry}
-use Rattle.fc_newmap.specs.Map.{Map, id_runs, is_used}
+use Rattle.fc_newmap.specs.Map.{Map, id_runs}
 use Rattle.fc_newmap.specs.RunsLaw.{IsGeometry}
 use Rattle.fc_dirs.specs.declared.Entry.{Entry}
 use Rattle.fc_dirs.specs.Directory.{entries_of}
@@ -17,7 +16,6 @@ use Rattle.fc_image.specs.Walk.{Listing, Object, is_directory_object, object_byt
 use Rattle.fc_image.specs.Objects.{is_owned, is_owner_of, objects_of}
 use Rattle.fc_image.specs.Opening.{reserved_in}
 use Rattle.fc_image.specs.Edits.{Apart, IsAt}
-use Rattle.fc_image.specs.Order.{held}
 use Rattle.fc_image.specs.Growths.{grown_entry, grown_object}
 use Rattle.fc_image.specs.Commanded.{IsKept}
 use Rattle.fc_image.proofs.CommandLemmas.{both_ways, same_by_folds}
@@ -26,7 +24,7 @@ use Rattle.fc_image.proofs.EntriesLemmas.{in_filter, same_some}
 use Rattle.fc_image.proofs.GrowthLemmas.{beside, others_stay}
 use Rattle.fc_image.proofs.HolesLemmas.{apart_at, in_id}
 use Rattle.fc_image.proofs.LookupLemmas.{lookup_law}
-use Rattle.fc_image.proofs.MapEditLemmas.{held_in, places_law}
+use Rattle.fc_image.proofs.MapEditLemmas.{places_law}
 use Rattle.fc_image.proofs.MoveLemmas.{one_id}
 use Rattle.fc_image.proofs.OneZoneLemmas.{and_second}
 use Rattle.fc_image.proofs.OrderLemmas.{apart_shuffled, order_law}
@@ -36,14 +34,14 @@ use Rattle.fc_image.proofs.RewordLemmas.{other_long}
 use Rattle.fc_image.proofs.TreeLemmas.{folds_alike}
 use Rattle.fc_effects.specs.Short.{sectors_of_others}
 use Rattle.fc_effects.specs.Steady.{regrown_entry}
-use Rattle.fc_changes.proofs.BasicLemmas.{cases_cons, clash, first_in, long_pushed, next_in, nothing_in, unless}
+use Rattle.fc_changes.proofs.BasicLemmas.{cases_cons, clash, first_in, long_pushed, next_in, unless}
 use Rattle.fc_changes.proofs.BeforeLemmas.{child_in, listed_in, sound}
 use Rattle.fc_changes.proofs.ChangeLemmas.{opened}
 use Rattle.fc_changes.proofs.RenamedLemmas.{each_apart}
 use Rattle.fc_changes.proofs.SpaceLemmas.{still_owned}
 use Rattle.fc_growths.specs.Grown.{GrowsThere, NewPlace, TakesSpace, at_place}
 use Rattle.fc_growths.proofs.BasicLemmas.{among_flat, pick}
-use Rattle.fc_growths.proofs.SpaceLemmas.{Growing, after, form_stays, grown, grown_owned, grown_size, its, its_alone_now, l_directory, l_in, l_object, l_used, len_some, left_there, lies, old_id, owns, runs_same, says_before, stay_at, stay_in, top, was, zones_now}
+use Rattle.fc_growths.proofs.SpaceLemmas.{Growing, after, form_stays, grown, grown_owned, grown_size, its, its_alone_now, l_directory, l_in, l_object, l_used, len_some, left_there, old_id, owns, runs_same, says_before, stay_at, stay_in, was, zones_now}
 
 -- paths are the same from either side
 pub same_turned : (p q : Path) → is_same_path p q ≡ is_same_path q p

@@ -1,58 +1,33 @@
 -- The new image opens after a directory has grown.
-use Rattle.std.proofs.Common.{◌≡◌, ◌<◌, ◌≤◌, ◌⊎◌, inl, inr, ℕ, suc, ◌+◌, Bool, true, false, cond, List, [], ◌∷◌, ◌++◌, length, map, refl, sym, ap, ap₂, subst, ◌∙◌, arith, Some, None, Option, eq-eqb, length-append}
-use Rattle.std.specs.Prelude.{Ok, Err, Contains, IsPermutation, filter, not, ◌==◌, ◌&&◌, ◌||◌, nat_le}
-use Rattle.std.specs.List.{flat_map, list_any}
+use Rattle.std.proofs.Common.{◌≡◌, ◌<◌, ◌≤◌, inl, inr, ℕ, Bool, true, false, List, [], ◌∷◌, ◌++◌, length, refl, sym, ap, ap₂, subst, ◌∙◌, arith, eq-eqb}
+use Rattle.std.specs.Prelude.{Contains, IsPermutation, filter, ◌==◌, ◌&&◌, ◌||◌, nat_le}
+use Rattle.std.specs.List.{list_any}
 use Rattle.std.proofs.lemmas.Bool.{eqb-true, le-leb, leb-true}
-use Rattle.std.proofs.lemmas.List.{append_assoc}
 use Rattle.std.proofs.lemmas.List.Elements.{Contains-append_cases, Contains-append_left, Contains-append_right}
-use Rattle.std.proofs.lemmas.List.Sorted.{Contains-permutation, IsPermutation-append_left, IsPermutation-append_right, IsPermutation-cons, IsPermutation-map, IsPermutation-refl, IsPermutation-sym, IsPermutation-trans, length_permutation, list_any-IsPermutation}
-use Rattle.fc_names.specs.Names.{Path, is_same_path}
-use Rattle.fc_names.specs.declared.name.NameForm.{NameForm}
-use Rattle.fc_names.specs.declared.name.NameForm.TheVariants.{Long}
-use Rattle.fc_record.specs.declared.DiscRecord.{DiscRecord}
-use Rattle.fc_record.specs.declared.Geometry.{Geometry}
-use Rattle.fc_record.specs.Kinds.{map_record}
 use Rattle.fc_zone.specs.declared.RunKind.{RunKind}
 use Rattle.fc_zone.specs.declared.RunKind.TheVariants as kinds
-use Rattle.fc_newmap.specs.Map.{Map, ZoneRun, all_runs, has_id, id_runs, is_used, map_sectors, sector_of, with_root}
-use Rattle.fc_newmap.proofs.PlaceLemmas.{filter_in, held_in, holder_of, in_either, in_front}
-use Rattle.fc_dirs.specs.declared.Entry.{Entry}
-use Rattle.fc_dirs.specs.Directory.{Directory, directory_of, directory_size, entries_of}
-use Rattle.fc_image.specs.Layout.{Layout, dir_form, id_of, id_sectors, is_among, is_apart, map_place}
-use Rattle.fc_image.specs.Walk.{Listing, Object, is_directory_object, object_bytes, reader_of, root_entry}
+use Rattle.fc_newmap.specs.Map.{ZoneRun, all_runs, has_id, id_runs, is_used}
+use Rattle.fc_newmap.proofs.PlaceLemmas.{filter_in, held_in, holder_of}
+use Rattle.fc_dirs.specs.Directory.{entries_of}
+use Rattle.fc_image.specs.Layout.{Layout, id_of, is_among, is_apart}
+use Rattle.fc_image.specs.Walk.{Listing, Object, reader_of}
 use Rattle.fc_image.specs.Objects.{is_movable, is_owned, is_owner_of, objects_of}
-use Rattle.fc_image.specs.Opening.{agreement, boot_place, difference, is_hole_or_movable, reserved_in}
-use Rattle.fc_image.specs.Stays.{HasSectorsOf}
-use Rattle.fc_image.specs.Edits.{Apart, AreChildren, IsAt, IsListing, IsRoot, StayListed}
-use Rattle.fc_image.specs.EditedWalk.{AreListedBy}
-use Rattle.fc_image.specs.MapEdits.{IsMapEdit, OpensEdited}
+use Rattle.fc_image.specs.Opening.{is_hole_or_movable, reserved_in}
+use Rattle.fc_image.specs.Edits.{Apart, AreChildren, IsAt, StayListed}
 use Rattle.fc_image.specs.Order.{directories, held, listed}
-use Rattle.fc_image.specs.TreeEdits.{IsObjectEdit}
-use Rattle.fc_image.proofs.EntriesLemmas.{entries_law, in_filter}
-use Rattle.fc_image.proofs.GrowthLemmas.{beside, children_grown}
-use Rattle.fc_image.proofs.HolesLemmas.{apart_at, apart_from, in_id, loose_sectors, none_loose}
-use Rattle.fc_image.proofs.MapEditLemmas.{file_stays, held_in as child_held, known_root, map_edit_law}
+use Rattle.fc_image.proofs.EntriesLemmas.{in_filter}
+use Rattle.fc_image.proofs.HolesLemmas.{apart_from, in_id, loose_sectors, none_loose}
 use Rattle.fc_image.proofs.MoveLemmas.{id_loose, loose_before}
-use Rattle.fc_image.proofs.OrderLemmas.{apart_shuffled, stay_append}
+use Rattle.fc_image.proofs.OrderLemmas.{apart_shuffled}
 use Rattle.fc_image.proofs.OneZoneLemmas.{and_first, and_second}
-use Rattle.fc_image.proofs.PathsLemmas.{itself}
-use Rattle.fc_image.proofs.RelistLemmas.{apart_behind, edited_apart_law, relisting_law}
-use Rattle.fc_image.proofs.RenameLemmas.{child_path}
-use Rattle.fc_image.proofs.RewordLemmas.{other_long, same_long}
-use Rattle.fc_image.proofs.ShuffleLemmas.{IsPermutation-flat_map, flat_map-append, flipped}
-use Rattle.fc_model.specs.Tree.{holder}
-use Rattle.fc_effects.specs.Steady.{has_new_holder, is_idle, is_given_back, is_left_by_growth}
-use Rattle.fc_changes.proofs.BasicLemmas.{any_in, cases_cons, clash, first_in, in_any, in_flat, next_in, nothing_in, or_left, or_second, unless}
-use Rattle.fc_changes.proofs.BeforeLemmas.{boot_stays, chosen_copies, map_of_new, other_path}
+use Rattle.fc_image.proofs.RelistLemmas.{apart_behind, edited_apart_law}
+use Rattle.fc_effects.specs.Steady.{is_idle, is_given_back, is_left_by_growth}
+use Rattle.fc_changes.proofs.BasicLemmas.{any_in, cases_cons, clash, first_in, in_any, next_in, unless}
 use Rattle.fc_changes.proofs.ChangeLemmas.{opened}
-use Rattle.fc_changes.proofs.OutsideLemmas.{AreBusy, both_busy, low_owned, object_busy, owned_busy}
-use Rattle.fc_changes.proofs.ReadsLemmas.{lies_in, reads_back}
+use Rattle.fc_changes.proofs.OutsideLemmas.{AreBusy, low_owned, owned_busy}
 use Rattle.fc_changes.proofs.SpaceLemmas.{no_runs, not_given, still_owned}
-
-use Rattle.fc_growths.specs.Grown.{AreWrittenFor, GrowsThere, HasRoot, IsWrittenFor, NewPlace, TakesSpace, at_place, grown_says, zone0_with}
-use Rattle.fc_growths.proofs.BasicLemmas.{among_flat, pick}
-use Rattle.fc_growths.proofs.SpaceLemmas.{Growing, after, alone_not_two, form_now, form_stays, grown, grown_owned, grown_owns, its, its_high, its_taken, its_was, l_directory, l_high, l_in, l_object, l_owned, left_alone, left_elsewhere, left_there, lies, none_same, old_id, owned_by, owner_id, owner_used, owns, runs_same, says_before, stay_after, stay_at, stay_in, stay_places, top, was, zones_now}
-use Rattle.fc_growths.proofs.ObjectLemmas.{apart_before, child_object, entries_grown, g, g_all, g_at, g_itself, g_kept, g_stays, grown_apart, kid_other, listed_object, old_apart, one_of_both, same_object, some_now, stay_other, stays}
+use Rattle.fc_growths.proofs.SpaceLemmas.{Growing, after, grown, grown_owns, its, its_high, its_taken, its_was, l_owned, left_alone, left_elsewhere, left_there, lies, none_same, old_id, owned_by, owner_id, owns, runs_same, stay_in, was, zones_now}
+use Rattle.fc_growths.proofs.ObjectLemmas.{apart_before, grown_apart, one_of_both, some_now}
 
 -- what is known of the new object, and of what the grown directory lists
 pub record NewObject (e : Growing) : Type 0 where
@@ -107,9 +82,10 @@ module _ (e : Growing) (n : NewObject e) where
     | inl there ↦ absurd (clash (is_left_by_growth (opened e.kind e.m e.ls) e.c k) left (left_there e there k))
     | inr moves ↦ (elim moves [
       | inl a ↦
-          (let k_is : old_id e ≡ k = eqb-true (old_id e) k (sym (left_alone e a k) ∙ left) in
-          (subst (λ (j : ℕ). is_owned (objects_of e.ls) j ≡ true) k_is (l_owned e),
-          subst (λ (j : ℕ). 3 ≤ j) (ap id_of a.address ∙ k_is) (its_high e)))
+          (let k_is : old_id e ≡ k = eqb-true (old_id e) k (sym (left_alone e a k) ∙ left) in (
+            subst (λ (j : ℕ). is_owned (objects_of e.ls) j ≡ true) k_is (l_owned e),
+            subst (λ (j : ℕ). 3 ≤ j) (ap id_of a.address ∙ k_is) (its_high e),
+          ))
       | inr x ↦ absurd (clash (is_left_by_growth (opened e.kind e.m e.ls) e.c k) left (left_elsewhere e x k))
     ])
   ]

@@ -1,37 +1,29 @@
 -- What a command that makes a directory grow promises of directories, the map, and what lies outside.
-use Rattle.std.proofs.Common.{◌≡◌, ◌<◌, ◌≤◌, ◌⊎◌, inl, inr, ℕ, suc, ◌+◌, Bool, true, false, cond, List, [], ◌∷◌, ◌++◌, length, map, drop, refl, sym, ap, ap₂, subst, ◌∙◌, arith, Some, None, Option, eq-eqb, ◌*◌, ◌%◌}
-use Rattle.std.specs.Prelude.{Ok, Err, Contains, IsPermutation, IsSomeAnd, filter, not, ◌==◌, ◌&&◌, ◌||◌, IfSome}
-use Rattle.std.specs.List.{flat_map, list_any}
-use Rattle.std.specs.Option.{option_and_then, option_map_or}
+use Rattle.std.proofs.Common.{◌≡◌, ◌<◌, ◌≤◌, inl, inr, ℕ, Bool, true, false, cond, List, [], ◌∷◌, ◌++◌, length, map, drop, refl, sym, ap, ap₂, subst, ◌∙◌, arith, Some, Option, eq-eqb, ◌*◌, ◌%◌}
+use Rattle.std.specs.Prelude.{Contains, IsSomeAnd, not, ◌==◌, ◌&&◌, ◌||◌, IfSome}
+use Rattle.std.specs.Option.{option_map_or}
 use Rattle.std.proofs.lemmas.Bool.{eqb-true}
-use Rattle.std.proofs.lemmas.List.{map-append}
 use Rattle.std.proofs.lemmas.List.Elements.{All-nil, All-cons, Contains-append_cases, Contains-append_left, Contains-append_right}
-use Rattle.std.proofs.lemmas.List.Sorted.{Contains-permutation, IsPermutation-append_left, IsPermutation-cons, IsPermutation-sym, IsPermutation-trans}
+use Rattle.std.proofs.lemmas.List.Sorted.{Contains-permutation, IsPermutation-sym}
 use Rattle.fc_device.specs.Sectors.{sector_at}
 use Rattle.fc_names.specs.Names.{Path, is_same_path}
 use Rattle.fc_record.specs.Kinds.{disc_size}
-use Rattle.fc_newmap.specs.Map.{Map, ZoneRun, hole_runs, id_runs, is_used, sector_of, with_root, all_runs, has_id}
+use Rattle.fc_newmap.specs.Map.{ZoneRun, hole_runs, id_runs, is_used, sector_of, with_root, all_runs, has_id}
 use Rattle.fc_newmap.proofs.PlaceLemmas.{in_back, id_run_in}
 use Rattle.fc_model.specs.Tree.{holder}
-use Rattle.fc_model.specs.Command.{Command}
 use Rattle.fc_dirs.specs.declared.Entry.{Entry}
 use Rattle.fc_dirs.specs.Directory.{Directory, entries_of}
 use Rattle.fc_image.specs.Layout.{Layout, id_of, is_among, low_of}
 use Rattle.fc_image.specs.Report.{holder_address}
 use Rattle.fc_image.specs.Walk.{Listing, Object, object_bytes}
 use Rattle.fc_image.specs.Objects.{is_lost, is_owned, is_owner_of, listing_at, object_at, objects_of}
-use Rattle.fc_image.specs.Opening.{Opened, boot_place}
+use Rattle.fc_image.specs.Opening.{boot_place}
 use Rattle.fc_image.specs.Stays.{HasSectorsOf}
-use Rattle.fc_image.specs.EditedWalk.{AreListedBy}
-use Rattle.fc_image.specs.Order.{directories, held, listed}
-use Rattle.fc_image.specs.Sound.{AreSound}
-use Rattle.fc_image.proofs.EntriesLemmas.{from_map, same_some, in_mapped}
-use Rattle.fc_image.proofs.GrowthLemmas.{beside}
+use Rattle.fc_image.proofs.EntriesLemmas.{in_mapped}
 use Rattle.fc_image.proofs.LookupLemmas.{lookup_law}
 use Rattle.fc_image.proofs.MapEditLemmas.{file_stays}
 use Rattle.fc_image.proofs.PathsLemmas.{itself}
 use Rattle.fc_image.proofs.RewordLemmas.{other_long}
-use Rattle.fc_image.proofs.ShuffleLemmas.{IsPermutation-flat_map, flat_map-append, flipped}
 use Rattle.fc_plan.proofs.Composed.{left_in_order}
 use Rattle.fc_plan.proofs.Order.{rising_of}
 use Rattle.fc_plan.proofs.Plans.{rising_apart}
@@ -40,24 +32,22 @@ use Rattle.fc_plan.proofs.Two.{given_back}
 use Rattle.fc_plan.specs.Giving.{is_one_of}
 use Rattle.fc_effects.specs.Sharing.{units}
 use Rattle.fc_effects.specs.Short.{Growth, growth_in, is_alone, moved_growth, object_units}
-use Rattle.fc_effects.specs.Placed.{GrowthPlaced, GrowthPlacedIn, GrownPlaced, IsNewId, IsTaken, KeepsOrGetsId, holes_left, made_object, object_parts}
-use Rattle.fc_effects.specs.Steady.{DirectoriesSteady, DirectorySteady, HasName, IsRewritten, MapOutside, NewMapSteady, SameSectors, ZoneSteady, back_runs, edited, entries_after, expected_zone, gets_parent, goes_back, grown_object, grown_parts, has_grown, has_new_holder, holds_named, holes_untaken, holes_with, idle_sectors, is_gone, is_left_by_growth, is_renamed_by, may_be_rewritten, named_entry, path_after, regrown_entry, zone0_after, zone_holes, AreWritten, is_given_back, runs_that}
+use Rattle.fc_effects.specs.Placed.{GrowthPlaced, GrowthPlacedIn, IsNewId, IsTaken, KeepsOrGetsId, holes_left, made_object, object_parts}
+use Rattle.fc_effects.specs.Steady.{DirectoriesSteady, DirectorySteady, HasName, IsRewritten, MapOutside, NewMapSteady, SameSectors, ZoneSteady, back_runs, edited, entries_after, expected_zone, gets_parent, grown_parts, has_grown, has_new_holder, holds_named, holes_with, idle_sectors, is_left_by_growth, is_renamed_by, named_entry, path_after, regrown_entry, zone0_after, zone_holes, AreWritten, is_given_back, runs_that}
 use Rattle.fc_changes.proofs.AfterLemmas.{behind_stays}
-use Rattle.fc_changes.proofs.BasicLemmas.{any_in, cases_cons, clash, first_in, long_pushed, map_same, next_in, nothing_in, or_left, unless}
-use Rattle.fc_changes.proofs.BeforeLemmas.{Had, HeldBy, address_by, had, held_by, listed_in, sound}
-use Rattle.fc_changes.proofs.ChangeLemmas.{opened}
+use Rattle.fc_changes.proofs.BasicLemmas.{any_in, cases_cons, clash, first_in, long_pushed, map_same, or_left, unless}
 use Rattle.fc_changes.proofs.DirectoriesLemmas.{IsPlain}
 use Rattle.fc_changes.proofs.OutsideLemmas.{idle_stay, no_owner_low}
-use Rattle.fc_changes.proofs.ReadsLemmas.{lies_in, other_dir}
+use Rattle.fc_changes.proofs.ReadsLemmas.{lies_in}
 use Rattle.fc_changes.proofs.SpaceLemmas.{given_same, no_runs, not_given, not_used, owned_same, still_owned}
 use Rattle.fc_plan.specs.Plan.{AreApart}
 use Rattle.fc_plan.specs.Taking.{as_runs, with_id}
-use Rattle.fc_growths.specs.Grown.{AreWrittenFor, GrowsAlone, GrowsElsewhere, GrowsThere, IsWrittenFor, NewPlace, TakesSpace, at_place, holder_now, zone_with}
-use Rattle.fc_growths.proofs.SpaceLemmas.{Growing, after, alone_not_two, grown, grown_owned, grown_owns, its, its_alone, its_elsewhere, its_high, its_taken, l_in, l_object, l_owned, left_alone, left_elsewhere, left_there, lies, moved_none, moved_some, none_same, old_id, owned_by, parts_some, runs_same, top, was}
-use Rattle.fc_growths.proofs.ObjectLemmas.{g, g_all, g_itself, g_stays, kid_other, listed_object, same_object, same_turned, some_now, stay_other}
+use Rattle.fc_growths.specs.Grown.{IsWrittenFor, TakesSpace, zone_with}
+use Rattle.fc_growths.proofs.SpaceLemmas.{Growing, after, grown, grown_owned, its, its_elsewhere, its_high, its_taken, l_in, lies, moved_none, moved_some, none_same, owned_by, parts_some, runs_same, was}
+use Rattle.fc_growths.proofs.ObjectLemmas.{same_turned, some_now}
 use Rattle.fc_growths.proofs.OpeningLemmas.{NewObject, left_owned}
-use Rattle.fc_growths.proofs.ListingsLemmas.{Rooted, again_in, again_other, all_busy, boot_now, keep_in, keep_other, keep_stored, l', listings_now, now_cut, now_listed, opens_now, rest, rest', rooted, again_sectors}
-use Rattle.fc_growths.proofs.SteadyLemmas.{Now, found, grown_is, grown_there, holder_is, l_there, now_in, now_of, o_there, objects_now, rest_there, sound_now, v, w, written_now}
+use Rattle.fc_growths.proofs.ListingsLemmas.{again_in, again_other, all_busy, boot_now, keep_other, keep_stored, l', opens_now, rest, again_sectors}
+use Rattle.fc_growths.proofs.SteadyLemmas.{grown_is, grown_there, holder_is, l_there, objects_now, rest_there, sound_now, v, w, written_now}
 
 -- some list has all its sectors as before
 all_same : (size : ℕ) (image image' sectors : List ℕ) → HasSectorsOf size sectors image image' → SameSectors size sectors image image'
@@ -282,23 +272,26 @@ module _ (e : Growing) (n : NewObject e) where
       moved : (takes : TakesSpace e.m (objects_of e.ls) e.parts e.l.object e.place) → KeepsOrGetsId (is_alone (objects_of e.ls) e.l.object) e.m e.m' e.l.object (grown e)
           → GrowthPlaced (Layout.New e.m) (Layout.New e.m') (v e n) e.c (made_object (w e n) e.c) (grown e) (Some (e.l.object, e.place.len)) (moved_growth (v e n) e.c)
       moved takes id =
-          subst (λ (q : Option Growth). GrowthPlaced (Layout.New e.m) (Layout.New e.m') (v e n) e.c (made_object (w e n) e.c) (grown e) (Some (e.l.object, e.place.len)) q) (sym (moved_some e takes))
-          (refl, record {
-            id = id;
-            space = subst (λ (k : ℕ). IsTaken e.m.geometry (holes_left (hole_runs e.m) (object_parts e.m e.m' (v e n) e.c (made_object (w e n) e.c))) (units e.m.geometry e.place.len) (id_runs e.m' k)) (sym (its_moved takes))
-                (subst (λ (hs : List ZoneRun). IsTaken e.m.geometry hs (units e.m.geometry e.place.len) (id_runs e.m' e.place.id)) (sym made)
-                (taken_in_order e.m.geometry (holes_left (hole_runs e.m) e.parts) (units e.m.geometry e.place.len) e.place.id e.place.parts (id_runs e.m' e.place.id) (e.is.space.dir (parts_some e takes)) takes.plan.taken));
-            other_id = subst (λ (q : Option Object). IfSome q (λ (o : Object). 0 < object_units e.m (v e n) e.c → id_of o.entry.address ≡ its e → ⊥)) (sym is)
-                (λ some same. n.other (id_of e.o.entry.address) (owns_its some) (sym same));
-          })
+          subst (λ (q : Option Growth). GrowthPlaced (Layout.New e.m) (Layout.New e.m') (v e n) e.c (made_object (w e n) e.c) (grown e) (Some (e.l.object, e.place.len)) q) (sym (moved_some e takes)) (
+            refl,
+            record {
+              id = id;
+              space = subst (λ (k : ℕ). IsTaken e.m.geometry (holes_left (hole_runs e.m) (object_parts e.m e.m' (v e n) e.c (made_object (w e n) e.c))) (units e.m.geometry e.place.len) (id_runs e.m' k)) (sym (its_moved takes))
+                  (subst (λ (hs : List ZoneRun). IsTaken e.m.geometry hs (units e.m.geometry e.place.len) (id_runs e.m' e.place.id)) (sym made)
+                  (taken_in_order e.m.geometry (holes_left (hole_runs e.m) e.parts) (units e.m.geometry e.place.len) e.place.id e.place.parts (id_runs e.m' e.place.id) (e.is.space.dir (parts_some e takes)) takes.plan.taken));
+              other_id = subst (λ (q : Option Object). IfSome q (λ (o : Object). 0 < object_units e.m (v e n) e.c → id_of o.entry.address ≡ its e → ⊥)) (sym is)
+                  (λ some same. n.other (id_of e.o.entry.address) (owns_its some) (sym same));
+            },
+          )
 
       by_place : GrowthPlaced (Layout.New e.m) (Layout.New e.m') (v e n) e.c (made_object (w e n) e.c) (grown e) (Some (e.l.object, e.place.len)) (moved_growth (v e n) e.c)
       by_place = elim e.is.lies [
         | inl there ↦ subst (λ (q : Option Growth). GrowthPlaced (Layout.New e.m) (Layout.New e.m') (v e n) e.c (made_object (w e n) e.c) (grown e) (Some (e.l.object, e.place.len)) q) (sym (moved_none e there)) (refl, there.address)
         | inr moves ↦ (elim moves [
           | inl a ↦ moved a.space (subst (λ (b : Bool). KeepsOrGetsId b e.m e.m' e.l.object (grown e)) (sym a.alone) a.address)
-          | inr x ↦ moved x.space (subst (λ (b : Bool). KeepsOrGetsId b e.m e.m' e.l.object (grown e)) (sym x.not_alone)
-              (subst (λ (k : ℕ). IsNewId e.m e.m' k) (sym (its_elsewhere e x)) (record { free = x.is_new; used = used_now x.space }),
-              ap low_of x.address ∙ (let q : 256 * e.place.id % 256 ≡ 0 = omega arith in q)))
+          | inr x ↦ moved x.space (subst (λ (b : Bool). KeepsOrGetsId b e.m e.m' e.l.object (grown e)) (sym x.not_alone) (
+            subst (λ (k : ℕ). IsNewId e.m e.m' k) (sym (its_elsewhere e x)) (record { free = x.is_new; used = used_now x.space }),
+            ap low_of x.address ∙ (let q : 256 * e.place.id % 256 ≡ 0 = omega arith in q),
+          ))
         ])
       ]

@@ -1,11 +1,11 @@
 -- The record of zone 0 with a new root agrees with that of the kind.
-use Rattle.std.proofs.Common.{◌≡◌, ◌<◌, ◌≤◌, ◌⊎◌, inl, inr, ℕ, zero, suc, ◌+◌, ◌-◌, ◌*◌, ◌/◌, ◌%◌, ◌^◌, Bool, true, false, cond, List, [], ◌∷◌, ◌++◌, length, take, drop, refl, sym, ap, ap₂, subst, ◌∙◌, arith, Some, None, Option, length-append, length-drop, append_assoc, eq-eqb}
-use Rattle.std.specs.Prelude.{Result, Ok, Err, not, slice_index, ◌==◌, ◌&&◌, ◌||◌, nat_le, nat_lt}
+use Rattle.std.proofs.Common.{◌≡◌, ◌<◌, ◌≤◌, ◌⊎◌, inl, inr, ℕ, zero, suc, ◌+◌, ◌-◌, ◌/◌, ◌%◌, ◌^◌, Bool, true, false, cond, List, [], ◌∷◌, ◌++◌, length, take, drop, refl, sym, ap, ap₂, subst, ◌∙◌, arith, Some, None, Option, length-append, length-drop, append_assoc, eq-eqb}
+use Rattle.std.specs.Prelude.{Ok, Err, not, slice_index, ◌==◌, ◌&&◌, ◌||◌, nat_le, nat_lt}
 use Rattle.std.specs.List.{AllByRecursion, find}
 use Rattle.std.proofs.lemmas.List.{length-take-le, drop-drop, take_at, drop_at}
 use Rattle.byteorder.specs.Endian.{little_bytes}
 use Rattle.byteorder.specs.Numbers.{length-bytes_low_first}
-use Rattle.fc_bytes.specs.Words.{bytes_at, u32_at}
+use Rattle.fc_bytes.specs.Words.{bytes_at}
 use Rattle.fc_bigdir.proofs.WrittenEntries.{word_first}
 use Rattle.fc_record.specs.declared.DiscRecord.{DiscRecord}
 use Rattle.fc_record.specs.declared.Kind.{Kind}
@@ -15,8 +15,7 @@ use Rattle.fc_record.specs.Kinds.{IsKind, map_record}
 use Rattle.fc_checks.specs.Checks.{is_big_size}
 use Rattle.fc_newmap.specs.Map.{Map, sector_of, with_root}
 use Rattle.fc_newmap.specs.NewMap.{rooted}
-use Rattle.fc_newmap.proofs.RootLemmas.{root_back, root_front}
-use Rattle.fc_image.specs.declared.ImageFault.{ImageFault}
+use Rattle.fc_newmap.proofs.RootLemmas.{root_front}
 use Rattle.fc_image.specs.declared.ImageFault.TheVariants as faults
 use Rattle.fc_image.specs.Opening.{Opened, agreement, byte_compared, compared_offsets, difference}
 use Rattle.fc_image.specs.Stays.{IsNewKind}

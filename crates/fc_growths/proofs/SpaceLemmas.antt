@@ -1,9 +1,9 @@
 -- The identifiers and the runs of a map after a directory has grown.
-use Rattle.std.proofs.Common.{◌≡◌, ◌<◌, ◌≤◌, ◌⊎◌, inl, inr, ℕ, zero, suc, ◌+◌, ◌-◌, ◌*◌, ◌/◌, Bool, true, false, cond, List, [], ◌∷◌, ◌++◌, length, refl, sym, ap, ap₂, subst, ◌∙◌, arith, Some, None, Option, eq-eqb}
-use Rattle.std.specs.Prelude.{Ok, Contains, IsPermutation, filter, map, not, ◌==◌, ◌&&◌, ◌||◌, nat_le, nat_lt}
-use Rattle.std.specs.List.{flat_map, list_any, fold, range_with_len}
+use Rattle.std.proofs.Common.{◌≡◌, ◌<◌, ◌≤◌, inl, inr, ℕ, ◌+◌, ◌-◌, ◌*◌, ◌/◌, Bool, true, false, cond, List, [], ◌∷◌, ◌++◌, length, refl, sym, ap, ap₂, subst, ◌∙◌, arith, Some, None, Option, eq-eqb}
+use Rattle.std.specs.Prelude.{Ok, Contains, filter, not, ◌==◌, ◌&&◌, ◌||◌, nat_lt}
+use Rattle.std.specs.List.{list_any, range_with_len}
 use Rattle.std.specs.Option.{option_and_then, option_map_or}
-use Rattle.std.proofs.lemmas.Bool.{cases_lt, eqb-true, le-leb, leb-true, lt-ltb}
+use Rattle.std.proofs.lemmas.Bool.{cases_lt, eqb-true, lt-ltb}
 use Rattle.std.proofs.lemmas.List.Sorted.{Contains-permutation, IsPermutation-sym}
 use Rattle.fc_names.specs.Names.{is_directory}
 use Rattle.fc_record.specs.declared.DiscRecord.{DiscRecord}
@@ -12,7 +12,7 @@ use Rattle.fc_record.specs.declared.Kind.{Kind}
 use Rattle.fc_record.specs.Record.{id_limit}
 use Rattle.fc_names.specs.declared.name.NameForm.{NameForm}
 use Rattle.fc_names.specs.declared.name.NameForm.TheVariants.{Long, Ten}
-use Rattle.fc_newmap.specs.Map.{Map, ZoneRun, all_runs, bits_in, has_id, hole_runs, id_runs, is_used}
+use Rattle.fc_newmap.specs.Map.{Map, ZoneRun, all_runs, bits_in, has_id, id_runs, is_used}
 use Rattle.fc_newmap.proofs.PlaceLemmas.{holder_of, id_run_in}
 use Rattle.fc_model.specs.Command.{Command}
 use Rattle.fc_dirs.specs.Directory.{Directory, directory_of, directory_size}
@@ -25,13 +25,12 @@ use Rattle.fc_image.specs.MapEdits.{KeepsPlace}
 use Rattle.fc_newmap.specs.RunsLaw.{HasZones}
 use Rattle.fc_image.proofs.MapEditLemmas.{places_law}
 use Rattle.fc_image.specs.Order.{directories, held, listed}
-use Rattle.fc_image.proofs.EntriesLemmas.{from_map, in_filter, in_mapped}
+use Rattle.fc_image.proofs.EntriesLemmas.{in_filter, in_mapped}
 use Rattle.fc_image.proofs.HolesLemmas.{Lies, OpenMap, in_id}
 use Rattle.fc_image.proofs.OneZoneLemmas.{and_first, and_second}
 use Rattle.fc_plan.proofs.Shorts.{are_new_ids}
 use Rattle.fc_plan.proofs.Units.{units_some}
-use Rattle.fc_effects.specs.Sharing.{new_ids, units}
-use Rattle.fc_effects.specs.Short.{Growth, gain_in, growth_in, has_room, is_alone, moved_growth}
+use Rattle.fc_effects.specs.Short.{Growth, gain_in, has_room, is_alone, moved_growth}
 use Rattle.fc_effects.specs.Steady.{is_given_back, is_left_by_growth}
 use Rattle.fc_plan.specs.Giving.{is_one_of}
 use Rattle.fc_changes.proofs.BasicLemmas.{any_in, cases_cons, clash, first_in, next_in, not_zero, nothing_in, or_second, unless}
@@ -39,9 +38,8 @@ use Rattle.fc_changes.proofs.BeforeLemmas.{Had, had, id_high, listed_in, object_
 use Rattle.fc_changes.proofs.ChangeLemmas.{a_sector, opened}
 use Rattle.fc_changes.proofs.PlacedLemmas.{filter_test}
 use Rattle.fc_changes.proofs.SpaceLemmas.{no_runs, still_owned}
-use Rattle.fc_image.specs.Stays.{IsNewKind, OpensAs}
 use Rattle.fc_image.proofs.MoveLemmas.{not_true}
-use Rattle.fc_growths.specs.Grown.{GivesBackGrown, GrowsAlone, GrowsElsewhere, GrowsThere, IsGrowing, IsGrownAt, NewPlace, TakesSpace, at_place}
+use Rattle.fc_growths.specs.Grown.{GrowsAlone, GrowsElsewhere, GrowsThere, IsGrowing, NewPlace, TakesSpace, at_place}
 use Rattle.fc_growths.proofs.BasicLemmas.{alone_passes, grown_some, read_some}
 
 -- all that is known of a command by which a directory grows

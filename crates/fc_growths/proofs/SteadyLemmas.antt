@@ -1,60 +1,35 @@
 -- What stays after a directory has grown: the directories, the map and what lies outside.
-use Rattle.std.proofs.Common.{◌≡◌, ◌<◌, ◌≤◌, ◌⊎◌, inl, inr, ℕ, suc, ◌+◌, Bool, true, false, cond, List, [], ◌∷◌, ◌++◌, length, map, drop, refl, sym, ap, ap₂, subst, ◌∙◌, arith, Some, None, Option, eq-eqb}
-use Rattle.std.specs.Prelude.{Ok, Err, Contains, IsPermutation, IsSomeAnd, filter, not, ◌==◌, ◌&&◌, ◌||◌}
-use Rattle.std.specs.List.{flat_map, list_any}
-use Rattle.std.specs.Option.{option_and_then, option_map_or}
-use Rattle.std.proofs.lemmas.Bool.{eqb-true}
+use Rattle.std.proofs.Common.{◌≡◌, inl, inr, Bool, true, false, cond, List, [], ◌∷◌, ◌++◌, map, refl, sym, ap, ap₂, subst, ◌∙◌, Some}
+use Rattle.std.specs.Prelude.{Contains, IsPermutation}
+use Rattle.std.specs.Option.{option_and_then}
 use Rattle.std.proofs.lemmas.List.{map-append}
-use Rattle.std.proofs.lemmas.List.Elements.{All-nil, All-cons, Contains-append_cases, Contains-append_left, Contains-append_right}
+use Rattle.std.proofs.lemmas.List.Elements.{Contains-append_cases, Contains-append_left, Contains-append_right}
 use Rattle.std.proofs.lemmas.List.Sorted.{Contains-permutation, IsPermutation-append_left, IsPermutation-cons, IsPermutation-sym, IsPermutation-trans}
-use Rattle.fc_device.specs.Sectors.{sector_at}
 use Rattle.fc_names.specs.Names.{Path, is_same_path}
-use Rattle.fc_record.specs.Kinds.{disc_size}
-use Rattle.fc_newmap.specs.Map.{Map, ZoneRun, hole_runs, id_runs, is_used, sector_of, with_root}
-use Rattle.fc_newmap.proofs.PlaceLemmas.{in_back}
 use Rattle.fc_model.specs.Tree.{holder}
-use Rattle.fc_model.specs.Command.{Command}
-use Rattle.fc_dirs.specs.declared.Entry.{Entry}
-use Rattle.fc_dirs.specs.Directory.{Directory, entries_of}
-use Rattle.fc_image.specs.Layout.{Layout, id_of, is_among}
+use Rattle.fc_image.specs.Layout.{Layout}
 use Rattle.fc_image.specs.Report.{holder_address}
-use Rattle.fc_image.specs.Walk.{Listing, Object, object_bytes}
-use Rattle.fc_image.specs.Objects.{is_lost, is_owned, is_owner_of, listing_at, object_at, objects_of}
-use Rattle.fc_image.specs.Opening.{Opened, boot_place}
-use Rattle.fc_image.specs.Stays.{HasSectorsOf}
+use Rattle.fc_image.specs.Walk.{Listing, Object}
+use Rattle.fc_image.specs.Objects.{object_at, objects_of}
+use Rattle.fc_image.specs.Opening.{Opened}
 use Rattle.fc_image.specs.EditedWalk.{AreListedBy}
 use Rattle.fc_image.specs.Order.{directories, held, listed}
 use Rattle.fc_image.specs.Sound.{AreSound}
 use Rattle.fc_image.proofs.EntriesLemmas.{from_map, same_some}
 use Rattle.fc_image.proofs.GrowthLemmas.{beside}
 use Rattle.fc_image.proofs.LookupLemmas.{lookup_law}
-use Rattle.fc_image.proofs.MapEditLemmas.{file_stays}
 use Rattle.fc_image.proofs.PathsLemmas.{itself}
-use Rattle.fc_image.proofs.RewordLemmas.{other_long}
 use Rattle.fc_image.proofs.ShuffleLemmas.{IsPermutation-flat_map, flat_map-append, flipped}
-use Rattle.fc_plan.proofs.Composed.{left_in_order}
-use Rattle.fc_plan.proofs.Order.{rising_of}
-use Rattle.fc_plan.proofs.Plans.{rising_apart}
-use Rattle.fc_plan.proofs.Ordered.{taken_in_order}
-use Rattle.fc_plan.proofs.Two.{given_back}
-use Rattle.fc_plan.specs.Giving.{is_one_of}
-use Rattle.fc_effects.specs.Sharing.{units}
-use Rattle.fc_effects.specs.Short.{Growth, growth_in, is_alone, moved_growth, object_units}
-use Rattle.fc_effects.specs.Placed.{GrowthPlaced, GrowthPlacedIn, GrownPlaced, IsNewId, IsTaken, KeepsOrGetsId, holes_left, made_object, object_parts}
-use Rattle.fc_effects.specs.Steady.{DirectoriesSteady, DirectorySteady, HasName, IsRewritten, MapOutside, NewMapSteady, SameSectors, ZoneSteady, back_runs, edited, entries_after, expected_zone, gets_parent, goes_back, grown_object, grown_parts, has_grown, has_new_holder, holds_named, holes_untaken, holes_with, idle_sectors, is_gone, is_left_by_growth, is_renamed_by, may_be_rewritten, named_entry, path_after, regrown_entry, zone0_after, zone_holes}
-use Rattle.fc_changes.proofs.AfterLemmas.{behind_stays}
-use Rattle.fc_changes.proofs.BasicLemmas.{any_in, cases_cons, clash, first_in, long_pushed, map_same, next_in, nothing_in, or_left, unless}
+use Rattle.fc_effects.specs.Short.{Growth}
+use Rattle.fc_effects.specs.Steady.{grown_object}
+use Rattle.fc_changes.proofs.BasicLemmas.{cases_cons, first_in, next_in, nothing_in}
 use Rattle.fc_changes.proofs.BeforeLemmas.{Had, HeldBy, address_by, had, held_by, listed_in, sound}
 use Rattle.fc_changes.proofs.ChangeLemmas.{opened}
-use Rattle.fc_changes.proofs.DirectoriesLemmas.{IsPlain}
-use Rattle.fc_changes.proofs.OutsideLemmas.{idle_stay, no_owner_low}
-use Rattle.fc_changes.proofs.ReadsLemmas.{lies_in, other_dir}
-use Rattle.fc_changes.proofs.SpaceLemmas.{given_same, no_runs, not_given, not_used, owned_same, still_owned}
-use Rattle.fc_growths.specs.Grown.{AreWrittenFor, GrowsAlone, GrowsElsewhere, GrowsThere, IsWrittenFor, NewPlace, TakesSpace, at_place, holder_now, zone_with}
-use Rattle.fc_growths.proofs.SpaceLemmas.{Growing, after, alone_not_two, grown, grown_owned, grown_owns, its, its_alone, its_elsewhere, its_high, its_taken, l_in, l_object, l_owned, left_alone, left_elsewhere, left_there, lies, moved_none, moved_some, none_same, old_id, owned_by, parts_some, runs_same, top, was}
-use Rattle.fc_growths.proofs.ObjectLemmas.{g, g_all, g_itself, g_stays, kid_other, listed_object, same_object, same_turned, some_now, stay_other}
+use Rattle.fc_growths.specs.Grown.{AreWrittenFor, IsWrittenFor, holder_now}
+use Rattle.fc_growths.proofs.SpaceLemmas.{Growing, after, grown, l_object, top}
+use Rattle.fc_growths.proofs.ObjectLemmas.{g, g_all, g_itself, g_stays, kid_other, listed_object, same_object, same_turned}
 use Rattle.fc_growths.proofs.OpeningLemmas.{NewObject}
-use Rattle.fc_growths.proofs.ListingsLemmas.{Rooted, again_in, again_other, all_busy, boot_now, keep_in, keep_other, keep_stored, l', listings_now, now_cut, now_listed, opens_now, rest, rest', rooted}
+use Rattle.fc_growths.proofs.ListingsLemmas.{again_other, keep_other, l', now_cut, now_listed, opens_now, rest, rest', rooted}
 
 -- what directories hold that are listed anew
 held_listed : (f : Object → Object) (xs ys : List Listing) → AreListedBy f xs ys → held ys ≡ map f (held xs)

@@ -1,6 +1,6 @@
 -- What the calls of a command leave on a disc with a new map if a big directory grows by it. Beside each fact stands the call that
 -- has it as a clause.
-use Rattle.std.specs.Prelude.{◌≡◌, ◌<◌, ◌⊎◌, ℕ, ◌*◌, ◌==◌, ◌||◌, true, false, List, [], ◌∷◌, ◌++◌, length, map, insert, slice_get, if◌then◌else◌, Some, None, Ok, Contains, IsPermutation}
+use Rattle.std.specs.Prelude.{◌≡◌, ◌<◌, ◌⊎◌, ℕ, ◌*◌, ◌==◌, ◌||◌, true, false, List, [], ◌∷◌, ◌++◌, length, map, if◌then◌else◌, Some, None, Ok, Contains, IsPermutation}
 use Rattle.std.specs.List.{flat_map}
 use Rattle.fc_names.specs.Names.{Path, is_same_path}
 use Rattle.fc_names.specs.declared.name.NameForm.TheVariants as forms
@@ -13,7 +13,7 @@ use Rattle.fc_copies.specs.Copies.{HoldsCopies}
 use Rattle.fc_model.specs.Tree.{holder, last_name}
 use Rattle.fc_model.specs.Command.{Command}
 use Rattle.fc_dirs.specs.Directory.{Directory, entries_of}
-use Rattle.fc_dirs.specs.Entries.{entry_place, with_entry}
+use Rattle.fc_dirs.specs.Entries.{with_entry}
 use Rattle.fc_image.specs.Layout.{Layout, dir_form, id_of}
 use Rattle.fc_image.specs.Report.{holder_address}
 use Rattle.fc_image.specs.Walk.{Object, Listing, object_bytes}

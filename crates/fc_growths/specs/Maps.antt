@@ -3,7 +3,7 @@ use Rattle.std.specs.Prelude.{◌≡◌, ◌<◌, ◌^◌, ◌==◌, ℕ, true, 
 use Rattle.fc_record.specs.declared.DiscRecord.{DiscRecord}
 use Rattle.fc_record.specs.declared.Kind.{Kind}
 use Rattle.fc_record.specs.Record.{is_root_right, is_root_size_right}
-use Rattle.fc_newmap.specs.Map.{Map, ZoneRun, hole_runs, id_runs, sector_of, with_root, with_zone}
+use Rattle.fc_newmap.specs.Map.{Map, hole_runs, id_runs, sector_of, with_root, with_zone}
 use Rattle.fc_newmap.specs.NewMap.{rooted}
 use Rattle.fc_newmap.specs.Edits.{AreEdits, KeepsRuns}
 use Rattle.fc_copies.specs.Copies.{CommitEnds}
