@@ -3,6 +3,7 @@
 
 ghost use Rattle.fc_growths.specs.Laws.{GrownDirectoryMadeLaw, GrownFiledLaw};
 ghost use Rattle.fc_growths.specs.Maps.{GrownMapsLaw};
+ghost use Rattle.fc_growths.specs.Rows.{GrownRows};
 
 /// After `save` and `create` of a file by which its directory grows the disc is as they promise.
 pub fn grown_filed()
@@ -17,4 +18,9 @@ pub fn grown_directory_made()
 /// What taking space, a new root and a commit leave is what growth owes of the map.
 pub fn grown_maps()
     ensures { GrownMapsLaw }
+{}
+
+/// What growth owes of a map, on a small one, worked out.
+pub fn rows()
+    ensures { GrownRows }
 {}
