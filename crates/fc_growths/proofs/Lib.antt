@@ -1,0 +1,12 @@
+pub mod BasicLemmas
+pub mod SpaceLemmas
+pub mod ObjectLemmas
+pub mod OpeningLemmas
+pub mod ListingsLemmas
+pub mod SteadyLemmas
+pub mod PromisedLemmas
+pub mod NewSpaceLemmas
+pub mod FiledLemmas
+pub mod CdirLemmas
+pub mod MapLemmas
+pub mod RootLemmas

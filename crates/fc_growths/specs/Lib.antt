@@ -1,0 +1,5 @@
+pub mod Grown
+pub mod Laws
+pub mod Maps
+pub mod Rows
+pub mod Renames
