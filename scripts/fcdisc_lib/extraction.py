@@ -5,6 +5,7 @@ from itertools import groupby
 from typing import Callable, Dict, Iterator, List, Set, Tuple, Union
 
 from . import names
+from .hostfiles import keep
 from .messages import Progress, Trouble, reason, shown, tell
 from .output import HOPELESS, Folder, Inode, NewFile
 from .program import Entry, Path, Run, batches
@@ -76,14 +77,16 @@ class Extraction:
         outer = self.places[entry.path[:-1]]
         try:
             with self.folder.below(outer) as holder:
-                name = self.take_name(holder, entry, b"", lambda name: self.take_folder(holder, name))
+                name = self.take_name(holder, entry, b"", lambda name: self.take_folder(holder, name, entry))
             self.places[entry.path] = (*outer, name)
         except (OSError, Taken) as error:
             self.fail(entry, error)
 
-    def take_folder(self, holder: Folder, name: bytes) -> None:
+    def take_folder(self, holder: Folder, name: bytes, entry: Entry) -> None:
         try:
             holder.make(name)
+            with holder.below((name,)) as made:
+                keep_of(entry, made.number)
         except FileExistsError:
             if holder.inode(name) in self.own or not holder.is_folder(name):
                 raise
@@ -106,7 +109,8 @@ class Extraction:
     def write(self, holder: Folder, entry: Entry, pieces: Iterator[bytes]) -> None:
         suffix = names.suffix_of(entry.load, entry.execution)
         try:
-            with NewFile(holder, pieces, names.unix_time(entry.load, entry.execution)) as temporary:
+            time = names.unix_time(entry.load, entry.execution)
+            with NewFile(holder, pieces, time, lambda number: keep_of(entry, number)) as temporary:
                 self.take_name(holder, entry, suffix, lambda name: holder.publish(temporary, name))
             self.written += 1
         except (OSError, Taken) as error:
@@ -126,6 +130,11 @@ class Extraction:
 
     def tell(self, entry: Entry, text: str) -> None:
         tell("%s: %s: %s" % (shown(self.tree.image.path), names.spelled_path(entry.path), text))
+
+
+def keep_of(entry: Entry, number: int) -> None:
+    """Keeps what the host's name and time can't say of the object."""
+    keep(number, entry.load, entry.execution, entry.attributes)
 
 
 def pass_over(pieces: Iterator[bytes]) -> None:
