@@ -6,7 +6,7 @@ from typing import Dict, Iterator, List, NamedTuple, Optional, Set, Tuple
 
 from . import names
 from .editing import NOT_ADDED, Step, longest_content, save_line, set_line
-from .hostfiles import HostFile, kept_with, read_host_file
+from .hostfiles import HostFile, Kept, kept_with, read_host_file
 from .messages import Trouble, reason, shown, tell
 from .program import Entry, Path, Refused, Run, command
 
@@ -24,7 +24,7 @@ class Item(NamedTuple):
     is_directory: bool
 
 
-def scan(folder: bytes, start: Path, fail: "Failures") -> Iterator[Item]:
+def scan(folder: bytes, start: Path, fail: Failures) -> Iterator[Item]:
     """What is to be added, a folder before what is in it. What can't be added is told."""
     waiting = [(folder, start)]
     while waiting:
@@ -45,7 +45,7 @@ def scan(folder: bytes, start: Path, fail: "Failures") -> Iterator[Item]:
         waiting += inner[::-1]
 
 
-def item_of(entry: "os.DirEntry[bytes]", path: Path, taken: Dict[bytes, bytes], fail: "Failures") -> Optional[Item]:
+def item_of(entry: os.DirEntry[bytes], path: Path, taken: Dict[bytes, bytes], fail: Failures) -> Optional[Item]:
     """The entry of a folder with its path on the disc, if it can have one that no other of the folder has."""
     if entry.name.startswith(TEMPORARY[0]) and entry.name.endswith(TEMPORARY[1]):
         return None
@@ -80,8 +80,9 @@ class Present:
     """What the disc has already where something is to be added: the directories that were asked for, and their entries."""
 
     def __init__(self, start: Path, items: List[Item]):
+        self.start = start
         self.asked = [start] + [item.path for item in items if item.is_directory]
-        self.start, self.entries = start, {}  # type: Path, Dict[Path, Optional[Dict[bytes, Entry]]]
+        self.entries: Dict[Path, Optional[Dict[bytes, Entry]]] = {}
         self.refusal = ""  # of the start
 
     def script(self) -> bytes:
@@ -140,7 +141,7 @@ class Addition:
             self.fail(item.place, "there is something of its name on the disc already (--replace puts files in its place)")
             return
         try:
-            file = read_host_file(item.place, longest_content(item.path))
+            file = read_host_file(item.place, longest_content(item.path), os.O_NOFOLLOW)
         except (OSError, ValueError) as error:
             self.fail(item.place, reason(error) if isinstance(error, OSError) else str(error))
             return
@@ -162,7 +163,7 @@ def file_steps(path: Path, file: HostFile, named: names.DiscName, failure: str, 
         yield Step(set_line(path, load, execution, attributes), path, "access not set")
 
 
-def kept_of_folder(place: bytes):  # type: ignore[no-untyped-def]
+def kept_of_folder(place: bytes) -> Optional[Kept]:
     """What `extract` kept of a directory."""
     try:
         number = os.open(place, os.O_RDONLY | os.O_DIRECTORY | os.O_NOFOLLOW)

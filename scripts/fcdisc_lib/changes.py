@@ -62,16 +62,12 @@ def not_root(text: str) -> Path:
 
 def put(words: Namespace) -> int:
     program, path, given = find_program(), path_from(words.path), os.fsencode(os.path.basename(words.file))
-    try:
-        named = names.disc_name(given, False)
-    except ValueError:
-        named = names.DiscName(b"")  # it needs no name that a disc can have, if the path says one
-    if words.type is not None:
-        named = named._replace(file_type=words.type, words=None)
+    if os.path.isdir(words.file):
+        raise Trouble("%s: a folder: use add" % shown(words.file))
     with Edit(program, words) as edit:
         there, holder = read_listings(edit, [path, path[:-1]])
         if there[0] is not None:
-            path, holder = (*path, named.name or name_of(given)), there
+            path, holder = (*path, name_of(given)), there
         elif holder[0] is None:
             raise edit.trouble("%s: there is no such directory on the disc" % spelled_path(path[:-1]))
         present = find(holder[0], path[-1])
@@ -83,7 +79,7 @@ def put(words: Namespace) -> int:
             file = read_host_file(os.fsencode(words.file), longest_content(path))
         except (OSError, ValueError) as error:
             raise Trouble("%s: %s" % (shown(words.file), reason(error) if isinstance(error, OSError) else error)) from None
-        edit.change(file_steps(path, file, named, "not put there", present))
+        edit.change(file_steps(path, file, named_for(given, words.type), "not put there", present))
         return edit.finish()
 
 
@@ -93,6 +89,13 @@ def name_of(given: bytes) -> bytes:
         return names.disc_name(given, False).name
     except ValueError as error:
         raise Trouble("%s: %s: give the whole path" % (shown(given), error)) from None
+
+
+def named_for(given: bytes, wanted_type: Optional[int]) -> names.DiscName:
+    """The type or words of a file, by its name or as they were asked for. It needs no name that a disc could have."""
+    if wanted_type is not None:
+        return names.DiscName(b"", file_type=wanted_type)
+    return names.disc_name(b"x" + (names.SUFFIX.search(given) or [b""])[0], False)
 
 
 def file_type(text: str) -> int:

@@ -16,7 +16,7 @@ from .names import DiscName, has_type, words_for
 KEPT_NAME = "user.fcdisc"
 KEPT = re.compile(rb"([0-9a-f]{8}) ([0-9a-f]{8}) ([0-9a-f]{8}) (-?[0-9]+)\Z")
 TEXT = 0xFFF
-OPEN_FILE = os.O_RDONLY | os.O_NOFOLLOW | os.O_NONBLOCK
+OPEN_FILE = os.O_RDONLY | os.O_NONBLOCK  # to open it doesn't wait, as for the other end of a pipe
 
 
 class Kept(NamedTuple):
@@ -61,22 +61,24 @@ class HostFile(NamedTuple):
             return kept.load, kept.execution
         if named.words:
             return named.words
-        return words_for(default if named.file_type is None else named.file_type, self.time)
+        if named.file_type is not None:
+            return words_for(named.file_type, self.time)
+        return words_for(kept.load >> 8 & 0xFFF if kept and has_type(kept.load) else default, self.time)
 
 
 def agrees(kept: Kept, named: DiscName) -> bool:
-    """Whether the name says the same type or words as what was kept."""
+    """Whether the name says nothing, or the same type or words as what was kept."""
     if named.words:
         return named.words == (kept.load, kept.execution)
-    return has_type(kept.load) and named.file_type == kept.load >> 8 & 0xFFF
+    return named.file_type is None or has_type(kept.load) and named.file_type == kept.load >> 8 & 0xFFF
 
 
-def read_host_file(name: bytes, limit: int, folder: Optional[int] = None) -> HostFile:
-    """Reads a file of at most `limit` bytes, in an open folder or else at a path; no link is followed.
+def read_host_file(path: bytes, limit: int, flags: int = 0) -> HostFile:
+    """Reads a file of at most `limit` bytes. With the flag O_NOFOLLOW a link isn't followed.
 
     Raises OSError, or ValueError with the reason where it isn't to be had as it is.
     """
-    number = os.open(name, OPEN_FILE, dir_fd=folder)
+    number = os.open(path, OPEN_FILE | flags)
     with open(number, "rb") as file:
         before = os.fstat(number)
         if not stat.S_ISREG(before.st_mode):
