@@ -273,6 +273,9 @@ def troubles(c):
         c.refused("fcore " + name, words, "a.adf: %s: nothing was changed" % error, fcore=fcore)
         c.refused("fcore %s in place" % name, [words[0], "--in-place", *words[1:]],
                   "a.adf: %s: it was changed in place, and may be damaged: use check" % error, fcore=fcore)
+    os.mkdir(c.at("a.adf~"))
+    c.refused("a folder of the copy's name", words, "a.adf~: Is a directory: nothing was changed")
+    os.rmdir(c.at("a.adf~"))
     touching = c.fake('#!/bin/sh\ncase "$*" in *read-only*) ;; *) printf x >> a.adf;; esac\nexec STAND_IN "$@"\n')
     got = c.run(*words, fcore=touching)
     c.checks.expect("changed meanwhile", result=(("", "fcdisc: a.adf: another program changed it meanwhile: it stays as it is now\n", 1), got),

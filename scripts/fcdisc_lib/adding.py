@@ -6,11 +6,10 @@ from typing import Dict, Iterator, List, NamedTuple, Optional, Set, Tuple
 
 from . import names
 from .editing import NOT_ADDED, Step, longest_content, save_line, set_line
-from .hostfiles import HostFile, Kept, kept_with, read_host_file
+from .hostfiles import NEW_FILE, HostFile, Kept, kept_with, read_host_file
 from .messages import Trouble, reason, shown, tell
 from .program import Entry, Path, Refused, Run, command
 
-NEW_FILE = 3  # the attributes of a new file: its owner may read and write
 SETTABLE = 7  # of attributes, those that fcore can set
 TEMPORARY = (b".fcdisc-", b".tmp")
 
@@ -177,5 +176,6 @@ def kept_of_folder(place: bytes) -> Optional[Kept]:
 
 def items_of(folder: str, start: Path, fail: Failures) -> List[Item]:
     if not os.path.isdir(folder):
-        raise Trouble("%s: %s" % (shown(folder), "not a folder: use put" if os.path.exists(folder) else "No such file or directory"))
+        text = "not a folder: use put" if os.path.exists(folder) else "No such file or directory"
+        raise Trouble("%s: %s" % (shown(folder), text))
     return list(scan(os.fsencode(folder), start, fail))

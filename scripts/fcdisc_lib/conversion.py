@@ -5,9 +5,10 @@ import os
 from argparse import Namespace
 from typing import Iterator, List
 
-from .adding import NEW_FILE, SETTABLE
+from .adding import SETTABLE
 from .changes import tell_lost_access
 from .editing import Failure, Step, commands_of, longest_content, save_line, set_line, tell_failures
+from .hostfiles import NEW_FILE
 from .jobs import place_text, refusal
 from .listing import counted
 from .messages import FAILED, Progress, Trouble, say, shown, tell

@@ -157,7 +157,8 @@ class Edit:
             with unbroken(self.in_place), Run(self.program, self.name, ["--", "/dev/fd/%d" % number], script, [number]) as run:
                 result = read(run)
         except NotBuilt:
-            raise self.trouble("this fcore can't do that to such a disc yet (%s): %s" % (commands_of(script), self.left())) from None
+            text = "this fcore can't do that to such a disc yet (%s): %s"
+            raise self.trouble(text % (commands_of(script), self.left())) from None
         except (Trouble, BadImage) as error:
             text = str(error) if isinstance(error, Trouble) else "%s: not accepted: %s" % (shown(self.name), error)
             raise Trouble("%s: %s" % (text, "it was changed in place, and may be damaged: use check" if self.in_place
@@ -190,7 +191,7 @@ class Edit:
             try:
                 self.replace(self.holder)
             except OSError as error:
-                raise self.trouble("%s: nothing was changed" % reason(error)) from None
+                raise self.no_copy(error) from None
         tell_failures(self.name, self.failures)
         return FAILED if self.failures else 0
 
@@ -209,7 +210,10 @@ class Edit:
             os.fsync(number)
             if not is_same(self.before, os.stat(self.path)):
                 raise self.trouble("another program changed it meanwhile: it stays as it is now")
-            exchange(holder, name, split_path(self.path)[1])
+            try:
+                exchange(holder, name, split_path(self.path)[1])
+            except OSError as error:
+                raise Trouble("%s~: %s: nothing was changed" % (shown(self.name), reason(error))) from None
 
     def pieces_back(self) -> Iterator[bytes]:
         """The changed disc in the form that the image has."""
@@ -297,7 +301,8 @@ def tell_failures(name: str, failures: List[Failure]) -> None:
         told.add(path)
     for step, refusal in first:
         rest = "; nor what is in it: %s" % counted(inner[step.path], "object") if step.path in inner else ""
-        tell("%s: %s: %s: %s%s" % (shown(name), names.spelled_path(step.path), step.failure, reason_of(step, refusal, failures), rest))
+        text = reason_of(step, refusal, failures) + rest
+        tell("%s: %s: %s: %s" % (shown(name), names.spelled_path(step.path), step.failure, text))
 
 
 def reason_of(step: Step, refusal: str, failures: List[Failure]) -> str:

@@ -5,7 +5,7 @@ from itertools import groupby
 from typing import Callable, Dict, Iterator, List, Set, Tuple, Union
 
 from . import names
-from .hostfiles import keep
+from .hostfiles import NEW_DIRECTORY, keep, keep_of_file
 from .messages import Progress, Trouble, reason, shown, tell
 from .output import HOPELESS, Folder, Inode, NewFile
 from .program import Entry, Path, Run, batches
@@ -85,8 +85,9 @@ class Extraction:
     def take_folder(self, holder: Folder, name: bytes, entry: Entry) -> None:
         try:
             holder.make(name)
-            with holder.below((name,)) as made:
-                keep_of(entry, made.number)
+            if words_of(entry) != (0, 0, NEW_DIRECTORY):
+                with holder.below((name,)) as made:
+                    keep(made.number, *words_of(entry))
         except FileExistsError:
             if holder.inode(name) in self.own or not holder.is_folder(name):
                 raise
@@ -110,7 +111,7 @@ class Extraction:
         suffix = names.suffix_of(entry.load, entry.execution)
         try:
             time = names.unix_time(entry.load, entry.execution)
-            with NewFile(holder, pieces, time, lambda number: keep_of(entry, number)) as temporary:
+            with NewFile(holder, pieces, time, lambda number: keep_of_file(number, *words_of(entry))) as temporary:
                 self.take_name(holder, entry, suffix, lambda name: holder.publish(temporary, name))
             self.written += 1
         except (OSError, Taken) as error:
@@ -132,12 +133,12 @@ class Extraction:
         tell("%s: %s: %s" % (shown(self.tree.image.path), names.spelled_path(entry.path), text))
 
 
-def keep_of(entry: Entry, number: int) -> None:
-    """Keeps what the host's name and time can't say of the object."""
-    keep(number, entry.load, entry.execution, entry.attributes)
-
-
 def pass_over(pieces: Iterator[bytes]) -> None:
     """What is left of a reply, so that the next one can be read."""
     for _ in pieces:
         pass
+
+
+def words_of(entry: Entry) -> Tuple[int, int, int]:
+    """Load, exec and attributes."""
+    return entry.load, entry.execution, entry.attributes

@@ -11,11 +11,13 @@ import stat
 from contextlib import suppress
 from typing import NamedTuple, Optional, Tuple
 
-from .names import DiscName, has_type, words_for
+from .names import DiscName, has_type, unix_time, words_for
 
 KEPT_NAME = "user.fcdisc"
 KEPT = re.compile(rb"([0-9a-f]{8}) ([0-9a-f]{8}) ([0-9a-f]{8}) (-?[0-9]+)\Z")
 TEXT = 0xFFF
+NEW_FILE = 3  # the attributes of a new file: its owner may read and write
+NEW_DIRECTORY = 8
 OPEN_FILE = os.O_RDONLY | os.O_NONBLOCK  # to open it doesn't wait, as for the other end of a pipe
 
 
@@ -34,6 +36,12 @@ def keep(number: int, load: int, execution: int, attributes: int) -> None:
         text = b"%08x %08x %08x %d" % (load, execution, attributes, os.fstat(number).st_mtime_ns)
         with suppress(OSError):
             os.setxattr(number, KEPT_NAME, text, os.XATTR_CREATE)
+
+
+def keep_of_file(number: int, load: int, execution: int, attributes: int) -> None:
+    """Keeps what the file's name and time don't say already, if there is any."""
+    if attributes != NEW_FILE or has_type(load) and unix_time(load, execution) != os.fstat(number).st_mtime_ns:
+        keep(number, load, execution, attributes)
 
 
 def kept_with(number: int) -> Optional[Kept]:

@@ -170,8 +170,8 @@ def open_image(program: str, path: str, order: str, script: bytes, read: Callabl
                name: Optional[str] = None) -> Tuple[Image, Result]:
     """Opens the image in the first way that fcore accepts, and says so where it isn't as it is.
 
-    `read` reads the replies to the script. `name` is the image's name for people, where that is another than its path. Raises BadImage where none is accepted, with the fault of the likeliest way, or of the
-    last one where a disc begins only there.
+    `read` reads the replies to the script. `name` is the image's name for people, where that is another than its path. Raises
+    BadImage where none is accepted, with the fault of the likeliest way, or of the last one where a disc begins only there.
     """
     name = path if name is None else name
     file = open_file(path, name)
