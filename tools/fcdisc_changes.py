@@ -81,10 +81,12 @@ class Changes:
         backup = os.path.exists(self.at(image + "~")) and read(self.at(image + "~")) == before
         self.checks.expect(name, result=((out, "", 0), got), tree=(tree, short_tree(read(self.at(image)))), backup=(True, backup))
 
-    def refused(self, name, words, error, status=1, out="", image="a.adf", **more):
-        """A job that does nothing: image and folder stay as they were."""
+    def refused(self, name, words, error, status=1, out="", image="a.adf", notes=0, **more):
+        """A job that does nothing: image and folder stay as they were. `notes`: lines that may come before the error."""
         before, names = read(self.at(image)), self.names()
         got = self.run(*words, **more)
+        if notes and got[1].count("\n") > 1:
+            got = (got[0], "".join(got[1].splitlines(True)[-1:]), got[2])
         error = "fcdisc: %s\n" % error if error and not error.startswith("usage") else error
         if "..." in error:
             got = (got[0], error if got[1].startswith(error.split("...")[0]) else got[1], got[2])
@@ -195,6 +197,15 @@ def forms(c):
                         size=(len(before) + 13, len(after)), head=(True, image == "sides.adl" or after[:512] == before[:512]),
                         backup=(before + b"after the end", read(c.at(image + "~"))))
         c.refused("in place of " + image, ["put", "--in-place", image, "note", "$.N"], "%s: ..." % image, image=image)
+    for image in ("flat.adf", "flat.adl"):
+        c.start(image, image, file)
+        c.refused("either order of " + image, ["put", image, "note", "$.N"],
+                  image + ": nothing shows whether its sides are interleaved, and in the wrong order a change would spoil files: "
+                  "say --order disc or --order adl", image=image, notes=1)
+    before = c.start("flat.adl", "a.adf", file)
+    c.run("put", "--order", "adl", "a.adf", "note", "$.N")
+    c.checks.expect("put in the order that is asked for", tree=(
+        {**short_tree(parts.to_disc_order(before)), "$.N": (3, b"Hello")}, short_tree(parts.to_disc_order(read(c.at("a.adf"))))))
     c.start(files=file)
     os.symlink("a.adf", c.at("link.adf"))
     c.good("put by an image's link", ["put", "link.adf", "note", "$.N"], {**NAMED, "$.N": (3, b"Hello")})

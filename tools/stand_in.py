@@ -68,11 +68,10 @@ def lacks(script):
 
 def make(name, form):
     """A fresh disc of that name: whether it could be made."""
-    try:
-        with open(name, "xb") as file:
-            file.write(FRESH[form]().image())
-    except FileExistsError:
+    if os.path.exists(name):
         return False
+    with open(name, "xb") as file:
+        file.write(FRESH[form]().image())
     return True
 
 
@@ -104,4 +103,7 @@ def main(words):
 
 
 if __name__ == "__main__":
-    sys.exit(main(sys.argv[1:]))
+    try:
+        sys.exit(main(sys.argv[1:]))
+    except OSError:
+        sys.exit(4)

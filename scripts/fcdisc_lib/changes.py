@@ -3,7 +3,7 @@ from __future__ import annotations
 
 import os
 import re
-from argparse import Namespace
+from argparse import ArgumentTypeError, Namespace
 from typing import Dict, List, Optional, Tuple
 
 from . import names
@@ -101,7 +101,7 @@ def named_for(given: bytes, wanted_type: Optional[int]) -> names.DiscName:
 def file_type(text: str) -> int:
     """Three hexadecimal digits, with `&` before them or without."""
     if not re.fullmatch("&?[0-9A-Fa-f]{3}", text):
-        raise ValueError(text)
+        raise ArgumentTypeError("a file type is three hexadecimal digits, not %r" % text)
     return int(text[-3:], 16)
 
 
@@ -138,7 +138,7 @@ def tell_lost_access(image: str, count: int) -> None:
 def mkdir(words: Namespace) -> int:
     program, paths = find_program(), [path_from(text) for text in words.path]
     with Edit(program, words) as edit:
-        read_listings(edit, [()])
+        read_listings(edit, [])
         edit.change(Step(command("cdir", path), path, "not made") for path in paths)
         return edit.finish()
 
@@ -187,7 +187,7 @@ def access_bits(text: str) -> int:
     """The attributes of `LWR`, in any order and case; `/` with nothing after it may follow, and `-` or `/` alone is none."""
     letters = text.upper().rstrip("/") if text != "-" else ""
     if not set(letters) <= set("LWR") or len(set(letters)) != len(letters) or not text:
-        raise ValueError(text)
+        raise ArgumentTypeError("ACCESS has letters of LWR, or is -, and is not %r" % text)
     return sum({"R": 1, "W": 2, "L": 4}[letter] for letter in letters)
 
 
@@ -204,7 +204,7 @@ def access(words: Namespace) -> int:
 def compact(words: Namespace) -> int:
     program = find_program()
     with Edit(program, words) as edit:
-        edit.open(b"check\n", Run.check)
+        read_listings(edit, [])
         before, after = edit.perform(b"free\ncompact\nfree\n", lambda run: (run.free(), list(run.lines()), run.free())[::2])
         edit.changes = 1
         status = edit.finish()

@@ -10,7 +10,8 @@ from contextlib import ExitStack, contextmanager, suppress
 from typing import BinaryIO, Callable, Dict, Iterable, Iterator, List, NamedTuple, Optional, Set, TypeVar
 
 from . import names
-from .images import AS_IT_IS, HEADER, L_SIZE, SIDES, Image, copy, open_file, open_image, pieces_from, read_at, to_interleaved
+from .images import (AS_IT_IS, HEADER, L_SIZE, SIDES, Image, copy, has_l_size, open_file, open_image, pieces_from, read_at,
+                     to_interleaved)
 from .listing import counted
 from .messages import FAILED, Trouble, reason, shown, tell
 from .output import NO_LINKS, Folder, NewFile, TemporaryName, split_path
@@ -122,8 +123,12 @@ class Edit:
 
     def open(self, script: bytes, read: Callable[[Run], Result]) -> Result:
         """Opens the image, and reads the replies to a script that changes nothing."""
-        self.image, result = open_image(self.program, self.path, self.order, script, read, self.name)
+        self.image, (counts, result) = open_image(self.program, self.path, self.order, b"check\n" + script,
+                                                  lambda run: (run.check(), read(run)), self.name)
         self.stack.callback(self.image.file.close)
+        if self.order == "auto" and counts["dirs"] == 1 and counts["files"] and has_l_size(self.image.file):
+            raise self.trouble("nothing shows whether its sides are interleaved, and in the wrong order a change would spoil "
+                               "files: say --order disc or --order adl")
         return result
 
     # changes
