@@ -16,6 +16,7 @@ from filecore import NOT_SPELLED, spelled_path
 
 STAND_IN = os.path.join(os.path.dirname(os.path.realpath(__file__)), "stand_in.py")
 SETTABLE = 15
+LOST = "lost what others than the owner may do: fcore can't set that"
 
 
 def tree_of(data):
@@ -83,15 +84,19 @@ class Changes:
 
     def refused(self, name, words, error, status=1, out="", image="a.adf", notes=0, **more):
         """A job that does nothing: image and folder stay as they were. `notes`: lines that may come before the error."""
-        before, names = read(self.at(image)), self.names()
+        before, names = self.both(image), self.names()
         got = self.run(*words, **more)
         if notes and got[1].count("\n") > 1:
             got = (got[0], "".join(got[1].splitlines(True)[-1:]), got[2])
         error = "fcdisc: %s\n" % error if error and not error.startswith("usage") else error
         if "..." in error:
             got = (got[0], error if got[1].startswith(error.split("...")[0]) else got[1], got[2])
-        self.checks.expect(name, result=((out, error, status), got), same=(True, read(self.at(image)) == before),
+        self.checks.expect(name, result=((out, error, status), got), same=(True, self.both(image) == before),
                            left=(names, self.names()))
+
+    def both(self, image):
+        """The image, and what is kept beside it."""
+        return [read(self.at(name)) if os.path.isfile(self.at(name)) else None for name in (image, image + "~")]
 
 
 NAMED = {"$.A%20B": (3, b"A B!"), "$.Ab": (3, b"\2"), "$.D": 0, "$.D.error": (3, b"")}
@@ -142,9 +147,10 @@ def ordering(c):
     c.start()
     c.good("mkdir", ["mkdir", "a.adf", "E", "$.E.F"], {**NAMED, "$.E": 0, "$.E.F": 0})
     got = c.run("mkdir", "a.adf", "G", "D", "x.y", "Ab.y")
-    c.checks.expect("mkdir in part", result=(("", "".join("fcdisc: a.adf: $.%s\n" % text for text in (
-        "D: not made: there is something of this name on the disc already", "x.y: not made: there is no directory for it on the disc",
-        "Ab.y: not made: a file stands where a directory has to")), 1), got), there=(True, "$.G" in short_tree(read(c.at("a.adf")))))
+    told = ("D: not made: there is something of this name on the disc already",
+            "x.y: not made: there is no directory for it on the disc", "Ab.y: not made: a file stands where a directory has to")
+    c.checks.expect("mkdir in part", result=(("", "".join("fcdisc: a.adf: $.%s\n" % text for text in told), 1), got),
+                    there=(True, "$.G" in short_tree(read(c.at("a.adf")))))
     c.start()
     moved = {"$.A%20B": (3, b"A B!"), "$.D": 0, "$.D.error": (3, b""), "$.D.Ab": (3, b"\2")}
     c.good("mv into a directory", ["mv", "a.adf", "AB", "D"], moved)
@@ -213,7 +219,8 @@ def forms(c):
     c.start(files=file)
     inode = os.stat(c.at("a.adf")).st_ino
     got = c.run("put", "--in-place", "a.adf", "note", "$.N")
-    c.checks.expect("put --in-place", result=(("", "", 0), got), tree=({**NAMED, "$.N": (3, b"Hello")}, short_tree(read(c.at("a.adf")))),
+    tree = {**NAMED, "$.N": (3, b"Hello")}
+    c.checks.expect("put --in-place", result=(("", "", 0), got), tree=(tree, short_tree(read(c.at("a.adf")))),
                     left=(["a.adf", "note"], c.names()), same=(inode, os.stat(c.at("a.adf")).st_ino))
 
 
@@ -222,9 +229,10 @@ def adding(c):
              "o/Eleven.bytes/in/deep": b"", "o/Eleven.bytes/b": b"", "o/p\u0416": b"", "o/D/error,fff": b"mine", "o/Ab/x": b"z"}
     c.start(files=files)
     os.symlink("n", c.at("o/link"))
+    os.symlink("../o", c.at("o/loop"))
     os.mkfifo(c.at("o/pipe"))
     got = c.run("add", "a.adf", "o")
-    told = ["o/link: not added: it is a link", "o/pipe: not added: not a file",
+    told = ["o/link: not added: it is a link", "o/loop: not added: it is a link", "o/pipe: not added: not a file",
             "o/p\u0416: not added: a disc's names have no letters but those of Latin 1",
             "o/In/x,ffb: not added: on a disc it has the same name as X,fff",
             "o/Ab: not added: a file of its name is on the disc; nor what is in it",
@@ -233,7 +241,8 @@ def adding(c):
             "nor what is in it: 3 objects"]
     tree = {**NAMED, "$.Read/Me": (3, b"read"), "$.In": 0, "$.In.X": (3, b"y"), "$.n": (3, b"n")}
     c.checks.expect("add", out=("3 of 7 files added to a.adf\n", got[0]), status=(1, got[2]),
-                    told=(sorted("fcdisc: " + text for text in told), sorted(got[1].splitlines())), tree=(tree, short_tree(read(c.at("a.adf")))))
+                    told=(sorted("fcdisc: " + text for text in told), sorted(got[1].splitlines())),
+                    tree=(tree, short_tree(read(c.at("a.adf")))))
     c.start(files={"o/error": b"new", "o/x,00008000-0000abcd": b"x"})
     c.good("add --replace", ["add", "--replace", "a.adf", "o", "D"], {**NAMED, "$.D.error": (3, b"new"), "$.D.x": (3, b"x")},
            "2 of 2 files added to a.adf\n")
@@ -278,7 +287,8 @@ def troubles(c):
                       "a.adf: this fcore can't do that to such a disc yet (%s): nothing was changed" % missing)
         c.checks.extra = {}
     failing = '#!/bin/sh\ncase "$*" in *read-only*) exec STAND_IN "$@";; esac\ncat > /dev/null; %s\n'
-    for name, end, error in (("fails", "exit 4", "I/O error while fcore read it"), ("dies", "kill -9 $$", "fcore was ended by signal 9"),
+    for name, end, error in (("fails", "exit 4", "I/O error while fcore read it"),
+                             ("dies", "kill -9 $$", "fcore was ended by signal 9"),
                              ("says less", "exit 0", fcdisc_cases.CHANGED)):
         fcore = c.fake(failing % end)
         c.refused("fcore " + name, words, "a.adf: %s: nothing was changed" % error, fcore=fcore)
@@ -289,13 +299,15 @@ def troubles(c):
     os.rmdir(c.at("a.adf~"))
     touching = c.fake('#!/bin/sh\ncase "$*" in *read-only*) ;; *) printf x >> a.adf;; esac\nexec STAND_IN "$@"\n')
     got = c.run(*words, fcore=touching)
-    c.checks.expect("changed meanwhile", result=(("", "fcdisc: a.adf: another program changed it meanwhile: it stays as it is now\n", 1), got),
+    text = "fcdisc: a.adf: another program changed it meanwhile: it stays as it is now\n"
+    c.checks.expect("changed meanwhile", result=(("", text, 1), got),
                     left=(["a.adf", "note"], c.names()), tree=(NAMED, short_tree(read(c.at("a.adf")))))
     c.start(files={"o/gone": b"", "o/stays": b"s"})
     removing = c.fake('#!/bin/sh\nrm -f o/gone\nexec STAND_IN "$@"\n')
     got = c.run("add", "a.adf", "o", fcore=removing)
-    c.checks.expect("a file that vanishes", result=(("1 of 2 files added to a.adf\n", "fcdisc: o/gone: not added: No such file or directory\n", 1),
-                                                    got), tree=({**NAMED, "$.stays": (3, b"s")}, short_tree(read(c.at("a.adf")))))
+    text = "fcdisc: o/gone: not added: No such file or directory\n"
+    c.checks.expect("a file that vanishes", result=(("1 of 2 files added to a.adf\n", text, 1), got),
+                    tree=({**NAMED, "$.stays": (3, b"s")}, short_tree(read(c.at("a.adf")))))
 
 
 def no_room(c):
@@ -353,6 +365,7 @@ def own_format(data, volume):
 def round_trip(c, name, volume, data):
     """`extract`, and `add` to fresh discs; and `convert`."""
     tree, checks = tree_of(data), c.checks
+    loses = any(node[0] & ~SETTABLE for node in tree.values())
     for form in dict.fromkeys((own_format(data, volume), "F+")):
         wanted = wanted_tree(tree, form)
         long_names = any(len(part) > 245 for path in tree for part in path)
@@ -364,11 +377,12 @@ def round_trip(c, name, volume, data):
         found = tree_of(read(c.at("b.adf")))
         if long_names:  # the host cut these
             found, wanted = ({path: node for path, node in one.items() if max(map(len, path)) < 230} for one in (found, wanted))
-        checks.expect("extract %s, add to %s" % (name, form), same=([], differing(wanted, found)), status=(wanted_tree(tree, form) != tree, bool(got[2])))
+        checks.expect("extract %s, add to %s" % (name, form), same=([], differing(wanted, found)),
+                      status=(wanted_tree(tree, form) != tree, bool(got[2])), told=(loses, LOST in got[1]))
         got = c.run("convert", form, "a.adf", "c.adf")
         wanted = wanted_tree(tree, form)
         checks.expect("convert %s to %s" % (name, form), same=([], differing(wanted, tree_of(read(c.at("c.adf"))))),
-                      status=(wanted != tree, bool(got[2])), out=("%d of %d file%s copied to c.adf\n" % (
+                      status=(wanted != tree, bool(got[2])), told=(loses, LOST in got[1]), out=("%d of %d file%s copied to c.adf\n" % (
                           sum(node[3] is not None for node in wanted.values()), files, "s" * (files != 1)), got[0]))
 
 
@@ -387,7 +401,9 @@ def kept_words(c):
 
 
 def differing(wanted, found):
-    return [(path, wanted.get(path, ())[:3], found.get(path, ())[:3]) for path in {**wanted, **found} if wanted.get(path) != found.get(path)][:5]
+    """The first objects that aren't alike, without their bytes."""
+    paths = [path for path in {**wanted, **found} if wanted.get(path) != found.get(path)]
+    return [(path, wanted.get(path, ())[:3], found.get(path, ())[:3]) for path in paths[:5]]
 
 
 def converting(c):
