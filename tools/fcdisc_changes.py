@@ -182,6 +182,10 @@ def ordering(c):
                     tree=({"$.A%20B": (3, b"A B!"), "$.D": 0, "$.D.error": (4, b"")}, short_tree(read(c.at("a.adf")))))
     c.run("access", "a.adf", "WR", "D.error")
     c.good("rm -r", ["rm", "-r", "a.adf", "D", "D.error"], {"$.A%20B": (3, b"A B!")})
+    before = short_tree(c.start("l-files.adf"))
+    c.run("access", "a.adf", "-", "Outer.Inner.Innermost")  # it is locked
+    c.good("rm -r of several levels", ["rm", "-r", "a.adf", "Outer"], {
+        path: node for path, node in before.items() if not (path + ".").startswith("$.Outer.")})
     c.start("d-files.adf")
     before = short_tree(read(c.at("a.adf")))
     c.good("compact", ["compact", "a.adf"], before, "620544 bytes free, the largest piece 615424; before, it was 615424\n")
@@ -313,8 +317,8 @@ def troubles(c):
 def no_room(c):
     """A disk that holds the image and no copy of it."""
     c.start(files={"note": b"Hello"})
-    within = ('mkdir ../room; unshare -m sh -c \'mount -t tmpfs -o size=1200k none ../room && cp a.adf note ../room && cd ../room && '
-              'head -c 300000 /dev/zero > pad; "$@"; status=$?; echo $(find . | sort); exit $status\' sh "$@"; '
+    within = ('mkdir ../room; unshare -m sh -c \'mount -t tmpfs -o size=1200k none ../room && cp a.adf note ../room && '
+              'cd ../room && head -c 300000 /dev/zero > pad; "$@"; status=$?; echo $(find . | sort); exit $status\' sh "$@"; '
               'status=$?; rmdir ../room; exit $status')
     c.refused("no room for a copy", ["put", "a.adf", "note", "$.N"],
               "a.adf: no copy of it can be made beside it (No space left on device); --in-place does without",
@@ -382,7 +386,8 @@ def round_trip(c, name, volume, data):
         got = c.run("convert", form, "a.adf", "c.adf")
         wanted = wanted_tree(tree, form)
         checks.expect("convert %s to %s" % (name, form), same=([], differing(wanted, tree_of(read(c.at("c.adf"))))),
-                      status=(wanted != tree, bool(got[2])), told=(loses, LOST in got[1]), out=("%d of %d file%s copied to c.adf\n" % (
+                      status=(wanted != tree, bool(got[2])), told=(loses, LOST in got[1]),
+                      out=("%d of %d file%s copied to c.adf\n" % (
                           sum(node[3] is not None for node in wanted.values()), files, "s" * (files != 1)), got[0]))
 
 
