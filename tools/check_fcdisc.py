@@ -1,7 +1,7 @@
 #!/usr/bin/env python3
 """Runs fcdisc over images of all kinds: its cases, each disc that fcore accepts, each that it refuses, and its names alone.
 
-usage: tools/check_fcdisc.py FCDISC FCORE
+usage: tools/check_fcdisc.py FCDISC FCORE [changes]    with `changes`, the jobs that change a disc alone
 """
 import os
 import random
@@ -15,6 +15,7 @@ import time
 
 import damaged_images
 import fcdisc_cases
+import fcdisc_changes
 import images
 import readme_examples
 from filecore import folded, spelled
@@ -65,6 +66,7 @@ class Checks:
     def __init__(self, folder, fcdisc, fcore):
         self.folder, self.fcdisc, self.fcore = os.fsencode(folder), os.path.abspath(fcdisc), os.path.abspath(fcore)
         self.passed = self.failed = 0
+        self.extra = {}  # of the environment
 
     def place(self, name):
         return os.path.join(self.folder, name)
@@ -83,7 +85,7 @@ class Checks:
         return done.stdout.decode("utf-8", "replace"), done.stderr.decode("utf-8", "replace"), done.returncode
 
     def environment(self, fcore=None):
-        return {**os.environ, "FCORE": fcore or self.fcore, "COLUMNS": "80", "LC_ALL": "C.UTF-8"}
+        return {**os.environ, "FCORE": fcore or self.fcore, "COLUMNS": "80", "LC_ALL": "C.UTF-8", **self.extra}
 
     def expect(self, name, **pairs):
         """Each pair is what was wanted and what came."""
@@ -399,7 +401,7 @@ def can_mount():
     return run.returncode == 0
 
 
-def run_all(checks):
+def run_all(checks, changes_alone):
     files = images.table()[0]
     extra = fcdisc_cases.extra_images(files)
     for name in (b"images", b"bin"):
@@ -411,6 +413,12 @@ def run_all(checks):
         os.makedirs(os.path.dirname(path), exist_ok=True)
         images.write_image(path, data)
     mounts = can_mount()
+    if not changes_alone:
+        run_reading(checks, files, extra, mounts)
+    fcdisc_changes.run_all(checks, mounts)
+
+
+def run_reading(checks, files, extra, mounts):
     for case in fcdisc_cases.all_cases(files, extra):
         if case.name != "extract-full-disk" or mounts:
             checks.case(case)
@@ -426,17 +434,17 @@ def run_all(checks):
     interrupted(checks)
 
 
-def main(fcdisc, fcore):
+def main(fcdisc, fcore, only=""):
     sys.dont_write_bytecode = True
     sys.path.insert(0, os.path.dirname(os.path.realpath(fcdisc)))
     with tempfile.TemporaryDirectory() as folder:
         checks = Checks(folder, fcdisc, fcore)
-        run_all(checks)
+        run_all(checks, only == "changes")
     print("fcdisc: %d passed, %d failed" % (checks.passed, checks.failed))
     return checks.failed == 0
 
 
 if __name__ == "__main__":
-    if len(sys.argv) != 3:
+    if len(sys.argv) not in (3, 4):
         sys.exit(__doc__)
     sys.exit(0 if main(*sys.argv[1:]) else 1)

@@ -382,9 +382,13 @@ def words():
     for at, one in enumerate((["lst", "x"], [], ["list"], ["get", "x"], ["extract", "x"], ["check"], ["new", "E"],
                               ["new", "G", "x"],
                               ["adl", "x"], ["strip", "x"], ["list", "--order", "x", "y"], ["list", "a", "b", "c"],
-                              ["--new", "x"])):
+                              ["--new", "x"], ["put", "x", "y"], ["put", "--type", "fffff", "x", "y", "z"], ["add", "x"],
+                              ["mkdir", "x"], ["rm", "x"], ["rm", "-f", "x", "y"], ["mv", "x", "y"], ["access", "x", "WRX", "y"],
+                              ["access", "x", "WW", "y"], ["access", "x", "y"], ["compact"], ["convert", "x", "y", "z"],
+                              ["compact", "--read-only", "x"])):
         yield Case("words-%d" % at, one, err="usage: fcdisc...\n", status=2)
-    for job in ("list", "get", "extract", "check", "new", "adl", "strip"):
+    for job in ("list", "get", "extract", "check", "new", "adl", "strip", "put", "add", "mkdir", "rm", "mv", "access", "compact",
+                "convert"):
         yield Case("help-" + job, [job, "--help"], "usage: fcdisc %s [-h]...\n" % job)
     yield Case("help", ["--help"], "usage: fcdisc [-h] JOB ...\n...\n")
 

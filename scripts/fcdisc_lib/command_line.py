@@ -7,13 +7,14 @@ import signal
 import sys
 from typing import Any, Callable, List, NoReturn
 
-from . import jobs
+from . import changes, jobs
+from .conversion import convert
 from .images import ORDERS
 from .messages import FAILED, Trouble, clear_progress, reason, shown, tell
 from .output import remove_unfinished
 from .program import BadImage
 
-DESCRIPTION = "Daily jobs with images of Acorn discs (RISC OS, ADFS), by the program fcore. No image that is there is changed."
+DESCRIPTION = "Daily jobs with images of Acorn discs (RISC OS, ADFS), by the program fcore."
 EPILOG = "Status: 0 all went well, 1 something failed or was refused, 2 wrong words. See fcdisc(1)."
 PATH_HELP = "as $.Docs.Letter; what isn't plain in a name as %%XX, as the list shows it"
 
@@ -23,6 +24,7 @@ def parser() -> argparse.ArgumentParser:
     added = made.add_subparsers(metavar="JOB", required=True, dest="job")
     add_reading(added)
     add_making(added)
+    add_changing(added)
     return made
 
 
@@ -78,6 +80,55 @@ def add_making(added: Any) -> None:
     job = add_job(added, "strip", jobs.strip, "Copy an image without its header of 512 bytes.")
     job.add_argument("image", metavar="IMAGE")
     job.add_argument("out", metavar="OUT", help="the file to make")
+
+
+def add_changing(added: Any) -> None:
+    job = add_change(added, "put", changes.put, "Put one file onto a disc.")
+    job.add_argument("--replace", action="store_true", help="take the place of a file that is on the disc")
+    job.add_argument("--type", metavar="XXX", type=changes.file_type, help="its file type; else that of its name, as in "
+                     "Prog,ffb, or that of the file whose place it takes, or fff (Text)")
+    job.add_argument("file", metavar="FILE")
+    job.add_argument("path", metavar="PATH", help="of the file, or of the directory that gets it; " + PATH_HELP)
+
+    job = add_change(added, "add", changes.add, "Put all files of a folder onto a disc. Their names are those that extract "
+                     "gives: a type after a comma, `.` for `/`. Links are left out.")
+    job.add_argument("--replace", action="store_true", help="files take the place of those that are on the disc")
+    job.add_argument("folder", metavar="FOLDER")
+    job.add_argument("path", metavar="PATH", nargs="?", default="$", help="of the directory for them; it is made if need be")
+
+    job = add_change(added, "mkdir", changes.mkdir, "Make directories.")
+    job.add_argument("path", metavar="PATH", nargs="+", help=PATH_HELP)
+
+    job = add_change(added, "rm", changes.remove, "Remove files and empty directories.")
+    job.add_argument("-r", action="store_true", help="directories with all that is in them, too")
+    job.add_argument("path", metavar="PATH", nargs="+", help=PATH_HELP)
+
+    job = add_change(added, "mv", changes.move, "Rename a file or directory, or move it.")
+    job.add_argument("source", metavar="FROM", help=PATH_HELP)
+    job.add_argument("target", metavar="TO", help="its new path, or that of a directory that gets it")
+
+    job = add_change(added, "access", changes.access, "Lock objects, or say what their owner may do.")
+    job.add_argument("access", metavar="ACCESS", type=changes.access_bits, help="letters of L (locked), W, R, as in WR; - for none")
+    job.add_argument("path", metavar="PATH", nargs="+", help=PATH_HELP)
+
+    add_change(added, "compact", changes.compact, "Bring the free space of a disc together.")
+
+    job = add_job(added, "convert", convert, "Make a disc of another format with all files of a disc. What can't be on it is "
+                  "told, and the others are.")
+    add_order(job)
+    job.add_argument("format", metavar="FORMAT", type=str.upper, choices=jobs.FORMATS, help=", ".join(jobs.FORMATS))
+    job.add_argument("image", metavar="FROM")
+    job.add_argument("out", metavar="TO", help="the file to make")
+
+
+def add_change(added: Any, name: str, run: Callable[[argparse.Namespace], int], text: str) -> argparse.ArgumentParser:
+    """A subcommand that changes an image."""
+    job = add_job(added, name, run, text + " The image as it was is then called IMAGE~.")
+    add_order(job)
+    job.add_argument("--in-place", action="store_true", help="change the image itself, without a copy: if that is cut off, the "
+                     "disc may be damaged")
+    job.add_argument("image", metavar="IMAGE")
+    return job
 
 
 class Stopped(BaseException):

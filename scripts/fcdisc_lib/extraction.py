@@ -5,6 +5,7 @@ from itertools import groupby
 from typing import Callable, Dict, Iterator, List, Set, Tuple, Union
 
 from . import names
+from .hostfiles import NEW_DIRECTORY, keep, keep_of_file
 from .messages import Progress, Trouble, reason, shown, tell
 from .output import HOPELESS, Folder, Inode, NewFile
 from .program import Entry, Path, Run, batches
@@ -76,14 +77,17 @@ class Extraction:
         outer = self.places[entry.path[:-1]]
         try:
             with self.folder.below(outer) as holder:
-                name = self.take_name(holder, entry, b"", lambda name: self.take_folder(holder, name))
+                name = self.take_name(holder, entry, b"", lambda name: self.take_folder(holder, name, entry))
             self.places[entry.path] = (*outer, name)
         except (OSError, Taken) as error:
             self.fail(entry, error)
 
-    def take_folder(self, holder: Folder, name: bytes) -> None:
+    def take_folder(self, holder: Folder, name: bytes, entry: Entry) -> None:
         try:
             holder.make(name)
+            if words_of(entry) != (0, 0, NEW_DIRECTORY):
+                with holder.below((name,)) as made:
+                    keep(made.number, *words_of(entry))
         except FileExistsError:
             if holder.inode(name) in self.own or not holder.is_folder(name):
                 raise
@@ -106,7 +110,8 @@ class Extraction:
     def write(self, holder: Folder, entry: Entry, pieces: Iterator[bytes]) -> None:
         suffix = names.suffix_of(entry.load, entry.execution)
         try:
-            with NewFile(holder, pieces, names.unix_time(entry.load, entry.execution)) as temporary:
+            time = names.unix_time(entry.load, entry.execution)
+            with NewFile(holder, pieces, time, lambda number: keep_of_file(number, *words_of(entry))) as temporary:
                 self.take_name(holder, entry, suffix, lambda name: holder.publish(temporary, name))
             self.written += 1
         except (OSError, Taken) as error:
@@ -132,3 +137,8 @@ def pass_over(pieces: Iterator[bytes]) -> None:
     """What is left of a reply, so that the next one can be read."""
     for _ in pieces:
         pass
+
+
+def words_of(entry: Entry) -> Tuple[int, int, int]:
+    """Load, exec and attributes."""
+    return entry.load, entry.execution, entry.attributes

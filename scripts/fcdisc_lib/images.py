@@ -4,7 +4,7 @@ from __future__ import annotations
 import os
 import stat
 import tempfile
-from typing import BinaryIO, Callable, Iterator, List, Tuple, TypeVar
+from typing import BinaryIO, Callable, Iterator, List, Optional, Tuple, TypeVar
 
 from .messages import Trouble, reason, shown, tell
 from .program import BadImage, Run
@@ -28,16 +28,20 @@ Result = TypeVar("Result")
 # ---- files that are images
 
 
-def open_file(path: str) -> BinaryIO:
-    """The file, which has to be one: not a folder or a device. To open it doesn't wait, as for the other end of a pipe."""
+def open_file(path: str, name: Optional[str] = None) -> BinaryIO:
+    """The file, which has to be one: not a folder or a device. To open it doesn't wait, as for the other end of a pipe.
+
+    `name` is its name for people, where that is another than its path.
+    """
+    name = path if name is None else name
     try:
         file = open(path, "rb", opener=lambda name, flags: os.open(name, flags | os.O_NONBLOCK))
         if stat.S_ISREG(os.fstat(file.fileno()).st_mode):
             return file
         file.close()
     except OSError as error:
-        raise Trouble("%s: %s" % (shown(path), reason(error))) from None
-    raise Trouble("%s: not a file; what lies on a device has to be copied into a file first" % shown(path))
+        raise Trouble("%s: %s" % (shown(name), reason(error))) from None
+    raise Trouble("%s: not a file; what lies on a device has to be copied into a file first" % shown(name))
 
 
 def is_named_adl(path: str) -> bool:
@@ -162,18 +166,20 @@ def readings(program: str, path: str, file: BinaryIO, order: str, faults: List[B
         yield headed_image(path, file)
 
 
-def open_image(program: str, path: str, order: str, script: bytes, read: Callable[[Run], Result]) -> Tuple[Image, Result]:
+def open_image(program: str, path: str, order: str, script: bytes, read: Callable[[Run], Result],
+               name: Optional[str] = None) -> Tuple[Image, Result]:
     """Opens the image in the first way that fcore accepts, and says so where it isn't as it is.
 
-    `read` reads the replies to the script. Raises BadImage where none is accepted, with the fault of the likeliest way, or of the
-    last one where a disc begins only there.
+    `read` reads the replies to the script. `name` is the image's name for people, where that is another than its path. Raises
+    BadImage where none is accepted, with the fault of the likeliest way, or of the last one where a disc begins only there.
     """
-    file = open_file(path)
+    name = path if name is None else name
+    file = open_file(path, name)
     tried: List[Image] = []
     faults: List[BadImage] = []
     kept = None
     try:
-        for image in readings(program, path, file, order, faults):
+        for image in readings(program, name, file, order, faults):
             try:
                 with image.run(program, script) as run:
                     result = read(run)
@@ -189,7 +195,7 @@ def open_image(program: str, path: str, order: str, script: bytes, read: Callabl
         raise faults[told]
     except OSError as error:
         text = "%s: while a copy of it was made in %s: %s"
-        raise Trouble(text % (shown(path), shown(tempfile.gettempdir()), reason(error))) from None
+        raise Trouble(text % (shown(name), shown(tempfile.gettempdir()), reason(error))) from None
     finally:
         for one in (file, *(image.file for image in tried)):
             if one is not kept:

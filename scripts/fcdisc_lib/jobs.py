@@ -8,8 +8,9 @@ from argparse import Namespace
 from typing import Callable, Dict, Iterable, Iterator, List, Optional
 
 from . import names
-from .extraction import Extraction
+from .extraction import Extraction, words_of
 from .faults import explained
+from .hostfiles import keep
 from .images import HEADER, L_SIZE, open_file, open_image, pieces_from, read_at, size_of, to_disc_order, to_interleaved
 from .listing import counted, row, rows
 from .messages import FAILED, WRONG_WORDS, Progress, Trouble, reason, say, shown, tell
@@ -93,7 +94,8 @@ def save(entry: Entry, pieces: Iterator[bytes], wanted: Optional[str]) -> int:
     try:
         with Folder.at(folder) as holder:
             name = name or names.fitted_name(entry.name, suffix, holder.name_limit)
-            with NewFile(holder, pieces, names.unix_time(entry.load, entry.execution)) as temporary:
+            time = names.unix_time(entry.load, entry.execution)
+            with NewFile(holder, pieces, time, lambda number: keep(number, *words_of(entry))) as temporary:
                 holder.publish(temporary, name)
     except OSError as error:
         raise Trouble(place_text(folder, name, error)) from None

@@ -155,3 +155,10 @@ def unix_time(load: int, execution: int) -> Optional[int]:
     if not has_type(load):
         return None
     return (((load & 0xFF) << 32 | execution) - CENTISECONDS_BEFORE_1970) * NANOSECONDS
+
+
+def words_for(file_type: int, time: int) -> Tuple[int, int]:
+    """The load and exec words of a file of that type and time, in nanoseconds since 1970. A time that they can't tell becomes the
+    nearest one."""
+    centiseconds = min(max(time // NANOSECONDS + CENTISECONDS_BEFORE_1970, 0), (1 << 40) - 1)
+    return 0xFFF00000 | file_type << 8 | centiseconds >> 32, centiseconds & 0xFFFFFFFF

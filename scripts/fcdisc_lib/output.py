@@ -11,7 +11,7 @@ import os
 import secrets
 import stat
 from contextlib import suppress
-from typing import Iterable, Optional, Sequence, Set, Tuple, TypeVar
+from typing import Callable, Iterable, Optional, Sequence, Set, Tuple, TypeVar
 
 Inode = Tuple[int, int]
 AnyFolder = TypeVar("AnyFolder", bound="Folder")
@@ -114,11 +114,15 @@ class TemporaryName:
 
 
 class NewFile(TemporaryName):
-    """A file of these pieces under a temporary name, to be published. `time` is in nanoseconds since 1970."""
+    """A file of these pieces under a temporary name, to be published. `time` is in nanoseconds since 1970.
 
-    def __init__(self, folder: Folder, pieces: Iterable[bytes], time: Optional[int] = None):
+    `mark` is called with the file's descriptor once it is whole.
+    """
+
+    def __init__(self, folder: Folder, pieces: Iterable[bytes], time: Optional[int] = None,
+                 mark: Optional[Callable[[int], None]] = None):
         super().__init__(folder)
-        self.pieces, self.time = pieces, time
+        self.pieces, self.time, self.mark = pieces, time, mark
 
     def __enter__(self) -> bytes:
         name = super().__enter__()
@@ -135,6 +139,8 @@ class NewFile(TemporaryName):
             for piece in self.pieces:
                 write_all(number, piece)
             set_time(number, self.time)
+            if self.mark:
+                self.mark(number)
         finally:
             os.close(number)
 

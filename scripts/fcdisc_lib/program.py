@@ -7,7 +7,7 @@ import subprocess
 import sys
 from binascii import Error as NoHex
 from binascii import unhexlify
-from typing import BinaryIO, Dict, Iterable, Iterator, List, NamedTuple, Optional, Sequence, Tuple
+from typing import BinaryIO, Dict, Iterable, Iterator, List, NamedTuple, Optional, Sequence, Tuple, TypeVar
 
 from . import names
 from .messages import Trouble, reason, shown
@@ -16,7 +16,9 @@ SCRIPT_LIMIT = 1 << 24  # bytes; fcore takes no longer script
 BUFFER = 1 << 20
 DIRECTORY = 8  # of an object's attributes
 Path = Tuple[bytes, ...]
+Subject = TypeVar("Subject")
 
+NOT_BUILT = 9
 # Why a run ended, by its status. 0 and 1 are good ends, and 3 comes with a line of its own.
 ENDS = {
     2: "fcore doesn't know these words: is it of another version?", 4: "I/O error while fcore read it",
@@ -39,6 +41,10 @@ class Refused(Exception):
     def __init__(self, name: str):
         super().__init__(name)
         self.name = name
+
+
+class NotBuilt(Trouble):
+    """fcore can't serve the script yet: none of it was run."""
 
 
 class Entry(NamedTuple):
@@ -143,6 +149,8 @@ class Run:
             return BadImage(line.decode("ascii").rstrip("\n").partition(" ")[2])
         if status < 0:
             return self.trouble("fcore was ended by signal %d" % -status)
+        if status == NOT_BUILT:
+            return NotBuilt("%s: %s" % (shown(self.image), ENDS[status]))
         return changed if status in (0, 1) else self.trouble(ENDS.get(status, "fcore ended with status %d" % status))
 
     def trouble(self, text: str) -> Trouble:
@@ -167,6 +175,12 @@ class Run:
             if line == b"ok":
                 return
             yield line
+
+    def free(self) -> Tuple[int, int]:
+        """The reply to `free`: the free bytes, and those of the largest piece."""
+        (line,) = self.lines()
+        total, largest = map(int, line.split()[1:])
+        return total, largest
 
     def check(self) -> Dict[str, int]:
         """The reply to `check`: the counts by their names."""
@@ -213,17 +227,21 @@ def command(word: str, path: Path) -> bytes:
 
 
 def batches(word: str, entries: Iterable[Entry]) -> Iterator[Tuple[bytes, List[Entry]]]:
-    """The objects with scripts that have that command for each, in as few as fcore's limit allows: nearly always one."""
-    lines: List[bytes] = []
-    batch: List[Entry] = []
+    """The objects with scripts that have that command for each."""
+    return scripts((command(word, entry.path), entry) for entry in entries)
+
+
+def scripts(lines: Iterable[Tuple[bytes, Subject]]) -> Iterator[Tuple[bytes, List[Subject]]]:
+    """The lines as scripts, in as few as fcore's limit allows, each with what its lines are about. No line is longer than that."""
+    script: List[bytes] = []
+    batch: List[Subject] = []
     size = 0
-    for entry in entries:
-        line = command(word, entry.path)
+    for line, subject in lines:
         if batch and size + len(line) > SCRIPT_LIMIT:
-            yield b"".join(lines), batch
-            lines, batch, size = [], [], 0
-        lines.append(line)
-        batch.append(entry)
+            yield b"".join(script), batch
+            script, batch, size = [], [], 0
+        script.append(line)
+        batch.append(subject)
         size += len(line)
     if batch:
-        yield b"".join(lines), batch
+        yield b"".join(script), batch

@@ -1,0 +1,322 @@
+"""An image that is changed. The changes are made to a copy beside it, which takes its name when all is done; or in place."""
+from __future__ import annotations
+
+import fcntl
+import os
+import signal
+import stat
+from argparse import Namespace
+from contextlib import ExitStack, contextmanager, suppress
+from typing import BinaryIO, Callable, Dict, Iterable, Iterator, List, NamedTuple, Optional, Set, TypeVar
+
+from . import names
+from .images import (AS_IT_IS, HEADER, L_SIZE, SIDES, Image, copy, has_l_size, open_file, open_image, pieces_from, read_at,
+                     to_interleaved)
+from .listing import counted
+from .messages import FAILED, Trouble, reason, shown, tell
+from .output import NO_LINKS, Folder, NewFile, TemporaryName, split_path
+from .program import SCRIPT_LIMIT, BadImage, NotBuilt, Path, Refused, Run, scripts
+
+Result = TypeVar("Result")
+SIGNALS = (signal.SIGINT, signal.SIGTERM, signal.SIGHUP)
+NEW_COPY = os.O_RDWR | os.O_CREAT | os.O_EXCL | os.O_NOFOLLOW
+NOT_ADDED = "not added"
+SHORT_NAME = 10  # bytes of the longest name on a disc without big directories
+
+# Why fcore refused a line
+REASONS = {
+    "NotFound": "there is no such object on the disc", "NotDirectory": "a file stands where a directory has to",
+    "IsDirectory": "a directory has its name", "Exists": "there is something of this name on the disc already",
+    "RootRefused": "the root directory stays as it is", "IntoItself": "a directory can't be moved into itself",
+    "Locked": "it is locked: use access first", "NotEmpty": "there is something in the directory: use rm -r",
+    "ReadOnly": "the disc is only read", "DirFull": "the directory is full", "IdsFull": "the disc has no room for another object",
+    "DiscFull": "the disc is full", "CompactionRequired": "no piece of the disc's free space is long enough: use compact first",
+    "MapFull": "the list of free space is full: use compact first",
+}
+
+
+class Step(NamedTuple):
+    """A line that changes the disc; the object that a refusal is about, and what then wasn't done."""
+
+    line: bytes
+    path: Path
+    failure: str
+
+
+class Failure(NamedTuple):
+    """A step that was refused, and fcore's name of the refusal."""
+
+    step: Step
+    name: str
+
+
+# ---- lines of scripts
+
+
+def spelled(path: Path) -> bytes:
+    return names.spelled_path(path).encode("ascii")
+
+
+def save_line(path: Path, load: int, execution: int, content: bytes) -> bytes:
+    return b"save %s %08x %08x %s\n" % (spelled(path), load, execution, content.hex().encode("ascii") or b"-")
+
+
+def longest_content(path: Path) -> int:
+    """The bytes of the longest file that one line can hold."""
+    return (SCRIPT_LIMIT - len(save_line(path, 0, 0, b"")) + 1) // 2
+
+
+def set_line(path: Path, load: int, execution: int, attributes: int) -> bytes:
+    access = "".join(letter for bit, letter in ((1, "R"), (2, "W"), (4, "L")) if attributes & bit)
+    return b"set %s %08x %08x %s\n" % (spelled(path), load, execution, access.encode("ascii") or b"-")
+
+
+def why(path: Path, name: str) -> str:
+    """A refusal in words."""
+    if name == "BadName":
+        return name_fault(path[-1])
+    return REASONS.get(name, "fcore refuses it: " + name)
+
+
+def name_fault(name: bytes) -> str:
+    """What a disc may have against a name; fcore says only that it has something."""
+    wrong = [byte for byte in name if byte in names.NOT_PLAIN or byte <= 32 or byte == 127]
+    if wrong:
+        return "no name that is written to a disc may have %s in it" % " ".join(dict.fromkeys(map(names.spelled_byte, wrong)))
+    if len(name) > SHORT_NAME:
+        return "its name has %d letters, and this disc takes no more than %d" % (len(name), SHORT_NAME)
+    return "this disc takes only plain letters in a name"
+
+
+# ---- images
+
+
+class Edit:
+    """An image while it is changed. Used by `with`; without `finish` it stays as it was, unless it is changed in place."""
+
+    image: Image
+
+    def __init__(self, program: str, words: Namespace):
+        self.program, self.name, self.order, self.in_place = program, words.image, words.order, words.in_place
+        self.path = os.path.realpath(words.image)
+        self.changes = self.runs = 0
+        self.failures: List[Failure] = []
+        self.working: Optional[BinaryIO] = None  # what fcore changes: the copy, or the image itself
+        self.holder: Optional[Folder] = None
+        self.copy_name = b""
+        self.stack = ExitStack()
+
+    def __enter__(self) -> Edit:
+        with self.stack:
+            file = self.stack.enter_context(locked_file(self.path, self.name))
+            self.before = os.fstat(file.fileno())
+            if not self.before.st_mode & 0o222 or not os.access(self.path, os.W_OK):
+                raise self.trouble("it is write-protected on this host")
+            self.stack = self.stack.pop_all()
+        return self
+
+    def __exit__(self, *_: object) -> None:
+        self.stack.close()
+
+    def trouble(self, text: str) -> Trouble:
+        return Trouble("%s: %s" % (shown(self.name), text))
+
+    def open(self, script: bytes, read: Callable[[Run], Result]) -> Result:
+        """Opens the image, and reads the replies to a script that changes nothing."""
+        self.image, (counts, result) = open_image(self.program, self.path, self.order, b"check\n" + script,
+                                                  lambda run: (run.check(), read(run)), self.name)
+        self.stack.callback(self.image.file.close)
+        if self.order == "auto" and counts["dirs"] == 1 and counts["files"] and has_l_size(self.image.file):
+            raise self.trouble("nothing shows whether its sides are interleaved, and in the wrong order a change would spoil "
+                               "files: say --order disc or --order adl")
+        return result
+
+    # changes
+
+    def begin(self) -> BinaryIO:
+        """What fcore is to change."""
+        if self.in_place:
+            if self.image.how != AS_IT_IS:
+                raise self.trouble("only an image in disc order and without a header can be changed in place")
+            return self.image.file
+        try:
+            folder, _ = split_path(self.path)
+            self.holder = self.stack.enter_context(Folder.at(folder))
+            self.copy_name = self.stack.enter_context(TemporaryName(self.holder))
+            file = self.stack.enter_context(open(os.open(self.copy_name, NEW_COPY, 0o600, dir_fd=self.holder.number), "r+b"))
+            copy(self.image.file, 0, file)
+            file.flush()
+        except OSError as error:
+            raise self.no_copy(error) from None
+        return file
+
+    def no_copy(self, error: OSError) -> Trouble:
+        return self.trouble("no copy of it can be made beside it (%s); --in-place does without" % reason(error))
+
+    def perform(self, script: bytes, read: Callable[[Run], Result]) -> Result:
+        """Runs a script that changes the disc."""
+        if self.working is None:
+            self.working = self.begin()
+        number = self.working.fileno()
+        try:
+            with unbroken(self.in_place), Run(self.program, self.name, ["--", "/dev/fd/%d" % number], script, [number]) as run:
+                result = read(run)
+        except NotBuilt:
+            text = "this fcore can't do that to such a disc yet (%s): %s"
+            raise self.trouble(text % (commands_of(script), self.left())) from None
+        except (Trouble, BadImage) as error:
+            text = str(error) if isinstance(error, Trouble) else "%s: not accepted: %s" % (shown(self.name), error)
+            raise Trouble("%s: %s" % (text, "it was changed in place, and may be damaged: use check" if self.in_place
+                                      else "nothing was changed")) from None
+        self.runs += 1
+        return result
+
+    def left(self) -> str:
+        return "the rest wasn't done" if self.in_place and self.runs else "nothing was changed"
+
+    def change(self, steps: Iterable[Step]) -> None:
+        """Makes the changes, by one run of fcore or as few as there can be."""
+        for script, batch in scripts((step.line, step) for step in steps):
+            self.perform(script, lambda run, batch=batch: self.read_replies(run, batch))  # type: ignore[misc]
+
+    def read_replies(self, run: Run, batch: List[Step]) -> None:
+        for step in batch:
+            try:
+                for _ in run.lines():
+                    pass
+                self.changes += 1
+            except Refused as refused:
+                self.failures.append(Failure(step, refused.name))
+
+    # the end
+
+    def finish(self) -> int:
+        """Makes the changes stand, and tells which were refused. Answers the status."""
+        if self.changes and self.holder:
+            try:
+                self.replace(self.holder)
+            except OSError as error:
+                raise self.no_copy(error) from None
+        tell_failures(self.name, self.failures)
+        return FAILED if self.failures else 0
+
+    def replace(self, holder: Folder) -> None:
+        """The copy takes the image's name; the image as it was has a `~` after its name then."""
+        assert self.working
+        with ExitStack() as stack:
+            name, number = self.copy_name, self.working.fileno()
+            if self.image.how != AS_IT_IS:
+                name = stack.enter_context(NewFile(holder, self.pieces_back()))
+                number = os.open(name, os.O_RDWR | os.O_NOFOLLOW, dir_fd=holder.number)
+                stack.callback(os.close, number)
+            with suppress(OSError):
+                os.fchown(number, self.before.st_uid, self.before.st_gid)
+            os.fchmod(number, stat.S_IMODE(self.before.st_mode))
+            os.fsync(number)
+            if not is_same(self.before, os.stat(self.path)):
+                raise self.trouble("another program changed it meanwhile: it stays as it is now")
+            try:
+                exchange(holder, name, split_path(self.path)[1])
+            except OSError as error:
+                raise Trouble("%s~: %s: nothing was changed" % (shown(self.name), reason(error))) from None
+
+    def pieces_back(self) -> Iterator[bytes]:
+        """The changed disc in the form that the image has."""
+        assert self.working
+        with open_file(self.path) as original:
+            if self.image.how == SIDES:
+                yield to_interleaved(read_at(self.working, 0, L_SIZE))
+                yield from pieces_from(original, L_SIZE)
+            else:
+                yield read_at(original, 0, HEADER)
+                yield from pieces_from(self.working, 0)
+
+
+def exchange(holder: Folder, new: bytes, name: bytes) -> None:
+    """Gives a file the name of another, which is kept with a `~` after its name. At each moment the name leads to one of them."""
+    folder = {"src_dir_fd": holder.number, "dst_dir_fd": holder.number}
+    try:
+        with TemporaryName(holder) as second:
+            os.link(name, second, follow_symlinks=False, **folder)
+            os.replace(second, name + b"~", **folder)
+    except OSError as error:
+        if error.errno not in NO_LINKS:
+            raise
+        os.replace(name, name + b"~", **folder)
+    os.replace(new, name, **folder)
+    with suppress(OSError):
+        os.fsync(holder.number)
+
+
+def is_same(before: os.stat_result, now: os.stat_result) -> bool:
+    """Whether nobody replaced or wrote the file meanwhile."""
+    return ((before.st_dev, before.st_ino, before.st_size, before.st_mtime_ns)
+            == (now.st_dev, now.st_ino, now.st_size, now.st_mtime_ns))
+
+
+@contextmanager
+def locked_file(path: str, name: str) -> Iterator[BinaryIO]:
+    """The open file, which no other fcdisc changes meanwhile."""
+    while True:
+        with open_file(path, name) as file:
+            try:
+                fcntl.flock(file, fcntl.LOCK_EX | fcntl.LOCK_NB)
+            except BlockingIOError:
+                raise Trouble("%s: another fcdisc is changing it: try again when that has ended" % shown(name)) from None
+            except OSError:
+                pass  # a host without locks
+            with suppress(FileNotFoundError):
+                if os.path.samestat(os.fstat(file.fileno()), os.stat(path)):
+                    yield file
+                    return
+
+
+@contextmanager
+def unbroken(in_place: bool) -> Iterator[None]:
+    """Signals wait while an image is changed in place, for fcdisc and for the fcore that it starts."""
+    if not in_place:
+        yield
+        return
+    before = signal.pthread_sigmask(signal.SIG_BLOCK, SIGNALS)
+    try:
+        yield
+    finally:
+        signal.pthread_sigmask(signal.SIG_SETMASK, before)
+
+
+def commands_of(script: bytes) -> str:
+    """The commands of a script that change a disc."""
+    words = dict.fromkeys(line.split(b" ")[0].decode("ascii") for line in script.split(b"\n") if line)
+    return ", ".join(word for word in words if word not in ("free", "check"))
+
+
+def tell_failures(name: str, failures: List[Failure]) -> None:
+    """Names each object that was refused, with the reason. What is in a directory that isn't there is only counted."""
+    unmade = {step.path for step, _ in failures if step.line.startswith(b"cdir ")}
+    inner: Dict[Path, int] = {}
+    told: Set[Path] = set()
+    first: List[Failure] = []
+    for failure in failures:
+        path = failure.step.path
+        outer = next((path[:size] for size in range(1, len(path)) if path[:size] in unmade), None)
+        if outer is not None and failure.name == "NotFound":
+            inner[outer] = inner.get(outer, 0) + (path not in told)
+        elif path not in told:
+            first.append(failure)
+        told.add(path)
+    for step, refusal in first:
+        rest = "; nor what is in it: %s" % counted(inner[step.path], "object") if step.path in inner else ""
+        text = reason_of(step, refusal, failures) + rest
+        tell("%s: %s: %s: %s" % (shown(name), names.spelled_path(step.path), step.failure, text))
+
+
+def reason_of(step: Step, refusal: str, failures: List[Failure]) -> str:
+    if refusal == "NotFound" and not step.line.startswith(b"delete"):
+        return "there is no directory for it on the disc"
+    if refusal == "NotEmpty" and any(is_below(other.path, step.path) for other, _ in failures):
+        return "something in it is left"
+    return why(step.path, refusal)
+
+
+def is_below(path: Path, holder: Path) -> bool:
+    return len(path) > len(holder) and path[:len(holder)] == holder

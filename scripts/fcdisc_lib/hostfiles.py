@@ -1,0 +1,100 @@
+"""Files of the host that go onto a disc, and what a file's name, time and contents can't say of an object on a disc.
+
+`extract` keeps an object's load and exec words and its attributes in an extended attribute of the file or folder, where the host
+has these. They count as long as the file wasn't written, and its name wasn't given another type, since then.
+"""
+from __future__ import annotations
+
+import os
+import re
+import stat
+from contextlib import suppress
+from typing import NamedTuple, Optional, Tuple
+
+from .names import DiscName, has_type, unix_time, words_for
+
+KEPT_NAME = "user.fcdisc"
+KEPT = re.compile(rb"([0-9a-f]{8}) ([0-9a-f]{8}) ([0-9a-f]{8}) (-?[0-9]+)\Z")
+TEXT = 0xFFF
+NEW_FILE = 3  # the attributes of a new file: its owner may read and write
+NEW_DIRECTORY = 8
+OPEN_FILE = os.O_RDONLY | os.O_NONBLOCK  # to open it doesn't wait, as for the other end of a pipe
+
+
+class Kept(NamedTuple):
+    """What `extract` knew of an object, and the time that the file then had, in nanoseconds."""
+
+    load: int
+    execution: int
+    attributes: int
+    time: int
+
+
+def keep(number: int, load: int, execution: int, attributes: int) -> None:
+    """Keeps an object's words and attributes with the open file or folder. A host that can't do so does without."""
+    if hasattr(os, "setxattr"):
+        text = b"%08x %08x %08x %d" % (load, execution, attributes, os.fstat(number).st_mtime_ns)
+        with suppress(OSError):
+            os.setxattr(number, KEPT_NAME, text, os.XATTR_CREATE)
+
+
+def keep_of_file(number: int, load: int, execution: int, attributes: int) -> None:
+    """Keeps what the file's name and time don't say already, if there is any."""
+    if attributes != NEW_FILE or has_type(load) and unix_time(load, execution) != os.fstat(number).st_mtime_ns:
+        keep(number, load, execution, attributes)
+
+
+def kept_with(number: int) -> Optional[Kept]:
+    """What `keep` left with the open file or folder."""
+    if not hasattr(os, "getxattr"):
+        return None
+    try:
+        found = KEPT.match(os.getxattr(number, KEPT_NAME))
+    except OSError:
+        return None
+    return Kept(int(found[1], 16), int(found[2], 16), int(found[3], 16), int(found[4])) if found else None
+
+
+class HostFile(NamedTuple):
+    """A file of the host as it was read."""
+
+    content: bytes
+    time: int  # in nanoseconds since 1970
+    kept: Optional[Kept]
+
+    def words(self, named: DiscName, default: int = TEXT) -> Tuple[int, int]:
+        """The load and exec words, from the type or the words of its name, its time, and what was kept."""
+        kept = self.kept
+        if kept and kept.time == self.time and agrees(kept, named):
+            return kept.load, kept.execution
+        if named.words:
+            return named.words
+        if named.file_type is not None:
+            return words_for(named.file_type, self.time)
+        return words_for(kept.load >> 8 & 0xFFF if kept and has_type(kept.load) else default, self.time)
+
+
+def agrees(kept: Kept, named: DiscName) -> bool:
+    """Whether the name says nothing, or the same type or words as what was kept."""
+    if named.words:
+        return named.words == (kept.load, kept.execution)
+    return named.file_type is None or has_type(kept.load) and named.file_type == kept.load >> 8 & 0xFFF
+
+
+def read_host_file(path: bytes, limit: int, flags: int = 0) -> HostFile:
+    """Reads a file of at most `limit` bytes. With the flag O_NOFOLLOW a link isn't followed.
+
+    Raises OSError, or ValueError with the reason where it isn't to be had as it is.
+    """
+    number = os.open(path, OPEN_FILE | flags)
+    with open(number, "rb") as file:
+        before = os.fstat(number)
+        if not stat.S_ISREG(before.st_mode):
+            raise ValueError("not a file")
+        if before.st_size > limit:
+            raise ValueError("it has %d bytes, and fcore takes files of no more than %d here" % (before.st_size, limit))
+        content = file.read(limit + 1)
+        after = os.fstat(number)
+        if len(content) != before.st_size or (before.st_size, before.st_mtime_ns) != (after.st_size, after.st_mtime_ns):
+            raise ValueError("it changed while it was read")
+        return HostFile(content, before.st_mtime_ns, kept_with(number))

@@ -1,0 +1,442 @@
+"""Checks of the jobs of fcdisc that change a disc. tools/stand_in.py is in fcore's place, since it has all commands.
+
+The trees are read by tools/read_image.py; what has to be on a disc is written here, or follows from the disc that was extracted.
+"""
+import fcntl
+import os
+import shutil
+import signal
+import stat
+import subprocess
+
+import fcdisc_cases
+import images
+from change_state import State
+from filecore import NOT_SPELLED, spelled_path
+
+STAND_IN = os.path.join(os.path.dirname(os.path.realpath(__file__)), "stand_in.py")
+SETTABLE = 15
+LOST = "lost what others than the owner may do: fcore can't set that"
+
+
+def tree_of(data):
+    """Each object of an image: its attributes, words and bytes, None for a directory's."""
+    state = State(data)
+    return {tuple(entry.path): (entry.attributes, entry.load, entry.execution,
+                                None if entry.is_directory() else bytes(state.content(entry)))
+            for key, entry in state.objects.items() if key}
+
+
+def short_tree(data):
+    """As `tree_of`, by spelled paths, and without words: a file's access and bytes, a directory's access."""
+    return {spelled_path(path): (node[0], node[3]) if node[3] is not None else node[0] & ~8 for path, node in tree_of(data).items()}
+
+
+def read(path):
+    with open(path, "rb") as file:
+        return file.read()
+
+
+class Changes:
+    """The checks, over the folders of those of check_fcdisc.py."""
+
+    def __init__(self, checks):
+        self.checks, self.work = checks, b""
+
+    # a disc in the work folder
+
+    def start(self, name="named.adf", image="a.adf", files=None):
+        """A fresh work folder with a copy of an image, and files of the host by name."""
+        self.work = self.checks.fresh(b"work")
+        shutil.copy(self.checks.place(b"images/" + os.fsencode(name)), self.at(image))
+        for path, content in (files or {}).items():
+            os.makedirs(os.path.dirname(self.at(path)), exist_ok=True)
+            if content is None:
+                os.mkdir(self.at(path))
+            else:
+                with open(self.at(path), "wb") as file:
+                    file.write(content)
+        return read(self.at(image))
+
+    def at(self, name):
+        return os.path.join(self.work, os.fsencode(name))
+
+    def run(self, *words, fcore=None, within=None):
+        return self.checks.run(list(words), fcore or STAND_IN, within)
+
+    def fake(self, text):
+        """A program in fcore's place."""
+        path = os.path.join(self.checks.fresh(b"fake"), b"fcore")
+        with open(path, "w") as file:
+            file.write(text.replace("STAND_IN", STAND_IN))
+        os.chmod(path, 0o755)
+        return "../fake/fcore"
+
+    def names(self):
+        return sorted(map(os.fsdecode, os.listdir(self.work)))
+
+    def good(self, name, words, tree, out="", image="a.adf", **more):
+        """A job that does all: the tree afterwards, and the image as it was beside it."""
+        before = read(self.at(image))
+        got = self.run(*words, **more)
+        backup = os.path.exists(self.at(image + "~")) and read(self.at(image + "~")) == before
+        self.checks.expect(name, result=((out, "", 0), got), tree=(tree, short_tree(read(self.at(image)))), backup=(True, backup))
+
+    def refused(self, name, words, error, status=1, out="", image="a.adf", notes=0, **more):
+        """A job that does nothing: image and folder stay as they were. `notes`: lines that may come before the error."""
+        before, names = self.both(image), self.names()
+        got = self.run(*words, **more)
+        if notes and got[1].count("\n") > 1:
+            got = (got[0], "".join(got[1].splitlines(True)[-1:]), got[2])
+        error = "fcdisc: %s\n" % error if error and not error.startswith("usage") else error
+        if "..." in error:
+            got = (got[0], error if got[1].startswith(error.split("...")[0]) else got[1], got[2])
+        self.checks.expect(name, result=((out, error, status), got), same=(True, self.both(image) == before),
+                           left=(names, self.names()))
+
+    def both(self, image):
+        """The image, and what is kept beside it."""
+        return [read(self.at(name)) if os.path.isfile(self.at(name)) else None for name in (image, image + "~")]
+
+
+NAMED = {"$.A%20B": (3, b"A B!"), "$.Ab": (3, b"\2"), "$.D": 0, "$.D.error": (3, b"")}
+
+
+def putting(c):
+    file = {"note.txt": b"Hello\n", "Prog,ffb": b"\r\xff", "big": bytes(900000), "p": b"", "100%é?,fff": b"x"}
+    c.start(files=file)
+    os.chmod(c.at("a.adf"), 0o640)
+    c.good("put", ["put", "a.adf", "note.txt", "$.Note"], {**NAMED, "$.Note": (3, b"Hello\n")})
+    c.checks.expect("put keeps the mode", mode=(0o640, stat.S_IMODE(os.stat(c.at("a.adf")).st_mode)), left=(
+        sorted([*file, "a.adf", "a.adf~"]), c.names()))
+    c.good("put into a directory", ["put", "a.adf", "Prog,ffb", "d"], {
+        **NAMED, "$.Note": (3, b"Hello\n"), "$.D.Prog": (3, b"\r\xff")})
+    load = {path: node[1] >> 8 for path, node in tree_of(read(c.at("a.adf"))).items()}
+    c.checks.expect("put gives types", types=((0xFFFFFF >> 8 << 8 | 0xFF, 0xFFFFFB), (load[(b"Note",)], load[(b"D", b"Prog")])))
+    c.refused("put there", ["put", "a.adf", "note.txt", "$.Ab"],
+              "a.adf: $.Ab: there is something of this name on the disc already: --replace puts the new file in its place")
+    c.run("access", "a.adf", "R", "$.Ab")
+    c.good("put --replace", ["put", "--replace", "a.adf", "note.txt", "$.AB"], {
+        **NAMED, "$.Note": (3, b"Hello\n"), "$.D.Prog": (3, b"\r\xff"), "$.Ab": (1, b"Hello\n")})
+    c.start(files=file)
+    c.good("put --type", ["put", "--type", "&feb", "a.adf", "Prog,ffb", "$.Run"], {**NAMED, "$.Run": (3, b"\r\xff")})
+    c.checks.expect("put --type gives it", type=(0xFFFFEB, tree_of(read(c.at("a.adf")))[(b"Run",)][1] >> 8))
+    for name, words, error in (
+            ("no directory", ["note.txt", "$.X.Y"], "a.adf: $.X: there is no such directory on the disc"),
+            ("below a file", ["note.txt", "$.Ab.Y"], "a.adf: $.Ab: there is no such directory on the disc"),
+            ("a long name", ["note.txt", "$.ElevenBytes"],
+             "a.adf: $.ElevenBytes: not put there: its name has 11 letters, and this disc takes no more than 10"),
+            ("a bad name", ["note.txt", "$.a*"],
+             "a.adf: $.a%2A: not put there: no name that is written to a disc may have %2A in it"),
+            ("a file that isn't there", ["none", "$.Y"], "none: No such file or directory"),
+            ("a folder", [".", "$.Y"], ".: a folder: use add"),
+            ("more than the disc holds", ["big", "$.Big"], "a.adf: $.Big: not put there: the disc is full")):
+        c.refused("put " + name, ["put", "a.adf", *words], error)
+    os.truncate(c.at("big"), 9000000)
+    c.refused("put more than a script holds", ["put", "a.adf", "big", "$.Big"],
+              "big: it has 9000000 bytes, and fcore takes files of no more than 8388593 here")
+    c.refused("put no image", ["put", "none.adf", "note.txt", "$.N"], "none.adf: No such file or directory")
+    c.refused("put a type that is none", ["put", "--type", "xyz", "a.adf", "note.txt", "$.N"], "usage: fcdisc put...", 2)
+    os.symlink("note.txt", c.at("link"))
+    c.good("put by a link", ["put", "a.adf", "link", "$.Link"], {
+        **NAMED, "$.Run": (3, b"\r\xff"), "$.Link": (3, b"Hello\n")})
+
+
+def ordering(c):
+    """mkdir, mv, access, rm, compact."""
+    c.start()
+    c.good("mkdir", ["mkdir", "a.adf", "E", "$.E.F"], {**NAMED, "$.E": 0, "$.E.F": 0})
+    got = c.run("mkdir", "a.adf", "G", "D", "x.y", "Ab.y")
+    told = ("D: not made: there is something of this name on the disc already",
+            "x.y: not made: there is no directory for it on the disc", "Ab.y: not made: a file stands where a directory has to")
+    c.checks.expect("mkdir in part", result=(("", "".join("fcdisc: a.adf: $.%s\n" % text for text in told), 1), got),
+                    there=(True, "$.G" in short_tree(read(c.at("a.adf")))))
+    c.start()
+    moved = {"$.A%20B": (3, b"A B!"), "$.D": 0, "$.D.error": (3, b""), "$.D.Ab": (3, b"\2")}
+    c.good("mv into a directory", ["mv", "a.adf", "AB", "D"], moved)
+    c.good("mv to another case", ["mv", "a.adf", "d", "$.d"], {
+        "$.A%20B": (3, b"A B!"), "$.d": 0, "$.d.error": (3, b""), "$.d.Ab": (3, b"\2")})
+    for name, words, error in (
+            ("nothing", ["x", "y"], "a.adf: $.x: there is no such object on the disc"),
+            ("over another", ["d.Ab", "d.error"],
+             "a.adf: $.d.error: $.d.Ab not moved there: there is something of this name on the disc already"),
+            ("into itself", ["d", "d.x"], "a.adf: $.d.x: $.d not moved there: a directory can't be moved into itself"),
+            ("to nowhere", ["d.Ab", "x.y"], "a.adf: $.x.y: $.d.Ab not moved there: there is no directory for it on the disc")):
+        c.refused("mv " + name, ["mv", "a.adf", *words], error)
+    c.refused("mv the root", ["mv", "a.adf", "$", "y"], "$: the root directory stays as it is", 2)
+    c.start()
+    locked = {**NAMED, "$.Ab": (5, b"\2"), "$.D": 4}
+    c.good("access", ["access", "a.adf", "lr/", "ab", "D"], {**locked, "$.D": 5})
+    c.good("access none", ["access", "a.adf", "-", "D"], {**locked, "$.D": 0})
+    c.refused("access of nothing", ["access", "a.adf", "WR", "D", "x"], "a.adf: $.x: there is no such object on the disc")
+    c.refused("access of others", ["access", "a.adf", "WR/R", "D"], "usage: fcdisc access...", 2)
+    c.refused("rm locked", ["rm", "a.adf", "ab"], "a.adf: $.ab: not removed: it is locked: use access first")
+    c.refused("rm a directory", ["rm", "a.adf", "D"], "a.adf: $.D: not removed: there is something in the directory: use rm -r")
+    c.refused("rm the root", ["rm", "-r", "a.adf", "$"], "$: the root directory stays as it is", 2)
+    c.good("rm", ["rm", "a.adf", "A B", "D.error"], {"$.Ab": (5, b"\2"), "$.D": 0})
+    c.start()
+    c.run("access", "a.adf", "L", "D.error")
+    got = c.run("rm", "-r", "a.adf", "D", "Ab")
+    c.checks.expect("rm -r in part", result=(("", "fcdisc: a.adf: $.D.error: not removed: it is locked: use access first\n"
+                                              "fcdisc: a.adf: $.D: not removed: something in it is left\n", 1), got),
+                    tree=({"$.A%20B": (3, b"A B!"), "$.D": 0, "$.D.error": (4, b"")}, short_tree(read(c.at("a.adf")))))
+    c.run("access", "a.adf", "WR", "D.error")
+    c.good("rm -r", ["rm", "-r", "a.adf", "D", "D.error"], {"$.A%20B": (3, b"A B!")})
+    before = short_tree(c.start("l-files.adf"))
+    c.run("access", "a.adf", "-", "Outer.Inner.Innermost")  # it is locked
+    c.good("rm -r of several levels", ["rm", "-r", "a.adf", "Outer"], {
+        path: node for path, node in before.items() if not (path + ".").startswith("$.Outer.")})
+    c.start("d-files.adf")
+    before = short_tree(read(c.at("a.adf")))
+    c.good("compact", ["compact", "a.adf"], before, "620544 bytes free, the largest piece 615424; before, it was 615424\n")
+
+
+def forms(c):
+    """Images that aren't in disc order, links, and changes in place."""
+    from fcdisc_lib import images as parts
+    file = {"note": b"Hello"}
+    for image, back in (("sides.adl", parts.to_disc_order), ("header.hdf", lambda data: data[512:])):
+        before = c.start(image, image, file)
+        with open(c.at(image), "ab") as added:
+            added.write(b"after the end")
+        got = c.run("put", image, "note", "$.Note")
+        after = read(c.at(image))
+        tree = {**short_tree(back(before)), "$.Note": (3, b"Hello")}
+        c.checks.expect("put onto " + image, result=(("", 0), (got[0], got[2])), told=(1, got[1].count("\n")),
+                        tree=(tree, short_tree(back(after))), end=(True, after.endswith(b"after the end")),
+                        size=(len(before) + 13, len(after)), head=(True, image == "sides.adl" or after[:512] == before[:512]),
+                        backup=(before + b"after the end", read(c.at(image + "~"))))
+        c.refused("in place of " + image, ["put", "--in-place", image, "note", "$.N"], "%s: ..." % image, image=image)
+    for image in ("flat.adf", "flat.adl"):
+        c.start(image, image, file)
+        c.refused("either order of " + image, ["put", image, "note", "$.N"],
+                  image + ": nothing shows whether its sides are interleaved, and in the wrong order a change would spoil files: "
+                  "say --order disc or --order adl", image=image, notes=1)
+    before = c.start("flat.adl", "a.adf", file)
+    c.run("put", "--order", "adl", "a.adf", "note", "$.N")
+    c.checks.expect("put in the order that is asked for", tree=(
+        {**short_tree(parts.to_disc_order(before)), "$.N": (3, b"Hello")}, short_tree(parts.to_disc_order(read(c.at("a.adf"))))))
+    c.start(files=file)
+    os.symlink("a.adf", c.at("link.adf"))
+    c.good("put by an image's link", ["put", "link.adf", "note", "$.N"], {**NAMED, "$.N": (3, b"Hello")})
+    c.checks.expect("the link stays", link=("a.adf", os.fsdecode(os.readlink(c.at("link.adf")))))
+    c.start(files=file)
+    inode = os.stat(c.at("a.adf")).st_ino
+    got = c.run("put", "--in-place", "a.adf", "note", "$.N")
+    tree = {**NAMED, "$.N": (3, b"Hello")}
+    c.checks.expect("put --in-place", result=(("", "", 0), got), tree=(tree, short_tree(read(c.at("a.adf")))),
+                    left=(["a.adf", "note"], c.names()), same=(inode, os.stat(c.at("a.adf")).st_ino))
+
+
+def adding(c):
+    files = {"o/Read.Me,fff": b"read", "o/In/x,ffb": b"x", "o/In/X,fff": b"y", "o/n": b"n", "o/.fcdisc-1.tmp": b"",
+             "o/Eleven.bytes/in/deep": b"", "o/Eleven.bytes/b": b"", "o/p\u0416": b"", "o/D/error,fff": b"mine", "o/Ab/x": b"z"}
+    c.start(files=files)
+    os.symlink("n", c.at("o/link"))
+    os.symlink("../o", c.at("o/loop"))
+    os.mkfifo(c.at("o/pipe"))
+    got = c.run("add", "a.adf", "o")
+    told = ["o/link: not added: it is a link", "o/loop: not added: it is a link", "o/pipe: not added: not a file",
+            "o/p\u0416: not added: a disc's names have no letters but those of Latin 1",
+            "o/In/x,ffb: not added: on a disc it has the same name as X,fff",
+            "o/Ab: not added: a file of its name is on the disc; nor what is in it",
+            "o/D/error,fff: not added: there is something of its name on the disc already (--replace puts files in its place)",
+            "a.adf: $.Eleven/bytes: not added: its name has 12 letters, and this disc takes no more than 10; "
+            "nor what is in it: 3 objects"]
+    tree = {**NAMED, "$.Read/Me": (3, b"read"), "$.In": 0, "$.In.X": (3, b"y"), "$.n": (3, b"n")}
+    c.checks.expect("add", out=("3 of 7 files added to a.adf\n", got[0]), status=(1, got[2]),
+                    told=(sorted("fcdisc: " + text for text in told), sorted(got[1].splitlines())),
+                    tree=(tree, short_tree(read(c.at("a.adf")))))
+    c.start(files={"o/error": b"new", "o/x,00008000-0000abcd": b"x"})
+    c.good("add --replace", ["add", "--replace", "a.adf", "o", "D"], {**NAMED, "$.D.error": (3, b"new"), "$.D.x": (3, b"x")},
+           "2 of 2 files added to a.adf\n")
+    c.good("add to a new directory", ["add", "a.adf", "o", "$.D.New"], {
+        **NAMED, "$.D.error": (3, b"new"), "$.D.x": (3, b"x"), "$.D.New": 0, "$.D.New.error": (3, b"new"), "$.D.New.x": (3, b"x")},
+           "2 of 2 files added to a.adf\n")
+    c.checks.expect("add gives words", words=((0x8000, 0xABCD), tree_of(read(c.at("a.adf")))[(b"D", b"x")][1:3]))
+    for name, words, error in (("to a file", ["o", "Ab"], "a.adf: $.Ab: a file stands where a directory has to"),
+                               ("to nowhere", ["o", "x.y"], "a.adf: $.x.y: not added: there is no directory for it on the disc; "
+                                "nor what is in it: 2 objects"),
+                               ("no folder", ["none"], "none: No such file or directory"),
+                               ("a file", ["o/error"], "o/error: not a folder: use put")):
+        c.refused("add " + name, ["add", "a.adf", *words], error, out="0 of 2 files added to a.adf\n" if "nowhere" in name else "")
+    c.start(files={"o/%02d" % at: b"%d" % at * 40000 for at in range(30)})
+    got = c.run("add", "a.adf", "o")
+    count = len(short_tree(read(c.at("a.adf")))) - len(NAMED)
+    c.checks.expect("add to a full disc", status=(1, got[2]), out=("%d of 30 files added to a.adf\n" % count, got[0]),
+                    told=(30 - count, got[1].count("not added: the disc is full")), some=(True, 5 < count < 25))
+    c.start(files={"o/%d" % at: bytes([at]) * 5000000 for at in range(3)})
+    os.chmod(c.at("o/2"), 0o600)
+    watched = c.fake('#!/bin/sh\necho run >> runs; exec STAND_IN "$@"\n')
+    got = c.run("add", "a.adf", "o", fcore=watched)
+    c.checks.expect("add in several scripts", runs=(4, read(c.at("runs")).count(b"\n")), status=(1, got[2]),
+                    out=("0 of 3 files added to a.adf\n", got[0]))
+
+
+def troubles(c):
+    """What can go wrong outside: no room, no rights, other programs, signals."""
+    words, file = ["put", "a.adf", "note", "$.N"], {"note": b"Hello"}
+    c.start(files=file)
+    os.chmod(c.at("a.adf"), 0o444)
+    c.refused("a protected image", words, "a.adf: it is write-protected on this host")
+    os.chmod(c.at("a.adf"), 0o644)
+    with open(c.at("a.adf"), "rb") as other:
+        fcntl.flock(other, fcntl.LOCK_EX)
+        c.refused("another job", words, "a.adf: another fcdisc is changing it: try again when that has ended")
+    for missing in ("save", "set"):
+        c.checks.extra = {"STAND_IN_LACKS": missing}
+        job = words if missing == "save" else ["access", "a.adf", "L", "Ab"]
+        for place in ([], ["--in-place"]):
+            c.refused("a command that fcore lacks", [job[0], *place, *job[1:]],
+                      "a.adf: this fcore can't do that to such a disc yet (%s): nothing was changed" % missing)
+        c.checks.extra = {}
+    failing = '#!/bin/sh\ncase "$*" in *read-only*) exec STAND_IN "$@";; esac\ncat > /dev/null; %s\n'
+    for name, end, error in (("fails", "exit 4", "I/O error while fcore read it"),
+                             ("dies", "kill -9 $$", "fcore was ended by signal 9"),
+                             ("says less", "exit 0", fcdisc_cases.CHANGED)):
+        fcore = c.fake(failing % end)
+        c.refused("fcore " + name, words, "a.adf: %s: nothing was changed" % error, fcore=fcore)
+        c.refused("fcore %s in place" % name, [words[0], "--in-place", *words[1:]],
+                  "a.adf: %s: it was changed in place, and may be damaged: use check" % error, fcore=fcore)
+    os.mkdir(c.at("a.adf~"))
+    c.refused("a folder of the copy's name", words, "a.adf~: Is a directory: nothing was changed")
+    os.rmdir(c.at("a.adf~"))
+    touching = c.fake('#!/bin/sh\ncase "$*" in *read-only*) ;; *) printf x >> a.adf;; esac\nexec STAND_IN "$@"\n')
+    got = c.run(*words, fcore=touching)
+    text = "fcdisc: a.adf: another program changed it meanwhile: it stays as it is now\n"
+    c.checks.expect("changed meanwhile", result=(("", text, 1), got),
+                    left=(["a.adf", "note"], c.names()), tree=(NAMED, short_tree(read(c.at("a.adf")))))
+    c.start(files={"o/gone": b"", "o/stays": b"s"})
+    removing = c.fake('#!/bin/sh\nrm -f o/gone\nexec STAND_IN "$@"\n')
+    got = c.run("add", "a.adf", "o", fcore=removing)
+    text = "fcdisc: o/gone: not added: No such file or directory\n"
+    c.checks.expect("a file that vanishes", result=(("1 of 2 files added to a.adf\n", text, 1), got),
+                    tree=({**NAMED, "$.stays": (3, b"s")}, short_tree(read(c.at("a.adf")))))
+
+
+def no_room(c):
+    """A disk that holds the image and no copy of it."""
+    c.start(files={"note": b"Hello"})
+    within = ('mkdir ../room; unshare -m sh -c \'mount -t tmpfs -o size=1200k none ../room && cp a.adf note ../room && '
+              'cd ../room && head -c 300000 /dev/zero > pad; "$@"; status=$?; echo $(find . | sort); exit $status\' sh "$@"; '
+              'status=$?; rmdir ../room; exit $status')
+    c.refused("no room for a copy", ["put", "a.adf", "note", "$.N"],
+              "a.adf: no copy of it can be made beside it (No space left on device); --in-place does without",
+              out=". ./a.adf ./note ./pad\n", within=within)
+
+
+SLOW = '#!/bin/sh\ncase "$*" in *read-only*) exec STAND_IN "$@";; esac\ntouch begun; sleep 2; exec STAND_IN "$@"\n'
+
+
+def signals(c):
+    """A signal leaves the image as it was; if it is changed in place, it waits for the end."""
+    from check_fcdisc import wait_for
+    for number in (signal.SIGINT, signal.SIGTERM):
+        for place in ([], ["--in-place"]):
+            before = c.start(files={"note": b"Hello"})
+            words = [c.checks.fcdisc, "put", *place, "a.adf", "note", "$.N"]
+            run = subprocess.Popen(words, cwd=c.work, env=c.checks.environment(c.fake(SLOW)), stderr=subprocess.PIPE)
+            wait_for(lambda: os.path.exists(c.at("begun")))
+            second = c.run("mkdir", "a.adf", "E")
+            run.send_signal(number)
+            errors = run.communicate(timeout=60)[1]
+            tree = {**NAMED, "$.N": (3, b"Hello")} if place else NAMED
+            c.checks.expect("signal %d %s" % (number, place), status=(-number, run.returncode), errors=(b"", errors),
+                            left=(["a.adf", "begun", "note"], c.names()), tree=(tree, short_tree(read(c.at("a.adf")))),
+                            same=(not place, read(c.at("a.adf")) == before), second=(1, second[2]))
+
+
+# ---- whole discs
+
+
+def is_writable(path, big, seven=False):
+    return all(len(name) <= (255 if big else 10) and not any(
+        byte <= 32 or byte == 127 or byte in NOT_SPELLED or seven and byte > 126 for byte in name) for name in path)
+
+
+def wanted_tree(tree, form):
+    """What of a tree can be on a disc of that format, with the attributes that can be set."""
+    return {path: (node[0] & SETTABLE, *node[1:]) for path, node in tree.items()
+            if is_writable(path, form.endswith("+"), form == "L")}
+
+
+def own_format(data, volume):
+    """The format of a fresh disc like this one."""
+    big = "+" * (getattr(volume, "big", False) is True)
+    return {819200: "E", 1638400: "F", 655360: "L"}.get(len(data), "F") + big
+
+
+def round_trip(c, name, volume, data):
+    """`extract`, and `add` to fresh discs; and `convert`."""
+    tree, checks = tree_of(data), c.checks
+    loses = any(node[0] & ~SETTABLE for node in tree.values())
+    for form in dict.fromkeys((own_format(data, volume), "F+")):
+        wanted = wanted_tree(tree, form)
+        long_names = any(len(part) > 245 for path in tree for part in path)
+        c.start(name + ".adf")
+        c.run("extract", "a.adf", "o")
+        c.run("new", form, "b.adf")
+        got = c.run("add", "b.adf", "o")
+        files = sum(node[3] is not None for node in tree.values())
+        found = tree_of(read(c.at("b.adf")))
+        if long_names:  # the host cut these
+            found, wanted = ({path: node for path, node in one.items() if max(map(len, path)) < 230} for one in (found, wanted))
+        checks.expect("extract %s, add to %s" % (name, form), same=([], differing(wanted, found)),
+                      status=(wanted_tree(tree, form) != tree, bool(got[2])), told=(loses, LOST in got[1]))
+        got = c.run("convert", form, "a.adf", "c.adf")
+        wanted = wanted_tree(tree, form)
+        checks.expect("convert %s to %s" % (name, form), same=([], differing(wanted, tree_of(read(c.at("c.adf"))))),
+                      status=(wanted != tree, bool(got[2])), told=(loses, LOST in got[1]),
+                      out=("%d of %d file%s copied to c.adf\n" % (
+                          sum(node[3] is not None for node in wanted.values()), files, "s" * (files != 1)), got[0]))
+
+
+def kept_words(c):
+    """A file that is taken out, written or not, and put back keeps its type; and its words if it wasn't written."""
+    c.start("f-user.adf")
+    c.run("get", "a.adf", "$.!Boot.!Run", "run")
+    c.run("put", "--replace", "a.adf", "run", "$.!Boot.!Run")
+    words = tree_of(read(c.at("a.adf")))[(b"!Boot", b"!Run")][1:3]
+    with open(c.at("run"), "ab") as file:
+        file.write(b"more")
+    c.run("put", "a.adf", "run", "$.Other")
+    other = tree_of(read(c.at("a.adf")))[(b"Other",)]
+    c.checks.expect("words are kept", words=((0xFFFFEB12, 0x5A5A5A5A), words), type=(0xFEB, other[1] >> 8 & 0xFFF),
+                    time=(True, other[2] != 0x5A5A5A5A), content=(b"| boots\nmore", other[3]))
+
+
+def differing(wanted, found):
+    """The first objects that aren't alike, without their bytes."""
+    paths = [path for path in {**wanted, **found} if wanted.get(path) != found.get(path)]
+    return [(path, wanted.get(path, ())[:3], found.get(path, ())[:3]) for path in paths[:5]]
+
+
+def converting(c):
+    c.start(files={"there": b"mine"})
+    c.refused("convert over a file", ["convert", "E", "a.adf", "there"], "there: there is something of this name already")
+    c.refused("convert nothing", ["convert", "E", "none", "b.adf"], "none: No such file or directory")
+    c.checks.extra = {"STAND_IN_LACKS": "save"}
+    c.refused("convert by an fcore without save", ["convert", "E", "a.adf", "b.adf"],
+              "b.adf: this fcore can't do that to such a disc yet (save, cdir): nothing was made")
+    c.checks.extra = {}
+    c.start("sides.adl", "a.adl")
+    got = c.run("convert", "F+", "a.adl", "b.adf")
+    c.checks.expect("convert an .adl", status=(1, got[2]), told=(True, got[1].startswith("fcdisc: a.adl: " + fcdisc_cases.SIDES)))
+
+
+def run_all(checks, mounts):
+    c = Changes(checks)
+    for part in (putting, ordering, forms, adding, troubles, signals, converting):
+        part(c)
+    if mounts:
+        no_room(c)
+    kept_words(c)
+    seen = []
+    discs = [(name, volume, data) for name, volume, data in images.accepted() if len(data) < 2000000]
+    for name in ("hostile", "one"):
+        discs.append((name, None, read(checks.place(b"images/%s.adf" % name.encode()))))
+    for name, volume, data in discs:
+        tree = tree_of(data)
+        if tree and (len(data), tree) not in seen:  # many discs differ in their maps alone
+            seen.append((len(data), tree))
+            round_trip(c, name, volume, data)
