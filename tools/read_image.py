@@ -10,7 +10,7 @@ import re
 import sys
 from collections import deque
 
-from filecore import (AGREED, BAD_COMMAND, BAD_NAME, BIG_LIMIT, BOOT_BLOCK, BOOT_SIZE, IS_DIRECTORY, LOCKED, NOT_DIRECTORY, NOT_EMPTY,
+from filecore import (AGREED, BAD_COMMAND, BAD_NAME, BIG_LIMIT, BOOT_BLOCK, BOOT_SIZE, EXISTS, INTO_ITSELF, IS_DIRECTORY, LOCKED, NOT_DIRECTORY, NOT_EMPTY,
                       NOT_FOUND, NOT_SPELLED, READ_ONLY, RECORD_SIZE, ROOT_REFUSED, SMALL_SIZE, UNIT, Geometry, Record,
                       big_directory_check, boot_check, entry_line, folded, number, old_map_check, small_directory_check,
                       spelled_path, zone_check)
@@ -436,7 +436,8 @@ FORMS = {  # what follows the words that are paths
     "set": (1, f" {WORD} {WORD} (-|(?=[RWL])R?W?L?)"),
 }
 READING = ("cat", "load", "digest", "free", "check")
-BUILT = READING + ("compact", "delete", "set")
+ADDING = ("save", "create", "cdir", "rename")  # a directory gets an entry
+BUILT = READING + ("cdir", "compact", "delete", "set")
 
 
 def read_path(text):
@@ -492,6 +493,32 @@ def change_reply(word, path, entry, read_only):
     return READ_ONLY if read_only else "ok\n"
 
 
+def adding_reply(disc, word, paths, read_only):
+    """The refusal, or `ok`: of a disc with directories of 2,048 bytes, with room for what is added."""
+    to = paths[-1]
+    if to and (len(to[-1]) > 10 or any(byte < 33 or byte == 127 or byte in NOT_SPELLED for byte in to[-1])):
+        return BAD_NAME
+    entry, refused = disc.find(paths[0])
+    if word == "rename" and refused:
+        return refused
+    holder, refused = disc.find(to[:-1])
+    if refused or not holder.is_directory():
+        return refused or NOT_DIRECTORY
+    there = disc.find(to)[0]
+    if word in ("save", "create") and there and (there.is_directory() or there.attributes & 4):
+        return IS_DIRECTORY if there.is_directory() else LOCKED
+    same = word == "rename" and [folded(name) for name in paths[0]] == [folded(name) for name in to]
+    if word in ("cdir", "rename") and there and not same:
+        return EXISTS
+    if word == "rename" and not paths[0]:
+        return ROOT_REFUSED
+    if word == "rename" and not same and [folded(name) for name in to[:len(paths[0])]] == [folded(name) for name in paths[0]]:
+        return INTO_ITSELF
+    if word == "rename" and entry.attributes & 4:
+        return LOCKED
+    return READ_ONLY if read_only else "ok\n"
+
+
 def reply(disc, word, paths, read_only):
     if word == "compact":  # of a disc on which nothing is left to do: this reader changes nothing
         return READ_ONLY if read_only else "ok\n"
@@ -499,6 +526,8 @@ def reply(disc, word, paths, read_only):
         return "free %d %d\nok\n" % (sum(disc.map.free), max(disc.map.free, default=0))
     if word == "check":
         return "files %d dirs %d lost %d holes %d free %d unsorted %d parents %d\nok\n" % disc.counts()
+    if word in ADDING:
+        return adding_reply(disc, word, paths, read_only)
     entry, refused = disc.find(paths[0])
     if refused:
         return refused
@@ -524,6 +553,8 @@ def answer(data, script, read_only=False):
     except Fault as fault:
         return 3, str(fault)
     if isinstance(disc.map, OldMap) and any(word and word not in READING for word, paths in commands):
+        return 9, ""
+    if disc.map.form == "big" and any(word in ADDING for word, paths in commands):
         return 9, ""
     replies = [reply(disc, word, paths, read_only) if word else paths for word, paths in commands]
     refused = any(re.fullmatch(r"error [0-9]+ [A-Za-z]+\n", one) for one in replies)

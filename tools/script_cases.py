@@ -1,5 +1,6 @@
 """Runs of fcore beside the answers over single images: words, scripts, lines that are refused, fresh volumes, what isn't built."""
-from filecore import BAD_COMMAND, BAD_NAME, IS_DIRECTORY, LOCKED, NOT_DIRECTORY, NOT_EMPTY, NOT_FOUND, READ_ONLY, ROOT_REFUSED
+from filecore import (BAD_COMMAND, BAD_NAME, EXISTS, INTO_ITSELF, IS_DIRECTORY, LOCKED, NOT_DIRECTORY, NOT_EMPTY, NOT_FOUND, READ_ONLY,
+                      ROOT_REFUSED)
 from volumes import FRESH
 
 SCRIPT_LIMIT = 1 << 24
@@ -73,9 +74,9 @@ def long_scripts():
 
 # ---- what isn't built yet: status 9 before anything is attached
 
-CHANGES = [
+ADDING = [
     f"save $.A {ZEROS} -", f"save $.A {ZEROS} 4142", f"save $.A%20B fffff000 FFFFF000 aA", f"create $.A {ZEROS} 0",
-    f"create $.A {ZEROS} 4294967295", "cdir $.D", "rename $.Hello $.B", "rename $ $", "reclaim",
+    f"create $.A {ZEROS} 4294967295", "cdir $.D", "rename $.Hello $.B", "rename $ $",
 ]
 
 
@@ -88,16 +89,32 @@ def compaction():
                made=("compacted.adf", "fresh-F.adf"))
 
 
+UNBUILT = ("save", "create", "rename")  # status 9, whatever the disc
+
+
+def built(pairs):
+    """The lines whose commands are built."""
+    return [pair for pair in pairs if pair[0].split(" ")[0] not in UNBUILT]
+
+
 def refused_changes():
     """Changes that are refused: no image of the table may change. What changes do is compared by tools/check_changes.py."""
     hello = "48656c6c6f\nok\n"
-    yield lines_case("refused-changes", "hello.adf", [
+    yield lines_case("refused-changes", "hello.adf", built([
         ("delete $.None", NOT_FOUND), ("delete $.None.Deeper", NOT_FOUND), ("delete $.Hello.X", NOT_DIRECTORY), ("delete $", ROOT_REFUSED),
         (f"set $.None {ZEROS} RWL", NOT_FOUND), (f"set $.Hello.X {ZEROS} -", NOT_DIRECTORY), (f"set $ {ZEROS} L", ROOT_REFUSED),
-        ("load $.hello", hello)])
-    yield lines_case("refused-changes-read-only", "hello.adf", [
+        (f"save $.None.A {ZEROS} -", NOT_FOUND), (f"create $.Hello.A {ZEROS} 1", NOT_DIRECTORY), (f"save $ {ZEROS} 01", IS_DIRECTORY),
+        (f"save $.A%20B {ZEROS} 01", BAD_NAME), (f"create $.ElevenBytes {ZEROS} 0", BAD_NAME), ("cdir $.Hello", EXISTS),
+        ("cdir $.None.D", NOT_FOUND), ("rename $.None $.A", NOT_FOUND), ("rename $.Hello $", EXISTS), ("rename $ $.A", ROOT_REFUSED),
+        ("rename $.Hello $.A%20B", BAD_NAME), ("load $.hello", hello)]))
+    yield lines_case("refused-changes-read-only", "hello.adf", built([
         ("delete $.None", NOT_FOUND), ("compact", READ_ONLY), ("delete $", ROOT_REFUSED), ("delete $.hello", READ_ONLY),
-        (f"set $ {ZEROS} RL", ROOT_REFUSED), (f"set $.Hello FFFFF000 {ZEROS[:8]} WL", READ_ONLY)], ["--read-only"])
+        (f"set $ {ZEROS} RL", ROOT_REFUSED), (f"set $.Hello FFFFF000 {ZEROS[:8]} WL", READ_ONLY),
+        (f"save $.A {ZEROS} 01", READ_ONLY), (f"create $.Hello {ZEROS} 4294967295", READ_ONLY), ("cdir $.D", READ_ONLY),
+        ("cdir $.Hello", EXISTS), ("rename $.Hello $.B", READ_ONLY), ("rename $.hello $.HELLO", READ_ONLY)]), ["--read-only"])
+    yield lines_case("refused-additions", "e-files.adf", built([
+        (f"save $.Lengths.L1 {ZEROS} -", LOCKED), (f"create $.Lengths {ZEROS} 1", IS_DIRECTORY), ("cdir $.lengths", EXISTS),
+        ("rename $.Lengths.L1 $.L", LOCKED), ("rename $.Outer $.Outer.Inner.X", INTO_ITSELF), ("rename $.Outer $.Lengths", EXISTS)]))
     for image in ("e-files.adf", "e-plus-files.adf"):
         yield lines_case("locked-and-not-empty-" + image[:-4], image, [
             ("delete $.Lengths.L1", LOCKED), ("delete $.lengths.l100%30", NOT_FOUND), ("delete $.Lengths", NOT_EMPTY),
@@ -109,10 +126,16 @@ def refused_changes():
 
 
 def unbuilt():
-    for at, line in enumerate(CHANGES):
-        yield Case("change-%d" % at, ["hello.adf"], "load $.hello\n" + line + "\n", 9)
+    yield Case("reclaim", ["hello.adf"], "load $.hello\nreclaim\n", 9)
+    for at, line in enumerate(ADDING):
+        if line.split(" ")[0] in UNBUILT:
+            yield Case("change-%d" % at, ["hello.adf"], "load $.hello\n" + line + "\n", 9)
+        yield Case("add-old-map-%d" % at, ["d-files.adf"], "free\n" + line + "\n", 9)
+        yield Case("add-big-directory-%d" % at, ["e-plus-files.adf"], "free\n" + line + "\n", 9)
+    yield Case("add-fresh-big-directory", ["--new", "F+", "unadded.adf"], "free\ncdir $.D\n", 9, made=("unadded.adf", "fresh-F+.adf"))
     yield Case("change-without-end", ["hello.adf"], "lod\nreclaim", 9)
-    yield Case("change-no-image", ["nothing.adf"], "cdir $.A\n", 9)
+    yield Case("change-no-image", ["nothing.adf"], "cdir $.A\n", 12)
+    yield Case("reclaim-no-image", ["nothing.adf"], "reclaim\n", 9)
     yield Case("delete-no-image", ["nothing.adf"], "delete $.A\n", 12)
     yield Case("set-bad-image", ["zeros.adf"], f"set $.A {ZEROS} R\n", 3, "bad-image NoKind\n")
     yield Case("change-bad-image", ["zeros.adf"], "reclaim\n", 9)
