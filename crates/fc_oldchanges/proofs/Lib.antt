@@ -1,0 +1,4 @@
+pub mod MapLemmas
+pub mod HoleLemmas
+pub mod DirectoriesLemmas
+pub mod BeforeLemmas
