@@ -4,3 +4,4 @@ pub mod PlaceLemmas
 pub mod DirectoriesLemmas
 pub mod BeforeLemmas
 pub mod ChangeLemmas
+pub mod EditLemmas
