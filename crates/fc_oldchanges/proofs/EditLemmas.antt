@@ -106,7 +106,7 @@ module _ (e : Change) where
   abbrev pub after_y : Layout
   after_y = Layout.Old (holding s.space s.holes)
 
-  pub l' : Listing
+  abbrev pub l' : Listing
   l' = says_now s.l e.content e.children
 
   pub found_all : IsPermutation s.ls (e.out ++ s.l ∷ e.rest)
@@ -201,7 +201,6 @@ module _ (e : Change) where
   reads_now = reads s s.l e.c (holder_address s.ls s.l.object.path) e.content (l_in s) e.directory.says e.directory.bytes
 
   pub edit : IsOldMapEdit s.kind s.image s.image' (opened s.kind s.space s.ls) s.space (holding s.space s.holes) (top s).root e.g (e.into ++ l' ∷ e.rest') e.leave e.come (e.kids ++ held e.rest)
-  unfolding l'
   edit =
       let long = length_permutation s.ls (e.out ++ s.l ∷ e.rest) found_all in
       let rest_long = same_long e.g e.rest e.rest' e.rest_listed in
@@ -275,7 +274,6 @@ module _ (e : Change) where
   sound_now = sound s.kind s.image' after_y found opens_now.0.opens
 
   pub child_now : (o : Object) → Contains e.children o → Contains (objects_of found) o
-  unfolding l'
   child_now o at = child_in s.kind s.image' after_y found opens_now.0.opens l' o l_there at
 
   rest_lasts : (k : Listing) → Contains e.rest k → Lasts found k
@@ -290,7 +288,6 @@ module _ (e : Change) where
       }
 
   pub l_lasts : Lasts found s.l
-  unfolding l'
   l_lasts = record { now = l'; there = l_there; path = refl; address = refl; sectors = refl }
 
   lasts : (k : Listing) → Contains s.ls k → (Contains e.out k → ⊥) → Lasts found k
@@ -333,7 +330,6 @@ module _ (e : Change) where
         → ((k : Listing) → Contains e.out k → is_gone e.c k.object.path ≡ true)
         → entries_of e.content ≡ edited e.c s.l.object.path (named_entry view e.c) (entries_of s.l.content)
         → DirectoriesSteady s.image s.image' (opened s.kind s.space s.ls) view e.c
-    unfolding l'
     directories_now plain none named elsewhere gone' entries =
         all_steady s.kind s.image s.image' before_y after_y s.ls found e.c plain none e.out e.rest s.l l' sound_now found_all gone' stays_in
         (λ k at. elsewhere k (other_path s.kind s.image before_y s.ls s.before.opens s.l k (e.out ++ e.rest) found_first (Contains-append_right e.out e.rest k at)))

@@ -5,3 +5,5 @@ pub mod DirectoriesLemmas
 pub mod BeforeLemmas
 pub mod ChangeLemmas
 pub mod EditLemmas
+pub mod GrowthLemmas
+pub mod RewordedLemmas

@@ -1,2 +1,12 @@
 //! From what the calls of a command leave on a disc with an old map, to what the command promises.
 #![tactic(auto)]
+
+use fc_oldmap::reads_back;
+ghost use Rattle.fc_oldchanges.specs.Laws.{RewordedLaw};
+
+/// After `set` and `mark` the disc is as they promise.
+pub fn reworded()
+    ensures { RewordedLaw }
+{
+    reads_back();
+}
