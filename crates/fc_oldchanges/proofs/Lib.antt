@@ -7,3 +7,5 @@ pub mod ChangeLemmas
 pub mod EditLemmas
 pub mod GrowthLemmas
 pub mod RewordedLemmas
+pub mod SpaceLemmas
+pub mod PlainLemmas
