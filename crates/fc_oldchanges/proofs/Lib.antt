@@ -9,3 +9,4 @@ pub mod GrowthLemmas
 pub mod RewordedLemmas
 pub mod SpaceLemmas
 pub mod PlainLemmas
+pub mod DeletedLemmas

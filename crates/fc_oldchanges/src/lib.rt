@@ -2,11 +2,18 @@
 #![tactic(auto)]
 
 use fc_oldmap::reads_back;
-ghost use Rattle.fc_oldchanges.specs.Laws.{RewordedLaw};
+ghost use Rattle.fc_oldchanges.specs.Laws.{DeletedLaw, RewordedLaw};
 
 /// After `set` and `mark` the disc is as they promise.
 pub fn reworded()
     ensures { RewordedLaw }
+{
+    reads_back();
+}
+
+/// After `delete` the disc is as it promises.
+pub fn deleted()
+    ensures { DeletedLaw }
 {
     reads_back();
 }
