@@ -10,3 +10,5 @@ pub mod RewordedLemmas
 pub mod SpaceLemmas
 pub mod PlainLemmas
 pub mod DeletedLemmas
+pub mod MadeLemmas
+pub mod FiledLemmas

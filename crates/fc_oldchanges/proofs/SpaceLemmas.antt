@@ -39,7 +39,7 @@ module _ (u : ℕ) (units : (u ≡ 1) ⊎ (u ≡ 4)) where
       (λ e. subst (λ (v : ℕ). a % v ≡ 0 → v * (a / v) ≡ a) (sym e) (λ x. omega (arith, x)) w)
       (λ e. subst (λ (v : ℕ). a % v ≡ 0 → v * (a / v) ≡ a) (sym e) (λ x. omega (arith, x)) w) units
 
-  some_units : (n : ℕ) → 0 < n → 0 < n * u
+  pub some_units : (n : ℕ) → 0 < n → 0 < n * u
   some_units n some = ⊎_elim
       (λ e. subst (λ (v : ℕ). 0 < n * v) (sym e) (omega (arith, some)))
       (λ e. subst (λ (v : ℕ). 0 < n * v) (sym e) (omega (arith, some))) units

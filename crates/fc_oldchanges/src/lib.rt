@@ -2,7 +2,7 @@
 #![tactic(auto)]
 
 use fc_oldmap::reads_back;
-ghost use Rattle.fc_oldchanges.specs.Laws.{DeletedLaw, RewordedLaw};
+ghost use Rattle.fc_oldchanges.specs.Laws.{DeletedLaw, FiledLaw, RewordedLaw};
 
 /// After `set` and `mark` the disc is as they promise.
 pub fn reworded()
@@ -14,6 +14,13 @@ pub fn reworded()
 /// After `delete` the disc is as it promises.
 pub fn deleted()
     ensures { DeletedLaw }
+{
+    reads_back();
+}
+
+/// After `save` and `create` the disc is as they promise.
+pub fn filed()
+    ensures { FiledLaw }
 {
     reads_back();
 }
