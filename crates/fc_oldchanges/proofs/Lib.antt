@@ -12,3 +12,4 @@ pub mod PlainLemmas
 pub mod DeletedLemmas
 pub mod MadeLemmas
 pub mod FiledLemmas
+pub mod CdirLemmas

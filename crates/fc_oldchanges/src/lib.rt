@@ -2,7 +2,7 @@
 #![tactic(auto)]
 
 use fc_oldmap::reads_back;
-ghost use Rattle.fc_oldchanges.specs.Laws.{DeletedLaw, FiledLaw, RewordedLaw};
+ghost use Rattle.fc_oldchanges.specs.Laws.{DeletedLaw, DirectoryMadeLaw, FiledLaw, RewordedLaw};
 
 /// After `set` and `mark` the disc is as they promise.
 pub fn reworded()
@@ -21,6 +21,13 @@ pub fn deleted()
 /// After `save` and `create` the disc is as they promise.
 pub fn filed()
     ensures { FiledLaw }
+{
+    reads_back();
+}
+
+/// After `cdir` the disc is as it promises.
+pub fn directory_made()
+    ensures { DirectoryMadeLaw }
 {
     reads_back();
 }
