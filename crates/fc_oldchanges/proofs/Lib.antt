@@ -13,3 +13,4 @@ pub mod DeletedLemmas
 pub mod MadeLemmas
 pub mod FiledLemmas
 pub mod CdirLemmas
+pub mod MovingLemmas
