@@ -14,3 +14,5 @@ pub mod MadeLemmas
 pub mod FiledLemmas
 pub mod CdirLemmas
 pub mod MovingLemmas
+pub mod RenamedLemmas
+pub mod MovedLemmas

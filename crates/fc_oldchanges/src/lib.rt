@@ -2,7 +2,7 @@
 #![tactic(auto)]
 
 use fc_oldmap::reads_back;
-ghost use Rattle.fc_oldchanges.specs.Laws.{DeletedLaw, DirectoryMadeLaw, FiledLaw, RewordedLaw};
+ghost use Rattle.fc_oldchanges.specs.Laws.{DeletedLaw, DirectoryMadeLaw, FiledLaw, MovedLaw, RenamedLaw, RewordedLaw};
 
 /// After `set` and `mark` the disc is as they promise.
 pub fn reworded()
@@ -28,6 +28,20 @@ pub fn filed()
 /// After `cdir` the disc is as it promises.
 pub fn directory_made()
     ensures { DirectoryMadeLaw }
+{
+    reads_back();
+}
+
+/// After `rename` within a directory the disc is as it promises.
+pub fn renamed()
+    ensures { RenamedLaw }
+{
+    reads_back();
+}
+
+/// After `rename` to another directory the disc is as it promises.
+pub fn moved()
+    ensures { MovedLaw }
 {
     reads_back();
 }
