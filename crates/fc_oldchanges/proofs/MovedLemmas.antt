@@ -93,6 +93,10 @@ use Rattle.fc_oldchanges.proofs.BeforeLemmas.{tells as tells_of}
 use Rattle.fc_oldchanges.proofs.GrowthLemmas.{given_alone, no_growth, renames_copy_none, renames_take_none}
 use Rattle.fc_oldchanges.proofs.MovingLemmas.{OpensWithTree, across, behind_stays, cut, dir_unwritten, file_unwritten, listed_moved, outside_steady, rest_now}
 use Rattle.fc_changes.proofs.MovedLemmas.{both_apart, holder_folds}
+use Rattle.std.specs.Prelude.{Result}
+use Rattle.fc_dirs.specs.declared.DirFault.{DirFault}
+use Rattle.fc_image.proofs.CommandLemmas.{both_ways}
+use Rattle.fc_changes.proofs.RenamedLemmas.{same_turned}
 
 -- what isn't below a path has a holder that isn't
 holder_not : (from p : Path) → is_prefix (folded_path from) (folded_path p) ≡ false → is_prefix (folded_path from) (folded_path (holder p)) ≡ false
@@ -247,6 +251,14 @@ module _ (back : ReadsBack) (kind : Kind) (image image' : List ℕ) (space : Fre
           let w' = e.own k at (the_one k (rest_in k at) h) in
           (reads_back (dir_form y) (object_bytes image y k.object) (object_bytes image' y k.object) c k.object.path _ k.content said_now (says k (rest_in k at)).0 w'.0 w'.1, w'.2)
       by false h = (ap (directory_of (dir_form y)) (object_same (sector_bytes y) image image' y k.object refl (dir_stays k at h)) ∙ (says k (rest_in k at)).0, refl)
+
+  -- the same by the paths the other way round
+  pub tells_moved : (k : Listing) → Contains rest k → reader_of image' y (g k.object) ≡ Ok (cond (is_same_path k.object.path o.path) said_now k.content)
+  unfolding said
+  tells_moved k at =
+      (tells k at).0
+      ∙ ap (λ (b : Bool). let q : Result Directory DirFault = Ok (cond b said_now k.content) in q)
+      (both_ways (is_same_path o.path k.object.path) (is_same_path k.object.path o.path) (same_turned o.path k.object.path) (same_turned k.object.path o.path))
 
   abbrev j : ℕ
   j = entry_place (last_name to) (entries_of l.content)

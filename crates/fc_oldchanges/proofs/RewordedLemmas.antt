@@ -157,6 +157,10 @@ module _ (back : ReadsBack) (kind : Kind) (image image' : List ℕ) (space : Fre
         (subst (λ (os : List Object). AreChildren y k.object.path (entries_of k.content) os) (sym (far_still k at)) (k_says k at).1),
   )
 
+  -- what another directory says
+  pub tells_reworded : (k : Listing) → Contains rest k → reader_of image' y (g k.object) ≡ Ok k.content
+  tells_reworded k at = (rest_says k at).0
+
   placed_now : IsAt y (g o)
   placed_now = at_same (child_at y l.object.path (entries_of l.content) l.children o l_says.1 o_child)
     where
