@@ -41,7 +41,7 @@ free_name kind image space ls opens l at path name same none = unless (has_name 
     some_entry None h g = absurd (cc)
     some_entry (Some x) h g = (x, h)
 
-ceil_some : (bytes size : ℕ) → 0 < bytes → 0 < size → 0 < div_ceil bytes size
+pub ceil_some : (bytes size : ℕ) → 0 < bytes → 0 < size → 0 < div_ceil bytes size
 ceil_some bytes size some pos = by (div_ceil bytes size) (div_ceil_times bytes size pos).0
   where
     by : (n : ℕ) → bytes ≤ n * size → 0 < n
