@@ -48,7 +48,7 @@ use Rattle.fc_oldchanges.proofs.EditLemmas.{Change, child_now, directories_now, 
 use Rattle.fc_oldchanges.proofs.GrowthLemmas.{no_growth}
 use Rattle.fc_oldchanges.proofs.MadeLemmas.{free_name, need_some}
 use Rattle.fc_oldchanges.proofs.PlainLemmas.{holds_same, keeps_all, rest_still, same_object, still_placed}
-use Rattle.fc_oldchanges.proofs.SpaceLemmas.{AreGiven, IsNewPlace, given, new_place, not_given, taken}
+use Rattle.fc_oldchanges.proofs.SpaceLemmas.{spaced, AreGiven, IsNewPlace, given, new_place, not_given, taken}
 
 -- a new directory is read as it was written
 new_reads : (form : NameForm) (bytes : List ℕ) (parent : ℕ) (name : List ℕ) → AreWritten bytes (new_directory form parent name) → directory_of form bytes ≡ Ok (new_directory form parent name)
@@ -101,18 +101,18 @@ module _ (back : ReadsBack) (kind : Kind) (image image' : List ℕ) (space : Fre
   base_is : holes_without need space.holes ≡ holes
   base_is = ap (λ (b : Bool). cond b space.holes (after_take need space.holes)) (need_some space n e.before.is_map.units e.place.0) ∙ sym e.taken
 
-  freed : AreGiven kind image space ls e.before.opens None (holes_without need space.holes) holes
+  freed : AreGiven kind space (objects_of ls) (spaced kind image space ls e.before.opens) None (holes_without need space.holes) holes
   freed =
-      subst (λ (hs : List Hole). AreGiven kind image space ls e.before.opens None (holes_without need space.holes) hs) base_is
-      (given kind image space ls e.before.opens None (λ p is. absurd (none_some p is)) (holes_without need space.holes) (taken kind image space ls e.before.opens n))
+      subst (λ (hs : List Hole). AreGiven kind space (objects_of ls) (spaced kind image space ls e.before.opens) None (holes_without need space.holes) hs) base_is
+      (given kind space (objects_of ls) (spaced kind image space ls e.before.opens) None (λ p is. absurd (none_some p is)) (holes_without need space.holes) (taken kind space (objects_of ls) (spaced kind image space ls e.before.opens) n))
     where
       none_some : (p : Object) → (let q : Option Object = None in q) ≡ Some p → ⊥
       none_some p h = cc
 
-  its_place : IsNewPlace kind image space ls e.before.opens o (holes_without need space.holes)
+  its_place : IsNewPlace kind space (objects_of ls) (spaced kind image space ls e.before.opens) o (holes_without need space.holes)
   its_place =
-      subst (λ (hs : List Hole). IsNewPlace kind image space ls e.before.opens o hs) (sym e.taken ∙ sym base_is)
-      (new_place kind image space ls e.before.opens n o size_now e.at e.place.1)
+      subst (λ (hs : List Hole). IsNewPlace kind space (objects_of ls) (spaced kind image space ls e.before.opens) o hs) (sym e.taken ∙ sym base_is)
+      (new_place kind space (objects_of ls) (spaced kind image space ls e.before.opens) n o size_now e.at e.place.1)
 
   start : Start
   start = record {
@@ -168,7 +168,7 @@ module _ (back : ReadsBack) (kind : Kind) (image image' : List ℕ) (space : Fre
   come_is p at = elim (cases_cons o [] p at) [ inl is ↦ is | inr later ↦ absurd (nothing_in p later) ]
 
   after_left : (s : ℕ) → is_among (hole_sectors y') s ≡ true → (is_among (hole_sectors y) s ≡ true) ⊎ ((p : Object) × Contains [] p × (is_among p.sectors s ≡ true))
-  after_left s h = ⊎_elim (λ was_left. inl ((taken kind image space ls e.before.opens n).within s was_left)) (λ back'. inr back') (freed.left s h)
+  after_left s h = ⊎_elim (λ was_left. inl ((taken kind space (objects_of ls) (spaced kind image space ls e.before.opens) n).within s was_left)) (λ back'. inr back') (freed.left s h)
 
   change : Change
   unfolding start
@@ -211,7 +211,7 @@ module _ (back : ReadsBack) (kind : Kind) (image image' : List ℕ) (space : Fre
     come_few = omega arith;
     come_free = λ p at s h.
         let inside = ap (λ (q : Object). is_among q.sectors s) (come_is p at) ∙ h in
-        (its_place.was_free s inside, not_given kind image space ls e.before.opens o None (holes_without need space.holes) holes (λ q is. absurd (let never : ⊥ = cc in never)) freed its_place s inside);
+        (its_place.was_free s inside, not_given kind space (objects_of ls) (spaced kind image space ls e.before.opens) o None (holes_without need space.holes) holes (λ q is. absurd (let never : ⊥ = cc in never)) freed its_place s inside);
     come_off_map = λ p at s h. its_place.off_map s (ap (λ (q : Object). is_among q.sectors s) (come_is p at) ∙ h);
   }
 

@@ -42,7 +42,7 @@ use Rattle.fc_oldchanges.proofs.ChangeLemmas.{Start, behind_stays, l_in, opened,
 use Rattle.fc_oldchanges.proofs.EditLemmas.{Change, directories_now, found, opens_now}
 use Rattle.fc_oldchanges.proofs.GrowthLemmas.{given_alone, no_growth}
 use Rattle.fc_oldchanges.proofs.PlainLemmas.{holds_same, keeps_all, rest_still, same_object, still_placed}
-use Rattle.fc_oldchanges.proofs.SpaceLemmas.{AreGiven, given, right_before}
+use Rattle.fc_oldchanges.proofs.SpaceLemmas.{spaced, AreGiven, given, right_before}
 
 none_held : (out : List Listing) (o : Object) → GoesAlone out o → held out ≡ []
 none_held [] o alone = refl
@@ -89,10 +89,10 @@ module _ (back : ReadsBack) (kind : Kind) (image image' : List ℕ) (space : Fre
   o_in : Contains (objects_of ls) o
   o_in = child_in kind image y ls e.before.opens l o l_here o_child
 
-  freed : AreGiven kind image space ls e.before.opens (Some o) space.holes holes
+  freed : AreGiven kind space (objects_of ls) (spaced kind image space ls e.before.opens) (Some o) space.holes holes
   freed =
-      subst (λ (hs : List Hole). AreGiven kind image space ls e.before.opens (Some o) space.holes hs) (sym e.given)
-      (given kind image space ls e.before.opens (Some o) (λ p is. subst (λ (x : Object). Contains (objects_of ls) x) (some_same o p is) o_in) space.holes (right_before kind image space ls e.before.opens))
+      subst (λ (hs : List Hole). AreGiven kind space (objects_of ls) (spaced kind image space ls e.before.opens) (Some o) space.holes hs) (sym e.given)
+      (given kind space (objects_of ls) (spaced kind image space ls e.before.opens) (Some o) (λ p is. subst (λ (x : Object). Contains (objects_of ls) x) (some_same o p is) o_in) space.holes (right_before kind space (objects_of ls) (spaced kind image space ls e.before.opens)))
     where
       some_same : (a b : Object) → (let q : Option Object = Some a in q) ≡ Some b → a ≡ b
       some_same a b h = cc

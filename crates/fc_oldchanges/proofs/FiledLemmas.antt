@@ -50,7 +50,7 @@ use Rattle.fc_oldchanges.proofs.GrowthLemmas.{no_growth}
 use Rattle.fc_oldchanges.proofs.MadeLemmas.{free_name, need_some}
 use Rattle.fc_oldchanges.proofs.PlaceLemmas.{row_or_none}
 use Rattle.fc_oldchanges.proofs.PlainLemmas.{holds_same, keeps_all, rest_still, same_object, still_placed}
-use Rattle.fc_oldchanges.proofs.SpaceLemmas.{AreGiven, IsNewPlace, given, new_place, not_given, nowhere, taken}
+use Rattle.fc_oldchanges.proofs.SpaceLemmas.{spaced, AreGiven, IsNewPlace, given, new_place, not_given, nowhere, taken}
 
 -- the command makes a file of n bytes at the path
 record MakesFileAt (c : Command) (path : Path) (n : ℕ) : Type 0 where
@@ -173,16 +173,16 @@ module _ (back : ReadsBack) (kind : Kind) (image image' : List ℕ) (space : Fre
   old_in : (p : Object) → old ≡ Some p → Contains (objects_of ls) p
   old_in p is = (found_in (λ (q : Object). is_same_path path q.path) (objects_of ls) p (e.there ∙ is)).0
 
-  freed : AreGiven kind image space ls e.before.opens old (holes_without need space.holes) holes
+  freed : AreGiven kind space (objects_of ls) (spaced kind image space ls e.before.opens) old (holes_without need space.holes) holes
   freed =
-      subst (λ (hs : List Hole). AreGiven kind image space ls e.before.opens old (holes_without need space.holes) hs) (sym e.holes_now)
-      (given kind image space ls e.before.opens old old_in (holes_without need space.holes) (taken kind image space ls e.before.opens (length bytes)))
+      subst (λ (hs : List Hole). AreGiven kind space (objects_of ls) (spaced kind image space ls e.before.opens) old (holes_without need space.holes) hs) (sym e.holes_now)
+      (given kind space (objects_of ls) (spaced kind image space ls e.before.opens) old old_in (holes_without need space.holes) (taken kind space (objects_of ls) (spaced kind image space ls e.before.opens) (length bytes)))
 
-  its_place : IsNewPlace kind image space ls e.before.opens o (holes_without need space.holes)
+  its_place : IsNewPlace kind space (objects_of ls) (spaced kind image space ls e.before.opens) o (holes_without need space.holes)
   its_place = elim e.place [
-    | inl new ↦ subst (λ (b : Bool). IsNewPlace kind image space ls e.before.opens o (cond b space.holes (after_take need space.holes))) (sym (need_some space (length bytes) e.before.is_map.units new.0))
-        (new_place kind image space ls e.before.opens (length bytes) o size_now e.at new.1)
-    | inr empty ↦ nowhere kind image space ls e.before.opens o (holes_without need space.holes)
+    | inl new ↦ subst (λ (b : Bool). IsNewPlace kind space (objects_of ls) (spaced kind image space ls e.before.opens) o (cond b space.holes (after_take need space.holes))) (sym (need_some space (length bytes) e.before.is_map.units new.0))
+        (new_place kind space (objects_of ls) (spaced kind image space ls e.before.opens) (length bytes) o size_now e.at new.1)
+    | inr empty ↦ nowhere kind space (objects_of ls) (spaced kind image space ls e.before.opens) o (holes_without need space.holes)
         (⊎_elim (λ none. none.1) (λ row. let long = row.long in let n = empty.0 in no_length o.sectors (long ∙ ap (λ (k : ℕ). div_ceil k (256 * space.sector_units)) n ∙ nothing_ceil))
         (row_or_none space o.entry.address (length bytes) o.sectors (ap (λ (k : ℕ). sectors_at y o.entry.address k) (sym size_now) ∙ e.at)))
   ]
@@ -234,7 +234,7 @@ module _ (back : ReadsBack) (kind : Kind) (image image' : List ℕ) (space : Fre
 
   after_left : (s : ℕ) → is_among (hole_sectors y') s ≡ true
       → (is_among (hole_sectors y) s ≡ true) ⊎ ((p : Object) × Contains (option_to_list old) p × (is_among p.sectors s ≡ true))
-  after_left s h = ⊎_elim (λ was_left. inl ((taken kind image space ls e.before.opens (length bytes)).within s was_left)) (λ back'. inr back') (freed.left s h)
+  after_left s h = ⊎_elim (λ was_left. inl ((taken kind space (objects_of ls) (spaced kind image space ls e.before.opens) (length bytes)).within s was_left)) (λ back'. inr back') (freed.left s h)
 
   change : Change
   unfolding start
@@ -277,7 +277,7 @@ module _ (back : ReadsBack) (kind : Kind) (image image' : List ℕ) (space : Fre
     come_few = omega arith;
     come_free = λ p at s h.
         let inside = ap (λ (q : Object). is_among q.sectors s) (come_is p at) ∙ h in
-        (its_place.was_free s inside, not_given kind image space ls e.before.opens o old (holes_without need space.holes) holes old_in freed its_place s inside);
+        (its_place.was_free s inside, not_given kind space (objects_of ls) (spaced kind image space ls e.before.opens) o old (holes_without need space.holes) holes old_in freed its_place s inside);
     come_off_map = λ p at s h. its_place.off_map s (ap (λ (q : Object). is_among q.sectors s) (come_is p at) ∙ h);
   }
 

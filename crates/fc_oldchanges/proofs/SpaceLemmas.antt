@@ -18,9 +18,8 @@ use Rattle.fc_image.specs.Objects.{has_sectors, objects_of}
 use Rattle.fc_image.specs.Opening.{reserved_in}
 use Rattle.fc_image.specs.Stays.{OpensAs}
 use Rattle.fc_image.specs.Edits.{IsAt}
-use Rattle.fc_image.specs.OldMaps.{IsOldDisc as IsOld}
 use Rattle.fc_image.proofs.FreeLemmas.{among_here, range_bounds, among_range}
-use Rattle.fc_image.proofs.HolesLemmas.{apart_at}
+use Rattle.fc_image.proofs.HolesLemmas.{Lies, apart_at}
 use Rattle.fc_image.proofs.OldMapLemmas.{old_map_law}
 use Rattle.fc_newmap.proofs.PlaceLemmas.{in_back, in_front}
 use Rattle.fc_effects.specs.Short.{holes_without, old_need, space_of, with_space_of}
@@ -106,9 +105,21 @@ module _ (u : ℕ) (units : (u ≡ 1) ⊎ (u ≡ 4)) where
       All-cons (AreApart x) h holes (apart_one d f floor x h is_x are.0 (λ s i j. never s i (in_front (hole_sectors_in u h) (flat_map (hole_sectors_in u) holes) s j)))
       (all_apart d f (hole_end h) x holes is_x are.1 (λ s i j. never s i (in_back (hole_sectors_in u h) (flat_map (hole_sectors_in u) holes) s j)))
 
--- ---- an opened disc
+-- ---- objects of a disc
 
-module _ (kind : Kind) (image : List ℕ) (space : FreeSpace) (ls : List Listing) (opens : OpensAs image kind (opened kind space ls)) where
+-- Sectors have 256 or 1024 bytes, the holes lie after the map, and the objects lie at their addresses, in no hole and not in the map.
+pub record AreSpaced (kind : Kind) (space : FreeSpace) (objects : List Object) : Type 0 where
+  pub units : (space.sector_units ≡ 1) ⊎ (space.sector_units ≡ 4)
+  pub holes : AreHoles space.disc_units space.sector_units (map_units space.sector_units) space.holes
+  pub lies : (p : Object) → Contains objects p → Lies (Layout.Old space) (reserved_in kind (Layout.Old space)) p
+
+-- so do those of an opened disc
+pub spaced : (kind : Kind) (image : List ℕ) (space : FreeSpace) (ls : List Listing) → OpensAs image kind (opened kind space ls) → AreSpaced kind space (objects_of ls)
+spaced kind image space ls opens =
+    let facts = old_map_law image kind (opened kind space ls) space opens refl in
+    record { units = facts.units; holes = facts.holes; lies = object_lies kind image (Layout.Old space) ls opens }
+
+module _ (kind : Kind) (space : FreeSpace) (objects : List Object) (facts : AreSpaced kind space objects) where
   abbrev y : Layout
   y = Layout.Old space
 
@@ -118,14 +129,11 @@ module _ (kind : Kind) (image : List ℕ) (space : FreeSpace) (ls : List Listing
   abbrev d : ℕ
   d = space.disc_units
 
-  facts : IsOld space (objects_of ls)
-  facts = old_map_law image kind (opened kind space ls) space opens refl
+  not_hole : (p : Object) → Contains objects p → (s : ℕ) → is_among p.sectors s ≡ true → is_among (hole_sectors y) s ≡ true → ⊥
+  not_hole p at s h i = clash (is_among (reserved_in kind y) s) (in_back (map_place y) (hole_sectors y) s i) (apart_at p.sectors (reserved_in kind y) s (facts.lies p at).apart h)
 
-  not_hole : (p : Object) → Contains (objects_of ls) p → (s : ℕ) → is_among p.sectors s ≡ true → is_among (hole_sectors y) s ≡ true → ⊥
-  not_hole p at s h i = clash (is_among (reserved_in kind y) s) (in_back (map_place y) (hole_sectors y) s i) (apart_at p.sectors (reserved_in kind y) s (object_lies kind image y ls opens p at).apart h)
-
-  not_map : (p : Object) → Contains (objects_of ls) p → (s : ℕ) → is_among p.sectors s ≡ true → is_among (map_place y) s ≡ true → ⊥
-  not_map p at s h i = clash (is_among (reserved_in kind y) s) (in_front (map_place y) (hole_sectors y) s i) (apart_at p.sectors (reserved_in kind y) s (object_lies kind image y ls opens p at).apart h)
+  not_map : (p : Object) → Contains objects p → (s : ℕ) → is_among p.sectors s ≡ true → is_among (map_place y) s ≡ true → ⊥
+  not_map p at s h i = clash (is_among (reserved_in kind y) s) (in_front (map_place y) (hole_sectors y) s i) (apart_at p.sectors (reserved_in kind y) s (facts.lies p at).apart h)
 
   -- the space of an object
   record IsSpace (p : Object) : Type 0 where
@@ -136,10 +144,10 @@ module _ (kind : Kind) (image : List ℕ) (space : FreeSpace) (ls : List Listing
   first_of [] e = absurd (cc)
   first_of (x ∷ xs) e = (x, among_here x (is_among xs x))
 
-  space_is : (p : Object) → Contains (objects_of ls) p → has_sectors p ≡ true → IsSpace p
+  space_is : (p : Object) → Contains objects p → has_sectors p ≡ true → IsSpace p
   space_is p at has =
       let s = first_of p.sectors has in
-      let r = in_disc space p.entry.address (object_size (dir_form y) p.entry) p.sectors s.0 (object_lies kind image y ls opens p at).placed s.1 in
+      let r = in_disc space p.entry.address (object_size (dir_form y) p.entry) p.sectors s.0 (facts.lies p at).placed s.1 in
       let row = r.0 in
       let first : is_among p.sectors (p.entry.address / u) ≡ true =
       ap (λ (xs : List ℕ). is_among xs (p.entry.address / u)) row.row ∙ (let low = r.1 in let high = r.2 in among_range (p.entry.address / u) _ (p.entry.address / u) (omega arith) (omega (arith, low, high))) in
@@ -173,7 +181,7 @@ module _ (kind : Kind) (image : List ℕ) (space : FreeSpace) (ls : List Listing
     pub left : (s : ℕ) → is_among (hole_sectors (Layout.Old (holding space holes))) s ≡ true
         → (is_among (hole_sectors (Layout.Old (holding space base))) s ≡ true) ⊎ ((p : Object) × Contains (option_to_list old) p × (is_among p.sectors s ≡ true))
 
-  give_one : (p : Object) (b : Bool) → has_sectors p ≡ b → Contains (objects_of ls) p → (base : List Hole) → AreRight base → AreGiven (Some p) base (cond b (after_give (space_of space p) base) base)
+  give_one : (p : Object) (b : Bool) → has_sectors p ≡ b → Contains objects p → (base : List Hole) → AreRight base → AreGiven (Some p) base (cond b (after_give (space_of space p) base) base)
   give_one p false e at base right = record { are = right.are; left = λ s h. inl h }
   give_one p true e at base right =
       let x = space_is p at e in
@@ -188,7 +196,7 @@ module _ (kind : Kind) (image : List ℕ) (space : FreeSpace) (ls : List Listing
             (in_given (space_of space p) base (u * s) (units_in u facts.units d (map_units u) (after_give (space_of space p) base) s are h));
       }
 
-  pub given : (old : Option Object) → ((p : Object) → old ≡ Some p → Contains (objects_of ls) p) → (base : List Hole) → AreRight base → AreGiven old base (with_space_of space old base)
+  pub given : (old : Option Object) → ((p : Object) → old ≡ Some p → Contains objects p) → (base : List Hole) → AreRight base → AreGiven old base (with_space_of space old base)
   given None there base right = record { are = right.are; left = λ s h. inl h }
   given (Some p) there base right = give_one p (has_sectors p) refl (there p refl) base right
 
@@ -240,15 +248,15 @@ module _ (kind : Kind) (image : List ℕ) (space : FreeSpace) (ls : List Listing
           (in_units u facts.units d (map_units u) space.holes s facts.holes t.0, λ i. t.1 (units_in u facts.units d (map_units u) (after_take (old_need space n) space.holes) s are i))
 
   -- after old space is given, too
-  pub not_given : (o : Object) (old : Option Object) (base holes : List Hole) → ((p : Object) → old ≡ Some p → Contains (objects_of ls) p) → AreGiven old base holes → IsNewPlace o base
+  pub not_given : (o : Object) (old : Option Object) (base holes : List Hole) → ((p : Object) → old ≡ Some p → Contains objects p) → AreGiven old base holes → IsNewPlace o base
       → (s : ℕ) → is_among o.sectors s ≡ true → is_among (hole_sectors (Layout.Old (holding space holes))) s ≡ false
   not_given o old base holes there g place s h = unless (is_among (hole_sectors (Layout.Old (holding space holes))) s) (λ i. ⊎_elim
       (λ a. place.not_left s h a)
       (λ left. not_hole left.0 (one_of old there left.0 left.1) s left.2 (place.was_free s h)) (g.left s i))
     where
-      one_of : (q : Option Object) → ((p : Object) → q ≡ Some p → Contains (objects_of ls) p) → (p : Object) → Contains (option_to_list q) p → Contains (objects_of ls) p
+      one_of : (q : Option Object) → ((p : Object) → q ≡ Some p → Contains objects p) → (p : Object) → Contains (option_to_list q) p → Contains objects p
       one_of None each p at = absurd (nothing_in p at)
       one_of (Some q) each p at = elim (cases_cons q [] p at) [
-        | inl is ↦ subst (λ (x : Object). Contains (objects_of ls) x) is (each q refl)
+        | inl is ↦ subst (λ (x : Object). Contains objects x) is (each q refl)
         | inr later ↦ absurd (nothing_in p later)
       ]
