@@ -6,3 +6,4 @@ pub mod RewordedLemmas
 pub mod MovedLemmas
 pub mod RenamedLemmas
 pub mod TransferredLemmas
+pub mod DirectoryLemmas

@@ -15,7 +15,10 @@ use Rattle.fc_tree.specs.declared.node.Node.{Node}
 use Rattle.fc_tree.specs.Agree.{Agree, AreWalked}
 use Rattle.fc_tree.specs.Parts.{AreOwners, Parts}
 use Rattle.fc_agree.specs.Agreed.{CanSay, PartsFollow}
-use Rattle.fc_nodes.specs.Edits.{IsRenamed, IsReworded, IsTransferred, Nodes}
+use Rattle.fc_nodes.specs.Edits.{IsRemoved, IsRenamed, IsReworded, IsTransferred, Nodes}
+use Rattle.fc_oldmap.specs.declared.Hole.{Hole}
+use Rattle.fc_effects.specs.Short.{with_space_of}
+use Rattle.fc_oldchanges.specs.Owed.{holding}
 
 -- the parts of a volume with an old map
 abbrev pub parts_with : FreeSpace → Nodes → List Owner → Parts
@@ -53,3 +56,17 @@ TransferredLaw = (kind : Kind) (space : FreeSpace) (nodes nodes' : Nodes) (owner
     → CanSay (Layout.Old space) k.object k_content → CanSay (Layout.Old space) l.object l_content → (is_directory_object o ≡ true → CanSay (Layout.Old space) o now)
     → PartsFollow nodes' owners' (Layout.Old space) listings'
     → Agree kind (parts_with space nodes' owners')
+
+-- ---- other holes
+
+-- The parts agree with the new holes, which lie after the map.
+abbrev pub AgreesNow : Kind → FreeSpace → List Hole → Nodes → List Owner → Type 0
+AgreesNow kind space holes nodes' owners' =
+    Agree kind (parts_with (holding space holes) nodes' owners') × AreHoles space.disc_units space.sector_units (map_units space.sector_units) holes
+
+-- `delete`
+abbrev pub RemovedLaw : Type 0
+RemovedLaw = (kind : Kind) (space : FreeSpace) (holes : List Hole) (nodes nodes' : Nodes) (owners owners' : List Owner) (root : Node) (listings listings' out rest : List Listing) (l : Listing) (content : Directory)
+    (i : ℕ) (o : Object) (dir number : ℕ) → AgreeOn kind space nodes owners root listings
+    → IsRemoved nodes nodes' listings listings' out rest l content i o dir number → CanSay (Layout.Old space) l.object content → PartsFollow nodes' owners' (Layout.Old (holding space holes)) listings'
+    → holes ≡ with_space_of space (Some o) space.holes → AgreesNow kind space holes nodes' owners'

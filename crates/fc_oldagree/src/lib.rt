@@ -2,7 +2,7 @@
 //! of the image's bytes.
 #![tactic(auto)]
 
-ghost use Rattle.fc_oldagree.specs.Laws.{RenamedLaw, RewordedLaw, TransferredLaw};
+ghost use Rattle.fc_oldagree.specs.Laws.{RemovedLaw, RenamedLaw, RewordedLaw, TransferredLaw};
 
 /// The parts agree after `set` and `mark`.
 pub fn reworded()
@@ -17,4 +17,9 @@ pub fn renamed()
 /// The parts agree after `rename` to another directory.
 pub fn transferred()
     ensures { TransferredLaw }
+{}
+
+/// The parts agree after `delete`.
+pub fn removed()
+    ensures { RemovedLaw }
 {}
