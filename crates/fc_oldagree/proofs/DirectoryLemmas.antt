@@ -228,7 +228,7 @@ gone_listed (d ∷ e ∷ out) o alone = absurd alone
 some_object : (a b : Object) → (let q : Option Object = Some a in q) ≡ Some b → a ≡ b
 some_object a b h = cc
 
-child_object : (kind : Kind) (space : FreeSpace) (nodes : Nodes) (owners : List Owner) (root : Node) (listings : List Listing) → AgreeOn kind space nodes owners root listings
+pub child_object : (kind : Kind) (space : FreeSpace) (nodes : Nodes) (owners : List Owner) (root : Node) (listings : List Listing) → AgreeOn kind space nodes owners root listings
     → (l : Listing) (i : ℕ) (o : Object) → Contains listings l → slice_get l.children i ≡ Some o → Contains (objects_of listings) o
 child_object kind space nodes owners root listings a l i o at child =
     subst (λ (os : List Object). Contains os o) (sym (had kind space nodes owners root listings a).objects)

@@ -7,3 +7,4 @@ pub mod MovedLemmas
 pub mod RenamedLemmas
 pub mod TransferredLemmas
 pub mod DirectoryLemmas
+pub mod AddedLemmas

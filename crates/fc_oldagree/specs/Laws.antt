@@ -3,11 +3,13 @@
 use Rattle.std.specs.Prelude.{◌≡◌, ◌≤◌, ℕ, ◌+◌, true, List, [], ◌∷◌, ◌++◌, Some}
 use Rattle.std.specs.FinMap.{get}
 use Rattle.fc_record.specs.declared.Kind.{Kind}
-use Rattle.fc_oldmap.specs.Holes.{AreHoles}
+use Rattle.fc_oldmap.specs.Holes.{AreHoles, after_take}
 use Rattle.fc_oldmap.specs.OldMap.{FreeSpace, IsOldMap, map_units}
 use Rattle.fc_dirs.specs.Directory.{Directory}
 use Rattle.fc_alloc.specs.declared.owner.Owner.{Owner}
-use Rattle.fc_image.specs.Layout.{Layout}
+use Rattle.fc_image.specs.Layout.{Layout, dir_form}
+use Rattle.fc_image.specs.Edits.{IsAt}
+use Rattle.fc_oldchanges.specs.Changed.{IsFileAt, IsFirstFitted}
 use Rattle.fc_image.specs.Walk.{Listing, Object, is_directory_object}
 use Rattle.fc_image.specs.Objects.{objects_of}
 use Rattle.fc_image.specs.Opening.{reserved_in}
@@ -15,9 +17,9 @@ use Rattle.fc_tree.specs.declared.node.Node.{Node}
 use Rattle.fc_tree.specs.Agree.{Agree, AreWalked}
 use Rattle.fc_tree.specs.Parts.{AreOwners, Parts}
 use Rattle.fc_agree.specs.Agreed.{CanSay, PartsFollow}
-use Rattle.fc_nodes.specs.Edits.{IsRemoved, IsRenamed, IsReworded, IsTransferred, Nodes}
+use Rattle.fc_nodes.specs.Edits.{IsAdded, IsDirectoryAdded, IsRemoved, IsRenamed, IsReplaced, IsReworded, IsTransferred, Nodes}
 use Rattle.fc_oldmap.specs.declared.Hole.{Hole}
-use Rattle.fc_effects.specs.Short.{with_space_of}
+use Rattle.fc_effects.specs.Short.{holes_without, new_dir_size, old_need, with_space_of}
 use Rattle.fc_oldchanges.specs.Owed.{holding}
 
 -- the parts of a volume with an old map
@@ -70,3 +72,26 @@ RemovedLaw = (kind : Kind) (space : FreeSpace) (holes : List Hole) (nodes nodes'
     (i : ℕ) (o : Object) (dir number : ℕ) → AgreeOn kind space nodes owners root listings
     → IsRemoved nodes nodes' listings listings' out rest l content i o dir number → CanSay (Layout.Old space) l.object content → PartsFollow nodes' owners' (Layout.Old (holding space holes)) listings'
     → holes ≡ with_space_of space (Some o) space.holes → AgreesNow kind space holes nodes' owners'
+
+-- `save` and `create` of a new file of n bytes
+abbrev pub AddedLaw : Type 0
+AddedLaw = (kind : Kind) (space : FreeSpace) (holes : List Hole) (nodes nodes' : Nodes) (owners owners' : List Owner) (root : Node) (listings listings' rest : List Listing) (l : Listing) (content : Directory)
+    (j : ℕ) (o : Object) (dir number n : ℕ) → AgreeOn kind space nodes owners root listings
+    → IsAdded nodes nodes' listings listings' rest l content j o dir number → CanSay (Layout.Old space) l.object content → PartsFollow nodes' owners' (Layout.Old (holding space holes)) listings'
+    → o.entry.len ≡ n → IsAt (Layout.Old space) o → IsFileAt space n o → holes ≡ holes_without (old_need space n) space.holes → AgreesNow kind space holes nodes' owners'
+
+-- The same over a file p, whose space is given after the new space is taken.
+abbrev pub ReplacedLaw : Type 0
+ReplacedLaw = (kind : Kind) (space : FreeSpace) (holes : List Hole) (nodes nodes' : Nodes) (owners owners' : List Owner) (root : Node) (listings listings' rest : List Listing) (l : Listing) (content : Directory)
+    (i : ℕ) (p o : Object) (dir number n : ℕ) → AgreeOn kind space nodes owners root listings
+    → IsReplaced nodes nodes' listings listings' rest l content i p o dir number → CanSay (Layout.Old space) l.object content → PartsFollow nodes' owners' (Layout.Old (holding space holes)) listings'
+    → o.entry.len ≡ n → IsAt (Layout.Old space) o → IsFileAt space n o → holes ≡ with_space_of space (Some p) (holes_without (old_need space n) space.holes) → AgreesNow kind space holes nodes' owners'
+
+-- `cdir`
+abbrev pub DirectoryAddedLaw : Type 0
+DirectoryAddedLaw = (kind : Kind) (space : FreeSpace) (holes : List Hole) (nodes nodes' : Nodes) (owners owners' : List Owner) (root : Node) (listings listings' rest : List Listing) (l : Listing) (content : Directory)
+    (j : ℕ) (d : Listing) (dir number : ℕ) → AgreeOn kind space nodes owners root listings
+    → IsDirectoryAdded nodes nodes' listings listings' rest l content j d dir number → CanSay (Layout.Old space) l.object content → CanSay (Layout.Old space) d.object d.content
+    → PartsFollow nodes' owners' (Layout.Old (holding space holes)) listings'
+    → d.object.entry.len ≡ new_dir_size (dir_form (Layout.Old space)) → IsAt (Layout.Old space) d.object → IsFirstFitted space (new_dir_size (dir_form (Layout.Old space))) d.object
+    → holes ≡ after_take (old_need space (new_dir_size (dir_form (Layout.Old space)))) space.holes → AgreesNow kind space holes nodes' owners'

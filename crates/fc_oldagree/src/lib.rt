@@ -2,7 +2,7 @@
 //! of the image's bytes.
 #![tactic(auto)]
 
-ghost use Rattle.fc_oldagree.specs.Laws.{RemovedLaw, RenamedLaw, RewordedLaw, TransferredLaw};
+ghost use Rattle.fc_oldagree.specs.Laws.{AddedLaw, DirectoryAddedLaw, RemovedLaw, RenamedLaw, ReplacedLaw, RewordedLaw, TransferredLaw};
 
 /// The parts agree after `set` and `mark`.
 pub fn reworded()
@@ -22,4 +22,19 @@ pub fn transferred()
 /// The parts agree after `delete`.
 pub fn removed()
     ensures { RemovedLaw }
+{}
+
+/// The parts agree after `save` and `create` of a new file.
+pub fn added()
+    ensures { AddedLaw }
+{}
+
+/// The parts agree after `save` and `create` over a file.
+pub fn replaced()
+    ensures { ReplacedLaw }
+{}
+
+/// The parts agree after `cdir`.
+pub fn directory_added()
+    ensures { DirectoryAddedLaw }
 {}
