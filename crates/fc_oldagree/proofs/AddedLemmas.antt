@@ -1,6 +1,6 @@
 -- A file or an empty directory comes, on an old map.
-use Rattle.std.proofs.Common.{◌≡◌, ◌<◌, ◌⊎◌, inl, inr, ⊎_elim, ℕ, ◌*◌, Bool, true, false, cond, List, [], ◌∷◌, ◌++◌, length, refl, sym, ap, ap₂, subst, ◌∙◌, arith, None, Some, Option}
-use Rattle.std.specs.Prelude.{Contains, IsPermutation, insert, remove, slice_get, slice_set, ◌==◌}
+use Rattle.std.proofs.Common.{◌≡◌, inl, inr, ⊎_elim, ℕ, ◌*◌, Bool, false, cond, List, [], ◌∷◌, ◌++◌, length, refl, sym, ap, subst, ◌∙◌, arith, None, Some, Option}
+use Rattle.std.specs.Prelude.{Contains, IsPermutation, insert, remove, slice_set}
 use Rattle.std.specs.Option.{option_to_list}
 use Rattle.std.specs.Int.{div_ceil}
 use Rattle.std.proofs.lemmas.List.Sorted.{Contains-permutation, IsPermutation-refl, IsPermutation-sym}
@@ -11,14 +11,13 @@ use Rattle.fc_oldmap.specs.declared.Hole.{Hole}
 use Rattle.fc_oldmap.specs.Holes.{after_take}
 use Rattle.fc_oldmap.specs.OldMap.{FreeSpace}
 use Rattle.fc_dirs.specs.declared.Entry.{Entry}
-use Rattle.fc_dirs.specs.Directory.{Directory, directory_size, entries_of}
+use Rattle.fc_dirs.specs.Directory.{directory_size, entries_of}
 use Rattle.fc_alloc.specs.declared.owner.Owner.{Owner}
-use Rattle.fc_image.specs.Layout.{Layout, dir_form, hole_sectors, is_among, sectors_at}
+use Rattle.fc_image.specs.Layout.{Layout, dir_form, is_among, sectors_at}
 use Rattle.fc_image.specs.Walk.{Listing, Object, is_directory_object, object_size}
 use Rattle.fc_image.specs.Objects.{objects_of}
 use Rattle.fc_image.specs.Edits.{AreChildren, IsAt}
 use Rattle.fc_image.specs.Order.{directories}
-use Rattle.fc_image.specs.InPlace.{says_now}
 use Rattle.fc_image.proofs.EntriesLemmas.{entries_law}
 use Rattle.fc_image.proofs.MapEditLemmas.{child_at}
 use Rattle.fc_image.proofs.OldEditLemmas.{old_places_law}
@@ -26,7 +25,7 @@ use Rattle.fc_image.proofs.RenameLemmas.{child_path}
 use Rattle.fc_tree.specs.declared.node.Node.{Node}
 use Rattle.fc_effects.specs.Short.{holes_without, new_dir_size, old_need, with_space_of}
 use Rattle.fc_changes.proofs.BasicLemmas.{cases_cons, first_in, next_in, nothing_in, without_it}
-use Rattle.fc_nodes.specs.Edits.{IsAdded, IsDirectoryAdded, IsReplaced, Nodes}
+use Rattle.fc_nodes.specs.Edits.{Nodes}
 use Rattle.fc_agree.specs.Agreed.{CanSay, PartsFollow}
 use Rattle.fc_oldchanges.specs.Owed.{holding}
 use Rattle.fc_oldchanges.specs.Changed.{IsFileAt}
@@ -125,19 +124,21 @@ added_law kind space holes nodes nodes' owners owners' root listings listings' r
     let size = ap (λ (b : Bool). cond b (directory_size (dir_form (Layout.Old space)) o.entry.len) o.entry.len) e.file ∙ len in
     let its = file_place kind space (objects_of listings) (spaced_parts kind space nodes owners root listings a) n o size at place in
     let c = cut kind space holes nodes owners root listings rest l a e.found None l.children (IsPermutation-refl l.children) refl (λ p is. absurd (none_object p is)) n o its holes_are in
-    let added = entries_law.added y' l.object.path (entries_of l.content) l.children j o (dir_placed c) e.path (old_places_law space (holding space holes) o refl refl at) in
-    (one_agrees c nodes' owners' [] content (insert l.children j o)
-    (record {
-      can = can;
-      are = subst (λ (es : List Entry). AreChildren y' l.object.path es (insert l.children j o)) (sym e.entries) added.0;
-      holds_now = added.1;
-      into_can = λ k there. absurd (nothing_in k there);
-      into_are = λ k there. absurd (nothing_in k there);
-      into_come = no_directory o e.file;
-      into_empty = refl;
-      into_few = omega arith;
-      follow = subst (PartsFollow nodes' owners' y') e.listings_are f;
-    }), (freed kind space holes nodes owners root listings rest l a e.found None l.children (IsPermutation-refl l.children) refl (λ p is. absurd (none_object p is)) n o its holes_are).are)
+    let added = entries_law.added y' l.object.path (entries_of l.content) l.children j o (dir_placed c) e.path (old_places_law space (holding space holes) o refl refl at) in (
+      one_agrees c nodes' owners' [] content (insert l.children j o)
+          (record {
+            can = can;
+            are = subst (λ (es : List Entry). AreChildren y' l.object.path es (insert l.children j o)) (sym e.entries) added.0;
+            holds_now = added.1;
+            into_can = λ k there. absurd (nothing_in k there);
+            into_are = λ k there. absurd (nothing_in k there);
+            into_come = no_directory o e.file;
+            into_empty = refl;
+            into_few = omega arith;
+            follow = subst (PartsFollow nodes' owners' y') e.listings_are f;
+          }),
+      (freed kind space holes nodes owners root listings rest l a e.found None l.children (IsPermutation-refl l.children) refl (λ p is. absurd (none_object p is)) n o its holes_are).are,
+    )
 
 pub replaced_law : ReplacedLaw
 unfolding cut
@@ -158,19 +159,21 @@ replaced_law kind space holes nodes nodes' owners owners' root listings listings
     let changed = entries_law.changed y' y' l.object.path (entries_of l.content) l.children i p o old e.child.at
     (λ q there. child_at y' l.object.path (entries_of l.content) l.children q old
     (Contains-permutation (p ∷ kids) l.children q (IsPermutation-sym l.children (p ∷ kids) (without_it l.children i p e.child.at)) (next_in p q kids there)))
-    o_path (old_places_law space (holding space holes) o refl refl at) in
-    (one_agrees c nodes' owners' [] content (slice_set l.children i o)
-    (record {
-      can = can;
-      are = subst (λ (es : List Entry). AreChildren y' l.object.path es (slice_set l.children i o)) (sym e.entries) changed.0;
-      holds_now = changed.2;
-      into_can = λ k there. absurd (nothing_in k there);
-      into_are = λ k there. absurd (nothing_in k there);
-      into_come = no_directory o e.file;
-      into_empty = refl;
-      into_few = omega arith;
-      follow = subst (PartsFollow nodes' owners' y') e.listings_are f;
-    }), (freed kind space holes nodes owners root listings rest l a e.found (Some p) kids (without_it l.children i p e.child.at) (no_directory p e.was_file) among n o its holes_are).are)
+    o_path (old_places_law space (holding space holes) o refl refl at) in (
+      one_agrees c nodes' owners' [] content (slice_set l.children i o)
+          (record {
+            can = can;
+            are = subst (λ (es : List Entry). AreChildren y' l.object.path es (slice_set l.children i o)) (sym e.entries) changed.0;
+            holds_now = changed.2;
+            into_can = λ k there. absurd (nothing_in k there);
+            into_are = λ k there. absurd (nothing_in k there);
+            into_come = no_directory o e.file;
+            into_empty = refl;
+            into_few = omega arith;
+            follow = subst (PartsFollow nodes' owners' y') e.listings_are f;
+          }),
+      (freed kind space holes nodes owners root listings rest l a e.found (Some p) kids (without_it l.children i p e.child.at) (no_directory p e.was_file) among n o its holes_are).are,
+    )
 
 -- ---- cdir
 
@@ -189,16 +192,18 @@ directory_added_law kind space holes nodes nodes' owners owners' root listings l
     let whole = holes_are ∙ sym (ap (λ (b : Bool). cond b space.holes (after_take (old_need space n) space.holes)) (need_some space n a.is_map.units place.0)) in
     let c = cut kind space holes nodes owners root listings rest l a e.found None l.children (IsPermutation-refl l.children) refl (λ p is. absurd (none_object p is)) n o its whole in
     let added = entries_law.added y' l.object.path (entries_of l.content) l.children j o (dir_placed c) e.path (old_places_law space (holding space holes) o refl refl at) in
-    let inside = subst (λ (es : List Entry). AreChildren y' o.path es d.children) (sym e.says_none) (subst (λ (os : List Object). AreChildren y' o.path [] os) (sym e.empty) tt) in
-    (one_agrees c nodes' owners' (d ∷ []) content (insert l.children j o)
-    (record {
-      can = can;
-      are = subst (λ (es : List Entry). AreChildren y' l.object.path es (insert l.children j o)) (sym e.entries) added.0;
-      holds_now = added.1;
-      into_can = only (λ k. CanSay y k.object k.content) d new;
-      into_are = only (λ k. AreChildren y' k.object.path (entries_of k.content) k.children) d inside;
-      into_come = ap (λ (b : Bool). cond b (o ∷ []) []) (sym e.directory);
-      into_empty = ap (λ (os : List Object). os ++ []) e.empty;
-      into_few = omega arith;
-      follow = subst (PartsFollow nodes' owners' y') e.listings_are f;
-    }), (freed kind space holes nodes owners root listings rest l a e.found None l.children (IsPermutation-refl l.children) refl (λ p is. absurd (none_object p is)) n o its whole).are)
+    let inside = subst (λ (es : List Entry). AreChildren y' o.path es d.children) (sym e.says_none) (subst (λ (os : List Object). AreChildren y' o.path [] os) (sym e.empty) tt) in (
+      one_agrees c nodes' owners' (d ∷ []) content (insert l.children j o)
+          (record {
+            can = can;
+            are = subst (λ (es : List Entry). AreChildren y' l.object.path es (insert l.children j o)) (sym e.entries) added.0;
+            holds_now = added.1;
+            into_can = only (λ k. CanSay y k.object k.content) d new;
+            into_are = only (λ k. AreChildren y' k.object.path (entries_of k.content) k.children) d inside;
+            into_come = ap (λ (b : Bool). cond b (o ∷ []) []) (sym e.directory);
+            into_empty = ap (λ (os : List Object). os ++ []) e.empty;
+            into_few = omega arith;
+            follow = subst (PartsFollow nodes' owners' y') e.listings_are f;
+          }),
+      (freed kind space holes nodes owners root listings rest l a e.found None l.children (IsPermutation-refl l.children) refl (λ p is. absurd (none_object p is)) n o its whole).are,
+    )

@@ -1,6 +1,6 @@
 -- What parts with an old map that agree have.
-use Rattle.std.proofs.Common.{◌≡◌, ◌<◌, ◌≤◌, ℕ, true, List, [], ◌∷◌, ◌++◌, refl, sym, subst, None}
-use Rattle.std.specs.Prelude.{Contains, filter}
+use Rattle.std.proofs.Common.{◌≡◌, ◌<◌, ℕ, true, List, [], ◌∷◌}
+use Rattle.std.specs.Prelude.{Contains}
 use Rattle.fc_record.specs.declared.Kind.{Kind}
 use Rattle.fc_alloc.specs.declared.owner.Owner.{Owner}
 use Rattle.fc_image.specs.Layout.{Layout, disc_sectors, is_among}
@@ -8,13 +8,12 @@ use Rattle.fc_image.specs.Walk.{Listing, Object, Reader}
 use Rattle.fc_image.specs.Objects.{objects_of}
 use Rattle.fc_image.specs.Opening.{reserved_in}
 use Rattle.fc_image.specs.Sound.{AreSound}
-use Rattle.fc_image.specs.Edits.{Apart, IsAt, IsListing, IsRoot}
+use Rattle.fc_image.specs.Edits.{Apart, IsListing, IsRoot}
 use Rattle.fc_image.specs.Order.{AreListings, held}
 use Rattle.fc_image.proofs.HolesLemmas.{Each-contains, Each-objects, Lies, walk_lies}
 use Rattle.fc_image.proofs.OrderLemmas.{order_law}
 use Rattle.fc_tree.specs.declared.node.Node.{Node}
-use Rattle.fc_tree.specs.Agree.{Agree, AreWalked, reader_of_nodes}
-use Rattle.fc_tree.specs.Parts.{AreOwners, Parts}
+use Rattle.fc_tree.specs.Agree.{reader_of_nodes}
 use Rattle.fc_tree.proofs.WalkedLemmas.{apart_names, follows_each, given, place_of, root as root_of}
 use Rattle.fc_nodes.specs.Edits.{Nodes}
 use Rattle.fc_oldmap.specs.OldMap.{FreeSpace}

@@ -1,24 +1,21 @@
 -- Edits of one directory on an old map: objects leave it and come into it, and the map gets other holes.
-use Rattle.std.proofs.Common.{◌≡◌, ◌≤◌, ◌⊎◌, inl, inr, ⊎_elim, ℕ, ◌+◌, ◌*◌, ◌/◌, Bool, true, false, cond, List, [], ◌∷◌, ◌++◌, length, map, refl, sym, ap, ap₂, subst, ◌∙◌, arith, length-append, None, Some, Option}
-use Rattle.std.specs.Prelude.{Ok, Err, Contains, IsPermutation, insert, remove, slice_get, slice_set, ◌==◌}
-use Rattle.std.specs.Option.{option_to_list}
-use Rattle.std.specs.Int.{div_ceil}
+use Rattle.std.proofs.Common.{◌≡◌, ◌≤◌, ◌⊎◌, inl, inr, ⊎_elim, ℕ, Bool, true, false, cond, List, [], ◌∷◌, ◌++◌, length, refl, sym, ap, subst, ◌∙◌, arith, length-append, Some, Option}
+use Rattle.std.specs.Prelude.{Ok, Err, Contains, IsPermutation, remove, slice_get}
 use Rattle.std.proofs.lemmas.List.{append_assoc}
 use Rattle.std.proofs.lemmas.List.Elements.{Contains-append_cases, Contains-append_left, Contains-append_right}
 use Rattle.std.proofs.lemmas.List.Sorted.{Contains-permutation, IsPermutation-append_left, IsPermutation-cons, IsPermutation-middle, IsPermutation-refl, IsPermutation-sym, IsPermutation-trans, length_permutation}
 use Rattle.fc_record.specs.declared.Kind.{Kind}
 use Rattle.fc_newmap.proofs.PlaceLemmas.{in_back, in_either, in_front}
 use Rattle.fc_oldmap.specs.declared.Hole.{Hole}
-use Rattle.fc_oldmap.specs.Holes.{AreHoles, after_take}
-use Rattle.fc_oldmap.specs.OldMap.{FreeSpace, map_units}
+use Rattle.fc_oldmap.specs.OldMap.{FreeSpace}
 use Rattle.fc_dirs.specs.declared.Entry.{Entry}
-use Rattle.fc_dirs.specs.Directory.{Directory, directory_size, entries_of}
+use Rattle.fc_dirs.specs.Directory.{Directory, entries_of}
 use Rattle.fc_alloc.specs.declared.owner.Owner.{Owner}
-use Rattle.fc_image.specs.Layout.{Layout, dir_form, hole_sectors, is_among, map_place, sectors_at}
-use Rattle.fc_image.specs.Walk.{Listing, Object, Reader, is_directory_object, object_size}
+use Rattle.fc_image.specs.Layout.{Layout, hole_sectors, is_among, map_place}
+use Rattle.fc_image.specs.Walk.{Listing, Object, Reader}
 use Rattle.fc_image.specs.Objects.{objects_of}
 use Rattle.fc_image.specs.Opening.{reserved_in}
-use Rattle.fc_image.specs.Edits.{Apart, AreChildren, IsAt, IsListing, StayListed}
+use Rattle.fc_image.specs.Edits.{Apart, AreChildren, IsListing, StayListed}
 use Rattle.fc_image.specs.Order.{directories, held, listed}
 use Rattle.fc_image.specs.InPlace.{says_now}
 use Rattle.fc_image.proofs.EntriesLemmas.{entries_law}
@@ -27,20 +24,16 @@ use Rattle.fc_image.proofs.MapEditLemmas.{child_at, held_in}
 use Rattle.fc_image.proofs.OldEditLemmas.{old_places_law}
 use Rattle.fc_image.proofs.OrderLemmas.{order_law, stay_append}
 use Rattle.fc_image.proofs.RelistLemmas.{apart_behind, edited_apart_law, listed_itself, map_itself, relisting_law}
-use Rattle.fc_image.proofs.RenameLemmas.{child_path}
 use Rattle.fc_image.proofs.ShuffleLemmas.{IsPermutation-flat_map, flat_map-append}
 use Rattle.fc_tree.specs.declared.node.Node.{Node}
 use Rattle.fc_tree.specs.Agree.{Agree, reader_of_nodes}
-use Rattle.fc_effects.specs.Short.{holes_without, new_dir_size, old_need, with_space_of}
 use Rattle.fc_changes.specs.Owed.{GoesAlone}
-use Rattle.fc_changes.proofs.BasicLemmas.{cases_cons, clash, first_in, next_in, nothing_in, unless, without_it}
-use Rattle.fc_nodes.specs.Edits.{IsAdded, IsDirectoryAdded, IsRemoved, IsReplaced, Nodes}
+use Rattle.fc_changes.proofs.BasicLemmas.{cases_cons, clash, first_in, next_in, nothing_in, without_it}
+use Rattle.fc_nodes.specs.Edits.{Nodes}
 use Rattle.fc_agree.specs.Agreed.{CanSay, PartsFollow}
 use Rattle.fc_oldchanges.specs.Owed.{holding}
-use Rattle.fc_oldchanges.specs.Changed.{IsFileAt, IsFirstFitted}
-use Rattle.fc_oldchanges.proofs.MadeLemmas.{need_some}
-use Rattle.fc_oldchanges.proofs.PlaceLemmas.{apart_again, each_apart, row_or_none}
-use Rattle.fc_oldchanges.proofs.SpaceLemmas.{AreGiven, AreSpaced, IsNewPlace, given, new_place, not_given, nowhere, right_before, taken}
+use Rattle.fc_oldchanges.proofs.PlaceLemmas.{apart_again, each_apart}
+use Rattle.fc_oldchanges.proofs.SpaceLemmas.{AreGiven, AreSpaced, given, right_before}
 use Rattle.fc_oldagree.specs.Laws.{AgreeOn, RemovedLaw, parts_with}
 use Rattle.fc_oldagree.proofs.BeforeLemmas.{Had, had, object_lies, says}
 use Rattle.fc_oldagree.proofs.EditLemmas.{agreed_after}
@@ -203,9 +196,10 @@ module _ (e : Cut) where
           relisted = relisted;
           few = omega (arith, few, long, length-append into (l' ∷ e.rest), length-append e.out (e.l ∷ e.rest));
           say = stay_append read' y' into (l' ∷ e.rest)
-              (each_says into (λ k at. (n.follow.nodes_follow.say k (Contains-append_left into (l' ∷ e.rest) k at), n.into_are k at)))
-              ((n.follow.nodes_follow.say l' (Contains-append_right into (l' ∷ e.rest) l' (first_in l' e.rest)), n.are),
-              each_says e.rest (λ k at. (n.follow.nodes_follow.say k (Contains-append_right into (l' ∷ e.rest) k (next_in l' k e.rest at)), still_placed k (rest_in k at))));
+              (each_says into (λ k at. (n.follow.nodes_follow.say k (Contains-append_left into (l' ∷ e.rest) k at), n.into_are k at))) (
+                (n.follow.nodes_follow.say l' (Contains-append_right into (l' ∷ e.rest) l' (first_in l' e.rest)), n.are),
+                each_says e.rest (λ k at. (n.follow.nodes_follow.say k (Contains-append_right into (l' ∷ e.rest) k (next_in l' k e.rest at)), still_placed k (rest_in k at))),
+              );
           top_stays = refl;
           apart = subst (λ (os : List Object). Apart (reserved_in e.kind y') (e.come ++ os)) (sym (map_itself remain)) (all_apart e.come e.come_few (λ o at. at));
           forms = λ k at. (all_can k at).form;
@@ -243,7 +237,19 @@ removed_law kind space holes nodes nodes' owners owners' root listings listings'
     (given kind space (objects_of listings) spaced (Some o) (λ p is. subst (λ (x : Object). Contains (objects_of listings) x) (some_object o p is) o_in) space.holes (right_before kind space (objects_of listings) spaced)) in
     let kids = remove l.children i in
     let c : Cut = record {
-      kind = kind; space = space; holes = holes; nodes = nodes; owners = owners; root = root; listings = listings; out = out; rest = rest; l = l; gone = o ∷ []; come = []; kids = kids;
+      kind = kind;
+      space = space;
+      holes = holes;
+      nodes = nodes;
+      owners = owners;
+      root = root;
+      listings = listings;
+      out = out;
+      rest = rest;
+      l = l;
+      gone = o ∷ [];
+      come = [];
+      kids = kids;
       agree = a;
       found = e.found;
       holds = without_it l.children i o e.child.at;
@@ -253,17 +259,19 @@ removed_law kind space holes nodes nodes' owners owners' root listings listings'
       come_few = omega arith;
       come_free = λ p at. absurd (nothing_in p at);
       come_off_map = λ p at. absurd (nothing_in p at);
-    } in
-    (one_agrees c nodes' owners' [] content kids
-    (record {
-      can = can;
-      are = subst (λ (es : List Entry). AreChildren (Layout.Old (holding space holes)) l.object.path es kids) (sym e.entries)
-          (entries_law.removed (Layout.Old (holding space holes)) l.object.path (entries_of l.content) l.children i o (dir_placed c) e.child.at).0;
-      holds_now = IsPermutation-refl kids;
-      into_can = λ k at. absurd (nothing_in k at);
-      into_are = λ k at. absurd (nothing_in k at);
-      into_come = refl;
-      into_empty = refl;
-      into_few = omega arith;
-      follow = subst (PartsFollow nodes' owners' (Layout.Old (holding space holes))) e.listings_are f;
-    }), freed.are)
+    } in (
+      one_agrees c nodes' owners' [] content kids
+          (record {
+            can = can;
+            are = subst (λ (es : List Entry). AreChildren (Layout.Old (holding space holes)) l.object.path es kids) (sym e.entries)
+                (entries_law.removed (Layout.Old (holding space holes)) l.object.path (entries_of l.content) l.children i o (dir_placed c) e.child.at).0;
+            holds_now = IsPermutation-refl kids;
+            into_can = λ k at. absurd (nothing_in k at);
+            into_are = λ k at. absurd (nothing_in k at);
+            into_come = refl;
+            into_empty = refl;
+            into_few = omega arith;
+            follow = subst (PartsFollow nodes' owners' (Layout.Old (holding space holes))) e.listings_are f;
+          }),
+      freed.are,
+    )

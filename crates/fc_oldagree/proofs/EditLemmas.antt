@@ -1,6 +1,6 @@
 -- Any edit of the objects of agreeing parts, on an old map.
 use Rattle.std.proofs.Common.{◌≡◌, ◌≤◌, ℕ, ◌+◌, List, [], ◌∷◌, ◌++◌, length, map, refl, sym, ap, subst, ◌∙◌, arith, Some, Option}
-use Rattle.std.specs.Prelude.{Ok, Contains, IsPermutation}
+use Rattle.std.specs.Prelude.{Ok, Contains}
 use Rattle.std.specs.FinMap.{get}
 use Rattle.std.proofs.lemmas.List.Sorted.{Contains-permutation, IsPermutation-sym}
 use Rattle.fc_names.specs.declared.name.NameForm.{NameForm}
@@ -11,9 +11,8 @@ use Rattle.fc_oldmap.specs.OldMap.{FreeSpace}
 use Rattle.fc_dirs.specs.Directory.{directory_size}
 use Rattle.fc_dirs.specs.declared.Entry.{Entry}
 use Rattle.fc_alloc.specs.declared.owner.Owner.{Owner}
-use Rattle.fc_image.specs.Layout.{Layout, dir_form, disc_sectors}
-use Rattle.fc_image.specs.Walk.{Listing, Object, Reader, root_entry, walk}
-use Rattle.fc_image.specs.Objects.{objects_of}
+use Rattle.fc_image.specs.Layout.{Layout, dir_form}
+use Rattle.fc_image.specs.Walk.{Listing, Object, Reader, walk}
 use Rattle.fc_image.specs.Opening.{reserved_in}
 use Rattle.fc_image.specs.Sound.{AreSound}
 use Rattle.fc_image.specs.Edits.{Apart, IsRoot, StayListed}

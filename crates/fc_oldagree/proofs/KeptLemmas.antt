@@ -1,31 +1,21 @@
 -- Edits in which no object comes or goes, and each keeps its place.
-use Rattle.std.proofs.Common.{◌≡◌, inr, ℕ, Bool, false, cond, List, [], ◌∷◌, ◌++◌, length, map, refl, sym, ap, ap₂, subst, ◌∙◌, arith, length-append}
-use Rattle.std.specs.Prelude.{Contains, IsPermutation, nat_le, nat_lt, ◌==◌, ◌||◌, ◌&&◌}
-use Rattle.std.specs.List.{list_any}
+use Rattle.std.proofs.Common.{◌≡◌, List, [], ◌∷◌, ◌++◌, length, refl, sym, ap, ◌∙◌, arith, length-append}
+use Rattle.std.specs.Prelude.{Contains, IsPermutation}
 use Rattle.std.proofs.lemmas.List.{length-map}
-use Rattle.std.proofs.lemmas.List.Sorted.{IsPermutation-cons, length_permutation, list_any-IsPermutation}
-use Rattle.fc_names.specs.Names.{is_same_path}
+use Rattle.std.proofs.lemmas.List.Sorted.{IsPermutation-cons, length_permutation}
 use Rattle.fc_record.specs.declared.Kind.{Kind}
-use Rattle.fc_dirs.specs.Directory.{Directory}
 use Rattle.fc_alloc.specs.declared.owner.Owner.{Owner}
-use Rattle.fc_image.specs.Layout.{Layout, id_of}
-use Rattle.fc_image.specs.Walk.{Listing, Object, Reader}
-use Rattle.fc_image.specs.Objects.{is_movable, is_owner_of, objects_of}
+use Rattle.fc_image.specs.Layout.{Layout}
+use Rattle.fc_image.specs.Walk.{Listing, Object}
 use Rattle.fc_image.specs.Opening.{reserved_in}
-use Rattle.fc_image.specs.Sound.{AreSound}
-use Rattle.fc_image.specs.Edits.{IsListing, StayListed}
+use Rattle.fc_image.specs.Edits.{StayListed}
 use Rattle.fc_image.specs.Order.{held, listed}
-use Rattle.fc_image.specs.EditedWalk.{AreListedBy, IsRelisting}
-use Rattle.fc_image.proofs.EntriesLemmas.{from_map, here, later}
-use Rattle.fc_image.proofs.PathsLemmas.{is_at, itself, many}
-use Rattle.fc_image.proofs.MoveLemmas.{unless}
+use Rattle.fc_image.specs.EditedWalk.{IsRelisting}
 use Rattle.fc_image.proofs.OrderLemmas.{apart_shuffled}
 use Rattle.fc_image.proofs.RelistLemmas.{all_before, apart_mapped}
-use Rattle.fc_image.proofs.RenameLemmas.{many_shuffled, passes}
-use Rattle.fc_image.proofs.TreeLemmas.{sound_few}
 use Rattle.fc_tree.specs.declared.node.Node.{Node}
 use Rattle.fc_tree.specs.Agree.{Agree, reader_of_nodes}
-use Rattle.fc_nodes.specs.Edits.{Nodes, relisted}
+use Rattle.fc_nodes.specs.Edits.{Nodes}
 use Rattle.fc_oldagree.specs.Laws.{AgreeOn, parts_with}
 use Rattle.fc_agree.specs.Agreed.{CanSay, PartsFollow}
 use Rattle.fc_oldagree.proofs.BeforeLemmas.{Had, had}

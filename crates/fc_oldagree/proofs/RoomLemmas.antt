@@ -29,22 +29,22 @@ use Rattle.fc_nodes.specs.Edits.{Nodes}
 use Rattle.fc_oldagree.specs.Laws.{AgreeOn}
 use Rattle.fc_oldagree.proofs.BeforeLemmas.{had, object_lies, on_disc, reserved, sound}
 use Rattle.fc_oldmap.specs.OldMap.{FreeSpace}
-use Rattle.fc_oldchanges.proofs.PlaceLemmas.{IsRow, row_or_none}
+use Rattle.fc_oldchanges.proofs.PlaceLemmas.{row_or_none}
 use Rattle.fc_oldchanges.proofs.MadeLemmas.{ceil_some}
 use Rattle.fc_image.proofs.FreeLemmas.{among_range}
 use Rattle.fc_image.specs.Layout.{sectors_at}
-use Rattle.std.proofs.Common.{◌⊎◌, inl, inr, ⊎_elim, Option, Some, ◌*◌, ◌/◌, ◌+◌}
+use Rattle.std.proofs.Common.{◌⊎◌, inl, inr, ⊎_elim, Some, ◌*◌, ◌/◌}
 use Rattle.std.specs.Int.{div_ceil}
-use Rattle.std.specs.List.{range_with_len}
 
 -- some bytes have a sector
 a_sector : (space : FreeSpace) (address bytes : ℕ) (sectors : List ℕ) → 0 < bytes → (space.sector_units ≡ 1) ⊎ (space.sector_units ≡ 4) → sectors_at (Layout.Old space) address bytes ≡ Some sectors
     → (s : ℕ) × (is_among sectors s ≡ true)
 a_sector space address bytes sectors some units e = ⊎_elim
     (λ none. absurd (let zero' = none.0 in omega (arith, zero', some)))
-    (λ row. let count = ceil_some bytes (256 * space.sector_units) some (size_some units) in
-    (address / space.sector_units,
-    ap (λ (xs : List ℕ). is_among xs (address / space.sector_units)) row.row ∙ among_range (address / space.sector_units) (div_ceil bytes (256 * space.sector_units)) (address / space.sector_units) (omega arith) (omega (arith, count))))
+    (λ row. let count = ceil_some bytes (256 * space.sector_units) some (size_some units) in (
+      address / space.sector_units,
+      ap (λ (xs : List ℕ). is_among xs (address / space.sector_units)) row.row ∙ among_range (address / space.sector_units) (div_ceil bytes (256 * space.sector_units)) (address / space.sector_units) (omega arith) (omega (arith, count)),
+    ))
     (row_or_none space address bytes sectors e)
   where
     size_some : (space.sector_units ≡ 1) ⊎ (space.sector_units ≡ 4) → 0 < 256 * space.sector_units

@@ -1,6 +1,6 @@
 -- Parts of a volume with an old map that agree, their root's node and their listings named; and that they still agree after an edit of
 -- their objects, whatever the bytes of the image are.
-use Rattle.std.specs.Prelude.{◌≡◌, ◌≤◌, ℕ, ◌+◌, true, List, [], ◌∷◌, ◌++◌, Some}
+use Rattle.std.specs.Prelude.{◌≡◌, ℕ, true, List, Some}
 use Rattle.std.specs.FinMap.{get}
 use Rattle.fc_record.specs.declared.Kind.{Kind}
 use Rattle.fc_oldmap.specs.Holes.{AreHoles, after_take}

@@ -1,7 +1,6 @@
 -- Cdir on a disc with an old map: an empty directory comes.
-use Rattle.std.proofs.Common.{◌≡◌, ◌<◌, ◌⊎◌, inl, inr, ⊎_elim, ℕ, Bool, true, false, cond, List, [], ◌∷◌, ◌++◌, length, map, refl, sym, ap, ap₂, subst, ◌∙◌, arith, Some, None, Option}
-use Rattle.std.specs.Prelude.{Ok, Contains, IfSome, IsPermutation, IsSomeAnd, insert, ◌==◌}
-use Rattle.std.specs.Option.{option_to_list}
+use Rattle.std.proofs.Common.{◌≡◌, ◌⊎◌, inl, inr, ⊎_elim, ℕ, Bool, true, false, cond, List, [], ◌∷◌, ◌++◌, map, refl, sym, ap, ap₂, subst, ◌∙◌, arith, Some, None, Option}
+use Rattle.std.specs.Prelude.{Ok, Contains, IfSome, IsPermutation, IsSomeAnd, insert}
 use Rattle.std.proofs.lemmas.List.Sorted.{Contains-permutation, IsPermutation-refl, IsPermutation-sym}
 use Rattle.fc_names.specs.declared.name.NameForm.{NameForm}
 use Rattle.fc_names.specs.declared.name.NameForm.TheVariants.{Seven, Ten, Long}
@@ -13,7 +12,6 @@ use Rattle.fc_oldmap.specs.Laws.{ReadsBack}
 use Rattle.fc_oldmap.specs.OldMap.{FreeSpace}
 use Rattle.fc_model.specs.Tree.{holder, last_name}
 use Rattle.fc_model.specs.Command.{Command}
-use Rattle.fc_model.specs.Answer.{changed}
 use Rattle.fc_dirs.specs.declared.Entry.{Entry}
 use Rattle.fc_dirs.specs.declared.SmallForm.TheVariants.{Bytes1280, Bytes2048}
 use Rattle.fc_dirs.specs.Entries.{entry_place, with_entry}
@@ -22,9 +20,9 @@ use Rattle.fc_dirs.specs.Big.{big_dir, big_fault, empty_big}
 use Rattle.fc_dirs.specs.Directory.{Directory, directory_of, directory_size, entries_of}
 use Rattle.fc_image.specs.Layout.{Layout, dir_form, hole_sectors, is_among}
 use Rattle.fc_image.specs.Walk.{Listing, Object, is_directory_object, object_bytes, object_size, reader_of}
-use Rattle.fc_image.specs.Objects.{listing_at, object_at, objects_of, tree_of}
+use Rattle.fc_image.specs.Objects.{object_at, objects_of}
 use Rattle.fc_image.specs.Opening.{Opened}
-use Rattle.fc_image.specs.Edits.{AreChildren, IsAt, IsListing}
+use Rattle.fc_image.specs.Edits.{AreChildren, IsListing}
 use Rattle.fc_image.specs.Order.{held}
 use Rattle.fc_image.specs.InPlace.{says_now}
 use Rattle.fc_image.proofs.CommandLemmas.{command_law}
@@ -32,7 +30,7 @@ use Rattle.fc_image.proofs.EntriesLemmas.{entries_law}
 use Rattle.fc_image.proofs.LookupLemmas.{lookup_law}
 use Rattle.fc_image.proofs.OldEditLemmas.{old_places_law}
 use Rattle.fc_image.proofs.RelistLemmas.{listed_itself}
-use Rattle.fc_effects.specs.Short.{Growth, growth_in, holes_without, new_dir_size, old_need}
+use Rattle.fc_effects.specs.Short.{Growth, holes_without, new_dir_size, old_need}
 use Rattle.fc_effects.specs.Placed.{GrowthPlacedIn, OldObjectPlaced}
 use Rattle.fc_effects.specs.Steady.{AreWritten, EntrySteady, IsMadeDirectory, NewDirectory, edited, named_entry, new_directory, replaced_entry, with_made}
 use Rattle.fc_changes.proofs.BasicLemmas.{cases_cons, first_in, nothing_in}
@@ -43,7 +41,7 @@ use Rattle.fc_oldchanges.specs.Owed.{holding}
 use Rattle.fc_oldchanges.specs.Changed.{IsChanged, IsDirectoryChange}
 use Rattle.fc_oldchanges.specs.Laws.{DirectoryMadeLaw}
 use Rattle.fc_oldchanges.proofs.BeforeLemmas.{opened_as}
-use Rattle.fc_oldchanges.proofs.ChangeLemmas.{Start, behind_stays, l_in, opened, outside_steady, says}
+use Rattle.fc_oldchanges.proofs.ChangeLemmas.{Start, behind_stays, l_in, opened, outside_steady}
 use Rattle.fc_oldchanges.proofs.EditLemmas.{Change, child_now, directories_now, found, into_there, l_there, opens_now, sound_now}
 use Rattle.fc_oldchanges.proofs.GrowthLemmas.{no_growth}
 use Rattle.fc_oldchanges.proofs.MadeLemmas.{free_name, need_some}

@@ -1,14 +1,11 @@
 -- A change of one directory in place on a disc with an old map: objects leave it, come into it or change their entries, and the map
 -- gets other holes.
-use Rattle.std.proofs.Common.{◌≡◌, ◌<◌, ◌≤◌, ◌⊎◌, inl, inr, ⊎_elim, ℕ, zero, suc, ◌+◌, ◌-◌, ◌*◌, ◌/◌, ◌%◌, Bool, true, false, cond, List, [], ◌∷◌, ◌++◌, length, map, take, drop, refl, sym, ap, ap₂, subst, ◌∙◌, arith, Some, None, length-append}
+use Rattle.std.proofs.Common.{◌≡◌, ◌<◌, ◌⊎◌, inl, inr, ℕ, ◌*◌, ◌/◌, true, false, List, ◌∷◌, ◌++◌, length, drop, refl, sym, ap, subst, ◌∙◌, arith}
 use Rattle.std.specs.Prelude.{Ok, Err, Contains, IsPermutation, filter, not, ◌&&◌}
 use Rattle.std.specs.List.{flat_map, range_with_len}
-use Rattle.std.proofs.lemmas.List.{append_assoc}
-use Rattle.std.proofs.lemmas.List.Elements.{Contains-append_cases, Contains-append_left, Contains-append_right}
-use Rattle.std.proofs.lemmas.List.Sorted.{Contains-permutation, IsPermutation-sym, IsPermutation-trans, IsPermutation-middle, IsPermutation-cons, IsPermutation-append_left, length_permutation}
-use Rattle.fc_bytes.specs.Words.{bytes_at}
+use Rattle.std.proofs.lemmas.List.Elements.{Contains-append_left, Contains-append_right}
+use Rattle.std.proofs.lemmas.List.Sorted.{Contains-permutation, IsPermutation-sym}
 use Rattle.fc_device.specs.Sectors.{sector_at}
-use Rattle.fc_names.specs.Names.{Path, is_same_path}
 use Rattle.fc_record.specs.declared.Kind.{Kind}
 use Rattle.fc_record.specs.Kinds.{disc_size}
 use Rattle.fc_newmap.proofs.PlaceLemmas.{in_back, in_either, in_front}
@@ -18,47 +15,33 @@ use Rattle.fc_oldmap.specs.OldMap.{FreeSpace, IsOldMap, map_units}
 use Rattle.fc_oldmap.specs.Laws.{ReadsBack}
 use Rattle.fc_oldmap.proofs.SpaceLemmas.{AreHoles-lower}
 use Rattle.fc_model.specs.Command.{Command}
-use Rattle.fc_dirs.specs.Directory.{Directory, entries_of}
+use Rattle.fc_dirs.specs.Directory.{Directory}
 use Rattle.fc_image.specs.Layout.{Layout, disc_sectors, dir_form, hole_sectors, is_among, is_apart, map_place, sector_bytes}
-use Rattle.fc_image.specs.Report.{holder_address, is_lost_sector}
-use Rattle.fc_image.specs.Walk.{Listing, Object, Reader, is_directory_object, object_bytes, reader_of}
+use Rattle.fc_image.specs.Report.{is_lost_sector}
+use Rattle.fc_image.specs.Walk.{Listing, Object, is_directory_object, object_bytes, reader_of}
 use Rattle.fc_image.specs.Objects.{objects_of}
 use Rattle.fc_image.specs.Opening.{Opened, reserved_in}
-use Rattle.fc_image.specs.Stays.{HasSectorsOf, OpensAs}
-use Rattle.fc_image.specs.Edits.{Apart, AreChildren, IsAt, IsListing, StayListed}
-use Rattle.fc_image.specs.Order.{directories, held, listed}
+use Rattle.fc_image.specs.Stays.{HasSectorsOf}
+use Rattle.fc_image.specs.Edits.{Apart, IsListing}
+use Rattle.fc_image.specs.Order.{held, listed}
 use Rattle.fc_image.specs.OldMaps.{IsOldDisc as IsOld}
-use Rattle.fc_image.specs.OldEdits.{IsOldMapEdit}
-use Rattle.fc_image.specs.TreeEdits.{IsObjectEdit}
-use Rattle.fc_image.specs.EditedWalk.{AreListedBy, IsRelisting}
-use Rattle.fc_image.specs.MapEdits.{OpensEdited}
-use Rattle.fc_image.specs.InPlace.{says_now}
-use Rattle.fc_image.specs.Commanded.{IsKept}
-use Rattle.fc_image.specs.Sound.{AreSound}
-use Rattle.fc_image.proofs.HolesLemmas.{Lies, apart_at, apart_from}
+use Rattle.fc_image.proofs.HolesLemmas.{Lies, apart_at}
 use Rattle.fc_image.proofs.FreeLemmas.{object_same, range_bounds}
 use Rattle.fc_image.proofs.OldMapLemmas.{old_map_law}
-use Rattle.fc_image.proofs.OldEditLemmas.{old_map_edit_law, old_places_law}
-use Rattle.fc_image.proofs.OrderLemmas.{order_law, stay_append}
-use Rattle.fc_image.proofs.RelistLemmas.{apart_behind, apart_mapped, edited_apart_law, relisting_law}
-use Rattle.fc_image.proofs.RewordLemmas.{same_long}
-use Rattle.fc_image.proofs.ShuffleLemmas.{IsPermutation-flat_map, IsPermutation-unappend, flat_map-append}
-use Rattle.fc_image.proofs.MapEditLemmas.{held_in, is_file}
+use Rattle.fc_image.proofs.OrderLemmas.{order_law}
+use Rattle.fc_image.proofs.MapEditLemmas.{is_file}
 use Rattle.fc_image.proofs.EntriesLemmas.{in_filter, in_mapped}
 use Rattle.fc_image.proofs.MoveLemmas.{all_filter, not_true}
 use Rattle.fc_image.proofs.OneZoneLemmas.{and_first, and_second}
-use Rattle.fc_effects.specs.Short.{growth_in}
-use Rattle.fc_effects.specs.Steady.{AreWritten, DirectoriesSteady, IsRewritten, OutsideSteady, SameSectors, edited, holds_named, is_gone, lost_sectors, named_entry}
-use Rattle.fc_changes.proofs.BasicLemmas.{cases_cons, clash, first_in, next_in, nothing_in, unless}
-use Rattle.fc_changes.proofs.DirectoriesLemmas.{IsPlain, Lasts}
+use Rattle.fc_effects.specs.Steady.{AreWritten, IsRewritten, OutsideSteady, SameSectors, lost_sectors}
+use Rattle.fc_changes.proofs.BasicLemmas.{clash, first_in, next_in, unless}
 use Rattle.fc_changes.proofs.OutsideLemmas.{same_behind}
 use Rattle.fc_changes.proofs.ReadsLemmas.{reads_back}
-use Rattle.fc_oldchanges.specs.Owed.{IsBefore, IsDirectoryWritten, IsMapAfter, IsWritten, holding}
-use Rattle.fc_oldchanges.proofs.BeforeLemmas.{Had, all_listed, had, held_object, holder_stays, listed_in, object_lies, other_path, parts, root_in, says_old, sound}
-use Rattle.fc_oldchanges.proofs.DirectoriesLemmas.{Stays, all_steady, written_steady}
+use Rattle.fc_oldchanges.specs.Owed.{IsBefore, IsMapAfter, IsWritten, holding}
+use Rattle.fc_oldchanges.proofs.BeforeLemmas.{Had, all_listed, had, held_object, listed_in, object_lies, parts, says_old}
 use Rattle.fc_oldchanges.proofs.HoleLemmas.{below_end, units_in}
-use Rattle.fc_oldchanges.proofs.MapLemmas.{IsOldDisc, fits_now, found_now, old_disc}
-use Rattle.fc_oldchanges.proofs.PlaceLemmas.{among_flat, apart_again, each_apart, in_disc, pair_apart}
+use Rattle.fc_oldchanges.proofs.MapLemmas.{IsOldDisc, old_disc}
+use Rattle.fc_oldchanges.proofs.PlaceLemmas.{among_flat, in_disc, pair_apart}
 
 abbrev pub opened : Kind → FreeSpace → List Listing → Opened
 opened kind space ls = record { kind = kind; layout = Layout.Old space; listings = ls }

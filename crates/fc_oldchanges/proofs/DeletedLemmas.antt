@@ -1,9 +1,8 @@
 -- Delete on a disc with an old map: a file or an empty directory goes, and its space is in the holes.
-use Rattle.std.proofs.Common.{◌≡◌, inl, inr, ℕ, Bool, true, false, cond, List, [], ◌∷◌, ◌++◌, length, map, refl, sym, ap, subst, ◌∙◌, arith, Some, None, Option}
-use Rattle.std.specs.Prelude.{Contains, IsPermutation, remove, slice_get}
-use Rattle.std.specs.Option.{option_to_list}
+use Rattle.std.proofs.Common.{◌≡◌, inl, inr, ℕ, Bool, true, cond, List, [], ◌∷◌, ◌++◌, refl, sym, ap, subst, ◌∙◌, arith, Some, None, Option}
+use Rattle.std.specs.Prelude.{Contains, IsPermutation, remove}
 use Rattle.std.proofs.lemmas.List.{append-nil}
-use Rattle.std.proofs.lemmas.List.Elements.{Contains-append_left, Contains-append_right}
+use Rattle.std.proofs.lemmas.List.Elements.{Contains-append_right}
 use Rattle.std.proofs.lemmas.List.Sorted.{Contains-permutation, IsPermutation-middle, IsPermutation-refl, IsPermutation-sym, IsPermutation-trans}
 use Rattle.fc_names.specs.Names.{Path, is_same_path}
 use Rattle.fc_record.specs.declared.Kind.{Kind}
@@ -12,13 +11,12 @@ use Rattle.fc_oldmap.specs.Laws.{ReadsBack}
 use Rattle.fc_oldmap.specs.OldMap.{FreeSpace}
 use Rattle.fc_model.specs.Tree.{holder, last_name}
 use Rattle.fc_model.specs.Command.{Command}
-use Rattle.fc_model.specs.Answer.{changed}
 use Rattle.fc_dirs.specs.declared.Entry.{Entry}
 use Rattle.fc_dirs.specs.Directory.{Directory, entries_of}
 use Rattle.fc_dirs.proofs.EditLemmas.{edit_law}
-use Rattle.fc_image.specs.Layout.{Layout, hole_sectors, is_among}
-use Rattle.fc_image.specs.Walk.{Listing, Object, is_directory_object, reader_of}
-use Rattle.fc_image.specs.Objects.{object_at, objects_of, tree_of}
+use Rattle.fc_image.specs.Layout.{Layout}
+use Rattle.fc_image.specs.Walk.{Listing, Object, reader_of}
+use Rattle.fc_image.specs.Objects.{object_at, objects_of}
 use Rattle.fc_image.specs.Opening.{Opened}
 use Rattle.fc_image.specs.Edits.{AreChildren, IsListing}
 use Rattle.fc_image.specs.Order.{directories, held, listed}
@@ -28,7 +26,6 @@ use Rattle.fc_image.proofs.EntriesLemmas.{entries_law}
 use Rattle.fc_image.proofs.LookupLemmas.{lookup_law}
 use Rattle.fc_image.proofs.RelistLemmas.{listed_itself}
 use Rattle.fc_image.proofs.RenameLemmas.{child_path}
-use Rattle.fc_effects.specs.Short.{with_space_of}
 use Rattle.fc_effects.specs.Steady.{edited, without_name}
 use Rattle.fc_changes.specs.Owed.{GoesAlone}
 use Rattle.fc_changes.proofs.BasicLemmas.{cases_cons, first_in, nothing_in, without_it}
@@ -38,9 +35,9 @@ use Rattle.fc_oldchanges.specs.Owed.{IsWritten, holding}
 use Rattle.fc_oldchanges.specs.Changed.{IsChanged, IsDeleteChange}
 use Rattle.fc_oldchanges.specs.Laws.{DeletedLaw}
 use Rattle.fc_oldchanges.proofs.BeforeLemmas.{child_in, opened_as, sound}
-use Rattle.fc_oldchanges.proofs.ChangeLemmas.{Start, behind_stays, l_in, opened, outside_steady, says}
+use Rattle.fc_oldchanges.proofs.ChangeLemmas.{Start, behind_stays, opened, outside_steady, says}
 use Rattle.fc_oldchanges.proofs.EditLemmas.{Change, directories_now, found, opens_now}
-use Rattle.fc_oldchanges.proofs.GrowthLemmas.{given_alone, no_growth}
+use Rattle.fc_oldchanges.proofs.GrowthLemmas.{given_alone}
 use Rattle.fc_oldchanges.proofs.PlainLemmas.{holds_same, keeps_all, rest_still, same_object, still_placed}
 use Rattle.fc_oldchanges.proofs.SpaceLemmas.{spaced, AreGiven, given, right_before}
 

@@ -1,5 +1,5 @@
 -- The directories after a command that writes one of them to its old place, and no path of which changes, on discs with any maps.
-use Rattle.std.proofs.Common.{◌≡◌, inl, inr, ℕ, Bool, true, false, cond, List, ◌∷◌, ◌++◌, refl, sym, ap, ap₂, subst, ◌∙◌, Some, None, Option}
+use Rattle.std.proofs.Common.{◌≡◌, inl, inr, ℕ, Bool, true, false, List, ◌∷◌, ◌++◌, sym, ap, ap₂, subst, ◌∙◌, Some, None, Option}
 use Rattle.std.specs.Prelude.{Contains, IsPermutation, IsSomeAnd, ◌||◌}
 use Rattle.std.proofs.lemmas.List.Elements.{Contains-append_cases}
 use Rattle.std.proofs.lemmas.List.Sorted.{Contains-permutation}

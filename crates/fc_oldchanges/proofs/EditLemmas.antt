@@ -1,22 +1,20 @@
 -- The edit of the directories, and the image that opens after it.
-use Rattle.std.proofs.Common.{◌≡◌, ◌≤◌, ◌⊎◌, inl, inr, ⊎_elim, ℕ, suc, ◌+◌, Bool, true, false, List, [], ◌∷◌, ◌++◌, length, map, refl, sym, ap, ap₂, subst, ◌∙◌, arith, length-append, None}
-use Rattle.std.specs.Prelude.{Result, Ok, Err, Contains, IsPermutation, filter}
+use Rattle.std.proofs.Common.{◌≡◌, ◌≤◌, ◌⊎◌, inl, inr, ⊎_elim, ℕ, true, false, List, [], ◌∷◌, ◌++◌, length, map, refl, sym, ap, subst, ◌∙◌, arith, length-append, None}
+use Rattle.std.specs.Prelude.{Result, Ok, Err, Contains, IsPermutation}
 use Rattle.std.proofs.lemmas.List.{append_assoc}
 use Rattle.std.proofs.lemmas.List.Elements.{Contains-append_cases, Contains-append_left, Contains-append_right}
 use Rattle.std.proofs.lemmas.List.Sorted.{Contains-permutation, IsPermutation-sym, IsPermutation-trans, IsPermutation-middle, IsPermutation-cons, IsPermutation-append_left, length_permutation}
-use Rattle.fc_names.specs.Names.{Path, is_same_path}
-use Rattle.fc_newmap.proofs.PlaceLemmas.{in_back, in_either, in_front}
-use Rattle.fc_oldmap.specs.Laws.{ReadsBack}
-use Rattle.fc_oldmap.specs.OldMap.{FreeSpace}
+use Rattle.fc_names.specs.Names.{is_same_path}
+use Rattle.fc_newmap.proofs.PlaceLemmas.{in_either, in_front}
 use Rattle.fc_model.specs.Command.{Command}
 use Rattle.fc_dirs.specs.Directory.{Directory, directory_of, entries_of}
 use Rattle.fc_dirs.specs.declared.DirFault.{DirFault}
-use Rattle.fc_image.specs.Layout.{Layout, dir_form, hole_sectors, is_among, is_apart, map_place, sector_bytes}
+use Rattle.fc_image.specs.Layout.{Layout, dir_form, hole_sectors, is_among, map_place}
 use Rattle.fc_image.specs.Report.{holder_address}
 use Rattle.fc_image.specs.Walk.{Listing, Object, is_directory_object, object_bytes, reader_of}
 use Rattle.fc_image.specs.Objects.{objects_of}
 use Rattle.fc_image.specs.Opening.{Opened, reserved_in}
-use Rattle.fc_image.specs.Edits.{Apart, AreChildren, IsAt, IsListing, StayListed}
+use Rattle.fc_image.specs.Edits.{Apart, AreChildren, StayListed}
 use Rattle.fc_image.specs.Order.{directories, held, listed}
 use Rattle.fc_image.specs.OldEdits.{IsOldMapEdit}
 use Rattle.fc_image.specs.TreeEdits.{IsObjectEdit}
@@ -26,22 +24,22 @@ use Rattle.fc_image.specs.InPlace.{says_now}
 use Rattle.fc_image.specs.Commanded.{IsKept}
 use Rattle.fc_image.specs.Sound.{AreSound}
 use Rattle.fc_image.proofs.HolesLemmas.{apart_at, apart_from}
-use Rattle.fc_image.proofs.OldEditLemmas.{old_map_edit_law, old_places_law}
+use Rattle.fc_image.proofs.OldEditLemmas.{old_map_edit_law}
 use Rattle.fc_image.proofs.OrderLemmas.{order_law, stay_append}
 use Rattle.fc_image.proofs.RelistLemmas.{apart_behind, apart_mapped, edited_apart_law, relisting_law}
 use Rattle.fc_image.proofs.RewordLemmas.{same_long}
-use Rattle.fc_image.proofs.ShuffleLemmas.{IsPermutation-flat_map, IsPermutation-unappend, flat_map-append}
+use Rattle.fc_image.proofs.ShuffleLemmas.{IsPermutation-flat_map, flat_map-append}
 use Rattle.fc_image.proofs.MapEditLemmas.{held_in}
 use Rattle.fc_effects.specs.Short.{growth_in}
-use Rattle.fc_effects.specs.Steady.{AreWritten, DirectoriesSteady, IsRewritten, edited, holds_named, is_gone, named_entry}
+use Rattle.fc_effects.specs.Steady.{DirectoriesSteady, IsRewritten, edited, holds_named, is_gone, named_entry}
 use Rattle.fc_changes.proofs.BasicLemmas.{cases_cons, clash, first_in, next_in, nothing_in, unless}
 use Rattle.fc_changes.proofs.DirectoriesLemmas.{IsPlain, Lasts}
-use Rattle.fc_changes.proofs.RewordedLemmas.{Mapped, mapped, ok_same}
+use Rattle.fc_changes.proofs.RewordedLemmas.{mapped, ok_same}
 use Rattle.fc_oldchanges.specs.Owed.{IsDirectoryWritten, holding}
-use Rattle.fc_oldchanges.proofs.BeforeLemmas.{Had, child_in, holder_stays, listed_in, other_path, sound, tells}
+use Rattle.fc_oldchanges.proofs.BeforeLemmas.{child_in, holder_stays, other_path, sound, tells}
 use Rattle.fc_oldchanges.proofs.DirectoriesLemmas.{Stays, all_steady, written_steady}
 use Rattle.fc_oldchanges.proofs.MapLemmas.{found_now, fits_now}
-use Rattle.fc_oldchanges.proofs.ChangeLemmas.{Start, bytes_stay, dirs_stay, disc, files_stay, is_map_now, l_in, lies, not_hole, not_map, opened, others_in, reads, says, top, y, y'}
+use Rattle.fc_oldchanges.proofs.ChangeLemmas.{Start, bytes_stay, dirs_stay, disc, files_stay, is_map_now, l_in, not_hole, not_map, opened, others_in, reads, says, top}
 use Rattle.fc_oldchanges.proofs.PlaceLemmas.{apart_again, each_apart}
 
 -- The object keeps its place, and stays a file or a directory.

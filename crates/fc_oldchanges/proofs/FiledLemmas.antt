@@ -1,6 +1,6 @@
 -- Save and create on a disc with an old map: a file comes, or replaces another.
-use Rattle.std.proofs.Common.{◌≡◌, ◌<◌, ◌⊎◌, ◌*◌, inl, inr, ⊎_elim, ℕ, Bool, true, false, cond, List, [], ◌∷◌, ◌++◌, length, map, replicate, refl, sym, ap, ap₂, subst, ◌∙◌, arith, Some, None, Option}
-use Rattle.std.specs.Prelude.{Contains, IfSome, IsPermutation, insert, remove, slice_get, slice_set, ◌==◌}
+use Rattle.std.proofs.Common.{◌≡◌, ◌⊎◌, ◌*◌, inl, inr, ⊎_elim, ℕ, Bool, true, false, cond, List, [], ◌∷◌, ◌++◌, length, map, replicate, refl, sym, ap, ap₂, subst, ◌∙◌, arith, Some, None, Option}
+use Rattle.std.specs.Prelude.{Contains, IfSome, IsPermutation, insert, remove, slice_set}
 use Rattle.std.specs.Int.{div_ceil}
 use Rattle.std.specs.Option.{option_map_or, option_to_list}
 use Rattle.std.proofs.lemmas.Bool.{eqb-true}
@@ -32,7 +32,7 @@ use Rattle.fc_image.proofs.LookupLemmas.{lookup_law}
 use Rattle.fc_image.proofs.MapEditLemmas.{child_at}
 use Rattle.fc_image.proofs.OldEditLemmas.{old_places_law}
 use Rattle.fc_image.proofs.RelistLemmas.{listed_itself}
-use Rattle.fc_effects.specs.Short.{Growth, growth_in, holes_without, new_length, old_need, replaced_object, with_space_of}
+use Rattle.fc_effects.specs.Short.{Growth, holes_without, new_length, old_need, replaced_object, with_space_of}
 use Rattle.fc_effects.specs.Placed.{GrowthPlacedIn, HasAddress, OldObjectPlaced, is_written_empty, made_object}
 use Rattle.fc_effects.specs.Steady.{EntrySteady, NamedStays, NewDirectory, edited, holds_named, is_moved_by, named_entry, named_object, replaced_entry, source_object, with_made}
 use Rattle.fc_changes.specs.Changed.{IsEntryMade, children_with}

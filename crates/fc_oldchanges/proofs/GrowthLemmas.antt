@@ -1,11 +1,10 @@
 -- On a disc with an old map no directory grows, and commands that neither take nor give space leave the holes.
-use Rattle.std.proofs.Common.{◌≡◌, ◌<◌, ◌⊎◌, inl, inr, ⊎_elim, ℕ, ◌*◌, Bool, true, false, cond, List, [], ◌∷◌, length, refl, sym, ap, ap₂, subst, ◌∙◌, arith, Some, None, Option}
-use Rattle.std.specs.Prelude.{Result, Ok, Err, Contains, not, is_some, ◌==◌, ◌&&◌}
+use Rattle.std.proofs.Common.{◌≡◌, ◌⊎◌, inl, inr, ℕ, ◌*◌, Bool, true, false, cond, List, refl, sym, ap, ap₂, subst, ◌∙◌, Some, None, Option}
+use Rattle.std.specs.Prelude.{Result, Ok, not, is_some, ◌==◌, ◌&&◌}
 use Rattle.std.specs.Option.{option_and_then, option_map, option_map_or}
 use Rattle.std.specs.Int.{div_ceil}
 use Rattle.std.specs.Str.{bytes_eq}
-use Rattle.fc_names.specs.declared.name.NameForm.{NameForm}
-use Rattle.fc_names.specs.declared.name.NameForm.TheVariants.{Seven, Ten, Long}
+use Rattle.fc_names.specs.declared.name.NameForm.TheVariants.{Seven, Ten}
 use Rattle.fc_names.specs.Names.{Path, is_same_path}
 use Rattle.fc_record.specs.declared.Kind.{Kind}
 use Rattle.fc_oldmap.specs.OldMap.{FreeSpace}
@@ -15,9 +14,9 @@ use Rattle.fc_dirs.specs.declared.DirFault.{DirFault}
 use Rattle.fc_dirs.specs.declared.SmallForm.TheVariants.{Bytes1280, Bytes2048}
 use Rattle.fc_dirs.specs.Small.{small_dir, small_fault}
 use Rattle.fc_dirs.specs.Directory.{Directory, directory_of, read_or}
-use Rattle.fc_image.specs.Layout.{Layout, dir_form}
-use Rattle.fc_image.specs.Walk.{Listing, Object, is_directory_object, object_bytes, reader_of}
-use Rattle.fc_image.specs.Objects.{listing_at, object_at, objects_of}
+use Rattle.fc_image.specs.Layout.{Layout}
+use Rattle.fc_image.specs.Walk.{Listing, Object, is_directory_object, object_bytes}
+use Rattle.fc_image.specs.Objects.{listing_at, object_at}
 use Rattle.fc_image.specs.Opening.{Opened}
 use Rattle.fc_image.specs.Stays.{OpensAs}
 use Rattle.fc_effects.specs.Short.{Gain, gain_at, gain_by_new_name, gain_by_rename, gain_of, growth_in, growth_of, growth_with, holes_without, is_copied, new_length, old_holes_after, old_need, replaced_object, with_space_of}

@@ -1,13 +1,12 @@
 -- Holes as units and as sectors: what taking and giving do to them.
-use Rattle.std.proofs.Common.{◌≡◌, ◌<◌, ◌≤◌, ◌⊎◌, inl, inr, ⊎_elim, ℕ, zero, suc, ◌+◌, ◌-◌, ◌*◌, ◌/◌, ◌%◌, Bool, true, false, cond, List, [], ◌∷◌, ◌++◌, length, refl, sym, ap, subst, ◌∙◌, arith, Some, None, Option}
+use Rattle.std.proofs.Common.{◌≡◌, ◌<◌, ◌≤◌, ◌⊎◌, inl, inr, ⊎_elim, ℕ, ◌+◌, ◌-◌, ◌*◌, ◌/◌, ◌%◌, Bool, true, false, cond, List, [], ◌∷◌, ◌++◌, refl, sym, subst, arith, Some}
 use Rattle.std.specs.Prelude.{Ok, Err, nat_le, nat_lt, ◌==◌}
-use Rattle.std.specs.List.{flat_map, range_with_len}
-use Rattle.std.proofs.lemmas.Bool.{eqb-true, leb-true, leb-false, ltb-true, ltb-false}
+use Rattle.std.specs.List.{flat_map}
+use Rattle.std.proofs.lemmas.Bool.{eqb-true, leb-true, ltb-true, ltb-false}
 use Rattle.fc_newmap.proofs.PlaceLemmas.{in_back, in_either, in_front}
 use Rattle.fc_oldmap.specs.declared.Hole.{Hole}
 use Rattle.fc_oldmap.specs.Holes.{AreHoles, IsHole, after_give, after_take, first_fit_place, hole, hole_end, rest_after_take}
-use Rattle.fc_oldmap.specs.OldMap.{FreeSpace}
-use Rattle.fc_image.specs.Layout.{Layout, hole_sectors, hole_sectors_in, is_among}
+use Rattle.fc_image.specs.Layout.{hole_sectors_in, is_among}
 use Rattle.fc_image.proofs.EntriesLemmas.{same_some}
 use Rattle.fc_image.proofs.FreeLemmas.{among_range, range_bounds}
 

@@ -1,5 +1,5 @@
 -- A new object on a disc with an old map: what it is called, and how much it takes.
-use Rattle.std.proofs.Common.{◌≡◌, ◌<◌, ◌≤◌, ◌⊎◌, inl, inr, refl, ℕ, zero, suc, ◌*◌, Bool, true, false, List, [], ◌∷◌, ◌++◌, sym, ◌∙◌, arith, Some, None, Option}
+use Rattle.std.proofs.Common.{◌≡◌, ◌<◌, ◌≤◌, ◌⊎◌, inl, inr, refl, ℕ, zero, suc, ◌*◌, true, false, List, [], ◌∷◌, ◌++◌, sym, ◌∙◌, arith, Some, None, Option}
 use Rattle.std.specs.Prelude.{Contains, is_some, ◌==◌}
 use Rattle.std.specs.Int.{div_ceil}
 use Rattle.std.proofs.lemmas.Bool.{eqb-true}
@@ -11,7 +11,7 @@ use Rattle.fc_dirs.specs.declared.Entry.{Entry}
 use Rattle.fc_dirs.specs.Entries.{entry_named, has_name}
 use Rattle.fc_dirs.specs.Directory.{entries_of}
 use Rattle.fc_image.specs.Layout.{Layout}
-use Rattle.fc_image.specs.Walk.{Listing, Object, reader_of}
+use Rattle.fc_image.specs.Walk.{Listing, Object}
 use Rattle.fc_image.specs.Objects.{object_at}
 use Rattle.fc_image.specs.Stays.{OpensAs}
 use Rattle.fc_image.proofs.LookupLemmas.{lookup_law}

@@ -1,6 +1,6 @@
 -- The old map of an image, before and after it is written.
 use Rattle.std.proofs.Common.{◌≡◌, ◌<◌, ◌≤◌, ◌∷◌, ◌+◌, ◌-◌, ◌*◌, ◌/◌, ◌%◌, ◌⊎◌, inl, inr, ℕ, zero, suc, Bool, true, false, List, [], length, take, drop, refl, sym, ap, ap₂, subst, ◌∙◌, arith}
-use Rattle.std.specs.Prelude.{nat_le, nat_lt, Option, Some, None, Result, Ok, Err, if◌then◌else◌, ◌==◌, ◌&&◌, ◌++◌}
+use Rattle.std.specs.Prelude.{nat_le, Option, Some, None, Result, Ok, Err, if◌then◌else◌, ◌==◌, ◌&&◌, ◌++◌}
 use Rattle.byteorder.specs.Endian.{little_number}
 use Rattle.std.proofs.lemmas.List.{get_or-take, drop-take, take-take, length-take-le}
 use Rattle.std.proofs.lemmas.List.FromFn.{map-range_with_len_more}
@@ -11,23 +11,21 @@ use Rattle.std.proofs.Math.Seq.{take-add}
 use Rattle.fc_bytes.specs.Words.{bytes_at, u24_at}
 use Rattle.fc_checks.specs.Checks.{is_half_right}
 use Rattle.fc_device.specs.Sectors.{sector_at}
-use Rattle.fc_record.specs.declared.DiscRecord.{DiscRecord}
 use Rattle.fc_record.specs.declared.Kind.{Kind}
 use Rattle.fc_record.specs.declared.Kind.TheVariants.{Boot, OneZone, DiscD, DiscL}
 use Rattle.fc_record.specs.Kinds.{IsKind, disc_size, fits_kind, is_old_map, old_units}
 use Rattle.fc_oldmap.specs.declared.Hole.{Hole}
 use Rattle.fc_oldmap.specs.declared.OldMapFault.{OldMapFault}
 use Rattle.fc_oldmap.specs.declared.OldMapFault.TheVariants.{Check, Bad}
-use Rattle.fc_oldmap.specs.OldMap.{FreeSpace, IsOldMap, free_end, free_space, hole_fault, holes_of, is_free_end, is_hole_right, map_units, old_map, stored_hole, stored_holes, with_holes, wrong_hole}
+use Rattle.fc_oldmap.specs.OldMap.{FreeSpace, IsOldMap, free_end, free_space, hole_fault, holes_of, is_free_end, is_hole_right, map_units, old_map, stored_hole, stored_holes, wrong_hole}
 use Rattle.fc_oldmap.specs.Holes.{AreHoles, IsHole, hole, hole_end}
 use Rattle.fc_oldmap.specs.Laws.{ReadsBack}
 use Rattle.fc_newmap.specs.Map.{Map}
 use Rattle.fc_image.specs.declared.ImageFault.{ImageFault}
-use Rattle.fc_image.specs.Layout.{Layout, map_place, sector_bytes}
+use Rattle.fc_image.specs.Layout.{Layout}
 use Rattle.fc_image.specs.Opening.{MapAndRoot, holes_or, map_and_root, old_layout}
 use Rattle.fc_image.specs.Stays.{HasSectorsOf}
 use Rattle.fc_image.proofs.HolesLemmas.{found_map}
-use Rattle.fc_effects.specs.Steady.{OldMapOutside}
 use Rattle.fc_oldchanges.specs.Owed.{IsMapAfter, MapStays, holding}
 
 and_parts : (a b : Bool) → (a && b) ≡ true → (a ≡ true) × (b ≡ true)
@@ -142,7 +140,6 @@ right_end bytes units none = go (is_free_end (free_end bytes)) refl
     go : (right : Bool) → is_free_end (free_end bytes) ≡ right → is_free_end (free_end bytes) ≡ true
     go true right = right
     go false wrong = absurd (let e = sym (ap (λ b. fault_by b (u24_at bytes 252) units (stored_holes bytes) (free_end bytes)) wrong) ∙ none in cc)
-
 
 -- ---- right holes are read
 

@@ -1,5 +1,5 @@
 -- Moves on a disc with an old map: what stays, and the image that opens afterwards. The map stays as it is.
-use Rattle.std.proofs.Common.{◌≡◌, ◌<◌, ◌≤◌, ◌⊎◌, inl, inr, ℕ, suc, ◌+◌, ◌*◌, ◌/◌, Bool, true, false, cond, List, [], ◌∷◌, ◌++◌, length, map, drop, refl, sym, ap, ap₂, subst, ◌∙◌, arith, Some}
+use Rattle.std.proofs.Common.{◌≡◌, ◌<◌, ◌≤◌, ◌⊎◌, inl, inr, ℕ, ◌+◌, ◌*◌, ◌/◌, Bool, true, false, cond, List, [], ◌∷◌, ◌++◌, length, map, drop, refl, sym, ap, subst, ◌∙◌, arith, Some}
 use Rattle.std.specs.Prelude.{Ok, Err, Contains, IsPermutation, filter, insert, not, remove, slice_get, ◌&&◌}
 use Rattle.std.specs.List.{flat_map, range_with_len}
 use Rattle.std.proofs.lemmas.List.Elements.{Contains-append_left, Contains-append_right}
@@ -23,7 +23,6 @@ use Rattle.fc_image.specs.Opening.{Opened, reserved_in}
 use Rattle.fc_image.specs.Stays.{HasSectorsOf, OpensAs}
 use Rattle.fc_image.specs.Edits.{Apart, AreChildren, IsApartFrom, IsAt, IsListing, StayListed}
 use Rattle.fc_image.specs.Order.{held, listed}
-use Rattle.fc_image.specs.OldMaps.{IsOldDisc as IsOld}
 use Rattle.fc_image.specs.TreeEdits.{IsMove}
 use Rattle.fc_image.specs.EditedWalk.{AreListedBy, IsRelisting, moved_object}
 use Rattle.fc_image.specs.Commanded.{moved_name, moved_path}
@@ -45,9 +44,9 @@ use Rattle.fc_image.proofs.RenameLemmas.{alone, child_path, child_stays, holder_
 use Rattle.fc_image.proofs.RewordLemmas.{same_long}
 use Rattle.fc_image.proofs.ShuffleLemmas.{IsPermutation-flat_map, same_lists}
 use Rattle.fc_effects.specs.Steady.{OutsideSteady, SameSectors, lost_sectors}
-use Rattle.fc_changes.proofs.BasicLemmas.{clash, first_in, long_pushed, next_in, unless, without_it}
+use Rattle.fc_changes.proofs.BasicLemmas.{clash, first_in, long_pushed, next_in, unless}
 use Rattle.fc_changes.proofs.OutsideLemmas.{same_behind}
-use Rattle.fc_oldchanges.specs.Owed.{IsBefore, IsWritten, MapStays, holding}
+use Rattle.fc_oldchanges.specs.Owed.{IsBefore, IsWritten, MapStays}
 use Rattle.fc_oldchanges.proofs.BeforeLemmas.{all_listed, had, held_object, listed_in, object_lies, parts, says_old}
 use Rattle.fc_oldchanges.proofs.ChangeLemmas.{opened}
 use Rattle.fc_oldchanges.proofs.MapLemmas.{IsOldDisc, fits_now, found_now, map_kept, old_disc}
@@ -183,9 +182,10 @@ module _ (back : ReadsBack) (kind : Kind) (image image' : List ℕ) (space : Fre
       go [] within = tt
       go (k ∷ ks) within =
           let at = within k (first_in k ks) in
-          let t = tells k at in
-          (relisting_law.says o.path to (reader_of image z) (reader_of image' z) z z k (said k) (says_old kind image z ls before.opens k (rest_in k at)) t.0 t.1 (child_placed k (rest_in k at)) (other k at),
-          go ks (λ j i. within j (next_in k j ks i)))
+          let t = tells k at in (
+            relisting_law.says o.path to (reader_of image z) (reader_of image' z) z z k (said k) (says_old kind image z ls before.opens k (rest_in k at)) t.0 t.1 (child_placed k (rest_in k at)) (other k at),
+            go ks (λ j i. within j (next_in k j ks i)),
+          )
 
   opens_moved : (listings' : List Listing) (kept : List Object) → IsPermutation (held ls) kept → 0 < length o.path → IsRelisting g ls listings' [] [] kept → StayListed (reader_of image' z) z listings'
       → length listings' ≤ length ls + 1 → (w : OpensEdited kind image' z listings') × IsMove image image' z z ls w.found o.path to

@@ -1,19 +1,17 @@
 -- Changes after which every object that stays is as it was.
-use Rattle.std.proofs.Common.{◌≡◌, List, [], ◌∷◌, ◌++◌, Bool, ℕ, map, refl, sym, ap, subst, ◌∙◌, arith}
-use Rattle.std.specs.Prelude.{Ok, Contains, IsPermutation}
-use Rattle.fc_names.specs.Names.{Path}
-use Rattle.fc_dirs.specs.declared.Entry.{Entry}
+use Rattle.std.proofs.Common.{List, [], ◌∷◌, ◌++◌, map, refl, sym, ap, subst, ◌∙◌}
+use Rattle.std.specs.Prelude.{Contains, IsPermutation}
 use Rattle.fc_dirs.specs.Directory.{directory_of, entries_of}
 use Rattle.fc_image.specs.Layout.{Layout, dir_form}
-use Rattle.fc_image.specs.Walk.{Listing, Object, Reader, object_bytes, reader_of}
-use Rattle.fc_image.specs.Edits.{AreChildren, IsAt, IsListing, StayListed}
+use Rattle.fc_image.specs.Walk.{Listing, Object, reader_of}
+use Rattle.fc_image.specs.Edits.{AreChildren, IsListing, StayListed}
 use Rattle.fc_image.proofs.EntriesLemmas.{entries_law}
 use Rattle.fc_image.proofs.MapEditLemmas.{child_at}
 use Rattle.fc_image.proofs.OldEditLemmas.{old_places_law}
 use Rattle.fc_image.proofs.RelistLemmas.{map_itself}
 use Rattle.fc_changes.proofs.BasicLemmas.{first_in, next_in}
 use Rattle.fc_oldchanges.specs.Owed.{holding}
-use Rattle.fc_oldchanges.proofs.ChangeLemmas.{Start, bytes_stay, dirs_stay, l_in, others_in, says}
+use Rattle.fc_oldchanges.proofs.ChangeLemmas.{Start, bytes_stay, dirs_stay, others_in, says}
 use Rattle.fc_oldchanges.proofs.EditLemmas.{KeepsPlaces}
 
 abbrev pub same_object : Object → Object

@@ -1,6 +1,6 @@
 -- Rename within a directory, on a disc with an old map.
 use Rattle.std.proofs.Common.{◌≡◌, ◌≤◌, ◌⊎◌, inl, inr, ℕ, Bool, true, false, cond, List, [], ◌∷◌, ◌++◌, length, map, refl, sym, ap, ap₂, subst, ◌∙◌, arith, Some, None, Option}
-use Rattle.std.specs.Prelude.{Ok, Contains, IsPermutation, IfSome, IsSomeAnd, remove, not, filter, drop, ◌&&◌}
+use Rattle.std.specs.Prelude.{Ok, Contains, IsPermutation, IfSome, IsSomeAnd, remove, not, filter, drop}
 use Rattle.std.proofs.lemmas.List.Sorted.{Contains-permutation, IsPermutation-sym}
 use Rattle.fc_names.specs.declared.name.NameForm.{NameForm}
 use Rattle.fc_names.specs.declared.name.NameForm.TheVariants.{Seven, Ten, Long}
@@ -14,59 +14,52 @@ use Rattle.fc_dirs.specs.Directory.{Directory, directory_of, entries_of}
 use Rattle.fc_image.specs.Layout.{Layout, is_among, dir_form, is_apart}
 use Rattle.fc_image.specs.Report.{holder_address}
 use Rattle.fc_image.specs.Walk.{Listing, Object, is_directory_object, object_bytes, reader_of}
-use Rattle.fc_image.specs.Objects.{is_owned, object_at, objects_of, tree_of}
+use Rattle.fc_image.specs.Objects.{object_at, objects_of, tree_of}
 use Rattle.fc_image.specs.Opening.{Opened, reserved_in}
 use Rattle.fc_image.specs.Stays.{HasSectorsOf, OpensAs}
 use Rattle.fc_image.specs.Edits.{IsListing}
 use Rattle.fc_image.specs.Order.{held}
 use Rattle.fc_image.specs.Sound.{AreSound}
 use Rattle.fc_image.specs.EditedWalk.{AreListedBy}
-use Rattle.fc_image.specs.MapEdits.{IsMapEdit}
 use Rattle.fc_image.specs.InPlace.{says_now}
 use Rattle.fc_image.proofs.EntriesLemmas.{in_mapped}
-use Rattle.fc_image.proofs.HolesLemmas.{Lies, apart_from}
+use Rattle.fc_image.proofs.HolesLemmas.{Lies}
 use Rattle.fc_image.proofs.LookupLemmas.{lookup_law}
 use Rattle.fc_image.proofs.PathsLemmas.{itself}
 use Rattle.fc_image.proofs.RenameLemmas.{child_path}
 use Rattle.fc_effects.specs.Effect.{copies_file}
 use Rattle.fc_effects.specs.Placed.{made_object}
-use Rattle.fc_effects.specs.Steady.{AreWritten, DirectoriesSteady, EntrySteady, IsDirLength, IsRewritten, NewMapSteady, edited, holds_named, named_entry, with_made}
+use Rattle.fc_effects.specs.Steady.{AreWritten, DirectoriesSteady, EntrySteady, IsDirLength, IsRewritten, edited, holds_named, named_entry, with_made}
 use Rattle.fc_oldchanges.specs.Changed.{IsChanged, IsRenameChange}
 use Rattle.fc_oldchanges.specs.Laws.{RenamedLaw}
-use Rattle.fc_changes.proofs.BasicLemmas.{cases_cons, first_in, next_in, nothing_in, without_it}
-use Rattle.fc_oldchanges.proofs.BeforeLemmas.{opened_as, child_in, had, listed_in, object_from, object_lies, other_path, parts, says_old, sound}
+use Rattle.fc_changes.proofs.BasicLemmas.{cases_cons, first_in, next_in, without_it}
+use Rattle.fc_oldchanges.proofs.BeforeLemmas.{opened_as, child_in, had, listed_in, object_lies, other_path, says_old, sound}
 use Rattle.fc_changes.proofs.OutsideLemmas.{no_sectors}
 use Rattle.fc_changes.proofs.ReadsLemmas.{entry_at, lies_in, other_dir, reads_back}
 use Rattle.fc_image.specs.EditedWalk.{moved_object}
 use Rattle.fc_image.specs.Commanded.{moved_name, moved_path}
 use Rattle.fc_image.specs.Objects.{listing_at}
-use Rattle.fc_image.specs.Layout.{id_of}
 use Rattle.fc_dirs.specs.Entries.{padded_name}
 use Rattle.std.specs.Prelude.{◌||◌, ◌-◌, suc}
-use Rattle.fc_image.specs.Edits.{IsApartFrom}
-use Rattle.fc_image.specs.MapEdits.{IsMovingEdit}
 use Rattle.fc_image.specs.Order.{listed}
-use Rattle.fc_image.specs.Renames.{IsRename}
 use Rattle.fc_image.proofs.CommandLemmas.{same_by_folds}
 use Rattle.fc_image.proofs.EntriesLemmas.{in_filter, listings_law, same_some}
-use Rattle.fc_image.proofs.HolesLemmas.{apart_at}
 use Rattle.fc_image.proofs.MapEditLemmas.{held_in, is_file}
 use Rattle.fc_image.proofs.RelistLemmas.{folded_long, prefix_long}
 use Rattle.fc_image.proofs.RenameLemmas.{last_pushed, moved_itself}
 use Rattle.fc_image.proofs.TreeLemmas.{folds_alike}
-use Rattle.fc_names.specs.Names.{folded_path, folded}
+use Rattle.fc_names.specs.Names.{folded_path}
 use Rattle.fc_newmap.proofs.PlaceLemmas.{in_either}
 use Rattle.fc_model.specs.Tree.{is_prefix, last_name}
 use Rattle.fc_dirs.specs.Entries.{entry_place, with_entry, without_entry}
 use Rattle.fc_dirs.proofs.EditLemmas.{edit_law}
-use Rattle.std.specs.Prelude.{Err, insert, drop, nat_lt}
+use Rattle.std.specs.Prelude.{Err, insert, drop}
 use Rattle.std.specs.Option.{option_map_or}
 use Rattle.std.proofs.lemmas.List.{length-take}
 use Rattle.std.proofs.lemmas.List.Elements.{Contains-append_left, Contains-append_right}
 use Rattle.std.proofs.lemmas.List.Sorted.{IsPermutation-insert}
-use Rattle.fc_effects.specs.Short.{Growth, is_copied, is_sharing, new_length}
+use Rattle.fc_effects.specs.Short.{Growth, is_copied}
 use Rattle.fc_effects.specs.Placed.{GrowthPlacedIn}
-use Rattle.fc_effects.specs.Sharing.{units}
 use Rattle.fc_effects.specs.Steady.{is_moved_by, DirectorySteady, HasName, IsKept, IsWrittenAnew, NamedStays, RenamedHead, gets_parent, is_renamed_by, path_after, replaced_entry, without_name}
 use Rattle.fc_changes.proofs.BasicLemmas.{clash, long_pushed, or_left, or_second, holder_pushed, unless}
 use Rattle.fc_changes.proofs.BeforeLemmas.{address_by}
@@ -75,7 +68,7 @@ use Rattle.fc_oldchanges.proofs.ChangeLemmas.{opened}
 use Rattle.fc_changes.proofs.DirectoriesLemmas.{entries_now, no_new_holder}
 use Rattle.fc_changes.proofs.MadeLemmas.{turned}
 use Rattle.fc_changes.proofs.ReadsLemmas.{same_name_turned}
-use Rattle.fc_changes.proofs.RewordedLemmas.{Mapped, mapped, no_space_edit, ok_same, same_address}
+use Rattle.fc_changes.proofs.RewordedLemmas.{Mapped, mapped, ok_same, same_address}
 use Rattle.fc_oldmap.specs.Laws.{ReadsBack}
 use Rattle.fc_oldmap.specs.OldMap.{FreeSpace}
 use Rattle.fc_image.specs.Layout.{sector_bytes}
@@ -84,7 +77,7 @@ use Rattle.fc_image.specs.MapEdits.{OpensEdited}
 use Rattle.fc_image.proofs.CommandLemmas.{command_law}
 use Rattle.fc_image.proofs.FreeLemmas.{object_same}
 use Rattle.fc_effects.specs.Placed.{OldObjectPlaced}
-use Rattle.fc_oldchanges.specs.Owed.{IsDirectoryWritten, IsWritten}
+use Rattle.fc_oldchanges.specs.Owed.{IsWritten}
 use Rattle.fc_oldchanges.proofs.BeforeLemmas.{tells as tells_of}
 use Rattle.fc_oldchanges.proofs.GrowthLemmas.{given_alone, no_growth, renames_copy_none, renames_take_none}
 use Rattle.fc_oldchanges.proofs.MovingLemmas.{OpensWithTree, within, behind_stays, cut, dir_unwritten, file_unwritten, listed_moved, outside_steady, rest_now}

@@ -1,6 +1,6 @@
 -- Set and mark on a disc with an old map: one entry gets other words or attributes.
-use Rattle.std.proofs.Common.{◌≡◌, ◌<◌, inl, inr, ℕ, ◌+◌, ◌*◌, ◌/◌, ◌%◌, Bool, true, false, cond, List, [], ◌∷◌, ◌++◌, length, map, refl, sym, ap, ap₂, subst, ◌∙◌, arith, Some, None, Option}
-use Rattle.std.specs.Prelude.{Ok, Contains, IsPermutation, IfSome, drop, remove, slice_get, slice_set}
+use Rattle.std.proofs.Common.{◌≡◌, ◌<◌, inl, ℕ, ◌+◌, ◌*◌, ◌/◌, ◌%◌, Bool, true, false, cond, List, [], ◌∷◌, ◌++◌, length, map, refl, sym, ap, ap₂, subst, ◌∙◌, arith, Some, None, Option}
+use Rattle.std.specs.Prelude.{Ok, Contains, IsPermutation, IfSome, drop, remove, slice_set}
 use Rattle.std.proofs.lemmas.List.{append-nil}
 use Rattle.std.proofs.lemmas.List.Elements.{Contains-append_left, Contains-append_right}
 use Rattle.std.proofs.lemmas.List.Sorted.{Contains-permutation, IsPermutation-append_left, IsPermutation-cons, IsPermutation-map, IsPermutation-refl, IsPermutation-sym, IsPermutation-trans}
@@ -13,12 +13,11 @@ use Rattle.fc_oldmap.specs.Laws.{ReadsBack}
 use Rattle.fc_oldmap.specs.OldMap.{FreeSpace}
 use Rattle.fc_model.specs.Tree.{holder}
 use Rattle.fc_model.specs.Command.{Command}
-use Rattle.fc_model.specs.Answer.{changed}
 use Rattle.fc_dirs.specs.declared.Entry.{Entry}
 use Rattle.fc_dirs.specs.Directory.{Directory, directory_of, directory_size, entries_of}
 use Rattle.fc_image.specs.Layout.{Layout, bytes_in, dir_form, sector_bytes, sectors_at}
 use Rattle.fc_image.specs.Walk.{Listing, Object, Reader, is_directory_object, object_bytes, reader_of}
-use Rattle.fc_image.specs.Objects.{object_at, objects_of, tree_of}
+use Rattle.fc_image.specs.Objects.{object_at, objects_of}
 use Rattle.fc_image.specs.Opening.{Opened}
 use Rattle.fc_image.specs.Stays.{OpensAs}
 use Rattle.fc_image.specs.Edits.{AreChildren, IsAt, IsListing, StayListed}
@@ -30,26 +29,24 @@ use Rattle.fc_image.specs.InPlace.{says_now}
 use Rattle.fc_image.specs.Rewords.{IsRewording}
 use Rattle.fc_image.proofs.CommandLemmas.{command_law}
 use Rattle.fc_image.proofs.EntriesLemmas.{entries_law}
-use Rattle.fc_image.proofs.FreeLemmas.{object_same}
 use Rattle.fc_image.proofs.LookupLemmas.{lookup_law}
 use Rattle.fc_image.proofs.MapEditLemmas.{child_at, held_in}
-use Rattle.fc_image.proofs.OldEditLemmas.{old_places_law}
 use Rattle.fc_image.proofs.PathsLemmas.{itself}
 use Rattle.fc_image.proofs.RenameLemmas.{alone, child_path}
 use Rattle.fc_image.proofs.RewordLemmas.{other_long, reword_law}
 use Rattle.fc_image.proofs.ShuffleLemmas.{IsPermutation-flat_map, flipped}
 use Rattle.fc_effects.specs.Short.{new_length, old_holes_after, replaced_object}
-use Rattle.fc_effects.specs.Steady.{DirectoriesSteady, EntrySteady, HasSameAddress, OutsideSteady, IsDirLength, edited, holds_named, is_gone, named_entry, with_made}
+use Rattle.fc_effects.specs.Steady.{DirectoriesSteady, EntrySteady, HasSameAddress, OutsideSteady, IsDirLength, edited, named_entry, with_made}
 use Rattle.fc_changes.proofs.BasicLemmas.{first_in, long_pushed, next_in, nothing_in, with_other, without_it}
 use Rattle.fc_changes.proofs.DirectoriesLemmas.{plain_mark, plain_set}
 use Rattle.fc_changes.proofs.RewordedLemmas.{NamesObject, entry_stays, same_address}
 use Rattle.fc_changes.proofs.ReadsLemmas.{changed_entry, entry_at, lies_in, other_dir}
-use Rattle.fc_oldchanges.specs.Owed.{IsWritten, holding}
+use Rattle.fc_oldchanges.specs.Owed.{IsWritten}
 use Rattle.fc_oldchanges.specs.Changed.{IsChanged, IsRewordChange}
 use Rattle.fc_oldchanges.specs.Laws.{RewordedLaw}
-use Rattle.fc_oldchanges.proofs.BeforeLemmas.{child_in, had, held_object, opened_as, sound}
-use Rattle.fc_oldchanges.proofs.ChangeLemmas.{Start, behind_stays, bytes_stay, dirs_stay, files_stay, l_in, old_facts, opened, others_in, outside_steady, says, top}
-use Rattle.fc_oldchanges.proofs.EditLemmas.{Change, child_now, directories_now, found, opens_now, sound_now, view}
+use Rattle.fc_oldchanges.proofs.BeforeLemmas.{child_in, had, opened_as, sound}
+use Rattle.fc_oldchanges.proofs.ChangeLemmas.{Start, behind_stays, bytes_stay, dirs_stay, files_stay, l_in, opened, others_in, outside_steady, says}
+use Rattle.fc_oldchanges.proofs.EditLemmas.{Change, child_now, directories_now, found, opens_now, sound_now}
 use Rattle.fc_oldchanges.proofs.GrowthLemmas.{given_alone, no_growth}
 use Rattle.fc_oldchanges.proofs.MapLemmas.{map_kept}
 use Rattle.fc_image.proofs.OldMapLemmas.{old_map_law}

@@ -1,14 +1,14 @@
 -- The holes after space is taken and given.
-use Rattle.std.proofs.Common.{◌≡◌, ◌<◌, ◌≤◌, ◌⊎◌, inl, inr, ⊎_elim, ℕ, zero, suc, ◌+◌, ◌-◌, ◌*◌, ◌/◌, ◌%◌, Bool, true, false, cond, List, [], ◌∷◌, ◌++◌, length, refl, sym, ap, ap₂, subst, ◌∙◌, arith, Some, None, Option}
+use Rattle.std.proofs.Common.{◌≡◌, ◌<◌, ◌≤◌, ◌⊎◌, inl, inr, ⊎_elim, ℕ, ◌+◌, ◌*◌, ◌/◌, ◌%◌, Bool, true, false, cond, List, [], ◌∷◌, length, refl, sym, ap, subst, ◌∙◌, arith, Some, None, Option}
 use Rattle.std.specs.Prelude.{All, Contains, nat_le, nat_lt, ◌==◌}
 use Rattle.std.specs.List.{flat_map, range_with_len}
 use Rattle.std.specs.Option.{option_to_list}
 use Rattle.std.specs.Int.{div_ceil}
-use Rattle.std.proofs.lemmas.Bool.{eqb-true, leb-true, leb-false, ltb-true}
+use Rattle.std.proofs.lemmas.Bool.{leb-true, leb-false, ltb-true}
 use Rattle.std.proofs.lemmas.List.Elements.{All-cons, All-nil}
 use Rattle.fc_record.specs.declared.Kind.{Kind}
 use Rattle.fc_oldmap.specs.declared.Hole.{Hole}
-use Rattle.fc_oldmap.specs.Holes.{AreApart, AreHoles, IsHole, after_give, after_take, first_fit_place, hole, hole_end}
+use Rattle.fc_oldmap.specs.Holes.{AreApart, AreHoles, IsHole, after_give, after_take, first_fit_place, hole_end}
 use Rattle.fc_oldmap.specs.OldMap.{FreeSpace, map_units}
 use Rattle.fc_oldmap.proofs.MapLemmas.{AreHoles-after_give}
 use Rattle.fc_oldmap.proofs.SpaceLemmas.{AreHoles-after_take}
@@ -27,8 +27,8 @@ use Rattle.fc_changes.proofs.BasicLemmas.{cases_cons, clash, first_in, nothing_i
 use Rattle.fc_oldchanges.specs.Owed.{holding}
 use Rattle.fc_oldchanges.proofs.BeforeLemmas.{object_lies}
 use Rattle.fc_oldchanges.proofs.ChangeLemmas.{opened}
-use Rattle.fc_oldchanges.proofs.HoleLemmas.{IsIn, IsInOne, above_floor, hole_of_units, hole_units, in_given, in_left, in_units, taken_in, units_in}
-use Rattle.fc_oldchanges.proofs.PlaceLemmas.{IsRow, in_disc}
+use Rattle.fc_oldchanges.proofs.HoleLemmas.{IsIn, above_floor, hole_of_units, in_given, in_left, in_units, taken_in, units_in}
+use Rattle.fc_oldchanges.proofs.PlaceLemmas.{in_disc}
 
 -- ---- numbers
 

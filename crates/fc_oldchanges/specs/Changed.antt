@@ -6,7 +6,7 @@ use Rattle.fc_record.specs.declared.Kind.{Kind}
 use Rattle.fc_oldmap.specs.declared.Hole.{Hole}
 use Rattle.fc_oldmap.specs.Holes.{after_take, first_fit_place}
 use Rattle.fc_oldmap.specs.OldMap.{FreeSpace}
-use Rattle.fc_model.specs.Tree.{holder, is_prefix, last_name}
+use Rattle.fc_model.specs.Tree.{is_prefix, last_name}
 use Rattle.fc_model.specs.Command.{Command}
 use Rattle.fc_model.specs.Answer.{changed}
 use Rattle.fc_dirs.specs.Entries.{has_name, with_entry, without_entry}
@@ -21,7 +21,7 @@ use Rattle.fc_effects.specs.Short.{holes_without, new_dir_size, old_need, with_s
 use Rattle.fc_effects.specs.Steady.{AreWritten, IsRewritten, new_directory}
 use Rattle.fc_changes.specs.Owed.{GoesAlone}
 use Rattle.fc_changes.specs.Changed.{IsEntryMade, MakesFile}
-use Rattle.fc_oldchanges.specs.Owed.{IsBefore, IsDirectoryWritten, IsMapAfter, IsWritten, MapStays, holding}
+use Rattle.fc_oldchanges.specs.Owed.{IsBefore, IsDirectoryWritten, IsMapAfter, IsWritten, MapStays}
 
 -- ---- what is promised
 

@@ -1,8 +1,9 @@
 //! From what the calls of a command leave on a disc with an old map, to what the command promises.
 #![tactic(auto)]
 
-use fc_oldmap::reads_back;
 ghost use Rattle.fc_oldchanges.specs.Laws.{DeletedLaw, DirectoryMadeLaw, FiledLaw, MovedLaw, RenamedLaw, RewordedLaw};
+
+use fc_oldmap::reads_back;
 
 /// After `set` and `mark` the disc is as they promise.
 pub fn reworded()

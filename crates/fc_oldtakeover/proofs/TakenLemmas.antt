@@ -1,10 +1,8 @@
 -- The parts of a volume with an old map after each command.
-use Rattle.std.proofs.Common.{◌≡◌, ◌<◌, ℕ, Bool, true, false, cond, List, [], ◌∷◌, ◌++◌, refl, sym, ap, ap₂, subst, ◌∙◌}
+use Rattle.std.proofs.Common.{◌≡◌, ℕ, List, [], ◌∷◌, ◌++◌, refl, sym, ap, ap₂, subst, ◌∙◌}
 use Rattle.std.specs.Prelude.{Ok, Some, None, Contains, IsPermutation, insert, remove, slice_set}
 use Rattle.std.proofs.lemmas.List.Sorted.{Contains-permutation, IsPermutation-sym}
-use Rattle.fc_names.specs.Names.{Path, is_same_path}
 use Rattle.fc_record.specs.declared.Kind.{Kind}
-use Rattle.fc_oldmap.specs.declared.Hole.{Hole}
 use Rattle.fc_oldmap.specs.Laws.{ReadsBack}
 use Rattle.fc_oldmap.specs.OldMap.{FreeSpace}
 use Rattle.fc_model.specs.Tree.{last_name}
@@ -23,14 +21,13 @@ use Rattle.fc_image.specs.Stays.{OpensAs}
 use Rattle.fc_image.proofs.EntriesLemmas.{entries_law}
 use Rattle.fc_image.proofs.RewordLemmas.{reword_law}
 use Rattle.fc_tree.proofs.WalkedLemmas.{sound_law}
-use Rattle.fc_nodes.specs.Edits.{IsRenamed, IsReworded, IsTransferred, Nodes, as_before, as_moved}
+use Rattle.fc_nodes.specs.Edits.{IsReworded, Nodes, as_before, as_moved}
 use Rattle.fc_changes.proofs.BasicLemmas.{first_in, next_in}
 use Rattle.fc_takeover.specs.Laws.{PartsFollow}
 use Rattle.fc_takeover.proofs.TakenLemmas.{children_long, inserted_same, listed_same}
 use Rattle.fc_oldchanges.specs.Owed.{holding}
 use Rattle.fc_oldchanges.specs.Changed.{IsChanged, IsMoveChange, IsRenameChange, IsRewordChange}
 use Rattle.fc_oldchanges.proofs.BeforeLemmas.{opened_as, says_old}
-use Rattle.fc_oldchanges.proofs.ChangeLemmas.{opened}
 use Rattle.fc_oldchanges.proofs.RewordedLemmas.{reworded_law, tells_reworded}
 use Rattle.fc_oldchanges.proofs.DeletedLemmas.{deleted_law}
 use Rattle.fc_oldchanges.proofs.FiledLemmas.{filed_law}

@@ -1,8 +1,9 @@
 //! From what a command's calls leave on an image with an old map and of the nodes, to what a method of a volume promises of both.
 #![tactic(auto)]
 
-use fc_oldmap::reads_back;
 ghost use Rattle.fc_oldtakeover.specs.Laws.{DeletedTakesOver, DirectoryMadeTakesOver, FiledTakesOver, MovedTakesOver, RenamedTakesOver, RewordedTakesOver};
+
+use fc_oldmap::reads_back;
 
 /// After `set` and `mark` the volume stands for the new image.
 pub fn reworded()
