@@ -16,3 +16,4 @@ pub mod CdirLemmas
 pub mod MovingLemmas
 pub mod RenamedLemmas
 pub mod MovedLemmas
+pub mod StepsLemmas

@@ -14,7 +14,10 @@ use Rattle.fc_image.specs.EditedWalk.{AreListedBy, moved_object}
 use Rattle.fc_image.specs.InPlace.{says_now}
 use Rattle.fc_image.specs.Commanded.{set_object, mark_object}
 use Rattle.fc_changes.specs.Changed.{children_with}
-use Rattle.fc_oldchanges.specs.Owed.{holding}
+use Rattle.std.specs.Prelude.{◌≤◌, ◌*◌, ◌+◌, length}
+use Rattle.fc_device.specs.Sectors.{with_sector}
+use Rattle.fc_image.specs.Layout.{Layout, is_among, map_place, sector_bytes}
+use Rattle.fc_oldchanges.specs.Owed.{IsWritten, holding}
 use Rattle.fc_oldchanges.specs.Changed.{IsChanged, IsDeleteChange, IsDirectoryChange, IsFileChange, IsMoveChange, IsRenameChange, IsRewordChange}
 
 -- `set` and `mark`: the other directories are listed as they were, but for the object itself if it is a directory.
@@ -64,3 +67,14 @@ MovedLaw = (kind : Kind) (image image' : List ℕ) (v : Opened) (space : FreeSpa
     → (rest' : List Listing) × AreListedBy (moved_object o.path (l.object.path ++ last_name to ∷ [])) rest rest'
     × IsChanged kind image image' v space (says_now k k_content (remove k.children i)
     ∷ says_now l l_content (insert l.children (entry_place (last_name to) (entries_of l.content)) (moved_object o.path (l.object.path ++ last_name to ∷ []) o)) ∷ rest') (Command.Rename from to)
+
+-- ---- what is written
+
+-- Nothing, one write after another, one sector, and one sector of the map (`Disk::write`).
+pub record WritesLaw : Type 0 where
+  pub none : (space : FreeSpace) (image : List ℕ) → IsWritten space [] image image
+  pub then : (space : FreeSpace) (xs ys first second third : List ℕ) → IsWritten space xs first second → IsWritten space ys second third → IsWritten space (xs ++ ys) first third
+  pub sector : (space : FreeSpace) (n : ℕ) (bytes image : List ℕ) → length bytes ≡ sector_bytes (Layout.Old space) → n * sector_bytes (Layout.Old space) + sector_bytes (Layout.Old space) ≤ length image
+      → IsWritten space (n ∷ []) image (with_sector (sector_bytes (Layout.Old space)) image n bytes)
+  pub map_sector : (space : FreeSpace) (n : ℕ) (bytes image : List ℕ) → is_among (map_place (Layout.Old space)) n ≡ true → length bytes ≡ sector_bytes (Layout.Old space)
+      → n * sector_bytes (Layout.Old space) + sector_bytes (Layout.Old space) ≤ length image → IsWritten space [] image (with_sector (sector_bytes (Layout.Old space)) image n bytes)

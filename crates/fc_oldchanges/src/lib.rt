@@ -1,7 +1,7 @@
 //! From what the calls of a command leave on a disc with an old map, to what the command promises.
 #![tactic(auto)]
 
-ghost use Rattle.fc_oldchanges.specs.Laws.{DeletedLaw, DirectoryMadeLaw, FiledLaw, MovedLaw, RenamedLaw, RewordedLaw};
+ghost use Rattle.fc_oldchanges.specs.Laws.{DeletedLaw, DirectoryMadeLaw, FiledLaw, MovedLaw, RenamedLaw, RewordedLaw, WritesLaw};
 
 use fc_oldmap::reads_back;
 
@@ -46,3 +46,8 @@ pub fn moved()
 {
     reads_back();
 }
+
+/// Writes put together: which sectors they may change.
+pub fn writes()
+    ensures { WritesLaw }
+{}
