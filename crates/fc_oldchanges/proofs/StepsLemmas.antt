@@ -1,7 +1,6 @@
 -- Writes, one after another, on a disc with an old map.
-use Rattle.std.proofs.Common.{◌≡◌, ℕ, ◌+◌, ◌*◌, Bool, true, false, List, [], ◌∷◌, ◌++◌, refl, sym, ap, subst, ◌∙◌, eq-eqb}
+use Rattle.std.proofs.Common.{◌≡◌, ℕ, true, false, ◌++◌, refl, sym, ap, subst, ◌∙◌, eq-eqb}
 use Rattle.std.specs.Prelude.{◌==◌, ◌||◌}
-use Rattle.fc_device.specs.Sectors.{with_sector}
 use Rattle.fc_device.proofs.SectorLemmas.{length-with_sector, sector_at-with_sector_other}
 use Rattle.fc_newmap.proofs.PlaceLemmas.{in_back, in_front}
 use Rattle.fc_image.specs.Layout.{Layout, is_among, map_place, sector_bytes}
