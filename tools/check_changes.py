@@ -206,7 +206,7 @@ class Run:
         self.actor, self.options, self.counts, self.number = actor, options, counts, number
         self.name, self.image = change_images.image_of(number, options.old)
         self.chance = random.Random("%d %d" % (options.seed, number))
-        self.drawer = change_scripts.Drawer(self.chance, options.built)
+        self.drawer = change_scripts.Drawer(self.chance, built_for(options, opened(self.image)))
         self.read_only = self.chance.random() < 0.03
         self.script, self.text, self.last = [], "", self.image
 
@@ -279,7 +279,7 @@ def rows_differ(actor, options):
         words = {line.split()[0] for line in script.split("\n")} & set(CHANGING + ("compact",))
         image = bytes(make().image())
         is_old = isinstance(opened(image).map, read_image.OldMap)
-        if is_old == options.old and words <= set(options.built):
+        if is_old == options.old and words <= set(built_for(options, opened(image))):
             count += 1
             status, text, end = actor.run(image, re.sub(r"\bZ\b", "00000000", script).encode() + b"\n", bool(read_only))
             if text.replace("\n", " / ") != wanted + " / ":
@@ -292,8 +292,13 @@ def rows_differ(actor, options):
 # ---- which commands are built
 
 
-def built_commands(program, old):
-    image = bytes(VOLUMES["d-files" if old else "hello"]().image())
+def built_for(options, state):
+    """The commands that are built for discs such as this one: adding an entry may not be, where directories are big ones."""
+    return options.built_big if state.form == "big" and options.built_big is not None else options.built
+
+
+def built_commands(program, name):
+    image = bytes(VOLUMES[name]().image())
     return [word for word, line in TRY.items() if program.run(image, (line + "\n").encode())[0] != 9]
 
 
@@ -321,8 +326,10 @@ def check(actor, options):
 def check_program(options):
     with tempfile.TemporaryDirectory() as folder:
         program = Program(options.program, folder)
-        built = built_commands(program, options.old)
+        built = built_commands(program, "d-files" if options.old else "hello")
+        big = built_commands(program, "e-plus-files")
         options.built = options.only.split(",") if options.only else built
+        options.built_big = [word for word in options.built if word in big]
         if not set(options.built) & set(CHANGING):
             print("no command that changes %s maps is built" % ("old" if options.old else "new"))
             return True
@@ -336,7 +343,7 @@ def check_program(options):
 def found_after(fault, words, options):
     """Over how many commands a fault was found, and what was found first; None if it wasn't."""
     options.old = "old" in words.split()
-    options.built = list(CHANGING) + ["compact"] * options.old
+    options.built, options.built_big = list(CHANGING) + ["compact"] * options.old, None
     start, counts, number = time.time(), collections.Counter(), 0
     names = list(change_images.OLD if options.old else change_images.NEW)
     chosen = [at for at, name in enumerate(names) if all(word in name for word in words.split() if word != "old")]
@@ -354,14 +361,14 @@ def without_fault(options):
     """Whether the rows and the commands over discs agree."""
     good = True
     for old in (False, True):
-        options.old, options.built = old, list(CHANGING) + ["compact"] * old
+        options.old, options.built, options.built_big = old, list(CHANGING) + ["compact"] * old, None
         good = not rows_differ(Stand(), options) and good
         good = check(Stand(), options) and good
     return good
 
 
 def self_test(options):
-    options.built = list(CHANGING)
+    options.built, options.built_big = list(CHANGING), None
     good = bool(options.only) or without_fault(options)
     for fault, words in changer.FAULTS.items() if not options.only else [(options.only, changer.FAULTS[options.only])]:
         found = found_after(fault, words, options)
