@@ -68,6 +68,7 @@ def grammar():
 def long_scripts():
     yield Case("longest-script", ["hello.adf"], b"\n" * SCRIPT_LIMIT, 0)
     yield Case("long-line", ["hello.adf"], b"load $." + b"n" * 1000000, 1, BAD_NAME)
+    yield Case("longest-script-no-image", ["nothing.adf"], b"\n" * SCRIPT_LIMIT, 12)
     yield Case("script-too-long", ["hello.adf"], b"\n" * (SCRIPT_LIMIT + 1), 8)
     yield Case("script-too-long-no-image", ["nothing.adf"], b"compact\n".ljust(SCRIPT_LIMIT + 1, b"\n"), 8)
 

@@ -10,9 +10,6 @@ use std::test::Fail;
 // The bytes in the longest disc that is made here.
 const FRESH: usize = 1_638_400;
 
-// The most bytes of a script.
-const LIMIT: usize = 16_777_216;
-
 // What lies on a disc of format E whose only file is `Hello`, of five bytes. Every other byte is 0, also in the second
 // copy of the map.
 const HELLO: [(usize, &[u8]); 7] = [
@@ -339,28 +336,6 @@ fn fresh_volumes_damaged(rt: HostRuntime) -> Result<(), Fail> {
         assert!(rt; status == 3);
         assert!(rt; written.as_slice() == text);
     }
-    Ok(())
-}
-
-// The status of a run of line ends, so many, over an image.
-fn status_of_lines(alloc: Global, name: &str, count: usize) -> Result<u8, Fail> {
-    let mut script = Vec::new(alloc);
-    script.resize(count, b'\n')?;
-    let name_of_disc = String::from_str(alloc, "disc")?;
-    let mut disk = PlainDisk::new(name_of_disc, hello(alloc, &[])?, 0)?;
-    let mut source = ListSource::new(script, Vec::new(alloc), LIMIT);
-    let mut sink = ListSink::new(alloc, Vec::new(alloc), 0)?;
-    let words = texts(alloc, &[name])?;
-    let end = run(alloc, &words, &mut disk, &mut source, &mut sink);
-    Ok(end.status())
-}
-
-#[test]
-fn long_scripts(rt: HostRuntime) -> Result<(), Fail> {
-    let alloc = rt.alloc();
-    assert!(rt; status_of_lines(alloc, "disc", LIMIT)? == 0);
-    assert!(rt; status_of_lines(alloc, "other", LIMIT)? == 12);
-    assert!(rt; status_of_lines(alloc, "other", LIMIT + 1)? == 8);
     Ok(())
 }
 
