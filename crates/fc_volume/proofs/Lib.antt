@@ -30,4 +30,15 @@ mod CdirVolumeLemmas
 mod CdirAskedLemmas
 mod DeleteLemmas
 mod DeleteVolumeLemmas
+mod FilingLemmas
 mod RewriteLemmas
+mod RelocatingLemmas
+mod LastNameLemmas
+mod RenamingLemmas
+mod TurnedLemmas
+mod RenameSpaceLemmas
+mod RenameLemmas
+mod RelocatedLemmas
+mod RenameVolumeLemmas
+mod AcceptedLemmas
+mod MoveLemmas

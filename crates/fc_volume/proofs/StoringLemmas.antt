@@ -36,7 +36,7 @@ same_told : (a b : List ℕ) → (let x : Option (List ℕ) = Some a in x) ≡ S
 same_told a b e = cc
 
 -- by other words for the same
-stored_as : (size : ℕ) {place place' : List Extent} {bytes bytes' : List ℕ} {was image : List ℕ} → place ≡ place' → bytes ≡ bytes' → AreStored size (sectors_in place) bytes was image
+pub stored_as : (size : ℕ) {place place' : List Extent} {bytes bytes' : List ℕ} {was image : List ℕ} → place ≡ place' → bytes ≡ bytes' → AreStored size (sectors_in place) bytes was image
     → AreStored size (sectors_in place') bytes' was image
 stored_as size {place' = place'} {bytes = bytes} {was = was} {image = image} p b stored =
     subst (λ (bs : List ℕ). AreStored size (sectors_in place') bs was image) b (subst (λ (es : List Extent). AreStored size (sectors_in es) bytes was image) p stored)

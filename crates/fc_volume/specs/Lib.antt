@@ -11,6 +11,11 @@ pub mod Rewrites
 pub mod Setting
 pub mod Storing
 pub mod Making
+pub mod Filing
 pub mod ChangeLaws
 pub mod Deleting
 pub mod CdirLaws
+pub mod Relocating
+pub mod Renaming
+pub mod RenameLaws
+pub mod Moving

@@ -6,7 +6,7 @@ use Rattle.fc_image.specs.Layout.{Layout, hole_sectors, is_among, is_apart, sect
 use Rattle.fc_changes.specs.Owed.{IsMapAfter, IsSpaceEdit, IsWritten}
 use Rattle.fc_objects.specs.Bytes.{first_bytes}
 use Rattle.fc_objects.specs.Extents.{sectors_in}
-use Rattle.fc_objects.specs.Written.{AreApart, IsPartWritten}
+use Rattle.fc_objects.specs.Written.{AreApart, HasParts, IsPartWritten}
 use Rattle.fc_plan.specs.declared.plan.Plan.{Plan}
 use Rattle.fc_plan.specs.Applied.{CanTakePlan}
 use Rattle.fc_plan.specs.Parts.{fronts}
@@ -42,6 +42,7 @@ pub record HasSpaceOf (plan : Plan) (m m' : Map) : Type 0 where
 -- These sectors, each of `size` bytes, have got these bytes.
 pub record AreStored (size : ℕ) (sectors bytes was image : List ℕ) : Type 0 where
   pub part : IsPartWritten size sectors bytes was image
+  pub parts : AreApart sectors → HasParts size sectors bytes image
   pub reads_back : AreApart sectors → length bytes ≤ length sectors * size → first_bytes size image sectors (length bytes) ≡ bytes
 
 -- The copies of the map were made equal, and then these sectors have got these bytes.

@@ -2,10 +2,17 @@
 
 mod cdir;
 mod delete;
+mod filing;
 mod laws;
 mod made;
 mod making;
+mod moving;
+mod put;
+mod putting;
+mod relocate;
 mod removal;
+mod rename;
+mod renaming;
 mod reword;
 mod rewrite;
 mod set;

@@ -6,6 +6,7 @@ ghost use Rattle.fc_newmap.specs.NewMap.{IsNewMap};
 ghost use Rattle.fc_space.specs.Space.{layout_of};
 ghost use Rattle.fc_volume.specs.CdirLaws.{CdirLaws};
 ghost use Rattle.fc_volume.specs.ChangeLaws.{ChangeLaws};
+ghost use Rattle.fc_volume.specs.RenameLaws.{RenameLaws};
 
 use fc_space::{Places, Space};
 
@@ -55,4 +56,16 @@ pub fn is_new_map(places: &Places)
         Space::NewMapped(map) => map.is_map(),
         Space::OldMapped(_) => {}
     }
+}
+
+/// The laws of `rename`, in one record.
+pub fn rename_laws()
+    ensures { RenameLaws }
+{
+    change_laws();
+    fc_nodes::renamed();
+    fc_nodes::transferred();
+    fc_nodes::owning();
+    fc_agree::renamed();
+    fc_agree::transferred();
 }

@@ -85,15 +85,15 @@ pub fn plan_cdir(
     }
 }
 
-// The same name, with memory of its own.
-fn copy_of(name: &Name) -> Result<Name, NoMemory>
+/// The same name, with memory of its own.
+pub fn copy_of(name: &Name) -> Result<Name, NoMemory>
     ensures { IfOk result (λ copy. copy ≡ name.now) }
 {
     Ok(name.clone()?)
 }
 
-// An entry comes into a directory that has room for it, so that only memory may be short.
-fn enter(draft: &mut Draft, parent: u32, e: Entry) -> Result<(), NoMemory>
+/// An entry comes into a directory that has room for it, so that only memory may be short.
+pub fn enter(draft: &mut Draft, parent: u32, e: Entry) -> Result<(), NoMemory>
     requires named { CanName (directory_in draft.old) e.name }
     requires held { CanHold (directory_in draft.old) e }
     requires absent { IsFalse (has_name (entries_of (directory_in draft.old)) e.name) }

@@ -38,8 +38,8 @@ pub struct NewObject {
     pub bytes: Vec<u8>,
 }
 
-// The zones of a map that change if a plan's space is taken.
-fn zones_of(alloc: Global, map: &NewMap, plan: &Plan) -> Result<Vec<u16>, NoMemory>
+/// The zones of a map that change if a plan's space is taken.
+pub fn zones_of(alloc: Global, map: &NewMap, plan: &Plan) -> Result<Vec<u16>, NoMemory>
     requires { AllPairs BeginsBefore (fronts plan.now.parts.items) }
     ensures { IfOk result (λ zones. zones.items ≡ zones_changed map.now (Some plan.now) []) }
 {
@@ -71,8 +71,8 @@ impl NewObject {
     }
 }
 
-// Writes bytes into some sectors, and syncs.
-fn store<D: Disk>(
+/// Writes bytes into some sectors, and syncs.
+pub fn store<D: Disk>(
     disk: &mut D,
     map: &NewMap,
     place: &[Extent],

@@ -21,8 +21,8 @@ use fc_newmap::NewMap;
 use fc_objects::write_object;
 use fc_space::{Places, Space};
 
-// Writes the bytes of a directory to its place, and syncs.
-fn write_bytes<D: Disk>(disk: &mut D, map: &NewMap, r: &Rewrite) -> Result<(), DiskFault>
+/// Writes the bytes of a directory to its place, and syncs.
+pub fn write_bytes<D: Disk>(disk: &mut D, map: &NewMap, r: &Rewrite) -> Result<(), DiskFault>
     requires attached { IsTrue (D.attached disk.old) }
     requires settled { IsFalse (D.pending disk.old) }
     requires size { D.sector_size disk.old ≡ map.now.geometry.sector }

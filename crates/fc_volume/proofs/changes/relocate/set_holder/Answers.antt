@@ -1,0 +1,17 @@
+use Rattle.std.proofs.Common.{◌≡◌, true}
+use Rattle.fc_tree.specs.Nodes.{nodes_of}
+use Rattle.fc_tree.specs.declared.node.Node.{Node}
+use Rattle.fc_volume.proofs.RelocatingLemmas.{if_moved}
+use Rattle.fc_volume.proofs.TakingLemmas.{put_changed, taken_free}
+use Rattle.fc_volume.proofs.changes.relocate.set_holder.Goals as goal
+
+pub put_back-requires-clause-free : goal.put_back-requires-clause-free
+put_back-requires-clause-free c = taken_free (nodes_of c.args.tree.now) (nodes_of c.take_out-node.new.self) c.args.n c.take_out-node.ensures.nodes
+
+pub returns : goal.returns
+returns c = let moved : c.args.moved ≡ true = cc in record {
+  nodes = if_moved c.args.moved (nodes_of c.args.tree.now) (nodes_of c.put_back.new.self) c.args.n c.args.dir moved
+      (put_changed (nodes_of c.args.tree.now) (nodes_of c.take_out-node.new.self) (nodes_of c.put_back.new.self) c.args.n c.take_out-node.result
+      (λ (node : Node). record node { holder = c.args.dir })
+      c.take_out-node.ensures.node c.take_out-node.ensures.nodes c.put_back.ensures.nodes);
+}

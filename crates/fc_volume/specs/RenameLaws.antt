@@ -1,0 +1,13 @@
+-- The laws from which `rename` has its clauses, in one record.
+use Rattle.fc_nodes.specs.Laws.{RenamedLaw, TransferredLaw}
+use Rattle.fc_nodes.specs.Owning.{OwningLaw}
+use Rattle.fc_agree.specs.Laws.{RenamedLaw as RenamedAgree, TransferredLaw as TransferredAgree}
+use Rattle.fc_volume.specs.ChangeLaws.{ChangeLaws}
+
+pub record RenameLaws : Type 0 where
+  pub change : ChangeLaws
+  pub renamed : RenamedLaw
+  pub transferred : TransferredLaw
+  pub owning : OwningLaw
+  pub renamed_agree : RenamedAgree
+  pub transferred_agree : TransferredAgree
