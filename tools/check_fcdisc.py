@@ -447,4 +447,5 @@ def main(fcdisc, fcore, only=""):
 if __name__ == "__main__":
     if len(sys.argv) not in (3, 4):
         sys.exit(__doc__)
+    signal.signal(signal.SIGINT, signal.default_int_handler)  # a shell without job control has it ignored in the background
     sys.exit(0 if main(*sys.argv[1:]) else 1)

@@ -4,7 +4,7 @@ ghost use Rattle.fc_device.specs.Calls.{SameForm};
 
 use super::*;
 use crate::sliding::slide_down;
-use fc_device::{Failing, MemoryDisk};
+use fc_device::{Disk, DiskFault, Failing, MemoryDisk};
 use std::alloc::Global;
 use std::test::Fail;
 
