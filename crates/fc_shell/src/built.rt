@@ -49,10 +49,8 @@ fn lacks_command(asked: &Command) -> bool
         | Command::Delete { .. }
         | Command::Set { .. }
         | Command::Compact => false,
-        Command::Save { .. }
-        | Command::Create { .. }
-        | Command::Rename { .. }
-        | Command::Reclaim => true,
+        Command::Save { .. } | Command::Create { .. } | Command::Rename { .. } | Command::Reclaim =>
+            true,
     }
 }
 

@@ -147,8 +147,7 @@ fn writes_that_fail(rt: HostRuntime) -> Result<(), Fail> {
     let (status, text) = failing(alloc, b"free\ncdir $.A\nfree\n", 3, 0)?;
     assert!(rt; status == 4);
     assert!(rt; text.as_slice() == b"free 813056 813056\nok\n".as_slice());
-    let script = b"cdir $.A\ncdir $.B\ndelete $.A\nfree\ncompact\nfree\n"
-        .as_slice();
+    let script = b"cdir $.A\ncdir $.B\ndelete $.A\nfree\ncompact\nfree\n".as_slice();
     let (status, whole) = failing(alloc, script, 0, 0)?;
     assert!(rt; status == 0);
     for number in 1..60 {
