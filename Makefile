@@ -39,8 +39,10 @@ test:
 	$(MAKE) build
 	tools/check_program.sh $(PROGRAM)
 
-# The rates of all layers, or of those that are named, as by make bench BENCHES=checks
-BENCHES = $(shell sed 's/^benches: //' crates/fc_bench/stdout)
+# The rates of all layers and the time of compact, or of those that are named, as by make bench BENCHES=checks
+BENCHES = $(LAYERS) compact
+LAYERS = $(shell sed 's/^benches: //' crates/fc_bench/stdout)
 
 bench:
-	cd crates/fc_bench && rt run -- $(BENCHES)
+	$(if $(filter $(LAYERS),$(BENCHES)),cd crates/fc_bench && rt run -- $(filter $(LAYERS),$(BENCHES)))
+	$(if $(filter compact,$(BENCHES)),tools/bench_compact.py $(PROGRAM))

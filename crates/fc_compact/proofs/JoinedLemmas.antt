@@ -1,4 +1,5 @@
--- A join: from a map m over one with all runs of an identifier given back, and one with a new run, to the map that is committed.
+-- A join: from a map m over one with all runs of an identifier given back, one with a new run, and one in which no two holes of
+-- the zones touch, to the map that is committed.
 use Rattle.std.proofs.Common.{◌≡◌, ◌<◌, ◌≤◌, inl, inr, ℕ, ◌+◌, ◌*◌, ◌/◌, Bool, true, false, cond, List, [], ◌∷◌, ◌++◌, length, refl, sym, ap, subst, ◌∙◌, arith}
 use Rattle.std.specs.Prelude.{◌==◌, ◌||◌, filter, Contains}
 use Rattle.std.proofs.lemmas.Bool.{cases_eq, eq-eqb}
@@ -13,7 +14,7 @@ use Rattle.fc_newmap.specs.Map.{Map, ZoneRun, all_runs, bits_in, first_sector, h
 use Rattle.fc_newmap.specs.NewMap.{IsNewMap}
 use Rattle.fc_newmap.specs.RunsLaw.{placed}
 use Rattle.fc_newmap.specs.Walk.{IsInZone}
-use Rattle.fc_newmap.proofs.ComposeLemmas.{edits_then, runs_other, zone_cut}
+use Rattle.fc_newmap.proofs.ComposeLemmas.{edits_join, edits_then, runs_other, zone_cut}
 use Rattle.fc_newmap.proofs.HeldLemmas.{geometry_facts}
 use Rattle.fc_newmap.proofs.PlaceLemmas.{contains_here, held_in, in_filter, in_range, in_zone}
 use Rattle.fc_alloc.specs.declared.owner.Owner.{Owner}
@@ -21,6 +22,7 @@ use Rattle.fc_copies.specs.Committing.{KeepsContents}
 use Rattle.fc_copies.specs.declared.Which.TheVariants.{One}
 use Rattle.fc_copies.specs.Copies.{CommitEnds, CommitLeaves, copy_of}
 use Rattle.fc_record.specs.declared.Geometry.{Geometry}
+use Rattle.fc_effects.specs.Moves.{with_holes_joined}
 use Rattle.fc_image.specs.Layout.{Layout, disc_sectors, hole_sectors, id_sectors, is_among}
 use Rattle.fc_image.specs.Objects.{objects_of}
 use Rattle.fc_image.specs.Moves.{CanCommit}
@@ -36,6 +38,7 @@ use Rattle.fc_compact.proofs.OneRunLemmas.{one_zone_runs, taken_one, taken_other
 use Rattle.fc_compact.proofs.PreservesLemmas.{geometry_is}
 use Rattle.fc_compact.proofs.ReleaseLemmas.{freed_none, freed_other}
 use Rattle.fc_compact.proofs.StepLemmas.{commit_preserves, commit_ready, leads_one}
+use Rattle.fc_compact.proofs.TouchLemmas.{ids_joined}
 
 -- ---- the hole
 
@@ -76,14 +79,17 @@ module _ (m : Map) (is : IsNewMap m) (z : ℕ) (low : z < m.geometry.zones) (sta
 
 -- ---- the maps
 
--- m's runs of the identifier are given back in n, of o one run stands for them, and `last` is committed
-pub record Joins (m n o last : Map) (id z start len left : ℕ) (zones : List ℕ) : Type 0 where
+-- m's runs of the identifier are given back in n, in o one run stands for them, in p holes that touch are one, and `last` is
+-- committed
+pub record Joins (m n o p last : Map) (id z start len left : ℕ) (zones : List ℕ) : Type 0 where
   pub released : EditsListed m n zones
   pub runs_n : (y : ℕ) → runs_of n y ≡ changed_runs (all_freed id) zones y (runs_of m y)
   pub edit : IsEdit n o z
   pub taken : (front rest : List Run) → HasRuns n z (front ++ hole_at start (len + left) ∷ rest) → HasRuns o z (front ++ run_at start len id ∷ hole_part (start + len) left rest)
-  pub runs : KeepsRuns o last
-  pub contents : KeepsContents o last
+  pub touching : EditsListed o p zones
+  pub runs_p : (y : ℕ) → runs_of p y ≡ changed_runs with_holes_joined zones y (runs_of o y)
+  pub runs : KeepsRuns p last
+  pub contents : KeepsContents p last
 
 pub hole_listed : (zones : List ℕ) (z : ℕ) (b : Bool) → is_listed zones z ≡ ((z == z) || b) → is_listed zones z ≡ true
 hole_listed zones z b e = e ∙ ap (λ c. c || b) (eq-eqb z z refl)
@@ -95,13 +101,13 @@ hole_after m n id z start size zones runs listed between =
     runs z ∙ ap (λ b. cond b (all_freed id (runs_of m z)) (runs_of m z)) listed ∙ ap (all_freed id) between.2
     ∙ map-append _ between.0 (hole_at start size ∷ between.1)
 
-module _ (law : Laws) (m n o last : Map) (owners : List Owner) (is : IsNewMap m) (id z start len left : ℕ) (zones : List ℕ) (low : z < m.geometry.zones) (j : Joins m n o last id z start len left zones)
+module _ (law : Laws) (m n o p last : Map) (owners : List Owner) (is : IsNewMap m) (id z start len left : ℕ) (zones : List ℕ) (low : z < m.geometry.zones) (j : Joins m n o p last id z start len left zones)
     (between : HasBetween m z (hole_at start (len + left))) (listed : (y : ℕ) → y < m.geometry.zones → is_listed zones y ≡ ((y == z) || has_run_in m id y)) where
-  pub joined_edits : AreEdits m o
-  joined_edits = edits_then m n o z j.released.edits j.edit
+  pub joined_edits : AreEdits m p
+  joined_edits = edits_join m o p (edits_then m n o z j.released.edits j.edit) j.touching.edits
 
   pub joined_geometry : last.geometry ≡ m.geometry
-  joined_geometry = committed_geometry m o last joined_edits j.runs j.contents
+  joined_geometry = committed_geometry m p last joined_edits j.runs j.contents
 
   abbrev taken_run : ZoneRun
   taken_run = (z, run_at start len id)
@@ -146,7 +152,11 @@ module _ (law : Laws) (m n o last : Map) (owners : List Owner) (is : IsNewMap m)
       by false = refl
 
   same_last : (k y : ℕ) → ids_in last k y ≡ ids_in o k y
-  same_last k y = ap (ids_with k y) (j.runs.runs y)
+  same_last k y = ap (ids_with k y) (j.runs.runs y ∙ j.runs_p y) ∙ by (is_listed zones y)
+    where
+      by : (b : Bool) → ids_with k y (cond b (with_holes_joined (runs_of o y)) (runs_of o y)) ≡ ids_in o k y
+      by true = ids_joined k y (runs_of o y)
+      by false = refl
 
   pub joined_one : id_runs last id ≡ taken_run ∷ []
   joined_one =
@@ -165,20 +175,38 @@ module _ (law : Laws) (m n o last : Map) (owners : List Owner) (is : IsNewMap m)
         | inr apart ↦ ap (ids_with k y) (runs_other n o z y j.edit apart)
       ]
 
+  -- the zone of the hole, and the others
+  pub joined_taken : (front rest : List Run) → HasRuns m z (front ++ hole_at start (len + left) ∷ rest)
+      → HasRuns last z (with_holes_joined (all_freed id front ++ run_at start len id ∷ hole_part (start + len) left (all_freed id rest)))
+  joined_taken front rest was =
+      let here = hole_listed zones z (has_run_in m id z) (listed z low) in
+      j.runs.runs z ∙ j.runs_p z ∙ ap (λ b. cond b (with_holes_joined (runs_of o z)) (runs_of o z)) here
+      ∙ ap with_holes_joined (j.taken (all_freed id front) (all_freed id rest) (hole_after m n id z start (len + left) zones j.runs_n here (front, rest, was)))
+
+  pub joined_freed : (y : ℕ) → (y ≡ z → ⊥) → runs_of last y ≡ changed_runs (λ runs. with_holes_joined (all_freed id runs)) zones y (runs_of m y)
+  joined_freed y other =
+      j.runs.runs y ∙ j.runs_p y ∙ ap (λ (rs : List Run). cond (is_listed zones y) (with_holes_joined rs) rs) (runs_other n o z y j.edit other ∙ j.runs_n y)
+      ∙ by (is_listed zones y)
+    where
+      by : (b : Bool) → cond b (with_holes_joined (cond b (all_freed id (runs_of m y)) (runs_of m y))) (cond b (all_freed id (runs_of m y)) (runs_of m y))
+          ≡ cond b (with_holes_joined (all_freed id (runs_of m y))) (runs_of m y)
+      by true = refl
+      by false = refl
+
   pub joined_leads : is_movable_by owners id ≡ true → Leads owners m last
-  joined_leads may = leads_one m o last owners id joined_edits j.runs j.contents may joined_others
+  joined_leads may = leads_one m p last owners id joined_edits j.runs j.contents may joined_others
 
   module _ (was : List ℕ) (ready : IsReady m owners was) (may : is_movable_by owners id ≡ true) (enough : bits_in (id_runs m id) ≤ len)
       (put : ArePut m.geometry.sector (first_sector m.geometry (z, hole_at start (len + left))) (id_sectors m id) was) where
     joined_can : CanCommit m last (objects_of ready.view.listings) was
     joined_can =
-        join_can law m last owners was ready is j.runs.map id len (z, hole_at start (len + left)) joined_geometry (committed_record m o last joined_edits j.runs j.contents (omega (arith, some))) may
+        join_can law m last owners was ready is j.runs.map id len (z, hole_at start (len + left)) joined_geometry (committed_record m p last joined_edits j.runs j.contents (omega (arith, some))) may
         (hole_there m is z low start len left between) (omega arith) enough joined_one joined_others put
 
-    pub joined_preserves : (image : List ℕ) → CommitLeaves o.geometry was (copy_of o.geometry One was) last.zones image → Preserves m owners was image
+    pub joined_preserves : (image : List ℕ) → CommitLeaves p.geometry was (copy_of p.geometry One was) last.zones image → Preserves m owners was image
     joined_preserves image left_by =
         commit_preserves law m last owners was ready joined_geometry joined_can image (subst (λ (g : Geometry). CommitLeaves g was (copy_of g One was) last.zones image) joined_edits.geometry left_by)
 
-    pub joined_ready : (image : List ℕ) → CommitEnds o.geometry was last.zones image → IsReady last owners image
+    pub joined_ready : (image : List ℕ) → CommitEnds p.geometry was last.zones image → IsReady last owners image
     joined_ready image ends =
         commit_ready law m last owners was ready joined_geometry joined_can image (subst (λ (g : Geometry). CommitEnds g was last.zones image) joined_edits.geometry ends)

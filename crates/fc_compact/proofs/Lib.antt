@@ -13,10 +13,14 @@ mod ListedLemmas
 mod FoundLemmas
 mod OneRunLemmas
 mod JoinLemmas
+mod TouchLemmas
 mod JoinedLemmas
+mod RejoinedLemmas
 mod HoldLemmas
 mod PacksLemmas
 mod MergeLemmas
 mod SlidLemmas
 mod GoneLemmas
+mod AdjacentLemmas
+mod SeenLemmas
 mod PassLemmas

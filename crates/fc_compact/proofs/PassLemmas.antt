@@ -88,6 +88,9 @@ module _ (m : Map) (is : IsNewMap m) (id : ℕ) where
       let between = id_run_between m is id first.0 there in
       (some_min m is first.0.0 (id_run_low m is id first.0 there) between.0 between.1 first.0.1 between.2, id_bits_long m is id first.0 first.1 first.2)
 
+  pub one_run : length (id_runs m id) ≤ 1 → can_join m id ≡ false
+  one_run one = first_not (nat_lt 1 (length (id_runs m id))) (nat_le (length (zones_with m id)) 8) (nat_le (bits_in (id_runs m id)) (longest (hole_runs m))) (le-ltb 1 (length (id_runs m id)) one)
+
   pub no_hole : hole_runs m ≡ [] → can_join m id ≡ false
   no_hole none = elim (cases_lt 1 (length (id_runs m id))) [
     | inl several ↦ (
@@ -95,7 +98,7 @@ module _ (m : Map) (is : IsNewMap m) (id : ℕ) where
         let zero : longest (hole_runs m) ≡ 0 = ap longest none in
         sym (not_second (nat_lt 1 (length (id_runs m id)) && nat_le (length (zones_with m id)) 8) (nat_le (bits_in (id_runs m id)) (longest (hole_runs m)))
         (lt-leb (bits_in (id_runs m id)) (longest (hole_runs m)) (omega (arith, zero, least.0, least.1)))))
-    | inr one ↦ first_not (nat_lt 1 (length (id_runs m id))) (nat_le (length (zones_with m id)) 8) (nat_le (bits_in (id_runs m id)) (longest (hole_runs m))) (le-ltb 1 (length (id_runs m id)) one)
+    | inr one ↦ one_run one
   ]
 
   pub no_room : (n : ℕ) → n ≡ longest (hole_runs m) → (nat_lt 1 (length (id_runs m id)) && nat_le (bits_in (id_runs m id)) n) ≡ false → can_join m id ≡ false

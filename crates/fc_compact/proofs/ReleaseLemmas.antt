@@ -26,6 +26,21 @@ pub none_of : (left : List Run) → slice_get left 0 ≡ None → left ≡ []
 none_of [] e = refl
 none_of (x ∷ left) e = absurd (cc)
 
+-- the runs of a zone that a walk has before it
+pub placed_none : (z : ℕ) (runs : List Run) → placed z runs ≡ [] → runs ≡ []
+placed_none z [] e = refl
+placed_none z (x ∷ runs) e = absurd (cc)
+
+pub placed_first : (z : ℕ) (runs : List Run) (p : ZoneRun) (rest : List ZoneRun) → placed z runs ≡ p ∷ rest → (left : List Run) × (runs ≡ p.1 ∷ left) × (rest ≡ placed z left)
+placed_first z [] p rest e = absurd (cc)
+placed_first z (x ∷ runs) p rest e = (runs, ap (λ (r : Run). r ∷ runs) (ap (λ (q : ZoneRun). q.1) (one e)), two e)
+  where
+    one : (let q : ZoneRun = (z, x) in q ∷ placed z runs ≡ p ∷ rest) → (let q : ZoneRun = (z, x) in q ≡ p)
+    one f = cc
+
+    two : (let q : ZoneRun = (z, x) in q ∷ placed z runs ≡ p ∷ rest) → rest ≡ placed z runs
+    two f = cc
+
 pub freed_more : (id : ℕ) (done rest : List Run) (run : Run) → map (freed id) (done ++ run ∷ []) ++ rest ≡ map (freed id) done ++ freed id run ∷ rest
 freed_more id done rest run =
     ap (λ (rs : List Run). rs ++ rest) (map-append (freed id) done (run ∷ [])) ∙ append_assoc (map (freed id) done) (freed id run ∷ []) rest

@@ -64,6 +64,14 @@ are_holes one two = is_hole one.kind && is_hole two.kind
 abbrev pub joined : Run → Run → Run
 joined one two = record one { len = one.len + two.len }
 
+-- a run before others, if it doesn't become one hole with the next
+abbrev pub passed : Run → Run → List Run → List Run
+passed run next runs = if are_holes run next then runs else run ∷ runs
+
+-- the hole that a run and the next become, if both are holes, and else the next
+abbrev pub hole_or_next : Run → Run → Run
+hole_or_next run next = if are_holes run next then joined run next else next
+
 -- A hole begins there that has room for all runs of an identifier that may move, which stand in few zones.
 pub record CanJoin (m : Map) (owners : List Owner) (id zone start : ℕ) : Type 0 where
   pub movable : is_movable_by owners id ≡ true

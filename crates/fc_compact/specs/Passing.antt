@@ -1,7 +1,7 @@
 -- Identifiers that are joined, one after another.
-use Rattle.std.specs.Prelude.{◌≡◌, ◌<◌, ◌≤◌, ℕ, ◌+◌, Bool, true, false, List, [], length, Contains, Option, MatchOption}
+use Rattle.std.specs.Prelude.{◌≡◌, ◌<◌, ◌≤◌, ℕ, ◌+◌, ◌%◌, Bool, true, false, List, [], filter, get_or, length, Contains, Option, MatchOption}
 use Rattle.std.specs.List.{sum_by}
-use Rattle.fc_newmap.specs.Map.{Map, ZoneRun, hole_runs, id_runs, longest}
+use Rattle.fc_newmap.specs.Map.{Map, ZoneRun, has_id, hole_runs, id_runs, longest}
 use Rattle.fc_alloc.specs.declared.owner.Owner.{Owner}
 use Rattle.fc_effects.specs.Settled.{can_join}
 use Rattle.fc_compact.specs.Ready.{is_movable_by}
@@ -32,3 +32,15 @@ IsLongest m best = MatchOption best (hole_runs m ≡ []) (λ p. Contains (hole_r
 -- all zones are settled
 abbrev pub AreSettledZones : List Owner → Map → Type 0
 AreSettledZones owners m = (z : ℕ) → z < m.geometry.zones → IsSettledZone owners m z
+
+-- how many counts of runs a table has; identifiers whose remainders are equal share one
+abbrev pub places : ℕ
+places = 32768
+
+-- The table counts these runs, up to two for each of its places.
+abbrev pub AreSeen : List ℕ → List ZoneRun → Type 0
+AreSeen seen runs = (id : ℕ) → get_or seen (id % places) 0 < 2 → length (filter (λ (p : ZoneRun). has_id id p.1.kind) runs) ≤ get_or seen (id % places) 0
+
+-- An identifier for which fewer than two runs are counted has at most one.
+abbrev pub SeesFew : List ℕ → Map → Type 0
+SeesFew seen m = (id : ℕ) → get_or seen (id % places) 0 < 2 → length (id_runs m id) ≤ 1

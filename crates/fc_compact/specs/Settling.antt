@@ -50,11 +50,12 @@ pub record Steps (owners : List Owner) (m m' : Map) (z : ℕ) (run next : Run) (
   pub falls : zone_weight (runs_of m' z) + one_if s.changed ≤ zone_weight (runs_of m z)
   pub done : s.changed ≡ false → (m' ≡ m) × (s.run ≡ next) × (is_done_by m.geometry owners run next ≡ true)
 
--- The zone's runs have been passed once: where nothing changed, nothing is left to do.
+-- The zone's runs have been passed once: if nothing has changed, nothing is left to do.
 pub record Passes (owners : List Owner) (m m' : Map) (z : ℕ) (changed : Bool) : Type 0 where
   pub packs : Packs owners m m'
   pub others : (y : ℕ) → (y ≡ z → ⊥) → runs_of m' y ≡ runs_of m y
   pub falls : zone_weight (runs_of m' z) + one_if changed ≤ zone_weight (runs_of m z)
+  pub same : changed ≡ false → m' ≡ m
   pub done : changed ≡ false → passes_adjacent (is_done_by m'.geometry owners) (runs_of m' z) ≡ true
 
 -- the zone is settled

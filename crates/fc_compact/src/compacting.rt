@@ -1,5 +1,5 @@
 // Compaction of a whole map.
-ghost use Rattle.std.specs.Prelude.{◌≡◌, ◌<◌, ◌≤◌, ◌+◌, ◌*◌, false, ℕ, IsTrue, IsFalse, OnOk, IfOk};
+ghost use Rattle.std.specs.Prelude.{◌≡◌, ◌<◌, ◌≤◌, ◌+◌, ◌*◌, false, length, ℕ, IsTrue, IsFalse, OnOk, IfOk};
 ghost use Rattle.std.specs.Option.{ForSome};
 ghost use Rattle.fc_device.specs.Calls.{FailsByFault, SameForm, StopsAndExitsLeave};
 ghost use Rattle.fc_newmap.specs.Map.{id_runs};
@@ -13,19 +13,22 @@ ghost use Rattle.fc_compact.specs.Steps.{Packs, Preserves};
 use crate::joinable::{has_several, in_few_zones, longest_again, longest_hole};
 use crate::joining::join;
 use crate::laws;
+use crate::seen::{PLACES, may_have_several, see_runs};
 use crate::settling::{either, is_movable, settle_all};
 use fc_alloc::{Owner, Owners};
 use fc_device::{Disk, DiskFault};
 use fc_newmap::NewMap;
 use fc_zone::Run;
 
-// Joins the runs of an identifier, if it has several that the longest hole, `best`, holds. Answers whether it did.
+// Joins the runs of an identifier, if it has several that the longest hole, `best`, holds. Answers whether it did. If
+// `several` is false it has at most one.
 fn join_one<D: Disk>(
     disk: &mut D,
     map: &mut NewMap,
     owners: &Owners,
     id: u32,
     best: Option<(u16, Run)>,
+    several: bool,
 ) -> Result<bool, DiskFault>
     requires attached { IsTrue (D.attached disk.old) }
     requires settled { IsFalse (D.pending disk.old) }
@@ -34,6 +37,7 @@ fn join_one<D: Disk>(
     requires disc { disc_sectors (Layout.New map.old) ≤ D.sectors disk.old }
     requires ready { ForSome (D.bytes disk.old) (IsReady map.old owners.now) }
     requires best { IsLongest map.old best }
+    requires several { several ≡ false → length (id_runs map.old id) ≤ 1 }
     ensures keeps { StopsAndExitsLeave D.Disk disk.old disk.new (Preserves map.old owners.now) }
     ensures ready { OnOk result (ForSome (D.bytes disk.new) (IsReady map.new owners.now)) }
     ensures tries { IfOk result (Tries owners.now map.old map.new id) }
@@ -44,6 +48,9 @@ fn join_one<D: Disk>(
 {
     laws();
     map.is_map();
+    if !several {
+        return Ok(false);
+    }
     if !is_movable(owners, id) {
         return Ok(false);
     }
@@ -67,6 +74,7 @@ fn join_and_settle<D: Disk>(
     owners: &Owners,
     id: u32,
     best: Option<(u16, Run)>,
+    several: bool,
 ) -> Result<bool, DiskFault>
     requires attached { IsTrue (D.attached disk.old) }
     requires settled { IsFalse (D.pending disk.old) }
@@ -75,6 +83,7 @@ fn join_and_settle<D: Disk>(
     requires disc { disc_sectors (Layout.New map.old) ≤ D.sectors disk.old }
     requires ready { ForSome (D.bytes disk.old) (IsReady map.old owners.now) }
     requires best { IsLongest map.old best }
+    requires several { several ≡ false → length (id_runs map.old id) ≤ 1 }
     requires done { AreSettledZones owners.now map.old }
     ensures keeps { StopsAndExitsLeave D.Disk disk.old disk.new (Preserves map.old owners.now) }
     ensures ready { OnOk result (ForSome (D.bytes disk.new) (IsReady map.new owners.now)) }
@@ -86,7 +95,7 @@ fn join_and_settle<D: Disk>(
     ensures cause { FailsByFault D.Disk disk.old disk.new result }
 {
     laws();
-    let joined = join_one(disk, map, owners, id, best)?;
+    let joined = join_one(disk, map, owners, id, best, several)?;
     if !joined {
         return Ok(false);
     }
@@ -119,10 +128,13 @@ fn join_pass<D: Disk>(
 {
     laws();
     map.is_map();
+    let mut seen = [0; PLACES];
+    see_runs(map, &mut seen);
     let mut best = longest_hole(map);
     let mut any = false;
     for owner in list {
-        let joined = join_and_settle(disk, map, owners, owner.id, best)?;
+        let several = may_have_several(&seen, owner.id);
+        let joined = join_and_settle(disk, map, owners, owner.id, best, several)?;
         best = longest_again(map, best, joined);
         any = either(any, joined);
     }

@@ -1,10 +1,12 @@
 // What a join looks up in a map.
 ghost use Rattle.std.specs.Prelude.{◌≡◌, ◌<◌, ◌≤◌, ◌^◌, ◌++◌, ◌∷◌, [], ◌||◌, ◌==◌, true, if◌then◌else◌, length};
-ghost use Rattle.fc_newmap.specs.Map.{bits_in, has_id, id_runs};
+ghost use Rattle.fc_newmap.specs.Map.{bits_in, has_id, id_runs, runs_of};
+ghost use Rattle.fc_newmap.specs.RunsLaw.{placed};
+ghost use Rattle.fc_newmap.specs.Walk.{StandsBefore};
 ghost use Rattle.fc_compact.specs.Joining.{has_run_in, join_zones};
 
 use arrayvec::ArrayVec;
-use fc_newmap::{NewMap, RunCursor};
+use fc_newmap::{NewMap, RunCursor, Walk};
 use fc_zone::RunKind;
 
 // Whether a run is one of an identifier.
@@ -30,18 +32,24 @@ pub fn bits_of(map: &NewMap, id: u32) -> u32
     total
 }
 
+// Before the runs of one zone.
+pub fn walk_in(map: &NewMap, z: u16) -> Walk
+    requires { z < map.now.geometry.zones }
+    ensures { StandsBefore map.now (placed z (runs_of map.now z)) result }
+{
+    Walk::from_zone(map, z, 0)
+}
+
 // Whether a zone has a run of an identifier.
 pub fn has_run(map: &NewMap, z: u16, id: u32) -> bool
     requires { z < map.now.geometry.zones }
     ensures { result ≡ has_run_in map.now id z }
 {
-    map.is_map();
-    let mut at = map.first_in(z);
-    while let Some(run) = at {
+    let mut walk = walk_in(map, z);
+    while let Some((_, run)) = walk.next(map) {
         if has_id(id, run.kind) {
             return true;
         }
-        at = map.next_in(z, run);
     }
     false
 }

@@ -1,22 +1,24 @@
 // All runs of an identifier that are joined into one.
-ghost use Rattle.std.specs.Prelude.{◌≡◌, ◌≢◌, ◌<◌, ◌≤◌, ◌+◌, ◌*◌, ◌%◌, ◌^◌, ◌∷◌, [], ℕ, true, length, All, Contains, IsTrue, IsFalse, OnOk, ◌⊎◌, ◌-◌, ◌==◌, ◌||◌, nat_lt, if◌then◌else◌};
+ghost use Rattle.std.specs.Prelude.{◌≡◌, ◌≢◌, ◌<◌, ◌≤◌, ◌+◌, ◌*◌, ◌%◌, ◌^◌, ◌++◌, ◌∷◌, [], ℕ, List, true, length, All, Contains, IsTrue, IsFalse, OnOk, ◌⊎◌, ◌-◌, ◌==◌, ◌||◌, nat_lt, if◌then◌else◌};
 ghost use Rattle.std.specs.List.Sorted.{IsStrictlyIncreasing};
 ghost use Rattle.std.specs.Option.{ForSome};
 ghost use Rattle.fc_device.specs.Calls.{FailsByFault, SameForm, StopsAndExitsLeave};
 ghost use Rattle.fc_zone.specs.declared.Run.{Run};
 ghost use Rattle.fc_zone.specs.declared.RunKind.TheVariants.{Id};
-ghost use Rattle.fc_newmap.specs.Map.{bits_in, hole_runs, id_runs};
+ghost use Rattle.fc_newmap.specs.Map.{bits_in, hole_runs, id_runs, runs_of};
 ghost use Rattle.fc_image.specs.Layout.{Layout, disc_sectors, hole_sectors, id_sectors, is_among};
+ghost use Rattle.fc_effects.specs.Moves.{Joined, with_holes_joined};
 ghost use Rattle.fc_effects.specs.Placed.{front_of};
 ghost use Rattle.fc_compact.specs.Ready.{IsReady, is_movable_by};
-ghost use Rattle.fc_compact.specs.Joining.{ArePut, CanJoin, HasBetween, has_run_in, is_listed};
-ghost use Rattle.fc_compact.specs.Sliding.{IsPart, hole_at, run_at};
+ghost use Rattle.fc_compact.specs.Joining.{ArePut, CanJoin, HasBetween, all_freed, changed_runs, has_run_in, hole_part, is_listed};
+ghost use Rattle.fc_compact.specs.Sliding.{HasRuns, IsPart, hole_at, run_at};
 ghost use Rattle.fc_compact.specs.Steps.{Leads, Preserves};
 
 use crate::copying::copy_into;
 use crate::finding::{bits_of, zones_of};
 use crate::laws;
 use crate::releasing::{release_all, take_front};
+use crate::touching::join_holes;
 use arrayvec::ArrayVec;
 use fc_alloc::Owners;
 use fc_copies::commit;
@@ -59,7 +61,7 @@ pub fn copy_runs<D: Disk>(
 }
 
 // Moves all runs of an identifier into one run of `len` bits at the front of a hole, of which `left` bits remain, by one
-// commit of the zones of a list, in which all of them stand and the hole too.
+// commit of the zones of a list, in which all of them stand and the hole too. There no two holes touch afterwards.
 fn join_into<D: Disk>(
     disk: &mut D,
     map: &mut NewMap,
@@ -93,6 +95,9 @@ fn join_into<D: Disk>(
     ensures ready { OnOk result (ForSome (D.bytes disk.new) (IsReady map.new owners.now)) }
     ensures one { OnOk result (id_runs map.new id ≡ (z, run_at start len id) ∷ []) }
     ensures others { OnOk result ((k : ℕ) → (k ≡ id → ⊥) → id_runs map.new k ≡ id_runs map.old k) }
+    ensures taken { OnOk result ((front rest : List Run) → HasRuns map.old z (front ++ hole_at start (len + left) ∷ rest)
+        → HasRuns map.new z (with_holes_joined (all_freed id front ++ run_at start len id ∷ hole_part (start + len) left (all_freed id rest)))) }
+    ensures freed { OnOk result ((y : ℕ) → (y ≡ z → ⊥) → runs_of map.new y ≡ changed_runs (λ runs. with_holes_joined (all_freed id runs)) changed.now.items y (runs_of map.old y)) }
     ensures leads { OnOk result (Leads owners.now map.old map.new) }
     ensures geometry { map.new.geometry ≡ map.old.geometry }
     ensures durable { OnOk result (IsFalse (D.pending disk.new)) }
@@ -111,8 +116,10 @@ fn join_into<D: Disk>(
         },
     );
     copy_runs(disk, map, owners, id, to.first)?;
-    release_all(map, changed.as_slice(), id);
+    let zones = changed.as_slice();
+    release_all(map, zones, id);
     take_front(map, z, start, id, len, left);
+    join_holes(map, zones);
     commit(disk, map, changed)
 }
 
@@ -130,8 +137,8 @@ fn front_len(size: u32, bits: u32, min: u32) -> u32
 }
 
 /// Moves all runs of a movable identifier into one run at the start of a hole that has room for them, by one commit; the
-/// whole hole is taken if less than min would stay. The hole begins at `hole` in the zone, and the runs stand in at most
-/// eight zones.
+/// whole hole is taken if less than min would stay. In the zones that this changes, no two holes touch afterwards. The hole
+/// begins at `hole` in the zone, and the runs stand in at most eight zones.
 ///
 /// The other conditions are those of `slide`. After a crash at any moment and at every exit the image opens as before, with
 /// every object at its address and with its bytes, and what lies outside the map, holes and movable identifiers is as it
@@ -156,6 +163,7 @@ pub fn join<D: Disk>(
     ensures one { (run : Run) → Contains (hole_runs map.old) (zone, run) → run.start ≡ hole
         → OnOk result (id_runs map.new id ≡ (zone, record (front_of map.old.geometry (bits_in (id_runs map.old id)) (zone, run)).1 { kind = Id id }) ∷ []) }
     ensures others { OnOk result ((k : ℕ) → (k ≡ id → ⊥) → id_runs map.new k ≡ id_runs map.old k) }
+    ensures joined { (run : Run) → Contains (hole_runs map.old) (zone, run) → run.start ≡ hole → OnOk result (Joined map.old map.new id (zone, run)) }
     ensures leads { OnOk result (Leads owners.now map.old map.new) }
     ensures geometry { map.new.geometry ≡ map.old.geometry }
     ensures durable { OnOk result (IsFalse (D.pending disk.new)) }

@@ -11,9 +11,11 @@ mod finding;
 mod joinable;
 mod joining;
 mod releasing;
+mod seen;
 mod settling;
 mod shifting;
 mod sliding;
+mod touching;
 
 ghost use Rattle.fc_compact.specs.Laws.{Laws};
 ghost use Rattle.fc_compact.specs.Compacting.{ByOwnersLaw};

@@ -5,12 +5,14 @@ ghost use Rattle.fc_device.specs.Calls.{FailsByFault, SameForm, StopsAndExitsLea
 ghost use Rattle.fc_zone.specs.declared.Run.{Run};
 ghost use Rattle.fc_newmap.specs.Map.{runs_of};
 ghost use Rattle.fc_image.specs.Layout.{Layout, disc_sectors};
-ghost use Rattle.fc_effects.specs.Settled.{can_slide};
+ghost use Rattle.fc_effects.specs.Settled.{can_slide, passes_adjacent};
+ghost use Rattle.fc_compact.specs.Compacting.{is_done_by};
 ghost use Rattle.fc_compact.specs.Ready.{IsReady, is_movable_by};
 ghost use Rattle.fc_compact.specs.Joining.{joined};
 ghost use Rattle.fc_compact.specs.Sliding.{HasRuns};
 ghost use Rattle.fc_compact.specs.Steps.{Leads, Packs, Preserves};
 
+use crate::finding::walk_in;
 use crate::laws;
 use crate::sliding::{commit_zone, slide};
 use fc_alloc::Owners;
@@ -208,6 +210,32 @@ fn settle_pass<D: Disk>(
     Ok(changed)
 }
 
+// Whether nothing is left to do between a run and the next.
+fn is_done(g: &Geometry, owners: &Owners, run: Run, next: Run) -> bool
+    ensures { result ≡ is_done_by g.now owners.now run next }
+{
+    matches!(step_of(g, owners, run, next), Step::Done)
+}
+
+// Whether nothing is left to do in a zone.
+fn is_settled_in(map: &NewMap, owners: &Owners, z: u16) -> bool
+    requires { z < map.now.geometry.zones }
+    ensures { result ≡ passes_adjacent (is_done_by map.now.geometry owners.now) (runs_of map.now z) }
+{
+    let mut walk = walk_in(map, z);
+    let Some((_, first)) = walk.next(map) else {
+        return true;
+    };
+    let mut run = first;
+    while let Some((_, next)) = walk.next(map) {
+        if !is_done(map.geometry(), owners, run, next) {
+            return false;
+        }
+        run = next;
+    }
+    true
+}
+
 // Passes over a zone until nothing is left to do in it.
 fn settle_zone<D: Disk>(
     disk: &mut D,
@@ -234,9 +262,8 @@ fn settle_zone<D: Disk>(
 {
     laws();
     map.is_map();
-    let mut changed = true;
-    while changed {
-        changed = settle_pass(disk, map, owners, z)?;
+    while !is_settled_in(map, owners, z) {
+        settle_pass(disk, map, owners, z)?;
     }
     Ok(())
 }

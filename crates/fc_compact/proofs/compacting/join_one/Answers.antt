@@ -1,5 +1,5 @@
-use Rattle.std.proofs.Common.{◌≡◌, ◌<◌, true, false, refl, sym, subst, ◌∙◌, arith}
-use Rattle.std.specs.Prelude.{Some, nat_le, nat_lt, length}
+use Rattle.std.proofs.Common.{◌≡◌, true, false, refl, sym, subst, ◌∙◌, arith}
+use Rattle.std.specs.Prelude.{nat_le, nat_lt, length}
 use Rattle.std.proofs.lemmas.Bool.{ltb-true, leb-true}
 use Rattle.fc_device.proofs.DiskLaws.{laws}
 use Rattle.fc_device.proofs.StopLemmas.{keeps_start}
@@ -7,9 +7,15 @@ use Rattle.fc_newmap.specs.Map.{bits_in, id_runs}
 use Rattle.fc_compact.specs.Ready.{is_movable_by}
 use Rattle.fc_compact.specs.Passing.{IsLongest}
 use Rattle.fc_effects.specs.Settled.{zones_with}
-use Rattle.fc_compact.proofs.PassLemmas.{longest_of, both_true, no_hole, no_room, too_many, tries_joined, tries_none}
+use Rattle.fc_compact.proofs.PassLemmas.{longest_of, both_true, no_hole, no_room, one_run, too_many, tries_joined, tries_none}
 use Rattle.fc_compact.proofs.PreservesLemmas.{preserves_same}
 use Rattle.fc_compact.proofs.compacting.join_one.Goals as goal
+
+pub returns-then-not-several-clause-keeps : goal.returns-then-not-several-clause-keeps
+returns-then-not-several-clause-keeps g c = keeps_start (laws g.met.D.Disk) (preserves_same c.laws.ensures c.args.map.now c.args.owners.now) c.args.disk.now c.requires.settled
+
+pub returns-then-not-several-clause-tries : goal.returns-then-not-several-clause-tries
+returns-then-not-several-clause-tries g c = tries_none c.args.owners.now c.args.map.now c.is_map.ensures c.args.id (λ may. one_run c.args.map.now c.is_map.ensures c.args.id (c.requires.several c.if-not-several.true))
 
 pub returns-then-not-is_movable-clause-keeps : goal.returns-then-not-is_movable-clause-keeps
 returns-then-not-is_movable-clause-keeps g c = keeps_start (laws g.met.D.Disk) (preserves_same c.laws.ensures c.args.map.now c.args.owners.now) c.args.disk.now c.requires.settled

@@ -1,15 +1,17 @@
-use Rattle.std.proofs.Common.{◌≡◌, false, sym, subst, arith}
+use Rattle.std.proofs.Common.{false, sym, subst, arith}
 use Rattle.fc_device.proofs.DiskLaws.{laws}
 use Rattle.fc_newmap.specs.Map.{Map}
 use Rattle.fc_compact.specs.Passing.{IsLongest, run_count}
 use Rattle.fc_compact.proofs.GoneLemmas.{gone_keeps, gone_start, gone_then}
 use Rattle.fc_compact.proofs.PassLemmas.{all_taken, falls_more, none_more}
+use Rattle.fc_compact.proofs.SeenLemmas.{few_still}
 use Rattle.fc_compact.proofs.compacting.join_pass.Goals as goal
 
 pub loop-owner-init : goal.loop-owner-init
 loop-owner-init g c = record {
   gone = gone_start (laws g.met.D.Disk) c.laws.ensures c.args.owners.now c.args.disk.now c.args.map.now c.is_map.ensures c.requires.ready c.requires.settled;
   best = c.longest_hole-best.ensures;
+  few = c.see_runs.ensures.few;
   done = c.requires.done;
   falls = omega arith;
   none = λ e o there may. absurd (let l = there.1 in omega arith);
@@ -31,6 +33,7 @@ loop-owner-preserved g c =
       gone = gone_then (laws g.met.D.Disk) c.laws.ensures c.args.owners.now c.args.disk.now c.args.map.now c.loop-owner.disk m was.gone c.join_and_settle.new.disk n
           ok.keeps ok.form ok.ready ok.durable ok.tries.packs c.join_and_settle.ensures.cause.later;
       best = c.longest_again-best.ensures;
+      few = few_still c.args.owners.now c.see_runs.new.seen m n ok.tries.packs was.few;
       done = ok.done;
       falls = falls_more c.args.owners.now list m n i c.loop-owner-test.true record { id = 0; dir = 0; node = 0; file = false; low = 0; first = 0; sectors = 0 }
           c.loop-owner.any c.in_ok-joined.joined c.either-any.result c.either-any.ensures ok.tries (run_count list c.args.map.now) was.falls;

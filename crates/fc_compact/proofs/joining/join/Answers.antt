@@ -1,5 +1,5 @@
 use Rattle.std.proofs.Common.{◌≡◌, ◌<◌, inl, inr, ℕ, ◌+◌, ◌-◌, ◌%◌, Bool, true, false, ◌==◌, List, [], ◌∷◌, length, refl, ap, sym, subst, ◌∙◌, arith, cond}
-use Rattle.std.specs.Prelude.{All, ◌||◌, nat_lt}
+use Rattle.std.specs.Prelude.{All, ◌||◌, nat_lt, Result, Ok, Err, OnOk}
 use Rattle.std.specs.List.{range_with_len}
 use Rattle.std.specs.List.Sorted.{IsStrictlyIncreasing}
 use Rattle.std.proofs.lemmas.List.Elements.{All-filter}
@@ -8,13 +8,15 @@ use Rattle.std.proofs.lemmas.Result.{on_ok_weaker}
 use Rattle.fc_record.specs.declared.Geometry.{Geometry}
 use Rattle.fc_zone.specs.declared.Run.{Run}
 use Rattle.fc_zone.specs.declared.RunKind.TheVariants.{Id}
-use Rattle.fc_newmap.specs.Map.{ZoneRun, bits_in, id_runs, sector_of, shape}
+use Rattle.fc_newmap.specs.Map.{ZoneRun, bits_in, id_runs, runs_of, sector_of, shape}
 use Rattle.fc_zone.specs.Zone.{HasRun}
+use Rattle.fc_effects.specs.Moves.{runs_joined}
 use Rattle.fc_effects.specs.Placed.{front_of}
 use Rattle.fc_compact.specs.Joining.{HasBetween, has_run_in, is_listed, join_zones}
 use Rattle.fc_compact.specs.Sliding.{IsPart, hole_at, run_at}
 use Rattle.fc_compact.proofs.FoundLemmas.{listed_passes, range_below, range_rises}
 use Rattle.fc_compact.proofs.HoldLemmas.{few_zones, hole_between, hole_low, hole_named, id_bits_long, id_bits_whole, id_fits_field, movable_high, run_is_whole, run_short, same_run}
+use Rattle.fc_compact.proofs.RejoinedLemmas.{zones_joined}
 use Rattle.fc_compact.proofs.ReleaseLemmas.{run_is_at}
 use Rattle.fc_compact.proofs.joining.join.Goals as goal
 
@@ -302,3 +304,54 @@ returns-clause-one g c =
     on_ok_weaker c.join_into.result
     (λ one. one ∙ ap (λ (k : ℕ). let p : ZoneRun = (z, run_at k len id) in p ∷ []) (sym named) ∙ ap (λ (r : Run). let p : ZoneRun = (z, r) in p ∷ []) (front_run m.geometry (bits_in (id_runs m id)) z id len run len_is))
     c.join_into.ensures.one
+
+on_ok_four : {T E : Type 0} (r : Result T E) {A B C F G : Type 0} → (A → B → C → F → G) → OnOk r A → OnOk r B → OnOk r C → OnOk r F → OnOk r G
+on_ok_four (Ok x) all a b c f = all a b c f
+on_ok_four (Err e) all a b c f = tt
+
+-- how long it is
+front_len_is : (g : Geometry) (bits z len : ℕ) (run : Run) → len ≡ cond (nat_lt run.len (bits + g.min)) run.len bits → (front_of g bits (z, run)).1.len ≡ len
+front_len_is g bits z len run e = by (nat_lt run.len (bits + g.min)) e
+  where
+    by : (b : Bool) → len ≡ cond b run.len bits → (let p : ZoneRun = cond b (z, run) (z, record run { len = bits }) in p).1.len ≡ len
+    by true f = sym f
+    by false f = sym f
+
+pub returns-clause-joined : goal.returns-clause-joined
+returns-clause-joined g c =
+    let m = c.args.map.now in
+    let m' = c.join_into.new.map in
+    let z = c.args.zone in
+    let id = c.args.id in
+    let is = c.geometry.ensures.map in
+    let cs = c.requires.runs in
+    let low = hole_low m is z cs.hole cs.there in
+    let between = hole_between m is z cs.hole cs.there in
+    let gap_is : c.run_from-gap.result ≡ cs.hole = c.run_from-gap.ensures.value between.0 between.1 cs.hole between.2 cs.named in
+    let gap_len : c.run_from-gap.result.len ≡ cs.hole.len = ap (λ (r : Run). r.len) gap_is in
+    let bits_is : c.bits_of-bits.result ≡ bits_in (id_runs m id) = c.bits_of-bits.ensures in
+    let min_is : c.geometry.result.now.min ≡ m.geometry.min = ap (λ (h : Geometry). h.min) c.geometry.ensures.value in
+    let len = c.front_len-len.result in
+    let left = c.run_from-gap.result.len - len in
+    let start = c.args.hole in
+    let t : ℕ → Bool = λ y. (y == z) || has_run_in m id y in
+    let zones = c.zones_of-changed.result.items in
+    let listed : (y : ℕ) → y < m.geometry.zones → is_listed zones y ≡ t y = λ y below. ap (λ (xs : List ℕ). is_listed xs y) c.zones_of-changed.ensures ∙ listed_passes t m.geometry.zones y below in
+    λ run there named.
+    let same : run ≡ cs.hole = same_run m is z low run cs.hole (hole_between m is z run there) between (named ∙ sym cs.named) in
+    let long : run.len ≡ len + left = omega (arith, gap_len, ap (λ (r : Run). r.len) same, c.front_len-len.ensures.within) in
+    let whole : run ≡ hole_at start (len + left) = hole_named m is z run there start named ∙ ap (λ (k : ℕ). hole_at start k) long in
+    let len_is : len ≡ cond (nat_lt run.len (bits_in (id_runs m id) + m.geometry.min)) run.len (bits_in (id_runs m id)) =
+    c.front_len-len.ensures.value ∙ ap (λ k. cond (nat_lt k (c.bits_of-bits.result + c.geometry.result.now.min)) k c.bits_of-bits.result) (gap_len ∙ ap (λ (r : Run). r.len) (sym same))
+    ∙ ap (λ k. cond (nat_lt run.len (k + c.geometry.result.now.min)) run.len k) bits_is ∙ ap (λ k. cond (nat_lt run.len (bits_in (id_runs m id) + k)) run.len (bits_in (id_runs m id))) min_is in
+    let front : (front_of m.geometry (bits_in (id_runs m id)) (z, hole_at start (len + left))).1.len ≡ len =
+    subst (λ (r : Run). (front_of m.geometry (bits_in (id_runs m id)) (z, r)).1.len ≡ len) whole (front_len_is m.geometry (bits_in (id_runs m id)) z len run len_is) in
+    let here : HasBetween m z (hole_at start (len + left)) = subst (HasBetween m z) whole (hole_between m is z run there) in
+    on_ok_four c.join_into.result
+    (λ one others taken free. record {
+      was = there;
+      one = one;
+      others = others;
+      zones = subst (λ (r : Run). (y : ℕ) → y < m.geometry.zones → runs_of m' y ≡ runs_joined m (z, r) id y) (sym whole) (zones_joined m m' is id z start len left zones low here listed front taken free);
+    })
+    (returns-clause-one g c run there named) c.join_into.ensures.others c.join_into.ensures.taken c.join_into.ensures.freed

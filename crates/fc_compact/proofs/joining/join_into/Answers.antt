@@ -3,16 +3,17 @@ use Rattle.std.specs.Prelude.{◌==◌, ◌||◌, All}
 use Rattle.std.specs.List.Sorted.{IsStrictlyIncreasing}
 use Rattle.std.proofs.lemmas.Result.{on_ok_weaker}
 use Rattle.fc_record.specs.declared.Geometry.{Geometry}
-use Rattle.fc_newmap.specs.Map.{first_sector}
+use Rattle.fc_newmap.specs.Map.{first_sector, runs_of}
 use Rattle.fc_newmap.specs.Walk.{IsInZone}
-use Rattle.fc_newmap.proofs.ComposeLemmas.{edits_then}
+use Rattle.fc_newmap.proofs.ComposeLemmas.{edits_join, edits_then}
 use Rattle.fc_device.proofs.DiskLaws.{laws}
 use Rattle.fc_device.proofs.StopLemmas.{keeps_then, led}
 use Rattle.fc_copies.proofs.PassLemmas.{keeps_told}
+use Rattle.fc_effects.specs.Moves.{with_holes_joined}
 use Rattle.fc_image.specs.Layout.{Layout, hole_sectors, id_sectors, is_among}
-use Rattle.fc_compact.specs.Joining.{ArePut, has_run_in, is_listed}
+use Rattle.fc_compact.specs.Joining.{ArePut, all_freed, changed_runs, has_run_in, is_listed}
 use Rattle.fc_compact.specs.Sliding.{hole_at}
-use Rattle.fc_compact.proofs.JoinedLemmas.{Joins, front_in_hole, front_in_zone, front_on_disc, hole_after, hole_listed, joined_leads, joined_one, joined_others, joined_preserves, joined_ready}
+use Rattle.fc_compact.proofs.JoinedLemmas.{Joins, front_in_hole, front_in_zone, front_on_disc, hole_after, hole_listed, joined_freed, joined_leads, joined_one, joined_others, joined_preserves, joined_ready, joined_taken}
 use Rattle.fc_compact.proofs.KeptLemmas.{can_write}
 use Rattle.fc_compact.proofs.ListedLemmas.{unlisted}
 use Rattle.fc_compact.proofs.PreservesLemmas.{preserves_then}
@@ -48,10 +49,10 @@ copy_runs-requires-clause-hole g c =
     λ i lt. subst (λ (x : ℕ). is_among (hole_sectors (Layout.New m)) (x + i) ≡ true) (sym to_is) (front_in_hole m is a.z req.zone a.start a.len a.left req.hole a.id req.enough i lt)
 
 pub release_all-requires-clause-rising : goal.release_all-requires-clause-rising
-release_all-requires-clause-rising g c = subst (λ (xs : List ℕ). IsStrictlyIncreasing xs) (sym c.as_slice.ensures.value) c.requires.rising
+release_all-requires-clause-rising g c = subst (λ (xs : List ℕ). IsStrictlyIncreasing xs) (sym c.as_slice-zones.ensures.value) c.requires.rising
 
 pub release_all-requires-clause-zones : goal.release_all-requires-clause-zones
-release_all-requires-clause-zones g c = subst (λ (xs : List ℕ). All (λ y. y < c.args.map.now.geometry.zones) xs) (sym c.as_slice.ensures.value) c.requires.zones
+release_all-requires-clause-zones g c = subst (λ (xs : List ℕ). All (λ y. y < c.args.map.now.geometry.zones) xs) (sym c.as_slice-zones.ensures.value) c.requires.zones
 
 pub take_front-requires-clause-zone : goal.take_front-requires-clause-zone
 take_front-requires-clause-zone g c = subst (λ (h : Geometry). c.args.z < h.zones) (sym c.release_all.ensures.edits.edits.geometry) c.requires.zone
@@ -63,13 +64,22 @@ take_front-requires-clause-hole g c =
     let req = c.requires in
     let n = c.release_all.new.map in
     let changed = a.changed.now.items in
-    let listed_is = c.as_slice.ensures.value in
+    let listed_is = c.as_slice-zones.ensures.value in
     let listed = ap (λ (xs : List ℕ). is_listed xs a.z) listed_is ∙ hole_listed changed a.z (has_run_in m a.id a.z) (req.listed a.z req.zone) in
-    (_, _, hole_after m n a.id a.z a.start (a.len + a.left) c.as_slice.result.now c.release_all.ensures.runs listed req.hole)
+    (_, _, hole_after m n a.id a.z a.start (a.len + a.left) c.as_slice-zones.result.now c.release_all.ensures.runs listed req.hole)
+
+pub join_holes-requires-clause-rising : goal.join_holes-requires-clause-rising
+join_holes-requires-clause-rising g c = subst (λ (xs : List ℕ). IsStrictlyIncreasing xs) (sym c.as_slice-zones.ensures.value) c.requires.rising
+
+pub join_holes-requires-clause-zones : goal.join_holes-requires-clause-zones
+join_holes-requires-clause-zones g c =
+    subst (λ (h : Geometry). All (λ y. y < h.zones) c.as_slice-zones.result.now) (sym (c.take_front.ensures.edit.geometry ∙ c.release_all.ensures.edits.edits.geometry))
+    (subst (λ (xs : List ℕ). All (λ y. y < c.args.map.now.geometry.zones) xs) (sym c.as_slice-zones.ensures.value) c.requires.zones)
 
 pub commit-requires-clause-zones : goal.commit-requires-clause-zones
 commit-requires-clause-zones g c =
-    subst (λ (h : Geometry). All (λ y. y < h.zones) c.args.changed.now.items) (sym (c.take_front.ensures.edit.geometry ∙ c.release_all.ensures.edits.edits.geometry)) c.requires.zones
+    subst (λ (h : Geometry). All (λ y. y < h.zones) c.args.changed.now.items)
+    (sym (c.join_holes.ensures.edits.edits.geometry ∙ c.take_front.ensures.edit.geometry ∙ c.release_all.ensures.edits.edits.geometry)) c.requires.zones
 
 pub commit-requires-clause-ready : goal.commit-requires-clause-ready
 commit-requires-clause-ready g c = λ image told.
@@ -78,13 +88,17 @@ commit-requires-clause-ready g c = λ image told.
     let req = c.requires in
     let n = c.release_all.new.map in
     let changed = a.changed.now.items in
-    let listed_is = c.as_slice.ensures.value in
+    let listed_is = c.as_slice-zones.ensures.value in
     let o = c.take_front.new.map in
-    can_write m o (edits_then m n o a.z c.release_all.ensures.edits.edits c.take_front.ensures.edit) changed image (c.copy_runs.ensures.still_ready image told).copies
+    let p = c.join_holes.new.map in
+    let edits = edits_join m o p (edits_then m n o a.z c.release_all.ensures.edits.edits c.take_front.ensures.edit) c.join_holes.ensures.edits.edits in
+    can_write m p edits changed image (c.copy_runs.ensures.still_ready image told).copies
     (λ y low out.
     let absent : is_listed changed y ≡ false = unlisted changed y out in
-    c.take_front.ensures.edit.others y (λ here. (let t = hole_listed changed a.z (has_run_in m a.id a.z) (req.listed a.z req.zone) in let u = ap (is_listed changed) here ∙ t in cc))
-    ∙ c.release_all.ensures.edits.others y (ap (λ (xs : List ℕ). is_listed xs y) listed_is ∙ absent))
+    let away : is_listed c.as_slice-zones.result.now y ≡ false = ap (λ (xs : List ℕ). is_listed xs y) listed_is ∙ absent in
+    c.join_holes.ensures.edits.others y away
+    ∙ c.take_front.ensures.edit.others y (λ here. (let t = hole_listed changed a.z (has_run_in m a.id a.z) (req.listed a.z req.zone) in let u = ap (is_listed changed) here ∙ t in cc))
+    ∙ c.release_all.ensures.edits.others y away)
 
 pub returns-clause-keeps : goal.returns-clause-keeps
 returns-clause-keeps g c =
@@ -93,14 +107,15 @@ returns-clause-keeps g c =
     let req = c.requires in
     let n = c.release_all.new.map in
     let changed = a.changed.now.items in
-    let listed_is = c.as_slice.ensures.value in
+    let listed_is = c.as_slice-zones.ensures.value in
     let o = c.take_front.new.map in
+    let p = c.join_holes.new.map in
     let last = c.commit.new.map in
-    let zones = c.as_slice.result.now in
+    let zones = c.as_slice-zones.result.now in
     let listed : (y : ℕ) → y < m.geometry.zones → is_listed zones y ≡ ((y == a.z) || has_run_in m a.id y) = λ y low. ap (λ (xs : List ℕ). is_listed xs y) listed_is ∙ req.listed y low in
     let is = c.geometry.ensures.map in
-    let joins : Joins m n o last a.id a.z a.start a.len a.left zones =
-    record { released = c.release_all.ensures.edits; runs_n = c.release_all.ensures.runs; edit = c.take_front.ensures.edit; taken = c.take_front.ensures.runs; runs = c.commit.ensures.runs; contents = c.commit.ensures.contents } in
+    let joins : Joins m n o p last a.id a.z a.start a.len a.left zones =
+    record { released = c.release_all.ensures.edits; runs_n = c.release_all.ensures.runs; edit = c.take_front.ensures.edit; taken = c.take_front.ensures.runs; touching = c.join_holes.ensures.edits; runs_p = c.join_holes.ensures.runs; runs = c.commit.ensures.runs; contents = c.commit.ensures.contents } in
     let geo = c.geometry.ensures.value in
     let to_is : c.extent_of-to.result.first ≡ first_sector m.geometry (a.z, hole_at a.start (a.len + a.left)) = ap (λ e. e.first) c.extent_of-to.ensures ∙ ap (λ (h : Geometry). first_sector h (a.z, hole_at a.start a.len)) geo in
     let put : (was : List ℕ) → g.D.Disk.bytes c.copy_runs.new.disk ≡ Some was → ArePut m.geometry.sector (first_sector m.geometry (a.z, hole_at a.start (a.len + a.left))) (id_sectors m a.id) was =
@@ -108,7 +123,7 @@ returns-clause-keeps g c =
     let law = laws g.met.D.Disk in
     keeps_then law (preserves_then c.laws.ensures m a.owners.now) c.copy_runs.ensures.keeps
     (keeps_told law c.commit.ensures.keeps
-    (λ was image told left. joined_preserves c.laws.ensures m n o last a.owners.now is a.id a.z a.start a.len a.left zones req.zone joins req.hole listed was (c.copy_runs.ensures.still_ready was told) req.movable req.enough (put was told) image left))
+    (λ was image told left. joined_preserves c.laws.ensures m n o p last a.owners.now is a.id a.z a.start a.len a.left zones req.zone joins req.hole listed was (c.copy_runs.ensures.still_ready was told) req.movable req.enough (put was told) image left))
 
 pub returns-clause-ready : goal.returns-clause-ready
 returns-clause-ready g c =
@@ -117,14 +132,15 @@ returns-clause-ready g c =
     let req = c.requires in
     let n = c.release_all.new.map in
     let changed = a.changed.now.items in
-    let listed_is = c.as_slice.ensures.value in
+    let listed_is = c.as_slice-zones.ensures.value in
     let o = c.take_front.new.map in
+    let p = c.join_holes.new.map in
     let last = c.commit.new.map in
-    let zones = c.as_slice.result.now in
+    let zones = c.as_slice-zones.result.now in
     let listed : (y : ℕ) → y < m.geometry.zones → is_listed zones y ≡ ((y == a.z) || has_run_in m a.id y) = λ y low. ap (λ (xs : List ℕ). is_listed xs y) listed_is ∙ req.listed y low in
     let is = c.geometry.ensures.map in
-    let joins : Joins m n o last a.id a.z a.start a.len a.left zones =
-    record { released = c.release_all.ensures.edits; runs_n = c.release_all.ensures.runs; edit = c.take_front.ensures.edit; taken = c.take_front.ensures.runs; runs = c.commit.ensures.runs; contents = c.commit.ensures.contents } in
+    let joins : Joins m n o p last a.id a.z a.start a.len a.left zones =
+    record { released = c.release_all.ensures.edits; runs_n = c.release_all.ensures.runs; edit = c.take_front.ensures.edit; taken = c.take_front.ensures.runs; touching = c.join_holes.ensures.edits; runs_p = c.join_holes.ensures.runs; runs = c.commit.ensures.runs; contents = c.commit.ensures.contents } in
     let geo = c.geometry.ensures.value in
     let to_is : c.extent_of-to.result.first ≡ first_sector m.geometry (a.z, hole_at a.start (a.len + a.left)) = ap (λ e. e.first) c.extent_of-to.ensures ∙ ap (λ (h : Geometry). first_sector h (a.z, hole_at a.start a.len)) geo in
     let put : (was : List ℕ) → g.D.Disk.bytes c.copy_runs.new.disk ≡ Some was → ArePut m.geometry.sector (first_sector m.geometry (a.z, hole_at a.start (a.len + a.left))) (id_sectors m a.id) was =
@@ -132,7 +148,7 @@ returns-clause-ready g c =
     on_ok_weaker c.commit.result
     (λ ends image is_now.
     let before = led (laws g.met.D.Disk) c.commit.ensures.keeps image is_now in
-    joined_ready c.laws.ensures m n o last a.owners.now is a.id a.z a.start a.len a.left zones req.zone joins req.hole listed before.0 (c.copy_runs.ensures.still_ready before.0 before.1) req.movable req.enough (put before.0 before.1) image (ends before.0 before.1 image is_now))
+    joined_ready c.laws.ensures m n o p last a.owners.now is a.id a.z a.start a.len a.left zones req.zone joins req.hole listed before.0 (c.copy_runs.ensures.still_ready before.0 before.1) req.movable req.enough (put before.0 before.1) image (ends before.0 before.1 image is_now))
     c.commit.ensures.ends
 
 pub returns-clause-one : goal.returns-clause-one
@@ -142,15 +158,16 @@ returns-clause-one g c =
     let req = c.requires in
     let n = c.release_all.new.map in
     let changed = a.changed.now.items in
-    let listed_is = c.as_slice.ensures.value in
+    let listed_is = c.as_slice-zones.ensures.value in
     let o = c.take_front.new.map in
+    let p = c.join_holes.new.map in
     let last = c.commit.new.map in
-    let zones = c.as_slice.result.now in
+    let zones = c.as_slice-zones.result.now in
     let listed : (y : ℕ) → y < m.geometry.zones → is_listed zones y ≡ ((y == a.z) || has_run_in m a.id y) = λ y low. ap (λ (xs : List ℕ). is_listed xs y) listed_is ∙ req.listed y low in
     let is = c.geometry.ensures.map in
-    let joins : Joins m n o last a.id a.z a.start a.len a.left zones =
-    record { released = c.release_all.ensures.edits; runs_n = c.release_all.ensures.runs; edit = c.take_front.ensures.edit; taken = c.take_front.ensures.runs; runs = c.commit.ensures.runs; contents = c.commit.ensures.contents } in
-    on_ok_weaker c.commit.result (λ done. joined_one c.laws.ensures m n o last a.owners.now is a.id a.z a.start a.len a.left zones req.zone joins req.hole listed) c.commit.ensures.durable
+    let joins : Joins m n o p last a.id a.z a.start a.len a.left zones =
+    record { released = c.release_all.ensures.edits; runs_n = c.release_all.ensures.runs; edit = c.take_front.ensures.edit; taken = c.take_front.ensures.runs; touching = c.join_holes.ensures.edits; runs_p = c.join_holes.ensures.runs; runs = c.commit.ensures.runs; contents = c.commit.ensures.contents } in
+    on_ok_weaker c.commit.result (λ done. joined_one c.laws.ensures m n o p last a.owners.now is a.id a.z a.start a.len a.left zones req.zone joins req.hole listed) c.commit.ensures.durable
 
 pub returns-clause-others : goal.returns-clause-others
 returns-clause-others g c =
@@ -159,15 +176,16 @@ returns-clause-others g c =
     let req = c.requires in
     let n = c.release_all.new.map in
     let changed = a.changed.now.items in
-    let listed_is = c.as_slice.ensures.value in
+    let listed_is = c.as_slice-zones.ensures.value in
     let o = c.take_front.new.map in
+    let p = c.join_holes.new.map in
     let last = c.commit.new.map in
-    let zones = c.as_slice.result.now in
+    let zones = c.as_slice-zones.result.now in
     let listed : (y : ℕ) → y < m.geometry.zones → is_listed zones y ≡ ((y == a.z) || has_run_in m a.id y) = λ y low. ap (λ (xs : List ℕ). is_listed xs y) listed_is ∙ req.listed y low in
     let is = c.geometry.ensures.map in
-    let joins : Joins m n o last a.id a.z a.start a.len a.left zones =
-    record { released = c.release_all.ensures.edits; runs_n = c.release_all.ensures.runs; edit = c.take_front.ensures.edit; taken = c.take_front.ensures.runs; runs = c.commit.ensures.runs; contents = c.commit.ensures.contents } in
-    on_ok_weaker c.commit.result (λ done k other. joined_others c.laws.ensures m n o last a.owners.now is a.id a.z a.start a.len a.left zones req.zone joins req.hole listed k other) c.commit.ensures.durable
+    let joins : Joins m n o p last a.id a.z a.start a.len a.left zones =
+    record { released = c.release_all.ensures.edits; runs_n = c.release_all.ensures.runs; edit = c.take_front.ensures.edit; taken = c.take_front.ensures.runs; touching = c.join_holes.ensures.edits; runs_p = c.join_holes.ensures.runs; runs = c.commit.ensures.runs; contents = c.commit.ensures.contents } in
+    on_ok_weaker c.commit.result (λ done k other. joined_others c.laws.ensures m n o p last a.owners.now is a.id a.z a.start a.len a.left zones req.zone joins req.hole listed k other) c.commit.ensures.durable
 
 pub returns-clause-leads : goal.returns-clause-leads
 returns-clause-leads g c =
@@ -176,12 +194,52 @@ returns-clause-leads g c =
     let req = c.requires in
     let n = c.release_all.new.map in
     let changed = a.changed.now.items in
-    let listed_is = c.as_slice.ensures.value in
+    let listed_is = c.as_slice-zones.ensures.value in
     let o = c.take_front.new.map in
+    let p = c.join_holes.new.map in
     let last = c.commit.new.map in
-    let zones = c.as_slice.result.now in
+    let zones = c.as_slice-zones.result.now in
     let listed : (y : ℕ) → y < m.geometry.zones → is_listed zones y ≡ ((y == a.z) || has_run_in m a.id y) = λ y low. ap (λ (xs : List ℕ). is_listed xs y) listed_is ∙ req.listed y low in
     let is = c.geometry.ensures.map in
-    let joins : Joins m n o last a.id a.z a.start a.len a.left zones =
-    record { released = c.release_all.ensures.edits; runs_n = c.release_all.ensures.runs; edit = c.take_front.ensures.edit; taken = c.take_front.ensures.runs; runs = c.commit.ensures.runs; contents = c.commit.ensures.contents } in
-    on_ok_weaker c.commit.result (λ done. joined_leads c.laws.ensures m n o last a.owners.now is a.id a.z a.start a.len a.left zones req.zone joins req.hole listed req.movable) c.commit.ensures.durable
+    let joins : Joins m n o p last a.id a.z a.start a.len a.left zones =
+    record { released = c.release_all.ensures.edits; runs_n = c.release_all.ensures.runs; edit = c.take_front.ensures.edit; taken = c.take_front.ensures.runs; touching = c.join_holes.ensures.edits; runs_p = c.join_holes.ensures.runs; runs = c.commit.ensures.runs; contents = c.commit.ensures.contents } in
+    on_ok_weaker c.commit.result (λ done. joined_leads c.laws.ensures m n o p last a.owners.now is a.id a.z a.start a.len a.left zones req.zone joins req.hole listed req.movable) c.commit.ensures.durable
+
+pub returns-clause-taken : goal.returns-clause-taken
+returns-clause-taken g c =
+    let a = c.args in
+    let m = a.map.now in
+    let req = c.requires in
+    let n = c.release_all.new.map in
+    let changed = a.changed.now.items in
+    let listed_is = c.as_slice-zones.ensures.value in
+    let o = c.take_front.new.map in
+    let p = c.join_holes.new.map in
+    let last = c.commit.new.map in
+    let zones = c.as_slice-zones.result.now in
+    let listed : (y : ℕ) → y < m.geometry.zones → is_listed zones y ≡ ((y == a.z) || has_run_in m a.id y) = λ y low. ap (λ (xs : List ℕ). is_listed xs y) listed_is ∙ req.listed y low in
+    let is = c.geometry.ensures.map in
+    let joins : Joins m n o p last a.id a.z a.start a.len a.left zones =
+    record { released = c.release_all.ensures.edits; runs_n = c.release_all.ensures.runs; edit = c.take_front.ensures.edit; taken = c.take_front.ensures.runs; touching = c.join_holes.ensures.edits; runs_p = c.join_holes.ensures.runs; runs = c.commit.ensures.runs; contents = c.commit.ensures.contents } in
+    on_ok_weaker c.commit.result (λ done front rest was. joined_taken c.laws.ensures m n o p last a.owners.now is a.id a.z a.start a.len a.left zones req.zone joins req.hole listed front rest was) c.commit.ensures.durable
+
+pub returns-clause-freed : goal.returns-clause-freed
+returns-clause-freed g c =
+    let a = c.args in
+    let m = a.map.now in
+    let req = c.requires in
+    let n = c.release_all.new.map in
+    let changed = a.changed.now.items in
+    let listed_is = c.as_slice-zones.ensures.value in
+    let o = c.take_front.new.map in
+    let p = c.join_holes.new.map in
+    let last = c.commit.new.map in
+    let zones = c.as_slice-zones.result.now in
+    let listed : (y : ℕ) → y < m.geometry.zones → is_listed zones y ≡ ((y == a.z) || has_run_in m a.id y) = λ y low. ap (λ (xs : List ℕ). is_listed xs y) listed_is ∙ req.listed y low in
+    let is = c.geometry.ensures.map in
+    let joins : Joins m n o p last a.id a.z a.start a.len a.left zones =
+    record { released = c.release_all.ensures.edits; runs_n = c.release_all.ensures.runs; edit = c.take_front.ensures.edit; taken = c.take_front.ensures.runs; touching = c.join_holes.ensures.edits; runs_p = c.join_holes.ensures.runs; runs = c.commit.ensures.runs; contents = c.commit.ensures.contents } in
+    on_ok_weaker c.commit.result
+    (λ done y other. subst (λ (xs : List ℕ). runs_of last y ≡ changed_runs (λ runs. with_holes_joined (all_freed a.id runs)) xs y (runs_of m y)) listed_is
+    (joined_freed c.laws.ensures m n o p last a.owners.now is a.id a.z a.start a.len a.left zones req.zone joins req.hole listed y other))
+    c.commit.ensures.durable

@@ -1,5 +1,5 @@
 use Rattle.std.proofs.Common.{◌≡◌, ◌≤◌, ◌+◌, ◌∷◌, ◌++◌, [], ℕ, List, Bool, refl, ap, sym, subst, ◌∙◌, arith, append_assoc, true, false}
-use Rattle.std.specs.Prelude.{◌||◌, ◌&&◌}
+use Rattle.std.specs.Prelude.{◌||◌}
 use Rattle.fc_device.proofs.DiskLaws.{laws, form_then}
 use Rattle.fc_device.proofs.StopLemmas.{keeps_start}
 use Rattle.fc_record.specs.declared.Geometry.{Geometry}
@@ -15,6 +15,7 @@ use Rattle.fc_compact.proofs.HoldLemmas.{run_short, run_is_long, some_min}
 use Rattle.fc_compact.proofs.PacksLemmas.{packs_none}
 use Rattle.fc_compact.proofs.PreservesLemmas.{preserves_same}
 use Rattle.fc_compact.proofs.ReleaseLemmas.{first_of, none_of}
+use Rattle.fc_compact.proofs.AdjacentLemmas.{adjacent_more}
 use Rattle.fc_compact.proofs.settling.settle_pass.Goals as goal
 
 pub returns-in_default-clause-keeps : goal.returns-in_default-clause-keeps
@@ -27,6 +28,7 @@ returns-in_default-clause-passes g c =
       packs = packs_none c.args.owners.now c.args.map.now c.is_map.ensures;
       others = λ y other. refl;
       falls = omega arith;
+      same = λ e. refl;
       done = λ e. ap (passes_adjacent (is_done_by c.args.map.now.geometry c.args.owners.now)) none;
     }
 
@@ -41,6 +43,7 @@ loop-next-init g c =
       rest = first.0;
       cut = first.1;
       falls = omega arith;
+      same = λ e. refl;
       done = λ e. refl;
     }
 
@@ -83,22 +86,6 @@ pub returns-in_err-step-clause-keeps : goal.returns-in_err-step-clause-keeps
 returns-in_err-step-clause-keeps g c =
     gone_keeps (laws g.met.D.Disk) c.laws.ensures c.args.owners.now c.args.disk.now c.args.map.now c.loop-next.disk c.loop-next.map c.loop-next.invariant.gone c.settle_pair.new.disk c.settle_pair.ensures.keeps
 
--- one more is done
-adjacent_more : (f : Run → Run → Bool) (front : List Run) (last next : Run) → passes_adjacent f (front ++ last ∷ []) ≡ true → f last next ≡ true → passes_adjacent f ((front ++ last ∷ []) ++ next ∷ []) ≡ true
-adjacent_more f [] last next was e = ap (λ b. b && true) e
-adjacent_more f (x ∷ []) last next was e = by (f x last) (f last next) was e
-  where
-    by : (a b : Bool) → (a && true) ≡ true → b ≡ true → (a && (b && true)) ≡ true
-    by true true p q = refl
-    by true false p q = absurd (cc)
-    by false b p q = absurd (cc)
-adjacent_more f (x ∷ (y ∷ front)) last next was e = by (f x y) was (λ w. adjacent_more f (y ∷ front) last next w e)
-  where
-    by : (a : Bool) → (a && passes_adjacent f ((y ∷ front) ++ last ∷ [])) ≡ true → (passes_adjacent f ((y ∷ front) ++ last ∷ []) ≡ true → passes_adjacent f (((y ∷ front) ++ last ∷ []) ++ next ∷ []) ≡ true)
-        → (a && passes_adjacent f (((y ∷ front) ++ last ∷ []) ++ next ∷ [])) ≡ true
-    by true p more = more p
-    by false p more = absurd (cc)
-
 pub loop-next-smaller : goal.loop-next-smaller
 loop-next-smaller g c =
     let was = c.loop-next.invariant in
@@ -136,6 +123,7 @@ loop-next-preserved g c =
       rest = ahead.0;
       cut = cut.1.0;
       falls = lower c.loop-next.changed step.changed c.either-changed.result either (zone_weight (runs_of c.settle_pair.new.map c.args.z)) (zone_weight (runs_of c.loop-next.map c.args.z)) (zone_weight (runs_of c.args.map.now c.args.z)) steps.falls was.falls;
+      same = λ e. (let both = neither c.loop-next.changed step.changed (sym either ∙ e) in (steps.done both.1).0 ∙ was.same both.0);
       done = λ e. (let both = neither c.loop-next.changed step.changed (sym either ∙ e) in
           let d = steps.done both.1 in
           let f = is_done_by c.args.map.now.geometry c.args.owners.now in
@@ -171,6 +159,7 @@ returns-clause-passes g c =
       packs = was.gone.packs;
       others = was.others;
       falls = was.falls;
+      same = was.same;
       done = λ e. ap (passes_adjacent (is_done_by c.loop-next.map.geometry c.args.owners.now)) (was.cut ∙ ap (λ (rs : List Run). was.front ++ c.loop-next.run ∷ rs) none)
           ∙ ap (λ (h : Geometry). passes_adjacent (is_done_by h c.args.owners.now) (was.front ++ c.loop-next.run ∷ [])) was.gone.geometry ∙ was.done e;
     }

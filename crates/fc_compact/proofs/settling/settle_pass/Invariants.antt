@@ -16,6 +16,7 @@ invariant-loop-next g l = record {
   rest : List Run;
   cut : HasRuns l.map l.z (front ++ l.run ∷ rest);
   falls : zone_weight (runs_of l.map l.z) + one_if l.changed ≤ zone_weight (runs_of l.fn.map l.z);
+  same : l.changed ≡ false → l.map ≡ l.fn.map;
   done : l.changed ≡ false → passes_adjacent (is_done_by l.fn.map.geometry l.owners) (front ++ l.run ∷ []) ≡ true;
 }
 
