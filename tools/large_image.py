@@ -23,7 +23,7 @@ class SparseFile:
         self.file.write(content)
 
 
-def with_directories(count):
+def with_directories(count, files=FILES):
     size = (ZONES * ZONE_BITS - 480) * BIT_BYTES
     volume = NewVolume(record_bytes(10, 15, 10, ZONES, 32, 0x300, size), True)
     volume.take(2, ZONES // 2, 2 * ZONES)
@@ -37,16 +37,16 @@ def with_directories(count):
         made = volume.directory(holders[0], b"D%d" % at, pieces=[(zone, 16)])
         holders[0].entries.append(made)
         holders.append(made)
-        fill(volume, made, zone)
+        fill(volume, made, zone, files)
     for directory in volume.directories():
         directory.entries.sort(key=lambda entry: entry.name)
     return volume
 
 
-def fill(volume, directory, zone):
-    """Files of up to 2,048 bytes that share one identifier."""
-    identifier = volume.place(2 * FILES * 1024, [(zone, 2 * FILES)])
-    for at in range(FILES):
+def fill(volume, directory, zone, files):
+    """At most 50 files of up to 2,048 bytes that share one identifier."""
+    identifier = volume.place(2 * files * 1024, [(zone, 2 * files)])
+    for at in range(files):
         content = b"%08d" % (identifier * FILES + at) * (1 + at * 5)
         directory.entries.append(File(b"F%02d" % at, content, identifier * 256 + 1 + 2 * at))
 

@@ -14,7 +14,7 @@ import sys
 import tempfile
 
 import large_image
-from volumes import File, NewVolume, record_bytes
+from volumes import NewVolume, record_bytes
 
 MEGA = 1 << 20
 DIRECTORIES, FILES, RUNS = 70, 72, 25
@@ -100,11 +100,39 @@ def with_large_file():
     return volume
 
 
-def of_objects(directories, files):
-    """At most 77 directories that have equally many empty files, at most 77."""
-    zones = 62
-    volume = empty_volume(zones, 10, 2 * zones)
-    fill_directories(volume, directories, lambda at: [File(b"F%d" % n, b"") for n in range(files)])
+class Hollow:
+    """So many bytes 0, of which none is written."""
+
+    def __init__(self, size):
+        self.size = size
+
+    def __len__(self):
+        return self.size
+
+    def __bytes__(self):
+        return b""
+
+
+def of_a_terabyte():
+    """240 files of 4 GB, which lie one behind the other in all zones but the first and the map's."""
+    zones, bits = 1028, 32767
+    volume = empty_volume(zones, 17, -(-2 * zones // 128))
+    free = [[zone, 8000] for zone in range(1, zones) if zone != zones // 2]
+    for directory in range(4):
+        made = volume.directory(volume.root, b"D%d" % directory, pieces=[(0, 16)])
+        volume.root.entries.append(made)
+        for n in range(10, 70):
+            pieces, left = [], bits
+            while left:
+                count = min(left, free[0][1])
+                if left - count in range(1, 16):
+                    count -= 16
+                pieces.append((free[0][0], count))
+                left -= count
+                free[0][1] -= count
+                if free[0][1] < 16:
+                    del free[0]
+            made.entries.append(volume.file(b"F%d" % n, Hollow(bits << 17), pieces))
     return volume
 
 
@@ -160,6 +188,9 @@ def tasks(folder):
     found.append(Task("`load` of 256 MB, into a pipe", path("large.adf"), load, {**cat, **(xxd if shutil.which("xxd") else {})}, into_pipe))
     found.append(Task("`digest` of 256 MB", path("large.adf"), digest, {"sha256sum": ["sha256sum", large]}))
 
+    write_image(path("terabyte.adf"), of_a_terabyte())
+    found.append(Task("`check` of a sparse disc of 1.1 TB with 240 files of 4 GB", path("terabyte.adf"), write_script(path("check"), ["check"]), {}))
+
     volume = large_image.with_directories(1000)
     write_image(path("objects.adf"), volume)
     tree = write_files(path("tree"), volume)[0]
@@ -179,6 +210,15 @@ def memory(fcore, folder, volume):
     write_image(image, volume)
     told = subprocess.run(["/usr/bin/time", "-f", "%M", fcore, image], stdin=subprocess.DEVNULL, stderr=subprocess.PIPE, check=True).stderr
     return int(told) * 1024
+
+
+def object_sizes(taken):
+    """The bytes of a file, and of a directory without its files, by what discs of so many directories and files in each take.
+
+    All these discs are large, and of one kind, so that what memory comes in counts little."""
+    few, many = taken(1200, 20), taken(1200, 50)
+    file = (many - few) / (1200 * 30)
+    return file, (many - taken(600, 50)) / 600 - 50 * file
 
 
 def system_calls(words, script):
@@ -206,10 +246,8 @@ def main(fcore, rounds=5):
                 calls = system_calls([fcore, os.path.join(folder, "large.adf")], os.path.join(folder, name))
                 print("| system calls of that `%s` | %d | – |" % (name, calls))
         if os.path.exists("/usr/bin/time"):
-            few, many = (memory(fcore, folder, of_objects(70, files)) for files in (5, 75))
-            print("| memory of a file | %d bytes | – |" % ((many - few) / (70 * 70)))
-            few, many = (memory(fcore, folder, large_image.with_directories(count)) for count in (200, 1200))
-            print("| memory of a directory with 50 files, and of these | %d bytes | – |" % ((many - few) / 1000))
+            file, directory = object_sizes(lambda *counts: memory(fcore, folder, large_image.with_directories(*counts)))
+            print("| memory of a file, and of a directory without its files | %d bytes, %d bytes | – |" % (file, directory))
 
 
 if __name__ == "__main__":

@@ -8,6 +8,7 @@ mod checks;
 mod dirs;
 mod maps;
 mod owners;
+mod plans;
 mod record;
 mod timing;
 mod visits;
@@ -19,7 +20,7 @@ fn main(rt: HostRuntime) -> std::io::Result<()> {
     let alloc = rt.alloc();
     let words: Vec<String> = env::args(&rt)?.skip(1).collect(alloc)?;
     if words.is_empty() {
-        println!(rt; "benches: bigdirs bits checks dirs maps owners record zones")?;
+        println!(rt; "benches: bigdirs bits checks dirs maps owners plans record zones")?;
     }
     for word in &words {
         match word.as_str() {
@@ -29,6 +30,7 @@ fn main(rt: HostRuntime) -> std::io::Result<()> {
             "dirs" => dirs::run(&rt, alloc)?,
             "maps" => maps::run(&rt, alloc)?,
             "owners" => owners::run(&rt, alloc)?,
+            "plans" => plans::run(&rt, alloc)?,
             "record" => record::run(&rt, alloc)?,
             "zones" => zones::run(&rt, alloc)?,
             _ => println!(rt; "no such bench: {word}")?,

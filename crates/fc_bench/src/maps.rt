@@ -12,9 +12,11 @@ use std::io::{self, ErrorKind, Print};
 use std::rt::Clock;
 use std::time::Instant;
 
-const ZONES: u16 = 4000;
+/// The zones of the map.
+pub const ZONES: u16 = 4000;
 
-const SECTOR: usize = 1024;
+/// The bytes of a sector.
+pub const SECTOR: usize = 1024;
 
 // The bits of an identifier, and the identifiers whose runs are looked for in one zone first.
 const ID_BITS: u32 = 19;
@@ -38,8 +40,8 @@ fn record() -> [u8; 60] {
     raw
 }
 
-// Writes a run's field and its last bit.
-fn put_run(sector: &mut [u8], start: u32, len: u32, field: u32)
+/// Writes a run's field and its last bit.
+pub fn put_run(sector: &mut [u8], start: u32, len: u32, field: u32)
     requires size { length sector.old ≡ 1024 }
     requires start { start ≤ 8192 }
     requires len { len ≤ 8192 }
@@ -68,7 +70,8 @@ fn put_zone(sector: &mut [u8], z: u16)
     put_bits(sector, 23, 1, 1);
 }
 
-fn invalid() -> io::Error {
+/// The data isn't what it should be.
+pub fn invalid() -> io::Error {
     io::Error::from(ErrorKind::InvalidData)
 }
 
@@ -79,6 +82,14 @@ fn made(alloc: Global) -> io::Result<NewMap> {
         let at = SECTOR * usize::from(z);
         put_zone(&mut zones[at..at + SECTOR], z);
     }
+    loaded(zones)
+}
+
+/// The map of these zones, which get the disc record.
+pub fn loaded(zones: Vec<u8>) -> io::Result<NewMap>
+    requires { length zones.items ≡ 4096000 }
+{
+    let mut zones = zones;
     let raw = record();
     zones[4..64].copy_from_slice(&raw);
     let Ok(r) = read_record(&raw) else {

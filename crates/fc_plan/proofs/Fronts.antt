@@ -25,7 +25,7 @@ use Rattle.fc_plan.proofs.Composed.{found_some}
 abbrev pub as_hole : ZoneRun → ZoneRun
 as_hole p = (p.0, record p.1 { kind = Hole })
 
-fronts_of : (xs : List ZoneRun) → fronts (map part_of xs) ≡ map as_hole xs
+pub fronts_of : (xs : List ZoneRun) → fronts (map part_of xs) ≡ map as_hole xs
 fronts_of [] = refl
 fronts_of (x ∷ xs) = ap (λ (ys : List ZoneRun). as_hole x ∷ ys) (fronts_of xs)
 

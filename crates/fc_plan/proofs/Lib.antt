@@ -13,6 +13,7 @@ pub mod Spaces
 pub mod Passes
 pub mod GivenRuns
 pub mod Composed
+pub mod FirstFit
 pub mod Fronts
 pub mod Moved
 pub mod Applies

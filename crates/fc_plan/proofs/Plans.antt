@@ -86,7 +86,7 @@ counted place (p ∷ ps) some = elim (either_test (stands_at place p)) [
   | inr other ↦ (let rest = counted place ps (omega (arith, count_other place p ps other)) in (rest.0, (suc rest.1.0, omega (arith, rest.1.1), rest.1.2), rest.2))
 ]
 
-once_of : (g : Geometry) (holes parts : List ZoneRun) → All (IsFrontOfOne g holes) parts → AreApart parts → (place : ZoneRun) → count_at place parts ≤ count_at place holes
+pub once_of : (g : Geometry) (holes parts : List ZoneRun) → All (IsFrontOfOne g holes) parts → AreApart parts → (place : ZoneRun) → count_at place parts ≤ count_at place holes
 once_of g holes parts fronts apart place = go (count_at place parts) refl
   where
     go : (n : ℕ) → count_at place parts ≡ n → n ≤ count_at place holes
@@ -106,18 +106,25 @@ cut_of_plan g holes bits parts plan = record {
   long = plan.long;
 }
 
--- ---- what it leaves
+-- ---- what parts leave
+
+module _ (g : Geometry) (holes parts : List ZoneRun) (some : 0 < g.min) (free : AreFreeRuns g holes) (fronts : All (IsFrontOfOne g holes) parts) where
+  pub left_by_parts : Rising parts → left_of_both holes parts ≡ holes_left holes parts
+  left_by_parts rising =
+      sym (left_is holes parts (weaken_all (IsFreeRun g) (λ (p : ZoneRun). 0 < p.1.len) (λ p f. let long = f.long.0 in omega arith) holes free.each) free.order rising
+      (recursion_from_All (StandsIn holes) parts (λ k d in'. let f = fronts k d in' in stands_in holes f.0 (get_or parts k d) f.1 f.2.at_front)))
+
+  pub parts_leave_free : All (HasRunLength g) parts → AreFreeRuns g (left_of_both holes parts)
+  parts_leave_free long =
+      let h = left-free g holes parts (are_fronts g holes parts (free_apart g holes some free) fronts) (recursion_from_All (HasRunLength g) parts long) free.each free.order in
+      record { each = h.0; order = h.1 }
 
 module _ (g : Geometry) (holes parts : List ZoneRun) (some : 0 < g.min) (free : AreFreeRuns g holes) (bits : ℕ) (plan : IsPlan g holes bits parts) where
   pub left_of_plan : left_of_both holes parts ≡ holes_left holes parts
-  left_of_plan =
-      sym (left_is holes parts (weaken_all (IsFreeRun g) (λ (p : ZoneRun). 0 < p.1.len) (λ p f. let long = f.long.0 in omega arith) holes free.each) free.order (rising_of parts plan.rising)
-      (recursion_from_All (StandsIn holes) parts (λ k d in'. let f = plan.taken.fronts k d in' in stands_in holes f.0 (get_or parts k d) f.1 f.2.at_front)))
+  left_of_plan = left_by_parts g holes parts some free plan.taken.fronts (rising_of parts plan.rising)
 
   pub left_is_free : AreFreeRuns g (left_of_both holes parts)
-  left_is_free =
-      let h = left-free g holes parts (are_fronts g holes parts (free_apart g holes some free) plan.taken.fronts) (recursion_from_All (HasRunLength g) parts plan.long) free.each free.order in
-      record { each = h.0; order = h.1 }
+  left_is_free = parts_leave_free g holes parts some free plan.taken.fronts plan.long
 
 -- ---- the shortest run
 

@@ -3,6 +3,7 @@
 
 mod applying;
 mod changing;
+mod fitting;
 mod giving;
 mod laws;
 mod plan;

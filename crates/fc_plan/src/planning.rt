@@ -1,12 +1,12 @@
 // Which fronts of which holes are taken: as few holes as can be.
 
-ghost use Rattle.std.specs.Prelude.{◌≡◌, ◌<◌, ◌≤◌, ◌+◌, ◌*◌, ◌%◌, ◌++◌, ℕ, nat_le, All, IfOk, IfSome, IfNone, MatchOption, OnOk};
+ghost use Rattle.std.specs.Prelude.{◌≡◌, ◌<◌, ◌≤◌, ◌+◌, ◌*◌, ◌%◌, ◌++◌, ℕ, max, nat_le, All, IfOk, IfSome, IfNone, MatchOption, OnOk};
 ghost use Rattle.std.specs.List.{find};
 ghost use Rattle.std.specs.Option.{option_to_list};
 ghost use Rattle.fc_record.specs.declared.Geometry.{Geometry};
 ghost use Rattle.fc_newmap.specs.Map.{bits_in};
 ghost use Rattle.fc_newmap.specs.NewMap.{IsOfRecord};
-ghost use Rattle.fc_effects.specs.Placed.{HasRunLength, IsFront, IsPlan, holes_left, left_behind, stands_at};
+ghost use Rattle.fc_effects.specs.Placed.{HasRunLength, IsFront, IsPlan, front_of, holes_left, left_behind, stands_at};
 ghost use Rattle.fc_plan.specs.Plan.{AreFreeRuns, IsChoice, IsLast, first_at, left_of_both, rest_at};
 
 use fc_device::NoMemory;
@@ -22,8 +22,8 @@ pub struct Taking {
     pub left: Vec<(u16, Run)>,
 }
 
-// What is taken of a hole for bits that are still missing: no less than `min`, and all of it if less would stay.
-fn front_of(hole: (u16, Run), missing: u64, min: u32) -> (u16, Run)
+/// What is taken of a hole for bits that are still missing: no less than `min`, and all of it if less would stay.
+pub fn front_of(hole: (u16, Run), missing: u64, min: u32) -> (u16, Run)
     requires some { 0 < missing }
     requires has { missing ≤ hole.1.len }
     requires long { min ≤ hole.1.len }
@@ -33,6 +33,7 @@ fn front_of(hole: (u16, Run), missing: u64, min: u32) -> (u16, Run)
     ensures enough { missing ≤ result.1.len }
     ensures few_more { result.1.len < missing + 2 * min }
     ensures whole { (q : ℕ) → hole.1.len % q ≡ 0 → missing % q ≡ 0 → min % q ≡ 0 → result.1.len % q ≡ 0 }
+    ensures exact { (g : Geometry) → g.min ≡ min → result ≡ front_of g (max missing min) hole }
 {
     let (z, run) = hole;
     let len = (missing as u32).max(min);
@@ -43,8 +44,8 @@ fn front_of(hole: (u16, Run), missing: u64, min: u32) -> (u16, Run)
     }
 }
 
-// The place of the first hole that has all the bits.
-fn first_fit(holes: &[(u16, Run)], bits: u64) -> Option<(u16, Run)>
+/// The first hole that has all the bits.
+pub fn first_fit(holes: &[(u16, Run)], bits: u64) -> Option<(u16, Run)>
     ensures { result ≡ find (λ hole. nat_le bits hole.1.len) holes.now }
 {
     holes
@@ -53,8 +54,8 @@ fn first_fit(holes: &[(u16, Run)], bits: u64) -> Option<(u16, Run)>
         .find(|hole| bits <= u64::from(hole.1.len))
 }
 
-// Where holes are taken from the first on: the place of the last one, and the bits that it has to give.
-fn last_needed(holes: &[(u16, Run)], bits: u64) -> Option<(usize, u64)>
+/// Where holes are taken from the first on: the place of the last one, and the bits that it has to give.
+pub fn last_needed(holes: &[(u16, Run)], bits: u64) -> Option<(usize, u64)>
     requires { 0 < bits }
     ensures last { IfSome result (λ last. IsLast holes.now bits last.0 last.1) }
     ensures none { IfNone result (bits_in holes.now < bits) }
@@ -179,8 +180,8 @@ fn rest_at(hole: (u16, Run), parts: &[(u16, Run)]) -> &[(u16, Run)]
     }
 }
 
-// What parts leave of holes, both rising.
-fn holes_left(
+/// What parts leave of holes, both rising.
+pub fn holes_left(
     alloc: Global,
     holes: &[(u16, Run)],
     parts: &[(u16, Run)],

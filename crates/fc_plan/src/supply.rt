@@ -1,16 +1,19 @@
 // The space of a map that is not spoken for, from which the plans of one command are taken one after another.
 
-ghost use Rattle.std.specs.Prelude.{◌≡◌, ◌<◌, ◌+◌, ◌^◌, ◌++◌, ◌∷◌, [], filter, length, IfOk, IfSome, IsErrOf, MatchOption, OnErr, OnOk};
+ghost use Rattle.std.specs.Prelude.{◌≡◌, ◌<◌, ◌+◌, ◌^◌, ◌++◌, ◌∷◌, [], filter, length, map, None, Some, IfOk, IfSome, IsErrOf, MatchOption, OnErr, OnOk};
+ghost use Rattle.std.specs.Option.{option_map};
 ghost use Rattle.fc_record.specs.Record.{id_limit};
 ghost use Rattle.fc_newmap.specs.Map.{all_runs, bits_in, is_hole};
 ghost use Rattle.fc_newmap.specs.NewMap.{IsOfRecord};
 ghost use Rattle.fc_effects.specs.Placed.{IsPlan, holes_left};
 ghost use Rattle.fc_effects.specs.Sharing.{units};
-ghost use Rattle.fc_plan.specs.Parts.{fronts};
+ghost use Rattle.fc_safe.specs.FirstFit.{first_fit};
+ghost use Rattle.fc_plan.specs.Parts.{fronts, part_of};
 ghost use Rattle.fc_plan.specs.Plan.{AreFreeRuns, AreParts};
 ghost use Rattle.fc_plan.specs.Supply.{IsSurvey, marked, stock_of, unused_from};
 ghost use Rattle.fc_plan.specs.declared.supply.PlanError.TheVariants as errors;
 
+use crate::fitting::first_fitting;
 use crate::plan::as_parts;
 use crate::planning::fewest;
 use crate::{Part, Plan};
@@ -160,6 +163,34 @@ fn cut_from(alloc: Global, holes: &[(u16, Run)], g: &Geometry, bytes: u64) -> Re
     })
 }
 
+// Takes the bits of so many bytes from holes by first fit.
+fn cut_first(
+    alloc: Global,
+    holes: &[(u16, Run)],
+    g: &Geometry,
+    bytes: u64,
+) -> Result<Cut, PlanError>
+    requires some { 0 < bytes }
+    requires few { bytes < 2 ^ 63 }
+    requires record { IsOfRecord g.now }
+    requires holes { AreFreeRuns g.now holes.now }
+    ensures fit { IfOk result (λ t. option_map (map part_of) (first_fit g.now (units g.now bytes) holes.now) ≡ Some t.parts.items) }
+    ensures cut { IfOk result (λ t. AreParts g.now holes.now (fronts t.parts.items)) }
+    ensures left { IfOk result (λ t. t.left.items ≡ holes_left holes.now (fronts t.parts.items)) }
+    ensures free { IfOk result (λ t. AreFreeRuns g.now t.left.items) }
+    ensures full { IsErrOf result PlanError.DiscFull → first_fit g.now (units g.now bytes) holes.now ≡ None }
+    ensures ids { IsErrOf result PlanError.IdsFull → ⊥ }
+{
+    let Some(taking) = first_fitting(alloc, holes, units(g, bytes), g)? else {
+        return Err(PlanError::DiscFull);
+    };
+    let parts = as_parts(alloc, &taking.parts)?;
+    Ok(Cut {
+        parts,
+        left: taking.left,
+    })
+}
+
 impl Supply {
     /// All holes and unused identifiers of a map, found in one pass over its runs.
     pub fn new(alloc: Global, map: &NewMap) -> Result<Supply, NoMemory>
@@ -209,6 +240,47 @@ impl Supply {
             return Err(PlanError::IdsFull);
         };
         let cut = cut_from(alloc, &self.holes, &self.geometry, bytes)?;
+        self.holes = cut.left;
+        self.next = id + 1;
+        Ok(Plan {
+            id: id as u32,
+            parts: cut.parts,
+        })
+    }
+
+    /// Plans parts for so many bytes by first fit, without an identifier. `DiscFull` exactly where the first fit fails.
+    pub fn take_first(&mut self, alloc: Global, bytes: u64) -> Result<Vec<Part>, PlanError>
+        requires some { 0 < bytes }
+        requires few { bytes < 2 ^ 63 }
+        ensures fit { IfOk result (λ parts. option_map (map part_of) (first_fit self.old.geometry (units self.old.geometry bytes) self.old.holes) ≡ Some parts.items) }
+        ensures cut { IfOk result (λ parts. AreParts self.old.geometry self.old.holes (fronts parts.items)) }
+        ensures rest { IfOk result (λ parts. self.new ≡ record self.old { holes = holes_left self.old.holes (fronts parts.items) }) }
+        ensures full { IsErrOf result PlanError.DiscFull → first_fit self.old.geometry (units self.old.geometry bytes) self.old.holes ≡ None }
+        ensures ids { IsErrOf result PlanError.IdsFull → ⊥ }
+        ensures err { OnErr result (self.new ≡ self.old) }
+    {
+        let cut = cut_first(alloc, &self.holes, &self.geometry, bytes)?;
+        self.holes = cut.left;
+        Ok(cut.parts)
+    }
+
+    /// Plans an object of so many bytes by first fit: the least identifier that is left, and parts. `IdsFull` exactly
+    /// where no identifier is left, `DiscFull` exactly where one is and the first fit fails.
+    pub fn plan_first(&mut self, alloc: Global, bytes: u64) -> Result<Plan, PlanError>
+        requires some { 0 < bytes }
+        requires few { bytes < 2 ^ 63 }
+        ensures fit { IfOk result (λ plan. option_map (map part_of) (first_fit self.old.geometry (units self.old.geometry bytes) self.old.holes) ≡ Some plan.parts.items) }
+        ensures cut { IfOk result (λ plan. AreParts self.old.geometry self.old.holes (fronts plan.parts.items)) }
+        ensures id { IfOk result (λ plan. self.old.ids ≡ plan.id ∷ self.new.ids) }
+        ensures rest { IfOk result (λ plan. self.new ≡ record self.old { holes = holes_left self.old.holes (fronts plan.parts.items); ids = self.new.ids }) }
+        ensures ids { IsErrOf result PlanError.IdsFull → self.old.ids ≡ [] }
+        ensures full { IsErrOf result PlanError.DiscFull → (self.old.ids ≡ [] → ⊥) × (first_fit self.old.geometry (units self.old.geometry bytes) self.old.holes ≡ None) }
+        ensures err { OnErr result (self.new ≡ self.old) }
+    {
+        let Some(id) = next_unused(&self.used, self.next) else {
+            return Err(PlanError::IdsFull);
+        };
+        let cut = cut_first(alloc, &self.holes, &self.geometry, bytes)?;
         self.holes = cut.left;
         self.next = id + 1;
         Ok(Plan {

@@ -102,6 +102,42 @@ fn is_planned(alloc: Global, lens: &[u32], bytes: u64, want: &[(u32, u32)]) -> b
     }
 }
 
+// By first fit, the front of the first hole that has the bits, or holes from the first one on.
+const FIRST_FITS: &[Row] = &[
+    (&[18, 18], 5120, &[(544, 18), (578, 18)]),
+    (&[18, 18], 4096, &[(544, 18)]),
+    (&[16, 64, 40], 4608, &[(576, 18)]),
+    (&[16, 16, 64], 17_920, &[(544, 16), (576, 16), (608, 38)]),
+    (&[16, 16, 64], 16_896, &[(544, 16), (576, 16), (608, 34)]),
+];
+
+// Whether an object of so many bytes gets these parts by first fit.
+fn is_fitted(alloc: Global, lens: &[u32], bytes: u64, want: &[(u32, u32)]) -> bool {
+    if bytes == 0 || bytes > 1 << 32 {
+        return false;
+    }
+    let Some(map) = with_holes(alloc, lens) else {
+        return false;
+    };
+    let Ok(mut supply) = Supply::new(alloc, &map) else {
+        return false;
+    };
+    match supply.plan_first(alloc, bytes) {
+        Ok(plan) => plan.id == 3 && are_parts(&plan.parts, want),
+        Err(_) => false,
+    }
+}
+
+#[test]
+fn takes_the_first_holes(rt: HostRuntime) -> Result<(), Fail> {
+    let alloc = rt.alloc();
+    for (i, (holes, bytes, parts)) in FIRST_FITS.iter().enumerate() {
+        assert!(rt; is_fitted(alloc, holes, *bytes, parts), "row {i}");
+    }
+    assert!(rt; !is_fitted(alloc, &[16, 16], 8448, &[]));
+    Ok(())
+}
+
 #[test]
 fn takes_the_fewest_holes(rt: HostRuntime) -> Result<(), Fail> {
     let alloc = rt.alloc();

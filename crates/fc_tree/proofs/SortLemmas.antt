@@ -1,5 +1,5 @@
 -- An index is made by one sort.
-use Rattle.std.proofs.Common.{◌≡◌, ◌<◌, ℕ, zero, suc, ◌+◌, true, false, cond, List, [], ◌∷◌, ◌++◌, length, get_or, map, Option, Some, None, eqb, refl, sym, ap, ap₂, ◌∙◌, subst, arith}
+use Rattle.std.proofs.Common.{◌≡◌, ◌<◌, ℕ, zero, suc, ◌+◌, true, false, cond, List, [], ◌∷◌, length, get_or, map, Option, Some, None, eqb, refl, sym, ap, ap₂, ◌∙◌, subst, arith}
 use Rattle.std.specs.Prelude.{is_some, count_by, slice_index, All}
 use Rattle.std.specs.List.{AllByRecursion, range_with_len, IsDistinct, slice_get}
 use Rattle.std.specs.List.Sorted.{IsSorted, IsSortedBy}
@@ -8,17 +8,16 @@ use Rattle.std.specs.Ordering.{is_lt}
 use Rattle.std.specs.Cmp.{IsStrictWeakOrder}
 use Rattle.std.proofs.lemmas.Bool.{eqb-false}
 use Rattle.std.proofs.lemmas.Bool.Decides.{nat_tests}
-use Rattle.std.proofs.lemmas.List.{get_or-map, get_or_default, length-map, map-append}
-use Rattle.std.proofs.lemmas.List.FromFn.{length-map-range_with_len, get_or-map-range_with_len, map-range_with_len_more}
+use Rattle.std.proofs.lemmas.List.{get_or-map, get_or_default, length-map}
+use Rattle.std.proofs.lemmas.List.FromFn.{length-map-range_with_len, get_or-map-range_with_len}
 use Rattle.std.proofs.lemmas.List.Sums.{sum_by-cons}
 use Rattle.std.proofs.lemmas.List.Sorted.{IsPermutation-map, length_permutation, All-permutation, Contains-permutation, ranks_by, sorted_far}
 use Rattle.std.proofs.lemmas.Map.Keys.{IsDistinct-IsPermutation, apart_from_distinct}
-use Rattle.std.proofs.lemmas.Option.{slice_get-get_or, slice_get-map, slice_get_within}
+use Rattle.std.proofs.lemmas.Option.{slice_get-map, slice_get_within}
 use Rattle.fc_tree.specs.declared.node.Node.{Node}
-use Rattle.fc_tree.specs.declared.index.Place.{Place}
 use Rattle.fc_tree.specs.Slots.{slot_at}
 use Rattle.fc_tree.specs.Index.{Key, key_cmp, key_of, is_before, IsIndex}
-use Rattle.fc_tree.specs.Places.{AreSorted, key_in, keys_of, shown}
+use Rattle.fc_tree.specs.Places.{AreSorted, key_in, keys_of}
 use Rattle.fc_tree.proofs.KeyLemmas.{key_total, key_flipped, before_node}
 
 number : Key → ℕ
@@ -32,28 +31,20 @@ no_key = record { holder = 0; name = []; number = 0 }
 
 -- ---- the keys
 
--- one more key
-pub keys_pushed : (nodes : List Node) (places new : List Place) (x : Place) (node : Node) (i : ℕ) → i < length nodes → new ≡ places ++ x ∷ [] → shown x ≡ key_of i node
-    → node ≡ get_or nodes i node → map shown places ≡ keys_of nodes i → map shown new ≡ keys_of nodes (i + 1)
-keys_pushed nodes places new x node i within is place here before =
-    let there : slice_get nodes i ≡ Some node = slice_get-get_or nodes i node within ∙ ap Some (sym here) in
-    let one : shown x ≡ key_in nodes i = place ∙ sym (ap (λ o. option_map_or (key_of i) o (record { holder = 0; name = []; number = i })) there) in
-    ap (map shown) is ∙ map-append shown places (x ∷ []) ∙ ap₂ (λ a b. a ++ b ∷ []) before one ∙ sym (map-range_with_len_more (λ k. key_in nodes k) 0 i i (omega arith))
-
 names_rank : IsStrictWeakOrder (λ a b. is_lt (key_cmp a b))
 names_rank = ranks_by key_total (λ (k : Key). k)
 
-pub places_rank : IsStrictWeakOrder (λ a b. is_lt (key_cmp (shown a) (shown b)))
-places_rank = ranks_by key_total shown
+pub numbers_rank : (nodes : List Node) → IsStrictWeakOrder (λ a b. is_lt (key_cmp (key_in nodes a) (key_in nodes b)))
+numbers_rank nodes = ranks_by key_total (key_in nodes)
 
--- keys are in order where their places are
-pub sorted_map : (places : List Place) → IsSortedBy (λ a b. is_lt (key_cmp (shown a) (shown b))) places → IsSorted key_cmp (map shown places)
-sorted_map [] sorted k d low high = absurd (omega arith)
-sorted_map (p ∷ places) sorted k d low high =
-    let second : k + 1 < length (p ∷ places) = omega (arith, high, length-map (p ∷ places) shown) in
-    let up = get_or-map shown (p ∷ places) (k + 1) p d second in
-    let down = get_or-map shown (p ∷ places) k p d (omega (arith, second)) in
-    ap₂ (λ a b. is_lt (key_cmp a b)) up down ∙ sorted k p low second
+-- keys are in order where their numbers are
+pub sorted_map : (nodes : List Node) (order : List ℕ) → IsSortedBy (λ a b. is_lt (key_cmp (key_in nodes a) (key_in nodes b))) order → IsSorted key_cmp (map (key_in nodes) order)
+sorted_map nodes [] sorted k d low high = absurd (omega arith)
+sorted_map nodes (n ∷ order) sorted k d low high =
+    let second : k + 1 < length (n ∷ order) = omega (arith, high, length-map (n ∷ order) (key_in nodes)) in
+    let up = get_or-map (key_in nodes) (n ∷ order) (k + 1) n d second in
+    let down = get_or-map (key_in nodes) (n ∷ order) k n d (omega (arith, second)) in
+    ap₂ (λ a b. is_lt (key_cmp a b)) up down ∙ sorted k n low second
 
 -- ---- their numbers
 
@@ -176,6 +167,10 @@ index_sorted nodes keys order sorted is = (record { known = known; listed = list
       ∙ ap₂ (λ x y. is_lt (key_cmp x y)) first last
       ∙ key_flipped b a (sorted_far (λ x y. is_lt (key_cmp x y)) names_rank keys sorted.sorted i j no_key (omega (arith, lt)) (omega (arith, high, long))) (apart i j lt high)
 
-pub numbers_shown : (places : List Place) → map (λ (p : Place). p.number) places ≡ map (λ (k : Key). k.number) (map shown places)
-numbers_shown [] = refl
-numbers_shown (p ∷ places) = ap (λ l. p.number ∷ l) (numbers_shown places)
+pub keys_numbers : (nodes : List Node) (order : List ℕ) → map (λ (k : Key). k.number) (map (key_in nodes) order) ≡ order
+keys_numbers nodes [] = refl
+keys_numbers nodes (n ∷ order) = ap₂ (λ i l. i ∷ l) (by (slice_get nodes n)) (keys_numbers nodes order)
+  where
+    by : (o : Option Node) → (option_map_or (key_of n) o (record { holder = 0; name = []; number = n })).number ≡ n
+    by None = refl
+    by (Some node) = refl

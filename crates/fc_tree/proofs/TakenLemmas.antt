@@ -8,7 +8,7 @@ use Rattle.std.proofs.lemmas.Bool.{cases_eq, cases_lt, eq-eqb, le-ltb, lt-ltb, n
 use Rattle.std.proofs.lemmas.List.{get_or-set_other, get_or-set_same}
 use Rattle.std.proofs.lemmas.Option.{slice_get-get_or}
 use Rattle.std.proofs.lemmas.Grind.{flat_map-append}
-use Rattle.std.proofs.lemmas.Nat.Bits.{bit_at_ones, bit_at_set_other, bit_at_set_same}
+use Rattle.std.proofs.lemmas.Nat.Bits.{bit_at-zero, bit_at_ones, bit_at_set_other, bit_at_set_same}
 use Rattle.fc_device.specs.declared.disk.Extent.{Extent}
 use Rattle.fc_newmap.proofs.CoverLemmas.{range_cut}
 use Rattle.fc_newmap.proofs.PlaceLemmas.{in_front, in_back, in_either, in_range, range_in}
@@ -118,30 +118,42 @@ taken_more m xs ys zs taken is all s low =
     all s low ∙ among_append xs (ys ++ taken) s ∙ ap (λ (b : Bool). is_among xs s || b) (among_append ys taken s) ∙ or_swap (is_among xs s) (is_among ys s) (is_among taken s)
     ∙ sym (ap (λ (b : Bool). b || is_among taken s) (ap (λ (l : List ℕ). is_among l s) is ∙ among_append ys xs s)) ∙ sym (among_append zs taken s)
 
--- a word of sectors is marked
-pub word_marked : (words words' : List ℕ) (sectors at : ℕ) → at % 64 ≡ 0 → at + 64 ≤ sectors → sectors ≤ 64 * length words
-    → words' ≡ set words (at / 64) (2 ^ 64 - 1)
-    → (s : ℕ) → has_mark (record { words = words'; sectors = sectors }) s ≡ (is_among (range_with_len at 64) s || has_mark (record { words = words; sectors = sectors }) s)
-word_marked words words' sectors at first low long is s = elim (cases_eq (s / 64) (at / 64)) [
-  | inl here ↦ (
-      let bit : bit_at (get_or words' (s / 64) 0) (s % 64) ≡ 1 =
-      ap (λ (n : ℕ). bit_at (get_or words' n 0) (s % 64)) here
-      ∙ ap (λ (ws : List ℕ). bit_at (get_or ws (at / 64) 0) (s % 64)) is
-      ∙ ap (λ (n : ℕ). bit_at n (s % 64)) (get_or-set_same words (at / 64) (2 ^ 64 - 1) 0 (let f : at / 64 < length words = omega (arith, low, long) in f))
-      ∙ bit_at_ones 64 (s % 64) (omega arith) in
-      both_true (nat_lt s sectors) (bit_at (get_or words' (s / 64) 0) (s % 64) == 1) (lt-ltb s sectors (omega (arith, here, first, low))) (eq-eqb _ 1 bit)
-      ∙ sym (ap (λ (b : Bool). b || has_mark (record { words = words; sectors = sectors }) s) (in_range at 64 s (omega (arith, here, first)) (omega (arith, here, first)))))
-  | inr there ↦ (
-      let bit : bit_at (get_or words' (s / 64) 0) (s % 64) ≡ bit_at (get_or words (s / 64) 0) (s % 64) =
-      ap (λ (ws : List ℕ). bit_at (get_or ws (s / 64) 0) (s % 64)) is
-      ∙ ap (λ (n : ℕ). bit_at n (s % 64)) (get_or-set_other words (at / 64) (s / 64) (2 ^ 64 - 1) 0 there) in
-      ap (λ (n : ℕ). nat_lt s sectors && (n == 1)) bit
-      ∙ sym (ap (λ (b : Bool). b || has_mark (record { words = words; sectors = sectors }) s) (outside there (is_among (range_with_len at 64) s) refl)))
+-- the sectors of whole words are marked
+pub words_marked : (words words' : List ℕ) (sectors at from to : ℕ) → 64 * from ≡ at → 64 * to ≤ sectors → sectors ≤ 64 * length words
+    → ((k : ℕ) → from ≤ k → k < to → get_or words' k 0 ≡ 2 ^ 64 - 1) → ((k : ℕ) → k < from → get_or words' k 0 ≡ get_or words k 0) → ((k : ℕ) → to ≤ k → get_or words' k 0 ≡ get_or words k 0)
+    → (s : ℕ) → has_mark (record { words = words'; sectors = sectors }) s ≡ (is_among (range_with_len at (64 * to - at)) s || has_mark (record { words = words; sectors = sectors }) s)
+words_marked words words' sectors at from to first low long inside before behind s = elim (cases_lt (s / 64) from) [
+  | inl early ↦ unmarked (before (s / 64) early) (λ a b. omega (arith, early, first, a))
+  | inr later ↦ elim (cases_lt (s / 64) to) [
+    | inr late ↦ unmarked (behind (s / 64) late) (λ a b. omega (arith, late, first, b))
+    | inl here ↦ (
+        let bit : bit_at (get_or words' (s / 64) 0) (s % 64) ≡ 1 = ap (λ (n : ℕ). bit_at n (s % 64)) (inside (s / 64) later here) ∙ bit_at_ones 64 (s % 64) (omega arith) in
+        both_true (nat_lt s sectors) (bit_at (get_or words' (s / 64) 0) (s % 64) == 1) (lt-ltb s sectors (omega (arith, here, low))) (eq-eqb _ 1 bit)
+        ∙ sym (ap (λ (b : Bool). b || has_mark (record { words = words; sectors = sectors }) s) (in_range at (64 * to - at) s (omega (arith, later, first)) (omega (arith, here, first)))))
+  ]
 ]
   where
-    outside : (s / 64 ≡ at / 64 → ⊥) → (b : Bool) → is_among (range_with_len at 64) s ≡ b → is_among (range_with_len at 64) s ≡ false
-    outside there false e = e
-    outside there true e = absurd (let r = range_in at 64 s e in there (omega (arith, r.0, r.1, first)))
+    outside : (at ≤ s → s < at + (64 * to - at) → ⊥) → (b : Bool) → is_among (range_with_len at (64 * to - at)) s ≡ b → is_among (range_with_len at (64 * to - at)) s ≡ false
+    outside away false e = e
+    outside away true e = absurd (let r = range_in at (64 * to - at) s e in away r.0 r.1)
+
+    unmarked : get_or words' (s / 64) 0 ≡ get_or words (s / 64) 0 → (at ≤ s → s < at + (64 * to - at) → ⊥)
+        → has_mark (record { words = words'; sectors = sectors }) s ≡ (is_among (range_with_len at (64 * to - at)) s || has_mark (record { words = words; sectors = sectors }) s)
+    unmarked same away =
+        ap (λ (w : ℕ). nat_lt s sectors && (bit_at w (s % 64) == 1)) same
+        ∙ sym (ap (λ (b : Bool). b || has_mark (record { words = words; sectors = sectors }) s) (outside away (is_among (range_with_len at (64 * to - at)) s) refl))
+
+-- no sector of a word that is 0 is marked
+pub words_free : (m : Marks) (from to : ℕ) → ((k : ℕ) → from ≤ k → k < to → get_or m.words k 0 ≡ 0) → (s : ℕ) → 64 * from ≤ s → s < 64 * to → has_mark m s ≡ false
+words_free m from to zeros s low high =
+    ap (λ (w : ℕ). nat_lt s m.sectors && (bit_at w (s % 64) == 1)) (zeros (s / 64) (omega arith) (omega arith)) ∙ ap (λ (b : Bool). nat_lt s m.sectors && b) none ∙ and_false (nat_lt s m.sectors)
+  where
+    none : (bit_at 0 (s % 64) == 1) ≡ false
+    none = ap (λ (n : ℕ). n == 1) (bit_at-zero (s % 64))
+
+    and_false : (b : Bool) → (b && false) ≡ false
+    and_false true = refl
+    and_false false = refl
 
 -- more sectors of a row are marked
 pub row_more : (m m' : Marks) (first at next : ℕ) (taken : List ℕ) → first ≤ at → at ≤ next → m'.sectors ≡ m.sectors

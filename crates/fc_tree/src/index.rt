@@ -1,12 +1,12 @@
 // The index of nodes: their numbers, in the order of the directories that hold them, then of their names by folding, then
 // of the numbers themselves.
 ghost use Rattle.std.specs.Prelude.{◌≡◌, ◌<◌, ◌≤◌, Some, is_none, length, map, slice_index, vec_capacity, IsSome, IfOk};
-ghost use Rattle.std.specs.List.{insert, position_or_len};
+ghost use Rattle.std.specs.List.{insert, position_or_len, range_with_len};
 ghost use Rattle.fc_tree.specs.Slots.{slot_at};
 ghost use Rattle.fc_tree.specs.Index.{AreFull, IsIndex, IsRank, key_cmp, key_of};
 ghost use Rattle.fc_tree.specs.Index as index;
 ghost use Rattle.fc_tree.specs.Nodes.{child, nodes_of};
-ghost use Rattle.fc_tree.specs.Places.{AreSorted, keys_of, shown};
+ghost use Rattle.fc_tree.specs.Places.{key_in, shown};
 
 use crate::node::Node;
 use crate::slots::{is_child, node_at};
@@ -120,30 +120,36 @@ pub fn first_child(slots: &[Option<Node>], order: &[u64], dir: u64, name: &[u8])
     }
 }
 
-// The places of nodes that are numbered in their order.
-fn places_of(alloc: Global, nodes: &[Node]) -> Result<Vec<Place<'_>>, AllocError>
-    ensures { IfOk result (λ places. map shown places.items ≡ keys_of nodes.now (length nodes.now)) }
+// Where a number stands, of nodes that are numbered in their order.
+fn place_in(nodes: &[Node], n: u64) -> Place<'_>
+    ensures { shown result ≡ key_in nodes.now n }
 {
-    let mut places = Vec::with_capacity(alloc, nodes.len())?;
-    for (i, node) in nodes.iter().enumerate() {
-        places.push(place_of(i as u64, node))?;
+    match nodes.get(n as usize) {
+        Some(node) => place_of(n, node),
+        None => Place {
+            holder: 0,
+            name: &[],
+            number: n,
+        },
     }
-    Ok(places)
 }
 
-// The places in order.
-fn sorted_places(alloc: Global, nodes: &[Node]) -> Result<Vec<Place<'_>>, AllocError>
-    ensures { IfOk result (λ places. AreSorted nodes.now (map shown places.items)) }
+// Which of two numbers stands first.
+fn cmp_numbers(nodes: &[Node], a: u64, b: u64) -> Ordering
+    ensures { result ≡ key_cmp (key_in nodes.now a) (key_in nodes.now b) }
 {
-    let mut places = places_of(alloc, nodes)?;
-    places.sort_unstable_by(|a, b| cmp_places(a, b));
-    Ok(places)
+    cmp_places(&place_in(nodes, a), &place_in(nodes, b))
 }
 
-fn numbers_of(alloc: Global, places: &[Place<'_>]) -> Result<Vec<u64>, AllocError>
-    ensures { IfOk result (λ numbers. numbers.items ≡ map (λ place. place.number) places.now) }
+// The numbers of so many nodes.
+fn numbers_below(alloc: Global, count: u64) -> Result<Vec<u64>, AllocError>
+    ensures { IfOk result (λ numbers. numbers.items ≡ range_with_len 0 count) }
 {
-    places.iter().map(|place| place.number).collect(alloc)
+    let mut numbers = Vec::with_capacity(alloc, count as usize)?;
+    for n in 0..count {
+        numbers.push(n)?;
+    }
+    Ok(numbers)
 }
 
 // The index of nodes that are numbered in their order.
@@ -151,7 +157,7 @@ pub fn index_of(alloc: Global, nodes: &[Node]) -> Result<Vec<u64>, AllocError>
     ensures index { IfOk result (λ order. IsIndex (map Some nodes.now) order.items) }
     ensures all { IfOk result (λ order. length order.items ≡ length nodes.now) }
 {
-    let places = sorted_places(alloc, nodes)?;
-    let order = numbers_of(alloc, &places)?;
+    let mut order = numbers_below(alloc, nodes.len() as u64)?;
+    order.sort_unstable_by(|a, b| cmp_numbers(nodes, *a, *b));
     Ok(order)
 }

@@ -1,5 +1,5 @@
 // Slots, of which each has the node of its number, or none.
-ghost use Rattle.std.specs.Prelude.{◌≡◌, ◌<◌, ◌≤◌, false, [], ◌∷◌, ◌++◌, Some, None, length, map, slice_set, vec_capacity, IsSome, IfOk};
+ghost use Rattle.std.specs.Prelude.{◌≡◌, ◌<◌, ◌≤◌, false, [], ◌∷◌, ◌++◌, Some, None, length, map, slice_set, vec_capacity, vec_len, IsSome, IfOk};
 ghost use Rattle.std.specs.Option.{option_map, option_map_or};
 ghost use Rattle.fc_tree.specs.Slots.{is_child, slot_at};
 
@@ -26,11 +26,32 @@ pub fn is_child(slots: &[Option<Node>], n: u64, dir: u64, name: &[u8]) -> bool
     }
 }
 
-// The slots of nodes that are numbered in their order.
+// After how many nodes the memory that they had is given back.
+const AT_ONCE: usize = 4096;
+
+// Gives memory of nodes back that are gone, each time when so many are.
+fn shrink(nodes: &mut Vec<Node>)
+    ensures items { nodes.new.items ≡ nodes.old.items }
+    ensures len { vec_len nodes.new ≡ vec_len nodes.old }
+{
+    if nodes.len().is_multiple_of(AT_ONCE) {
+        nodes.shrink_to_fit();
+    }
+}
+
+// The slots of nodes. Nodes and slots at once would take twice the memory: so the nodes go from the last one on, and their
+// memory with them.
 pub fn slots_of(alloc: Global, nodes: Vec<Node>) -> Result<Vec<Option<Node>>, AllocError>
     ensures { IfOk result (λ slots. slots.items ≡ map Some nodes.items) }
 {
-    nodes.into_iter().map(Some).collect(alloc)
+    let mut nodes = nodes;
+    let mut slots = Vec::with_capacity(alloc, nodes.len())?;
+    while let Some(node) = nodes.pop() {
+        slots.push(Some(node))?;
+        shrink(&mut nodes);
+    }
+    slots.reverse();
+    Ok(slots)
 }
 
 // Takes a node out of its slot.

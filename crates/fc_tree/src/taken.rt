@@ -1,5 +1,5 @@
 // Which sectors of a disc are taken.
-ghost use Rattle.std.specs.Prelude.{◌≡◌, ◌<◌, ◌≤◌, ◌↔◌, ◌+◌, ◌-◌, ◌%◌, ◌||◌, ◌==◌, false, true, [], ◌++◌, List, ℕ, IfOk};
+ghost use Rattle.std.specs.Prelude.{◌≡◌, ◌<◌, ◌≤◌, ◌↔◌, ◌+◌, ◌-◌, ◌^◌, ◌%◌, ◌||◌, ◌==◌, false, true, [], ◌++◌, List, ℕ, IfOk, get_or, length};
 ghost use Rattle.std.specs.List.{range_with_len};
 ghost use Rattle.fc_image.specs.Layout.{is_among};
 ghost use Rattle.fc_objects.specs.Extents.{extent_sectors, sectors_in};
@@ -36,6 +36,34 @@ fn fills_word(sector: u64, end: u64) -> bool
     sector.is_multiple_of(64) && end - sector >= 64
 }
 
+// Sets the words from one place to another.
+fn set_words(words: &mut Vec<u64>, from: usize, to: usize)
+    requires order { from ≤ to }
+    requires within { to ≤ length words.old.items }
+    ensures inside { (k : ℕ) → from ≤ k → k < to → get_or words.new.items k 0 ≡ 2 ^ 64 - 1 }
+    ensures before { (k : ℕ) → k < from → get_or words.new.items k 0 ≡ get_or words.old.items k 0 }
+    ensures behind { (k : ℕ) → to ≤ k → get_or words.new.items k 0 ≡ get_or words.old.items k 0 }
+    ensures len { length words.new.items ≡ length words.old.items }
+{
+    words[from..to].fill(u64::MAX);
+}
+
+// The first word from one place to another that isn't 0, or the place after them.
+fn first_set(words: &[u64], from: usize, to: usize) -> usize
+    requires order { from ≤ to }
+    requires within { to ≤ length words.now }
+    ensures from { from ≤ result }
+    ensures to { result ≤ to }
+    ensures zeros { (k : ℕ) → from ≤ k → k < result → get_or words.now k 0 ≡ 0 }
+{
+    for place in from..to {
+        if words[place] != 0 {
+            return place;
+        }
+    }
+    to
+}
+
 impl Taken {
     /// No sector of a disc of so many is taken.
     pub fn new(alloc: Global, sectors: u64) -> Result<Taken, NoMemory>
@@ -60,14 +88,18 @@ impl Taken {
         self.words[(sector / 64) as usize] |= 1 << (sector % 64);
     }
 
-    // Takes the 64 sectors of a word.
-    fn mark_word(&mut self, sector: u64)
+    // Takes the sectors of the whole words from a sector to `end`, and answers the sector after them.
+    fn mark_words(&mut self, sector: u64, end: u64) -> u64
         requires first { sector % 64 ≡ 0 }
-        requires on_disc { sector + 64 ≤ self.old.sectors }
+        requires some { sector + 64 ≤ end }
+        requires on_disc { end ≤ self.old.sectors }
+        ensures from { sector < result }
+        ensures end { result ≤ end }
         ensures sectors { self.new.sectors ≡ self.old.sectors }
-        ensures marks { (s : ℕ) → has_mark self.new s ≡ (is_among (range_with_len sector 64) s || has_mark self.old s) }
+        ensures marks { (s : ℕ) → has_mark self.new s ≡ (is_among (range_with_len sector (result - sector)) s || has_mark self.old s) }
     {
-        self.words[(sector / 64) as usize] = u64::MAX;
+        set_words(&mut self.words, (sector / 64) as usize, (end / 64) as usize);
+        end - end % 64
     }
 
     // The sectors of the disc after the last of an extent's, if those are on the disc.
@@ -81,7 +113,20 @@ impl Taken {
             .min(self.sectors)
     }
 
-    // Up to which sector, of those before `end`, none from `sector` on is seen to be taken by one look: a whole word of
+    // The first of the whole words from a sector to `end` that has a mark, or the sector after them.
+    fn free_words(&self, sector: u64, end: u64) -> u64
+        requires first { sector % 64 ≡ 0 }
+        requires some { sector + 64 ≤ end }
+        requires on_disc { end ≤ self.now.sectors }
+        ensures from { sector ≤ result }
+        ensures end { result ≤ end }
+        ensures free { (s : ℕ) → sector ≤ s → s < result → has_mark self.now s ≡ false }
+    {
+        let word = first_set(&self.words, (sector / 64) as usize, (end / 64) as usize);
+        64 * word as u64
+    }
+
+    // Up to which sector, of those before `end`, none from `sector` on is seen to be taken by one look: whole words of
     // them, one of them, or none.
     fn free_to(&self, sector: u64, end: u64) -> u64
         requires on_disc { end ≤ self.now.sectors }
@@ -91,16 +136,16 @@ impl Taken {
         ensures free { (s : ℕ) → sector ≤ s → s < result → has_mark self.now s ≡ false }
         ensures taken { result ≡ sector → has_mark self.now sector ≡ true }
     {
-        if fills_word(sector, end) && self.words[(sector / 64) as usize] == 0 {
-            sector + 64
-        } else if self.has(sector) {
-            sector
-        } else {
-            sector + 1
+        if fills_word(sector, end) {
+            let free = self.free_words(sector, end);
+            if free > sector {
+                return free;
+            }
         }
+        if self.has(sector) { sector } else { sector + 1 }
     }
 
-    // Takes a whole word of sectors where those from `sector` to `end` fill one, or else one sector. Answers the sector after
+    // Takes the whole words of sectors that those from `sector` to `end` fill, or else one sector. Answers the sector after
     // them.
     fn mark_to(&mut self, sector: u64, end: u64) -> u64
         requires on_disc { end ≤ self.old.sectors }
@@ -111,8 +156,7 @@ impl Taken {
         ensures marks { (s : ℕ) → has_mark self.new s ≡ (is_among (range_with_len sector (result - sector)) s || has_mark self.old s) }
     {
         if fills_word(sector, end) {
-            self.mark_word(sector);
-            sector + 64
+            self.mark_words(sector, end)
         } else {
             self.mark(sector);
             sector + 1

@@ -1,0 +1,25 @@
+use Rattle.std.proofs.Common.{◌≡◌, false, get_or, replicate, subst, List}
+use Rattle.std.proofs.lemmas.List.{get_or_default, take_all}
+use Rattle.fc_alloc.specs.declared.owner.Owner.{Owner}
+use Rattle.fc_slack.specs.Lows.{AreLow}
+use Rattle.fc_slack.proofs.LowLemmas.{goes_on, set_off}
+use Rattle.fc_slack.proofs.lows.free_lows.Goals as goal
+
+abbrev none : Owner
+none = record { id = 0; dir = 0; node = 0; file = false; low = 0; first = 0; sectors = 0 }
+
+pub loop-o-init : goal.loop-o-init
+loop-o-init c =
+    let blank : c.in_ok-lows.lows.items ≡ replicate c.args.limit 1 = c.in_ok-lows.ensures.items_if_clones_equal (λ y e. e) in
+    set_off c.args.map.now c.args.need c.args.owners.now c.args.limit c.in_ok-lows.lows.items blank
+
+pub loop-o-preserved : goal.loop-o-preserved
+loop-o-preserved c =
+    let owners = c.args.owners.now in
+    let i = c.loop-o.o-index in
+    let o : Owner = get_or owners i none in
+    goes_on c.args.map.now c.args.need owners c.args.limit i o c.loop-o.lows.items c.move_low.new.lows.items c.loop-o-test.true (get_or_default owners i o none c.loop-o-test.true) c.requires.sorted c.move_low.ensures c.loop-o.invariant
+
+pub returns : goal.returns
+returns c =
+    subst (λ (owners : List Owner). AreLow c.args.map.now c.args.need owners c.args.limit c.loop-o.lows.items) (take_all c.loop-o.o-index c.args.owners.now c.loop-o-test.false) c.loop-o.invariant
