@@ -10,7 +10,7 @@ use Rattle.fc_record.specs.declared.Geometry.{Geometry}
 use Rattle.fc_record.specs.declared.Kind.{Kind}
 use Rattle.fc_zone.specs.declared.RunKind.{RunKind}
 use Rattle.fc_zone.specs.declared.RunKind.TheVariants as kinds
-use Rattle.fc_newmap.specs.Map.{Map, ZoneRun, all_runs, has_id, id_runs, is_used, map_sectors}
+use Rattle.fc_newmap.specs.Map.{Map, ZoneRun, all_runs, has_id, id_runs, is_used, map_sectors, sectors_of}
 use Rattle.fc_newmap.specs.NewMap.{IsNewMap}
 use Rattle.fc_newmap.specs.RunsLaw.{HasZones, HoldsSector, IsGeometry}
 use Rattle.fc_newmap.proofs.CoverLemmas.{run_there}
@@ -55,7 +55,7 @@ abbrev pub AreFixed : Map → Map → List Object → List Object → Type 0
 AreFixed m m' objects objects' = (k : ℕ) → is_movable objects k ≡ false → is_used m k ≡ true → (id_runs m' k ≡ id_runs m k) × (is_movable objects' k ≡ false)
 
 -- a loose sector of the new map was loose in the old one
-loose_before : (m m' : Map) (objects objects' : List Object) → m'.geometry ≡ m.geometry → IsGeometry m.geometry → HasZones m → HasZones m' → 1 ≤ m.geometry.zones
+pub loose_before : (m m' : Map) (objects objects' : List Object) → m'.geometry ≡ m.geometry → IsGeometry m.geometry → HasZones m → HasZones m' → 1 ≤ m.geometry.zones
     → AreFixed m m' objects objects' → (s : ℕ) → is_among (loose_sectors m' objects') s ≡ true → is_among (loose_sectors m objects) s ≡ true
 loose_before m m' objects objects' e is has has' some fixed s h =
     let test : ZoneRun → Bool = λ q. is_hole_or_movable objects' q.1.kind in
@@ -89,6 +89,18 @@ loose_before m m' objects objects' e is has has' some fixed s h =
 pub movable_shuffled : (objects others : List Object) (k : ℕ) → IsPermutation objects others → is_movable objects k ≡ is_movable others k
 movable_shuffled objects others k s = ap (λ b. ((k == 2) || b) && nat_le 3 k) (list_any-IsPermutation (is_owner_of k) objects others s)
 
+loose_shuffled : (objects others : List Object) → IsPermutation objects others → (k : RunKind) → is_hole_or_movable objects k ≡ is_hole_or_movable others k
+loose_shuffled objects others s kinds.Hole = refl
+loose_shuffled objects others s (kinds.Id k) = movable_shuffled objects others k s
+
+-- it doesn't count in which order the objects stand
+pub misplaced_shuffled : (kind : Kind) (m : Map) (objects others : List Object) → IsPermutation objects others
+    → misplaced_sector kind (Layout.New m) objects ≡ misplaced_sector kind (Layout.New m) others
+misplaced_shuffled kind m objects others s =
+    ap (λ (t : RunKind → Bool). least_of (filter (is_among (sectors_of m.geometry (filter (λ p. t p.1.kind) (all_runs m)))) (reserved_in kind (Layout.New m))
+    ++ filter (is_among (map_sectors m.geometry)) (boot_place kind m.geometry.sector)))
+    (λ i k. loose_shuffled objects others s k i)
+
 -- ---- sizes
 
 twice : (form : NameForm) (n : ℕ) → directory_size form (directory_size form n) ≡ directory_size form n
@@ -104,7 +116,7 @@ same_node n k e = cc
 same_number : (n k : ℕ) → (let q : Option ℕ = Some n in q) ≡ Some k → n ≡ k
 same_number n k e = cc
 
-root_node : (nodes : Nodes) (listings : List Listing) (o : Object) → o.path ≡ [] → HasNode nodes listings o → (node : Node) × (get nodes 0 ≡ Some node) × (node.entry ≡ o.entry)
+pub root_node : (nodes : Nodes) (listings : List Listing) (o : Object) → o.path ≡ [] → HasNode nodes listings o → (node : Node) × (get nodes 0 ≡ Some node) × (node.entry ≡ o.entry)
 root_node nodes listings o path h =
     let zero' : 0 ≡ h.number = same_number 0 h.number (ap (number_of nodes) (sym path) ∙ h.at_path) in
     (_, ap (get nodes) zero' ∙ h.is, refl)
@@ -116,28 +128,22 @@ module _ (kind : Kind) (m m' : Map) (nodes nodes' : Nodes) (owners owners' : Lis
   abbrev before : Had kind m nodes owners root listings a
   before = had kind m nodes owners root listings a
 
-  -- Objects go, come and change, and the nodes say so.
-  pub record IsPartsEdit : Type 0 where
+  -- Objects go, come and change, and the nodes say so. The root lies where these numbers say.
+  pub record IsAnyEdit (address size : ℕ) : Type 0 where
     pub is_map : IsNewMap m'
     pub geometry : m'.geometry ≡ m.geometry
     pub relisted : IsRelisting g listings listings' gone come kept
     pub few : length listings' ≤ length listings + 1
     pub say : StayListed (reader_of_nodes nodes') (Layout.New m') listings'
-    pub top_stays : g before.top ≡ before.top
-    pub top_placed : KeepsPlace m m' before.top
+    pub root_now : IsRoot (Layout.New m') address size (g before.top)
+    pub whole : directory_size (dir_form (Layout.New m')) size ≡ size
     pub apart : Apart (reserved_in kind (Layout.New m)) (come ++ map g (before.top ∷ kept))
-    pub fixed : AreFixed m m' (objects_of listings) (come ++ map g (before.top ∷ kept))
+    pub clear : misplaced_sector kind (Layout.New m') (come ++ map g (before.top ∷ kept)) ≡ None
     pub forms : (l : Listing) → Contains listings' l → HasForm (dir_form (Layout.New m')) l.object.entry.len l.content
     pub bodies : (l : Listing) → Contains listings' l → IsDirectory l.content
     pub follow : PartsFollow nodes' owners' (Layout.New m') listings'
 
-  module _ (e : IsPartsEdit) where
-    abbrev address : ℕ
-    address = root.entry.address
-
-    abbrev size : ℕ
-    size = root.entry.len
-
+  module _ (address size : ℕ) (e : IsAnyEdit address size) where
     abbrev layout : Layout
     layout = Layout.New m
 
@@ -156,34 +162,25 @@ module _ (kind : Kind) (m m' : Map) (nodes nodes' : Nodes) (owners owners' : Lis
     disc_same : disc_sectors layout' ≡ disc_sectors layout
     disc_same = ap (λ (y : Geometry). y.disc_bits * y.bit_bytes / y.sector) e.geometry
 
-    form_same : dir_form layout' ≡ dir_form layout
-    form_same = ap (λ (y : Geometry). let f : NameForm = cond (y.version == 0) Ten Long in f) e.geometry
-
-    root_now : IsRoot layout' address size before.top
-    root_now = record {
-      path = before.is_root.path;
-      entry = before.is_root.entry ∙ ap (λ (f : NameForm). root_entry address (directory_size f size)) (sym form_same);
-      placed = places_law m m' before.top e.geometry e.top_placed before.is_root.placed;
-    }
-
-    is : IsWalkEdit (reader_of_nodes nodes) read' layout layout' held_back held_back address address size size g listings listings' gone come kept
+    is : IsWalkEdit (reader_of_nodes nodes) read' layout layout' held_back held_back root.entry.address address root.entry.len size g listings listings' gone come kept
     is = record {
       walked = a.walked.walked;
       relisted = e.relisted;
       say = e.say;
-      root = λ p r. subst (λ (o : Object). IsRoot layout' address size (g o)) (root_once layout address size before.top p before.is_root r) (subst (IsRoot layout' address size) (sym e.top_stays) root_now);
-      apart = λ p r. subst (λ (o : Object). Apart held_back (come ++ map g (o ∷ kept))) (root_once layout address size before.top p before.is_root r) e.apart;
+      root = λ p r. subst (λ (o : Object). IsRoot layout' address size (g o)) (root_once layout root.entry.address root.entry.len before.top p before.is_root r) e.root_now;
+      apart = λ p r. subst (λ (o : Object). Apart held_back (come ++ map g (o ∷ kept))) (root_once layout root.entry.address root.entry.len before.top p before.is_root r) e.apart;
       room = (let few = e.few in let most = room kind m nodes owners root listings a in omega (arith, few, most, disc_same));
     }
 
-    again : IsWalkedAgain read' layout layout' held_back address address size size g listings listings' gone come kept
-    again = edited_walk_law.again (reader_of_nodes nodes) read' layout layout' held_back held_back address address size size g listings listings' gone come kept is
+    again : IsWalkedAgain read' layout layout' held_back root.entry.address address root.entry.len size g listings listings' gone come kept
+    again = edited_walk_law.again (reader_of_nodes nodes) read' layout layout' held_back held_back root.entry.address address root.entry.len size g listings listings' gone come kept is
 
     abbrev found : List Listing
     found = again.found
 
     objects_now : IsPermutation (objects_of found) (come ++ map g (before.top ∷ kept))
-    objects_now = subst (λ (o : Object). IsPermutation (objects_of found) (come ++ map g (o ∷ kept))) (root_once layout address size again.root before.top again.is_root before.is_root) again.after
+    objects_now =
+        subst (λ (o : Object). IsPermutation (objects_of found) (come ++ map g (o ∷ kept))) (root_once layout root.entry.address root.entry.len again.root before.top again.is_root before.is_root) again.after
 
     listed_back : (l : Listing) → Contains found l → Contains listings' l
     listed_back l at = Contains-permutation found listings' l (IsPermutation-sym listings' found again.order) at
@@ -204,13 +201,6 @@ module _ (kind : Kind) (m m' : Map) (nodes nodes' : Nodes) (owners owners' : Lis
     held_now : HoldObjects nodes' found
     held_now = e.follow.nodes_follow.hold layout' found sound_now again.order
 
-    -- the root's length is that of its object
-    root_size : size ≡ directory_size (dir_form layout) size
-    root_size =
-        let was = root_node nodes listings before.top before.is_root.path (a.walked.held.each before.top (subst (λ (os : List Object). Contains os before.top) (sym before.objects) (first_in before.top (held listings)))) in
-        let same : root ≡ was.0 = same_node root was.0 (sym a.root_is ∙ was.1) in
-        ap (λ (n : Node). n.entry.len) same ∙ ap (λ (x : Entry). x.len) was.2 ∙ ap (λ (x : Entry). x.len) before.is_root.entry
-
     root_after : (node : Node) × (get nodes' 0 ≡ Some node) × (node.entry.address ≡ address) × (node.entry.len ≡ size)
     root_after =
         let h = order_law.gives read' layout' held_back address size found again.walked in
@@ -218,36 +208,99 @@ module _ (kind : Kind) (m m' : Map) (nodes nodes' : Nodes) (owners owners' : Lis
           n.0,
           n.1,
           ap (λ (x : Entry). x.address) (n.2 ∙ h.1.entry),
-          ap (λ (x : Entry). x.len) (n.2 ∙ h.1.entry) ∙ ap (λ (f : NameForm). directory_size f size) form_same ∙ sym root_size,
+          ap (λ (x : Entry). x.len) (n.2 ∙ h.1.entry) ∙ e.whole,
         )
 
-    placed_now : misplaced_sector kind layout' (objects_of found) ≡ None
-    placed_now =
-        let fixed : AreFixed m m' (objects_of listings) (objects_of found) =
-        λ k h u. (let f = e.fixed k h u in (f.0, movable_shuffled (objects_of found) (come ++ map g (before.top ∷ kept)) k objects_now ∙ f.1)) in
-        let stuck = none_loose (loose_sectors m (objects_of listings)) held_back (tight kind m nodes owners root listings a) in
-        least_none (filter (is_among (loose_sectors m' (objects_of found))) (reserved_in kind layout')) (filter (is_among (map_sectors m'.geometry)) (boot_place kind m'.geometry.sector))
-        (tight_from (loose_sectors m' (objects_of found)) (reserved_in kind layout')
-        (λ s i. unless (is_among (loose_sectors m' (objects_of found)) s)
-        (λ h. clash (is_among (loose_sectors m (objects_of listings)) s)
-        (loose_before m m' (objects_of listings) (objects_of found) e.geometry (shape kind m nodes owners root listings a) a.is_map.right e.is_map.right (some_zones kind m nodes owners root listings a) fixed s h)
-        (stuck s (subst (λ (ss : List ℕ). is_among ss s ≡ true) reserved_same i)))))
-        (subst (λ (y : Geometry). least_of (filter (is_among (map_sectors y)) (boot_place kind y.sector)) ≡ None) (sym e.geometry) (boot_apart kind m nodes owners root listings a))
+    -- These listings are found, in some order, and the parts agree on them.
+    pub agreed_on : (r : Node) × (found' : List Listing) × AgreeOn kind m' nodes' owners' r found' × IsPermutation listings' found'
+    agreed_on =
+        let r = root_after in (
+          r.0,
+          found,
+          record {
+            is_map = e.is_map;
+            root_is = r.1;
+            walked = record {
+              walked = subst (λ (n : ℕ). walk read' layout' (reserved_in kind layout') r.0.entry.address n ≡ Ok found) (sym r.3)
+                  (subst (λ (n : ℕ). walk read' layout' (reserved_in kind layout') n size ≡ Ok found) (sym r.2) walked_now);
+              held = held_now;
+              forms = λ l at. e.forms l (listed_back l at);
+              bodies = λ l at. e.bodies l (listed_back l at);
+            };
+            map_placed = misplaced_shuffled kind m' (objects_of found) (come ++ map g (before.top ∷ kept)) objects_now ∙ e.clear;
+            owned = e.follow.owners_follow found sound_now again.order;
+          },
+          again.order,
+        )
 
-    pub agreed_after : Agree kind (parts_with m' nodes' owners')
-    agreed_after =
-        let r = root_after in
-        record {
-          root = r.0;
-          root_is = r.1;
-          listings = found;
-          walked = record {
-            walked = subst (λ (n : ℕ). walk read' layout' (reserved_in kind layout') r.0.entry.address n ≡ Ok found) (sym r.3)
-                (subst (λ (n : ℕ). walk read' layout' (reserved_in kind layout') n size ≡ Ok found) (sym r.2) walked_now);
-            held = held_now;
-            forms = λ l at. e.forms l (listed_back l at);
-            bodies = λ l at. e.bodies l (listed_back l at);
-          };
-          map_placed = placed_now;
-          owned = e.follow.owners_follow found sound_now again.order;
-        }
+    pub agreed_anyhow : Agree kind (parts_with m' nodes' owners')
+    agreed_anyhow =
+        let on = agreed_on in
+        record { root = on.0; root_is = on.2.root_is; listings = on.1; walked = on.2.walked; map_placed = on.2.map_placed; owned = on.2.owned }
+
+  -- nothing comes to be misplaced, if what isn't movable stays so with its runs
+  pub clear_of : IsNewMap m' → m'.geometry ≡ m.geometry → (objects' : List Object) → AreFixed m m' (objects_of listings) objects' → misplaced_sector kind (Layout.New m') objects' ≡ None
+  clear_of is_map geometry objects' fixed =
+      let layout' : Layout = Layout.New m' in
+      let reserved_same : reserved_in kind layout' ≡ reserved_in kind (Layout.New m) = ap (λ (y : Geometry). map_sectors y ++ boot_place kind y.sector) geometry in
+      let stuck = none_loose (loose_sectors m (objects_of listings)) (reserved_in kind (Layout.New m)) (tight kind m nodes owners root listings a) in
+      least_none (filter (is_among (loose_sectors m' objects')) (reserved_in kind layout')) (filter (is_among (map_sectors m'.geometry)) (boot_place kind m'.geometry.sector))
+      (tight_from (loose_sectors m' objects') (reserved_in kind layout')
+      (λ s i. unless (is_among (loose_sectors m' objects') s)
+      (λ h. clash (is_among (loose_sectors m (objects_of listings)) s)
+      (loose_before m m' (objects_of listings) objects' geometry (shape kind m nodes owners root listings a) a.is_map.right is_map.right (some_zones kind m nodes owners root listings a) fixed s h)
+      (stuck s (subst (λ (ss : List ℕ). is_among ss s ≡ true) reserved_same i)))))
+      (subst (λ (y : Geometry). least_of (filter (is_among (map_sectors y)) (boot_place kind y.sector)) ≡ None) (sym geometry) (boot_apart kind m nodes owners root listings a))
+
+  -- ---- the root stays
+
+  -- Objects go, come and change, and the nodes say so.
+  pub record IsPartsEdit : Type 0 where
+    pub is_map : IsNewMap m'
+    pub geometry : m'.geometry ≡ m.geometry
+    pub relisted : IsRelisting g listings listings' gone come kept
+    pub few : length listings' ≤ length listings + 1
+    pub say : StayListed (reader_of_nodes nodes') (Layout.New m') listings'
+    pub top_stays : g before.top ≡ before.top
+    pub top_placed : KeepsPlace m m' before.top
+    pub apart : Apart (reserved_in kind (Layout.New m)) (come ++ map g (before.top ∷ kept))
+    pub fixed : AreFixed m m' (objects_of listings) (come ++ map g (before.top ∷ kept))
+    pub forms : (l : Listing) → Contains listings' l → HasForm (dir_form (Layout.New m')) l.object.entry.len l.content
+    pub bodies : (l : Listing) → Contains listings' l → IsDirectory l.content
+    pub follow : PartsFollow nodes' owners' (Layout.New m') listings'
+
+  form_same : m'.geometry ≡ m.geometry → dir_form (Layout.New m') ≡ dir_form (Layout.New m)
+  form_same same = ap (λ (y : Geometry). let f : NameForm = cond (y.version == 0) Ten Long in f) same
+
+  -- the root's length is that of its object
+  pub root_size : directory_size (dir_form (Layout.New m)) root.entry.len ≡ root.entry.len
+  root_size =
+      let was = root_node nodes listings before.top before.is_root.path (a.walked.held.each before.top (subst (λ (os : List Object). Contains os before.top) (sym before.objects) (first_in before.top (held listings)))) in
+      let same : root ≡ was.0 = same_node root was.0 (sym a.root_is ∙ was.1) in
+      sym (ap (λ (n : Node). n.entry.len) same ∙ ap (λ (x : Entry). x.len) was.2 ∙ ap (λ (x : Entry). x.len) before.is_root.entry)
+
+  pub root_stays : m'.geometry ≡ m.geometry → KeepsPlace m m' before.top → IsRoot (Layout.New m') root.entry.address root.entry.len before.top
+  root_stays geometry placed = record {
+    path = before.is_root.path;
+    entry = before.is_root.entry ∙ ap (λ (f : NameForm). root_entry root.entry.address (directory_size f root.entry.len)) (sym (form_same geometry));
+    placed = places_law m m' before.top geometry placed before.is_root.placed;
+  }
+
+  pub any_edit : IsPartsEdit → IsAnyEdit root.entry.address root.entry.len
+  any_edit e = record {
+    is_map = e.is_map;
+    geometry = e.geometry;
+    relisted = e.relisted;
+    few = e.few;
+    say = e.say;
+    root_now = subst (IsRoot (Layout.New m') root.entry.address root.entry.len) (sym e.top_stays) (root_stays e.geometry e.top_placed);
+    whole = ap (λ (f : NameForm). directory_size f root.entry.len) (form_same e.geometry) ∙ root_size;
+    apart = e.apart;
+    clear = clear_of e.is_map e.geometry (come ++ map g (before.top ∷ kept)) e.fixed;
+    forms = e.forms;
+    bodies = e.bodies;
+    follow = e.follow;
+  }
+
+  pub agreed_after : IsPartsEdit → Agree kind (parts_with m' nodes' owners')
+  agreed_after e = agreed_anyhow root.entry.address root.entry.len (any_edit e)

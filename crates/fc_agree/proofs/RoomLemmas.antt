@@ -111,7 +111,7 @@ as_among q (x ∷ xs) e = by (eqb q x) refl e (as_among q xs)
 
 -- ---- each directory has a sector
 
-some_bytes : (form : NameForm) (len : ℕ) (dir : Directory) → HasForm form len dir → IsDirectory dir → 0 < directory_size form len
+pub some_bytes : (form : NameForm) (len : ℕ) (dir : Directory) → HasForm form len dir → IsDirectory dir → 0 < directory_size form len
 some_bytes Seven len (Directory.Small dir) h d = omega arith
 some_bytes Seven len (Directory.Big dir) h d = absurd h
 some_bytes Ten len (Directory.Small dir) h d = omega arith
@@ -120,7 +120,7 @@ some_bytes Long len (Directory.Small dir) h d = absurd h
 some_bytes Long len (Directory.Big dir) h d = (let big = d.fits in omega (arith, h, big))
 
 module _ (kind : Kind) (m : Map) (nodes : Nodes) (owners : List Owner) (root : Node) (listings : List Listing) (a : AgreeOn kind m nodes owners root listings) where
-  dir_sector : (l : Listing) → Contains listings l → (s : ℕ) × (is_among l.object.sectors s ≡ true)
+  pub dir_sector : (l : Listing) → Contains listings l → (s : ℕ) × (is_among l.object.sectors s ≡ true)
   dir_sector l at =
       let dir = listed_directory (Layout.New m) listings (sound kind m nodes owners root listings a) l at in
       let size : object_size (dir_form (Layout.New m)) l.object.entry ≡ directory_size (dir_form (Layout.New m)) l.object.entry.len =

@@ -37,7 +37,7 @@ use Rattle.fc_takeover.proofs.KindLemmas.{new_kind}
 use Rattle.fc_takeover.proofs.PlainLemmas.{says_before}
 use Rattle.fc_takeover.proofs.SaidLemmas.{apart_front, others_apart, own_apart}
 
-apart_back : (xs ys zs : List ℕ) → is_apart xs (ys ++ zs) ≡ true → is_apart xs zs ≡ true
+pub apart_back : (xs ys zs : List ℕ) → is_apart xs (ys ++ zs) ≡ true → is_apart xs zs ≡ true
 apart_back xs ys zs e = apart_from xs zs (λ s i j. clash (is_among (ys ++ zs) s) (in_back ys zs s j) (apart_at xs (ys ++ zs) s e i))
 
 pub apart_both : (xs ys zs : List ℕ) → is_apart xs ys ≡ true → is_apart xs zs ≡ true → is_apart xs (ys ++ zs) ≡ true
@@ -63,7 +63,7 @@ among_unfiltered t (x ∷ xs) s h = by (t x) h (among_unfiltered t xs s)
 
 -- ---- busy sectors are not idle
 
-idle_apart : (m : Map) (view : Opened) (image : List ℕ) (kind : Kind) (r : DiscRecord) (sectors : List ℕ) → IsNewKind kind r
+pub idle_apart : (m : Map) (view : Opened) (image : List ℕ) (kind : Kind) (r : DiscRecord) (sectors : List ℕ) → IsNewKind kind r
     → OpensAs image kind (record { kind = kind; layout = Layout.New m; listings = view.listings }) → AreBusy m (objects_of view.listings) sectors → is_apart (idle_sectors view m) sectors ≡ true
 idle_apart m view image kind r sectors new opens busy =
     let o = parts kind r image m view.listings new opens in

@@ -34,7 +34,7 @@ use Rattle.fc_takeover.proofs.KindLemmas.{among_first, copies_written}
 
 -- ---- lists
 
-among_at : (xs : List ℕ) (i : ℕ) → i < length xs → is_among xs (get_or xs i 0) ≡ true
+pub among_at : (xs : List ℕ) (i : ℕ) → i < length xs → is_among xs (get_or xs i 0) ≡ true
 among_at [] i low = absurd (omega (arith, low))
 among_at (x ∷ xs) zero low = among_first x xs
 among_at (x ∷ xs) (suc i) low = in_back (x ∷ []) xs (get_or xs i 0) (among_at xs i (omega (arith, low)))
@@ -131,7 +131,7 @@ object_apart m o is at =
           (id_Distinct m (shape_of m is) is.right (geometry_facts m.geometry is.of_record).zones (id_of o.entry.address))))))
     ]
 
-room_for : (bytes size count n : ℕ) → 0 < size → count ≡ div_ceil bytes size → n ≡ count → bytes ≤ n * size
+pub room_for : (bytes size count n : ℕ) → 0 < size → count ≡ div_ceil bytes size → n ≡ count → bytes ≤ n * size
 room_for bytes size count n some is long =
     let t = (div_ceil_times bytes size some).0 in
     subst (λ (k : ℕ). bytes ≤ k * size) (sym (long ∙ is)) t

@@ -1,0 +1,9 @@
+pub mod ViewedLemmas
+pub mod FreeLemmas
+pub mod RegrownLemmas
+pub mod PlaceLemmas
+pub mod CommandLemmas
+pub mod WithinLemmas
+pub mod AcrossLemmas
+pub mod CopiedLemmas
+pub mod CopyingLemmas

@@ -1,0 +1,4 @@
+pub mod Free
+pub mod Regrown
+pub mod Viewed
+pub mod Commands

@@ -1,0 +1,4 @@
+pub mod Regrown
+pub mod Laws
+pub mod Commands
+pub mod Space

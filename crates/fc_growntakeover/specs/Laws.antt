@@ -1,0 +1,35 @@
+-- From what the calls of a command by which a directory grows leave on the image, and what becomes of the nodes, to what the command
+-- promises of both.
+use Rattle.std.specs.Prelude.{ℕ, List}
+use Rattle.fc_names.specs.Names.{Path}
+use Rattle.fc_record.specs.declared.DiscRecord.{DiscRecord}
+use Rattle.fc_record.specs.declared.Kind.{Kind}
+use Rattle.fc_newmap.specs.Map.{Map, ZoneRun}
+use Rattle.fc_model.specs.Command.{Command}
+use Rattle.fc_dirs.specs.Directory.{Directory}
+use Rattle.fc_alloc.specs.declared.owner.Owner.{Owner}
+use Rattle.fc_image.specs.Layout.{Layout}
+use Rattle.fc_image.specs.Walk.{Listing, Object}
+use Rattle.fc_image.specs.Opening.{Opened}
+use Rattle.fc_nodes.specs.Edits.{Nodes}
+use Rattle.fc_takeover.specs.Laws.{PartsFollow, TakesOver}
+use Rattle.fc_growths.specs.Grown.{IsGrownDirectoryChange, IsGrownFileChange, NewPlace}
+use Rattle.fc_grownnodes.specs.Commands.{IsGrownAdded, IsGrownDirectoryAdded}
+
+-- `save` and `create` of a new file
+abbrev pub GrownFiledTakesOver : Type 0
+GrownFiledTakesOver = (kind : Kind) (r : DiscRecord) (image image' : List ℕ) (v : Opened) (m m' : Map) (c : Command) (path : Path) (load exec : ℕ) (bytes : List ℕ) (l : Listing) (content : Directory)
+    (place : NewPlace) (again again' keep : List Listing) (said : List (ℕ × Directory)) (j : ℕ) (o : Object) (stay : List Object) (id : ℕ) (parts : List ZoneRun) (gone : List ℕ)
+    (nodes nodes' : Nodes) (listings' : List Listing) (owners' : List Owner) (dir number : ℕ)
+    → IsGrownFileChange kind r image image' v m m' c path load exec bytes l content place again again' keep o stay id parts gone
+    → IsGrownAdded nodes nodes' v.listings listings' again again' keep l content place said j o dir number
+    → PartsFollow nodes' owners' (Layout.New m') listings' → TakesOver kind image image' v c m' nodes' owners'
+
+-- `cdir`
+abbrev pub GrownDirectoryMadeTakesOver : Type 0
+GrownDirectoryMadeTakesOver = (kind : Kind) (r : DiscRecord) (image image' : List ℕ) (v : Opened) (m m' : Map) (path : Path) (l : Listing) (content : Directory) (place : NewPlace)
+    (again again' keep : List Listing) (said : List (ℕ × Directory)) (j : ℕ) (d : Listing) (stay : List Object) (id : ℕ) (parts : List ZoneRun) (gone : List ℕ)
+    (nodes nodes' : Nodes) (listings' : List Listing) (owners' : List Owner) (dir number : ℕ)
+    → IsGrownDirectoryChange kind r image image' v m m' path l content place again again' keep d stay id parts gone
+    → IsGrownDirectoryAdded nodes nodes' v.listings listings' again again' keep l content place said j d dir number
+    → PartsFollow nodes' owners' (Layout.New m') listings' → TakesOver kind image image' v (Command.Cdir path) m' nodes' owners'

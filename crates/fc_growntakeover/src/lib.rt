@@ -1,0 +1,27 @@
+//! From what a command's calls leave on the image and of the nodes if a directory grows by it, to what a method of a volume promises of
+//! both.
+#![tactic(auto)]
+
+ghost use Rattle.fc_growntakeover.specs.Laws.{GrownDirectoryMadeTakesOver, GrownFiledTakesOver};
+ghost use Rattle.fc_growntakeover.specs.Places.{GrownPlacesLaw};
+ghost use Rattle.fc_growntakeover.specs.Steps.{GrownStepsLaw};
+
+/// After `save` and `create` of a file by which its directory grows the volume stands for the new image.
+pub fn filed()
+    ensures { GrownFiledTakesOver }
+{}
+
+/// After `cdir` by which a directory grows the volume stands for the new image.
+pub fn directory_made()
+    ensures { GrownDirectoryMadeTakesOver }
+{}
+
+/// Each of these commands, one write after another.
+pub fn steps()
+    ensures { GrownStepsLaw }
+{}
+
+/// Which sectors such a command may write.
+pub fn places()
+    ensures { GrownPlacesLaw }
+{}
