@@ -8,3 +8,4 @@ pub mod RenamedLemmas
 pub mod TransferredLemmas
 pub mod DirectoryLemmas
 pub mod AddedLemmas
+pub mod GivenLemmas

@@ -3,6 +3,7 @@
 #![tactic(auto)]
 
 ghost use Rattle.fc_oldagree.specs.Laws.{AddedLaw, DirectoryAddedLaw, RemovedLaw, RenamedLaw, ReplacedLaw, RewordedLaw, TransferredLaw};
+ghost use Rattle.fc_oldagree.specs.Spaces.{SpaceLaw};
 
 /// The parts agree after `set` and `mark`.
 pub fn reworded()
@@ -37,4 +38,9 @@ pub fn replaced()
 /// The parts agree after `cdir`.
 pub fn directory_added()
     ensures { DirectoryAddedLaw }
+{}
+
+/// The space of objects: what may be given back, and what is taken.
+pub fn spaces()
+    ensures { SpaceLaw }
 {}

@@ -292,7 +292,7 @@ wide image image' s = (
   sym (drop-take 512 512 image') ∙ ap (drop 512) (s 0 refl) ∙ drop-take 512 512 image,
 )
 
-front_same : (image image' : List ℕ) (u : ℕ) → (u ≡ 1) ⊎ (u ≡ 4) → HasSectorsOf (256 * u) (range_with_len 0 (map_units u / u)) image image'
+pub front_same : (image image' : List ℕ) (u : ℕ) → (u ≡ 1) ⊎ (u ≡ 4) → HasSectorsOf (256 * u) (range_with_len 0 (map_units u / u)) image image'
     → (take 512 image' ≡ take 512 image) × (bytes_at image' 512 (256 * u - 512) ≡ bytes_at image 512 (256 * u - 512))
 front_same image image' u (inl one) same =
     subst (λ (n : ℕ). HasSectorsOf (256 * n) (range_with_len 0 (map_units n / n)) image image' → (take 512 image' ≡ take 512 image) × (bytes_at image' 512 (256 * n - 512) ≡ bytes_at image 512 (256 * n - 512)))

@@ -63,7 +63,7 @@ module _ (u : ℕ) (units : (u ≡ 1) ⊎ (u ≡ 4)) where
       (λ e. subst (λ (v : ℕ). a % v ≡ 0 → map_units v / v ≤ a / v → map_units v ≤ a) (sym e) (λ x y. omega (arith, x, y)) w low)
       (λ e. subst (λ (v : ℕ). a % v ≡ 0 → map_units v / v ≤ a / v → map_units v ≤ a) (sym e) (λ x y. omega (arith, x, y)) w low) units
 
-  inside : (a n d : ℕ) → a % u ≡ 0 → a / u + n ≤ d / u → a + n * u ≤ d
+  pub inside : (a n d : ℕ) → a % u ≡ 0 → a / u + n ≤ d / u → a + n * u ≤ d
   inside a n d w low = ⊎_elim
       (λ e. subst (λ (v : ℕ). a % v ≡ 0 → a / v + n ≤ d / v → a + n * v ≤ d) (sym e) (λ x y. omega (arith, x, y)) w low)
       (λ e. subst (λ (v : ℕ). a % v ≡ 0 → a / v + n ≤ d / v → a + n * v ≤ d) (sym e) (λ x y. omega (arith, x, y)) w low) units
@@ -98,7 +98,7 @@ module _ (u : ℕ) (units : (u ≡ 1) ⊎ (u ≡ 4)) where
           let low = leb-false (hole_end h) x.start e in let high = leb-false (hole_end x) h.start g in let from = leb-false x.start h.start k in let some = is_x.positive in
           absurd (both x.start is_x.begins (omega arith, omega (arith, some)) (omega (arith, from), omega (arith, low)))
 
-  all_apart : (d f floor : ℕ) (x : Hole) (holes : List Hole) → IsHole d u f x → AreHoles d u floor holes
+  pub all_apart : (d f floor : ℕ) (x : Hole) (holes : List Hole) → IsHole d u f x → AreHoles d u floor holes
       → ((s : ℕ) → is_among (hole_sectors_in u x) s ≡ true → is_among (flat_map (hole_sectors_in u) holes) s ≡ true → ⊥) → All (AreApart x) holes
   all_apart d f floor x [] is_x are never = All-nil (AreApart x)
   all_apart d f floor x (h ∷ holes) is_x are never =
@@ -136,15 +136,15 @@ module _ (kind : Kind) (space : FreeSpace) (objects : List Object) (facts : AreS
   not_map p at s h i = clash (is_among (reserved_in kind y) s) (in_front (map_place y) (hole_sectors y) s i) (apart_at p.sectors (reserved_in kind y) s (facts.lies p at).apart h)
 
   -- the space of an object
-  record IsSpace (p : Object) : Type 0 where
-    is_hole : IsHole d u (map_units u) (space_of space p)
-    sectors : hole_sectors_in u (space_of space p) ≡ p.sectors
+  pub record IsSpace (p : Object) : Type 0 where
+    pub is_hole : IsHole d u (map_units u) (space_of space p)
+    pub sectors : hole_sectors_in u (space_of space p) ≡ p.sectors
 
   first_of : (xs : List ℕ) → nat_lt 0 (length xs) ≡ true → (s : ℕ) × (is_among xs s ≡ true)
   first_of [] e = absurd (cc)
   first_of (x ∷ xs) e = (x, among_here x (is_among xs x))
 
-  space_is : (p : Object) → Contains objects p → has_sectors p ≡ true → IsSpace p
+  pub space_is : (p : Object) → Contains objects p → has_sectors p ≡ true → IsSpace p
   space_is p at has =
       let s = first_of p.sectors has in
       let r = in_disc space p.entry.address (object_size (dir_form y) p.entry) p.sectors s.0 (facts.lies p at).placed s.1 in

@@ -1,1 +1,5 @@
 pub mod TakenLemmas
+pub mod WriteLemmas
+pub mod ApartLemmas
+mod AgainLemmas
+pub mod StepLemmas

@@ -1,1 +1,4 @@
 pub mod Laws
+pub mod Writes
+pub mod Places
+pub mod Steps

@@ -2,6 +2,9 @@
 #![tactic(auto)]
 
 ghost use Rattle.fc_oldtakeover.specs.Laws.{DeletedTakesOver, DirectoryMadeTakesOver, FiledTakesOver, MovedTakesOver, RenamedTakesOver, RewordedTakesOver};
+ghost use Rattle.fc_oldtakeover.specs.Places.{ObjectsLaw, PlacesLaw};
+ghost use Rattle.fc_oldtakeover.specs.Steps.{StepsLaw};
+ghost use Rattle.fc_oldtakeover.specs.Writes.{WrittenBytesLaw};
 
 use fc_oldmap::reads_back;
 
@@ -43,6 +46,28 @@ pub fn renamed()
 /// After `rename` to another directory the volume stands for the new image.
 pub fn moved()
     ensures { MovedTakesOver }
+{
+    reads_back();
+}
+
+/// What is written is there, and stays if other sectors are written.
+pub fn writes()
+    ensures { WrittenBytesLaw }
+{}
+
+/// The places of objects.
+pub fn objects()
+    ensures { ObjectsLaw }
+{}
+
+/// Which sectors a command may write.
+pub fn places()
+    ensures { PlacesLaw }
+{}
+
+/// Each command, one write after another.
+pub fn steps()
+    ensures { StepsLaw }
 {
     reads_back();
 }
