@@ -72,7 +72,7 @@ small_addresses : (content : Directory) (len address : ℕ) → HasForm forms.Te
 small_addresses (Directory.Small dir) len address has can = can
 small_addresses (Directory.Big dir) len address has can = absurd has
 
-by_small : (content : Directory) (len address : ℕ) → HasForm forms.Ten len content → address < 2 ^ 24 → CanAddress content address
+pub by_small : (content : Directory) (len address : ℕ) → HasForm forms.Ten len content → address < 2 ^ 24 → CanAddress content address
 by_small (Directory.Small dir) len address has low = low
 by_small (Directory.Big dir) len address has low = absurd has
 

@@ -1,36 +1,32 @@
 -- `cdir` of a volume: what it changes, and what the volume stands for afterwards.
-use Rattle.std.proofs.Common.{◌≡◌, ◌<◌, ◌≤◌, ◌+◌, ◌*◌, ◌/◌, ◌==◌, ℕ, Bool, true, false, List, [], ◌∷◌, ◌++◌, length, Option, Some, None, refl, sym, ap, subst, ◌∙◌, arith, IsFalse}
-use Rattle.std.specs.Prelude.{All, Contains, IsPermutation, filter, map}
+use Rattle.std.proofs.Common.{◌≡◌, ◌+◌, ℕ, List, [], ◌∷◌, ◌++◌, Some, refl, sym, ap, subst, ◌∙◌}
 use Rattle.std.specs.Option.{ForSome}
-use Rattle.std.specs.FinMap.{get}
 use Rattle.fc_device.specs.declared.disk.Disk.{Ghosts}
 use Rattle.fc_device.specs.Calls.{SameForm, StopsAndExitsLeave}
-use Rattle.fc_record.specs.declared.Geometry.{Geometry}
 use Rattle.fc_record.specs.declared.Kind.{Kind}
 use Rattle.fc_newmap.specs.Map.{Map}
 use Rattle.fc_names.specs.Names.{Path}
 use Rattle.fc_model.specs.Command.{Command}
 use Rattle.fc_alloc.specs.declared.owner.Owner.{Owner}
-use Rattle.fc_image.specs.Layout.{Layout, disc_sectors, sector_bytes}
+use Rattle.fc_image.specs.Layout.{Layout}
 use Rattle.fc_image.specs.Opening.{Opened}
 use Rattle.fc_image.specs.Objects.{objects_of}
-use Rattle.fc_image.specs.Stays.{HasEqualCopies, OpensAs}
+use Rattle.fc_image.specs.Stays.{OpensAs}
 use Rattle.fc_changes.specs.Owed.{IsWritten}
 use Rattle.fc_objects.specs.Extents.{sectors_in}
 use Rattle.fc_space.specs.Space.{layout_of}
 use Rattle.fc_tree.specs.Agree.{Agree}
 use Rattle.fc_tree.specs.Nodes.{Numbers, next_number, nodes_of}
-use Rattle.fc_tree.specs.Parts.{AreOwners, ArePartsOf, Parts}
+use Rattle.fc_tree.specs.Parts.{AreOwners, ArePartsOf}
 use Rattle.fc_takeover.specs.Laws.{TakesOver}
 use Rattle.fc_volume.specs.declared.changes.making.Making.{Making}
-use Rattle.fc_volume.specs.declared.copies.Copies.{Copies}
-use Rattle.fc_volume.specs.declared.copies.Copies.TheVariants.{Equal}
 use Rattle.fc_volume.specs.CdirLaws.{CdirLaws}
-use Rattle.fc_volume.specs.Changing.{ChangesParts, HasChanged, WritesPlaces}
-use Rattle.fc_volume.specs.Making.{HasMade, IsAdmitted, nodes_made, owner_made}
+use Rattle.fc_volume.specs.Changing.{HasChanged, WritesPlaces}
+use Rattle.fc_volume.specs.Making.{HasMade, IsAdmitted, nodes_made}
 use Rattle.fc_volume.specs.Storing.{HasSpaceOf, IsObjectMade}
-use Rattle.fc_volume.specs.Volume.{HasCopies, HoldsMap, StandsFor, Volume, parts_of}
+use Rattle.fc_volume.specs.Volume.{StandsFor, Volume, parts_of}
 use Rattle.fc_volume.proofs.CdirLemmas.{IsReady, agrees, takes_over, writes_places}
+use Rattle.fc_volume.proofs.SpacedLemmas.{HasNow, has_changed as space_changed, stands_now as space_stands}
 
 pub same_nodes : (t : Numbers) (room : ℕ) → nodes_of (record t { room = room }) ≡ nodes_of t
 unfolding nodes_of
@@ -68,8 +64,8 @@ module _ {D : Type 0} (d : Ghosts D) (laws : CdirLaws) (m : Map) (v : Volume) (o
     owners_are : v'.owners ≡ owners'
     owners_are = made.owners ∙ admitted.owners ∙ ap (λ (l : Layout). v.owners ++ Rattle.fc_volume.specs.Owners.entry_owner l number r.directory.node r.entry ∷ []) layout
 
-    now_are : (let p : Parts = record { layout = Layout.New m'; nodes = nodes_made r number (nodes_of v.tree); owners = owners' } in p) ≡ parts_of v'
-    now_are = λ i. record { layout = sym layout' i; nodes = sym nodes_are i; owners = sym owners_are i }
+    now : HasNow m m' (nodes_made r number (nodes_of v.tree)) owners' v'
+    now = record { layout = layout'; geometry = has.edited.geometry; nodes_are = nodes_are; owners_are = owners_are; copies = made.copies }
 
     over : (kind : Kind) (view : Opened) (was image : List ℕ) → d.bytes old ≡ Some was → d.bytes new ≡ Some image → OpensAs was kind view → ArePartsOf (parts_of v) view
         → TakesOver kind was image view (Command.Cdir path) m' (nodes_made r number (nodes_of v.tree)) owners'
@@ -79,43 +75,9 @@ module _ {D : Type 0} (d : Ghosts D) (laws : CdirLaws) (m : Map) (v : Volume) (o
         (subst (λ (x : Layout). AreOwners v.owners (nodes_of v.tree) x (objects_of view.listings)) at held.owners)
 
     pub has_changed : HasChanged d (Command.Cdir path) (parts_of v) (parts_of v') old new
-    has_changed was told =
-        let there = exits.exit was told in (
-          there.0,
-          there.1,
-          λ kind view opens held.
-              (let o = over kind view was there.0 told there.1 opens held in
-              (o.0, o.1, subst (λ (p : Parts). ArePartsOf p o.0) now_are o.2)),
-        )
-
-    geometry : m'.geometry ≡ m.geometry
-    geometry = has.edited.geometry
+    has_changed = space_changed d (Command.Cdir path) m m' (nodes_made r number (nodes_of v.tree)) owners' v v' old new (sectors ++ new_sectors) layout stands now exits over
 
     pub stands_now : SameForm d old new → StandsFor d v' new
-    stands_now form = record {
-      size = form.size_stays ∙ stands.size ∙ ap sector_bytes layout ∙ ap (λ (g : Geometry). g.sector) (sym geometry) ∙ ap sector_bytes (sym layout');
-      room = subst (λ (n : ℕ). disc_sectors (layout_of v'.space) ≤ n) (sym form.sectors_stay)
-          (subst (λ (l : Layout). disc_sectors l ≤ d.sectors old) (sym layout')
-          (subst (λ (g : Geometry). g.disc_bits * g.bit_bytes / g.sector ≤ d.sectors old) (sym geometry)
-          (subst (λ (l : Layout). disc_sectors l ≤ d.sectors old) layout stands.room)));
-      map_room = subst (λ (n : ℕ). HoldsMap (layout_of v'.space) n) (sym form.sectors_stay)
-          (subst (λ (l : Layout). HoldsMap l (d.sectors old)) (sym layout')
-          (subst (λ (g : Geometry). g.map_sector + 2 * g.zones ≤ d.sectors old) (sym geometry)
-          (subst (λ (l : Layout). HoldsMap l (d.sectors old)) layout stands.map_room)));
-      agree = (
-        stands.agree.0,
-        subst (Agree stands.agree.0) now_are
-            (agrees laws m (nodes_of v.tree) path dir number r is m' has stands.agree.0 v.owners (subst (Agree stands.agree.0) parts_are stands.agree.1)),
-      );
-      image = λ image told.
-          (let was = exits.told image told in
-          let s = stands.image was.0 was.1 in
-          let o = over s.0 s.1 was.0 image was.1 told s.2 s.3 in
-          (s.0, o.0, o.1.opens.opens, subst (λ (p : Parts). ArePartsOf p o.0) now_are o.2));
-      copies = λ image told.
-          (let was = exits.told image told in
-          let s = stands.image was.0 was.1 in
-          let o = over s.0 s.1 was.0 image was.1 told s.2 s.3 in
-          subst (λ (k : Copies). HasCopies k (layout_of v'.space) image) (sym made.copies)
-          (subst (HasEqualCopies image) (sym o.2.layout ∙ sym layout') o.1.opens.copies));
-    }
+    stands_now form =
+        space_stands d (Command.Cdir path) m m' (nodes_made r number (nodes_of v.tree)) owners' v v' old new (sectors ++ new_sectors) layout stands now exits over form
+        (agrees laws m (nodes_of v.tree) path dir number r is m' has stands.agree.0 v.owners (subst (Agree stands.agree.0) parts_are stands.agree.1))

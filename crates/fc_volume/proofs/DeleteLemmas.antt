@@ -53,7 +53,7 @@ use Rattle.fc_volume.proofs.TargetLemmas as target_of
 
 -- ---- directories
 
-form_left : (form : NameForm) (len parent at : ℕ) (old new : Directory) → HasLeft parent at old new → HasForm form len old → HasForm form len new
+pub form_left : (form : NameForm) (len parent at : ℕ) (old new : Directory) → HasLeft parent at old new → HasForm form len old → HasForm form len new
 form_left form len parent at old new is has = subst (HasForm form len) (sym is.is) (by form old has)
   where
     by : (f : NameForm) (dir : Directory) → HasForm f len dir → HasForm f len (with_head parent (with_less at dir))
@@ -64,7 +64,7 @@ form_left form len parent at old new is has = subst (HasForm form len) (sym is.i
     by forms.Ten (Directory.Big dir) h = absurd h
     by forms.Long (Directory.Big dir) h = h
 
-entries_left : (parent at : ℕ) (old new : Directory) → HasLeft parent at old new → entries_of new ≡ remove (entries_of old) at
+pub entries_left : (parent at : ℕ) (old new : Directory) → HasLeft parent at old new → entries_of new ≡ remove (entries_of old) at
 entries_left parent at old new is = ap entries_of is.is ∙ by old
   where
     by : (dir : Directory) → entries_of (with_head parent (with_less at dir)) ≡ remove (entries_of dir) at
@@ -83,7 +83,7 @@ found_there t (y ∷ xs) x e = by (t y) refl e (found_there t xs x)
     by false h f more = let r = more f in (next_in y x xs r.0, r.1)
 
 -- The owner of the object that goes is out, if it had one.
-owners_left : (some : Bool) (node : ℕ) (owners owners' : List Owner) (own : Owner) → find (is_node node) owners ≡ cond some (Some own) None
+pub owners_left : (some : Bool) (node : ℕ) (owners owners' : List Owner) (own : Owner) → find (is_node node) owners ≡ cond some (Some own) None
     → ((w : Owner) → Contains owners w → w.node ≡ node → IsPermutation owners (w ∷ owners')) → ((has_node owners node ≡ false) → owners' ≡ owners)
     → OwnersEdited owners owners' (cond some (own ∷ []) []) []
 owners_left true node owners owners' own found there absent =

@@ -11,27 +11,27 @@ mod CarryLemmas
 mod AgreeLemmas
 mod RepairedLemmas
 mod CompactedLemmas
-mod StandsLemmas
-mod PieceLemmas
-mod WritingLemmas
-mod TakingLemmas
-mod SettingLemmas
+pub mod StandsLemmas
+pub mod PieceLemmas
+pub mod WritingLemmas
+pub mod TakingLemmas
+pub mod SettingLemmas
 mod StoringLemmas
 mod MakingLemmas
-mod TargetLemmas
-mod JudgedLemmas
-mod SetLemmas
-mod ChangeLemmas
+pub mod TargetLemmas
+pub mod JudgedLemmas
+pub mod SetLemmas
+pub mod ChangeLemmas
 mod SetVolumeLemmas
 mod MadeLemmas
 mod CdirLemmas
 mod CdirHeldLemmas
 mod CdirVolumeLemmas
 mod CdirAskedLemmas
-mod DeleteLemmas
+pub mod DeleteLemmas
 mod DeleteVolumeLemmas
 mod FilingLemmas
-mod RewriteLemmas
+pub mod RewriteLemmas
 mod RelocatingLemmas
 mod LastNameLemmas
 mod RenamingLemmas
@@ -42,3 +42,22 @@ mod RelocatedLemmas
 mod RenameVolumeLemmas
 mod AcceptedLemmas
 mod MoveLemmas
+mod CopyingLemmas
+mod AcrossLemmas
+mod CarryingLemmas
+mod CarriedLemmas
+mod SpacedLemmas
+mod CarriedVolumeLemmas
+mod FilledLemmas
+mod FilePlaceLemmas
+mod ReplacedOwnersLemmas
+mod ReplaceLemmas
+mod ReplaceImageLemmas
+mod ReplaceVolumeLemmas
+mod ReplaceAskedLemmas
+mod SavingLemmas
+mod SaveGainLemmas
+mod SaveSpaceLemmas
+mod SaveLemmas
+mod SaveAskedLemmas
+mod SaveVolumeLemmas

@@ -1,5 +1,5 @@
 -- Old maps as they are read from the front of an image.
-use Rattle.std.proofs.Common.{◌≡◌, ◌<◌, ◌≤◌, ◌∷◌, ◌+◌, ◌-◌, ◌*◌, ◌/◌, ◌%◌, ◌⊎◌, inl, inr, ℕ, zero, suc, Bool, true, false, List, [], length, take, drop, refl, sym, ap, ap₂, ◌∙◌, arith}
+use Rattle.std.proofs.Common.{◌≡◌, ◌<◌, ◌≤◌, ◌∷◌, ◌+◌, ◌-◌, ◌*◌, ◌/◌, ◌%◌, ◌⊎◌, inl, inr, ℕ, zero, suc, Bool, true, false, cond, List, [], length, take, drop, refl, sym, ap, ap₂, subst, ◌∙◌, arith}
 use Rattle.std.specs.Prelude.{nat_le, Option, Some, None, Result, Ok, Err, if◌then◌else◌, ◌==◌, ◌&&◌, ◌++◌}
 use Rattle.byteorder.specs.Endian.{little_number}
 use Rattle.std.proofs.lemmas.List.{get_or-take, drop-take, take-take, length-append, length-take-le}
@@ -15,7 +15,8 @@ use Rattle.fc_record.specs.Kinds.{is_old_map, old_units}
 use Rattle.fc_oldmap.specs.declared.Hole.{Hole}
 use Rattle.fc_oldmap.specs.declared.OldMapFault.TheVariants.{Check, Bad}
 use Rattle.fc_oldmap.specs.OldMap.{FreeSpace, free_end, free_space, hole_fault, holes_of, is_free_end, map_units, old_map, stored_hole, stored_holes, wrong_hole}
-use Rattle.fc_oldmap.specs.Holes.{hole}
+use Rattle.fc_oldmap.specs.Holes.{AreHoles, hole}
+use Rattle.fc_oldmap.proofs.ReadLemmas.{AreHoles-right}
 use Rattle.fc_image.specs.declared.ImageFault.{ImageFault}
 use Rattle.fc_image.specs.declared.ImageFault.TheVariants as faults
 use Rattle.fc_image.specs.Layout.{Layout}
@@ -74,6 +75,15 @@ module _ (bytes : List ℕ) (units : ℕ) where
       go : (fault : Option ℕ) → is_half_right (bytes_at bytes 0 256) ≡ true → is_half_right (bytes_at bytes 256 256) ≡ true → hole_fault bytes units ≡ fault → ⊥
       go (Some i) f s h = (let is = hole_wrong f s i h in cc)
       go None f s h = (let is = all_right f s h in cc)
+
+  -- its holes lie behind it
+  pub behind : hole_fault bytes units ≡ None → AreHoles (u24_at bytes 252) units (map_units units) (stored_holes bytes)
+  behind e = AreHoles-right (u24_at bytes 252) units 0 (map_units units) (stored_holes bytes) (by (is_free_end (free_end bytes)) e)
+    where
+      by : (b : Bool) → cond b (wrong_hole (u24_at bytes 252) units 0 (map_units units) (stored_holes bytes)) (Some (free_end bytes / 3)) ≡ None
+          → wrong_hole (u24_at bytes 252) units 0 (map_units units) (stored_holes bytes) ≡ None
+      by true h = h
+      by false h = absurd (cc)
 
 -- ---- the front of an image
 
@@ -198,3 +208,8 @@ old_room disc units long size sectors (inr four) wide whole fits =
     let s : sectors ≡ long / 1024 = whole ∙ ap (λ n. long / n) (let e : size ≡ 1024 = omega arith in e) in
     let d : disc / units ≡ disc / 4 = ap (λ n. disc / n) four in
     omega arith
+
+-- a disc of so many units has two sectors at least
+pub two_sectors : (units u sectors : ℕ) → (u ≡ 1) ⊎ (u ≡ 4) → 2 * u ≤ units → units / u ≤ sectors → 2 ≤ sectors
+two_sectors units u sectors (inl one) two room = let t = subst (λ (k : ℕ). 2 * k ≤ units) one two in let r = subst (λ (k : ℕ). units / k ≤ sectors) one room in omega (arith, t, r)
+two_sectors units u sectors (inr four) two room = let t = subst (λ (k : ℕ). 2 * k ≤ units) four two in let r = subst (λ (k : ℕ). units / k ≤ sectors) four room in omega (arith, t, r)

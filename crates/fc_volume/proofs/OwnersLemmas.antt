@@ -55,7 +55,7 @@ some_long (Layout.New m) address bytes sectors e = by (is_object_id m (id_of add
     by true is = part_long (div_ceil bytes m.geometry.sector) (drop (low_start m (low_of address)) (id_sectors m (id_of address))) sectors is
     by false is = absurd (cc)
 
-no_bytes : (s : ℕ) → div_ceil 0 s ≡ 0
+pub no_bytes : (s : ℕ) → div_ceil 0 s ≡ 0
 no_bytes s = let d = zero-div s in let m = zero_mod s in omega arith
   where
     zero_mod : (k : ℕ) → 0 % k ≡ 0

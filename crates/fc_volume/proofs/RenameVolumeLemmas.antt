@@ -18,6 +18,7 @@ use Rattle.fc_alloc.specs.declared.owner.Owner.{Owner}
 use Rattle.fc_alloc.specs.Owners.{HaveOwnNodes, is_node}
 use Rattle.fc_image.proofs.PathsLemmas.{unless}
 use Rattle.fc_placing.specs.Copying.{SaysCopied}
+use Rattle.fc_placing.specs.Places.{FitsDirectory}
 use Rattle.fc_model.specs.Command.{Command}
 use Rattle.fc_model.specs.Tree.{holder, last_name}
 use Rattle.fc_dirs.specs.declared.Entry.{Entry}
@@ -141,16 +142,16 @@ module _ (w v : Volume) (same : w ≡ v) (m : Map) (layout : layout_of v.space �
   abbrev parts_v : Parts
   parts_v = record { layout = Layout.New m; nodes = nodes_of v.tree; owners = v.owners }
 
-  abbrev agreed : Agree agree.0 parts_v
+  abbrev pub agreed : Agree agree.0 parts_v
   agreed = subst (Agree agree.0) (λ i. record { layout = layout i; nodes = nodes_of v.tree; owners = v.owners }) agree.1
 
-  on : AgreeOn agree.0 m (nodes_of v.tree) v.owners agreed.root agreed.listings
+  pub on : AgreeOn agree.0 m (nodes_of v.tree) v.owners agreed.root agreed.listings
   on = laws.change.agreed.named agree.0 parts_v m refl is_map agreed
 
-  abbrev sound : AreSound (Layout.New m) agreed.listings
+  abbrev pub sound : AreSound (Layout.New m) agreed.listings
   sound = laws.change.agreed.sound agree.0 m (nodes_of v.tree) v.owners agreed.root agreed.listings on
 
-  abbrev known : IsRenaming (nodes_of v.tree) agreed.listings from to rn
+  abbrev pub known : IsRenaming (nodes_of v.tree) agreed.listings from to rn
   known = acc.renaming (Layout.New m) agreed.listings sound agreed.walked.held
 
   pub no_root : 0 < length to
@@ -363,13 +364,13 @@ module _ (w v : Volume) (same : w ≡ v) (m : Map) (layout : layout_of v.space �
     abbrev y : Listing
     y = aimed.listing
 
-    y_says : (n : Node) (d : Directory) → get (nodes_of v.tree) rn.holder ≡ Some n → n.body ≡ body_in d → d ≡ y.content
+    pub y_says : (n : Node) (d : Directory) → get (nodes_of v.tree) rn.holder ≡ Some n → n.body ≡ body_in d → d ≡ y.content
     y_says n d is says =
         let node_is = target_of.one_node (nodes_of v.tree) (Layout.New m) agreed.listings sound agreed.walked.held y aimed.listed rn.holder aimed.holder_is n is in
         one_content d y.content
         (sym says ∙ ap (λ (k : Node). k.body) (sym node_is) ∙ target_of.says (nodes_of v.tree) (Layout.New m) agreed.listings sound agreed.walked.held y aimed.listed rn.holder aimed.holder_is)
 
-    x_says : (n : Node) (d : Directory) → get (nodes_of v.tree) rn.target.holder ≡ Some n → n.body ≡ body_in d → d ≡ aim.listing.content
+    pub x_says : (n : Node) (d : Directory) → get (nodes_of v.tree) rn.target.holder ≡ Some n → n.body ≡ body_in d → d ≡ aim.listing.content
     x_says n d is says =
         let node_is = target_of.one_node (nodes_of v.tree) (Layout.New m) agreed.listings sound agreed.walked.held aim.listing aim.listed rn.target.holder aim.holder_is n is in
         one_content d aim.listing.content
@@ -406,7 +407,7 @@ module _ (w v : Volume) (same : w ≡ v) (m : Map) (layout : layout_of v.space �
     can_move = subst (λ (x : Volume). CanMove (nodes_of x.tree) (layout_of x.space) rn.target rn.holder (last_name to)) (sym same)
         (subst (λ (l : Layout). CanMove (nodes_of v.tree) l rn.target rn.holder (last_name to)) (sym layout) can_move_v)
 
-    y_small : (s : SmallDir) × (y.content ≡ Directory.Small s)
+    pub y_small : (s : SmallDir) × (y.content ≡ Directory.Small s)
     y_small = small_of (dir_form (Layout.New m)) y.object.entry.len y.content ten (agreed.walked.forms y aimed.listed)
 
     -- ---- whether there is room
@@ -481,6 +482,13 @@ module _ (w v : Volume) (same : w ≡ v) (m : Map) (layout : layout_of v.space �
       pub move_refused : full ≡ true → (image : List ℕ) → refusal_in view image v.read_only renames ≡ Some refusals.DirFull
       move_refused is image =
           first_none (reasons (tree_of image view.layout view.listings) (dir_form view.layout) v.read_only renames) (short view renames) (unreasoned image) ∙ full_short view from to (move_room ∙ is)
+
+      -- or else only for want of space
+      pub move_short : (image : List ℕ) → refusal_in view image v.read_only renames ≡ short view renames
+      move_short image = first_none (reasons (tree_of image view.layout view.listings) (dir_form view.layout) v.read_only renames) (short view renames) (unreasoned image)
+
+      pub move_fits : full ≡ false → FitsDirectory view renames
+      move_fits is = record { no_growth = no_growth view from to y_now y_small.0 y_found y_now_small; not_full = move_room ∙ is }
 
       pub move_not_refused : full ≡ false → is_copied view from to p_now ≡ false → (image : List ℕ) → refusal_in view image v.read_only renames ≡ None
       move_not_refused is not_copied image =

@@ -5,8 +5,8 @@ use Rattle.std.specs.FinMap.{FinMap, get}
 use Rattle.std.proofs.lemmas.Option.{slice_get-get_or}
 use Rattle.fc_dirs.specs.declared.Entry.{Entry}
 use Rattle.fc_dirs.specs.Directory.{Directory, entries_of}
-use Rattle.fc_drafts.specs.Draft.{CanHold, IsSayable}
-use Rattle.fc_drafts.specs.Entries.{set_entry}
+use Rattle.fc_drafts.specs.Draft.{CanAddress, CanHold, IsSayable}
+use Rattle.fc_drafts.specs.Entries.{saved_entry, set_entry}
 use Rattle.fc_drafts.specs.Laws.{EntryLaw}
 use Rattle.fc_drafts.proofs.FindLemmas.{held}
 use Rattle.fc_image.specs.Layout.{Layout}
@@ -39,6 +39,10 @@ module _ (nodes : FinMap nat_cmp Node) (layout : Layout) (n at : ℕ) (holds : H
 
   pub set_held : EntryLaw → IsSayable content → (load exec access : ℕ) → access < 8 → CanHold content (set_entry e load exec access)
   set_held law sayable load exec access low = law.set_held content e load exec access (held content at e sayable entry_there) low
+
+  pub saved_held : EntryLaw → IsSayable content → (load exec len address : ℕ) → CanAddress holds.content address → CanHold content (saved_entry e load exec len address)
+  saved_held law sayable load exec len address can =
+      law.saved_held content e load exec len address (held content at e sayable entry_there) (subst (λ (d : Directory). CanAddress d address) (sym content_is) can)
 
 -- the entry of a number that the directory has
 pub an_entry : (nodes : FinMap nat_cmp Node) (layout : Layout) (n at : ℕ) (holds : HoldsEntry nodes layout n at) (node : Node) (content : Directory) → get nodes n ≡ Some node → node.body ≡ body_in content

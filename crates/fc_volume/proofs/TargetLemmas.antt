@@ -124,7 +124,7 @@ few_ids m is small id low = by (m.geometry.version == 0) refl small
     by false e f = absurd (cc)
 
 -- an address at which bytes lie fits the three bytes of a small directory
-low_address : (m : Map) (address bytes : ℕ) (xs : List ℕ) → IsNewMap m → m.geometry.version ≡ 0 → (bytes == 0) ≡ false → sectors_at (Layout.New m) address bytes ≡ Some xs → address < 2 ^ 24
+pub low_address : (m : Map) (address bytes : ℕ) (xs : List ℕ) → IsNewMap m → m.geometry.version ≡ 0 → (bytes == 0) ≡ false → sectors_at (Layout.New m) address bytes ≡ Some xs → address < 2 ^ 24
 unfolding sectors_at
 low_address m address bytes xs is old some at =
     let here : new_sectors m address bytes ≡ Some xs = ap (λ (b : Bool). cond b (Some []) (new_sectors m address bytes)) (sym some) ∙ at in

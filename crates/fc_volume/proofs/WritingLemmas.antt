@@ -20,7 +20,7 @@ part_kept d {old = old} {new = new} {size' = size'} {place = place} {place' = pl
     (subst (λ (es : List Extent). StopsAndExitsLeave d old new (IsPartWritten size' (sectors_in es) bytes)) p
     (subst (λ (k : ℕ). StopsAndExitsLeave d old new (IsPartWritten k (sectors_in place) bytes)) n kept))
 
-among_at : (sectors : List ℕ) (i s : ℕ) → i < length sectors → get_or sectors i 0 ≡ s → is_among sectors s ≡ true
+pub among_at : (sectors : List ℕ) (i s : ℕ) → i < length sectors → get_or sectors i 0 ≡ s → is_among sectors s ≡ true
 among_at [] i s low is = absurd (omega (arith, low))
 among_at (x ∷ sectors) zero s low is = ap (λ b. b || is_among sectors s) (eq-eqb x s is)
 among_at (x ∷ sectors) (suc i) s low is = or_true (x == s) (among_at sectors i s (omega (arith, low)) is)

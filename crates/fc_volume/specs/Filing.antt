@@ -32,7 +32,7 @@ use Rattle.fc_volume.specs.Rewrites.{IsPrepared}
 use Rattle.fc_tree.specs.Parts.{AreOwners}
 use Rattle.fc_placing.specs.declared.placing.Placing.{Placing}
 use Rattle.fc_placing.specs.declared.placing.Placing.TheVariants.{Nowhere, Shared, New}
-use Rattle.fc_placing.specs.Places.{IsFilePlace, WantsSpace, address_in as placed_at}
+use Rattle.fc_placing.specs.Places.{FitsDirectory, IsFilePlace, WantsSpace, address_in as placed_at}
 use Rattle.fc_volume.specs.declared.changes.putting.FileSpace.{FileSpace}
 use Rattle.fc_changes.specs.Owed.{IsMapAfter, IsSpaceEdit, IsWritten}
 use Rattle.fc_objects.specs.Extents.{sectors_in}
@@ -44,6 +44,18 @@ use Rattle.fc_volume.specs.declared.changes.filing.Filing.{Filing}
 use Rattle.fc_volume.specs.declared.copies.Copies.TheVariants.{Equal}
 use Rattle.fc_volume.specs.Volume.{Volume}
 use Rattle.fc_volume.specs.Storing.{AreStored, HasSpaceOf, IsFirstStored, IsPlaceOf}
+
+-- The command wants a file of so many bytes in the directory of this number, which has room for it and doesn't grow.
+pub record WantsPlace (m : Map) (owners : List Owner) (dir bytes : ℕ) (v : Opened) (c : Command) : Type 0 where
+  pub nodes : FinMap nat_cmp Node
+  pub path : Path
+  pub at : v.layout ≡ Layout.New m
+  pub sound : AreSound (Layout.New m) v.listings
+  pub held : HoldObjects nodes v.listings
+  pub owned : AreOwners owners nodes (Layout.New m) (objects_of v.listings)
+  pub number : number_of nodes path ≡ Some dir
+  pub wants : WantsSpace v c path bytes
+  pub fits : FitsDirectory v c
 
 -- The command wants a new file of so many bytes, of this name, in the directory of this number, which says `content` and is small.
 pub record WantsFile (m : Map) (owners : List Owner) (dir bytes : ℕ) (content : Directory) (name : List ℕ) (v : Opened) (c : Command) : Type 0 where

@@ -19,3 +19,10 @@ pub mod Relocating
 pub mod Renaming
 pub mod RenameLaws
 pub mod Moving
+pub mod Copying
+pub mod Carrying
+pub mod CarryLaws
+pub mod Saving
+pub mod Replacing
+pub mod ReplaceLaws
+pub mod SaveLaws

@@ -5,6 +5,8 @@ use Rattle.fc_device.specs.declared.disk.Disk.{Ghosts}
 use Rattle.fc_device.specs.Calls.{StopsAsBefore}
 use Rattle.fc_device.specs.Stops.{StillLeaves}
 use Rattle.fc_record.specs.declared.Kind.{Kind}
+use Rattle.fc_oldmap.specs.Holes.{AreHoles}
+use Rattle.fc_oldmap.specs.OldMap.{map_units}
 use Rattle.fc_newmap.specs.Map.{Map}
 use Rattle.fc_copies.specs.declared.Which.{Which}
 use Rattle.fc_copies.specs.Copies.{chosen, copy_of}
@@ -45,10 +47,10 @@ HasCopies Equal layout image = HasEqualCopies image layout
 HasCopies (Chosen which) (Layout.New m) image = CountsAs m which image
 HasCopies (Chosen which) (Layout.Old space) image = ⊥
 
--- The copies of a new map lie within so many sectors.
+-- The map lies within so many sectors. The holes of an old map lie behind it.
 abbrev pub HoldsMap : Layout → ℕ → Type 0
 HoldsMap (Layout.New m) sectors = m.geometry.map_sector + 2 * m.geometry.zones ≤ sectors
-HoldsMap (Layout.Old space) sectors = Unit {0}
+HoldsMap (Layout.Old space) sectors = (2 ≤ sectors) × AreHoles space.disc_units space.sector_units (map_units space.sector_units) space.holes
 
 -- The volume stands for the disk: the disk has the volume's sectors, as many as its disc and its map take at least; the parts agree with each
 -- other; and if the disk tells its bytes, these are the parts of its image, and its copies are as they are known to be.

@@ -1,21 +1,28 @@
 // Commands that change a volume: each is judged, drafted in memory, written, and then taken over.
 
+mod carry;
+mod carrying;
 mod cdir;
+mod copying;
 mod delete;
 mod filing;
 mod laws;
 mod made;
-mod making;
-mod moving;
+pub mod making;
+pub mod moving;
 mod put;
 mod putting;
-mod relocate;
+pub mod relocate;
 mod removal;
 mod rename;
-mod renaming;
-mod reword;
-mod rewrite;
-mod set;
+pub mod renaming;
+mod replace;
+mod replaced;
+mod replacing;
+pub mod reword;
+pub mod rewrite;
+mod save;
+pub mod set;
 mod storing;
-mod taking;
+pub mod taking;
 mod writing;

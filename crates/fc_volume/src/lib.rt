@@ -1,14 +1,14 @@
 //! Volumes: the filing system over one disk.
 #![tactic(auto)]
 
-mod changes;
+pub mod changes;
 mod compacting;
 mod copies;
 mod lines;
 mod maps;
 mod misplaced;
 mod mount;
-mod owners;
+pub mod owners;
 mod pieces;
 mod reading;
 mod volume;

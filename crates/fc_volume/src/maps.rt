@@ -4,7 +4,8 @@ ghost use Rattle.std.specs.Option.{ForSome};
 ghost use Rattle.fc_device.specs.Faults.{Rose};
 ghost use Rattle.fc_record.specs.Record.{IsRecord, geometry};
 ghost use Rattle.fc_device.specs.Calls.{FailsByFault, OnlyReads};
-ghost use Rattle.fc_oldmap.specs.OldMap.{free_space, hole_fault};
+ghost use Rattle.fc_oldmap.specs.Holes.{AreHoles};
+ghost use Rattle.fc_oldmap.specs.OldMap.{free_space, hole_fault, map_units};
 ghost use Rattle.fc_record.specs.Kinds.{IsKind, disc_size, fits_kind, is_old_map, map_record, old_units, sector_size};
 ghost use Rattle.fc_newmap.specs.Map.{zones_in};
 ghost use Rattle.fc_newmap.specs.NewMap.{IsOfRecord};
@@ -200,6 +201,7 @@ fn old_map_in(front: &[u8], units: u32, sector_units: u32) -> Result<OldMap, Ima
     requires size { length front.now ≡ 1024 }
     requires units { (sector_units ≡ 1) ⊎ (sector_units ≡ 4) }
     ensures map { IfOk result (λ map. (map ≡ free_space (take 512 front.now) sector_units) × (map.disc_units ≡ units)) }
+    ensures behind { IfOk result (λ map. AreHoles map.disc_units map.sector_units (map_units map.sector_units) map.holes) }
     ensures holes { IsTrue (is_old_map (take 512 front.now) && (old_units (take 512 front.now) == units)) → MatchResult result (λ _. hole_fault (take 512 front.now) sector_units ≡ None) (λ fault. (index : ℕ) × (hole_fault (take 512 front.now) sector_units ≡ Some index) × (fault ≡ ImageFault.Hole index)) }
 {
     match OldMap::read(&front[..512], sector_units) {

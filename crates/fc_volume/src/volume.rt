@@ -12,12 +12,12 @@ use std::marker::Model;
 /// disk; each call is given it.
 #[derive(Drop)]
 pub struct Volume {
-    pub(crate) places: Places,
-    pub(crate) copies: Copies,
-    pub(crate) tree: Tree,
-    pub(crate) owners: Owners,
-    pub(crate) read_only: bool,
-    pub(crate) fit: bool,
+    pub places: Places,
+    pub copies: Copies,
+    pub tree: Tree,
+    pub owners: Owners,
+    pub read_only: bool,
+    pub fit: bool,
 }
 
 impl Model for Volume {

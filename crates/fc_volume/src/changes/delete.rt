@@ -28,8 +28,8 @@ use fc_space::{Places, Space};
 use fc_tree::Tree;
 use std::alloc::Global;
 
-// An identifier, if there is one, as a list.
-fn as_list(alloc: Global, id: Option<u32>) -> Result<Vec<u32>, NoMemory>
+/// An identifier, if there is one, as a list.
+pub fn as_list(alloc: Global, id: Option<u32>) -> Result<Vec<u32>, NoMemory>
     ensures { IfOk result (λ ids. ids.items ≡ option_to_list id) }
 {
     let mut ids = Vec::new(alloc);
@@ -42,8 +42,8 @@ fn as_list(alloc: Global, id: Option<u32>) -> Result<Vec<u32>, NoMemory>
     }
 }
 
-// The zones of a new map in which identifiers have runs.
-fn zones_of(alloc: Global, places: &Places, gone: &[u32]) -> Result<Vec<u16>, NoMemory>
+/// The zones of a new map in which identifiers have runs.
+pub fn zones_of(alloc: Global, places: &Places, gone: &[u32]) -> Result<Vec<u16>, NoMemory>
     ensures { IfOk result (λ zones. (m : Map) → layout_of places.now ≡ Layout.New m → zones.items ≡ zones_changed m None gone.now) }
 {
     let mut zones = Vec::new(alloc);

@@ -4,9 +4,12 @@ ghost use Rattle.fc_image.specs.Layout.{Layout};
 ghost use Rattle.fc_newmap.specs.Map.{Map};
 ghost use Rattle.fc_newmap.specs.NewMap.{IsNewMap};
 ghost use Rattle.fc_space.specs.Space.{layout_of};
+ghost use Rattle.fc_volume.specs.CarryLaws.{CarryLaws};
 ghost use Rattle.fc_volume.specs.CdirLaws.{CdirLaws};
 ghost use Rattle.fc_volume.specs.ChangeLaws.{ChangeLaws};
 ghost use Rattle.fc_volume.specs.RenameLaws.{RenameLaws};
+ghost use Rattle.fc_volume.specs.ReplaceLaws.{ReplaceLaws};
+ghost use Rattle.fc_volume.specs.SaveLaws.{SaveLaws};
 
 use fc_space::{Places, Space};
 
@@ -48,6 +51,24 @@ pub fn cdir_laws()
     fc_takeover::steps();
 }
 
+/// The laws of the crates below for a new file, in one record.
+pub fn save_laws()
+    ensures { SaveLaws }
+{
+    fc_tree::opened();
+    fc_nodes::added();
+    fc_agree::agreed();
+    fc_agree::cuts();
+    fc_agree::maps();
+    fc_agree::added();
+    fc_placing::places();
+    fc_placing::steps();
+    fc_takeover::writes();
+    fc_takeover::objects();
+    fc_takeover::places();
+    fc_takeover::steps();
+}
+
 /// A law: a new map in memory is one.
 pub fn is_new_map(places: &Places)
     ensures { (m : Map) → layout_of places.now ≡ Layout.New m → IsNewMap m }
@@ -68,4 +89,37 @@ pub fn rename_laws()
     fc_nodes::owning();
     fc_agree::renamed();
     fc_agree::transferred();
+}
+
+/// The laws of `rename` of a file that is copied, in one record.
+pub fn carry_laws()
+    ensures { CarryLaws }
+{
+    rename_laws();
+    fc_nodes::copied();
+    fc_agree::copied();
+    fc_placing::places();
+    fc_placing::copies();
+    fc_takeover::copied_bytes();
+    fc_takeover::copied_steps();
+}
+
+/// The laws of `save` and `create` over a file, in one record.
+pub fn replace_laws()
+    ensures { ReplaceLaws }
+{
+    fc_tree::opened();
+    fc_tree::stored_entries();
+    fc_nodes::replaced();
+    fc_nodes::owning();
+    fc_agree::agreed();
+    fc_agree::cuts();
+    fc_agree::maps();
+    fc_agree::replaced();
+    fc_placing::places();
+    fc_placing::steps();
+    fc_takeover::writes();
+    fc_takeover::objects();
+    fc_takeover::places();
+    fc_takeover::steps();
 }

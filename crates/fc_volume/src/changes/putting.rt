@@ -13,7 +13,7 @@ ghost use Rattle.fc_objects.specs.Extents.{sectors_in};
 ghost use Rattle.fc_placing.specs.Places.{IsFilePlace, IsOwnPlan, address_in, id_in};
 ghost use Rattle.fc_placing.specs.declared.placing.Placing.{Placing};
 ghost use Rattle.fc_space.specs.Space.{layout_of};
-ghost use Rattle.fc_volume.specs.Filing.{CanFileIn, CanTake, IsFileDrafted, IsFileReady, IsFileSpace, IsSomePlace, WantsFile};
+ghost use Rattle.fc_volume.specs.Filing.{CanFileIn, CanTake, IsFileDrafted, IsFileReady, IsFileSpace, IsSomePlace, WantsFile, WantsPlace};
 ghost use Rattle.fc_volume.specs.Storing.{IsPlaceOf};
 ghost use Rattle.fc_volume.specs.Making.{AnswersSpace};
 
@@ -34,6 +34,27 @@ use fc_space::{PlaceError, Places};
 use fc_tree::Tree;
 use std::alloc::Global;
 
+/// The place of a file of so many bytes in a directory that has room for its entry, or why there is none.
+pub fn find_place(
+    alloc: Global,
+    map: &NewMap,
+    owners: &Owners,
+    dir: u64,
+    bytes: u64,
+) -> Result<Placing, CommandError>
+    requires few { bytes < 2 ^ 63 }
+    ensures place { IfOk result (IsFilePlace map.now owners.now dir bytes) }
+    ensures id { IfOk result (λ place. id_in place < 2 ^ 24) }
+    ensures refused { (v : Opened) (c : Command) → WantsPlace map.now owners.now dir bytes v c → AnswersSpace result (short v c) }
+{
+    match place_file(alloc, map, owners, dir, bytes) {
+        Ok(place) => Ok(place),
+        Err(PlanError::IdsFull) => Err(CommandError::Refused(Refusal::IdsFull)),
+        Err(PlanError::DiscFull) => Err(CommandError::Refused(Refusal::DiscFull)),
+        Err(PlanError::NoMemory) => Err(CommandError::NoMemory),
+    }
+}
+
 /// The place of a new file in a directory that says what the draft says, or why there is none.
 pub fn plan_file(
     alloc: Global,
@@ -52,12 +73,7 @@ pub fn plan_file(
     if !has_room(draft, name) {
         return Err(CommandError::Refused(Refusal::DirFull));
     }
-    match place_file(alloc, map, owners, dir, bytes) {
-        Ok(place) => Ok(place),
-        Err(PlanError::IdsFull) => Err(CommandError::Refused(Refusal::IdsFull)),
-        Err(PlanError::DiscFull) => Err(CommandError::Refused(Refusal::DiscFull)),
-        Err(PlanError::NoMemory) => Err(CommandError::NoMemory),
-    }
+    find_place(alloc, map, owners, dir, bytes)
 }
 
 /// The space of a file: what it takes of the map and the zones that this changes, where it lies then, and its address.

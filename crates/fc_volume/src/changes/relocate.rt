@@ -150,8 +150,8 @@ fn set_owner(owners: &mut Owners, owner: Option<Owner>)
     }
 }
 
-// The nodes and owners become those of a relocation. It takes no memory.
-fn take_over(tree: &mut Tree, owners: &mut Owners, change: Relocation)
+/// The nodes and owners become those of a relocation. It takes no memory.
+pub fn take_over(tree: &mut Tree, owners: &mut Owners, change: Relocation)
     requires { CanTakeOver (nodes_of tree.old) owners.old change }
     ensures nodes { nodes_of tree.new ≡ relocated change (nodes_of tree.old) }
     ensures owners { owners.new ≡ with_owner change.owner owners.old }

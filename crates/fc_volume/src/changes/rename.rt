@@ -13,7 +13,8 @@ ghost use Rattle.fc_volume.specs.Compacting.{UnlessFault};
 ghost use Rattle.fc_volume.specs.Renaming.{IsAccepted};
 ghost use Rattle.fc_volume.specs.Volume.{StandsFor, parts_of};
 
-use crate::changes::laws::{is_new_map, rename_laws};
+use crate::changes::carrying::prepare_carrying;
+use crate::changes::laws::{carry_laws, is_new_map, rename_laws};
 use crate::changes::moving::{is_full, prepare_move};
 use crate::changes::renaming::prepare_within;
 use crate::{CommandError, Volume};
@@ -22,32 +23,6 @@ use fc_names::{Path, Refusal};
 use fc_placing::is_copied;
 use fc_refusals::{Renaming, judge_rename};
 use std::alloc::Global;
-
-/// Moves a file, which the judge has accepted and which shares its identifier, to another directory, into space of its own.
-pub(crate) trait Carries {
-    /// What `Volume::rename_across` promises of an object that isn't copied.
-    fn carry<D: Disk>(
-        volume: &mut Volume,
-        alloc: Global,
-        disk: &mut D,
-        from: &Path,
-        to: &Path,
-        renaming: Renaming,
-    ) -> Result<(), CommandError>
-        requires attached { IsTrue (D.attached disk.old) }
-        requires settled { IsFalse (D.pending disk.old) }
-        requires fit { IsTrue volume.old.fit }
-        requires stands { StandsFor D.Disk volume.old disk.old }
-        requires new_map { IsNewLayout (parts_of volume.old).layout }
-        requires accepted { IsAccepted volume.old from.now to.now renaming }
-        requires across { renaming.holder ≡ renaming.target.holder → ⊥ }
-        requires copied { SaysCopied volume.old.owners renaming.target.node renaming.holder true }
-        ensures refused { AnswersOver volume.old (Command.Rename from.now to.now) result }
-        ensures changed { OnOk result (HasChanged D.Disk (Command.Rename from.now to.now) (parts_of volume.old) (parts_of volume.new) disk.old disk.new) }
-        ensures places { WritesOnlyPlaces D.Disk (Command.Rename from.now to.now) (parts_of volume.old) disk.old disk.new }
-        ensures keeps { ChangeKeeps D.Disk disk.old disk.new volume.old volume.new result }
-        ensures form_stays { UnlessFault result (dir_form (parts_of volume.new).layout ≡ dir_form (parts_of volume.old).layout) };
-}
 
 impl Volume {
     // What a rename is about, if the judge refuses nothing.
@@ -136,13 +111,59 @@ impl Volume {
         }
     }
 
+    // Moves a file, which the judge has accepted and which shares its identifier, to another directory, into space of its own.
+    // Nothing goes back, since another object has the identifier.
+    fn rename_copied<D: Disk>(
+        &mut self,
+        alloc: Global,
+        disk: &mut D,
+        from: &Path,
+        to: &Path,
+        renaming: Renaming,
+    ) -> Result<(), CommandError>
+        requires attached { IsTrue (D.attached disk.old) }
+        requires settled { IsFalse (D.pending disk.old) }
+        requires fit { IsTrue self.old.fit }
+        requires stands { StandsFor D.Disk self.old disk.old }
+        requires new_map { IsNewLayout (parts_of self.old).layout }
+        requires accepted { IsAccepted self.old from.now to.now renaming }
+        requires across { renaming.holder ≡ renaming.target.holder → ⊥ }
+        requires copied { SaysCopied self.old.owners renaming.target.node renaming.holder true }
+        ensures refused { AnswersOver self.old (Command.Rename from.now to.now) result }
+        ensures changed { OnOk result (HasChanged D.Disk (Command.Rename from.now to.now) (parts_of self.old) (parts_of self.new) disk.old disk.new) }
+        ensures places { WritesOnlyPlaces D.Disk (Command.Rename from.now to.now) (parts_of self.old) disk.old disk.new }
+        ensures keeps { ChangeKeeps D.Disk disk.old disk.new self.old self.new result }
+        ensures form_stays { UnlessFault result (dir_form (parts_of self.new).layout ≡ dir_form (parts_of self.old).layout) }
+    {
+        carry_laws();
+        is_new_map(&self.places);
+        self.places.places_suffice();
+        let _ = self.owners.list();
+        if is_full(&self.tree, renaming.holder) {
+            return Err(CommandError::Refused(Refusal::DirFull));
+        }
+        match prepare_carrying(
+            alloc,
+            &self.tree,
+            &self.places,
+            renaming.target,
+            renaming.holder,
+            to,
+        ) {
+            Ok(change) => self.carry(disk, change),
+            Err(error) => Err(error),
+        }
+    }
+
     /// Gives an object another name, another directory, or both. The disc has a new map and small directories, and nothing is
-    /// pending. Before the directories are written, copies of the map that may differ are made equal. Of a file that is
-    /// copied the work is done by `C`.
+    /// pending. Copies of the map that may differ are made equal first. A file that moves to another directory and shares its
+    /// identifier with another object is copied into holes then, and the map is written with its space. Last come the
+    /// directory that gets the entry, the object's own, if it is a directory, and the directory that loses the entry. No other
+    /// sector is written.
     ///
     /// Refused with the first reason that applies, and then nothing has changed; `NoMemory` leaves all as it was, too.
     /// `DiskFault` only if the disk's count of faults rose; the volume is unfit afterwards.
-    pub(crate) fn rename_by<D: Disk, C: Carries>(
+    pub fn rename<D: Disk>(
         &mut self,
         alloc: Global,
         disk: &mut D,
@@ -170,7 +191,7 @@ impl Volume {
             return self.rename_within(alloc, disk, from, to, renaming);
         }
         if is_copied(&self.owners, renaming.target.node, renaming.holder) {
-            return C::carry(self, alloc, disk, from, to, renaming);
+            return self.rename_copied(alloc, disk, from, to, renaming);
         }
         self.rename_across(alloc, disk, from, to, renaming)
     }

@@ -33,8 +33,8 @@ pub struct Rewording {
     pub entry: Entry,
 }
 
-// The nodes become those of a rewording. It takes no memory.
-fn take_over(tree: &mut Tree, change: Rewording)
+/// The nodes become those of a rewording. It takes no memory.
+pub fn take_over(tree: &mut Tree, change: Rewording)
     requires directory { IsSome (get (nodes_of tree.old) change.directory.node) }
     requires object { IsSome (get (nodes_of tree.old) change.node) }
     ensures { nodes_of tree.new ≡ with_entry change.node change.entry (with_body change.directory.node (body_in (directory_in change.directory.draft)) (nodes_of tree.old)) }

@@ -67,8 +67,8 @@ pub fn bytes_of(alloc: Global, draft: &Draft) -> Result<Vec<u8>, NoMemory>
     Ok(bytes)
 }
 
-// The sectors where the object of an entry lies.
-fn place_of(alloc: Global, places: &Places, e: &Entry) -> Result<Vec<Extent>, NoMemory>
+/// The sectors where the object of an entry lies.
+pub fn place_of(alloc: Global, places: &Places, e: &Entry) -> Result<Vec<Extent>, NoMemory>
     requires { IsSome (sectors_at (layout_of places.now) e.now.address (object_size (dir_form (layout_of places.now)) e.now)) }
     ensures { IfOk result (λ place. sectors_at (layout_of places.now) e.now.address (object_size (dir_form (layout_of places.now)) e.now) ≡ Some (sectors_in place.items)) }
 {

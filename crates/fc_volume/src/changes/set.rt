@@ -24,8 +24,8 @@ use fc_space::Places;
 use fc_tree::Tree;
 use std::alloc::Global;
 
-// Makes the new entry of an object ready, and the directory that holds it.
-fn prepare_set(
+/// Makes the new entry of an object ready, and the directory that holds it.
+pub fn prepare_set(
     alloc: Global,
     tree: &Tree,
     places: &Places,

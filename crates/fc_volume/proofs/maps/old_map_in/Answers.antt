@@ -1,16 +1,22 @@
-use Rattle.std.proofs.Common.{take, refl, sym, ap, ◌∙◌, arith}
+use Rattle.std.proofs.Common.{take, refl, sym, ap, subst, ◌∙◌, arith}
 use Rattle.std.specs.Prelude.{◌==◌, Result, Err}
 use Rattle.std.proofs.lemmas.List.{length-take-le}
 use Rattle.fc_oldmap.specs.declared.OldMapFault.{OldMapFault}
 use Rattle.std.proofs.lemmas.Bool.{eqb-true}
 use Rattle.fc_record.specs.Kinds.{is_old_map, old_units}
-use Rattle.fc_oldmap.specs.OldMap.{FreeSpace}
-use Rattle.fc_volume.proofs.MapsOldLemmas.{and_parts, map_read, hole_read, no_check}
+use Rattle.fc_oldmap.specs.Holes.{AreHoles}
+use Rattle.fc_oldmap.specs.OldMap.{FreeSpace, map_units}
+use Rattle.fc_volume.proofs.MapsOldLemmas.{and_parts, behind, map_read, hole_read, no_check}
 use Rattle.fc_volume.proofs.maps.old_map_in.Goals as goal
 
 pub returns-then-disc_units-units-clause-map : goal.returns-then-disc_units-units-clause-map
 returns-then-disc_units-units-clause-map c =
     ((map_read (take 512 c.args.front.now) c.args.sector_units c.in-Ok.map (sym c.in-Ok.ensures)).0, sym c.disc_units.ensures ∙ c.if-disc_units-units.true)
+
+pub returns-then-disc_units-units-clause-behind : goal.returns-then-disc_units-units-clause-behind
+returns-then-disc_units-units-clause-behind c =
+    let read = map_read (take 512 c.args.front.now) c.args.sector_units c.in-Ok.map (sym c.in-Ok.ensures) in
+    subst (λ (m : FreeSpace). AreHoles m.disc_units m.sector_units (map_units m.sector_units) m.holes) (sym read.0) (behind (take 512 c.args.front.now) c.args.sector_units read.1)
 
 pub returns-then-disc_units-units-clause-holes : goal.returns-then-disc_units-units-clause-holes
 returns-then-disc_units-units-clause-holes c = λ fits. (map_read (take 512 c.args.front.now) c.args.sector_units c.in-Ok.map (sym c.in-Ok.ensures)).1

@@ -3,7 +3,7 @@ use Rattle.std.specs.Prelude.{Result, Err}
 use Rattle.fc_image.specs.declared.ImageFault.{ImageFault}
 use Rattle.fc_image.specs.Opening.{MapAndRoot}
 use Rattle.fc_oldmap.specs.OldMap.{FreeSpace}
-use Rattle.fc_volume.proofs.MapsOldLemmas.{old_found, old_wrong, old_front, old_room}
+use Rattle.fc_volume.proofs.MapsOldLemmas.{old_found, old_wrong, old_front, old_room, two_sectors}
 use Rattle.fc_volume.proofs.maps.read_old.Goals as goal
 
 pub returns-in-Ok-old_map_in-clause-found : goal.returns-in-Ok-old_map_in-clause-found
@@ -18,6 +18,11 @@ returns-in-Ok-old_map_in-clause-room g c =
     let units : c.in-Ok-old_map_in.map.sector_units ≡ c.args.sector_units = ap (λ (m : FreeSpace). m.sector_units) c.in-Ok-old_map_in.ensures.map.0 in
     let room = old_room c.args.units c.args.sector_units _ _ _ c.requires.units c.requires.size (g.met.D.Disk.whole_sectors c.args.disk.now) c.requires.long in
     rw (c.in-Ok-old_map_in.ensures.map.1, units) room
+
+pub returns-in-Ok-old_map_in-clause-map_room : goal.returns-in-Ok-old_map_in-clause-map_room
+returns-in-Ok-old_map_in-clause-map_room g c =
+    let room = old_room c.args.units c.args.sector_units _ _ _ c.requires.units c.requires.size (g.met.D.Disk.whole_sectors c.args.disk.now) c.requires.long in
+    (two_sectors c.args.units c.args.sector_units _ c.requires.units c.requires.two room, c.in-Ok-old_map_in.ensures.behind)
 
 pub returns-in-Err-clause-fault : goal.returns-in-Err-clause-fault
 returns-in-Err-clause-fault g c = λ image told.

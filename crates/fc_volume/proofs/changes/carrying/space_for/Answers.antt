@@ -1,0 +1,16 @@
+use Rattle.std.proofs.Common.{ap, subst, sym, ◌∙◌}
+use Rattle.std.proofs.lemmas.Result.{IfOk-weaker}
+use Rattle.fc_newmap.specs.Map.{Map}
+use Rattle.fc_space.specs.Space.{layout_of}
+use Rattle.fc_volume.specs.Carrying.{IsCopySpace}
+use Rattle.fc_volume.proofs.StoringLemmas.{one_map}
+use Rattle.fc_volume.proofs.changes.carrying.space_for.Goals as goal
+
+pub returns-in-NewMapped-clause-space : goal.returns-in-NewMapped-clause-space
+returns-in-NewMapped-clause-space c =
+    IfOk-weaker c.find_space.result _ _
+    (λ s found m at. subst (λ (x : Map). IsCopySpace x c.args.len s) (one_map c.in-NewMapped.map m (sym (ap layout_of (sym c.space.ensures ∙ c.in-NewMapped.is)) ∙ at)) found)
+    c.find_space.ensures.space
+
+pub returns-in-NewMapped-clause-refused : goal.returns-in-NewMapped-clause-refused
+returns-in-NewMapped-clause-refused c = λ v k at. c.find_space.ensures.refused v k (at ∙ ap layout_of (sym c.space.ensures ∙ c.in-NewMapped.is))
