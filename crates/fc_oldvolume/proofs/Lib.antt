@@ -1,0 +1,12 @@
+mod WritingLemmas
+mod ChangeLemmas
+mod TargetLemmas
+mod RewriteLemmas
+mod SetLemmas
+mod SetVolumeLemmas
+mod SpacesLemmas
+mod JudgedLemmas
+mod OwnersLemmas
+mod GoingLemmas
+mod DeleteLemmas
+mod DeleteVolumeLemmas
