@@ -1,6 +1,6 @@
 #!/usr/bin/env bash
 # Runs the built program over the images of tools/images.py, and compares output and status with that table; then the examples
-# of README.md. No image may be changed. Then the program where the system fails it, fcdisc over the program, what `make install`
+# of README.md. No image may be changed. Then demos, the program where the system fails it, fcdisc over the program, what `make install`
 # puts there, and the man pages. The page of the format is tried first: the reader that was written from it has to say the same as
 # the other reader.
 #
@@ -121,6 +121,7 @@ FCORE=$program bin/fcdisc adl --back l-files.adf sides.adl
 cat <(head -c 512 /dev/zero) f-user.adf > header.adf
 examples=$(PATH="$folder/bin:$PATH" python3 "$tools/readme_examples.py" "$tools/../README.md") || failed=$((failed + 1))
 printf '%s\n' "$examples"
+python3 "$tools/check_demo.py" "$program" || failed=$((failed + 1))
 python3 "$tools/check_outside.py" "$program" || failed=$((failed + 1))
 python3 "$tools/check_crash.py" "$program" || failed=$((failed + 1))
 python3 "$tools/check_changes.py" --program "$program" --images 16 --commands 20 || failed=$((failed + 1))

@@ -1,4 +1,5 @@
-"""Checks of the jobs of fcdisc that change a disc. tools/stand_in.py is in fcore's place, since it has all commands.
+"""Checks of the jobs of fcdisc that change a disc. tools/stand_in.py is in fcore's place, since it has all commands over all discs;
+then fcore itself is, over discs for which it has them.
 
 The trees are read by tools/read_image.py; what has to be on a disc is written here, or follows from the disc that was extracted.
 """
@@ -38,10 +39,10 @@ def read(path):
 
 
 class Changes:
-    """The checks, over the folders of those of check_fcdisc.py."""
+    """The checks, over the folders of those of check_fcdisc.py, and with this program as fcore."""
 
-    def __init__(self, checks):
-        self.checks, self.work = checks, b""
+    def __init__(self, checks, fcore=STAND_IN):
+        self.checks, self.fcore, self.work = checks, fcore, b""
 
     # a disc in the work folder
 
@@ -62,13 +63,13 @@ class Changes:
         return os.path.join(self.work, os.fsencode(name))
 
     def run(self, *words, fcore=None, within=None):
-        return self.checks.run(list(words), fcore or STAND_IN, within)
+        return self.checks.run(list(words), fcore or self.fcore, within)
 
     def fake(self, text):
         """A program in fcore's place."""
         path = os.path.join(self.checks.fresh(b"fake"), b"fcore")
         with open(path, "w") as file:
-            file.write(text.replace("STAND_IN", STAND_IN))
+            file.write(text.replace("STAND_IN", self.fcore))
         os.chmod(path, 0o755)
         return "../fake/fcore"
 
@@ -182,6 +183,9 @@ def ordering(c):
                     tree=({"$.A%20B": (3, b"A B!"), "$.D": 0, "$.D.error": (4, b"")}, short_tree(read(c.at("a.adf")))))
     c.run("access", "a.adf", "WR", "D.error")
     c.good("rm -r", ["rm", "-r", "a.adf", "D", "D.error"], {"$.A%20B": (3, b"A B!")})
+
+
+def over_old_maps(c):
     before = short_tree(c.start("l-files.adf"))
     c.run("access", "a.adf", "-", "Outer.Inner.Innermost")  # it is locked
     c.good("rm -r of several levels", ["rm", "-r", "a.adf", "Outer"], {
@@ -366,11 +370,11 @@ def own_format(data, volume):
     return {819200: "E", 1638400: "F", 655360: "L"}.get(len(data), "F") + big
 
 
-def round_trip(c, name, volume, data):
+def round_trip(c, name, data, forms):
     """`extract`, and `add` to fresh discs; and `convert`."""
     tree, checks = tree_of(data), c.checks
     loses = any(node[0] & ~SETTABLE for node in tree.values())
-    for form in dict.fromkeys((own_format(data, volume), "F+")):
+    for form in dict.fromkeys(forms):
         wanted = wanted_tree(tree, form)
         long_names = any(len(part) > 245 for path in tree for part in path)
         c.start(name + ".adf")
@@ -425,12 +429,15 @@ def converting(c):
 
 
 def run_all(checks, mounts):
-    c = Changes(checks)
-    for part in (putting, ordering, forms, adding, troubles, signals, converting):
+    c, real = Changes(checks), Changes(checks, checks.fcore)
+    for part in (putting, ordering, over_old_maps, forms, adding, troubles, signals, converting):
         part(c)
+    for part in (putting, ordering, adding):
+        part(real)
     if mounts:
         no_room(c)
     kept_words(c)
+    kept_words(real)
     seen = []
     discs = [(name, volume, data) for name, volume, data in images.accepted() if len(data) < 2000000]
     for name in ("hostile", "one"):
@@ -439,4 +446,5 @@ def run_all(checks, mounts):
         tree = tree_of(data)
         if tree and (len(data), tree) not in seen:  # many discs differ in their maps alone
             seen.append((len(data), tree))
-            round_trip(c, name, volume, data)
+            round_trip(c, name, data, (own_format(data, volume), "F+"))
+            round_trip(real, name, data, ("E" if len(data) <= 819200 else "F", "F"))  # with directories of 2048 bytes

@@ -437,7 +437,7 @@ FORMS = {  # what follows the words that are paths
 }
 READING = ("cat", "load", "digest", "free", "check")
 ADDING = ("save", "create", "cdir", "rename")  # a directory gets an entry
-BUILT = READING + ("cdir", "compact", "delete", "set")
+BUILT = tuple(word for word in FORMS if word != "reclaim")
 
 
 def read_path(text):

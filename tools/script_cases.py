@@ -90,32 +90,24 @@ def compaction():
                made=("compacted.adf", "fresh-F.adf"))
 
 
-UNBUILT = ("save", "create", "rename")  # status 9, whatever the disc
-
-
-def built(pairs):
-    """The lines whose commands are built."""
-    return [pair for pair in pairs if pair[0].split(" ")[0] not in UNBUILT]
-
-
 def refused_changes():
     """Changes that are refused: no image of the table may change. What changes do is compared by tools/check_changes.py."""
     hello = "48656c6c6f\nok\n"
-    yield lines_case("refused-changes", "hello.adf", built([
+    yield lines_case("refused-changes", "hello.adf", [
         ("delete $.None", NOT_FOUND), ("delete $.None.Deeper", NOT_FOUND), ("delete $.Hello.X", NOT_DIRECTORY), ("delete $", ROOT_REFUSED),
         (f"set $.None {ZEROS} RWL", NOT_FOUND), (f"set $.Hello.X {ZEROS} -", NOT_DIRECTORY), (f"set $ {ZEROS} L", ROOT_REFUSED),
         (f"save $.None.A {ZEROS} -", NOT_FOUND), (f"create $.Hello.A {ZEROS} 1", NOT_DIRECTORY), (f"save $ {ZEROS} 01", IS_DIRECTORY),
         (f"save $.A%20B {ZEROS} 01", BAD_NAME), (f"create $.ElevenBytes {ZEROS} 0", BAD_NAME), ("cdir $.Hello", EXISTS),
         ("cdir $.None.D", NOT_FOUND), ("rename $.None $.A", NOT_FOUND), ("rename $.Hello $", EXISTS), ("rename $ $.A", ROOT_REFUSED),
-        ("rename $.Hello $.A%20B", BAD_NAME), ("load $.hello", hello)]))
-    yield lines_case("refused-changes-read-only", "hello.adf", built([
+        ("rename $.Hello $.A%20B", BAD_NAME), ("load $.hello", hello)])
+    yield lines_case("refused-changes-read-only", "hello.adf", [
         ("delete $.None", NOT_FOUND), ("compact", READ_ONLY), ("delete $", ROOT_REFUSED), ("delete $.hello", READ_ONLY),
         (f"set $ {ZEROS} RL", ROOT_REFUSED), (f"set $.Hello FFFFF000 {ZEROS[:8]} WL", READ_ONLY),
         (f"save $.A {ZEROS} 01", READ_ONLY), (f"create $.Hello {ZEROS} 4294967295", READ_ONLY), ("cdir $.D", READ_ONLY),
-        ("cdir $.Hello", EXISTS), ("rename $.Hello $.B", READ_ONLY), ("rename $.hello $.HELLO", READ_ONLY)]), ["--read-only"])
-    yield lines_case("refused-additions", "e-files.adf", built([
+        ("cdir $.Hello", EXISTS), ("rename $.Hello $.B", READ_ONLY), ("rename $.hello $.HELLO", READ_ONLY)], ["--read-only"])
+    yield lines_case("refused-additions", "e-files.adf", [
         (f"save $.Lengths.L1 {ZEROS} -", LOCKED), (f"create $.Lengths {ZEROS} 1", IS_DIRECTORY), ("cdir $.lengths", EXISTS),
-        ("rename $.Lengths.L1 $.L", LOCKED), ("rename $.Outer $.Outer.Inner.X", INTO_ITSELF), ("rename $.Outer $.Lengths", EXISTS)]))
+        ("rename $.Lengths.L1 $.L", LOCKED), ("rename $.Outer $.Outer.Inner.X", INTO_ITSELF), ("rename $.Outer $.Lengths", EXISTS)])
     for image in ("e-files.adf", "e-plus-files.adf"):
         yield lines_case("locked-and-not-empty-" + image[:-4], image, [
             ("delete $.Lengths.L1", LOCKED), ("delete $.lengths.l100%30", NOT_FOUND), ("delete $.Lengths", NOT_EMPTY),
@@ -129,8 +121,6 @@ def refused_changes():
 def unbuilt():
     yield Case("reclaim", ["hello.adf"], "load $.hello\nreclaim\n", 9)
     for at, line in enumerate(ADDING):
-        if line.split(" ")[0] in UNBUILT:
-            yield Case("change-%d" % at, ["hello.adf"], "load $.hello\n" + line + "\n", 9)
         yield Case("add-old-map-%d" % at, ["d-files.adf"], "free\n" + line + "\n", 9)
         yield Case("add-big-directory-%d" % at, ["e-plus-files.adf"], "free\n" + line + "\n", 9)
     yield Case("add-fresh-big-directory", ["--new", "F+", "unadded.adf"], "free\ncdir $.D\n", 9, made=("unadded.adf", "fresh-F+.adf"))
@@ -146,12 +136,14 @@ def unbuilt():
     yield Case("set-old-map-read-only", ["--read-only", "d-files.adf"], f"cat $\nset $ {ZEROS} -", 9)
     yield Case("set-fresh-old-map", ["--new", "L", "unset.adf"], f"set $.A {ZEROS} RW\n", 9, made=("unset.adf", "fresh-L.adf"))
     yield Case("compact-bad-image", ["zeros.adf"], "compact\n", 3, "bad-image NoKind\n")
-    for at, words in enumerate((["--demo", "5"], ["--demo=10000"], ["--safe"], ["--safe", "--demo", "1"])):
+    for at, words in enumerate((["--safe"], ["--safe", "--demo", "1"])):
         yield Case("option-%d" % at, [*words, "hello.adf"], "load $.hello\n", 9)
         yield Case("option-%d-no-image" % at, ["nothing.adf", *words], "", 9)
     yield Case("new-and-change", ["--new", "E", "unmade.adf"], "free\nreclaim\n", 9, absent="unmade.adf")
     yield Case("new-and-safe", ["--new", "E+", "--safe", "unmade.adf"], "free\n", 9, absent="unmade.adf")
-    yield Case("new-and-demo", ["--new", "F", "--demo", "3", "unmade.adf"], "", 9, absent="unmade.adf")
+    yield Case("demo-old-map", ["--demo", "5", "d-files.adf"], "free\n", 9)
+    yield Case("demo-big-directory", ["--demo=10000", "--read-only", "e-plus-files.adf"], "free\n", 9)
+    yield Case("new-and-demo", ["--new", "F+", "--demo", "3", "undemoed.adf"], "", 9, made=("undemoed.adf", "fresh-F+.adf"))
 
 
 # ---- words

@@ -116,12 +116,12 @@ module _ {D : Type 0} {d : Ghosts D} (law : Laws d) (r : Request) (old new : D) 
   without None is = inl (no_run d old new [] (same is))
   without (Some f) is = inr (refl, refl)
 
-  made : (o : Result Opened ImageFault) (v : Opened) (there : List ℕ) → o ≡ Ok v → EndsByOpening d old new r.read_only true there script [] o DiskFault
-  made o v there is = subst (λ (x : Result Opened ImageFault). EndsByOpening d old new r.read_only true there script [] x DiskFault) (sym is) (inr (refl, refl))
+  made : (o : Result Opened ImageFault) (v : Opened) (there : List ℕ) → o ≡ Ok v → EndsByOpening d old new r.read_only true r.demo there script [] o DiskFault
+  made o v there is = subst (λ (x : Result Opened ImageFault). EndsByOpening d old new r.read_only true r.demo there script [] x DiskFault) (sym is) (inr (refl, refl))
 
   opened : (new' : Option Word) → r.new ≡ new' → d.bytes old ≡ Some image
-      → EndsByOpening d old new r.read_only (is_some new') (image_for new' image) script [] (open_image (image_for new' image)) DiskFault
-  opened None is told = begun_fault law old new accepts r.read_only image script told (same is)
+      → EndsByOpening d old new r.read_only (is_some new') r.demo (image_for new' image) script [] (open_image (image_for new' image)) DiskFault
+  opened None is told = begun_fault law old new accepts r.read_only r.demo image script told (same is)
   opened (Some f) is told = let there = fresh_opens fresh (Some f) image refl in made (open_image (image_for (Some f) image)) there.0 (image_for (Some f) image) there.1
 
   -- The image couldn't be attached.

@@ -1,8 +1,9 @@
 -- How long the lines of a script are, and the words of a line.
-use Rattle.std.proofs.Common.{◌≡◌, ◌≤◌, ◌==◌, ℕ, suc, Bool, true, false, List, [], ◌∷◌, length, refl, sym, subst, arith}
+use Rattle.std.proofs.Common.{◌≡◌, ◌≤◌, ◌==◌, ℕ, suc, ◌+◌, Bool, true, false, List, [], ◌∷◌, length, refl, sym, ap, subst, arith}
 use Rattle.std.specs.Prelude.{filter}
 use Rattle.std.specs.List.{onto_first, slice_split}
-use Rattle.std.proofs.lemmas.List.Splits.{slice_split-cons_no, slice_split-cons_yes}
+use Rattle.std.proofs.lemmas.List.Splits.{length-slice_split, slice_split-cons_no, slice_split-cons_yes}
+use Rattle.std.proofs.lemmas.List.Sums.{count_by-le-length, length-filter}
 use Rattle.fc_script.specs.Lines.{is_command_line}
 use Rattle.fc_runs.specs.Run.{commands_in}
 use Rattle.fc_shell.proofs.LineLemmas.{all_commands}
@@ -43,3 +44,14 @@ pub commands_up_to : (n : ℕ) (script : List ℕ) → length script ≤ n → A
 commands_up_to n script short =
     let lines : List (List ℕ) = slice_split (λ c. c == 10) script in
     subst (AreUpTo n) (all_commands script) (filter_up_to n is_command_line lines (up_to_more (length script) n lines short (split_up_to (λ c. c == 10) script)))
+
+-- A script has at most one command line more than bytes.
+pub commands_few : (n : ℕ) (script : List ℕ) → length script ≤ n → length (commands_in script) ≤ n + 1
+commands_few n script short =
+    let lines : List (List ℕ) = slice_split (λ c. c == 10) script in
+    let here = ap length (all_commands script) in
+    let kept = length-filter is_command_line lines in
+    let some = count_by-le-length is_command_line lines in
+    let all = length-slice_split (λ c. c == 10) script in
+    let ends = count_by-le-length (λ (c : ℕ). c == 10) script in
+    omega (arith, short, here, kept, some, all, ends)

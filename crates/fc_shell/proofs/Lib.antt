@@ -1,6 +1,8 @@
 mod AccessLemmas
+mod AskedLemmas
 mod ChangeLemmas
 mod CompactLemmas
+mod DemoLemmas
 mod LineLemmas
 mod FreshLemmas
 mod KeptLemmas

@@ -24,7 +24,7 @@ use Rattle.fc_shell.specs.declared.ending.End.TheVariants.{Done, Refused, BadWor
 use Rattle.fc_shell.specs.Built.{all_read, any_changing, has_changing, has_unbuilt, is_changing, is_reading_line, only_reads}
 use Rattle.fc_shell.specs.Modes.{plain_mode}
 use Rattle.fc_shell.specs.Promise.{EndsBefore, EndsByGiving, EndsByLength, EndsByOpening, EndsByScript, EndsByWords, EndsOnFault, EndsOver, EndsWithout, Promise}
-use Rattle.fc_shell.specs.Replies.{EndsAs, attached_reply, blank_size, command_reply, image_for, is_unbuilt, line_reply, opened_reply, replies_of, request_reply, script_limit, script_reply, served, silent}
+use Rattle.fc_shell.specs.Replies.{AsksNoDemo, EndsAs, attached_reply, blank_size, command_reply, image_for, is_unbuilt, line_reply, opened_reply, replies_of, request_reply, script_limit, script_reply, served, silent}
 use Rattle.fc_shell.specs.Writing.{Wrote, WrotePart}
 use Rattle.fc_shell.proofs.ReadsLemmas.{one_row, one_step}
 use Rattle.fc_shell.proofs.LackingLemmas.{lacking_script}
@@ -122,7 +122,7 @@ module _ {D : Type 0} (d : Ghosts D) (old new : D) (before after : Option (List 
         (steps_weaker (MayHaveLeft d old new) (λ between. Unit {0}) (λ image may. tt) mode s has.end (commands_in script) has.run.replies has.run.steps) in
         (has.refused_is ∙ ap (list_any is_error) same.0, subst (Wrote before after) (has.run.told ∙ ap text_of same.0) wrote)
 
-    over_as : (end : End) → EndsOver d old new mode fresh s script text end → EndsAs (served (replies_of mode s script)) end before after
+    over_as : (end : End) → EndsOver d old new mode fresh None s script text end → EndsAs (served (replies_of mode s script)) end before after
     over_as Done x = let as' = run_as false x in (ap (λ (b : Bool). if b then Refused else Done) (sym as'.0), as'.1)
     over_as Refused x = let as' = run_as true x in (ap (λ (b : Bool). if b then Refused else Done) (sym as'.0), as'.1)
     over_as ScriptFault x = wrote_none before after text wrote x.told
@@ -171,32 +171,33 @@ module _ {D : Type 0} (d : Ghosts D) (old new : D) (before after : Option (List 
   before_as reason end at (inr (inr is), x) = subst (λ (e : End). EndsAs (silent reason) e before after) (sym is) (part_none before after text [] wrote x.told)
 
   opening_as : (read_only fresh : Bool) (image script : List ℕ) (o : Result Opened ImageFault) (end : End) → only_reads script ≡ true → has_changing script ≡ false
-      → EndsByOpening d old new read_only fresh image script text o end → EndsAs (opened_reply read_only script image o) end before after
+      → EndsByOpening d old new read_only fresh None image script text o end → EndsAs (opened_reply read_only script image o) end before after
   opening_as read_only fresh image script (Err fault) end reads calm x = fault_as fault end x
   opening_as read_only fresh image script (Ok v) end reads calm x = over_as (plain_mode v.kind read_only) fresh (record { image = image; view = v }) script reads calm end x
 
-  giving_as : (r : Request) (image script : List ℕ) (given : Bool) (end : End) → only_reads script ≡ true → has_changing script ≡ false → EndsByGiving d old new r image script text given end
+  giving_as : (r : Request) (image script : List ℕ) (given : Bool) (end : End) → r.demo ≡ None → only_reads script ≡ true → has_changing script ≡ false → EndsByGiving d old new r image script text given end
       → EndsAs (attached_reply given r script image) end before after
-  giving_as r image script false end reads calm x = without_as (is_some r.new) end x
-  giving_as r image script true end reads calm x =
-      opening_as r.read_only (is_some r.new) (image_for r.new image) script (open_image (image_for r.new image)) end reads calm x
+  giving_as r image script false end plain reads calm x = without_as (is_some r.new) end x
+  giving_as r image script true end plain reads calm x =
+      opening_as r.read_only (is_some r.new) (image_for r.new image) script (open_image (image_for r.new image)) end reads calm
+      (subst (λ (demo : Option ℕ). EndsByOpening d old new r.read_only (is_some r.new) demo (image_for r.new image) script text (open_image (image_for r.new image)) end) plain x)
 
-  script_as : (gives : List ℕ → Option ℕ → Bool) (r : Request) (image script : List ℕ) (unbuilt : Bool) (end : End) → (has_unbuilt script ≡ true) ⊎ (has_changing script ≡ false) → has_unbuilt script ≡ unbuilt
+  script_as : (gives : List ℕ → Option ℕ → Bool) (r : Request) (image script : List ℕ) (unbuilt : Bool) (end : End) → r.demo ≡ None → (has_unbuilt script ≡ true) ⊎ (has_changing script ≡ false) → has_unbuilt script ≡ unbuilt
       → EndsByScript d old new gives r image script text unbuilt end → EndsAs (if unbuilt then silent NotBuilt else attached_reply (gives r.image (blank_size r)) r script image) end before after
-  script_as gives r image script true end calm is x = before_as NotBuilt end (λ w. (refl, w)) x
-  script_as gives r image script false end calm is x = giving_as r image script (gives r.image (blank_size r)) end (calm_reads script (calm_built script is calm)) (calm_built script is calm) x
+  script_as gives r image script true end plain calm is x = before_as NotBuilt end (λ w. (refl, w)) x
+  script_as gives r image script false end plain calm is x = giving_as r image script (gives r.image (blank_size r)) end plain (calm_reads script (calm_built script is calm)) (calm_built script is calm) x
 
-  length_as : (gives : List ℕ → Option ℕ → Bool) (r : Request) (image script : List ℕ) (long : Bool) (end : End) → (has_unbuilt script ≡ true) ⊎ (has_changing script ≡ false) → EndsByLength d old new gives r image script text long end
+  length_as : (gives : List ℕ → Option ℕ → Bool) (r : Request) (image script : List ℕ) (long : Bool) (end : End) → r.demo ≡ None → (has_unbuilt script ≡ true) ⊎ (has_changing script ≡ false) → EndsByLength d old new gives r image script text long end
       → EndsAs (if long then silent ScriptTooLong else if has_unbuilt script then silent NotBuilt else attached_reply (gives r.image (blank_size r)) r script image) end before after
-  length_as gives r image script true end calm x = before_as ScriptTooLong end (λ w. (refl, w)) x
-  length_as gives r image script false end calm x = script_as gives r image script (has_unbuilt script) end calm refl x
+  length_as gives r image script true end plain calm x = before_as ScriptTooLong end (λ w. (refl, w)) x
+  length_as gives r image script false end plain calm x = script_as gives r image script (has_unbuilt script) end plain calm refl x
 
-  words_as : (gives : List ℕ → Option ℕ → Bool) (r : Request) (image script : List ℕ) (unbuilt : Bool) (end : End) → (has_unbuilt script ≡ true) ⊎ (has_changing script ≡ false) → EndsByWords d old new gives r image script text unbuilt end
+  words_as : (gives : List ℕ → Option ℕ → Bool) (r : Request) (image script : List ℕ) (unbuilt : Bool) (end : End) → r.demo ≡ None → (has_unbuilt script ≡ true) ⊎ (has_changing script ≡ false) → EndsByWords d old new gives r image script text unbuilt end
       → EndsAs (if unbuilt then silent NotBuilt else script_reply gives r script image) end before after
-  words_as gives r image script true end calm x = before_as NotBuilt end (λ w. (refl, w)) x
-  words_as gives r image script false end calm x = length_as gives r image script (nat_lt script_limit (length script)) end calm x
+  words_as gives r image script true end plain calm x = before_as NotBuilt end (λ w. (refl, w)) x
+  words_as gives r image script false end plain calm x = length_as gives r image script (nat_lt script_limit (length script)) end plain calm x
 
-  pub promise_as : (gives : List ℕ → Option ℕ → Bool) (image script : List ℕ) (o : Option Request) (end : End) → (has_unbuilt script ≡ true) ⊎ (has_changing script ≡ false) → Promise d old new gives image script text o end
+  pub promise_as : (gives : List ℕ → Option ℕ → Bool) (image script : List ℕ) (o : Option Request) (end : End) → AsksNoDemo o → (has_unbuilt script ≡ true) ⊎ (has_changing script ≡ false) → Promise d old new gives image script text o end
       → EndsAs (request_reply gives script image o) end before after
-  promise_as gives image script None end calm x = before_as BadWords end (λ w. (refl, w)) x
-  promise_as gives image script (Some r) end calm x = words_as gives r image script (is_unbuilt r) end calm x
+  promise_as gives image script None end plain calm x = before_as BadWords end (λ w. (refl, w)) x
+  promise_as gives image script (Some r) end plain calm x = words_as gives r image script (is_unbuilt r) end plain calm x

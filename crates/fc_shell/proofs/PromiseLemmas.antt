@@ -22,9 +22,11 @@ use Rattle.fc_shell.specs.declared.ending.End.{End}
 use Rattle.fc_shell.specs.declared.ending.End.TheVariants.{Done, Refused, BadWords, BadImage, DiskFault, ScriptFault, OutFault, NoMemory, ScriptTooLong, NotBuilt, NoImage}
 use Rattle.fc_shell.specs.declared.answer.LineFault.{LineFault}
 use Rattle.fc_shell.specs.declared.answer.LineFault.TheVariants as lines
+use Rattle.fc_shell.specs.declared.tally.Tally.{Tally}
 use Rattle.fc_words.specs.declared.Format.{Format as Word}
 use Rattle.fc_shell.specs.Built.{has_lacking, has_unbuilt}
-use Rattle.fc_shell.specs.Ends.{end_of, is_late}
+use Rattle.fc_shell.specs.Counted.{has_refused}
+use Rattle.fc_shell.specs.Ends.{end_after, end_of, is_late}
 use Rattle.fc_shell.specs.Modes.{plain_mode}
 use Rattle.fc_shell.specs.Promise.{EndsByGiving, EndsByLength, EndsByOpening, EndsByScript, EndsOnFault, EndsOver, LacksCommand}
 use Rattle.fc_shell.specs.Reading.{IsUnwritten}
@@ -45,6 +47,12 @@ Accepts = (image : List ℕ) (v : Opened) → open_image image ≡ Ok v → Open
 pub no_fresh : false ≡ true → ⊥
 no_fresh e = cc
 
+-- the script's end was reached
+abbrev pub is_last : End → Bool
+is_last Done = true
+is_last Refused = true
+is_last end = false
+
 -- ---- from an earlier moment on
 
 module _ {D : Type 0} {d : Ghosts D} (law : Laws d) (old mid new : D) (first : LeavesOnly d.moment d.left_since old mid (λ image. Unit {0}))
@@ -56,28 +64,28 @@ module _ {D : Type 0} {d : Ghosts D} (law : Laws d) (old mid new : D) (first : L
   none_from : (line text : List ℕ) → IsUnwritten d old mid → HasNoRun d mid new line text → HasNoRun d old new line text
   none_from line text same none = record { told = none.told; bytes = none.bytes ∙ same.bytes_stay; stops = goes_on_same law same.stops none.stops }
 
-  module _ (kind : Kind) (read_only fresh : Bool) (s : State) (script text : List ℕ) (told : d.bytes mid ≡ Some s.image) (opens : OpensAs s.image kind s.view)
+  module _ (kind : Kind) (read_only fresh : Bool) (demo : Option ℕ) (s : State) (script text : List ℕ) (told : d.bytes mid ≡ Some s.image) (opens : OpensAs s.image kind s.view)
       (same : fresh ≡ false → IsUnwritten d old mid) where
     abbrev mode : Mode
     mode = plain_mode kind read_only
 
-    stops_from : (end : State) (lines replies : List (List ℕ)) → d.pending old ≡ false → Stops d mid new mode false None s end lines replies text → Stops d old new mode fresh None s end lines replies text
+    stops_from : (end : State) (lines replies : List (List ℕ)) → d.pending old ≡ false → Stops d mid new mode false demo s end lines replies text → Stops d old new mode fresh demo s end lines replies text
     stops_from end lines replies was_quiet stops = record {
-      idle = λ new_map there demo keep image left.
+      idle = λ new_map there none keep image left.
           let unwritten = same there in
           ⊎_elim
           (λ was.
           let is : image ≡ s.image = law.settled old was_quiet s.image (sym unwritten.bytes_stay ∙ told) image (unwritten.stops.since image was) in
           let tree = has_tree kind s image opens is in
           record { view = tree.view; opens = tree.opens; tree = tree.tree })
-          (λ since. stops.idle new_map refl demo keep image since)
+          (λ since. stops.idle new_map refl none keep image since)
           (second.before (d.moment old) image first.later left);
       last = stops.last;
       during = λ safe there image left. absurd (no_fresh safe);
       exit = λ safe image left. absurd (no_fresh safe);
     }
 
-    run_from : (refused : Bool) → HasRun d mid new mode false None s script text refused → HasRun d old new mode fresh None s script text refused
+    run_from : (refused : Bool) → HasRun d mid new mode false demo s script text refused → HasRun d old new mode fresh demo s script text refused
     run_from refused has = record {
       end = has.end;
       run = record {
@@ -92,7 +100,7 @@ module _ {D : Type 0} {d : Ghosts D} (law : Laws d) (old mid new : D) (first : L
       stops = λ was_quiet. stops_from has.end _ has.run.replies was_quiet (has.stops quiet);
     }
 
-    stopped_from : (cause : Cause) → HasStopped d mid new mode false None s script text cause → HasStopped d old new mode fresh None s script text cause
+    stopped_from : (cause : Cause) → HasStopped d mid new mode false demo s script text cause → HasStopped d old new mode fresh demo s script text cause
     stopped_from cause has = record {
       end = has.end;
       ended = record {
@@ -118,7 +126,7 @@ module _ {D : Type 0} {d : Ghosts D} (law : Laws d) (old mid new : D) (first : L
       };
     }
 
-    over_from : (end : End) → (is_late end ≡ true) ⊎ (end ≡ NotBuilt) → EndsOver d mid new mode false s script text end → EndsOver d old new mode fresh s script text end
+    over_from : (end : End) → (is_late end ≡ true) ⊎ (end ≡ NotBuilt) → EndsOver d mid new mode false demo s script text end → EndsOver d old new mode fresh demo s script text end
     over_from Done late x = run_from false x
     over_from Refused late x = run_from true x
     over_from DiskFault late (inl x) = inl (stopped_from Cause.Disk x)
@@ -148,18 +156,18 @@ module _ {D : Type 0} {d : Ghosts D} (law : Laws d) (old mid new : D) (first : L
   fault_from fault text NotBuilt same x = absurd x
   fault_from fault text NoImage same x = absurd x
 
-  pub ends_from : Accepts → (read_only fresh : Bool) (image script text : List ℕ) (end : End) → d.bytes mid ≡ Some image → (fresh ≡ false → IsUnwritten d old mid)
+  pub ends_from : Accepts → (read_only fresh : Bool) (demo : Option ℕ) (image script text : List ℕ) (end : End) → d.bytes mid ≡ Some image → (fresh ≡ false → IsUnwritten d old mid)
       → (fresh ≡ true → (v : Opened) × (open_image image ≡ Ok v)) → (is_late end ≡ true) ⊎ (end ≡ NotBuilt)
-      → EndsByOpening d mid new read_only false image script text (open_image image) end → EndsByOpening d old new read_only fresh image script text (open_image image) end
-  ends_from accepts read_only fresh image script text end told same opened late x = by (open_image image) refl x
+      → EndsByOpening d mid new read_only false demo image script text (open_image image) end → EndsByOpening d old new read_only fresh demo image script text (open_image image) end
+  ends_from accepts read_only fresh demo image script text end told same opened late x = by (open_image image) refl x
     where
       bad : (fault : ImageFault) (is_fresh : Bool) → fresh ≡ is_fresh → open_image image ≡ Err fault → EndsOnFault d mid new fault text end → EndsOnFault d old new fault text end
       bad fault false is e x = fault_from fault text end (same is) x
       bad fault true is e x = absurd (let there = opened is in cc)
 
-      by : (o : Result Opened ImageFault) → open_image image ≡ o → EndsByOpening d mid new read_only false image script text o end → EndsByOpening d old new read_only fresh image script text o end
+      by : (o : Result Opened ImageFault) → open_image image ≡ o → EndsByOpening d mid new read_only false demo image script text o end → EndsByOpening d old new read_only fresh demo image script text o end
       by (Err fault) e x = bad fault fresh refl e x
-      by (Ok v) e x = over_from v.kind read_only fresh (record { image = image; view = v }) script text told (accepts image v e) same end late x
+      by (Ok v) e x = over_from v.kind read_only fresh demo (record { image = image; view = v }) script text told (accepts image v e) same end late x
 
 -- ---- runs that began no line
 
@@ -167,9 +175,9 @@ pub no_run : {D : Type 0} (d : Ghosts D) (old new : D) (line : List ℕ) → IsU
 no_run d old new line same = record { told = refl; bytes = same.bytes_stay; stops = same.stops }
 
 module _ {D : Type 0} {d : Ghosts D} (law : Laws d) (old new : D) where
-  pub not_begun : (kind : Kind) (read_only : Bool) (s : State) (script : List ℕ) (cause : Cause) → d.bytes old ≡ Some s.image → OpensAs s.image kind s.view → IsUnwritten d old new
-      → (spares_disk cause ≡ true → (d.pending new ≡ false) ⊎ (new ≡ old)) → HasStopped d old new (plain_mode kind read_only) false None s script [] cause
-  not_begun kind read_only s script cause told opens same settled = record {
+  pub not_begun : (kind : Kind) (read_only : Bool) (demo : Option ℕ) (s : State) (script : List ℕ) (cause : Cause) → d.bytes old ≡ Some s.image → OpensAs s.image kind s.view → IsUnwritten d old new
+      → (spares_disk cause ≡ true → (d.pending new ≡ false) ⊎ (new ≡ old)) → HasStopped d old new (plain_mode kind read_only) false demo s script [] cause
+  not_begun kind read_only demo s script cause told opens same settled = record {
     end = s;
     ended = record {
       start = λ tells. same.stops.keeps (d.moment old) s.image (omega arith) (law.leaves_what_is_read old tells s.image told);
@@ -177,11 +185,11 @@ module _ {D : Type 0} {d : Ghosts D} (law : Laws d) (old new : D) where
       steps = refl;
       told = (0, refl);
     };
-    whole = λ demo disk. refl;
+    whole = λ none disk. refl;
     holds = λ spares. same.bytes_stay ∙ told;
     settled = settled;
     stops = λ quiet. record {
-      idle = λ new_map there demo keep image left.
+      idle = λ new_map there none keep image left.
           let tree = has_tree kind s image opens (law.settled old quiet s.image told image (same.stops.since image left)) in
           record { view = tree.view; opens = tree.opens; tree = tree.tree };
       last = λ new_map keep image left. has_tree kind s image opens
@@ -192,32 +200,35 @@ module _ {D : Type 0} {d : Ghosts D} (law : Laws d) (old new : D) where
   }
 
   -- An I/O error of the disk came before the first line,
-  pub begun_fault : Accepts → (read_only : Bool) (image script : List ℕ) → d.bytes old ≡ Some image → IsUnwritten d old new
-      → EndsByOpening d old new read_only false image script [] (open_image image) DiskFault
-  begun_fault accepts read_only image script told same = by (open_image image) refl
+  pub begun_fault : Accepts → (read_only : Bool) (demo : Option ℕ) (image script : List ℕ) → d.bytes old ≡ Some image → IsUnwritten d old new
+      → EndsByOpening d old new read_only false demo image script [] (open_image image) DiskFault
+  begun_fault accepts read_only demo image script told same = by (open_image image) refl
     where
       spares : spares_disk Cause.Disk ≡ true → (d.pending new ≡ false) ⊎ (new ≡ old)
       spares e = absurd (no_fresh e)
 
-      by : (o : Result Opened ImageFault) → open_image image ≡ o → EndsByOpening d old new read_only false image script [] o DiskFault
+      by : (o : Result Opened ImageFault) → open_image image ≡ o → EndsByOpening d old new read_only false demo image script [] o DiskFault
       by (Err fault) e = no_run d old new [] same
-      by (Ok v) e = inl (not_begun v.kind read_only (record { image = image; view = v }) script Cause.Disk told (accepts image v e) same spares)
+      by (Ok v) e = inl (not_begun v.kind read_only demo (record { image = image; view = v }) script Cause.Disk told (accepts image v e) same spares)
 
   -- or out of memory did.
-  pub begun_memory : Accepts → (read_only : Bool) (image script : List ℕ) → d.bytes old ≡ Some image → IsUnwritten d old new → (d.pending new ≡ false) ⊎ (new ≡ old)
-      → EndsByOpening d old new read_only false image script [] (open_image image) NoMemory
-  begun_memory accepts read_only image script told same settled = by (open_image image) refl
+  pub begun_memory : Accepts → (read_only : Bool) (demo : Option ℕ) (image script : List ℕ) → d.bytes old ≡ Some image → IsUnwritten d old new → (d.pending new ≡ false) ⊎ (new ≡ old)
+      → EndsByOpening d old new read_only false demo image script [] (open_image image) NoMemory
+  begun_memory accepts read_only demo image script told same settled = by (open_image image) refl
     where
-      by : (o : Result Opened ImageFault) → open_image image ≡ o → EndsByOpening d old new read_only false image script [] o NoMemory
+      by : (o : Result Opened ImageFault) → open_image image ≡ o → EndsByOpening d old new read_only false demo image script [] o NoMemory
       by (Err fault) e = no_run d old new [] same
-      by (Ok v) e = inl (not_begun v.kind read_only (record { image = image; view = v }) script Cause.Memory told (accepts image v e) same (λ spares. settled))
+      by (Ok v) e = inl (not_begun v.kind read_only demo (record { image = image; view = v }) script Cause.Memory told (accepts image v e) same (λ spares. settled))
 
 -- lines that were served
-pub served_ends : {D : Type 0} (d : Ghosts D) (old new : D) (kind : Kind) (read_only : Bool) (s : State) (script : List ℕ) (before after : Option (List ℕ)) (result : Result Bool LineFault)
+pub served_ends : {D : Type 0} (d : Ghosts D) (old new : D) (kind : Kind) (read_only : Bool) (s : State) (script : List ℕ) (before after : Option (List ℕ)) (result : Result Tally LineFault)
     → ServesAs d old new kind read_only s script before after result
-    → (text : List ℕ) × Wrote before after text × EndsOver d old new (plain_mode kind read_only) false s script text (end_of result)
-served_ends d old new kind read_only s script before after (Ok true) x = x
-served_ends d old new kind read_only s script before after (Ok false) x = x
+    → (text : List ℕ) × Wrote before after text × EndsOver d old new (plain_mode kind read_only) false None s script text (end_of result)
+served_ends d old new kind read_only s script before after (Ok tally) x = (x.0, x.1, by (has_refused tally) x.2)
+  where
+    by : (refused : Bool) → HasRun d old new (plain_mode kind read_only) false None s script x.0 refused → EndsOver d old new (plain_mode kind read_only) false None s script x.0 (end_after refused)
+    by true has = has
+    by false has = has
 served_ends d old new kind read_only s script before after (Err lines.Disk) x = (x.0, x.1, inl x.2)
 served_ends d old new kind read_only s script before after (Err lines.Out) x = (x.0, x.1, inl x.2)
 served_ends d old new kind read_only s script before after (Err lines.NoMemory) x = (x.0, x.1, inl x.2)
@@ -236,13 +247,13 @@ module _ {D : Type 0} {d : Ghosts D} (law : Laws d) (disk : D) where
   memory_giving accepts r image script false told = none
   memory_giving accepts r image script true told = by r.new refl
     where
-      made : (o : Result Opened ImageFault) (fresh : List ℕ) → EndsByOpening d disk disk r.read_only true fresh script [] o NoMemory
+      made : (o : Result Opened ImageFault) (fresh : List ℕ) → EndsByOpening d disk disk r.read_only true r.demo fresh script [] o NoMemory
       made (Err fault) fresh = none
       made (Ok v) fresh = inr (refl, refl, refl)
 
       by : (new : Option Word) → r.new ≡ new
-          → EndsByOpening d disk disk r.read_only (is_some new) (image_for new image) script [] (open_image (image_for new image)) NoMemory
-      by None e = begun_memory law disk disk accepts r.read_only image script told same_unwritten (inr refl)
+          → EndsByOpening d disk disk r.read_only (is_some new) r.demo (image_for new image) script [] (open_image (image_for new image)) NoMemory
+      by None e = begun_memory law disk disk accepts r.read_only r.demo image script told same_unwritten (inr refl)
       by (Some f) e = made (open_image (image_for (Some f) image)) (image_for (Some f) image)
 
   pub memory_ends : Accepts → (gives : List ℕ → Option ℕ → Bool) (r : Request) (image script : List ℕ) (unbuilt : Bool) → d.bytes disk ≡ Some image
@@ -254,7 +265,7 @@ module _ {D : Type 0} {d : Ghosts D} (law : Laws d) (disk : D) where
   fault_giving r image script false = none
   fault_giving r image script true = by (open_image (image_for r.new image))
     where
-      by : (o : Result Opened ImageFault) → EndsByOpening d disk disk r.read_only (is_some r.new) (image_for r.new image) script [] o ScriptFault
+      by : (o : Result Opened ImageFault) → EndsByOpening d disk disk r.read_only (is_some r.new) r.demo (image_for r.new image) script [] o ScriptFault
       by (Err fault) = none
       by (Ok v) = none
 
@@ -268,23 +279,29 @@ module _ {D : Type 0} {d : Ghosts D} (law : Laws d) (disk : D) where
 
 -- ---- a run over an attached image
 
-pub late_end : (result : Result Bool LineFault) → is_late (end_of result) ≡ true
-late_end (Ok true) = refl
-late_end (Ok false) = refl
+pub late_after : (refused : Bool) → is_late (end_after refused) ≡ true
+late_after true = refl
+late_after false = refl
+
+-- nor at the disk's fault, the sink's or for want of memory
+pub after_end : (refused : Bool) (end : End) → end_after refused ≡ end → is_last end ≡ true
+after_end true end is = sym (ap is_last is)
+after_end false end is = sym (ap is_last is)
+
+pub late_end : (result : Result Tally LineFault) → is_late (end_of result) ≡ true
+late_end (Ok tally) = late_after (has_refused tally)
 late_end (Err lines.Disk) = refl
 late_end (Err lines.Out) = refl
 late_end (Err lines.NoMemory) = refl
 
-pub disk_end : (result : Result Bool LineFault) → end_of result ≡ DiskFault → result ≡ Err LineFault.Disk
-disk_end (Ok true) e = absurd (cc)
-disk_end (Ok false) e = absurd (cc)
+pub disk_end : (result : Result Tally LineFault) → end_of result ≡ DiskFault → result ≡ Err LineFault.Disk
+disk_end (Ok tally) e = absurd (no_fresh (after_end (has_refused tally) DiskFault e))
 disk_end (Err lines.Disk) e = refl
 disk_end (Err lines.Out) e = absurd (cc)
 disk_end (Err lines.NoMemory) e = absurd (cc)
 
-pub out_end : (result : Result Bool LineFault) → end_of result ≡ OutFault → result ≡ Err LineFault.Out
-out_end (Ok true) e = absurd (cc)
-out_end (Ok false) e = absurd (cc)
+pub out_end : (result : Result Tally LineFault) → end_of result ≡ OutFault → result ≡ Err LineFault.Out
+out_end (Ok tally) e = absurd (no_fresh (after_end (has_refused tally) OutFault e))
 out_end (Err lines.Disk) e = absurd (cc)
 out_end (Err lines.Out) e = refl
 out_end (Err lines.NoMemory) e = absurd (cc)
@@ -355,7 +372,7 @@ pub reads_unwritten : {D : Type 0} {d : Ghosts D} {old new : D} → OnlyReads d 
 reads_unwritten reads = record { bytes_stay = reads.bytes; stops = reads.stops; faults = reads.faults }
 
 -- lines that were served are no lines that aren't built
-pub served_built : (result : Result Bool LineFault) → end_of result ≡ NotBuilt → ⊥
+pub served_built : (result : Result Tally LineFault) → end_of result ≡ NotBuilt → ⊥
 served_built result is = no_fresh (sym (ap is_late is) ∙ late_end result)
 
 -- no line was begun of a script with a command that isn't built for the disc

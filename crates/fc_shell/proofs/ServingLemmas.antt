@@ -1,9 +1,10 @@
 -- Serving line after line.
-use Rattle.std.proofs.Common.{◌≡◌, ◌⊎◌, inl, inr, ⊎_elim, ℕ, ◌+◌, ◌-◌, suc, min, Bool, true, false, ◌||◌, ◌&&◌, nat_le, List, [], ◌∷◌, ◌++◌, length, take, Option, Some, None, Ok, Err, refl, sym, ap, ap₂, subst, ◌∙◌, arith, append_assoc}
+use Rattle.std.proofs.Common.{◌≡◌, ◌⊎◌, inl, inr, ⊎_elim, ℕ, ◌+◌, ◌-◌, suc, min, Bool, true, false, ◌||◌, ◌&&◌, nat_le, List, [], ◌∷◌, ◌++◌, length, take, Option, Some, None, Ok, Err, cond, nat_lt, refl, sym, ap, ap₂, subst, ◌∙◌, arith, append_assoc}
 use Rattle.std.specs.Prelude.{if◌then◌else◌, slice_get}
+use Rattle.std.specs.List.{count_by, list_any}
 use Rattle.std.proofs.lemmas.Bool.Decides.{nat_tests}
 use Rattle.std.proofs.lemmas.List.{append-nil, length-append, take-append-le, take_at}
-use Rattle.std.proofs.lemmas.List.Folds.{list_any-append}
+use Rattle.std.proofs.lemmas.List.Sums.{sum_by-cons, sum_by_push}
 use Rattle.std.proofs.lemmas.Grind.{common_steps, flat_map-append}
 use Rattle.std.proofs.Math.Seq.{take-append-add}
 use Rattle.fc_device.specs.declared.disk.Disk.{Ghosts}
@@ -23,7 +24,9 @@ use Rattle.fc_tree.specs.Parts.{ArePartsOf}
 use Rattle.fc_volume.specs.Volume.{Volume, parts_of}
 use Rattle.fc_shell.specs.declared.answer.LineFault.{LineFault}
 use Rattle.fc_shell.specs.declared.answer.LineFault.TheVariants as lines
+use Rattle.fc_shell.specs.declared.tally.Tally.{Tally}
 use Rattle.fc_shell.specs.Built.{Spares, all_read, is_reading_line}
+use Rattle.fc_shell.specs.Counted.{AreCounted, has_refused}
 use Rattle.fc_shell.specs.Line.{BreaksOff, GoesOn, IsAnswered, IsCutOff, IsDone, LineEnds}
 use Rattle.fc_shell.specs.Modes.{plain_mode}
 use Rattle.fc_shell.specs.Serving.{AreDone, HasServed, ServesAs, cause_of}
@@ -63,10 +66,6 @@ pub rest_of_any : (a b : Bool) → b ≡ true → (a || b) ≡ true
 rest_of_any true b e = refl
 rest_of_any false b e = e
 
-or_nothing : (b : Bool) → (b || false) ≡ b
-or_nothing true = refl
-or_nothing false = refl
-
 -- ---- steps
 
 pub steps_weaker : (May Might : List ℕ → Type 0) → ((image : List ℕ) → May image → Might image) → (mode : Mode) (s s' : State) (lines replies : List (List ℕ))
@@ -88,7 +87,7 @@ module _ (May : List ℕ → Type 0) (mode : Mode) where
       (x.0, x.1, x.2, steps_more x.0 mid s' lines replies line reply x.3 may step)
 
   -- each line has one reply
-  steps_long : (s s' : State) (lines replies : List (List ℕ)) → Steps May mode s lines replies s' → length replies ≡ length lines
+  pub steps_long : (s s' : State) (lines replies : List (List ℕ)) → Steps May mode s lines replies s' → length replies ≡ length lines
   steps_long s s' [] [] x = refl
   steps_long s s' [] (reply ∷ replies) x = absurd x
   steps_long s s' (line ∷ lines) [] x = absurd x
@@ -179,6 +178,33 @@ begun_front : (replies : List (List ℕ)) (next : Option (List ℕ)) (begun : Li
 begun_front replies None begun = ([], sym (append-nil (text_of replies)))
 begun_front replies (Some line) begun = (begun line, refl)
 
+-- ---- counts
+
+none_counted : (tally : Tally) → tally.replies ≡ 0 → tally.refused ≡ 0 → AreCounted [] tally
+none_counted tally replies refused = record { replies_are = replies; refused_are = refused }
+
+-- a reply more
+one_counted : (replies : List (List ℕ)) (reply : List ℕ) (refused : Bool) (was now : Tally) → AreCounted replies was → refused ≡ is_error reply
+    → now.replies ≡ was.replies + 1 → now.refused ≡ was.refused + cond refused 1 0 → AreCounted (replies ++ reply ∷ []) now
+one_counted replies reply refused was now are is more errors = record {
+  replies_are = more ∙ ap (λ (n : ℕ). n + 1) are.replies_are ∙ sym (length-append replies (reply ∷ []));
+  refused_are = errors ∙ ap₂ (λ (n : ℕ) (b : Bool). n + cond b 1 0) are.refused_are is ∙ sym (sum_by_push (λ (r : List ℕ). cond (is_error r) 1 0) replies reply);
+}
+
+-- Some are counted as error lines if one is.
+any_counted : (replies : List (List ℕ)) → nat_lt 0 (count_by is_error replies) ≡ list_any is_error replies
+any_counted [] = refl
+any_counted (reply ∷ replies) = by (is_error reply) refl (any_counted replies)
+  where
+    by : (b : Bool) → is_error reply ≡ b → nat_lt 0 (count_by is_error replies) ≡ list_any is_error replies → nat_lt 0 (count_by is_error (reply ∷ replies)) ≡ list_any is_error (reply ∷ replies)
+    by true is rest = ap (nat_lt 0) (sum_by-cons (λ (r : List ℕ). cond (is_error r) 1 0) reply replies ∙ ap (λ (x : Bool). cond x 1 0 + count_by is_error replies) is)
+        ∙ grind (arith, nat_tests) ∙ sym (ap (λ (x : Bool). x || list_any is_error replies) is)
+    by false is rest = ap (nat_lt 0) (sum_by-cons (λ (r : List ℕ). cond (is_error r) 1 0) reply replies ∙ ap (λ (x : Bool). cond x 1 0 + count_by is_error replies) is)
+        ∙ ap (nat_lt 0) (omega arith) ∙ rest ∙ sym (ap (λ (x : Bool). x || list_any is_error replies) is)
+
+pub refused_counted : (replies : List (List ℕ)) (tally : Tally) → AreCounted replies tally → has_refused tally ≡ list_any is_error replies
+refused_counted replies tally are = ap (nat_lt 0) are.refused_are ∙ any_counted replies
+
 -- ---- causes
 
 not_disk : (fault : LineFault) → spares_disk (cause_of fault) ≡ true → fault ≡ LineFault.Disk → ⊥
@@ -221,10 +247,11 @@ module _ {D : Type 0} {d : Ghosts D} (law : Laws d) where
       kept = λ keep new_map image left. has_tree kind s image opens (law.settled old quiet s.image told image left);
     }
 
-    pub served_start : (left : List (List ℕ)) (v : Volume) (before : Option (List ℕ)) → left ≡ commands_in script → ArePartsOf (parts_of v) s.view
-        → HasServed d old old kind read_only s script left v false before before
+    pub served_start : (left : List (List ℕ)) (v : Volume) (tally : Tally) (before : Option (List ℕ)) → left ≡ commands_in script → ArePartsOf (parts_of v) s.view
+        → tally.replies ≡ 0 → tally.refused ≡ 0 → HasServed d old old kind read_only s script left v tally before before
     unfolding done_start
-    served_start left v before all parts = record { lines = done_start left all; refused_is = refl; wrote = wrote_nothing before; parts = parts }
+    served_start left v tally before all parts replies refused =
+        record { lines = done_start left all; counted = none_counted tally replies refused; wrote = wrote_nothing before; parts = parts }
 
     -- one line more
     pub done_more : (line reply : List ℕ) (left : List (List ℕ)) (mid new : D) (next : State) → (are : AreDone d old mid kind read_only s script (line ∷ left)) → GoesOn d old mid → GoesOn d mid new
@@ -255,9 +282,9 @@ module _ {D : Type 0} {d : Ghosts D} (law : Laws d) where
     start_left new goes tells = goes.stops.keeps (d.moment old) s.image (omega arith) (law.leaves_what_is_read old tells s.image told)
 
     -- all lines were done
-    pub served_all : (v : Volume) (refused : Bool) (before after : Option (List ℕ)) (new : D) → HasServed d old new kind read_only s script [] v refused before after → GoesOn d old new
-        → d.pending new ≡ false → ServesAs d old new kind read_only s script before after (Ok refused)
-    served_all v refused before after new has goes settled =
+    pub served_all : (v : Volume) (tally : Tally) (before after : Option (List ℕ)) (new : D) → HasServed d old new kind read_only s script [] v tally before after → GoesOn d old new
+        → d.pending new ≡ false → ServesAs d old new kind read_only s script before after (Ok tally)
+    served_all v tally before after new has goes settled =
         let are = has.lines in
         let all : are.done ≡ commands_in script = sym (are.cut ∙ append-nil are.done) in (
           text_of are.replies,
@@ -270,7 +297,7 @@ module _ {D : Type 0} {d : Ghosts D} (law : Laws d) where
               steps = subst (λ (lines : List (List ℕ)). Steps (MayHaveLeft d old new) mode s lines are.replies are.state) all are.steps;
               told = refl;
             };
-            refused_is = has.refused_is;
+            refused_is = refused_counted are.replies tally has.counted;
             holds = are.holds;
             settled = settled;
             stops = λ was_quiet. record {
@@ -282,10 +309,11 @@ module _ {D : Type 0} {d : Ghosts D} (law : Laws d) where
               exit = λ safe image left. absurd (cc);
             };
           },
+          has.counted,
         )
 
     -- The last line was done, and its reply written in part.
-    cut_off : (line : List ℕ) (left : List (List ℕ)) (v : Volume) (so_far : Bool) (before between after : Option (List ℕ)) (mid new : D) (fault : LineFault)
+    cut_off : (line : List ℕ) (left : List (List ℕ)) (v : Volume) (so_far : Tally) (before between after : Option (List ℕ)) (mid new : D) (fault : LineFault)
         → (has : HasServed d old mid kind read_only s script (line ∷ left) v so_far before between) → GoesOn d old mid → GoesOn d mid new
         → ((fault ≡ LineFault.Disk → ⊥) → d.pending new ≡ false)
         → IsCutOff d mid new kind read_only has.lines.state line between after fault → ServesAs d old new kind read_only s script before after (Err fault)
@@ -334,7 +362,7 @@ module _ {D : Type 0} {d : Ghosts D} (law : Laws d) where
         )
 
     -- A line broke off.
-    broke_off : (line : List ℕ) (left : List (List ℕ)) (v : Volume) (so_far : Bool) (before between after : Option (List ℕ)) (mid new : D) (fault : LineFault)
+    broke_off : (line : List ℕ) (left : List (List ℕ)) (v : Volume) (so_far : Tally) (before between after : Option (List ℕ)) (mid new : D) (fault : LineFault)
         → (has : HasServed d old mid kind read_only s script (line ∷ left) v so_far before between) → GoesOn d old mid → GoesOn d mid new
         → ((fault ≡ LineFault.Disk → ⊥) → d.pending new ≡ false)
         → BreaksOff d mid new kind read_only has.lines.state line between after fault → ServesAs d old new kind read_only s script before after (Err fault)
@@ -386,7 +414,7 @@ module _ {D : Type 0} {d : Ghosts D} (law : Laws d) where
           },
         )
 
-    pub served_part : (line : List ℕ) (left : List (List ℕ)) (v v' : Volume) (so_far : Bool) (before between after : Option (List ℕ)) (mid new : D) (fault : LineFault)
+    pub served_part : (line : List ℕ) (left : List (List ℕ)) (v v' : Volume) (so_far : Tally) (before between after : Option (List ℕ)) (mid new : D) (fault : LineFault)
         → (has : HasServed d old mid kind read_only s script (line ∷ left) v so_far before between) → GoesOn d old mid → GoesOn d mid new
         → ((fault ≡ LineFault.Disk → ⊥) → d.pending new ≡ false)
         → LineEnds d mid new kind read_only has.lines.state v' line between after (Err fault) → ServesAs d old new kind read_only s script before after (Err fault)
@@ -394,14 +422,14 @@ module _ {D : Type 0} {d : Ghosts D} (law : Laws d) where
         ⊎_elim (cut_off line left v so_far before between after mid new fault has first second settled)
         (broke_off line left v so_far before between after mid new fault has first second settled) ends
 
-    pub served_more : (line : List ℕ) (left : List (List ℕ)) (v v' : Volume) (so_far now : Bool) (before between after : Option (List ℕ)) (mid new : D)
+    pub served_more : (line : List ℕ) (left : List (List ℕ)) (v v' : Volume) (refused : Bool) (so_far now : Tally) (before between after : Option (List ℕ)) (mid new : D)
         → (has : HasServed d old mid kind read_only s script (line ∷ left) v so_far before between) → GoesOn d old mid → GoesOn d mid new
-        → IsAnswered d mid new kind read_only has.lines.state v' line between after now → HasServed d old new kind read_only s script left v' (so_far || now) before after
+        → IsAnswered d mid new kind read_only has.lines.state v' line between after refused → now.replies ≡ so_far.replies + 1 → now.refused ≡ so_far.refused + cond refused 1 0
+        → HasServed d old new kind read_only s script left v' now before after
     unfolding done_more
-    served_more line left v v' so_far now before between after mid new has first second is = record {
+    served_more line left v v' refused so_far now before between after mid new has first second is more errors = record {
       lines = done_more line is.reply left mid new is.next has.lines first second is.done;
-      refused_is =
-          ap₂ ◌||◌ has.refused_is (is.refused_is ∙ sym (or_nothing (is_error is.reply))) ∙ sym (list_any-append is_error has.lines.replies (is.reply ∷ []));
+      counted = one_counted has.lines.replies is.reply refused so_far now has.counted is.refused_is more errors;
       wrote = subst (Wrote before after) (sym (one_more has.lines.replies is.reply)) (wrote_both before between after (text_of has.lines.replies) is.reply has.wrote is.wrote);
       parts = is.parts;
     }

@@ -153,16 +153,16 @@ reading_keeps {d = d} law k v line old new before after result quiet fit stands 
 
 -- ---- causes over lines
 
-pub caused_later : {D K : Type 0} (d : Ghosts D) (k : Sinks K) (old mid new : D) (first before after : K) (result other : Result Bool LineFault) → d.faults old ≤ d.faults mid → k.faults first ≤ k.faults before
-    → other ≡ result → IsCaused d k mid new before after result → IsCaused d k old new first after other
-caused_later d k old mid new first before after result other disk out same caused = record {
+pub one_fault : {T : Type 0} (r : Result T LineFault) (e f : LineFault) → r ≡ Err e → r ≡ Err f → e ≡ f
+one_fault r e f is other = cc
+
+pub caused_later : {D K S T : Type 0} (d : Ghosts D) (k : Sinks K) (old mid new : D) (first before after : K) (fault : LineFault) (result : Result S LineFault) (other : Result T LineFault)
+    → d.faults old ≤ d.faults mid → k.faults first ≤ k.faults before → result ≡ Err fault → other ≡ Err fault → IsCaused d k mid new before after result → IsCaused d k old new first after other
+caused_later d k old mid new first before after fault result other disk out was same caused = record {
   later = omega (arith, out, caused.later);
-  disk = λ is. let rose = caused.disk (sym same ∙ is) in omega (arith, disk, rose);
-  out = λ is. let rose = caused.out (sym same ∙ is) in omega (arith, out, rose);
+  disk = λ is. let rose = caused.disk (was ∙ ap Err (one_fault other fault LineFault.Disk same is)) in omega (arith, disk, rose);
+  out = λ is. let rose = caused.out (was ∙ ap Err (one_fault other fault LineFault.Out same is)) in omega (arith, out, rose);
 }
 
-pub caused_ok : {D K : Type 0} (d : Ghosts D) (k : Sinks K) (old new : D) (before after : K) (refused : Bool) → k.faults before ≤ k.faults after → IsCaused d k old new before after (Ok refused)
-caused_ok d k old new before after refused later = record { later = later; disk = λ is. absurd (cc); out = λ is. absurd (cc) }
-
-pub one_fault : (r : Result Bool LineFault) (e f : LineFault) → r ≡ Err e → r ≡ Err f → e ≡ f
-one_fault r e f is other = cc
+pub caused_ok : {D K T : Type 0} (d : Ghosts D) (k : Sinks K) (old new : D) (before after : K) (value : T) → k.faults before ≤ k.faults after → IsCaused d k old new before after (Ok value)
+caused_ok d k old new before after value later = record { later = later; disk = λ is. absurd (cc); out = λ is. absurd (cc) }

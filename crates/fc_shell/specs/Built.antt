@@ -10,12 +10,15 @@ use Rattle.fc_script.specs.Lines.{command_of}
 use Rattle.fc_runs.specs.ReadLaw.{is_reading}
 use Rattle.fc_runs.specs.Run.{commands_in}
 
--- A command that is built, for some discs at least: each that reads, and of those that change the disc these.
+-- A command that is built, for some discs at least: each but `reclaim`, and but what no line spells.
 abbrev pub is_built : Command → Bool
 is_built Command.Compact = true
 is_built (Command.Cdir path) = true
 is_built (Command.Delete path) = true
 is_built (Command.Set path load exec access) = true
+is_built (Command.Save path load exec bytes) = true
+is_built (Command.Create path load exec len) = true
+is_built (Command.Rename from to) = true
 is_built c = is_reading c
 
 -- A command that isn't built yet: each of the others.

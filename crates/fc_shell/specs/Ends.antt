@@ -3,8 +3,10 @@ use Rattle.std.specs.Prelude.{◌≡◌, ◌⊎◌, ℕ, Bool, true, false, List
 use Rattle.fc_device.specs.Asked.{Asked}
 use Rattle.fc_shell.specs.declared.answer.LineFault.{LineFault}
 use Rattle.fc_shell.specs.declared.answer.LineFault.TheVariants as lines
+use Rattle.fc_shell.specs.declared.tally.Tally.{Tally}
 use Rattle.fc_shell.specs.declared.ending.End.{End}
 use Rattle.fc_shell.specs.declared.ending.End.TheVariants.{Done, Refused, BadWords, BadImage, DiskFault, ScriptFault, OutFault, NoMemory, ScriptTooLong, NotBuilt, NoImage}
+use Rattle.fc_shell.specs.Counted.{has_refused}
 
 -- the exit statuses
 abbrev pub status_of : End → ℕ
@@ -22,10 +24,14 @@ status_of NoImage = 12
 
 -- ---- when a run ends so
 
+-- how a run ends at its script's end, where a line was refused, and else
+abbrev pub end_after : Bool → End
+end_after true = Refused
+end_after false = Done
+
 -- how a run ends whose lines were served
-abbrev pub end_of : Result Bool LineFault → End
-end_of (Ok true) = Refused
-end_of (Ok false) = Done
+abbrev pub end_of : Result Tally LineFault → End
+end_of (Ok tally) = end_after (has_refused tally)
 end_of (Err lines.Disk) = DiskFault
 end_of (Err lines.Out) = OutFault
 end_of (Err lines.NoMemory) = NoMemory

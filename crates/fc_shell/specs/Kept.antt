@@ -32,7 +32,7 @@ pub record LeavesUnbegun {D : Type 0} (d : Ghosts D) (r : Request) (old new : D)
   pub unwritten : r.new ≡ None → IsUnwritten d old new
 
 -- Something isn't built: of words or script, and nothing was asked of the disk; or for the disc that the
--- image is, which a command of the script changes.
+-- image is, which a command of the script changes. Which script the run has is told, or not.
 abbrev pub LeavesUnbuilt : {D : Type 0} → Ghosts D → Request → Option (List ℕ) → D → D → Type 0
 LeavesUnbuilt d r told old new = ((new ≡ old) × AsksUnbuilt r told)
     ⊎ (LeavesUnbegun d r old new × ForSome told (λ text. has_changing text ≡ true))

@@ -1,6 +1,7 @@
 pub mod Answered
 pub mod Built
 pub mod Changing
+pub mod Counted
 pub mod Ends
 pub mod Kept
 pub mod Left

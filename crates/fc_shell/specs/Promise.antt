@@ -1,4 +1,4 @@
--- What a run promises, by how it ends, if the contents of disk, source and sink are known.
+-- What a run promises, by how it ends, if the contents of disk, source and sink are known. The script is that of the run, a demo's too.
 use Rattle.std.specs.Prelude.{◌≡◌, ◌⊎◌, ℕ, Bool, true, false, nat_lt, List, [], length, take, Option, Some, None, is_some, Result, Ok, Err}
 use Rattle.fc_device.specs.declared.disk.Disk.{Ghosts}
 use Rattle.fc_effects.specs.Effect.{State}
@@ -41,28 +41,29 @@ pub record LacksCommand {D : Type 0} (d : Ghosts D) (old new : D) (fresh : Bool)
   pub lacking : has_lacking s.view.layout script ≡ true
   pub not_begun : HasNotSuited d old new fresh s text
 
--- The image is accepted, and opens as s: its lines are steps from s on, whose replies were written.
-abbrev pub EndsOver : {D : Type 0} → Ghosts D → D → D → Mode → Bool → State → List ℕ → List ℕ → End → Type 0
-EndsOver d old new mode fresh s script text Done = HasRun d old new mode fresh None s script text false
-EndsOver d old new mode fresh s script text Refused = HasRun d old new mode fresh None s script text true
-EndsOver d old new mode fresh s script text ScriptFault = HasNoRun d old new [] text
-EndsOver d old new mode fresh s script text DiskFault = HasBrokenOff d old new mode fresh None s script text Cause.Disk
-EndsOver d old new mode fresh s script text OutFault = HasBrokenOff d old new mode fresh None s script text Cause.Out
-EndsOver d old new mode fresh s script text NoMemory = HasBrokenOff d old new mode fresh None s script text Cause.Memory
-EndsOver d old new mode fresh s script text NotBuilt = LacksCommand d old new fresh s script text
-EndsOver d old new mode fresh s script text end = ⊥
+-- The image is accepted, and opens as s: its lines are steps from s on, whose replies were written, or with a demo the one line over
+-- them.
+abbrev pub EndsOver : {D : Type 0} → Ghosts D → D → D → Mode → Bool → Option ℕ → State → List ℕ → List ℕ → End → Type 0
+EndsOver d old new mode fresh demo s script text Done = HasRun d old new mode fresh demo s script text false
+EndsOver d old new mode fresh demo s script text Refused = HasRun d old new mode fresh demo s script text true
+EndsOver d old new mode fresh demo s script text ScriptFault = HasNoRun d old new [] text
+EndsOver d old new mode fresh demo s script text DiskFault = HasBrokenOff d old new mode fresh demo s script text Cause.Disk
+EndsOver d old new mode fresh demo s script text OutFault = HasBrokenOff d old new mode fresh demo s script text Cause.Out
+EndsOver d old new mode fresh demo s script text NoMemory = HasBrokenOff d old new mode fresh demo s script text Cause.Memory
+EndsOver d old new mode fresh demo s script text NotBuilt = LacksCommand d old new fresh s script text
+EndsOver d old new mode fresh demo s script text end = ⊥
 
 -- by what the image opens as
-abbrev pub EndsByOpening : {D : Type 0} → Ghosts D → D → D → Bool → Bool → List ℕ → List ℕ → List ℕ → Result Opened ImageFault → End → Type 0
-EndsByOpening d old new read_only fresh image script text (Err fault) end = EndsOnFault d old new fault text end
-EndsByOpening d old new read_only fresh image script text (Ok v) end =
-    EndsOver d old new (plain_mode v.kind read_only) fresh (record { image = image; view = v }) script text end
+abbrev pub EndsByOpening : {D : Type 0} → Ghosts D → D → D → Bool → Bool → Option ℕ → List ℕ → List ℕ → List ℕ → Result Opened ImageFault → End → Type 0
+EndsByOpening d old new read_only fresh demo image script text (Err fault) end = EndsOnFault d old new fault text end
+EndsByOpening d old new read_only fresh demo image script text (Ok v) end =
+    EndsOver d old new (plain_mode v.kind read_only) fresh demo (record { image = image; view = v }) script text end
 
 -- by whether the disk gives the image that the words ask for: the one that is there, or a fresh one
 abbrev pub EndsByGiving : {D : Type 0} → Ghosts D → D → D → Request → List ℕ → List ℕ → List ℕ → Bool → End → Type 0
 EndsByGiving d old new r image script text false end = EndsWithout d old new (is_some r.new) text end
 EndsByGiving d old new r image script text true end =
-    EndsByOpening d old new r.read_only (is_some r.new) (image_for r.new image) script text (open_image (image_for r.new image)) end
+    EndsByOpening d old new r.read_only (is_some r.new) r.demo (image_for r.new image) script text (open_image (image_for r.new image)) end
 
 -- by whether a command of the script isn't built
 abbrev pub EndsByScript : {D : Type 0} → Ghosts D → D → D → (List ℕ → Option ℕ → Bool) → Request → List ℕ → List ℕ → List ℕ → Bool → End → Type 0

@@ -1,5 +1,5 @@
--- What a run answers and writes by words, script and image, if the script only reads.
-use Rattle.std.specs.Prelude.{◌≡◌, ◌⊎◌, ◌≤◌, ℕ, ◌^◌, Bool, true, false, ◌||◌, nat_lt, List, [], length, map, replicate, if◌then◌else◌, Option, Some, None, is_some, Result, Ok, Err}
+-- What a run without a demo answers and writes by words, script and image, if the script only reads.
+use Rattle.std.specs.Prelude.{◌≡◌, ◌⊎◌, ◌≤◌, ℕ, ◌^◌, Bool, true, false, nat_lt, List, [], length, map, replicate, if◌then◌else◌, Option, Some, None, Result, Ok, Err}
 use Rattle.std.specs.List.{list_any}
 use Rattle.std.specs.Option.{ForSome, option_map}
 use Rattle.fc_names.specs.declared.refusal.Refusal.{Refusal}
@@ -11,6 +11,7 @@ use Rattle.fc_format.specs.declared.Format.{Format}
 use Rattle.fc_format.specs.Fresh.{format_size, fresh_image}
 use Rattle.fc_script.specs.Lines.{command_of}
 use Rattle.fc_script.specs.Texts.{refusal_line}
+use Rattle.fc_runs.specs.Demo.{demo_script}
 use Rattle.fc_runs.specs.Replies.{bad_image_line}
 use Rattle.fc_runs.specs.ReadLaw.{reading_reply}
 use Rattle.fc_runs.specs.Run.{Mode, commands_in, is_error, text_of}
@@ -37,6 +38,25 @@ silent end = record { end = end; text = [] }
 -- the most bytes of a script
 abbrev pub script_limit : ℕ
 script_limit = 2 ^ 24
+
+-- the greatest number of a demo
+abbrev pub demo_limit : ℕ
+demo_limit = 10000
+
+-- The script of a run, where it is told: a demo's is its own, any other the source has.
+abbrev pub told_script : Option ℕ → Option (List ℕ) → Option (List ℕ)
+told_script None told = told
+told_script (Some n) told = Some (demo_script n)
+
+-- by the words; where they are bad, no script is run
+abbrev pub asked_script : Option Request → Option (List ℕ) → Option (List ℕ)
+asked_script None told = told
+asked_script (Some r) told = told_script r.demo told
+
+-- The words ask for no demo.
+abbrev pub AsksNoDemo : Option Request → Type 0
+AsksNoDemo None = Unit {0}
+AsksNoDemo (Some r) = r.demo ≡ None
 
 -- the reply to a line, by the command that it spells
 abbrev pub command_reply : Mode → State → Result Command Refusal → List ℕ
@@ -94,7 +114,7 @@ attached_reply true r script image = image_reply r.read_only script (image_for r
 
 -- what the words ask for isn't built yet
 abbrev pub is_unbuilt : Request → Bool
-is_unbuilt r = is_some r.demo || r.safe
+is_unbuilt r = r.safe
 
 -- What the words ask for isn't built yet, or, where the script is told, it isn't too long and has a command that isn't.
 abbrev pub AsksUnbuilt : Request → Option (List ℕ) → Type 0
@@ -112,7 +132,7 @@ abbrev pub request_reply : (List ℕ → Option ℕ → Bool) → List ℕ → L
 request_reply gives script image None = silent BadWords
 request_reply gives script image (Some r) = if is_unbuilt r then silent NotBuilt else script_reply gives r script image
 
--- a whole run: words, the names that the disk gives, script and image
+-- a whole run without a demo: words, the names that the disk gives, script and image
 abbrev pub run_reply : List (List ℕ) → (List ℕ → Option ℕ → Bool) → List ℕ → List ℕ → Outcome
 run_reply words gives script image = request_reply gives script image (request_of words)
 

@@ -1,17 +1,18 @@
 -- Serving the lines of a script over a volume.
 use Rattle.std.specs.Prelude.{◌≡◌, ℕ, Bool, true, false, List, ◌++◌, Option, Some, None, Result, Ok, Err}
-use Rattle.std.specs.List.{list_any}
 use Rattle.fc_device.specs.declared.disk.Disk.{Ghosts}
 use Rattle.fc_record.specs.declared.Kind.{Kind}
 use Rattle.fc_image.specs.Stays.{OpensAs}
 use Rattle.fc_effects.specs.Effect.{State}
 use Rattle.fc_runs.specs.Promises.{Cause, HasRun, HasStopped}
-use Rattle.fc_runs.specs.Run.{Steps, all_keep_tree, commands_in, is_error, text_of}
+use Rattle.fc_runs.specs.Run.{Steps, all_keep_tree, commands_in, text_of}
 use Rattle.fc_runs.specs.Stops.{MayHaveLeft}
 use Rattle.fc_tree.specs.Parts.{ArePartsOf}
 use Rattle.fc_volume.specs.Volume.{Volume, parts_of}
 use Rattle.fc_shell.specs.declared.answer.LineFault.{LineFault}
 use Rattle.fc_shell.specs.declared.answer.LineFault.TheVariants as lines
+use Rattle.fc_shell.specs.declared.tally.Tally.{Tally}
+use Rattle.fc_shell.specs.Counted.{AreCounted, has_refused}
 use Rattle.fc_shell.specs.Line.{LeavesTree}
 use Rattle.fc_shell.specs.Modes.{plain_mode}
 use Rattle.fc_shell.specs.Writing.{Wrote}
@@ -28,9 +29,9 @@ pub record AreDone {D : Type 0} (d : Ghosts D) (old now : D) (kind : Kind) (read
   pub kept : all_keep_tree done replies ≡ true → LeavesTree d old now kind s
 
 -- Their replies were written, and the volume's parts are those of this state.
-pub record HasServed {D : Type 0} (d : Ghosts D) (old now : D) (kind : Kind) (read_only : Bool) (s : State) (script : List ℕ) (left : List (List ℕ)) (v : Volume) (refused : Bool) (before after : Option (List ℕ)) : Type 0 where
+pub record HasServed {D : Type 0} (d : Ghosts D) (old now : D) (kind : Kind) (read_only : Bool) (s : State) (script : List ℕ) (left : List (List ℕ)) (v : Volume) (tally : Tally) (before after : Option (List ℕ)) : Type 0 where
   pub lines : AreDone d old now kind read_only s script left
-  pub refused_is : refused ≡ list_any is_error lines.replies
+  pub counted : AreCounted lines.replies tally
   pub wrote : Wrote before after (text_of lines.replies)
   pub parts : ArePartsOf (parts_of v) lines.state.view
 
@@ -41,8 +42,8 @@ cause_of lines.Out = Cause.Out
 cause_of lines.NoMemory = Cause.Memory
 
 -- All lines were done; or some were, and then a call failed or memory was short.
-abbrev pub ServesAs : {D : Type 0} → Ghosts D → D → D → Kind → Bool → State → List ℕ → Option (List ℕ) → Option (List ℕ) → Result Bool LineFault → Type 0
-ServesAs d old new kind read_only s script before after (Ok refused) =
-    (text : List ℕ) × Wrote before after text × HasRun d old new (plain_mode kind read_only) false None s script text refused
+abbrev pub ServesAs : {D : Type 0} → Ghosts D → D → D → Kind → Bool → State → List ℕ → Option (List ℕ) → Option (List ℕ) → Result Tally LineFault → Type 0
+ServesAs d old new kind read_only s script before after (Ok tally) =
+    (text : List ℕ) × Wrote before after text × (has : HasRun d old new (plain_mode kind read_only) false None s script text (has_refused tally)) × AreCounted has.run.replies tally
 ServesAs d old new kind read_only s script before after (Err fault) =
     (text : List ℕ) × Wrote before after text × HasStopped d old new (plain_mode kind read_only) false None s script text (cause_of fault)

@@ -47,10 +47,12 @@ fn lacks_command(asked: &Command) -> bool
         | Command::Check
         | Command::Cdir { .. }
         | Command::Delete { .. }
+        | Command::Save { .. }
+        | Command::Create { .. }
+        | Command::Rename { .. }
         | Command::Set { .. }
         | Command::Compact => false,
-        Command::Save { .. } | Command::Create { .. } | Command::Rename { .. } | Command::Reclaim =>
-            true,
+        Command::Reclaim => true,
     }
 }
 

@@ -81,6 +81,19 @@ fn change<D: Disk>(
             exec,
             access,
         } => volume.set(alloc, disk, path, *load, *exec, *access),
+        Command::Save {
+            path,
+            load,
+            exec,
+            bytes,
+        } => volume.save(alloc, disk, path, *load, *exec, bytes.list()),
+        Command::Create {
+            path,
+            load,
+            exec,
+            len,
+        } => volume.create(alloc, disk, path, *load, *exec, *len),
+        Command::Rename { from, to } => volume.rename(alloc, disk, from, to),
         _ => unreachable!(),
     }
 }

@@ -10,6 +10,7 @@ mod cat;
 mod change;
 mod check;
 mod compact;
+mod demo;
 mod digest;
 mod digits;
 mod ending;
@@ -22,13 +23,15 @@ mod reply;
 mod script;
 mod session;
 mod sink;
+mod tally;
 mod texts;
 
 ghost use Rattle.std.specs.Prelude.{◌≡◌, ◌≢◌, ◌⊎◌, ◌<◌, ◌≤◌, ◌++◌, [], ◌∷◌, List, ℕ, length, map, true, false, None, Some, IsFalse, option_map, string_bytes};
 ghost use Rattle.std.specs.Option.{ForSome};
 ghost use Rattle.fc_device.specs.Calls.{Untouched};
 ghost use Rattle.fc_device.specs.Faults.{Rose};
-ghost use Rattle.fc_runs.specs.Run.{commands_in};
+ghost use Rattle.fc_runs.specs.Demo.{demo_script};
+ghost use Rattle.fc_runs.specs.Run.{commands_in, script_for};
 ghost use Rattle.fc_words.specs.CommandLine.{Request, request_of};
 ghost use Rattle.fc_words.specs.Request.{request_in};
 ghost use Rattle.fc_shell.specs.Built.{Spares, has_changing, has_unbuilt};
@@ -37,12 +40,13 @@ ghost use Rattle.fc_shell.specs.Kept.{HasImage, LeavesDisk, LeavesUnbegun, Leave
 ghost use Rattle.fc_shell.specs.Promise.{EndsByScript, EndsByWords, Promise};
 ghost use Rattle.fc_shell.specs.Reading.{IsUnwritten};
 ghost use Rattle.fc_shell.specs.ReadsLaw.{ReadsLaw};
-ghost use Rattle.fc_shell.specs.Replies.{EndsAs, blank_size, is_unbuilt, run_reply, script_limit};
+ghost use Rattle.fc_shell.specs.Replies.{AsksNoDemo, EndsAs, asked_script, blank_size, demo_limit, is_unbuilt, run_reply, script_limit, told_script};
 ghost use Rattle.fc_shell.specs.Script.{behind_limit};
 ghost use Rattle.fc_shell.specs.Writing.{Wrote};
 
 use built::has_unbuilt;
 pub use ending::End;
+use fc_demo::demo_script;
 use fc_device::{Disk, NoMemory, Sink, Source};
 pub use fc_image::ImageFault;
 use fc_words::{Words, WordsError, read_words};
@@ -50,7 +54,7 @@ use script::{ScriptError, read_script};
 use session::answer_script;
 use std::alloc::Global;
 
-// Runs a script that was read.
+// Runs a script that was read, or a demo's.
 fn run_script<D: Disk, K: Sink>(
     alloc: Global,
     asked: &Words,
@@ -59,6 +63,7 @@ fn run_script<D: Disk, K: Sink>(
     out: &mut K,
 ) -> End
     requires short { length script.now ≤ script_limit }
+    requires own { script_for (request_in asked.now).demo script.now ≡ script.now }
     ensures promise { let r = request_in asked.now in ForSome (D.gives disk.old) (λ gives. ForSome (D.bytes disk.old) (λ image.
         (text : List ℕ) × Wrote (K.taken out.old) (K.taken out.new) text
         × EndsByScript D.Disk disk.old disk.new gives r image script.now text (has_unbuilt script.now) result)) }
@@ -77,6 +82,33 @@ fn run_script<D: Disk, K: Sink>(
     }
 }
 
+// Runs a demo.
+fn run_demo<D: Disk, K: Sink>(
+    alloc: Global,
+    asked: &Words,
+    n: u32,
+    disk: &mut D,
+    out: &mut K,
+) -> End
+    requires asked { (request_in asked.now).demo ≡ Some n }
+    requires few { n ≤ demo_limit }
+    ensures promise { let r = request_in asked.now in ForSome (D.gives disk.old) (λ gives. ForSome (D.bytes disk.old) (λ image.
+        (text : List ℕ) × Wrote (K.taken out.old) (K.taken out.new) text
+        × EndsByScript D.Disk disk.old disk.new gives r image (demo_script n) text (has_unbuilt (demo_script n)) result)) }
+    ensures keeps { RunKeeps D.Disk K.Sink (request_in asked.now) (Spares (request_in asked.now).read_only (commands_in (demo_script n))) disk.old disk.new out.old out.new result }
+    ensures unattached { has_unbuilt (demo_script n) ≡ true → (is_early result ≡ true) × (disk.new ≡ disk.old) × (out.new ≡ out.old) }
+    ensures not_built { result ≡ End.NotBuilt → (out.new ≡ out.old) × (((disk.new ≡ disk.old) × (has_unbuilt (demo_script n) ≡ true))
+        ⊎ (LeavesUnbegun D.Disk (request_in asked.now) disk.old disk.new × (has_changing (demo_script n) ≡ true))) }
+    ensures ended { (is_late result ≡ true) ⊎ ((result ≡ End.NoImage) ⊎ (result ≡ End.NotBuilt)) }
+{
+    // A law, for the proof alone: an image that is accepted opens as its own kind.
+    fc_image::accepted();
+    match demo_script(alloc, n) {
+        Err(NoMemory) => End::NoMemory,
+        Ok(script) => run_script(alloc, asked, &script, disk, out),
+    }
+}
+
 // Runs what the words ask for.
 fn run_request<D: Disk, S: Source, K: Sink>(
     alloc: Global,
@@ -85,24 +117,30 @@ fn run_request<D: Disk, S: Source, K: Sink>(
     script: &mut S,
     out: &mut K,
 ) -> End
-    ensures promise { let r = request_in asked.now in ForSome (D.gives disk.old) (λ gives. ForSome (S.left script.old) (λ lines. ForSome (D.bytes disk.old) (λ image.
+    requires few { ForSome (request_in asked.now).demo (λ n. n ≤ demo_limit) }
+    ensures promise { let r = request_in asked.now in ForSome (D.gives disk.old) (λ gives. ForSome (told_script r.demo (S.left script.old)) (λ lines. ForSome (D.bytes disk.old) (λ image.
         (text : List ℕ) × Wrote (K.taken out.old) (K.taken out.new) text
         × EndsByWords D.Disk disk.old disk.new gives r image lines text (is_unbuilt r) result))) }
-    ensures keeps { RunKeeps D.Disk K.Sink (request_in asked.now) (RunSpares (request_in asked.now) (S.left script.old)) disk.old disk.new out.old out.new result }
+    ensures keeps { RunKeeps D.Disk K.Sink (request_in asked.now) (RunSpares (request_in asked.now) (told_script (request_in asked.now).demo (S.left script.old))) disk.old disk.new out.old out.new result }
     ensures unbuilt { is_unbuilt (request_in asked.now) ≡ true → (result ≡ End.NotBuilt) × (script.new ≡ script.old) × (disk.new ≡ disk.old) × (out.new ≡ out.old) }
-    ensures unattached { ForSome (S.left script.old) (λ text. (script_limit < length text) ⊎ (has_unbuilt text ≡ true)
+    ensures unattached { ForSome (told_script (request_in asked.now).demo (S.left script.old)) (λ text. (script_limit < length text) ⊎ (has_unbuilt text ≡ true)
         → (is_early result ≡ true) × (disk.new ≡ disk.old) × (out.new ≡ out.old)) }
     ensures too_long { result ≡ End.ScriptTooLong → (disk.new ≡ disk.old) × (out.new ≡ out.old) × ForSome (S.left script.old) (λ text. script_limit < length text)
         × (S.left script.new ≡ behind_limit (S.left script.old)) }
-    ensures not_built { result ≡ End.NotBuilt → (out.new ≡ out.old) × LeavesUnbuilt D.Disk (request_in asked.now) (S.left script.old) disk.old disk.new }
+    ensures not_built { result ≡ End.NotBuilt → (out.new ≡ out.old)
+        × LeavesUnbuilt D.Disk (request_in asked.now) (told_script (request_in asked.now).demo (S.left script.old)) disk.old disk.new }
     ensures script_fault { result ≡ End.ScriptFault → Rose (S.faults script.old) (S.faults script.new) × (disk.new ≡ disk.old) × (out.new ≡ out.old) }
-    ensures script_end { is_early result ≡ false → ForSome (S.left script.new) (λ rest. rest ≡ []) }
+    ensures script_end { (request_in asked.now).demo ≡ None → is_early result ≡ false → ForSome (S.left script.new) (λ rest. rest ≡ []) }
+    ensures unread { (n : ℕ) → (request_in asked.now).demo ≡ Some n → (script.new ≡ script.old) × (result ≢ End.ScriptFault) × (result ≢ End.ScriptTooLong) }
     ensures good_words { result ≢ End.BadWords }
 {
     // A law, for the proof alone: an image that is accepted opens as its own kind.
     fc_image::accepted();
-    if asked.demo.is_some() || asked.safe {
+    if asked.safe {
         return End::NotBuilt;
+    }
+    if let Some(n) = asked.demo {
+        return run_demo(alloc, asked, n, disk, out);
     }
     match read_script(alloc, script) {
         Err(ScriptError::Source) => End::ScriptFault,
@@ -112,7 +150,8 @@ fn run_request<D: Disk, S: Source, K: Sink>(
     }
 }
 
-/// Runs the script that the source gives over the image that the words name, or over a fresh one, and writes the replies.
+/// Runs the script that the source gives over the image that the words name, or over a fresh one, and writes the replies. A demo
+/// has a script of its own: the source isn't read, and one line that counts the replies is written in their place.
 ///
 /// `words` are those after the program's name. In this order: the words, the whole script, the image, the fresh volume
 /// where one is asked for, opening, and the commands in turn. The first that fails ends the run. An image that is there
@@ -131,13 +170,13 @@ pub fn run<D: Disk, S: Source, K: Sink>(
     // If all contents are known: what was written and what the disk has then, for each end (specs/Promise). At Done and Refused
     // the lines are steps from the image as it opened, or from the fresh one, to the one that the disk has; their replies were
     // written; and a crash at any moment leaves what `Stops` says.
-    ensures promise { ForSome (D.gives disk.old) (λ gives. ForSome (S.left script.old) (λ lines. ForSome (D.bytes disk.old) (λ image.
+    ensures promise { ForSome (D.gives disk.old) (λ gives. ForSome (asked_script (request_of (map string_bytes words.now.items)) (S.left script.old)) (λ lines. ForSome (D.bytes disk.old) (λ image.
         (text : List ℕ) × Wrote (K.taken out.old) (K.taken out.new) text
         × Promise D.Disk disk.old disk.new gives image lines text (request_of (map string_bytes words.now.items)) result))) }
 
-    // If the script changes nothing, or asks for what isn't built, end and text are even those of words, script and image, unless
-    // a call failed or memory was short.
-    ensures reply { ForSome (D.gives disk.old) (λ gives. ForSome (S.left script.old) (λ text. ForSome (D.bytes disk.old) (λ image. (has_unbuilt text ≡ true) ⊎ (has_changing text ≡ false) →
+    // If the script changes nothing, or asks for what isn't built, and is no demo's, end and text are even those of words, script and
+    // image, unless a call failed or memory was short.
+    ensures reply { AsksNoDemo (request_of (map string_bytes words.now.items)) → ForSome (D.gives disk.old) (λ gives. ForSome (S.left script.old) (λ text. ForSome (D.bytes disk.old) (λ image. (has_unbuilt text ≡ true) ⊎ (has_changing text ≡ false) →
         EndsAs (run_reply (map string_bytes words.now.items) gives text image) result (K.taken out.old) (K.taken out.new)))) }
 
     // Words that aren't of the grammar, and no others, are bad; nothing is read, attached or written.
@@ -154,12 +193,12 @@ pub fn run<D: Disk, S: Source, K: Sink>(
     // the disc: then the image was opened, or made, and no line was begun (`promise`).
     ensures unbuilt { (r : Request) → request_of (map string_bytes words.now.items) ≡ Some r → is_unbuilt r ≡ true
         → ((result ≡ End.NotBuilt) ⊎ (result ≡ End.NoMemory)) × (script.new ≡ script.old) × (disk.new ≡ disk.old) × (out.new ≡ out.old) }
-    ensures unattached { ForSome (S.left script.old) (λ text. (script_limit < length text) ⊎ (has_unbuilt text ≡ true)
+    ensures unattached { ForSome (asked_script (request_of (map string_bytes words.now.items)) (S.left script.old)) (λ text. (script_limit < length text) ⊎ (has_unbuilt text ≡ true)
         → (is_early result ≡ true) × (disk.new ≡ disk.old) × (out.new ≡ out.old)) }
     ensures too_long { result ≡ End.ScriptTooLong → (disk.new ≡ disk.old) × ForSome (S.left script.old) (λ text. script_limit < length text)
         × (S.left script.new ≡ behind_limit (S.left script.old)) }
     ensures not_built { (r : Request) → request_of (map string_bytes words.now.items) ≡ Some r → result ≡ End.NotBuilt
-        → LeavesUnbuilt D.Disk r (S.left script.old) disk.old disk.new }
+        → LeavesUnbuilt D.Disk r (told_script r.demo (S.left script.old)) disk.old disk.new }
 
     // A fault is answered only where that object's count of faults rose in this call.
     ensures script_fault { result ≡ End.ScriptFault → Rose (S.faults script.old) (S.faults script.new) × (disk.new ≡ disk.old) }
@@ -175,13 +214,17 @@ pub fn run<D: Disk, S: Source, K: Sink>(
     // If the run may not change the image, or the script only reads, an image that is there keeps its bytes, and at every stop
     // it has one of those that it might have had before. Where a fresh one is asked for, the disk then has it wherever the run
     // ends over it.
-    ensures unwritten { (r : Request) → request_of (map string_bytes words.now.items) ≡ Some r → RunSpares r (S.left script.old) → r.new ≡ None → IsUnwritten D.Disk disk.old disk.new }
-    ensures made { (r : Request) → request_of (map string_bytes words.now.items) ≡ Some r → RunSpares r (S.left script.old) → is_over_image result ≡ true
+    ensures unwritten { (r : Request) → request_of (map string_bytes words.now.items) ≡ Some r → RunSpares r (told_script r.demo (S.left script.old)) → r.new ≡ None → IsUnwritten D.Disk disk.old disk.new }
+    ensures made { (r : Request) → request_of (map string_bytes words.now.items) ≡ Some r → RunSpares r (told_script r.demo (S.left script.old)) → is_over_image result ≡ true
         → HasImage D.Disk r disk.old disk.new }
     ensures settled { is_over_image result ≡ true → IsFalse (D.pending disk.new) }
     ensures no_memory { (r : Request) → request_of (map string_bytes words.now.items) ≡ Some r → result ≡ End.NoMemory
-        → LeavesDisk D.Disk r (RunSpares r (S.left script.old)) disk.old disk.new }
-    ensures script_end { is_early result ≡ false → ForSome (S.left script.new) (λ rest. rest ≡ []) }
+        → LeavesDisk D.Disk r (RunSpares r (told_script r.demo (S.left script.old))) disk.old disk.new }
+
+    // The source was read to its end, wherever the run isn't over before an image is asked for. A demo doesn't read it.
+    ensures script_end { AsksNoDemo (request_of (map string_bytes words.now.items)) → is_early result ≡ false → ForSome (S.left script.new) (λ rest. rest ≡ []) }
+    ensures unread { (r : Request) → request_of (map string_bytes words.now.items) ≡ Some r → (n : ℕ) → r.demo ≡ Some n
+        → (script.new ≡ script.old) × (result ≢ End.ScriptFault) × (result ≢ End.ScriptTooLong) }
 {
     // A law, for the proof alone: an image that is accepted opens as its own kind.
     fc_image::accepted();

@@ -1,12 +1,12 @@
 // A script over an image, from its opening to the last reply.
-ghost use Rattle.std.specs.Prelude.{◌≡◌, ◌⊎◌, ◌≤◌, List, ℕ, length, true, false, Err, IfOk, IsFalse, IsTrue};
+ghost use Rattle.std.specs.Prelude.{◌≡◌, ◌⊎◌, ◌≤◌, List, ℕ, length, true, false, Err, Some, IfOk, IsFalse, IsTrue};
 ghost use Rattle.std.specs.Option.{ForSome};
 ghost use Rattle.fc_device.specs.Calls.{OnlyReads};
 ghost use Rattle.fc_device.specs.Faults.{Rose};
 ghost use Rattle.fc_device.specs.Form.{IsFresh};
 ghost use Rattle.fc_image.specs.Opening.{open_image};
 ghost use Rattle.fc_runs.specs.Replies.{bad_image_line};
-ghost use Rattle.fc_runs.specs.Run.{commands_in};
+ghost use Rattle.fc_runs.specs.Run.{commands_in, script_for};
 ghost use Rattle.fc_volume.specs.Volume.{StandsFor, parts_of};
 ghost use Rattle.fc_words.specs.Request.{request_in};
 ghost use Rattle.fc_shell.specs.Answered.{ForState, IsCaused};
@@ -22,10 +22,12 @@ ghost use Rattle.fc_shell.specs.Writing.{Wrote, WrotePart};
 
 use crate::answer::{LineFault, answer_line};
 use crate::built::has_lacking;
+use crate::demo::{Replies, end_after, tell_tally};
 use crate::ending::End;
 use crate::image::attach_image;
 use crate::lines::CommandLines;
 use crate::sink::write_all;
+use crate::tally::Tally;
 use crate::texts::bad_image_line;
 use fc_device::{Disk, DiskFault, Failed, NoMemory, Sink};
 use fc_image::ImageFault;
@@ -33,15 +35,15 @@ use fc_volume::{MountError, Volume};
 use fc_words::Words;
 use std::alloc::Global;
 
-// Serves the command lines of a script in turn over a volume that stands for the disk. Answers whether a reply is an
-// error line.
+// Serves the command lines of a script in turn over a volume that stands for the disk. Answers how many replies there are,
+// and how many are error lines.
 fn serve<D: Disk, K: Sink>(
     alloc: Global,
     volume: &mut Volume,
     disk: &mut D,
     out: &mut K,
     script: &[u8],
-) -> Result<bool, LineFault>
+) -> Result<Tally, LineFault>
     requires attached { IsTrue (D.attached disk.old) }
     requires fit { IsTrue volume.old.fit }
     requires stands { StandsFor D.Disk volume.old disk.old }
@@ -56,21 +58,21 @@ fn serve<D: Disk, K: Sink>(
     ensures reads { Spares volume.old.read_only (commands_in script.now) → OnlyReads D.Disk disk.old disk.new }
     ensures caused { IsCaused D.Disk K.Sink disk.old disk.new out.old out.new result }
 {
-    let mut refused = false;
+    let mut tally = Tally::new();
     let mut lines = CommandLines::new(script);
     while let Some(line) = lines.next() {
-        refused |= answer_line(alloc, volume, disk, out, line)?;
+        let refused = answer_line(alloc, volume, disk, out, line)?;
+        tally.count(refused);
     }
-    Ok(refused)
+    Ok(tally)
 }
 
 // How a run ends whose lines were served.
-fn end_of(served: Result<bool, LineFault>) -> End
+fn end_of(served: Result<Tally, LineFault>) -> End
     ensures { result ≡ end_of served }
 {
     match served {
-        Ok(true) => End::Refused,
-        Ok(false) => End::Done,
+        Ok(tally) => end_after(tally),
         Err(LineFault::Disk) => End::DiskFault,
         Err(LineFault::Out) => End::OutFault,
         Err(LineFault::NoMemory) => End::NoMemory,
@@ -95,13 +97,15 @@ fn tell_fault<K: Sink>(alloc: Global, out: &mut K, fault: ImageFault) -> End
     }
 }
 
-// Serves a script over a volume that was opened, unless it asks for what isn't built for such a disc.
-fn answer_volume<D: Disk, K: Sink>(
+// Serves the script of a demo over a volume that was opened. The replies stay in memory; when the script's end is reached, the
+// demo's line is written.
+fn answer_demo<D: Disk, K: Sink>(
     alloc: Global,
     volume: &mut Volume,
     disk: &mut D,
     out: &mut K,
     script: &[u8],
+    n: u32,
 ) -> End
     requires attached { IsTrue (D.attached disk.old) }
     requires fit { IsTrue volume.old.fit }
@@ -109,15 +113,76 @@ fn answer_volume<D: Disk, K: Sink>(
     requires settled { IsFalse (D.pending disk.old) }
     requires short { length script.now ≤ script_limit }
     requires built { has_unbuilt script.now ≡ false }
+    requires built_for { has_lacking (parts_of volume.old).layout script.now ≡ false }
+    requires own { script_for (Some n) script.now ≡ script.now }
     ensures promise { ForState (D.bytes disk.old) volume.old (λ kind s. (text : List ℕ) × Wrote (K.taken out.old) (K.taken out.new) text
-        × EndsOver D.Disk disk.old disk.new (plain_mode kind volume.old.read_only) false s script.now text result) }
+        × EndsOver D.Disk disk.old disk.new (plain_mode kind volume.old.read_only) false (Some n) s script.now text result) }
+    ensures keeps { SessionKeeps D.Disk K.Sink (Spares volume.old.read_only (commands_in script.now)) disk.old disk.new out.old out.new result }
+    ensures late { is_late result ≡ true }
+{
+    let mut replies = Replies::new(alloc);
+    match serve(alloc, volume, disk, &mut replies, script) {
+        Ok(tally) => tell_tally(alloc, out, n, tally, replies.text()),
+        Err(LineFault::Disk) => End::DiskFault,
+        // The sink of the replies fails only where no memory is found.
+        Err(LineFault::Out) => End::NoMemory,
+        Err(LineFault::NoMemory) => End::NoMemory,
+    }
+}
+
+// Serves a script over a volume that was opened. A demo's replies stay in memory.
+fn answer_lines<D: Disk, K: Sink>(
+    alloc: Global,
+    volume: &mut Volume,
+    disk: &mut D,
+    out: &mut K,
+    script: &[u8],
+    demo: Option<u32>,
+) -> End
+    requires attached { IsTrue (D.attached disk.old) }
+    requires fit { IsTrue volume.old.fit }
+    requires stands { StandsFor D.Disk volume.old disk.old }
+    requires settled { IsFalse (D.pending disk.old) }
+    requires short { length script.now ≤ script_limit }
+    requires built { has_unbuilt script.now ≡ false }
+    requires built_for { has_lacking (parts_of volume.old).layout script.now ≡ false }
+    requires own { script_for demo script.now ≡ script.now }
+    ensures promise { ForState (D.bytes disk.old) volume.old (λ kind s. (text : List ℕ) × Wrote (K.taken out.old) (K.taken out.new) text
+        × EndsOver D.Disk disk.old disk.new (plain_mode kind volume.old.read_only) false demo s script.now text result) }
+    ensures keeps { SessionKeeps D.Disk K.Sink (Spares volume.old.read_only (commands_in script.now)) disk.old disk.new out.old out.new result }
+    ensures late { is_late result ≡ true }
+{
+    match demo {
+        None => end_of(serve(alloc, volume, disk, out, script)),
+        Some(n) => answer_demo(alloc, volume, disk, out, script, n),
+    }
+}
+
+// Serves a script over a volume that was opened, unless it asks for what isn't built for such a disc.
+fn answer_volume<D: Disk, K: Sink>(
+    alloc: Global,
+    volume: &mut Volume,
+    disk: &mut D,
+    out: &mut K,
+    script: &[u8],
+    demo: Option<u32>,
+) -> End
+    requires attached { IsTrue (D.attached disk.old) }
+    requires fit { IsTrue volume.old.fit }
+    requires stands { StandsFor D.Disk volume.old disk.old }
+    requires settled { IsFalse (D.pending disk.old) }
+    requires short { length script.now ≤ script_limit }
+    requires built { has_unbuilt script.now ≡ false }
+    requires own { script_for demo script.now ≡ script.now }
+    ensures promise { ForState (D.bytes disk.old) volume.old (λ kind s. (text : List ℕ) × Wrote (K.taken out.old) (K.taken out.new) text
+        × EndsOver D.Disk disk.old disk.new (plain_mode kind volume.old.read_only) false demo s script.now text result) }
     ensures keeps { SessionKeeps D.Disk K.Sink (Spares volume.old.read_only (commands_in script.now)) disk.old disk.new out.old out.new result }
     ensures changes { result ≡ End.NotBuilt → has_changing script.now ≡ true }
 {
     match has_lacking(alloc, volume.space(), script) {
         Err(NoMemory) => End::NoMemory,
         Ok(true) => End::NotBuilt,
-        Ok(false) => end_of(serve(alloc, volume, disk, out, script)),
+        Ok(false) => answer_lines(alloc, volume, disk, out, script, demo),
     }
 }
 
@@ -128,26 +193,28 @@ fn answer_image<D: Disk, K: Sink>(
     out: &mut K,
     script: &[u8],
     read_only: bool,
+    demo: Option<u32>,
 ) -> End
     requires fresh { IsFresh D.attached D.pending D.sector_size disk.old }
     requires short { length script.now ≤ script_limit }
     requires built { has_unbuilt script.now ≡ false }
+    requires own { script_for demo script.now ≡ script.now }
     ensures promise { ForSome (D.bytes disk.old) (λ image. (text : List ℕ) × Wrote (K.taken out.old) (K.taken out.new) text
-        × EndsByOpening D.Disk disk.old disk.new read_only false image script.now text (open_image image) result) }
+        × EndsByOpening D.Disk disk.old disk.new read_only false demo image script.now text (open_image image) result) }
     ensures keeps { SessionKeeps D.Disk K.Sink (Spares read_only (commands_in script.now)) disk.old disk.new out.old out.new result }
     ensures changes { result ≡ End.NotBuilt → has_changing script.now ≡ true }
 {
     // A law, for the proof alone: an image that is accepted opens as its own kind.
     fc_image::accepted();
     match Volume::mount(alloc, disk, read_only) {
-        Ok(mut volume) => answer_volume(alloc, &mut volume, disk, out, script),
+        Ok(mut volume) => answer_volume(alloc, &mut volume, disk, out, script, demo),
         Err(MountError::Image(fault)) => tell_fault(alloc, out, fault),
         Err(MountError::DiskFault) => End::DiskFault,
         Err(MountError::NoMemory) => End::NoMemory,
     }
 }
 
-/// Answers a script, in which every command is built, over the image that is asked for.
+/// Answers a script, in which every command is built, over the image that is asked for. Of a demo it is its own.
 pub fn answer_script<D: Disk, K: Sink>(
     alloc: Global,
     asked: &Words,
@@ -157,6 +224,7 @@ pub fn answer_script<D: Disk, K: Sink>(
 ) -> End
     requires short { length script.now ≤ script_limit }
     requires built { has_unbuilt script.now ≡ false }
+    requires own { script_for (request_in asked.now).demo script.now ≡ script.now }
     ensures promise { let r = request_in asked.now in ForSome (D.gives disk.old) (λ gives. ForSome (D.bytes disk.old) (λ image.
         (text : List ℕ) × Wrote (K.taken out.old) (K.taken out.new) text
         × EndsByGiving D.Disk disk.old disk.new r image script.now text (gives r.image (blank_size r)) result)) }
@@ -170,6 +238,6 @@ pub fn answer_script<D: Disk, K: Sink>(
     match attach_image(disk, asked.image.as_str(), asked.new) {
         Err(DiskFault) => End::DiskFault,
         Ok(false) => End::NoImage,
-        Ok(true) => answer_image(alloc, disk, out, script, asked.read_only),
+        Ok(true) => answer_image(alloc, disk, out, script, asked.read_only, asked.demo),
     }
 }

@@ -1,6 +1,7 @@
 // Whole runs over disks in memory: what is seen from outside, and that calls succeed. Images were worked out by other
 // programs.
 mod changes;
+mod crashes;
 
 use crate::run;
 use fc_device::{Failing, ListSink, ListSource, MemoryDisk, PlainDisk};
@@ -160,12 +161,23 @@ fn an_image_with_one_file(rt: HostRuntime) -> Result<(), Fail> {
         (&[], b"load $.hello\n", 2, b""),
         (&["--help", "disc"], b"load $.hello\n", 2, b""),
         (&["--safe", "disc"], b"load $.hello\n", 9, b""),
-        (&["--demo", "1", "disc"], b"load $.hello\n", 9, b""),
         (
-            &["disc"],
-            b"save $.A.B 00000000 00000000 -\ncreate $ 00000000 00000000 1\n",
+            &["--demo", "1", "--safe", "disc"],
+            b"load $.hello\n",
             9,
             b"",
+        ),
+        (
+            &["--read-only", "--demo", "1", "disc"],
+            b"load $.hello\n",
+            1,
+            b"demo 1 commands 11 refused 9 sha256 9dd5e13ddca647ed805e3182b8f7470e33637ab0f56d72768e535c6c93a9025e\n",
+        ),
+        (
+            &["disc"],
+            b"save $.A.B 00000000 00000000 -\ncreate $ 00000000 00000000 1\nrename $.A $.B\n",
+            1,
+            b"error 3 NotFound\nerror 5 IsDirectory\nerror 3 NotFound\n",
         ),
         (&["disc"], b"free\nreclaim\n", 9, b""),
         (&["other"], b"free\ncdir $.A\nfree\n", 12, b""),

@@ -11,8 +11,8 @@ use fc_image::ImageFault;
 use fc_names::{Path, write_path};
 use std::alloc::Global;
 
-// Appends a space and a word.
-fn push_word(line: &mut Vec<u8>, word: &[u8]) -> Result<(), NoMemory>
+/// Appends a space and a word.
+pub fn push_word(line: &mut Vec<u8>, word: &[u8]) -> Result<(), NoMemory>
     ensures { OnOk result (line.new.items ≡ line.old.items ++ spaced (word.now ∷ [])) }
 {
     line.extend_from_slice(b" ")?;
@@ -20,8 +20,8 @@ fn push_word(line: &mut Vec<u8>, word: &[u8]) -> Result<(), NoMemory>
     Ok(())
 }
 
-// Appends a space and a number.
-fn push_number(alloc: Global, line: &mut Vec<u8>, number: u64) -> Result<(), NoMemory>
+/// Appends a space and a number.
+pub fn push_number(alloc: Global, line: &mut Vec<u8>, number: u64) -> Result<(), NoMemory>
     ensures { OnOk result (line.new.items ≡ line.old.items ++ spaced (decimal number ∷ [])) }
 {
     let text = format!(in alloc; "{number}")?;

@@ -1,9 +1,13 @@
-use Rattle.std.proofs.Common.{[], Err, inl, refl, ap, map, sym, subst}
+use Rattle.std.proofs.Common.{Option, [], Err, inl, refl, ap, map, sym, subst, ◌∙◌}
 use Rattle.std.specs.Prelude.{string_bytes}
 use Rattle.fc_device.proofs.DiskLaws.{laws}
-use Rattle.fc_words.specs.CommandLine.{request_of}
+use Rattle.fc_words.specs.CommandLine.{Request, request_of}
+use Rattle.fc_words.specs.Request.{request_in}
 use Rattle.fc_shell.specs.declared.ending.End.{End}
 use Rattle.fc_shell.specs.Promise.{Promise}
+use Rattle.fc_shell.specs.Replies.{asked_script}
+use Rattle.fc_shell.proofs.AskedLemmas.{asked_plain}
+use Rattle.fc_shell.proofs.DemoLemmas.{asked_few}
 use Rattle.fc_shell.proofs.KeptLemmas.{memory_promise}
 use Rattle.fc_shell.proofs.OutcomeLemmas.{promise_as}
 use Rattle.fc_shell.proofs.PromiseLemmas.{none}
@@ -24,11 +28,16 @@ returns-in-Err-NoMemory-clause-promise g c gives given text left image told =
 
 pub returns-in-Ok-clause-promise : goal.returns-in-Ok-clause-promise
 returns-in-Ok-clause-promise g c gives given text left image told =
-    let promise = c.run_request.ensures.promise gives given text left image told in
+    let here = sym (ap (λ (o : Option Request). asked_script o (g.S.Source.left c.args.script.now)) c.in-Ok.ensures.ok) ∙ left in
+    let promise = c.run_request.ensures.promise gives given text here image told in
     (promise.0, promise.1, subst (λ o. Promise g.D.Disk c.args.disk.now c.run_request.new.disk gives image text promise.0 o c.run_request.result) (sym c.in-Ok.ensures.ok) promise.2)
 
 pub returns-in-Ok-clause-reply : goal.returns-in-Ok-clause-reply
-returns-in-Ok-clause-reply g c gives given text left image told calm =
-    let promise = returns-in-Ok-clause-promise g c gives given text left image told in
+returns-in-Ok-clause-reply g c plain gives given text left image told calm =
+    let asked = request_of (map string_bytes c.args.words.now.items) in
+    let promise = returns-in-Ok-clause-promise g c gives given text (asked_plain asked (g.S.Source.left c.args.script.now) plain ∙ left) image told in
     promise_as g.D.Disk c.args.disk.now c.run_request.new.disk (g.K.Sink.taken c.args.out.now) (g.K.Sink.taken c.run_request.new.out) promise.0 promise.1 gives image text
-    (request_of (map string_bytes c.args.words.now.items)) c.run_request.result calm promise.2
+    asked c.run_request.result plain calm promise.2
+
+pub run_request-requires : goal.run_request-requires
+run_request-requires g c = record { few = asked_few (map string_bytes c.args.words.now.items) (request_in c.in-Ok.asked) c.in-Ok.ensures.ok }

@@ -63,7 +63,7 @@ fn a_file_is_set_and_deleted(rt: HostRuntime) -> Result<(), Fail> {
 }
 
 // Scripts over a fresh E, and the status and the text that they have.
-const ROWS: [(&[u8], u8, &[u8]); 3] = [
+const ROWS: [(&[u8], u8, &[u8]); 5] = [
     (
         b"cdir $.D\ncdir $.D.E\nfree\ndelete $.D\ndelete $.D.E\ndelete $.D\nfree\n",
         1,
@@ -80,7 +80,43 @@ const ROWS: [(&[u8], u8, &[u8]); 3] = [
         b"error 2 BadName\nerror 2 BadName\nerror 3 NotFound\nok\nok\n\
             files 0 dirs 3 lost 0 holes 1 free 811008 unsorted 0 parents 0\nok\n",
     ),
+    (
+        b"save $.A fffff000 00000000 4142\nload $.A\nrename $.a $.B\ncat $\nload $.A\n\
+            save $.b 00000000 00000000 -\nload $.B\nfree\ncreate $.C 00000000 00000000 3\nload $.C\n",
+        1,
+        b"ok\n4142\nok\nok\nB 00000003 fffff000 00000000 2\nok\nerror 3 NotFound\n\
+            ok\n\nok\nfree 815104 815104\nok\nok\n000000\nok\n",
+    ),
+    (
+        b"cdir $.D\ncdir $.E\nsave $.D.F 00000000 00000000 01\nrename $.D $.E.G\nload $.E.G.F\n\
+            rename $.E $.E.X\ndelete $.E.G\ncheck\n",
+        1,
+        b"ok\nok\nok\nok\n01\nok\nerror 8 IntoItself\nerror 10 NotEmpty\n\
+            files 1 dirs 3 lost 0 holes 1 free 808960 unsorted 0 parents 0\nok\n",
+    ),
 ];
+
+// A demo over a fresh E; its digest is that of the nine lines `ok`, and of the replies to `check` and `free`.
+#[test]
+fn a_demo_of_one_command(rt: HostRuntime) -> Result<(), Fail> {
+    let alloc = rt.alloc();
+    let words = ["--new", "E", "--demo", "1", "disc"];
+    let (status, written, left) = outcome(alloc, words.as_slice(), Vec::new(alloc), b"lod\n")?;
+    assert!(rt; status == 0);
+    assert!(rt;
+        written.as_slice()
+            == b"demo 1 commands 11 refused 0 sha256 6caa7d9637739ead1ab676ee80b47329b1332bb1827719cdbc6aa5587940287d\n".as_slice()
+    );
+    let (status, written, _) = outcome(alloc, &["disc"], left, b"load $.D6.F14\nfree\n")?;
+    assert!(rt; status == 0);
+    assert!(rt;
+        written.as_slice()
+            == b"000102030405060708090a0b0c0d0e0f101112131415161718191a1b1c1d1e1f202122232425262728292a2b2c2d2e2f\n\
+                ok\nfree 796672 796672\nok\n"
+                .as_slice()
+    );
+    Ok(())
+}
 
 #[test]
 fn rows_over_a_fresh_volume(rt: HostRuntime) -> Result<(), Fail> {

@@ -27,12 +27,12 @@ returns-in-Ok-clause-promise g c image told =
     let view = there.0 in
     let s : State = record { image = image; view = view } in
     let ends = c.answer_volume.ensures.promise image (shapes.bytes_stay ∙ told) view.kind view (c.accepted.ensures image view there.1) there.2 in
-    let over = subst (λ (b : Bool). EndsOver g.D.Disk mid new (plain_mode view.kind b) false s script ends.0 c.answer_volume.result) c.in-Ok.ensures.ready.1 ends.2 in (
+    let over = subst (λ (b : Bool). EndsOver g.D.Disk mid new (plain_mode view.kind b) false c.args.demo s script ends.0 c.answer_volume.result) c.in-Ok.ensures.ready.1 ends.2 in (
       ends.0,
       ends.1,
       ends_from law old mid new (weaker law (λ image. Unit {0}) shapes.stops (λ image left. tt)) keeps.goes shapes.tells_stays (shapes.pending_stays ∙ c.requires.fresh.nothing_pending)
-          c.accepted.ensures ro false image script ends.0 c.answer_volume.result (shapes.bytes_stay ∙ told) (λ there. shapes_unwritten g.D.Disk old mid shapes) (λ fresh. absurd (no_fresh fresh)) keeps.late
-          (subst (λ o. EndsByOpening g.D.Disk mid new ro false image script ends.0 o c.answer_volume.result) (sym there.1) over),
+          c.accepted.ensures ro false c.args.demo image script ends.0 c.answer_volume.result (shapes.bytes_stay ∙ told) (λ there. shapes_unwritten g.D.Disk old mid shapes) (λ fresh. absurd (no_fresh fresh)) keeps.late
+          (subst (λ o. EndsByOpening g.D.Disk mid new ro false c.args.demo image script ends.0 o c.answer_volume.result) (sym there.1) over),
     )
 
 pub returns-in-Ok-clause-keeps : goal.returns-in-Ok-clause-keeps
@@ -60,21 +60,24 @@ returns-in-Err-Image-clause-promise g c image told =
     let old = c.args.disk.now in
     let mid = c.mount.new.disk in
     let wrong : open_image image ≡ Err c.in-Err-Image.fault = subst (IsFaultOf (open_image image)) c.in-Err-Image.field-0-is (c.in-Err-Image.ensures.fault image told) in
-    let told' = c.tell_fault.ensures in
+    let ended = rw c.in-Err-Image.field-0-is at c.tell_fault.ensures.ended in
+    let bad = rw c.in-Err-Image.field-0-is at c.tell_fault.ensures.bad in
+    let part = rw c.in-Err-Image.field-0-is at c.tell_fault.ensures.part in
     let ends = tell_ends g.D.Disk old mid c.in-Err-Image.fault c.tell_fault.result (g.K.Sink.taken c.args.out.now) (g.K.Sink.taken c.tell_fault.new.out)
-    (shapes_unwritten g.D.Disk old mid c.mount.ensures.shapes) told'.ended told'.bad told'.part (λ is. ap g.K.Sink.taken (told'.no_memory is)) in
-    (ends.0, ends.1, subst (λ o. EndsByOpening g.D.Disk old mid c.args.read_only false image c.args.script.now ends.0 o c.tell_fault.result) (sym wrong) ends.2)
+    (shapes_unwritten g.D.Disk old mid c.mount.ensures.shapes) ended bad part (λ is. ap g.K.Sink.taken (c.tell_fault.ensures.no_memory is)) in
+    (ends.0, ends.1, subst (λ o. EndsByOpening g.D.Disk old mid c.args.read_only false c.args.demo image c.args.script.now ends.0 o c.tell_fault.result) (sym wrong) ends.2)
 
 pub returns-in-Err-Image-clause-keeps : goal.returns-in-Err-Image-clause-keeps
 returns-in-Err-Image-clause-keeps g c =
+    let ended = rw c.in-Err-Image.field-0-is at c.tell_fault.ensures.ended in
     session_shapes (laws g.met.D.Disk) g.K.Sink _ c.args.disk.now c.mount.new.disk c.args.out.now c.tell_fault.new.out c.tell_fault.result c.mount.ensures.shapes c.requires.fresh.nothing_pending
-    (told_late c.in-Err-Image.fault c.tell_fault.result c.tell_fault.ensures.ended) (λ is. absurd (told_no_disk c.in-Err-Image.fault c.tell_fault.result c.tell_fault.ensures.ended is)) c.tell_fault.ensures.out_fault
+    (told_late c.in-Err-Image.fault c.tell_fault.result ended) (λ is. absurd (told_no_disk c.in-Err-Image.fault c.tell_fault.result ended is)) c.tell_fault.ensures.out_fault
 
 pub returns-in-Err-DiskFault-clause-promise : goal.returns-in-Err-DiskFault-clause-promise
 returns-in-Err-DiskFault-clause-promise g c image told = (
   [],
   wrote_nothing (g.K.Sink.taken c.args.out.now),
-  begun_fault (laws g.met.D.Disk) c.args.disk.now c.mount.new.disk c.accepted.ensures c.args.read_only image c.args.script.now told
+  begun_fault (laws g.met.D.Disk) c.args.disk.now c.mount.new.disk c.accepted.ensures c.args.read_only c.args.demo image c.args.script.now told
       (shapes_unwritten g.D.Disk c.args.disk.now c.mount.new.disk c.mount.ensures.shapes),
 )
 
@@ -87,7 +90,7 @@ pub returns-in-Err-NoMemory-clause-promise : goal.returns-in-Err-NoMemory-clause
 returns-in-Err-NoMemory-clause-promise g c image told = (
   [],
   wrote_nothing (g.K.Sink.taken c.args.out.now),
-  begun_memory (laws g.met.D.Disk) c.args.disk.now c.mount.new.disk c.accepted.ensures c.args.read_only image c.args.script.now told
+  begun_memory (laws g.met.D.Disk) c.args.disk.now c.mount.new.disk c.accepted.ensures c.args.read_only c.args.demo image c.args.script.now told
       (shapes_unwritten g.D.Disk c.args.disk.now c.mount.new.disk c.mount.ensures.shapes) (inl (c.mount.ensures.shapes.pending_stays ∙ c.requires.fresh.nothing_pending)),
 )
 

@@ -1,4 +1,4 @@
-use Rattle.std.proofs.Common.{◌≡◌, ◌≤◌, false, length}
+use Rattle.std.proofs.Common.{◌≡◌, ◌≤◌, ◌+◌, false, length}
 use Rattle.std.specs.List.{list_any}
 use Rattle.fc_device.specs.Calls.{OnlyReads}
 use Rattle.fc_runs.specs.Run.{commands_in}
@@ -22,8 +22,10 @@ invariant-loop-line g l = record {
   lacks_none : any_lacking (parts_of l.fn.volume).layout (commands_left l.lines) ≡ false;
   reads : Spares l.fn.volume.read_only (commands_in l.script) → Spares l.fn.volume.read_only (commands_left l.lines) × OnlyReads g.D.Disk l.fn.disk l.disk;
   out_faults : g.K.Sink.faults l.fn.out ≤ g.K.Sink.faults l.out;
+  counted : l.tally.replies + length (commands_left l.lines) ≡ length (commands_in l.script);
+  within : l.tally.refused ≤ l.tally.replies;
   served : ForState (g.D.Disk.bytes l.fn.disk) l.fn.volume (λ kind s.
-      HasServed g.D.Disk l.fn.disk l.disk kind l.fn.volume.read_only s l.script (commands_left l.lines) l.volume l.refused (g.K.Sink.taken l.fn.out) (g.K.Sink.taken l.out));
+      HasServed g.D.Disk l.fn.disk l.disk kind l.fn.volume.read_only s l.script (commands_left l.lines) l.volume l.tally (g.K.Sink.taken l.fn.out) (g.K.Sink.taken l.out));
 }
 
 abbrev pub decreases-loop-line : goal.decreases-loop-line

@@ -1,0 +1,50 @@
+-- Which script a run has, and what is told of it.
+use Rattle.std.proofs.Common.{◌≡◌, ◌⊎◌, ◌<◌, ◌≤◌, inl, inr, ℕ, false, true, List, length, Option, Some, None, refl, sym, ap, subst, ◌∙◌, arith}
+use Rattle.std.specs.Option.{ForSome}
+use Rattle.fc_device.specs.declared.disk.Disk.{Ghosts}
+use Rattle.fc_runs.specs.Demo.{demo_script}
+use Rattle.fc_words.specs.CommandLine.{Request}
+use Rattle.fc_shell.specs.declared.ending.End.{End}
+use Rattle.fc_shell.specs.declared.ending.End.TheVariants.{BadWords, ScriptFault, ScriptTooLong, NotBuilt, NoImage}
+use Rattle.fc_shell.specs.Built.{has_changing, has_unbuilt}
+use Rattle.fc_shell.specs.Ends.{is_late}
+use Rattle.fc_shell.specs.Kept.{LeavesUnbegun, LeavesUnbuilt}
+use Rattle.fc_shell.specs.Replies.{AsksNoDemo, asked_script, script_limit, told_script}
+use Rattle.fc_shell.proofs.PromiseLemmas.{no_fresh}
+
+pub no_demo : (demo : Option ℕ) → ((n : ℕ) → demo ≡ Some n → ⊥) → demo ≡ None
+no_demo None other = refl
+no_demo (Some n) other = absurd (other n refl)
+
+-- Without a demo it is the source's,
+pub told_plain : (demo : Option ℕ) (told : Option (List ℕ)) → demo ≡ None → told_script demo told ≡ told
+told_plain demo told plain = ap (λ (d : Option ℕ). told_script d told) plain
+
+pub asked_plain : (o : Option Request) (told : Option (List ℕ)) → AsksNoDemo o → asked_script o told ≡ told
+asked_plain None told plain = refl
+asked_plain (Some r) told plain = told_plain r.demo told plain
+
+-- with one the demo's.
+pub told_demo_script : (demo : Option ℕ) (n : ℕ) (told : Option (List ℕ)) → demo ≡ Some n → (text : List ℕ) → told_script demo told ≡ Some text → demo_script n ≡ text
+told_demo_script demo n told is text left =
+    let here : Some (demo_script n) ≡ Some text = sym (ap (λ (d : Option ℕ). told_script d told) is) ∙ left in
+    cc
+
+-- ---- of a script that was run
+
+module _ (told : Option (List ℕ)) (text : List ℕ) (is : (other : List ℕ) → told ≡ Some other → text ≡ other) (short : length text ≤ script_limit) where
+  pub unattached_told : (X : Type 0) → (has_unbuilt text ≡ true → X) → ForSome told (λ other. (script_limit < length other) ⊎ (has_unbuilt other ≡ true) → X)
+  unattached_told X then other left (inl long) =
+      let few = subst (λ (t : List ℕ). length t ≤ script_limit) (is other left) short in
+      absurd (omega (arith, long, few))
+  unattached_told X then other left (inr unbuilt) = then (ap has_unbuilt (is other left) ∙ unbuilt)
+
+  pub unbuilt_told : {D : Type 0} (d : Ghosts D) (r : Request) (old new : D) → ((new ≡ old) × (has_unbuilt text ≡ true)) ⊎ (LeavesUnbegun d r old new × (has_changing text ≡ true)) → LeavesUnbuilt d r told old new
+  unbuilt_told d r old new (inl x) = inl (x.0, inr (λ other left. (subst (λ (t : List ℕ). length t ≤ script_limit) (is other left) short, sym (ap has_unbuilt (is other left)) ∙ x.1)))
+  unbuilt_told d r old new (inr x) = inr (x.0, (λ other left. sym (ap has_changing (is other left)) ∙ x.1))
+
+-- how such a run doesn't end
+pub ran_late : (end : End) → (is_late end ≡ true) ⊎ ((end ≡ NoImage) ⊎ (end ≡ NotBuilt)) → (end ≡ ScriptFault → ⊥) × (end ≡ ScriptTooLong → ⊥) × (end ≡ BadWords → ⊥)
+ran_late end (inl late) = ((λ e. no_fresh (sym (ap is_late e) ∙ late)), (λ e. no_fresh (sym (ap is_late e) ∙ late)), (λ e. no_fresh (sym (ap is_late e) ∙ late)))
+ran_late end (inr (inl is)) = ((λ e. absurd (cc)), (λ e. absurd (cc)), (λ e. absurd (cc)))
+ran_late end (inr (inr is)) = ((λ e. absurd (cc)), (λ e. absurd (cc)), (λ e. absurd (cc)))
