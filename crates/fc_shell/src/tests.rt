@@ -135,7 +135,7 @@ fn fresh_volumes(rt: HostRuntime) -> Result<(), Fail> {
 #[test]
 fn an_image_with_one_file(rt: HostRuntime) -> Result<(), Fail> {
     let alloc = rt.alloc();
-    let cases: [(&[&str], &[u8], u8, &[u8]); 19] = [
+    let cases: [(&[&str], &[u8], u8, &[u8]); 20] = [
         (&["disc"], b"load $.hello\n", 0, b"48656c6c6f\nok\n"),
         (&["disc"], b"load $.None", 1, b"error 3 NotFound\n"),
         (
