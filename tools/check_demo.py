@@ -10,8 +10,9 @@ import subprocess
 import sys
 import tempfile
 
-SERVED = ("E", "F")  # the discs for which every command of a demo is implemented
-OTHERS = ("D", "L", "E+", "F+")
+COUNTS = (1, 2, 63, 64, 65, 1000, 10000)
+SERVED = ("E", "F", "D", "L")  # the discs for which every command of a demo is implemented
+LACKING = ("E+", "F+")
 
 
 def draws(seed):
@@ -130,9 +131,9 @@ def main():
     with tempfile.TemporaryDirectory() as folder:
         os.chdir(folder)
         for form in SERVED:
-            for count in (1, 2, 63, 64, 65, 1000, 10000):
+            for count in COUNTS:
                 demos.served(form, count)
-        for form in OTHERS:
+        for form in LACKING:
             demos.lacking(form)
         demos.others()
         os.chdir("/")

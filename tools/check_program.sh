@@ -125,7 +125,7 @@ python3 "$tools/check_demo.py" "$program" || failed=$((failed + 1))
 python3 "$tools/check_outside.py" "$program" || failed=$((failed + 1))
 python3 "$tools/check_crash.py" "$program" || failed=$((failed + 1))
 python3 "$tools/check_changes.py" --program "$program" --images 16 --commands 20 || failed=$((failed + 1))
-python3 "$tools/check_changes.py" --program "$program" --images 8 --commands 20 --old || failed=$((failed + 1))
+python3 "$tools/check_changes.py" --program "$program" --images 14 --commands 20 --old || failed=$((failed + 1))
 python3 "$tools/check_fcdisc.py" "$tools/../scripts/fcdisc" "$program" || failed=$((failed + 1))
 install_is_right
 expect 'make install and make uninstall' 0 $?

@@ -14,6 +14,7 @@ import fcdisc_cases
 import images
 from change_state import State
 from filecore import NOT_SPELLED, spelled_path
+from volumes import OldVolume
 
 STAND_IN = os.path.join(os.path.dirname(os.path.realpath(__file__)), "stand_in.py")
 SETTABLE = 15
@@ -190,6 +191,9 @@ def over_old_maps(c):
     c.run("access", "a.adf", "-", "Outer.Inner.Innermost")  # it is locked
     c.good("rm -r of several levels", ["rm", "-r", "a.adf", "Outer"], {
         path: node for path, node in before.items() if not (path + ".").startswith("$.Outer.")})
+
+
+def squashing(c):
     c.start("d-files.adf")
     before = short_tree(read(c.at("a.adf")))
     c.good("compact", ["compact", "a.adf"], before, "620544 bytes free, the largest piece 615424; before, it was 615424\n")
@@ -370,6 +374,11 @@ def own_format(data, volume):
     return {819200: "E", 1638400: "F", 655360: "L"}.get(len(data), "F") + big
 
 
+def built_format(data, volume):
+    """One that holds this disc, of those to which files can be added: its directories don't grow."""
+    return volume.form if isinstance(volume, OldVolume) else "E" if len(data) <= 819200 else "F"
+
+
 def round_trip(c, name, data, forms):
     """`extract`, and `add` to fresh discs; and `convert`."""
     tree, checks = tree_of(data), c.checks
@@ -430,9 +439,9 @@ def converting(c):
 
 def run_all(checks, mounts):
     c, real = Changes(checks), Changes(checks, checks.fcore)
-    for part in (putting, ordering, over_old_maps, forms, adding, troubles, signals, converting):
+    for part in (putting, ordering, over_old_maps, squashing, forms, adding, troubles, signals, converting):
         part(c)
-    for part in (putting, ordering, adding):
+    for part in (putting, ordering, over_old_maps, squashing, adding):
         part(real)
     if mounts:
         no_room(c)
@@ -447,4 +456,4 @@ def run_all(checks, mounts):
         if tree and (len(data), tree) not in seen:  # many discs differ in their maps alone
             seen.append((len(data), tree))
             round_trip(c, name, data, (own_format(data, volume), "F+"))
-            round_trip(real, name, data, ("E" if len(data) <= 819200 else "F", "F"))  # with directories of 2048 bytes
+            round_trip(real, name, data, (built_format(data, volume), "F"))

@@ -1,7 +1,7 @@
 #!/usr/bin/env python3
 """Compares the processor time of fcore with that of other programs that do as much, and measures its memory and system calls.
 
-usage: tools/measure.py FCORE [ROUNDS]    in a folder for temporary files (TMPDIR) with 3 GB free; five rounds by default
+usage: tools/measure.py FCORE [ROUNDS]    in a folder for temporary files (TMPDIR) with 8 GB free; five rounds by default
 It stands outside the gate: what it measures depends on the machine. In each round the contestants of a task run in turn; the
 least time of each counts. The images are generated, and are in memory when they are read. What isn't installed (mke2fs and
 e2fsck, xxd, strace, /usr/bin/time) is left out.
@@ -17,8 +17,8 @@ import large_image
 from volumes import NewVolume, record_bytes
 
 MEGA = 1 << 20
-DIRECTORIES, FILES, RUNS = 70, 72, 25
-RUN = 2048  # the bytes of the smallest run of the disc in many runs
+COUNTS, FILES, RUNS = (2500, 5000, 10000), 50, 25  # files on the discs in many runs, in a directory, and runs of a file
+RUN = 4096  # the bytes of the smallest run of those discs
 LOADED = 256 * MEGA
 
 
@@ -60,30 +60,23 @@ def empty_volume(zones, log2_bit, map_bits):
     return volume
 
 
-def fill_directories(volume, count, files):
-    """Directories $.D0 and so on, each in a run of its own, with the contents that `files` gives for each."""
-    zones = len(volume.runs)
-    for at in range(count):
-        made = volume.directory(volume.root, b"D%d" % at, pieces=[(at % zones, 16)])
-        volume.root.entries.append(made)
-        made.entries.extend(files(at))
-    for directory in volume.directories():
-        directory.entries.sort(key=lambda entry: entry.name)
-
-
-def in_many_runs():
-    """Some 5,000 files in 25 runs each, which lie in zones far apart."""
-    zones = 360
-    volume = empty_volume(zones, 7, 2 * zones * 8)
+def in_many_runs(count):
+    """So many files in 25 runs each, which lie in zones far apart, in directories $.D0.E0 and so on."""
+    zones = 700
+    volume = empty_volume(zones, 8, 2 * zones * 4)
     order = random.Random(1)
     others = [zone for zone in range(zones) if zone != zones // 2]  # than the map's
-
-    def files(at):
+    for at in range(count // FILES):
+        if at % FILES == 0:
+            holder = volume.directory(volume.root, b"D%d" % (at // FILES), pieces=[(others[-1], 16)])
+            volume.root.entries.append(holder)
+        made = volume.directory(holder, b"E%d" % (at % FILES), pieces=[(others[at], 16)])
+        holder.entries.append(made)
         for n in range(FILES):
             pieces = [(zone, 16) for zone in order.sample(others, RUNS)]
-            yield volume.file(b"F%d" % n, order.randbytes(RUNS * RUN - 100), pieces)
-
-    fill_directories(volume, DIRECTORIES, files)
+            made.entries.append(volume.file(b"F%d" % n, order.randbytes(RUNS * RUN - 100), pieces))
+    for directory in volume.directories():
+        directory.entries.sort(key=lambda entry: entry.name)
     return volume
 
 
@@ -171,11 +164,14 @@ def tasks(folder):
     path = lambda name: os.path.join(folder, name)
     found = []
 
-    volume = in_many_runs()
-    write_image(path("runs.adf"), volume)
-    outside, inside = write_files(path("files"), volume)
-    script = write_script(path("digests"), ["digest " + name for name in inside])
-    found.append(Task("%d digests on a disc in %d runs" % (len(inside), len(inside) * RUNS), path("runs.adf"), script, {"sha256sum": ["sha256sum", *outside]}))
+    for count in COUNTS:
+        volume = in_many_runs(count)
+        image = path("runs%d.adf" % count)
+        write_image(image, volume)
+        outside, inside = write_files(path("files%d" % count), volume)
+        script = write_script(path("digests%d" % count), ["digest " + name for name in inside])
+        list_of = write_script(path("list%d" % count), outside)
+        found.append(Task("%d digests on a disc in %d runs" % (count, count * RUNS), image, script, {"sha256sum": ["xargs", "-a", list_of, "sha256sum"]}))
 
     volume = with_large_file()
     write_image(path("large.adf"), volume)

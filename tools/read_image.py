@@ -494,9 +494,9 @@ def change_reply(word, path, entry, read_only):
 
 
 def adding_reply(disc, word, paths, read_only):
-    """The refusal, or `ok`: of a disc with directories of 2,048 bytes, with room for what is added."""
+    """The refusal, or `ok`: of a disc whose directories don't grow, with room for what is added."""
     to = paths[-1]
-    if to and (len(to[-1]) > 10 or any(byte < 33 or byte == 127 or byte in NOT_SPELLED for byte in to[-1])):
+    if to and (len(to[-1]) > 10 or any(byte < 33 or byte == 127 or byte in NOT_SPELLED or byte > 127 and disc.map.form == "L" for byte in to[-1])):
         return BAD_NAME
     entry, refused = disc.find(paths[0])
     if word == "rename" and refused:
@@ -552,8 +552,6 @@ def answer(data, script, read_only=False):
         disc = Disc(data)
     except Fault as fault:
         return 3, str(fault)
-    if isinstance(disc.map, OldMap) and any(word and word not in READING for word, paths in commands):
-        return 9, ""
     if disc.map.form == "big" and any(word in ADDING for word, paths in commands):
         return 9, ""
     replies = [reply(disc, word, paths, read_only) if word else paths for word, paths in commands]

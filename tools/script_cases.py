@@ -85,9 +85,11 @@ def compaction():
     """Where nothing is left to do, nothing is written: no image of the table may change."""
     yield Case("compact-settled", ["hello.adf"], "compact\nload $.hello\ncompact", 0, "ok\n48656c6c6f\nok\nok\n")
     yield Case("compact-read-only", ["--read-only", "hello.adf"], "lod\ncompact\n", 1, BAD_COMMAND + READ_ONLY)
-    fresh = FRESH["F"]()
-    yield Case("compact-fresh", ["--new", "F", "compacted.adf"], "compact\nfree\n", 0, "ok\n" + fresh.free_line() + "ok\n",
-               made=("compacted.adf", "fresh-F.adf"))
+    yield Case("compact-read-only-old-map", ["--read-only", "d-files.adf"], "compact\n", 1, READ_ONLY)
+    for form in ("F", "D", "L"):
+        image = "compacted-%s.adf" % form
+        yield Case("compact-fresh-" + form, ["--new", form, image], "compact\nfree\n", 0, "ok\n" + FRESH[form]().free_line() + "ok\n",
+                   made=(image, "fresh-%s.adf" % form))
 
 
 def refused_changes():
@@ -105,23 +107,31 @@ def refused_changes():
         (f"set $ {ZEROS} RL", ROOT_REFUSED), (f"set $.Hello FFFFF000 {ZEROS[:8]} WL", READ_ONLY),
         (f"save $.A {ZEROS} 01", READ_ONLY), (f"create $.Hello {ZEROS} 4294967295", READ_ONLY), ("cdir $.D", READ_ONLY),
         ("cdir $.Hello", EXISTS), ("rename $.Hello $.B", READ_ONLY), ("rename $.hello $.HELLO", READ_ONLY)], ["--read-only"])
-    yield lines_case("refused-additions", "e-files.adf", [
-        (f"save $.Lengths.L1 {ZEROS} -", LOCKED), (f"create $.Lengths {ZEROS} 1", IS_DIRECTORY), ("cdir $.lengths", EXISTS),
-        ("rename $.Lengths.L1 $.L", LOCKED), ("rename $.Outer $.Outer.Inner.X", INTO_ITSELF), ("rename $.Outer $.Lengths", EXISTS)])
-    for image in ("e-files.adf", "e-plus-files.adf"):
+    for image in ("e-files.adf", "d-files.adf", "l-files.adf"):
+        yield lines_case("refused-additions-" + image[:-4], image, [
+            (f"save $.Lengths.L1 {ZEROS} -", LOCKED), (f"create $.Lengths {ZEROS} 1", IS_DIRECTORY), ("cdir $.lengths", EXISTS),
+            ("rename $.Lengths.L1 $.L", LOCKED), ("rename $.Outer $.Outer.Inner.X", INTO_ITSELF), ("rename $.Outer $.Lengths", EXISTS)])
+    yield lines_case("names-of-an-l-disc", "l-files.adf", [  # they have no byte above 127
+        (f"create $.%E9 {ZEROS} 0", BAD_NAME), ("cdir $.Caf%E9", BAD_NAME), ("rename $.Outer $.%FF", BAD_NAME), ("rename $ $.A", ROOT_REFUSED)])
+    for image in ("d-files.adf", "l-files.adf"):
+        yield lines_case("refused-changes-read-only-" + image[:-4], image, [
+            ("delete $.None", NOT_FOUND), (f"save $.A {ZEROS} 01", READ_ONLY), ("cdir $.A", READ_ONLY), ("rename $.Outer $.B", READ_ONLY),
+            (f"set $.Outer {ZEROS} -", READ_ONLY), (f"create $.Outer.Inner {ZEROS} 4294967295", IS_DIRECTORY)], ["--read-only"])
+    for image in ("e-files.adf", "e-plus-files.adf", "d-files.adf", "l-files.adf"):
         yield lines_case("locked-and-not-empty-" + image[:-4], image, [
             ("delete $.Lengths.L1", LOCKED), ("delete $.lengths.l100%30", NOT_FOUND), ("delete $.Lengths", NOT_EMPTY),
             ("delete $.Outer.Inner.Innermost", LOCKED), ("delete $.OUTER.INNER", NOT_EMPTY)])
         yield lines_case("locked-and-read-only-" + image[:-4], image, [
             ("delete $.Lengths.L1", LOCKED), ("delete $.Lengths.L1024", READ_ONLY), ("delete $.Lengths", NOT_EMPTY),
             (f"set $.Lengths.L1 {ZEROS} -", READ_ONLY)], ["--read-only"])
-    yield Case("refused-change-fresh", ["--new", "E+", "set.adf"], f"set $ {ZEROS} R\n", 1, ROOT_REFUSED, made=("set.adf", "fresh-E+.adf"))
+    for form in ("E+", "D", "L"):
+        yield Case("refused-change-fresh-" + form, ["--new", form, "set-%s.adf" % form], f"set $ {ZEROS} R\ndelete $.A", 1, ROOT_REFUSED + NOT_FOUND,
+                   made=("set-%s.adf" % form, "fresh-%s.adf" % form))
 
 
 def unbuilt():
     yield Case("reclaim", ["hello.adf"], "load $.hello\nreclaim\n", 9)
     for at, line in enumerate(ADDING):
-        yield Case("add-old-map-%d" % at, ["d-files.adf"], "free\n" + line + "\n", 9)
         yield Case("add-big-directory-%d" % at, ["e-plus-files.adf"], "free\n" + line + "\n", 9)
     yield Case("add-fresh-big-directory", ["--new", "F+", "unadded.adf"], "free\ncdir $.D\n", 9, made=("unadded.adf", "fresh-F+.adf"))
     yield Case("change-without-end", ["hello.adf"], "lod\nreclaim", 9)
@@ -131,17 +141,12 @@ def unbuilt():
     yield Case("set-bad-image", ["zeros.adf"], f"set $.A {ZEROS} R\n", 3, "bad-image NoKind\n")
     yield Case("change-bad-image", ["zeros.adf"], "reclaim\n", 9)
     yield Case("change-read-only", ["--read-only", "hello.adf"], "reclaim\n", 9)
-    yield Case("compact-old-map", ["d-files.adf"], "free\ncompact\n", 9)
-    yield Case("delete-old-map", ["d-files.adf"], "free\nlod\ndelete $.None\n", 9)
-    yield Case("set-old-map-read-only", ["--read-only", "d-files.adf"], f"cat $\nset $ {ZEROS} -", 9)
-    yield Case("set-fresh-old-map", ["--new", "L", "unset.adf"], f"set $.A {ZEROS} RW\n", 9, made=("unset.adf", "fresh-L.adf"))
     yield Case("compact-bad-image", ["zeros.adf"], "compact\n", 3, "bad-image NoKind\n")
     for at, words in enumerate((["--safe"], ["--safe", "--demo", "1"])):
         yield Case("option-%d" % at, [*words, "hello.adf"], "load $.hello\n", 9)
         yield Case("option-%d-no-image" % at, ["nothing.adf", *words], "", 9)
     yield Case("new-and-change", ["--new", "E", "unmade.adf"], "free\nreclaim\n", 9, absent="unmade.adf")
     yield Case("new-and-safe", ["--new", "E+", "--safe", "unmade.adf"], "free\n", 9, absent="unmade.adf")
-    yield Case("demo-old-map", ["--demo", "5", "d-files.adf"], "free\n", 9)
     yield Case("demo-big-directory", ["--demo=10000", "--read-only", "e-plus-files.adf"], "free\n", 9)
     yield Case("new-and-demo", ["--new", "F+", "--demo", "3", "undemoed.adf"], "", 9, made=("undemoed.adf", "fresh-F+.adf"))
 

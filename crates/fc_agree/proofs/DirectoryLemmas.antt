@@ -31,7 +31,7 @@ use Rattle.fc_changes.proofs.BasicLemmas.{cases_cons}
 use Rattle.fc_nodes.specs.Edits.{Nodes}
 use Rattle.fc_agree.specs.Agreed.{AgreeOn, CanSay, IsMapChange, PartsFollow, parts_with}
 use Rattle.fc_agree.proofs.BeforeLemmas.{Had, had, object_lies, says}
-use Rattle.fc_agree.proofs.EditLemmas.{agreed_after, movable_shuffled}
+use Rattle.fc_agree.proofs.EditLemmas.{IsPartsEdit, agreed_after, agreed_on, any_edit, movable_shuffled}
 use Rattle.fc_agree.proofs.SpaceLemmas.{TakesSpace, fixed, places}
 
 come_apart' : (taken : List ℕ) (others come : List Object) → Apart taken others → EachApartFrom taken others come → Apart taken (come ++ others)
@@ -186,14 +186,13 @@ module _ (kind : Kind) (m m' : Map) (nodes : Nodes) (owners : List Owner) (root 
         let new : Apart reserved (come ++ stay) = come_apart' reserved stay come (apart_shuffled reserved remain stay old (IsPermutation-sym stay remain stay_is)) n.come_apart in
         apart_shuffled reserved (come ++ stay) (come ++ remain) new (IsPermutation-append_right come stay remain stay_is)
 
-    pub one_agree : Agree kind (parts_with m' nodes' owners')
-    one_agree =
+    one_edit : IsPartsEdit kind m m' nodes nodes' owners owners' root listings listings' e.agree (λ (o : Object). o) gone come (kids ++ held rest)
+    one_edit =
         let few = n.into_few in
         let long = length_permutation listings (out ++ l ∷ rest) e.found in
         let relisted = relisting_law.one (λ o. o) listings out rest into rest l l' gone come kids (λ o. refl) e.found n.object e.holds
         (subst (λ (os : List Object). IsPermutation l'.children (come ++ os)) (sym (map_itself kids)) n.holds_now) (listed_itself rest) e.out_gone e.out_empty n.into_come n.into_empty in
-        agreed_after kind m m' nodes nodes' owners owners' root listings listings' e.agree (λ o. o) gone come (kids ++ held rest)
-        (record {
+        record {
           is_map = e.map.is_map;
           geometry = e.map.geometry;
           relisted = relisted;
@@ -210,4 +209,13 @@ module _ (kind : Kind) (m m' : Map) (nodes : Nodes) (owners : List Owner) (root 
           forms = λ k at. subst (λ (f : NameForm). HasForm f k.object.entry.len k.content) form_same (all_can k at).form;
           bodies = λ k at. (all_can k at).body;
           follow = n.follow;
-        })
+        }
+
+    pub one_agree : Agree kind (parts_with m' nodes' owners')
+    one_agree = agreed_after kind m m' nodes nodes' owners owners' root listings listings' e.agree (λ (o : Object). o) gone come (kids ++ held rest) one_edit
+
+    -- The same with the listings named that are found.
+    pub one_on : (r : Node) × (found' : List Listing) × AgreeOn kind m' nodes' owners' r found' × IsPermutation listings' found'
+    one_on =
+        agreed_on kind m m' nodes nodes' owners owners' root listings listings' e.agree (λ (o : Object). o) gone come (kids ++ held rest) root.entry.address root.entry.len
+        (any_edit kind m m' nodes nodes' owners owners' root listings listings' e.agree (λ (o : Object). o) gone come (kids ++ held rest) one_edit)

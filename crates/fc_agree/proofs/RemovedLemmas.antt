@@ -21,7 +21,7 @@ use Rattle.fc_changes.proofs.BasicLemmas.{nothing_in, without_it}
 use Rattle.fc_nodes.specs.Edits.{IsRemoved, Nodes}
 use Rattle.fc_agree.specs.Agreed.{AgreeOn, CanSay, IsMapChange, PartsFollow, parts_with}
 use Rattle.fc_agree.specs.Laws.{RemovedLaw}
-use Rattle.fc_agree.proofs.DirectoryLemmas.{IsCut, IsOneEdited, kid_placed, l_in, one_agree, said}
+use Rattle.fc_agree.proofs.DirectoryLemmas.{IsCut, IsOneEdited, kid_placed, l_in, one_agree, one_on, said}
 
 gone_held : (out : List Listing) (o : Object) → GoesAlone out o → held out ≡ []
 gone_held [] o alone = refl
@@ -81,6 +81,10 @@ module _ (kind : Kind) (m m' : Map) (nodes nodes' : Nodes) (owners owners' : Lis
 
   removed_at : Agree kind (parts_with m' nodes' owners')
   removed_at = one_agree kind m m' nodes owners root listings out rest l (o ∷ []) [] kids stay 0 [] gone cut nodes' owners' [] l' edited
+
+  -- The same with the listings named that are found.
+  pub removed_on : (r : Node) × (found' : List Listing) × AgreeOn kind m' nodes' owners' r found' × IsPermutation (l' ∷ rest) found'
+  removed_on = one_on kind m m' nodes owners root listings out rest l (o ∷ []) [] kids stay 0 [] gone cut nodes' owners' [] l' edited
 
 pub removed_law : RemovedLaw
 removed_law kind m m' nodes nodes' owners owners' root listings listings' out rest l content i o dir number stay gone a e can f others map =

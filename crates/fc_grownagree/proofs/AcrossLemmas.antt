@@ -1,6 +1,6 @@
 -- `rename` to a directory that grows: the growth, and then the rename. The directory that the object leaves says first what it said,
 -- with the new place of the grown one if it holds that.
-use Rattle.std.proofs.Common.{◌≡◌, ◌<◌, ◌≤◌, inl, inr, ⊎_elim, ℕ, zero, suc, Bool, true, false, cond, List, [], ◌∷◌, ◌++◌, length, map, insert, remove, get_or, slice_get, refl, sym, ap, ap₂, subst, ◌∙◌, arith, Some, None, Option, take_all}
+use Rattle.std.proofs.Common.{◌≡◌, ◌<◌, ◌≤◌, ⊎_elim, ℕ, zero, suc, Bool, true, false, cond, List, [], ◌∷◌, ◌++◌, length, map, insert, remove, get_or, refl, sym, ap, ap₂, subst, ◌∙◌, arith, Some, Option, take_all}
 use Rattle.std.specs.Prelude.{Contains, IsPermutation}
 use Rattle.std.specs.List.{AllByRecursion}
 use Rattle.std.specs.Option.{option_map}

@@ -1,12 +1,10 @@
 -- `save`, `create` and `cdir` by which a directory grows: the growth, and then what comes.
-use Rattle.std.proofs.Common.{◌≡◌, ◌<◌, ◌≤◌, ℕ, ◌-◌, ◌*◌, ◌/◌, Bool, true, false, cond, List, [], ◌∷◌, ◌++◌, length, insert, refl, sym, ap, subst, ◌∙◌, arith, Some, None}
+use Rattle.std.proofs.Common.{◌≡◌, ◌<◌, ◌≤◌, ℕ, ◌-◌, ◌*◌, ◌/◌, Bool, true, cond, List, [], ◌∷◌, ◌++◌, insert, refl, sym, ap, subst, ◌∙◌, arith, Some, None}
 use Rattle.std.specs.Prelude.{Contains, IsPermutation, IsTrue, ◌==◌}
 use Rattle.std.specs.FinMap.{get, insert as put}
 use Rattle.std.proofs.lemmas.List.Sorted.{IsPermutation-sym}
 use Rattle.fc_names.specs.declared.name.NameForm.{NameForm}
 use Rattle.fc_names.specs.declared.name.NameForm.TheVariants.{Long, Seven, Ten}
-use Rattle.fc_names.specs.Names.{Path}
-use Rattle.fc_model.specs.Tree.{holder}
 use Rattle.fc_record.specs.declared.Geometry.{Geometry}
 use Rattle.fc_record.specs.declared.Kind.{Kind}
 use Rattle.fc_newmap.specs.Map.{Map, ZoneRun}
@@ -19,25 +17,21 @@ use Rattle.fc_alloc.specs.declared.owner.Owner.{Owner}
 use Rattle.fc_image.specs.Layout.{Layout, dir_form}
 use Rattle.fc_image.specs.Walk.{Listing, Object, is_directory_object, object_size}
 use Rattle.fc_image.specs.Objects.{objects_of}
-use Rattle.fc_image.specs.Edits.{IsAt}
-use Rattle.fc_image.specs.InPlace.{says_now}
 use Rattle.fc_effects.specs.Short.{new_dir_size}
 use Rattle.fc_tree.specs.declared.node.Body.TheVariants as bodies
 use Rattle.fc_tree.specs.declared.node.Node.{Node}
 use Rattle.fc_tree.specs.Agree.{HasForm, IsDirectory}
 use Rattle.fc_tree.specs.Nodes.{body_in, number_of}
 use Rattle.fc_tree.specs.Parts.{first_in}
-use Rattle.fc_changes.specs.Changed.{IsFileAt, IsInNewSpace}
 use Rattle.fc_nodes.specs.Edits.{IsAdded, IsDirectoryAdded, Nodes, OwnersEdited, owners_with, with_body}
 use Rattle.fc_nodes.specs.Laws.{IsHeld}
 use Rattle.fc_nodes.proofs.AddedLemmas.{added_law, directory_added_law}
-use Rattle.fc_agree.specs.Agreed.{AgreeOn, CanSay, PartsFollow}
+use Rattle.fc_agree.specs.Agreed.{CanSay, PartsFollow}
 use Rattle.fc_agree.proofs.BeforeLemmas.{sound}
 use Rattle.fc_agree.proofs.RoomLemmas.{some_bytes}
 use Rattle.fc_growths.specs.Grown.{NewPlace, at_place, grown_says}
-use Rattle.fc_grownnodes.specs.Commands.{IsGrownAdded, IsGrownDirectoryAdded}
+use Rattle.fc_grownnodes.specs.Commands.{IsGrownAdded}
 use Rattle.fc_grownnodes.specs.Regrown.{IsAround, IsRegrown, with_regrown}
-use Rattle.fc_grownnodes.specs.Space.{IsGrowthMap}
 use Rattle.fc_grownnodes.proofs.AbsorbedLemmas.{absorbed_law}
 use Rattle.fc_grownnodes.proofs.BodiesLemmas.{still_free}
 use Rattle.fc_grownnodes.proofs.RegrownLemmas.{l_in, leads, objects_now, regrown_nodes, regrown_owners}
@@ -176,8 +170,14 @@ module _ (kind : Kind) (m m' : Map) (nodes : Nodes) (owners between : List Owner
 
 -- ---- a file
 
-pub grown_added_law : GrownAddedLaw
-grown_added_law kind m m' nodes nodes' owners between owners' root listings listings' again again' keep l content place said j o up dir number path n id parts stay gone g e can edited len at place_is =
+-- one whose space is nobody's
+pub grown_added_free : (kind : Kind) (m m' : Map) (nodes nodes' : Nodes) (owners between owners' : List Owner) (root : Node) (listings listings' again again' keep : List Listing) (l : Listing)
+    (content : Directory) (place : NewPlace) (said : List (ℕ × Directory)) (j : ℕ) (o : Object) (up dir number id : ℕ) (parts : List ZoneRun) (stay : List Object) (gone : List ℕ)
+    → GrowsIn kind m m' nodes owners between root listings again' l place up dir stay id parts gone
+    → IsGrownAdded nodes nodes' listings listings' again again' keep l content place said j o dir number → CanSay (Layout.New m) (at_place place l.object) content
+    → OwnersEdited between owners' [] (owners_with (Layout.New m') dir number o) → IsFreeOn kind m' (at_place place l.object ∷ stay) o
+    → AgreeAfter kind m' nodes' owners' listings'
+grown_added_free kind m m' nodes nodes' owners between owners' root listings listings' again again' keep l content place said j o up dir number id parts stay gone g e can edited free =
     let now = between_agree kind m m' nodes owners between root listings again again' keep l content place said up dir stay id parts gone g e.around can in
     let l2 = l1 kind m m' nodes owners between root listings again again' keep l content place said up dir stay id parts gone g e.around can in
     let nodes2 = middle kind m m' nodes owners between root listings again again' keep l content place said up dir stay id parts gone g e.around can in
@@ -207,10 +207,15 @@ grown_added_law kind m m' nodes nodes' owners between owners' root listings list
           (can_now kind m m' nodes owners between root listings again again' keep l content place said up dir stay id parts gone g e.around can (at_place place l.object) content can) follow
           (free_shuffled kind m' (objects_of now.found) (at_place place l.object ∷ stay) o
           (objects_between kind m m' nodes owners between root listings again again' keep l content place said up dir stay id parts gone g e.around can)
-          (free_law.file kind m m' nodes owners root listings stay id parts l o place gone path n g.agree g.map
-          (l_at kind m m' nodes owners between root listings again again' keep l content place said up dir stay id parts gone g e.around can) e.file
-          (len_some kind m m' nodes owners between root listings again again' keep l content place said up dir stay id parts gone g e.around can) len at place_is));
+          free);
     }
+
+pub grown_added_law : GrownAddedLaw
+grown_added_law kind m m' nodes nodes' owners between owners' root listings listings' again again' keep l content place said j o up dir number path n id parts stay gone g e can edited len at place_is =
+    grown_added_free kind m m' nodes nodes' owners between owners' root listings listings' again again' keep l content place said j o up dir number id parts stay gone g e can edited
+    (free_law.file kind m m' nodes owners root listings stay id parts l o place gone path n g.agree g.map
+    (l_at kind m m' nodes owners between root listings again again' keep l content place said up dir stay id parts gone g e.around can) e.file
+    (len_some kind m m' nodes owners between root listings again again' keep l content place said up dir stay id parts gone g e.around can) len at place_is)
 
 -- ---- a directory
 

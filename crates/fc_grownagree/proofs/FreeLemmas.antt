@@ -1,20 +1,18 @@
 -- An object comes whose space the map already has.
-use Rattle.std.proofs.Common.{◌≡◌, ◌≤◌, inl, inr, ℕ, ◌+◌, Bool, true, false, cond, List, [], ◌∷◌, ◌++◌, length, map, insert, refl, sym, ap, subst, ◌∙◌, arith, None, length-append}
+use Rattle.std.proofs.Common.{◌≡◌, ◌≤◌, inl, inr, ℕ, Bool, cond, List, [], ◌∷◌, ◌++◌, length, insert, refl, sym, ap, subst, ◌∙◌, arith, length-append}
 use Rattle.std.specs.Prelude.{Contains, IsPermutation}
 use Rattle.std.proofs.lemmas.List.Elements.{Contains-append_cases, Contains-append_left, Contains-append_right}
 use Rattle.std.proofs.lemmas.List.Sorted.{Contains-permutation, IsPermutation-cons, IsPermutation-refl, IsPermutation-sym, length_permutation}
-use Rattle.fc_names.specs.declared.name.NameForm.{NameForm}
-use Rattle.fc_record.specs.declared.Geometry.{Geometry}
 use Rattle.fc_record.specs.declared.Kind.{Kind}
-use Rattle.fc_newmap.specs.Map.{Map, ZoneRun}
+use Rattle.fc_newmap.specs.Map.{Map}
 use Rattle.fc_dirs.specs.declared.Entry.{Entry}
 use Rattle.fc_dirs.specs.Directory.{Directory, entries_of}
 use Rattle.fc_alloc.specs.declared.owner.Owner.{Owner}
-use Rattle.fc_image.specs.Layout.{Layout, dir_form}
+use Rattle.fc_image.specs.Layout.{Layout}
 use Rattle.fc_image.specs.Walk.{Listing, Object, Reader}
 use Rattle.fc_image.specs.Objects.{objects_of}
 use Rattle.fc_image.specs.Opening.{misplaced_sector, reserved_in}
-use Rattle.fc_image.specs.Edits.{Apart, AreChildren, IsAt, IsListing, StayListed}
+use Rattle.fc_image.specs.Edits.{Apart, AreChildren, IsListing, StayListed}
 use Rattle.fc_image.specs.Order.{directories, held, listed}
 use Rattle.fc_image.specs.InPlace.{says_now}
 use Rattle.fc_image.proofs.EditLemmas.{apart_law}
@@ -23,7 +21,7 @@ use Rattle.fc_image.proofs.OrderLemmas.{apart_shuffled, stay_append}
 use Rattle.fc_image.proofs.RelistLemmas.{edited_apart_law, listed_itself, map_itself, relisting_law}
 use Rattle.fc_image.proofs.ShuffleLemmas.{IsPermutation-flat_map}
 use Rattle.fc_tree.specs.declared.node.Node.{Node}
-use Rattle.fc_tree.specs.Agree.{Agree, HasForm, reader_of_nodes}
+use Rattle.fc_tree.specs.Agree.{Agree, reader_of_nodes}
 use Rattle.fc_changes.proofs.BasicLemmas.{cases_cons, first_in, next_in, nothing_in}
 use Rattle.fc_changes.proofs.MadeLemmas.{turned}
 use Rattle.fc_nodes.specs.Edits.{IsAdded, IsDirectoryAdded, Nodes}

@@ -5,5 +5,5 @@ pub mod PlaceLemmas
 pub mod CommandLemmas
 pub mod WithinLemmas
 pub mod AcrossLemmas
-pub mod CopiedLemmas
+pub mod NumberedLemmas
 pub mod CopyingLemmas

@@ -1,19 +1,17 @@
 -- What is taken beside a directory that grows is nobody's.
-use Rattle.std.proofs.Common.{◌≡◌, ◌<◌, ℕ, ◌*◌, Bool, true, false, cond, List, [], ◌∷◌, ◌++◌, refl, sym, ap, subst, ◌∙◌, None}
+use Rattle.std.proofs.Common.{◌≡◌, ◌<◌, ℕ, true, List, [], ◌∷◌, ◌++◌, sym, subst, ◌∙◌}
 use Rattle.std.specs.Prelude.{Contains, IsPermutation}
 use Rattle.std.proofs.lemmas.List.Sorted.{Contains-permutation, IsPermutation-cons}
-use Rattle.fc_names.specs.Names.{Path}
 use Rattle.fc_record.specs.declared.Geometry.{Geometry}
 use Rattle.fc_record.specs.declared.Kind.{Kind}
 use Rattle.fc_newmap.specs.Map.{Map, ZoneRun, map_sectors}
 use Rattle.fc_alloc.specs.declared.owner.Owner.{Owner}
 use Rattle.fc_image.specs.Layout.{Layout, dir_form, is_apart}
-use Rattle.fc_image.specs.Walk.{Listing, Object, is_directory_object, object_size}
+use Rattle.fc_image.specs.Walk.{Listing, Object, object_size}
 use Rattle.fc_image.specs.Objects.{objects_of}
-use Rattle.fc_image.specs.Opening.{boot_place, misplaced_sector, reserved_in}
+use Rattle.fc_image.specs.Opening.{boot_place}
 use Rattle.fc_image.specs.Edits.{IsAt}
 use Rattle.fc_tree.specs.declared.node.Node.{Node}
-use Rattle.fc_changes.specs.Changed.{IsFileAt, IsInNewSpace}
 use Rattle.fc_nodes.specs.Edits.{Nodes}
 use Rattle.fc_agree.specs.Agreed.{AgreeOn}
 use Rattle.fc_agree.proofs.AddedLemmas.{file_size}

@@ -1,5 +1,5 @@
 -- A directory grows: the parts agree.
-use Rattle.std.proofs.Common.{◌≡◌, ◌<◌, ◌≤◌, inl, inr, ℕ, ◌+◌, Bool, true, false, cond, List, [], ◌∷◌, ◌++◌, length, map, refl, sym, ap, ap₂, subst, ◌∙◌, arith, Some, None}
+use Rattle.std.proofs.Common.{◌≡◌, ◌<◌, inl, inr, ℕ, false, cond, List, [], ◌∷◌, ◌++◌, map, refl, sym, ap, ap₂, subst, ◌∙◌, arith}
 use Rattle.std.specs.Prelude.{Contains, IsPermutation, Ok, ◌==◌}
 use Rattle.std.proofs.lemmas.List.Elements.{Contains-append_cases, Contains-append_left, Contains-append_right}
 use Rattle.std.proofs.lemmas.List.Sorted.{Contains-permutation, IsPermutation-cons, IsPermutation-map, IsPermutation-refl, IsPermutation-sym, IsPermutation-trans, length_permutation}
@@ -15,7 +15,7 @@ use Rattle.fc_alloc.specs.declared.owner.Owner.{Owner}
 use Rattle.fc_image.specs.Layout.{Layout, dir_form}
 use Rattle.fc_image.specs.Walk.{Listing, Object, Reader, is_directory_object, root_entry}
 use Rattle.fc_image.specs.Objects.{objects_of}
-use Rattle.fc_image.specs.Opening.{misplaced_sector, reserved_in}
+use Rattle.fc_image.specs.Opening.{reserved_in}
 use Rattle.fc_image.specs.Edits.{Apart, AreChildren, IsAt, IsListing, IsRoot, StayListed}
 use Rattle.fc_image.specs.EditedWalk.{AreListedBy, IsRelisting}
 use Rattle.fc_image.specs.Growths.{grown_entry}
@@ -24,15 +24,13 @@ use Rattle.fc_image.proofs.EditLemmas.{apart_law}
 use Rattle.fc_image.proofs.EntriesLemmas.{entries_law}
 use Rattle.fc_image.proofs.GrowthLemmas.{beside, children_grown}
 use Rattle.fc_image.proofs.OrderLemmas.{apart_shuffled}
-use Rattle.fc_image.proofs.RelistLemmas.{apart_behind, edited_apart_law, map_itself, relisting_law}
+use Rattle.fc_image.proofs.RelistLemmas.{apart_behind, edited_apart_law, relisting_law}
 use Rattle.fc_image.proofs.RewordLemmas.{same_long}
 use Rattle.fc_image.proofs.ShuffleLemmas.{IsPermutation-flat_map}
-use Rattle.fc_effects.specs.Steady.{regrown_entry}
 use Rattle.fc_tree.specs.declared.node.Node.{Node}
-use Rattle.fc_tree.specs.Agree.{HasForm, IsDirectory, reader_of_nodes}
+use Rattle.fc_tree.specs.Agree.{HasForm, reader_of_nodes}
 use Rattle.fc_tree.proofs.WalkedLemmas.{child_is_object, listed_directory}
-use Rattle.fc_changes.proofs.BasicLemmas.{cases_cons, clash, first_in, next_in, nothing_in}
-use Rattle.fc_changes.proofs.MadeLemmas.{turned}
+use Rattle.fc_changes.proofs.BasicLemmas.{cases_cons, first_in, next_in, nothing_in}
 use Rattle.fc_nodes.specs.Edits.{Nodes}
 use Rattle.fc_nodes.specs.Laws.{IsHeld}
 use Rattle.fc_agree.specs.Agreed.{AgreeOn, CanSay, PartsFollow}

@@ -1,5 +1,5 @@
 -- The parts of an opened image agree with its listings.
-use Rattle.std.proofs.Common.{◌≡◌, ◌≤◌, ℕ, ◌+◌, Bool, true, false, cond, List, [], ◌∷◌, length, refl, sym, ap, ap₂, subst, ◌∙◌, arith, Option, Some, None}
+use Rattle.std.proofs.Common.{◌≡◌, ◌≤◌, ℕ, true, List, [], ◌∷◌, length, refl, sym, ap, subst, ◌∙◌, arith, Some}
 use Rattle.std.specs.Prelude.{Contains, Ok, filter}
 use Rattle.std.specs.FinMap.{get}
 use Rattle.fc_names.specs.declared.name.NameForm.{NameForm}
@@ -13,10 +13,10 @@ use Rattle.fc_alloc.specs.declared.owner.Owner.{Owner}
 use Rattle.fc_image.specs.Layout.{Layout, dir_form, disc_sectors}
 use Rattle.fc_image.specs.Walk.{Listing, Object, Reader, is_directory_object, reader_of, root_entry, walk}
 use Rattle.fc_image.specs.Objects.{listing_at, objects_of}
-use Rattle.fc_image.specs.Opening.{Opened, misplaced_sector, reserved_in}
+use Rattle.fc_image.specs.Opening.{Opened, reserved_in}
 use Rattle.fc_image.specs.Sound.{AreSound}
 use Rattle.fc_image.specs.Stays.{OpensAs}
-use Rattle.fc_image.specs.Edits.{Apart, AreEdited, Follows, IsListing, IsRoot, StayListed}
+use Rattle.fc_image.specs.Edits.{AreEdited, Follows, IsRoot, StayListed}
 use Rattle.fc_image.proofs.EditLemmas.{edit_law, stay_law, walk_form_law}
 use Rattle.fc_image.specs.Order.{held}
 use Rattle.fc_image.proofs.HolesLemmas.{OpenMap, least_none}
@@ -24,14 +24,13 @@ use Rattle.fc_image.proofs.MoveLemmas.{open_by}
 use Rattle.fc_image.proofs.OrderLemmas.{order_law}
 use Rattle.fc_image.proofs.RelistLemmas.{map_itself, root_once}
 use Rattle.fc_image.proofs.RoomLemmas.{room_law}
-use Rattle.fc_tree.specs.declared.node.Body.TheVariants as bodies
 use Rattle.fc_tree.specs.declared.node.Node.{Node}
 use Rattle.fc_tree.specs.Agree.{HasForm, IsDirectory, reader_of_nodes}
-use Rattle.fc_tree.specs.Nodes.{HasNode, HoldObjects, body_in, body_of, number_of}
+use Rattle.fc_tree.specs.Nodes.{HasNode, body_in, body_of}
 use Rattle.fc_tree.specs.Parts.{AreOwners, ArePartsOf}
 use Rattle.fc_tree.proofs.FindLemmas.{object_of_number}
 use Rattle.fc_tree.proofs.HeldLemmas.{nodes_law}
-use Rattle.fc_tree.proofs.MemberLemmas.{contains_cases, contains_here, contains_later, from_map, in_filter}
+use Rattle.fc_tree.proofs.MemberLemmas.{contains_here, contains_later, from_map, in_filter}
 use Rattle.fc_tree.proofs.WalkedLemmas.{directories_listed, listed_directory, listing_found, same_some, sound_law}
 use Rattle.fc_changes.proofs.BasicLemmas.{first_in}
 use Rattle.fc_nodes.specs.Edits.{Nodes}

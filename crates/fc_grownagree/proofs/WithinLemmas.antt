@@ -1,30 +1,24 @@
 -- `rename` within a directory that grows: the growth, and then the rename.
-use Rattle.std.proofs.Common.{◌≡◌, ◌⊎◌, inl, inr, ⊎_elim, ℕ, Bool, true, false, List, [], ◌∷◌, ◌++◌, length, insert, remove, refl, sym, ap, subst, ◌∙◌, arith, Some}
-use Rattle.std.specs.Prelude.{Contains, IsPermutation}
+use Rattle.std.proofs.Common.{◌≡◌, ⊎_elim, true, false, List, [], ◌∷◌, ◌++◌, length, insert, remove, refl, sym, ap, ◌∙◌, arith}
+use Rattle.std.specs.Prelude.{Contains}
 use Rattle.std.proofs.lemmas.List.{length_push}
 use Rattle.std.proofs.lemmas.List.Elements.{Contains-append_cases, Contains-append_right}
 use Rattle.std.proofs.lemmas.List.Sorted.{Contains-permutation, IsPermutation-sym}
 use Rattle.fc_names.specs.Names.{Path, is_same_path}
-use Rattle.fc_record.specs.declared.Kind.{Kind}
 use Rattle.fc_newmap.specs.Map.{Map}
 use Rattle.fc_dirs.specs.declared.Entry.{Entry}
 use Rattle.fc_dirs.specs.Entries.{has_name, without_entry}
-use Rattle.fc_dirs.specs.Directory.{Directory, entries_of}
-use Rattle.fc_alloc.specs.declared.owner.Owner.{Owner}
 use Rattle.fc_image.specs.Layout.{Layout}
-use Rattle.fc_image.specs.Walk.{Listing, Object, is_directory_object}
+use Rattle.fc_image.specs.Walk.{Listing, Object}
 use Rattle.fc_image.specs.Sound.{AreSound}
 use Rattle.fc_image.proofs.PathsLemmas.{itself}
-use Rattle.fc_tree.specs.declared.node.Node.{Node}
-use Rattle.fc_tree.specs.Nodes.{number_of}
-use Rattle.fc_tree.proofs.MemberLemmas.{contains_cases, contains_here, contains_later}
+use Rattle.fc_tree.proofs.MemberLemmas.{contains_cases, contains_here}
 use Rattle.fc_tree.proofs.WalkedLemmas.{child_path, contained}
 use Rattle.fc_nodes.specs.Edits.{IsRenamed, Nodes, with_entry, with_own_body}
 use Rattle.fc_nodes.proofs.RenamedLemmas.{renamed_law}
-use Rattle.fc_agree.specs.Agreed.{CanSay, PartsFollow}
+use Rattle.fc_agree.specs.Agreed.{PartsFollow}
 use Rattle.fc_agree.proofs.RenamedLemmas.{renamed_law as agree_renamed}
-use Rattle.fc_growths.specs.Grown.{NewPlace, at_place}
-use Rattle.fc_grownnodes.specs.Commands.{IsGrownRenamed}
+use Rattle.fc_growths.specs.Grown.{at_place}
 use Rattle.fc_grownnodes.proofs.AroundLemmas.{by_now}
 use Rattle.fc_grownnodes.proofs.RegrownLemmas.{leads, rest_in}
 use Rattle.fc_grownagree.specs.Commands.{GrownRenamedLaw}

@@ -1,5 +1,5 @@
 -- After a command by which a directory grows nodes and owners follow, and the parts agree.
-use Rattle.std.specs.Prelude.{◌≡◌, ◌≤◌, ◌*◌, ℕ, true, List, [], ◌∷◌, Contains, IsPermutation, Some}
+use Rattle.std.specs.Prelude.{◌≡◌, ◌≤◌, ◌*◌, ℕ, true, List, [], Contains, Some}
 use Rattle.fc_record.specs.declared.Kind.{Kind}
 use Rattle.fc_names.specs.Names.{Path}
 use Rattle.fc_model.specs.Tree.{holder}
@@ -20,13 +20,23 @@ use Rattle.fc_nodes.specs.Edits.{Nodes, OwnersEdited, owners_with}
 use Rattle.fc_agree.specs.Agreed.{AgreeOn, CanSay, PartsFollow, parts_with}
 use Rattle.fc_growths.specs.Grown.{NewPlace, at_place}
 use Rattle.fc_grownnodes.specs.Commands.{IsGrownAdded, IsGrownCopied, IsGrownDirectoryAdded, IsGrownRenamed, IsGrownTransferred}
-use Rattle.fc_grownnodes.specs.Space.{IsGrowthMap}
+use Rattle.fc_grownnodes.specs.Space.{IsCarriedMap, IsGrowthMap}
 
 -- What is known before, and of the growth: `between` are the owners with the new place of directory l, which the node `up` holds.
 pub record GrowsIn (kind : Kind) (m m' : Map) (nodes : Nodes) (owners between : List Owner) (root : Node) (listings again' : List Listing) (l : Listing) (place : NewPlace) (up dir : ℕ)
     (stay : List Object) (id : ℕ) (parts : List ZoneRun) (gone : List ℕ) : Type 0 where
   pub agree : AgreeOn kind m nodes owners root listings
   pub map : IsGrowthMap m m' (objects_of listings) stay id parts l.object place gone
+  pub longer : l.object.entry.len ≤ place.len
+  pub again_say : (k : Listing) → Contains again' k → CanSay (Layout.New m) k.object k.content
+  pub up_is : number_of nodes (holder l.object.path) ≡ Some up
+  pub regrown : OwnersEdited owners between (owners_with (Layout.New m) up dir l.object) (owners_with (Layout.New m') up dir (at_place place l.object))
+
+-- The same if the file o is copied: `left` are the objects that stay beside it.
+pub record CarriesIn (kind : Kind) (m m' : Map) (nodes : Nodes) (owners between : List Owner) (root : Node) (listings again' : List Listing) (l : Listing) (place : NewPlace) (up dir : ℕ)
+    (stay left : List Object) (o : Object) (id : ℕ) (parts : List ZoneRun) (gone : List ℕ) : Type 0 where
+  pub agree : AgreeOn kind m nodes owners root listings
+  pub map : IsCarriedMap m m' (objects_of listings) stay left o id parts l.object place gone
   pub longer : l.object.entry.len ≤ place.len
   pub again_say : (k : Listing) → Contains again' k → CanSay (Layout.New m) k.object k.content
   pub up_is : number_of nodes (holder l.object.path) ≡ Some up
@@ -80,7 +90,7 @@ GrownTransferredLaw = (kind : Kind) (m m' : Map) (nodes nodes' : Nodes) (owners 
 abbrev pub GrownCopiedLaw : Type 0
 GrownCopiedLaw = (kind : Kind) (m m' : Map) (nodes nodes' : Nodes) (owners between owners' : List Owner) (root : Node) (listings listings' again again' keep : List Listing) (k l : Listing)
     (k_content l_content : Directory) (place : NewPlace) (said : List (ℕ × Directory)) (i j : ℕ) (o copy : Object) (up from_dir dir number : ℕ) (name : List ℕ) (id : ℕ) (parts : List ZoneRun)
-    (stay : List Object) (gone : List ℕ) → GrowsIn kind m m' nodes owners between root listings again' l place up dir stay id parts gone
+    (stay left : List Object) (gone : List ℕ) → CarriesIn kind m m' nodes owners between root listings again' l place up dir stay left o id parts gone
     → IsGrownCopied nodes nodes' listings listings' again again' keep k l k_content l_content place said i j o copy from_dir dir number name
     → CanSay (Layout.New m) k.object k_content → CanSay (Layout.New m) (at_place place l.object) l_content
     → OwnersEdited between owners' (owners_with (Layout.New m') from_dir number o) (owners_with (Layout.New m') dir number copy)

@@ -1,5 +1,5 @@
 -- A new object whose space the map already has: nobody's, and no sector of the map or of a boot block.
-use Rattle.std.specs.Prelude.{◌≡◌, ◌<◌, ℕ, true, false, List, [], ◌∷◌, Contains, None, IsPermutation}
+use Rattle.std.specs.Prelude.{◌≡◌, ◌<◌, ℕ, true, false, List, ◌∷◌, Contains, None}
 use Rattle.fc_record.specs.declared.Kind.{Kind}
 use Rattle.fc_names.specs.Names.{Path}
 use Rattle.fc_newmap.specs.Map.{Map, ZoneRun}
@@ -14,7 +14,6 @@ use Rattle.fc_tree.specs.declared.node.Node.{Node}
 use Rattle.fc_tree.specs.Agree.{Agree}
 use Rattle.fc_changes.specs.Changed.{IsFileAt, IsInNewSpace}
 use Rattle.fc_nodes.specs.Edits.{IsAdded, IsDirectoryAdded, Nodes}
-use Rattle.fc_nodes.specs.Copied.{IsCopied}
 use Rattle.fc_agree.specs.Agreed.{AgreeOn, CanSay, PartsFollow, parts_with}
 use Rattle.fc_growths.specs.Grown.{NewPlace, at_place}
 use Rattle.fc_grownnodes.specs.Space.{IsGrowthMap}
@@ -47,11 +46,3 @@ pub record FreeObjectLaw : Type 0 where
       (j : ℕ) (d : Listing) (dir number : ℕ) → AgreeOn kind m nodes owners root listings → IsDirectoryAdded nodes nodes' listings listings' rest l content j d dir number
       → CanSay (Layout.New m) l.object content → CanSay (Layout.New m) d.object d.content → PartsFollow nodes' owners' (Layout.New m) listings'
       → IsFreeOn kind m (objects_of listings) d.object → Agree kind (parts_with m nodes' owners')
-
--- So it is with the copy of a file that goes. `stay` are all objects but the file.
-abbrev pub FreeCopiedLaw : Type 0
-FreeCopiedLaw = (kind : Kind) (m : Map) (nodes nodes' : Nodes) (owners owners' : List Owner) (root : Node) (listings listings' rest : List Listing) (k l : Listing)
-    (k_content l_content : Directory) (i j : ℕ) (o copy : Object) (from_dir dir number : ℕ) (name : List ℕ) (stay : List Object) → AgreeOn kind m nodes owners root listings
-    → IsCopied nodes nodes' listings listings' rest k l k_content l_content i j o copy from_dir dir number name
-    → CanSay (Layout.New m) k.object k_content → CanSay (Layout.New m) l.object l_content → PartsFollow nodes' owners' (Layout.New m) listings'
-    → IsPermutation (objects_of listings) (o ∷ stay) → IsFreeOn kind m (objects_of listings) copy → Agree kind (parts_with m nodes' owners')

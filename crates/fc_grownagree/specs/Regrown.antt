@@ -1,5 +1,5 @@
 -- The parts of a volume with a new map agree after a directory has grown. What is taken for a new object is nobody's meanwhile.
-use Rattle.std.specs.Prelude.{◌≡◌, ℕ, List, Contains, IsPermutation}
+use Rattle.std.specs.Prelude.{ℕ, List, Contains, IsPermutation}
 use Rattle.fc_record.specs.declared.Kind.{Kind}
 use Rattle.fc_newmap.specs.Map.{Map, ZoneRun}
 use Rattle.fc_dirs.specs.Directory.{Directory}

@@ -3,7 +3,7 @@
 #![tactic(auto)]
 
 ghost use Rattle.fc_grownagree.specs.Commands.{GrownAddedLaw, GrownCopiedLaw, GrownDirectoryAddedLaw, GrownRenamedLaw, GrownTransferredLaw};
-ghost use Rattle.fc_grownagree.specs.Free.{FreeCopiedLaw, FreeLaw, FreeObjectLaw};
+ghost use Rattle.fc_grownagree.specs.Free.{FreeLaw, FreeObjectLaw};
 ghost use Rattle.fc_grownagree.specs.Regrown.{RegrownLaw};
 ghost use Rattle.fc_grownagree.specs.Viewed.{ViewedLaw};
 
@@ -45,11 +45,6 @@ pub fn renamed()
 /// After `rename` to another directory, which grows, the parts agree.
 pub fn transferred()
     ensures { GrownTransferredLaw }
-{}
-
-/// After a file's copy comes whose space the map has the parts agree.
-pub fn free_copies()
-    ensures { FreeCopiedLaw }
 {}
 
 /// After `rename` of a file that is copied to a directory that grows the parts agree.

@@ -16,7 +16,7 @@ use Rattle.fc_growths.specs.Grown.{NewPlace, at_place}
 use Rattle.fc_grownnodes.specs.Laws.{AbsorbedLaw}
 use Rattle.fc_grownnodes.specs.Regrown.{with_bodies, with_regrown}
 
-same_nodes : (a b : Nodes) → ((n : ℕ) → get a n ≡ get b n) → a ≡ b
+pub same_nodes : (a b : Nodes) → ((n : ℕ) → get a n ≡ get b n) → a ≡ b
 same_nodes a b each = same_map nat_cmp_total nat_cmp-IsAntisymmetric a b each
 
 twice : (f g : Node → Node) (o : Option Node) → option_map f (option_map g o) ≡ option_map (λ a. f (g a)) o

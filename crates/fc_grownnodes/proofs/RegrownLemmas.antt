@@ -1,8 +1,8 @@
 -- A directory grows: what nodes and owners follow.
-use Rattle.std.proofs.Common.{◌≡◌, ◌⊎◌, inl, inr, ⊎_elim, ℕ, ◌+◌, Bool, true, false, cond, List, [], ◌∷◌, ◌++◌, length, map, refl, sym, ap, ap₂, subst, ◌∙◌, arith, Some, length-append}
-use Rattle.std.specs.Prelude.{Contains, IsPermutation, Option}
+use Rattle.std.proofs.Common.{◌≡◌, ◌⊎◌, inl, inr, ⊎_elim, ℕ, ◌+◌, Bool, true, false, cond, List, [], ◌∷◌, ◌++◌, length, map, refl, sym, ap, ap₂, subst, ◌∙◌, arith, Some}
+use Rattle.std.specs.Prelude.{Contains, IsPermutation}
 use Rattle.std.specs.Option.{option_map}
-use Rattle.std.specs.FinMap.{get, len}
+use Rattle.std.specs.FinMap.{len}
 use Rattle.std.proofs.lemmas.Bool.{cases_eq}
 use Rattle.std.proofs.lemmas.List.{append_assoc, length-map, length_push}
 use Rattle.std.proofs.lemmas.List.Elements.{Contains-append_cases, Contains-append_left, Contains-append_right}
@@ -23,9 +23,8 @@ use Rattle.fc_tree.specs.declared.node.Body.TheVariants as bodies
 use Rattle.fc_tree.specs.Nodes.{HasNode, body_in, number_of}
 use Rattle.fc_tree.proofs.MemberLemmas.{contains_cases, contains_here, contains_later, from_map}
 use Rattle.fc_tree.proofs.PlaceLemmas.{one_path}
-use Rattle.fc_tree.proofs.SoundLemmas.{root_object}
-use Rattle.fc_tree.proofs.WalkedLemmas.{child_is_object, child_path, holder-push, listed_directory, root, root_path, same_some}
-use Rattle.fc_nodes.specs.Edits.{Nodes, NodesFollow, OwnersEdited, OwnersFollow, owners_with, with_body, with_entry}
+use Rattle.fc_tree.proofs.WalkedLemmas.{child_is_object, child_path, holder-push, listed_directory, root, same_some}
+use Rattle.fc_nodes.specs.Edits.{Nodes, NodesFollow, OwnersEdited, OwnersFollow, owners_with, with_body}
 use Rattle.fc_nodes.specs.Laws.{IsHeld, IsOwned}
 use Rattle.fc_nodes.proofs.FitsLemmas.{ChildFits, DirectoryFits, apart, fits, one_number}
 use Rattle.fc_nodes.proofs.FollowLemmas.{AllFit, follow}
@@ -38,8 +37,8 @@ use Rattle.fc_nodes.proofs.WaysLemmas.{AreApart}
 use Rattle.fc_growths.specs.Grown.{NewPlace, at_place, grown_says}
 use Rattle.fc_growths.proofs.BasicLemmas.{pick}
 use Rattle.fc_grownnodes.specs.Laws.{RegrownLaw}
-use Rattle.fc_grownnodes.specs.Regrown.{IsAgain, IsAround, IsRegrown, regrown_object, with_bodies, with_regrown}
-use Rattle.fc_grownnodes.proofs.AroundLemmas.{IsOneAgain, by_now, by_told, held_again, told_once}
+use Rattle.fc_grownnodes.specs.Regrown.{IsAgain, IsAround, regrown_object, with_bodies, with_regrown}
+use Rattle.fc_grownnodes.proofs.AroundLemmas.{by_now, by_told, held_again, told_once}
 use Rattle.fc_grownnodes.proofs.BodiesLemmas.{AreOnce, bodies_held, bodies_length, bodies_other, bodies_said}
 
 module _ (nodes : Nodes) (layout : Layout) (listings again again' keep : List Listing) (l : Listing) (content : Directory) (place : NewPlace) (said : List (ℕ × Directory)) (dir : ℕ)

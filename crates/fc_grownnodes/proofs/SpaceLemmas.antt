@@ -1,10 +1,10 @@
 -- The runs of a map after a directory has grown: which objects keep their places, and what lies apart.
-use Rattle.std.proofs.Common.{◌≡◌, ◌<◌, ◌≤◌, ◌⊎◌, inl, inr, ℕ, ◌+◌, ◌-◌, ◌*◌, ◌/◌, Bool, true, false, cond, List, [], ◌∷◌, ◌++◌, length, refl, sym, ap, ap₂, subst, ◌∙◌, arith, Some, None, Option, eq-eqb}
-use Rattle.std.specs.Prelude.{Contains, IsPermutation, filter, not, ◌==◌, ◌&&◌, ◌||◌, nat_le, nat_lt}
+use Rattle.std.proofs.Common.{◌≡◌, ◌<◌, ◌≤◌, inl, inr, ℕ, ◌+◌, ◌-◌, ◌*◌, ◌/◌, Bool, true, false, cond, List, [], ◌∷◌, ◌++◌, length, refl, sym, ap, ap₂, subst, ◌∙◌, arith, Some, None, Option, eq-eqb}
+use Rattle.std.specs.Prelude.{Contains, filter, not, ◌==◌, ◌&&◌, ◌||◌, nat_le}
 use Rattle.std.specs.List.{list_any, range_with_len}
 use Rattle.std.specs.Option.{option_map_or}
-use Rattle.std.proofs.lemmas.Bool.{cases_lt, eqb-true, le-leb, leb-true, lt-ltb}
-use Rattle.std.proofs.lemmas.List.Elements.{Contains-append_cases}
+use Rattle.std.proofs.lemmas.Bool.{cases_lt, eqb-true, le-leb, leb-true}
+use Rattle.std.proofs.lemmas.List.Elements.{Contains-append_cases, Contains-append_right}
 use Rattle.std.proofs.lemmas.List.Sorted.{Contains-permutation, IsPermutation-sym}
 use Rattle.fc_names.specs.declared.name.NameForm.{NameForm}
 use Rattle.fc_names.specs.declared.name.NameForm.TheVariants.{Long, Ten}
@@ -12,7 +12,7 @@ use Rattle.fc_names.specs.Names.{is_same_path}
 use Rattle.fc_record.specs.declared.Geometry.{Geometry}
 use Rattle.fc_record.specs.declared.Kind.{Kind}
 use Rattle.fc_record.specs.Record.{id_limit}
-use Rattle.fc_newmap.specs.Map.{Map, ZoneRun, all_runs, bits_in, has_id, id_runs, is_used, map_sectors}
+use Rattle.fc_newmap.specs.Map.{Map, ZoneRun, all_runs, bits_in, has_id, id_runs, is_used}
 use Rattle.fc_newmap.specs.NewMap.{IsNewMap}
 use Rattle.fc_newmap.specs.RunsLaw.{IsGeometry}
 use Rattle.fc_newmap.proofs.GeometryLemmas.{geometry_of_valid}
@@ -22,26 +22,26 @@ use Rattle.fc_dirs.specs.Directory.{directory_size}
 use Rattle.fc_image.specs.Layout.{Layout, dir_form, id_of, id_sectors, is_among, is_apart, new_sectors, sectors_at}
 use Rattle.fc_image.specs.Walk.{Object, is_directory_object, object_size}
 use Rattle.fc_image.specs.Objects.{has_sectors, is_movable, is_owned, is_owner_of, owner_count}
-use Rattle.fc_image.specs.Opening.{boot_place, least_of, reserved_in}
-use Rattle.fc_image.specs.Edits.{Apart, IsAt}
+use Rattle.fc_image.specs.Opening.{least_of, reserved_in}
+use Rattle.fc_image.specs.Edits.{IsAt}
 use Rattle.fc_image.specs.MapEdits.{KeepsPlace}
 use Rattle.fc_image.proofs.EntriesLemmas.{in_filter}
-use Rattle.fc_image.proofs.HolesLemmas.{Lies, apart_at, apart_from, in_id, loose_sectors, none_loose}
+use Rattle.fc_image.proofs.HolesLemmas.{Lies, apart_at, in_id, loose_sectors}
 use Rattle.fc_image.proofs.MapEditLemmas.{places_law}
-use Rattle.fc_image.proofs.MoveLemmas.{id_loose, not_true, one_id}
+use Rattle.fc_image.proofs.MoveLemmas.{not_true, one_id}
 use Rattle.fc_image.proofs.OneZoneLemmas.{and_first, and_second}
 use Rattle.fc_plan.proofs.Shorts.{are_new_ids}
 use Rattle.fc_plan.proofs.Units.{units_some}
 use Rattle.fc_plan.specs.Giving.{is_one_of}
 use Rattle.fc_effects.specs.Short.{has_room, is_alone, sectors_of_others}
 use Rattle.fc_effects.specs.Steady.{is_given_back}
-use Rattle.fc_changes.proofs.BasicLemmas.{any_in, cases_cons, clash, first_in, in_any, next_in, not_zero, nothing_in, or_second, unless}
+use Rattle.fc_changes.proofs.BasicLemmas.{any_in, cases_cons, clash, first_in, in_any, next_in, not_zero, nothing_in, unless}
 use Rattle.fc_changes.proofs.BeforeLemmas.{id_high}
 use Rattle.fc_changes.proofs.ChangeLemmas.{a_sector}
 use Rattle.fc_changes.proofs.OutsideLemmas.{low_owned}
 use Rattle.fc_changes.proofs.PlacedLemmas.{filter_test}
 use Rattle.fc_changes.proofs.SpaceLemmas.{not_given, still_owned}
-use Rattle.fc_growths.specs.Grown.{GrowsAlone, GrowsElsewhere, GrowsThere, IsGrownAt, NewPlace, TakesSpace, at_place}
+use Rattle.fc_growths.specs.Grown.{GrowsElsewhere, GrowsThere, NewPlace, TakesSpace, at_place}
 use Rattle.fc_growths.proofs.BasicLemmas.{alone_passes, among_flat}
 use Rattle.fc_growths.proofs.ObjectLemmas.{by_map, same_turned}
 use Rattle.fc_growths.proofs.SpaceLemmas.{owned_by, owner_id, owns, some_sector}
@@ -113,6 +113,18 @@ module _ (kind : Kind) (m m' : Map) (objects stay : List Object) (id : ℕ) (par
   pub stay_in : (p : Object) → Contains stay p → Contains objects p
   stay_in p at = Contains-permutation (l ∷ stay) objects p (IsPermutation-sym objects (l ∷ stay) e.map.others) (next_in l p stay at)
 
+  -- the objects among which its place was chosen
+  abbrev pub judged : List Object
+  judged = e.map.judged
+
+  l_judged : Contains judged l
+  l_judged = Contains-permutation (l ∷ (e.map.out ++ stay)) judged l (IsPermutation-sym judged (l ∷ (e.map.out ++ stay)) e.map.all) (first_in l (e.map.out ++ stay))
+
+  stay_judged : (p : Object) → Contains stay p → Contains judged p
+  stay_judged p at =
+      Contains-permutation (l ∷ (e.map.out ++ stay)) judged p (IsPermutation-sym judged (l ∷ (e.map.out ++ stay)) e.map.all)
+      (next_in l p (e.map.out ++ stay) (Contains-append_right e.map.out stay p at))
+
   pub form_stays : dir_form (Layout.New m) ≡ dir_form (Layout.New m')
   form_stays = ap (λ (g : Geometry). let f : NameForm = cond (g.version == 0) Ten Long in f) (sym e.map.geometry)
 
@@ -141,21 +153,21 @@ module _ (kind : Kind) (m m' : Map) (objects stay : List Object) (id : ℕ) (par
   l_owned : is_owned objects old_id ≡ true
   l_owned = owned_by objects old_id l l_in l_owns
 
-  not_two : is_alone objects l ≡ true → old_id ≡ 2 → ⊥
-  not_two alone = (alone_in objects l l_in l_owns alone).1
+  not_two : is_alone judged l ≡ true → old_id ≡ 2 → ⊥
+  not_two alone = (alone_in judged l l_judged l_owns alone).1
 
-  alone_only : is_alone objects l ≡ true → (p : Object) → Contains stay p → is_owner_of old_id p ≡ true → ⊥
-  alone_only alone p at own = alone_passes (is_owner_of old_id) objects stay l p e.map.others (alone_in objects l l_in l_owns alone).0 l_owns at own
+  alone_only : is_alone judged l ≡ true → (p : Object) → Contains stay p → is_owner_of old_id p ≡ true → ⊥
+  alone_only alone p at own = alone_passes (is_owner_of old_id) judged (e.map.out ++ stay) l p e.map.all (alone_in judged l l_judged l_owns alone).0 l_owns (Contains-append_right e.map.out stay p at) own
 
   above_two : (old_id ≡ 2 → ⊥) → 3 ≤ old_id
   above_two two = elim (cases_lt old_id 3) [ inl low ↦ absurd (two (let high = l_high in omega (arith, low, high))) | inr high ↦ high ]
 
-  alone_high : is_alone objects l ≡ true → 3 ≤ old_id
+  alone_high : is_alone judged l ≡ true → 3 ≤ old_id
   alone_high alone = above_two (not_two alone)
 
   -- ---- the new place
 
-  parts_some : TakesSpace m objects parts l place → 0 < length place.parts
+  parts_some : TakesSpace m judged parts l place → 0 < length place.parts
   parts_some takes =
       by place.parts (let enough = takes.plan.taken.enough in let some = units_some m place.len e.on.is_map e.some in let x : 0 < bits_in place.parts = omega (arith, enough, some) in x)
     where
@@ -163,16 +175,16 @@ module _ (kind : Kind) (m m' : Map) (objects stay : List Object) (id : ℕ) (par
       by [] h = absurd (omega (arith, h))
       by (p ∷ ps) h = omega arith
 
-  pub new_unused : GrowsElsewhere m objects id parts l place → is_used m place.id ≡ false
+  pub new_unused : GrowsElsewhere m judged id parts l place → is_used m place.id ≡ false
   new_unused x = not_true (is_used m place.id) (filter_test (λ k. not (is_used m k)) (range_with_len 3 (id_limit m.geometry - 3)) place.id x.is_new)
 
-  pub its_elsewhere : GrowsElsewhere m objects id parts l place → its ≡ place.id
+  pub its_elsewhere : GrowsElsewhere m judged id parts l place → its ≡ place.id
   its_elsewhere x = ap id_of x.address ∙ (let q : 256 * place.id / 256 ≡ place.id = omega arith in q)
 
-  no_parts : GrowsThere m objects l place → 0 < length place.parts → ⊥
+  no_parts : GrowsThere m judged l place → 0 < length place.parts → ⊥
   no_parts there some = let none = ap (λ (ps : List ZoneRun). length ps) there.nothing in omega (arith, none, some)
 
-  there_high : GrowsThere m objects l place → 3 ≤ old_id
+  there_high : GrowsThere m judged l place → 3 ≤ old_id
   there_high there =
       above_two (λ is. clash (old_id == 2) (eq-eqb old_id 2 is) (not_true (old_id == 2) (and_first (not (old_id == 2)) _ there.room)))
 
@@ -212,22 +224,22 @@ module _ (kind : Kind) (m m' : Map) (objects stay : List Object) (id : ℕ) (par
 
   -- ---- which identifier the directory has left
 
-  pub left_is : (k : ℕ) → is_left m objects l place k ≡ true → (is_alone objects l ≡ true) × (old_id ≡ k)
+  pub left_is : (k : ℕ) → is_left m judged l place k ≡ true → (is_alone judged l ≡ true) × (old_id ≡ k)
   left_is k left =
-      let rest = and_second (not (has_room (Layout.New m) objects (l, place.len))) (is_alone objects l && (old_id == k)) left in
-      (and_first (is_alone objects l) (old_id == k) rest, eqb-true old_id k (and_second (is_alone objects l) (old_id == k) rest))
+      let rest = and_second (not (has_room (Layout.New m) judged (l, place.len))) (is_alone judged l && (old_id == k)) left in
+      (and_first (is_alone judged l) (old_id == k) rest, eqb-true old_id k (and_second (is_alone judged l) (old_id == k) rest))
 
   -- none, if it grows where it lies
-  pub left_there : GrowsThere m objects l place → (k : ℕ) → is_left m objects l place k ≡ false
-  left_there there k = ap (λ (b : Bool). not b && (is_alone objects l && (old_id == k))) there.room
+  pub left_there : GrowsThere m judged l place → (k : ℕ) → is_left m judged l place k ≡ false
+  left_there there k = ap (λ (b : Bool). not b && (is_alone judged l && (old_id == k))) there.room
 
   -- ---- which runs stay
 
-  kept : (k : ℕ) → is_used m k ≡ true → is_given_back objects after k ≡ false → is_left m objects l place k ≡ false → is_one_of gone k ≡ false
+  kept : (k : ℕ) → is_used m k ≡ true → is_given_back objects after k ≡ false → is_left m judged l place k ≡ false → is_one_of gone k ≡ false
   kept k used given left = e.map.gives k used ∙ ap₂ (λ (a b : Bool). a || b) given left
 
   -- an identifier that isn't given back or left keeps its runs, if it isn't the directory's new one
-  runs_same : (k : ℕ) → is_used m k ≡ true → is_given_back objects after k ≡ false → is_left m objects l place k ≡ false → (0 < length place.parts → k ≡ place.id → ⊥) → id_runs m' k ≡ id_runs m k
+  runs_same : (k : ℕ) → is_used m k ≡ true → is_given_back objects after k ≡ false → is_left m judged l place k ≡ false → (0 < length place.parts → k ≡ place.id → ⊥) → id_runs m' k ≡ id_runs m k
   runs_same k used given left other =
       e.map.space.others k (λ some is. clash (is_used m k) used (subst (λ (j : ℕ). is_used m j ≡ false) (sym is) (e.map.fresh some))) other
       ∙ ap (λ (b : Bool). cond b [] (id_runs m k)) (kept k used given left)
@@ -236,8 +248,8 @@ module _ (kind : Kind) (m m' : Map) (objects stay : List Object) (id : ℕ) (par
   stay_after p at = next_in grown p stay at
 
   -- an owner that stays, other than the directory, has an identifier that isn't left, and isn't a new one
-  stay_left : (p : Object) → Contains stay p → (k : ℕ) → is_owner_of k p ≡ true → is_left m objects l place k ≡ false
-  stay_left p at k own = unless (is_left m objects l place k) (λ left.
+  stay_left : (p : Object) → Contains stay p → (k : ℕ) → is_owner_of k p ≡ true → is_left m judged l place k ≡ false
+  stay_left p at k own = unless (is_left m judged l place k) (λ left.
       let x = left_is k left in
       alone_only x.0 p at (subst (λ (j : ℕ). is_owner_of j p ≡ true) (sym x.1) own))
 
@@ -275,9 +287,9 @@ module _ (kind : Kind) (m m' : Map) (objects stay : List Object) (id : ℕ) (par
       one_id m' shape_now e.map.is_map.right zones_now (id_of p.entry.address) (id_of q.entry.address) s (in_id m' p.entry.address _ p.sectors s p_at i) (in_id m' q.entry.address _ q.sectors s q_at j)
 
   -- no other object has the directory's identifier afterwards, if that has new space
-  its_alone_now : TakesSpace m objects parts l place → (p : Object) → Contains stay p → is_owner_of its p ≡ true → ⊥
+  its_alone_now : TakesSpace m judged parts l place → (p : Object) → Contains stay p → is_owner_of its p ≡ true → ⊥
   its_alone_now takes p at own = elim e.map.lies [
-    | inl there ↦ clash (has_room (Layout.New m) objects (l, place.len)) there.room takes.no_room
+    | inl there ↦ clash (has_room (Layout.New m) judged (l, place.len)) there.room takes.no_room
     | inr moves ↦ (elim moves [
       | inl a ↦ alone_only a.alone p at (subst (λ (j : ℕ). is_owner_of j p ≡ true) (ap id_of a.address) own)
       | inr x ↦ clash (is_used m its) (owner_used p (stay_in p at) its own) (subst (λ (k : ℕ). is_used m k ≡ false) (sym (its_elsewhere x)) (new_unused x))
@@ -285,7 +297,7 @@ module _ (kind : Kind) (m m' : Map) (objects stay : List Object) (id : ℕ) (par
   ]
 
   -- a directory that grows where it lies takes no sector of another object
-  there_apart : GrowsThere m objects l place → (p : Object) → Contains stay p → (s : ℕ) → is_among p.sectors s ≡ true → is_among place.sectors s ≡ true → ⊥
+  there_apart : GrowsThere m judged l place → (p : Object) → Contains stay p → (s : ℕ) → is_among p.sectors s ≡ true → is_among place.sectors s ≡ true → ⊥
   there_apart there p at s i j =
       let its_old : its ≡ old_id = ap id_of there.address in
       let owned : is_owned after old_id ≡ true = subst (λ (k : ℕ). is_owned after k ≡ true) its_old grown_owned in
@@ -294,14 +306,14 @@ module _ (kind : Kind) (m m' : Map) (objects stay : List Object) (id : ℕ) (par
       let old_at : IsAt (Layout.New m) grown = places_law m' m grown (sym e.map.geometry) (inr (subst (λ (k : ℕ). id_runs m k ≡ id_runs m' k) (sym its_old) (sym runs))) e.map.at in
       let size : object_size (dir_form (Layout.New m)) grown.entry ≡ place.len = ap (λ (f : NameForm). object_size f grown.entry) form_stays ∙ size_now in
       let sectors = by_map m place.address place.len place.sectors e.some (subst (λ (n : ℕ). sectors_at (Layout.New m) place.address n ≡ Some place.sectors) size old_at) in
-      let room : option_map_or (λ (xs : List ℕ). is_apart xs (sectors_of_others objects l)) (new_sectors m l.entry.address place.len) false ≡ true = and_second (not (old_id == 2)) _ there.room in
-      let apart : is_apart place.sectors (sectors_of_others objects l) ≡ true =
-      ap (λ (q : Option (List ℕ)). option_map_or (λ (xs : List ℕ). is_apart xs (sectors_of_others objects l)) q false) (sym sectors ∙ ap (λ (a : ℕ). new_sectors m a place.len) there.address) ∙ room in
+      let room : option_map_or (λ (xs : List ℕ). is_apart xs (sectors_of_others judged l)) (new_sectors m l.entry.address place.len) false ≡ true = and_second (not (old_id == 2)) _ there.room in
+      let apart : is_apart place.sectors (sectors_of_others judged l) ≡ true =
+      ap (λ (q : Option (List ℕ)). option_map_or (λ (xs : List ℕ). is_apart xs (sectors_of_others judged l)) q false) (sym sectors ∙ ap (λ (a : ℕ). new_sectors m a place.len) there.address) ∙ room in
       let other : not (is_same_path p.path l.path) ≡ true = ap not (same_turned p.path l.path ∙ e.other p at) in
-      clash (is_among (sectors_of_others objects l) s)
-      (among_flat (λ (x : Object). x.sectors) (filter (λ (x : Object). not (is_same_path x.path l.path)) objects) p s
-      (in_filter (λ (x : Object). not (is_same_path x.path l.path)) objects p (stay_in p at) other) i)
-      (apart_at place.sectors (sectors_of_others objects l) s apart j)
+      clash (is_among (sectors_of_others judged l) s)
+      (among_flat (λ (x : Object). x.sectors) (filter (λ (x : Object). not (is_same_path x.path l.path)) judged) p s
+      (in_filter (λ (x : Object). not (is_same_path x.path l.path)) judged p (stay_judged p at) other) i)
+      (apart_at place.sectors (sectors_of_others judged l) s apart j)
 
   pub grown_apart : (p : Object) → Contains stay p → (s : ℕ) → is_among p.sectors s ≡ true → is_among place.sectors s ≡ true → ⊥
   grown_apart p at s i j = elim e.map.lies [
@@ -309,7 +321,7 @@ module _ (kind : Kind) (m m' : Map) (objects stay : List Object) (id : ℕ) (par
     | inr moves ↦ (elim moves [ inl a ↦ moved a.space | inr x ↦ moved x.space ])
   ]
     where
-      moved : TakesSpace m objects parts l place → ⊥
+      moved : TakesSpace m judged parts l place → ⊥
       moved takes = its_alone_now takes p at (subst (λ (k : ℕ). is_owner_of k p ≡ true) (one_of_both p grown (stay_at p at) e.map.at s i j) (owns p s i))
 
   -- ---- what may move
@@ -346,8 +358,8 @@ module _ (kind : Kind) (m m' : Map) (objects stay : List Object) (id : ℕ) (par
       never : is_owned objects k ≡ true → 3 ≤ k → ⊥
       never own high = clash (is_movable objects k) (movable_by objects k own high) still
 
-      not_left : is_left m objects l place k ≡ false
-      not_left = unless (is_left m objects l place k) (λ left.
+      not_left : is_left m judged l place k ≡ false
+      not_left = unless (is_left m judged l place k) (λ left.
           let x = left_is k left in never (subst (λ (j : ℕ). is_owned objects j ≡ true) x.1 l_owned) (subst (λ (j : ℕ). 3 ≤ j) x.1 (alone_high x.0)))
 
       not_new : 0 < length place.parts → k ≡ place.id → ⊥

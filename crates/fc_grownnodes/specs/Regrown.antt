@@ -1,5 +1,5 @@
 -- The edit of a volume's objects by which a directory grows: it gets another length, and perhaps another place, and says what it said.
-use Rattle.std.specs.Prelude.{◌≡◌, ℕ, ◌+◌, false, List, [], ◌∷◌, ◌++◌, map, if◌then◌else◌, Some, Contains, IsPermutation}
+use Rattle.std.specs.Prelude.{◌≡◌, ℕ, false, List, [], ◌∷◌, ◌++◌, map, if◌then◌else◌, Some, Contains, IsPermutation}
 use Rattle.fc_names.specs.Names.{is_same_path}
 use Rattle.fc_model.specs.Tree.{holder}
 use Rattle.fc_dirs.specs.Directory.{Directory, entries_of}

@@ -1,6 +1,6 @@
 -- From what the calls leave and what becomes of the nodes to what the command promises.
-use Rattle.std.proofs.Common.{◌≡◌, List, ◌∷◌, ◌++◌, sym, ap, ◌∙◌}
-use Rattle.std.specs.Prelude.{Contains, insert}
+use Rattle.std.proofs.Common.{List, ◌∷◌, ◌++◌, sym, ap, ◌∙◌}
+use Rattle.std.specs.Prelude.{insert}
 use Rattle.std.proofs.lemmas.List.Sorted.{Contains-permutation, IsPermutation-sym}
 use Rattle.fc_model.specs.Command.{Command}
 use Rattle.fc_dirs.specs.Entries.{entry_place}

@@ -1,3 +1,12 @@
 pub mod LawLemmas
+pub mod RenameLemmas
+pub mod AroundLemmas
+pub mod WroteLemmas
+pub mod GrowthStepLemmas
 pub mod StepLemmas
+pub mod RenamedStepLemmas
+pub mod CopiedStepLemmas
+pub mod StepsLawLemmas
+pub mod HolesLemmas
 pub mod PlaceLemmas
+pub mod CarriedLemmas

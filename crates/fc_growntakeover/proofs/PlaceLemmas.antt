@@ -1,6 +1,6 @@
 -- The sectors that a command by which a directory grows may write.
-use Rattle.std.proofs.Common.{◌≡◌, ◌<◌, ◌≤◌, inl, inr, ℕ, Bool, true, false, List, [], ◌∷◌, ◌++◌, length, refl, sym, ap, subst, ◌∙◌, arith, eq-eqb}
-use Rattle.std.specs.Prelude.{Ok, Contains, filter, ◌==◌, ◌&&◌, nat_le}
+use Rattle.std.proofs.Common.{◌≡◌, ◌<◌, inl, inr, ℕ, true, false, List, ◌∷◌, length, refl, sym, ap, subst, ◌∙◌, arith, eq-eqb}
+use Rattle.std.specs.Prelude.{Ok, Contains, filter, nat_le}
 use Rattle.std.proofs.lemmas.Bool.{leb-true, lt-ltb}
 use Rattle.std.proofs.lemmas.List.Sorted.{Contains-permutation}
 use Rattle.fc_names.specs.declared.name.NameForm.{NameForm}
@@ -8,7 +8,7 @@ use Rattle.fc_record.specs.declared.DiscRecord.{DiscRecord}
 use Rattle.fc_record.specs.declared.Kind.{Kind}
 use Rattle.fc_zone.specs.declared.RunKind.{RunKind}
 use Rattle.fc_zone.specs.declared.RunKind.TheVariants as kinds
-use Rattle.fc_newmap.specs.Map.{Map, ZoneRun, all_runs, map_sectors}
+use Rattle.fc_newmap.specs.Map.{Map, ZoneRun, all_runs}
 use Rattle.fc_newmap.proofs.PlaceLemmas.{filter_in, holder_of}
 use Rattle.fc_model.specs.Command.{Command}
 use Rattle.fc_dirs.specs.Directory.{directory_of}
@@ -18,24 +18,24 @@ use Rattle.fc_image.specs.Objects.{is_owned, objects_of}
 use Rattle.fc_image.specs.Opening.{Opened, boot_place, is_hole_or_movable, reserved_in}
 use Rattle.fc_image.specs.Stays.{IsNewKind, OpensAs}
 use Rattle.fc_image.specs.Edits.{IsAt}
-use Rattle.fc_image.proofs.HolesLemmas.{apart_at, apart_from, loose_sectors}
+use Rattle.fc_image.proofs.HolesLemmas.{apart_from, loose_sectors}
 use Rattle.fc_image.proofs.OneZoneLemmas.{and_first, and_second}
 use Rattle.fc_image.proofs.RenameLemmas.{alone}
 use Rattle.fc_tree.proofs.WalkedLemmas.{listed_directory}
 use Rattle.fc_effects.specs.Steady.{is_idle, may_be_rewritten}
-use Rattle.fc_changes.proofs.BasicLemmas.{cases_cons, clash, first_in, next_in}
+use Rattle.fc_changes.proofs.BasicLemmas.{cases_cons, clash, next_in}
 use Rattle.fc_changes.proofs.BeforeLemmas.{object_lies, opened_as, parts, sound}
 use Rattle.fc_changes.proofs.MadeLemmas.{turned}
 use Rattle.fc_changes.proofs.OutsideLemmas.{AreBusy, owned_busy}
-use Rattle.fc_takeover.specs.Places.{MayBeWritten, OpensBy}
+use Rattle.fc_takeover.specs.Places.{MayBeWritten}
 use Rattle.fc_takeover.proofs.ApartLemmas.{apart_back, idle_apart, objects_law}
 use Rattle.fc_takeover.proofs.KindLemmas.{new_kind}
 use Rattle.fc_growths.specs.Grown.{NewPlace, at_place}
 use Rattle.fc_growths.proofs.BasicLemmas.{read_some}
 use Rattle.fc_growths.proofs.SpaceLemmas.{some_sector}
-use Rattle.fc_grownnodes.proofs.FreeLemmas.{IsBeside, file_beside, grown_free, grown_loose, new_beside, o_apart, o_free, o_loose}
+use Rattle.fc_grownnodes.proofs.FreeLemmas.{IsBeside, grown_free, grown_loose, o_apart, o_free, o_loose}
 use Rattle.fc_grownnodes.proofs.SpaceLemmas.{Growth, grown_apart}
-use Rattle.fc_growntakeover.specs.Places.{GrownPlacesLaw, GrowsOn}
+use Rattle.fc_growntakeover.specs.Places.{GrowsOn}
 
 -- sectors of holes and of what may move are not idle
 busy_of : (m : Map) (objects : List Object) (sectors : List ℕ) → ((s : ℕ) → is_among sectors s ≡ true → is_among (loose_sectors m objects) s ≡ true) → AreBusy m objects sectors
@@ -116,14 +116,3 @@ module _ (kind : Kind) (image : List ℕ) (view : Opened) (m m' : Map) (c : Comm
     beside_place b =
         may_write o.sectors (λ p there. o_apart kind m m' objects stay id parts' l.object place gone growth o n at size b p (next_in (at_place place l.object) p stay there))
         (o_free kind m m' objects stay id parts' l.object place gone growth o n at size b) (o_loose kind m m' objects stay id parts' l.object place gone growth o n at size b)
-
-pub grown_places_law : GrownPlacesLaw
-grown_places_law = record {
-  grown = grown_place;
-  file = λ kind image view m m' c l stay id parts' place gone path n o g size at place_is.
-      beside_place kind image view m m' c l stay id parts' place gone g o n at size
-      (file_beside kind m m' (objects_of view.listings) stay id parts' l.object place gone (growth kind image view m m' c l stay id parts' place gone g) o n at size path place_is);
-  new = λ kind image view m m' c l stay id parts' place gone n low o small g size at place_is.
-      beside_place kind image view m m' c l stay id parts' place gone g o n at size
-      (new_beside kind m m' (objects_of view.listings) stay id parts' l.object place gone (growth kind image view m m' c l stay id parts' place gone g) o n at size low small place_is);
-}

@@ -2,7 +2,7 @@
 //! both.
 #![tactic(auto)]
 
-ghost use Rattle.fc_growntakeover.specs.Laws.{GrownDirectoryMadeTakesOver, GrownFiledTakesOver};
+ghost use Rattle.fc_growntakeover.specs.Laws.{GrownCopiedTakesOver, GrownDirectoryMadeTakesOver, GrownFiledTakesOver, GrownMovedTakesOver, GrownRenamedTakesOver};
 ghost use Rattle.fc_growntakeover.specs.Places.{GrownPlacesLaw};
 ghost use Rattle.fc_growntakeover.specs.Steps.{GrownStepsLaw};
 
@@ -14,6 +14,21 @@ pub fn filed()
 /// After `cdir` by which a directory grows the volume stands for the new image.
 pub fn directory_made()
     ensures { GrownDirectoryMadeTakesOver }
+{}
+
+/// After `rename` within a directory that grows the volume stands for the new image.
+pub fn renamed()
+    ensures { GrownRenamedTakesOver }
+{}
+
+/// After `rename` to another directory, which grows, the volume stands for the new image.
+pub fn moved()
+    ensures { GrownMovedTakesOver }
+{}
+
+/// After `rename` of a file that is copied into a directory that grows the volume stands for the new image.
+pub fn copied()
+    ensures { GrownCopiedTakesOver }
 {}
 
 /// Each of these commands, one write after another.

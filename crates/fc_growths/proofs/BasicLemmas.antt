@@ -1,6 +1,6 @@
 -- Lists, tests and sizes.
 use Rattle.std.proofs.Common.{◌≡◌, ◌<◌, ◌≤◌, inl, inr, ℕ, zero, suc, Bool, true, false, cond, List, [], ◌∷◌, length, refl, sym, ap, subst, arith, Some, None, Option}
-use Rattle.std.specs.Prelude.{Contains, IsPermutation, filter, nat_lt, Ok}
+use Rattle.std.specs.Prelude.{Contains, IsPermutation, filter, nat_lt, Ok, Err}
 use Rattle.std.specs.List.{flat_map}
 use Rattle.std.specs.Option.{option_and_then}
 use Rattle.std.proofs.lemmas.Bool.{ltb-true}
@@ -8,13 +8,13 @@ use Rattle.std.proofs.lemmas.List.Sorted.{IsPermutation-refl, IsPermutation-tran
 use Rattle.fc_dirs.specs.Directory.{Directory, directory_of}
 use Rattle.fc_dirs.specs.Big.{big_fault, needed_size}
 use Rattle.fc_names.specs.declared.name.NameForm.TheVariants.{Long}
-use Rattle.fc_newmap.proofs.PlaceLemmas.{in_back, in_front}
+use Rattle.fc_newmap.proofs.PlaceLemmas.{in_back, in_either, in_front}
 use Rattle.fc_image.specs.Layout.{is_among, bytes_in}
 use Rattle.fc_image.specs.Walk.{Object}
 use Rattle.fc_image.proofs.EntriesLemmas.{in_filter, same_some}
 use Rattle.fc_image.proofs.ShuffleLemmas.{IsPermutation-filter, flipped}
 use Rattle.fc_effects.specs.Short.{Gain, Growth, growth_of, growth_with}
-use Rattle.fc_changes.proofs.BasicLemmas.{cases_cons, nothing_in}
+use Rattle.fc_changes.proofs.BasicLemmas.{cases_cons, first_in, next_in, nothing_in}
 
 -- ---- lists
 
@@ -32,6 +32,14 @@ among_flat f [] x s at h = absurd (nothing_in x at)
 among_flat f (y ∷ xs) x s at h = elim (cases_cons y xs x at) [
   | inl is ↦ in_front (f y) (flat_map f xs) s (subst (λ (z : _). is_among (f z) s ≡ true) (sym is) h)
   | inr later ↦ in_back (f y) (flat_map f xs) s (among_flat f xs x s later h)
+]
+
+-- what one of them has
+pub from_flat : {X : Type 0} (f : X → List ℕ) (xs : List X) (s : ℕ) → is_among (flat_map f xs) s ≡ true → (x : X) × Contains xs x × (is_among (f x) s ≡ true)
+from_flat f [] s h = absurd (cc)
+from_flat f (x ∷ xs) s h = elim (in_either (f x) (flat_map f xs) s h) [
+  | Ok first ↦ (x, first_in x xs, first)
+  | Err more ↦ (let r = from_flat f xs s more in (r.0, next_in x r.0 xs r.1, r.2))
 ]
 
 some_in : {X : Type 0} (xs : List X) (x : X) → Contains xs x → 1 ≤ length xs

@@ -36,11 +36,11 @@ use Rattle.fc_growths.specs.Grown.{NewPlace, grown_says, IsGrownDirectoryChange}
 use Rattle.fc_growths.specs.Laws.{GrownDirectoryMadeLaw}
 use Rattle.fc_growths.proofs.SpaceLemmas.{Growing, l_in, owns, says_before, form_stays}
 use Rattle.fc_growths.proofs.ObjectLemmas.{kid_at}
-use Rattle.fc_growths.proofs.OpeningLemmas.{NewObject}
+use Rattle.fc_growths.proofs.OpeningLemmas.{IsApartNew, NewObject, grows_of}
 use Rattle.fc_growths.proofs.ListingsLemmas.{opens_now}
 use Rattle.fc_growths.proofs.SteadyLemmas.{o_there, w, l_there, sound_now}
 use Rattle.fc_growths.proofs.PromisedLemmas.{behind_now, directories_now, growth_placed, outside_now, space_now}
-use Rattle.fc_growths.proofs.NewSpaceLemmas.{IsApartNew, a_sector_of, id_is, same_left, stands_new, new_apart, new_id_unused}
+use Rattle.fc_growths.proofs.NewSpaceLemmas.{a_sector_of, id_is, same_left, stands_new, new_apart, new_id_unused}
 use Rattle.fc_names.specs.declared.name.NameForm.{NameForm}
 use Rattle.fc_names.specs.declared.name.NameForm.TheVariants.{Seven, Ten, Long}
 use Rattle.fc_dirs.specs.declared.SmallForm.TheVariants.{Bytes1280, Bytes2048}
@@ -80,7 +80,7 @@ module _ (kind : Kind) (r : DiscRecord) (image image' : List ℕ) (m m' : Map) (
   abbrev n : ℕ
   n = new_dir_size (dir_form (Layout.New m))
 
-  growing : Growing
+  growing : Growing (Command.Cdir path) [] (d.object ∷ [])
   growing = record {
     kind = kind;
     r = r;
@@ -89,19 +89,17 @@ module _ (kind : Kind) (r : DiscRecord) (image image' : List ℕ) (m m' : Map) (
     m = m;
     m' = m';
     ls = ls;
-    c = Command.Cdir path;
     l = l;
     content = content;
     place = place;
     again = again;
     again' = again';
     keep = keep;
-    o = d.object;
     stay = stay;
     id = id;
     parts = parts;
     gone = gone;
-    is = e.growing;
+    is = grows_of e.growing;
     fresh = λ some. new_id_unused m id e.place_is.is_new;
   }
 
@@ -117,9 +115,9 @@ module _ (kind : Kind) (r : DiscRecord) (image image' : List ℕ) (m m' : Map) (
       ap (λ (b : Bool). cond b (directory_size (dir_form (Layout.New m')) o.entry.len) o.entry.len) is_dir
       ∙ ap₂ (λ (f : NameForm) (k : ℕ). directory_size f k) (sym form_same) e.len ∙ size_of_new (dir_form (Layout.New m))
 
-  its_place : IsApartNew growing
+  its_place : IsApartNew growing o
   unfolding growing
-  its_place = new_apart growing n e.at size_now 0 (omega arith) e.place_is
+  its_place = new_apart growing o n e.at size_now 0 (omega arith) e.place_is
 
   lists_now : AreChildren (Layout.New m') l.object.path (entries_of content) (insert l.children (entry_place o.entry.name (entries_of l.content)) o)
       × IsPermutation (insert l.children (entry_place o.entry.name (entries_of l.content)) o) (o ∷ l.children)
@@ -143,12 +141,8 @@ module _ (kind : Kind) (r : DiscRecord) (image image' : List ℕ) (m m' : Map) (
   object : NewObject growing
   unfolding growing
   object = record {
-    at = e.at;
-    owned = its_place.owned;
-    was_owned = its_place.was_owned;
-    high = its_place.high;
-    other = its_place.other;
-    apart = its_place.apart;
+    is = e.growing;
+    new = its_place;
     into = d ∷ [];
     into_say = (listed_now, tt);
     into_come = one_of (is_directory_object o) is_dir;
@@ -196,7 +190,7 @@ module _ (kind : Kind) (r : DiscRecord) (image image' : List ℕ) (m m' : Map) (
 
   owns_its : 0 < object_units m before c → is_owner_of (id_of o.entry.address) o ≡ true
   unfolding growing
-  owns_its some = let s = a_sector_of growing n e.at size_now e.place_is.some in owns o s.0 s.1
+  owns_its some = let s = a_sector_of growing o n e.at size_now e.place_is.some in owns o s.0 s.1
 
   abbrev l' : Listing
   l' = grown_says l place content (insert l.children (entry_place o.entry.name (entries_of l.content)) o)

@@ -41,11 +41,11 @@ use Rattle.fc_growths.specs.Grown.{IsGrownFileChange, NewPlace, grown_says}
 use Rattle.fc_growths.specs.Laws.{GrownFiledLaw}
 use Rattle.fc_growths.proofs.SpaceLemmas.{Growing, l_in, owns, says_before}
 use Rattle.fc_growths.proofs.ObjectLemmas.{kid_at}
-use Rattle.fc_growths.proofs.OpeningLemmas.{NewObject}
+use Rattle.fc_growths.proofs.OpeningLemmas.{IsApartNew, NewObject, grows_of}
 use Rattle.fc_growths.proofs.ListingsLemmas.{opens_now}
 use Rattle.fc_growths.proofs.SteadyLemmas.{o_there, w}
 use Rattle.fc_growths.proofs.PromisedLemmas.{behind_now, directories_now, growth_placed, outside_now, space_now}
-use Rattle.fc_growths.proofs.NewSpaceLemmas.{IsApartNew, a_sector_of, file_apart, file_fresh, id_is, same_bits, same_left, stands_new}
+use Rattle.fc_growths.proofs.NewSpaceLemmas.{a_sector_of, file_apart, file_fresh, id_is, same_bits, same_left, stands_new}
 
 makes_save : (path : Path) (load exec : ℕ) (bytes : List ℕ) → MakesObject (Command.Save path load exec bytes) path (length bytes)
 makes_save path load exec bytes = record {
@@ -87,7 +87,7 @@ module _ (kind : Kind) (r : DiscRecord) (image image' : List ℕ) (m m' : Map) (
     (names : MakesObject c path (length bytes))
     (answers : (found : List Listing) → IsObjectEdit image image' (Layout.New m) (Layout.New m') ls found [] (o ∷ []) → IsFileMade image' (Layout.New m') ls path load exec bytes o
     → tree_of image' (Layout.New m') found ≡ changed (tree_of image (Layout.New m) ls) c) where
-  growing : Growing
+  growing : Growing c [] (o ∷ [])
   growing = record {
     kind = kind;
     r = r;
@@ -96,19 +96,17 @@ module _ (kind : Kind) (r : DiscRecord) (image image' : List ℕ) (m m' : Map) (
     m = m;
     m' = m';
     ls = ls;
-    c = c;
     l = l;
     content = content;
     place = place;
     again = again;
     again' = again';
     keep = keep;
-    o = o;
     stay = stay;
     id = id;
     parts = parts;
     gone = gone;
-    is = e.growing;
+    is = grows_of e.growing;
     fresh = file_fresh m (objects_of ls) (holder path) (length bytes) id parts o e.place_is;
   }
 
@@ -118,9 +116,9 @@ module _ (kind : Kind) (r : DiscRecord) (image image' : List ℕ) (m m' : Map) (
   size_now : object_size (dir_form (Layout.New m')) o.entry ≡ length bytes
   size_now = ap (λ (b : Bool). cond b (directory_size (dir_form (Layout.New m')) o.entry.len) o.entry.len) file ∙ e.len
 
-  its_place : IsApartNew growing
+  its_place : IsApartNew growing o
   unfolding growing
-  its_place = file_apart growing (length bytes) e.at size_now (holder path) e.place_is
+  its_place = file_apart growing o (length bytes) e.at size_now (holder path) e.place_is
 
   -- the directory lists the file in its place by name
   lists_now : AreChildren (Layout.New m') l.object.path (entries_of content) (insert l.children (entry_place o.entry.name (entries_of l.content)) o)
@@ -134,12 +132,8 @@ module _ (kind : Kind) (r : DiscRecord) (image image' : List ℕ) (m m' : Map) (
   object : NewObject growing
   unfolding growing
   object = record {
-    at = e.at;
-    owned = its_place.owned;
-    was_owned = its_place.was_owned;
-    high = its_place.high;
-    other = its_place.other;
-    apart = its_place.apart;
+    is = e.growing;
+    new = its_place;
     into = [];
     into_say = tt;
     into_come = none_of (is_directory_object o) file;
@@ -228,7 +222,7 @@ module _ (kind : Kind) (r : DiscRecord) (image image' : List ℕ) (m m' : Map) (
   owns_its : 0 < object_units m before c → is_owner_of (id_of o.entry.address) o ≡ true
   unfolding growing
   owns_its some =
-      let s = a_sector_of growing (length bytes) e.at size_now (some_bytes (is_some (slack m (objects_of ls) (holder path) (length bytes))) (length bytes) (subst (λ (k : ℕ). 0 < k) units_are some)) in
+      let s = a_sector_of growing o (length bytes) e.at size_now (some_bytes (is_some (slack m (objects_of ls) (holder path) (length bytes))) (length bytes) (subst (λ (k : ℕ). 0 < k) units_are some)) in
       owns o s.0 s.1
     where
       some_bytes : (b : Bool) (n : ℕ) → 0 < cond b 0 (units m.geometry n) → 0 < n

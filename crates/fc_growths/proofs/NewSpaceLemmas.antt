@@ -11,6 +11,7 @@ use Rattle.fc_newmap.specs.Map.{Map, ZoneRun, all_runs, bits_in, has_id, hole_ru
 use Rattle.fc_newmap.specs.NewMap.{IsNewMap}
 use Rattle.fc_newmap.proofs.HeldLemmas.{geometry_facts}
 use Rattle.fc_newmap.proofs.PlaceLemmas.{id_run_in}
+use Rattle.fc_model.specs.Command.{Command}
 use Rattle.fc_image.specs.Layout.{Layout, dir_form, id_of, is_among, is_apart, low_of, new_sectors, sectors_at}
 use Rattle.fc_image.specs.Walk.{Object, is_directory_object, object_size}
 use Rattle.fc_image.specs.Objects.{has_sectors, is_owned, is_owner_of, objects_of}
@@ -35,6 +36,7 @@ use Rattle.fc_changes.proofs.ChangeLemmas.{a_sector}
 use Rattle.fc_changes.proofs.MadeLemmas.{file_low_small}
 use Rattle.fc_changes.proofs.PlacedLemmas.{IsShared, filter_test, found_in, is_shared}
 use Rattle.fc_growths.proofs.ObjectLemmas.{by_map, one_of_both, stays_file}
+use Rattle.fc_growths.proofs.OpeningLemmas.{IsApartNew}
 use Rattle.fc_growths.proofs.SpaceLemmas.{Growing, form_stays, its, its_elsewhere, l_directory, l_object, l_owns, l_used, new_unused, old_id, owner_id, owned_by, owner_used, owns, some_sector, stay_at, stay_in, stay_runs, was}
 
 -- ---- in new space
@@ -140,51 +142,45 @@ none_at : (layout : Layout) (address : ℕ) (sectors : List ℕ) → sectors_at 
 unfolding sectors_at
 none_at layout address sectors h = sym (same_some [] sectors h)
 
--- where a new object lies, beside a directory that grows
-pub record IsApartNew (e : Growing) : Type 0 where
-  pub owned : 0 < length e.parts → is_owner_of e.id e.o ≡ true
-  pub was_owned : (k : ℕ) → is_owner_of k e.o ≡ true → is_used e.m k ≡ true → is_owned (objects_of e.ls) k ≡ true
-  pub high : (k : ℕ) → is_owner_of k e.o ≡ true → 3 ≤ k
-  pub other : (k : ℕ) → is_owner_of k e.o ≡ true → its e ≡ k → ⊥
-  pub apart : (p : Object) → Contains e.stay p → (s : ℕ) → is_among p.sectors s ≡ true → is_among e.o.sectors s ≡ true → ⊥
+module _ {c : Command} {out come : List Object} (e : Growing c out come) (o : Object) (n : ℕ) (at : IsAt (Layout.New e.m') o) (size : object_size (dir_form (Layout.New e.m')) o.entry ≡ n) where
+  placed : sectors_at (Layout.New e.m') o.entry.address n ≡ Some o.sectors
+  placed = subst (λ (k : ℕ). sectors_at (Layout.New e.m') o.entry.address k ≡ Some o.sectors) size at
 
-module _ (e : Growing) (n : ℕ) (at : IsAt (Layout.New e.m') e.o) (size : object_size (dir_form (Layout.New e.m')) e.o.entry ≡ n) where
-  placed : sectors_at (Layout.New e.m') e.o.entry.address n ≡ Some e.o.sectors
-  placed = subst (λ (k : ℕ). sectors_at (Layout.New e.m') e.o.entry.address k ≡ Some e.o.sectors) size at
-
-  pub a_sector_of : 0 < n → (s : ℕ) × (is_among e.o.sectors s ≡ true)
-  a_sector_of some = a_sector e.m' e.o.entry.address n e.o.sectors some (subst (λ (g : Geometry). 0 < g.sector) (sym e.is.map.geometry) (was e).shape.some) placed
+  pub a_sector_of : 0 < n → (s : ℕ) × (is_among o.sectors s ≡ true)
+  a_sector_of some = a_sector e.m' o.entry.address n o.sectors some (subst (λ (g : Geometry). 0 < g.sector) (sym e.is.map.geometry) (was e).shape.some) placed
 
   -- in new space
-  pub new_apart : (low : ℕ) → low < 256 → IsInNewSpace e.m n low e.id e.parts e.o → IsApartNew e
+  pub new_apart : (low : ℕ) → low < 256 → IsInNewSpace e.m n low e.id e.parts o → IsApartNew e o
   new_apart low small new = record {
-    owned = λ some. (let s = a_sector_of new.some in subst (λ (k : ℕ). is_owner_of k e.o ≡ true) its_id (owns e.o s.0 s.1));
+    at = at;
+    owned = λ some. (let s = a_sector_of new.some in subst (λ (k : ℕ). is_owner_of k o ≡ true) its_id (owns o s.0 s.1));
     was_owned = λ k own used. absurd (clash (is_used e.m k) used (not_used k own));
-    high = λ k own. subst (λ (j : ℕ). 3 ≤ j) (sym its_id ∙ owner_id k e.o own) (new_id_high e.m e.id new.is_new);
+    high = λ k own. subst (λ (j : ℕ). 3 ≤ j) (sym its_id ∙ owner_id k o own) (new_id_high e.m e.id new.is_new);
     other = λ k own same. elsewhere k own same;
     apart = λ p there s i j.
-        (let ids = one_of_both e p e.o (stay_at e p there) at s i j in
-        clash (is_used e.m (id_of p.entry.address)) (owner_used e p (stay_in e p there) (id_of p.entry.address) (owns p s i)) (not_used (id_of p.entry.address) (subst (λ (k : ℕ). is_owner_of k e.o ≡ true) (sym ids) (owns e.o s j))));
+        (let ids = one_of_both e p o (stay_at e p there) at s i j in
+        clash (is_used e.m (id_of p.entry.address)) (owner_used e p (stay_in e p there) (id_of p.entry.address) (owns p s i)) (not_used (id_of p.entry.address) (subst (λ (k : ℕ). is_owner_of k o ≡ true) (sym ids) (owns o s j))));
   }
     where
-      its_id : id_of e.o.entry.address ≡ e.id
-      its_id = id_is e.m e.m' n low e.id e.parts e.o e.is.before.is_map e.is.map.geometry small new e.is.space.own
+      its_id : id_of o.entry.address ≡ e.id
+      its_id = id_is e.m e.m' n low e.id e.parts o e.is.before.is_map e.is.map.geometry small new e.is.space.own
 
-      not_used : (k : ℕ) → is_owner_of k e.o ≡ true → is_used e.m k ≡ false
-      not_used k own = subst (λ (j : ℕ). is_used e.m j ≡ false) (sym its_id ∙ owner_id k e.o own) (new_id_unused e.m e.id new.is_new)
+      not_used : (k : ℕ) → is_owner_of k o ≡ true → is_used e.m k ≡ false
+      not_used k own = subst (λ (j : ℕ). is_used e.m j ≡ false) (sym its_id ∙ owner_id k o own) (new_id_unused e.m e.id new.is_new)
 
-      elsewhere : (k : ℕ) → is_owner_of k e.o ≡ true → its e ≡ k → ⊥
+      elsewhere : (k : ℕ) → is_owner_of k o ≡ true → its e ≡ k → ⊥
       elsewhere k own same = elim e.is.lies [
         | inl there ↦ clash (is_used e.m (old_id e)) (l_used e) (subst (λ (j : ℕ). is_used e.m j ≡ false) (sym same ∙ ap id_of there.address) (not_used k own))
         | inr moves ↦ (elim moves [
           | inl a ↦ clash (is_used e.m (old_id e)) (l_used e) (subst (λ (j : ℕ). is_used e.m j ≡ false) (sym same ∙ ap id_of a.address) (not_used k own))
-          | inr x ↦ x.other (some_parts e.m e.m' n low e.id e.parts e.o e.is.before.is_map e.is.map.geometry small new e.is.space.own) (sym (its_elsewhere e x) ∙ same ∙ sym (owner_id k e.o own) ∙ its_id)
+          | inr x ↦ x.other (some_parts e.m e.m' n low e.id e.parts o e.is.before.is_map e.is.map.geometry small new e.is.space.own) (sym (its_elsewhere e x) ∙ same ∙ sym (owner_id k o own) ∙ its_id)
         ])
       ]
 
   -- nowhere
-  nowhere_apart : IsNowhere n e.parts e.o → IsApartNew e
+  pub nowhere_apart : IsNowhere n e.parts o → IsApartNew e o
   nowhere_apart none = record {
+    at = at;
     owned = λ some. absurd (let x = ap (λ (ps : List ZoneRun). length ps) none.nothing in omega (arith, x, some));
     was_owned = λ k own used. absurd (owns_none k own);
     high = λ k own. absurd (owns_none k own);
@@ -192,70 +188,73 @@ module _ (e : Growing) (n : ℕ) (at : IsAt (Layout.New e.m') e.o) (size : objec
     apart = λ p there s i j. no_sector s j;
   }
     where
-      no_sector : (s : ℕ) → is_among e.o.sectors s ≡ true → ⊥
+      no_sector : (s : ℕ) → is_among o.sectors s ≡ true → ⊥
       no_sector s h =
-          let empty = none_at (Layout.New e.m') e.o.entry.address e.o.sectors (subst (λ (k : ℕ). sectors_at (Layout.New e.m') e.o.entry.address k ≡ Some e.o.sectors) none.none placed) in
+          let empty = none_at (Layout.New e.m') o.entry.address o.sectors (subst (λ (k : ℕ). sectors_at (Layout.New e.m') o.entry.address k ≡ Some o.sectors) none.none placed) in
           let g : is_among [] s ≡ true = subst (λ (xs : List ℕ). is_among xs s ≡ true) empty h in
           cc
 
-      owns_none : (k : ℕ) → is_owner_of k e.o ≡ true → ⊥
-      owns_none k own = let s = some_sector e.o.sectors (and_first (has_sectors e.o) (id_of e.o.entry.address == k) own) in no_sector s.0 s.1
+      owns_none : (k : ℕ) → is_owner_of k o ≡ true → ⊥
+      owns_none k own = let s = some_sector o.sectors (and_first (has_sectors o) (id_of o.entry.address == k) own) in no_sector s.0 s.1
 
-  -- in slack
-  module _ (dir : Path) (shared : IsInSlack e.m (objects_of e.ls) dir n e.parts e.o) where
-    sh : IsShared e.m (objects_of e.ls) n shared.share
-    sh = is_shared e.m (objects_of e.ls) dir n shared.share shared.found
+-- in slack
+module _ {c : Command} {come : List Object} (e : Growing c [] come) (o : Object) (n : ℕ) (at : IsAt (Layout.New e.m') o) (size : object_size (dir_form (Layout.New e.m')) o.entry ≡ n) (dir : Path)
+    (shared : IsInSlack e.m (objects_of e.ls) dir n e.parts o) where
+  sh : IsShared e.m (objects_of e.ls) n shared.share
+  sh = is_shared e.m (objects_of e.ls) dir n shared.share shared.found
 
-    its_share : id_of e.o.entry.address ≡ shared.share.0
-    its_share = let low = sh.low in ap id_of shared.address ∙ (let q : (256 * shared.share.0 + shared.share.1) / 256 ≡ shared.share.0 = omega (arith, low) in q)
+  its_share : id_of o.entry.address ≡ shared.share.0
+  its_share = let low = sh.low in ap id_of shared.address ∙ (let q : (256 * shared.share.0 + shared.share.1) / 256 ≡ shared.share.0 = omega (arith, low) in q)
 
-    files : (p : Object) → Contains (objects_of e.ls) p → is_owner_of shared.share.0 p ≡ true → is_directory_object p ≡ false
-    files p there own = slack_files e.m (objects_of e.ls) dir n shared.share shared.found p there own
+  files : (p : Object) → Contains (objects_of e.ls) p → is_owner_of shared.share.0 p ≡ true → is_directory_object p ≡ false
+  files p there own = slack_files e.m (objects_of e.ls) dir n shared.share shared.found p there own
 
-    owner_stays : Contains e.stay sh.owner
-    owner_stays = stays_file e sh.owner sh.owner_in (files sh.owner sh.owner_in sh.owns)
+  owner_stays : Contains e.stay sh.owner
+  owner_stays = stays_file e sh.owner sh.owner_in (files sh.owner sh.owner_in sh.owns)
 
-    before_at : sectors_at (Layout.New e.m) e.o.entry.address n ≡ Some e.o.sectors
-    before_at =
-        let runs : id_runs e.m' shared.share.0 ≡ id_runs e.m shared.share.0 = stay_runs e sh.owner owner_stays shared.share.0 sh.owns in
-        let old : IsAt (Layout.New e.m) e.o = places_law e.m' e.m e.o (sym e.is.map.geometry) (inr (subst (λ (j : ℕ). id_runs e.m j ≡ id_runs e.m' j) (sym its_share) (sym runs))) at in
-        subst (λ (j : ℕ). sectors_at (Layout.New e.m) e.o.entry.address j ≡ Some e.o.sectors) (ap (λ (f : NameForm). object_size f e.o.entry) (form_stays e) ∙ size) old
+  before_at : sectors_at (Layout.New e.m) o.entry.address n ≡ Some o.sectors
+  before_at =
+      let runs : id_runs e.m' shared.share.0 ≡ id_runs e.m shared.share.0 = stay_runs e sh.owner owner_stays shared.share.0 sh.owns in
+      let old : IsAt (Layout.New e.m) o = places_law e.m' e.m o (sym e.is.map.geometry) (inr (subst (λ (j : ℕ). id_runs e.m j ≡ id_runs e.m' j) (sym its_share) (sym runs))) at in
+      subst (λ (j : ℕ). sectors_at (Layout.New e.m) o.entry.address j ≡ Some o.sectors) (ap (λ (f : NameForm). object_size f o.entry) (form_stays e) ∙ size) old
 
-    its_sectors : sh.sectors ≡ e.o.sectors
-    its_sectors =
-        same_some sh.sectors e.o.sectors
-        (sym sh.at ∙ ap (λ (a : ℕ). new_sectors e.m a n) (sym shared.address) ∙ by_map e.m e.o.entry.address n e.o.sectors sh.some before_at)
+  its_sectors : sh.sectors ≡ o.sectors
+  its_sectors =
+      same_some sh.sectors o.sectors
+      (sym sh.at ∙ ap (λ (a : ℕ). new_sectors e.m a n) (sym shared.address) ∙ by_map e.m o.entry.address n o.sectors sh.some before_at)
 
-    share_is : (k : ℕ) → is_owner_of k e.o ≡ true → shared.share.0 ≡ k
-    share_is k own = sym its_share ∙ owner_id k e.o own
+  share_is : (k : ℕ) → is_owner_of k o ≡ true → shared.share.0 ≡ k
+  share_is k own = sym its_share ∙ owner_id k o own
 
-    elsewhere : (k : ℕ) → is_owner_of k e.o ≡ true → its e ≡ k → ⊥
-    elsewhere k own same =
-        let old : its e ≡ old_id e → ⊥ = λ is. clash (is_directory_object e.l.object) (l_directory e)
-        (files e.l.object (l_object e) (subst (λ (j : ℕ). is_owner_of j e.l.object ≡ true) (sym is ∙ same ∙ sym (share_is k own)) (l_owns e))) in
-        elim e.is.lies [
-          | inl there ↦ old (ap id_of there.address)
-          | inr moves ↦ (elim moves [
-            | inl a ↦ old (ap id_of a.address)
-            | inr x ↦ clash (is_used e.m (its e)) (subst (λ (j : ℕ). is_used e.m j ≡ true) (share_is k own ∙ sym same) (owner_used e sh.owner sh.owner_in shared.share.0 sh.owns))
-                (subst (λ (j : ℕ). is_used e.m j ≡ false) (sym (its_elsewhere e x)) (new_unused e x))
-          ])
-        ]
+  elsewhere : (k : ℕ) → is_owner_of k o ≡ true → its e ≡ k → ⊥
+  elsewhere k own same =
+      let old : its e ≡ old_id e → ⊥ = λ is. clash (is_directory_object e.l.object) (l_directory e)
+      (files e.l.object (l_object e) (subst (λ (j : ℕ). is_owner_of j e.l.object ≡ true) (sym is ∙ same ∙ sym (share_is k own)) (l_owns e))) in
+      elim e.is.lies [
+        | inl there ↦ old (ap id_of there.address)
+        | inr moves ↦ (elim moves [
+          | inl a ↦ old (ap id_of a.address)
+          | inr x ↦ clash (is_used e.m (its e)) (subst (λ (j : ℕ). is_used e.m j ≡ true) (share_is k own ∙ sym same) (owner_used e sh.owner sh.owner_in shared.share.0 sh.owns))
+              (subst (λ (j : ℕ). is_used e.m j ≡ false) (sym (its_elsewhere e x)) (new_unused e x))
+        ])
+      ]
 
-    slack_apart : IsApartNew e
-    slack_apart = record {
-      owned = λ some. absurd (let x = ap (λ (ps : List ZoneRun). length ps) shared.nothing in omega (arith, x, some));
-      was_owned = λ k own used. subst (λ (j : ℕ). is_owned (objects_of e.ls) j ≡ true) (share_is k own) (owned_by (objects_of e.ls) shared.share.0 sh.owner sh.owner_in sh.owns);
-      high = λ k own. subst (λ (j : ℕ). 3 ≤ j) (share_is k own) sh.high;
-      other = elsewhere;
-      apart = λ p there s i j.
-          (let ids : id_of p.entry.address ≡ shared.share.0 = one_of_both e p e.o (stay_at e p there) at s i j ∙ its_share in
-          let own = subst (λ (k : ℕ). is_owner_of k p ≡ true) ids (owns p s i) in
-          clash (is_among p.sectors s) i (apart_at e.o.sectors p.sectors s (subst (λ (xs : List ℕ). is_apart xs p.sectors ≡ true) its_sectors (sh.apart p (stay_in e p there) own)) j));
-    }
+  pub slack_apart : IsApartNew e o
+  slack_apart = record {
+    at = at;
+    owned = λ some. absurd (let x = ap (λ (ps : List ZoneRun). length ps) shared.nothing in omega (arith, x, some));
+    was_owned = λ k own used. subst (λ (j : ℕ). is_owned (objects_of e.ls) j ≡ true) (share_is k own) (owned_by (objects_of e.ls) shared.share.0 sh.owner sh.owner_in sh.owns);
+    high = λ k own. subst (λ (j : ℕ). 3 ≤ j) (share_is k own) sh.high;
+    other = elsewhere;
+    apart = λ p there s i j.
+        (let ids : id_of p.entry.address ≡ shared.share.0 = one_of_both e p o (stay_at e p there) at s i j ∙ its_share in
+        let own = subst (λ (k : ℕ). is_owner_of k p ≡ true) ids (owns p s i) in
+        clash (is_among p.sectors s) i (apart_at o.sectors p.sectors s (subst (λ (xs : List ℕ). is_apart xs p.sectors ≡ true) its_sectors (sh.apart p (stay_in e p there) own)) j));
+  }
 
-  -- wherever a file lies
-  pub file_apart : (dir : Path) → IsFileAt e.m (objects_of e.ls) dir n e.id e.parts e.o → IsApartNew e
-  file_apart dir (inl shared) = slack_apart dir shared
-  file_apart dir (inr (inl new)) = new_apart (file_low e.m.geometry (bits_in e.parts * e.m.geometry.bit_bytes) n) (file_low_small e.m.geometry (bits_in e.parts * e.m.geometry.bit_bytes) n) new.1
-  file_apart dir (inr (inr none)) = nowhere_apart none
+-- wherever a file lies
+module _ {c : Command} {come : List Object} (e : Growing c [] come) (o : Object) (n : ℕ) (at : IsAt (Layout.New e.m') o) (size : object_size (dir_form (Layout.New e.m')) o.entry ≡ n) where
+  pub file_apart : (dir : Path) → IsFileAt e.m (objects_of e.ls) dir n e.id e.parts o → IsApartNew e o
+  file_apart dir (inl shared) = slack_apart e o n at size dir shared
+  file_apart dir (inr (inl new)) = new_apart e o n at size (file_low e.m.geometry (bits_in e.parts * e.m.geometry.bit_bytes) n) (file_low_small e.m.geometry (bits_in e.parts * e.m.geometry.bit_bytes) n) new.1
+  file_apart dir (inr (inr none)) = nowhere_apart e o n at size none

@@ -3,12 +3,15 @@ use Rattle.std.proofs.Common.{◌≡◌, ◌<◌, ◌≤◌, inl, inr, ℕ, Bool
 use Rattle.std.specs.Prelude.{Contains, filter, not, ◌==◌}
 use Rattle.std.specs.Option.{option_map_or}
 use Rattle.std.proofs.lemmas.Bool.{eqb-true}
+use Rattle.std.proofs.lemmas.List.Elements.{Contains-append_right}
 use Rattle.std.proofs.lemmas.List.Sorted.{Contains-permutation}
 use Rattle.fc_names.specs.Names.{Path, is_same_path}
 use Rattle.fc_names.specs.declared.name.NameForm.{NameForm}
 use Rattle.fc_record.specs.declared.Geometry.{Geometry}
 use Rattle.fc_newmap.specs.Map.{Map, id_runs}
 use Rattle.fc_newmap.specs.RunsLaw.{IsGeometry}
+use Rattle.fc_model.specs.Tree.{holder}
+use Rattle.fc_model.specs.Command.{Command}
 use Rattle.fc_dirs.specs.declared.Entry.{Entry}
 use Rattle.fc_dirs.specs.Directory.{entries_of}
 use Rattle.fc_image.specs.Layout.{Layout, dir_form, id_of, is_among, is_apart, new_sectors, sectors_at}
@@ -32,9 +35,9 @@ use Rattle.fc_image.proofs.PathsLemmas.{itself}
 use Rattle.fc_image.proofs.RenameLemmas.{alone, child_path}
 use Rattle.fc_image.proofs.RewordLemmas.{other_long}
 use Rattle.fc_image.proofs.TreeLemmas.{folds_alike}
-use Rattle.fc_effects.specs.Short.{sectors_of_others}
-use Rattle.fc_effects.specs.Steady.{regrown_entry}
-use Rattle.fc_changes.proofs.BasicLemmas.{cases_cons, clash, first_in, long_pushed, next_in, unless}
+use Rattle.fc_effects.specs.Short.{Growth, sectors_of_others}
+use Rattle.fc_effects.specs.Steady.{has_grown, regrown_entry}
+use Rattle.fc_changes.proofs.BasicLemmas.{cases_cons, clash, first_in, long_pushed, map_same, next_in, unless}
 use Rattle.fc_changes.proofs.BeforeLemmas.{child_in, listed_in, sound}
 use Rattle.fc_changes.proofs.ChangeLemmas.{opened}
 use Rattle.fc_changes.proofs.RenamedLemmas.{each_apart}
@@ -63,7 +66,7 @@ by_map m address n sectors some h = by (n == 0) refl h
     by true e g = absurd (let none = eqb-true n 0 e in omega (arith, none, some))
     by false e g = g
 
-module _ (e : Growing) where
+module _ {c : Command} {out come : List Object} (e : Growing c out come) where
   -- each object afterwards
   abbrev pub g : Object → Object
   g = grown_object e.l.object.path e.place.address e.place.len e.place.sectors
@@ -97,24 +100,25 @@ module _ (e : Growing) where
       same_some p q (sym (lookup_law.object (Layout.New e.m) e.ls p.path p s p_in (itself p.path)) ∙ lookup_law.object (Layout.New e.m) e.ls p.path q s q_in same)
 
   pub stay_other : (p : Object) → Contains e.stay p → is_same_path e.l.object.path p.path ≡ false
-  stay_other p at = alone e.kind e.image (opened e.kind e.m e.ls) e.l.object p e.stay e.is.before.opens e.is.others at
+  stay_other p at = alone e.kind e.image (opened e.kind e.m e.ls) e.l.object p (out ++ e.stay) e.is.before.opens e.is.others (Contains-append_right out e.stay p at)
 
-  pub stays : (p : Object) → Contains (objects_of e.ls) p → is_same_path e.l.object.path p.path ≡ false → Contains e.stay p
-  stays p at other = elim (cases_cons e.l.object e.stay p (Contains-permutation (objects_of e.ls) (e.l.object ∷ e.stay) p e.is.others at)) [
+  -- the others, those that go among them
+  pub stays : (p : Object) → Contains (objects_of e.ls) p → is_same_path e.l.object.path p.path ≡ false → Contains (out ++ e.stay) p
+  stays p at other = elim (cases_cons e.l.object (out ++ e.stay) p (Contains-permutation (objects_of e.ls) (e.l.object ∷ (out ++ e.stay)) p e.is.others at)) [
     | inl is ↦ absurd (clash (is_same_path e.l.object.path p.path) (ap (λ (q : Object). is_same_path e.l.object.path q.path) (sym is) ∙ itself e.l.object.path) other)
     | inr later ↦ later
   ]
 
-  pub stays_file : (p : Object) → Contains (objects_of e.ls) p → is_directory_object p ≡ false → Contains e.stay p
+  pub stays_file : (p : Object) → Contains (objects_of e.ls) p → is_directory_object p ≡ false → Contains (out ++ e.stay) p
   stays_file p at file =
       stays p at (unless (is_same_path e.l.object.path p.path) (λ same. clash (is_directory_object p) (ap is_directory_object (sym (same_object e.l.object p (l_object e) at same)) ∙ l_directory e) file))
 
-  pub g_at : (p : Object) → Contains (objects_of e.ls) p → IsAt (Layout.New e.m') (g p)
-  g_at p at = by (is_same_path e.l.object.path p.path) refl
+  pub g_at : (p : Object) → Contains (objects_of e.ls) p → (is_same_path e.l.object.path p.path ≡ false → Contains e.stay p) → IsAt (Layout.New e.m') (g p)
+  g_at p at left = by (is_same_path e.l.object.path p.path) refl
     where
       by : (b : Bool) → is_same_path e.l.object.path p.path ≡ b → IsAt (Layout.New e.m') (g p)
       by true same = subst (λ (q : Object). IsAt (Layout.New e.m') (g q)) (same_object e.l.object p (l_object e) at same) (subst (IsAt (Layout.New e.m')) (sym g_itself) e.is.at)
-      by false other = subst (IsAt (Layout.New e.m')) (sym (g_stays p other)) (stay_at e p (stays p at other))
+      by false other = subst (IsAt (Layout.New e.m')) (sym (g_stays p other)) (stay_at e p (left other))
 
   pub child_object : (k : Listing) (p : Object) → Contains e.ls k → Contains k.children p → Contains (objects_of e.ls) p
   child_object k p at child = child_in e.kind e.r e.image e.m e.ls e.is.before.new_kind e.is.before.opens k p at child
@@ -128,8 +132,15 @@ module _ (e : Growing) where
       let pushed = long_pushed e.l.object.path p.entry.name in
       omega (arith, long, pushed, same))
 
-  pub kid_at : (p : Object) → Contains e.l.children p → IsAt (Layout.New e.m') p
-  kid_at p at = stay_at e p (stays p (child_object e.l p (l_in e) at) (kid_other p at))
+  -- ---- entries
+
+  pub has_grown_is : (p : Path) → has_grown (opened e.kind e.m e.ls) c p ≡ is_same_path (holder e.l.object.path) p
+  has_grown_is p = ap (λ (q : Option Growth). option_map_or (λ (x : Growth). is_same_path (holder x.0.path) p) q false) e.is.growth
+
+  -- entries of a directory that doesn't hold the grown one
+  pub entries_stay : (dir : Path) (es : List Entry) → ((d : Entry) → is_same_path (dir ++ d.name ∷ []) e.l.object.path ≡ false) → map (regrown_entry dir (Some (grown e))) es ≡ es
+  entries_stay dir es other =
+      map_same (regrown_entry dir (Some (grown e))) (λ d. ap (λ (b : Bool). cond b (record d { address = e.place.address; len = e.place.len }) d) (other d)) es
 
   -- ---- which sectors lie apart
 
@@ -188,3 +199,9 @@ module _ (e : Growing) where
     where
       moved : TakesSpace e.m (objects_of e.ls) e.parts e.l.object e.place → ⊥
       moved takes = its_alone_now e takes p at (subst (λ (k : ℕ). is_owner_of k p ≡ true) (one_of_both p (grown e) (stay_at e p at) e.is.at s i j) (owns p s i))
+
+-- ---- if no object goes
+
+module _ {c : Command} {come : List Object} (e : Growing c [] come) where
+  pub kid_at : (p : Object) → Contains e.l.children p → IsAt (Layout.New e.m') p
+  kid_at p at = stay_at e p (stays e p (child_object e e.l p (l_in e) at) (kid_other e p at))

@@ -4,13 +4,18 @@ use Rattle.std.specs.Prelude.{Contains, IsPermutation, filter, ◌==◌, ◌&&�
 use Rattle.std.specs.List.{list_any}
 use Rattle.std.proofs.lemmas.Bool.{eqb-true, le-leb, leb-true}
 use Rattle.std.proofs.lemmas.List.Elements.{Contains-append_cases, Contains-append_left, Contains-append_right}
+use Rattle.std.proofs.lemmas.List.Sorted.{Contains-permutation, IsPermutation-sym}
 use Rattle.fc_zone.specs.declared.RunKind.{RunKind}
 use Rattle.fc_zone.specs.declared.RunKind.TheVariants as kinds
-use Rattle.fc_newmap.specs.Map.{ZoneRun, all_runs, has_id, id_runs, is_used}
+use Rattle.fc_record.specs.declared.DiscRecord.{DiscRecord}
+use Rattle.fc_record.specs.declared.Kind.{Kind}
+use Rattle.fc_newmap.specs.Map.{Map, ZoneRun, all_runs, has_id, id_runs, is_used}
 use Rattle.fc_newmap.proofs.PlaceLemmas.{filter_in, held_in, holder_of}
-use Rattle.fc_dirs.specs.Directory.{entries_of}
+use Rattle.fc_model.specs.Command.{Command}
+use Rattle.fc_dirs.specs.Directory.{Directory, entries_of}
+use Rattle.fc_names.specs.Names.{is_same_path}
 use Rattle.fc_image.specs.Layout.{Layout, id_of, is_among, is_apart}
-use Rattle.fc_image.specs.Walk.{Listing, Object, reader_of}
+use Rattle.fc_image.specs.Walk.{Listing, Object, is_directory_object, reader_of}
 use Rattle.fc_image.specs.Objects.{is_movable, is_owned, is_owner_of, objects_of}
 use Rattle.fc_image.specs.Opening.{is_hole_or_movable, reserved_in}
 use Rattle.fc_image.specs.Edits.{Apart, AreChildren, IsAt, StayListed}
@@ -22,33 +27,84 @@ use Rattle.fc_image.proofs.OrderLemmas.{apart_shuffled}
 use Rattle.fc_image.proofs.OneZoneLemmas.{and_first, and_second}
 use Rattle.fc_image.proofs.RelistLemmas.{apart_behind, edited_apart_law}
 use Rattle.fc_effects.specs.Steady.{is_idle, is_given_back, is_left_by_growth}
-use Rattle.fc_changes.proofs.BasicLemmas.{any_in, cases_cons, clash, first_in, in_any, next_in, unless}
+use Rattle.fc_changes.proofs.BasicLemmas.{any_in, cases_cons, clash, first_in, in_any, nothing_in, unless}
 use Rattle.fc_changes.proofs.ChangeLemmas.{opened}
 use Rattle.fc_changes.proofs.OutsideLemmas.{AreBusy, low_owned, owned_busy}
 use Rattle.fc_changes.proofs.SpaceLemmas.{no_runs, not_given, still_owned}
-use Rattle.fc_growths.proofs.SpaceLemmas.{Growing, after, grown, grown_owns, its, its_high, its_taken, its_was, l_owned, left_alone, left_elsewhere, left_there, lies, none_same, old_id, owned_by, owner_id, owns, runs_same, stay_in, was, zones_now}
-use Rattle.fc_growths.proofs.ObjectLemmas.{apart_before, grown_apart, one_of_both, some_now}
+use Rattle.fc_growths.specs.Grown.{IsGrowing, NewPlace}
+use Rattle.fc_growths.proofs.SpaceLemmas.{Growing, Grows, after, grown, grown_owns, its, its_high, its_taken, its_was, l_owned, left_alone, left_elsewhere, left_there, lies, none_same, old_id, owned_by, owner_id, owns, runs_same, stay_in, was, zones_now}
+use Rattle.fc_growths.proofs.ObjectLemmas.{apart_before, grown_apart, one_of_both, some_now, stays}
 
--- what is known of the new object, and of what the grown directory lists
-pub record NewObject (e : Growing) : Type 0 where
-  pub at : IsAt (Layout.New e.m') e.o
-  pub owned : 0 < length e.parts → is_owner_of e.id e.o ≡ true
-  pub was_owned : (k : ℕ) → is_owner_of k e.o ≡ true → is_used e.m k ≡ true → is_owned (objects_of e.ls) k ≡ true
-  pub high : (k : ℕ) → is_owner_of k e.o ≡ true → 3 ≤ k
-  pub other : (k : ℕ) → is_owner_of k e.o ≡ true → its e ≡ k → ⊥
-  pub apart : (p : Object) → Contains e.stay p → (s : ℕ) → is_among p.sectors s ≡ true → is_among e.o.sectors s ≡ true → ⊥
+-- where a new object lies, beside a directory that grows
+pub record IsApartNew {c : Command} {out come : List Object} (e : Growing c out come) (o : Object) : Type 0 where
+  pub at : IsAt (Layout.New e.m') o
+  pub owned : 0 < length e.parts → is_owner_of e.id o ≡ true
+  pub was_owned : (k : ℕ) → is_owner_of k o ≡ true → is_used e.m k ≡ true → is_owned (objects_of e.ls) k ≡ true
+  pub high : (k : ℕ) → is_owner_of k o ≡ true → 3 ≤ k
+  pub other : (k : ℕ) → is_owner_of k o ≡ true → its e ≡ k → ⊥
+  pub apart : (p : Object) → Contains e.stay p → (s : ℕ) → is_among p.sectors s ≡ true → is_among o.sectors s ≡ true → ⊥
+
+-- So it is with each object that comes, and what is taken for one is of its identifier. Only files go.
+pub record Comes {c : Command} {out come : List Object} (e : Growing c out come) : Type 0 where
+  pub each : (o : Object) → Contains come o → IsApartNew e o
+  pub owner : 0 < length e.parts → (o : Object) × Contains come o × (is_owner_of e.id o ≡ true)
+  pub files : (p : Object) → Contains out p → is_directory_object p ≡ false
+
+-- if one object comes, or none
+pub one_comes : {c : Command} {out : List Object} {o : Object} (e : Growing c out (o ∷ [])) → IsApartNew e o → ((p : Object) → Contains out p → is_directory_object p ≡ false) → Comes e
+one_comes {c} {out} {o} e new files = record {
+  each = λ p at. elim (cases_cons o [] p at) [ inl is ↦ subst (IsApartNew e) is new | inr none ↦ absurd (nothing_in p none) ];
+  owner = λ some. (o, first_in o [], new.owned some);
+  files = files;
+}
+
+pub none_comes : {c : Command} (e : Growing c [] []) → e.parts ≡ [] → Comes e
+none_comes e nothing = record {
+  each = λ p at. absurd (nothing_in p at);
+  owner = λ some. absurd (let none = ap (λ (ps : List ZoneRun). length ps) nothing in omega (arith, none, some));
+  files = λ p at. absurd (nothing_in p at);
+}
+
+-- what is known of a new object, and of what the grown directory lists
+pub record NewObject {c : Command} {o : Object} (e : Growing c [] (o ∷ [])) : Type 0 where
+  pub is : IsGrowing e.kind e.r e.image e.image' (opened e.kind e.m e.ls) e.m e.m' c e.l e.content e.place e.again e.again' e.keep o e.stay e.id e.parts e.gone
+  pub new : IsApartNew e o
   pub into : List Listing
   pub into_say : StayListed (reader_of e.image' (Layout.New e.m')) (Layout.New e.m') into
-  pub into_come : listed into ≡ directories (e.o ∷ [])
+  pub into_come : listed into ≡ directories (o ∷ [])
   pub into_empty : held into ≡ []
   pub into_few : length into ≤ 1
   pub children : List Object
-  pub holds : IsPermutation children (e.o ∷ e.l.children)
+  pub holds : IsPermutation children (o ∷ e.l.children)
   pub lists : AreChildren (Layout.New e.m') e.l.object.path (entries_of e.content) children
 
-module _ (e : Growing) (n : NewObject e) where
+pub grows_of : {kind : Kind} {r : DiscRecord} {image image' : List ℕ} {m m' : Map} {ls : List Listing} {c : Command} {l : Listing} {content : Directory} {place : NewPlace} {again again' keep : List Listing}
+    {o : Object} {stay : List Object} {id : ℕ} {parts : List ZoneRun} {gone : List ℕ} → IsGrowing kind r image image' (opened kind m ls) m m' c l content place again again' keep o stay id parts gone
+    → Grows kind r image image' m m' ls c l place [] (o ∷ []) stay id parts gone
+grows_of {kind} {r} {image} {image'} {m} {m'} {ls} {c} {l} {content} {place} {again} {again'} {keep} is = record {
+  before = is.before;
+  form = is.form;
+  listed = Contains-permutation (l ∷ (again ++ keep)) ls l (IsPermutation-sym ls (l ∷ (again ++ keep)) is.found) (first_in l (again ++ keep));
+  others = is.others;
+  growth = is.growth;
+  lies = is.lies;
+  at = is.at;
+  map = is.map;
+  root = is.root;
+  space = is.space;
+  gives = is.gives;
+}
+
+module _ {c : Command} {out come : List Object} (e : Growing c out come) (n : Comes e) where
   abbrev pub all : List Object
   all = objects_of e.ls ++ after e
+
+  -- a directory other than the grown one stays
+  pub directory_stays : (p : Object) → Contains (objects_of e.ls) p → is_directory_object p ≡ true → is_same_path e.l.object.path p.path ≡ false → Contains e.stay p
+  directory_stays p at dir other = elim (Contains-append_cases out e.stay p (stays e p at other)) [
+    | inl goes ↦ absurd (clash (is_directory_object p) dir (n.files p goes))
+    | inr left ↦ left
+  ]
 
   all_first : (p : Object) → Contains (objects_of e.ls) p → Contains all p
   all_first p at = Contains-append_left (objects_of e.ls) (after e) p at
@@ -60,15 +116,15 @@ module _ (e : Growing) (n : NewObject e) where
   movable_by p k at own high = ap₂ (λ (x y : Bool). x && y) (owned_by all k p at own) (le-leb 3 k high)
 
   grown_in : Contains (after e) (grown e)
-  grown_in = next_in e.o (grown e) (grown e ∷ e.stay) (first_in (grown e) e.stay)
+  grown_in = Contains-append_right come (grown e ∷ e.stay) (grown e) (first_in (grown e) e.stay)
 
-  o_in : Contains (after e) e.o
-  o_in = first_in e.o (grown e ∷ e.stay)
+  come_in : (o : Object) → Contains come o → Contains (after e) o
+  come_in o at = Contains-append_left come (grown e ∷ e.stay) o at
 
   -- which identifiers were used and owned, if an object has one afterwards
   after_was : (p : Object) → Contains (after e) p → (k : ℕ) → is_owner_of k p ≡ true → is_used e.m k ≡ true → is_owned (objects_of e.ls) k ≡ true
-  after_was p at k own used = elim (cases_cons e.o (grown e ∷ e.stay) p at) [
-    | inl is ↦ n.was_owned k (ap (is_owner_of k) is ∙ own) used
+  after_was p at k own used = elim (Contains-append_cases come (grown e ∷ e.stay) p at) [
+    | inl new ↦ (n.each p new).was_owned k own used
     | inr more ↦ (elim (cases_cons (grown e) e.stay p more) [
       | inl is ↦
           (let k_is : its e ≡ k = owner_id k (grown e) (ap (is_owner_of k) is ∙ own) in
@@ -77,16 +133,16 @@ module _ (e : Growing) (n : NewObject e) where
     ])
   ]
 
-  pub left_owned : (k : ℕ) → is_left_by_growth (opened e.kind e.m e.ls) e.c k ≡ true → (is_owned (objects_of e.ls) k ≡ true) × (3 ≤ k)
+  pub left_owned : (k : ℕ) → is_left_by_growth (opened e.kind e.m e.ls) c k ≡ true → (is_owned (objects_of e.ls) k ≡ true) × (3 ≤ k)
   left_owned k left = elim e.is.lies [
-    | inl there ↦ absurd (clash (is_left_by_growth (opened e.kind e.m e.ls) e.c k) left (left_there e there k))
+    | inl there ↦ absurd (clash (is_left_by_growth (opened e.kind e.m e.ls) c k) left (left_there e there k))
     | inr moves ↦ (elim moves [
       | inl a ↦
           (let k_is : old_id e ≡ k = eqb-true (old_id e) k (sym (left_alone e a k) ∙ left) in (
             subst (λ (j : ℕ). is_owned (objects_of e.ls) j ≡ true) k_is (l_owned e),
             subst (λ (j : ℕ). 3 ≤ j) (ap id_of a.address ∙ k_is) (its_high e),
           ))
-      | inr x ↦ absurd (clash (is_left_by_growth (opened e.kind e.m e.ls) e.c k) left (left_elsewhere e x k))
+      | inr x ↦ absurd (clash (is_left_by_growth (opened e.kind e.m e.ls) c k) left (left_elsewhere e x k))
     ])
   ]
 
@@ -107,8 +163,8 @@ module _ (e : Growing) (n : NewObject e) where
       not_owned_high : is_owned (objects_of e.ls) k ≡ true → 3 ≤ k → ⊥
       not_owned_high own high = (let p = owner_in (objects_of e.ls) k own high in clash (is_movable all k) (movable_by p.0 k (all_first p.0 p.1) p.2 high) still)
 
-      not_left : is_left_by_growth (opened e.kind e.m e.ls) e.c k ≡ false
-      not_left = unless (is_left_by_growth (opened e.kind e.m e.ls) e.c k) (λ left. let x = left_owned k left in not_owned_high x.0 x.1)
+      not_left : is_left_by_growth (opened e.kind e.m e.ls) c k ≡ false
+      not_left = unless (is_left_by_growth (opened e.kind e.m e.ls) c k) (λ left. let x = left_owned k left in not_owned_high x.0 x.1)
 
       not_back : is_given_back (objects_of e.ls) (after e) k ≡ false
       not_back = cases (is_owned (objects_of e.ls) k) (nat_le 3 k) refl refl
@@ -122,7 +178,8 @@ module _ (e : Growing) (n : NewObject e) where
       by true used = runs_same e k used not_back not_left
       by false unused =
           none_same e k unused
-          (λ some is. let own = subst (λ (j : ℕ). is_owner_of j e.o ≡ true) (sym is) (n.owned some) in clash (is_movable all k) (movable_by e.o k (all_second e.o o_in) own (n.high k own)) still)
+          (λ some is. let o = n.owner some in let own = subst (λ (j : ℕ). is_owner_of j o.0 ≡ true) (sym is) o.2 in
+          clash (is_movable all k) (movable_by o.0 k (all_second o.0 (come_in o.0 o.1)) own ((n.each o.0 o.1).high k own)) still)
           (λ some is. let k_is : its e ≡ k = its_taken e some ∙ sym is in
           clash (is_movable all k) (movable_by (grown e) k (all_second (grown e) grown_in) (subst (λ (j : ℕ). is_owner_of j (grown e) ≡ true) k_is (grown_owns e)) (subst (λ (j : ℕ). 3 ≤ j) k_is (its_high e))) still)
           ∙ sym (no_runs e.m k (was e).some unused)
@@ -210,29 +267,33 @@ module _ (e : Growing) (n : NewObject e) where
   pub grown_free : is_apart e.place.sectors (reserved_in e.kind (Layout.New e.m)) ≡ true
   grown_free = new_free (grown e) grown_in e.is.at grown_high
 
-  pub o_free : is_apart e.o.sectors (reserved_in e.kind (Layout.New e.m)) ≡ true
-  o_free = new_free e.o o_in n.at n.high
+  pub come_free : (o : Object) → Contains come o → is_apart o.sectors (reserved_in e.kind (Layout.New e.m)) ≡ true
+  come_free o at = new_free o (come_in o at) (n.each o at).at (n.each o at).high
 
   pub grown_busy : AreBusy e.m (objects_of e.ls) e.place.sectors
   grown_busy = new_busy (grown e) grown_in e.is.at grown_high
 
-  pub o_busy : AreBusy e.m (objects_of e.ls) e.o.sectors
-  o_busy = new_busy e.o o_in n.at n.high
+  pub come_busy : (o : Object) → Contains come o → AreBusy e.m (objects_of e.ls) o.sectors
+  come_busy o at = new_busy o (come_in o at) (n.each o at).at (n.each o at).high
 
-  -- the new object is apart from the grown directory
-  pub both_apart : (s : ℕ) → is_among e.o.sectors s ≡ true → is_among e.place.sectors s ≡ true → ⊥
-  both_apart s i j = n.other (id_of e.o.entry.address) (owns e.o s i) (sym (one_of_both e e.o (grown e) n.at e.is.at s i j))
+  -- a new object is apart from the grown directory
+  pub both_apart : (o : Object) → Contains come o → (s : ℕ) → is_among o.sectors s ≡ true → is_among e.place.sectors s ≡ true → ⊥
+  both_apart o at s i j = (n.each o at).other (id_of o.entry.address) (owns o s i) (sym (one_of_both e o (grown e) (n.each o at).at e.is.at s i j))
 
   -- ---- all objects lie apart
 
-  pub apart_now : Apart (reserved_in e.kind (Layout.New e.m)) (after e)
-  apart_now =
+  pub grown_apart_now : Apart (reserved_in e.kind (Layout.New e.m)) (grown e ∷ e.stay)
+  grown_apart_now =
       let reserved : List ℕ = reserved_in e.kind (Layout.New e.m) in
-      let others = apart_behind reserved (e.l.object ∷ []) e.stay (apart_shuffled reserved (objects_of e.ls) (e.l.object ∷ e.stay) (apart_before e) e.is.others) in
-      let with_l = edited_apart_law.come reserved e.stay (grown e) others
-      (edited_apart_law.from reserved e.stay (grown e) grown_free (λ p at. apart_from e.place.sectors p.sectors (λ s i j. grown_apart e p at s j i))) in
-      edited_apart_law.come reserved (grown e ∷ e.stay) e.o with_l
-      (edited_apart_law.from reserved (grown e ∷ e.stay) e.o o_free (λ p at. elim (cases_cons (grown e) e.stay p at) [
-        | inl is ↦ subst (λ (x : Object). is_apart e.o.sectors x.sectors ≡ true) is (apart_from e.o.sectors e.place.sectors both_apart)
-        | inr other ↦ apart_from e.o.sectors p.sectors (λ s i j. n.apart p other s j i)
+      let others = apart_behind reserved (e.l.object ∷ out) e.stay (apart_shuffled reserved (objects_of e.ls) (e.l.object ∷ (out ++ e.stay)) (apart_before e) e.is.others) in
+      edited_apart_law.come reserved e.stay (grown e) others
+      (edited_apart_law.from reserved e.stay (grown e) grown_free (λ p at. apart_from e.place.sectors p.sectors (λ s i j. grown_apart e p at s j i)))
+
+  pub come_apart_now : (o : Object) → Contains come o → Apart (reserved_in e.kind (Layout.New e.m)) (o ∷ grown e ∷ e.stay)
+  come_apart_now o o_at =
+      let reserved : List ℕ = reserved_in e.kind (Layout.New e.m) in
+      edited_apart_law.come reserved (grown e ∷ e.stay) o grown_apart_now
+      (edited_apart_law.from reserved (grown e ∷ e.stay) o (come_free o o_at) (λ p at. elim (cases_cons (grown e) e.stay p at) [
+        | inl is ↦ subst (λ (x : Object). is_apart o.sectors x.sectors ≡ true) is (apart_from o.sectors e.place.sectors (both_apart o o_at))
+        | inr other ↦ apart_from o.sectors p.sectors (λ s i j. (n.each o o_at).apart p other s j i)
       ]))

@@ -1,9 +1,10 @@
 -- The identifiers and the runs of a map after a directory has grown.
 use Rattle.std.proofs.Common.{◌≡◌, ◌<◌, ◌≤◌, inl, inr, ℕ, ◌+◌, ◌-◌, ◌*◌, ◌/◌, Bool, true, false, cond, List, [], ◌∷◌, ◌++◌, length, refl, sym, ap, ap₂, subst, ◌∙◌, arith, Some, None, Option, eq-eqb}
-use Rattle.std.specs.Prelude.{Ok, Contains, filter, not, ◌==◌, ◌&&◌, ◌||◌, nat_lt}
+use Rattle.std.specs.Prelude.{Ok, Contains, IsPermutation, filter, not, ◌==◌, ◌&&◌, ◌||◌, nat_lt}
 use Rattle.std.specs.List.{list_any, range_with_len}
 use Rattle.std.specs.Option.{option_and_then, option_map_or}
 use Rattle.std.proofs.lemmas.Bool.{cases_lt, eqb-true, lt-ltb}
+use Rattle.std.proofs.lemmas.List.Elements.{Contains-append_right}
 use Rattle.std.proofs.lemmas.List.Sorted.{Contains-permutation, IsPermutation-sym}
 use Rattle.fc_names.specs.Names.{is_directory}
 use Rattle.fc_record.specs.declared.DiscRecord.{DiscRecord}
@@ -30,20 +31,36 @@ use Rattle.fc_image.proofs.HolesLemmas.{Lies, OpenMap, in_id}
 use Rattle.fc_image.proofs.OneZoneLemmas.{and_first, and_second}
 use Rattle.fc_plan.proofs.Shorts.{are_new_ids}
 use Rattle.fc_plan.proofs.Units.{units_some}
-use Rattle.fc_effects.specs.Short.{Growth, gain_in, has_room, is_alone, moved_growth}
+use Rattle.fc_effects.specs.Short.{Growth, gain_in, growth_in, has_room, is_alone, moved_growth}
 use Rattle.fc_effects.specs.Steady.{is_given_back, is_left_by_growth}
 use Rattle.fc_plan.specs.Giving.{is_one_of}
+use Rattle.fc_changes.specs.Owed.{IsBefore}
 use Rattle.fc_changes.proofs.BasicLemmas.{any_in, cases_cons, clash, first_in, next_in, not_zero, nothing_in, or_second, unless}
 use Rattle.fc_changes.proofs.BeforeLemmas.{Had, had, id_high, listed_in, object_lies, parts}
 use Rattle.fc_changes.proofs.ChangeLemmas.{a_sector, opened}
 use Rattle.fc_changes.proofs.PlacedLemmas.{filter_test}
 use Rattle.fc_changes.proofs.SpaceLemmas.{no_runs, still_owned}
 use Rattle.fc_image.proofs.MoveLemmas.{not_true}
-use Rattle.fc_growths.specs.Grown.{GrowsAlone, GrowsElsewhere, GrowsThere, IsGrowing, NewPlace, TakesSpace, at_place}
+use Rattle.fc_growths.specs.Grown.{GivesBackGrown, GrowsAlone, GrowsElsewhere, GrowsThere, HasRoot, IsGrownAt, IsGrowthSpace, IsMapGrown, NewPlace, TakesSpace, at_place}
 use Rattle.fc_growths.proofs.BasicLemmas.{alone_passes, grown_some, read_some}
 
+-- what the growth of a directory leaves, by whatever command: `come` are the objects that come, and `out` those that go
+pub record Grows (kind : Kind) (r : DiscRecord) (image image' : List ℕ) (m m' : Map) (ls : List Listing) (c : Command) (l : Listing) (place : NewPlace) (out come stay : List Object) (id : ℕ)
+    (parts : List ZoneRun) (gone : List ℕ) : Type 0 where
+  pub before : IsBefore kind r image (opened kind m ls) m
+  pub form : dir_form (Layout.New m) ≡ Long
+  pub listed : Contains ls l
+  pub others : IsPermutation (objects_of ls) (l.object ∷ (out ++ stay))
+  pub growth : growth_in (opened kind m ls) c ≡ Some (l.object, place.len)
+  pub lies : IsGrownAt m (objects_of ls) id parts l.object place
+  pub at : IsAt (Layout.New m') (at_place place l.object)
+  pub map : IsMapGrown m m' image' l.object place
+  pub root : length l.object.path ≡ 0 → HasRoot r m' place
+  pub space : IsGrowthSpace m m' id parts place gone
+  pub gives : GivesBackGrown m (opened kind m ls) c gone (come ++ at_place place l.object ∷ stay)
+
 -- all that is known of a command by which a directory grows
-pub record Growing : Type 0 where
+pub record Growing (c : Command) (out come : List Object) : Type 0 where
   pub kind : Kind
   pub r : DiscRecord
   pub image : List ℕ
@@ -51,19 +68,17 @@ pub record Growing : Type 0 where
   pub m : Map
   pub m' : Map
   pub ls : List Listing
-  pub c : Command
   pub l : Listing
   pub content : Directory
   pub place : NewPlace
   pub again : List Listing
   pub again' : List Listing
   pub keep : List Listing
-  pub o : Object
   pub stay : List Object
   pub id : ℕ
   pub parts : List ZoneRun
   pub gone : List ℕ
-  pub is : IsGrowing kind r image image' (opened kind m ls) m m' c l content place again again' keep o stay id parts gone
+  pub is : Grows kind r image image' m m' ls c l place out come stay id parts gone
   pub fresh : 0 < length parts → is_used m id ≡ false
 
 -- some sectors
@@ -95,7 +110,7 @@ one_says read layout (l ∷ listings) k say at = elim (cases_cons l listings k a
 
 -- ---- what growth leaves
 
-module _ (e : Growing) where
+module _ {c : Command} {out come : List Object} (e : Growing c out come) where
   abbrev pub objects : List Object
   objects = objects_of e.ls
 
@@ -103,7 +118,7 @@ module _ (e : Growing) where
   grown = at_place e.place e.l.object
 
   abbrev pub after : List Object
-  after = e.o ∷ grown ∷ e.stay
+  after = come ++ grown ∷ e.stay
 
   -- the identifier of the grown directory, and the one that it had
   abbrev pub its : ℕ
@@ -116,13 +131,15 @@ module _ (e : Growing) where
   was = parts e.kind e.r e.image e.m e.ls e.is.before.new_kind e.is.before.opens
 
   pub l_in : Contains e.ls e.l
-  l_in = Contains-permutation (e.l ∷ (e.again ++ e.keep)) e.ls e.l (IsPermutation-sym e.ls (e.l ∷ (e.again ++ e.keep)) e.is.found) (first_in e.l (e.again ++ e.keep))
+  l_in = e.is.listed
 
   pub l_object : Contains (objects_of e.ls) e.l.object
   l_object = listed_in e.kind e.r e.image e.m e.ls e.is.before.new_kind e.is.before.opens e.l l_in
 
   pub stay_in : (p : Object) → Contains e.stay p → Contains (objects_of e.ls) p
-  stay_in p at = Contains-permutation (e.l.object ∷ e.stay) (objects_of e.ls) p (IsPermutation-sym (objects_of e.ls) (e.l.object ∷ e.stay) e.is.others) (next_in e.l.object p e.stay at)
+  stay_in p at =
+      Contains-permutation (e.l.object ∷ (out ++ e.stay)) (objects_of e.ls) p (IsPermutation-sym (objects_of e.ls) (e.l.object ∷ (out ++ e.stay)) e.is.others)
+      (next_in e.l.object p (out ++ e.stay) (Contains-append_right out e.stay p at))
 
   pub lies : (p : Object) → Contains (objects_of e.ls) p → Lies (Layout.New e.m) (reserved_in e.kind (Layout.New e.m)) p
   lies p at = object_lies e.kind e.r e.image e.m e.ls e.is.before.new_kind e.is.before.opens p at
@@ -163,27 +180,27 @@ module _ (e : Growing) where
   -- ---- which identifiers a growth leaves
 
   moved_is : (b : Bool) → has_room (Layout.New e.m) objects (e.l.object, e.place.len) ≡ b
-      → moved_growth (opened e.kind e.m e.ls) e.c ≡ (let q : Option Growth = cond b None (let g : Growth = (e.l.object, e.place.len) in Some g) in q)
+      → moved_growth (opened e.kind e.m e.ls) c ≡ (let q : Option Growth = cond b None (let g : Growth = (e.l.object, e.place.len) in Some g) in q)
   moved_is b h =
       ap (option_and_then (λ (growth : Growth). let q : Option Growth = cond (has_room (Layout.New e.m) objects growth) None (Some growth) in q)) e.is.growth
       ∙ ap (λ (x : Bool). let q : Option Growth = cond x None (let g : Growth = (e.l.object, e.place.len) in Some g) in q) h
 
-  pub moved_none : GrowsThere e.m objects e.l.object e.place → moved_growth (opened e.kind e.m e.ls) e.c ≡ None
+  pub moved_none : GrowsThere e.m objects e.l.object e.place → moved_growth (opened e.kind e.m e.ls) c ≡ None
   moved_none there = moved_is true there.room
 
-  pub moved_some : TakesSpace e.m objects e.parts e.l.object e.place → moved_growth (opened e.kind e.m e.ls) e.c ≡ Some (e.l.object, e.place.len)
+  pub moved_some : TakesSpace e.m objects e.parts e.l.object e.place → moved_growth (opened e.kind e.m e.ls) c ≡ Some (e.l.object, e.place.len)
   moved_some takes = moved_is false takes.no_room
 
-  pub left_there : GrowsThere e.m objects e.l.object e.place → (k : ℕ) → is_left_by_growth (opened e.kind e.m e.ls) e.c k ≡ false
+  pub left_there : GrowsThere e.m objects e.l.object e.place → (k : ℕ) → is_left_by_growth (opened e.kind e.m e.ls) c k ≡ false
   left_there there k = ap (λ (q : Option Growth). option_map_or (λ (g : Growth). is_alone objects g.0 && (id_of g.0.entry.address == k)) q false) (moved_none there)
 
-  left_moved : TakesSpace e.m objects e.parts e.l.object e.place → (k : ℕ) → is_left_by_growth (opened e.kind e.m e.ls) e.c k ≡ (is_alone objects e.l.object && (old_id == k))
+  left_moved : TakesSpace e.m objects e.parts e.l.object e.place → (k : ℕ) → is_left_by_growth (opened e.kind e.m e.ls) c k ≡ (is_alone objects e.l.object && (old_id == k))
   left_moved takes k = ap (λ (q : Option Growth). option_map_or (λ (g : Growth). is_alone objects g.0 && (id_of g.0.entry.address == k)) q false) (moved_some takes)
 
-  pub left_alone : GrowsAlone e.m objects e.parts e.l.object e.place → (k : ℕ) → is_left_by_growth (opened e.kind e.m e.ls) e.c k ≡ (old_id == k)
+  pub left_alone : GrowsAlone e.m objects e.parts e.l.object e.place → (k : ℕ) → is_left_by_growth (opened e.kind e.m e.ls) c k ≡ (old_id == k)
   left_alone a k = left_moved a.space k ∙ ap (λ (b : Bool). b && (old_id == k)) a.alone
 
-  pub left_elsewhere : GrowsElsewhere e.m objects e.id e.parts e.l.object e.place → (k : ℕ) → is_left_by_growth (opened e.kind e.m e.ls) e.c k ≡ false
+  pub left_elsewhere : GrowsElsewhere e.m objects e.id e.parts e.l.object e.place → (k : ℕ) → is_left_by_growth (opened e.kind e.m e.ls) c k ≡ false
   left_elsewhere x k = left_moved x.space k ∙ ap (λ (b : Bool). b && (old_id == k)) x.not_alone
 
   -- ---- the directory before
@@ -192,7 +209,7 @@ module _ (e : Growing) where
   l_some = read_some _ _ e.image e.l.object.sectors e.l.content
       (subst (λ (f : NameForm). directory_of f (object_bytes e.image (Layout.New e.m) e.l.object) ≡ Ok e.l.content) e.is.form (says_before e.l l_in).0)
 
-  l_sector : (s : ℕ) × (is_among e.l.object.sectors s ≡ true)
+  pub l_sector : (s : ℕ) × (is_among e.l.object.sectors s ≡ true)
   l_sector = some_sector e.l.object.sectors (lt-ltb 0 (length e.l.object.sectors) l_some)
 
   pub l_owns : is_owner_of old_id e.l.object ≡ true
@@ -229,12 +246,13 @@ module _ (e : Growing) where
   alone_not_two alone = (few_owners alone).1
 
   pub alone_only : is_alone objects e.l.object ≡ true → (p : Object) → Contains e.stay p → is_owner_of old_id p ≡ true → ⊥
-  alone_only alone p at own = alone_passes (is_owner_of old_id) objects e.stay e.l.object p e.is.others (few_owners alone).0 l_owns at own
+  alone_only alone p at own =
+      alone_passes (is_owner_of old_id) objects (out ++ e.stay) e.l.object p e.is.others (few_owners alone).0 l_owns (Contains-append_right out e.stay p at) own
 
   -- ---- the directory's new place
 
   pub len_some : 0 < e.place.len
-  len_some = grown_some (gain_in (opened e.kind e.m e.ls) e.c) e.l.object e.place.len e.is.growth
+  len_some = grown_some (gain_in (opened e.kind e.m e.ls) c) e.l.object e.place.len e.is.growth
 
   pub parts_some : TakesSpace e.m objects e.parts e.l.object e.place → 0 < length e.place.parts
   parts_some takes = by e.place.parts (let enough = takes.plan.taken.enough in let some = units_some e.m e.place.len e.is.before.is_map len_some in let x : 0 < bits_in e.place.parts = omega (arith, enough, some) in x)
@@ -299,11 +317,11 @@ module _ (e : Growing) where
       owns grown s.0 s.1
 
   pub grown_owned : is_owned after its ≡ true
-  grown_owned = owned_by after its grown (next_in e.o grown (grown ∷ e.stay) (first_in grown e.stay)) grown_owns
+  grown_owned = owned_by after its grown (Contains-append_right come (grown ∷ e.stay) grown (first_in grown e.stay)) grown_owns
 
   -- ---- which runs stay
 
-  dir_unless : (k : ℕ) → is_used e.m k ≡ true → is_left_by_growth (opened e.kind e.m e.ls) e.c k ≡ false → 0 < length e.place.parts → k ≡ e.place.id → ⊥
+  dir_unless : (k : ℕ) → is_used e.m k ≡ true → is_left_by_growth (opened e.kind e.m e.ls) c k ≡ false → 0 < length e.place.parts → k ≡ e.place.id → ⊥
   dir_unless k used stays some is = elim e.is.lies [
     | inl there ↦ absurd (let none = ap (λ (ps : List ZoneRun). length ps) there.nothing in omega (arith, none, some))
     | inr moves ↦ (elim moves [
@@ -312,7 +330,7 @@ module _ (e : Growing) where
     ])
   ]
 
-  pub runs_same : (k : ℕ) → is_used e.m k ≡ true → is_given_back objects after k ≡ false → is_left_by_growth (opened e.kind e.m e.ls) e.c k ≡ false → id_runs e.m' k ≡ id_runs e.m k
+  pub runs_same : (k : ℕ) → is_used e.m k ≡ true → is_given_back objects after k ≡ false → is_left_by_growth (opened e.kind e.m e.ls) c k ≡ false → id_runs e.m' k ≡ id_runs e.m k
   runs_same k used kept stays =
       e.is.space.others k (λ some is. clash (is_used e.m k) used (subst (λ (j : ℕ). is_used e.m j ≡ false) (sym is) (e.fresh some))) (dir_unless k used stays)
       ∙ ap (λ (b : Bool). cond b [] (id_runs e.m k)) (e.is.gives.exactly k used ∙ ap₂ (λ (a b : Bool). a || b) kept stays)
@@ -326,7 +344,7 @@ module _ (e : Growing) where
       none_left false = refl
 
   -- an owner that stays, other than the directory, has an identifier that is not left
-  pub stay_left : (p : Object) → Contains e.stay p → (k : ℕ) → is_owner_of k p ≡ true → is_left_by_growth (opened e.kind e.m e.ls) e.c k ≡ false
+  pub stay_left : (p : Object) → Contains e.stay p → (k : ℕ) → is_owner_of k p ≡ true → is_left_by_growth (opened e.kind e.m e.ls) c k ≡ false
   stay_left p at k own = elim e.is.lies [
     | inl there ↦ left_there there k
     | inr moves ↦ (elim moves [
@@ -336,7 +354,7 @@ module _ (e : Growing) where
   ]
 
   pub stay_after : (p : Object) → Contains e.stay p → Contains after p
-  stay_after p at = next_in e.o p (grown ∷ e.stay) (next_in grown p e.stay at)
+  stay_after p at = Contains-append_right come (grown ∷ e.stay) p (next_in grown p e.stay at)
 
   pub stay_runs : (p : Object) → Contains e.stay p → (k : ℕ) → is_owner_of k p ≡ true → id_runs e.m' k ≡ id_runs e.m k
   stay_runs p at k own =

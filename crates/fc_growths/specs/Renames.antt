@@ -1,11 +1,12 @@
--- What the calls of `rename` leave on a disc with a new map if the directory that gets the name grows. No function has the laws yet.
-use Rattle.std.specs.Prelude.{◌≡◌, ◌<◌, ◌*◌, ◌||◌, ◌&&◌, ℕ, not, true, false, List, [], ◌∷◌, ◌++◌, length, map, insert, remove, slice_get, if◌then◌else◌, Some, Contains, IsPermutation}
+-- What the calls of `rename` leave on a disc with a new map if the directory that gets the name grows, and the laws from that to what it
+-- promises.
+use Rattle.std.specs.Prelude.{◌≡◌, ◌*◌, ◌||◌, ◌&&◌, ℕ, not, true, false, List, [], ◌∷◌, ◌++◌, length, map, insert, remove, slice_get, if◌then◌else◌, Some, Contains, IsPermutation}
 use Rattle.std.specs.List.{flat_map}
 use Rattle.fc_names.specs.Names.{Path, folded_path, is_same_path}
 use Rattle.fc_names.specs.declared.name.NameForm.TheVariants as forms
 use Rattle.fc_record.specs.declared.DiscRecord.{DiscRecord}
 use Rattle.fc_record.specs.declared.Kind.{Kind}
-use Rattle.fc_newmap.specs.Map.{Map, ZoneRun, bits_in, is_used}
+use Rattle.fc_newmap.specs.Map.{Map, ZoneRun, bits_in}
 use Rattle.fc_model.specs.Tree.{holder, is_prefix, last_name}
 use Rattle.fc_model.specs.Command.{Command}
 use Rattle.fc_dirs.specs.Entries.{entry_place, has_name, with_entry, without_entry}

@@ -84,7 +84,7 @@ module _ (nodes : Nodes) (layout : Layout) (listings out rest : List Listing) (l
           no_element p (subst (λ (os : List Object). Contains os p) (ap (λ (x : Listing). x.children) one ∙ g.2) kid)
       by (d ∷ e ∷ ds) g ins = g
 
-  nothing_below : (m : ℕ) (d : Entry) → held_as nodes m ≡ Some (number, d) → (m ≡ 0 → ⊥) → ⊥
+  pub nothing_below : (m : ℕ) (d : Entry) → held_as nodes m ≡ Some (number, d) → (m ≡ 0 → ⊥) → ⊥
   nothing_below m d is lower_m =
       let k = holds layout listings nodes h.sound h.held m number d is lower_m in
       empty_there k.dir k.listed k.above k.o k.kid
@@ -129,7 +129,7 @@ module _ (nodes : Nodes) (layout : Layout) (listings out rest : List Listing) (l
       (record { others = held_off; own = λ a e is m d is_m lower_m other same. own_gone a e is })
 
   -- paths to other numbers lead as they did
-  leads : (path : Path) (n : ℕ) → number_of nodes path ≡ Some n → (n ≡ number → ⊥) → number_of after path ≡ Some n
+  pub leads : (path : Path) (n : ℕ) → number_of nodes path ≡ Some n → (n ≡ number → ⊥) → number_of after path ≡ Some n
   leads path n is other =
       way_kept nodes after (λ p. number_of nodes p ≡ Some number → ⊥) apart_now
       (λ front last d m s fine at.

@@ -102,10 +102,10 @@ module _ (w v : Volume) (same : w ≡ v) (space : FreeSpace) (layout : layout_of
 -- ---- after the writing
 
 -- the map afterwards has sectors and a form as before
-same_size : (space : FreeSpace) (space' : FreeSpace) → space' ≡ holding space space'.holes → sector_bytes (Layout.Old space') ≡ sector_bytes (Layout.Old space)
+pub same_size : (space : FreeSpace) (space' : FreeSpace) → space' ≡ holding space space'.holes → sector_bytes (Layout.Old space') ≡ sector_bytes (Layout.Old space)
 same_size space space' is = ap (λ (s : FreeSpace). sector_bytes (Layout.Old s)) is
 
-same_disc : (space : FreeSpace) (space' : FreeSpace) → space' ≡ holding space space'.holes → disc_sectors (Layout.Old space') ≡ disc_sectors (Layout.Old space)
+pub same_disc : (space : FreeSpace) (space' : FreeSpace) → space' ≡ holding space space'.holes → disc_sectors (Layout.Old space') ≡ disc_sectors (Layout.Old space)
 same_disc space space' is = ap (λ (s : FreeSpace). disc_sectors (Layout.Old s)) is
 
 pub same_form : (l l' : Layout) (space space' : FreeSpace) → l ≡ Layout.Old space → l' ≡ Layout.Old space' → space' ≡ holding space space'.holes → dir_form l' ≡ dir_form l

@@ -29,7 +29,7 @@ first_some [] o r e = absurd (cc)
 first_some (None ∷ xs) o r e = first_some xs o r e
 first_some (Some x ∷ xs) o r e = e
 
-first_last : (xs : List (Option Refusal)) (o : Option Refusal) → first_of xs ≡ None → first_of (xs ++ o ∷ []) ≡ o
+pub first_last : (xs : List (Option Refusal)) (o : Option Refusal) → first_of xs ≡ None → first_of (xs ++ o ∷ []) ≡ o
 first_last [] None e = refl
 first_last [] (Some r) e = refl
 first_last (None ∷ xs) o e = first_last xs o e
@@ -54,14 +54,14 @@ below_zero n = grind (arith, nat_tests)
 abbrev full_at : ℕ → Option Refusal
 full_at count = first_of (when (nat_lt hole_limit count) refusals.MapFull ∷ [])
 
-few_enough : (count : ℕ) → count ≤ hole_limit → full_at count ≡ None
+pub few_enough : (count : ℕ) → count ≤ hole_limit → full_at count ≡ None
 few_enough count few = let test : nat_lt 82 count ≡ false = grind (arith, nat_tests, few) in ap (λ (b : Bool). first_of (when b refusals.MapFull ∷ [])) test
 
 too_many : (count : ℕ) → hole_limit < count → full_at count ≡ Some refusals.MapFull
 too_many count many = ap (λ (b : Bool). first_of (when b refusals.MapFull ∷ [])) (lt-ltb 82 count many)
 
 -- A command that needs no new space is refused for too many holes alone.
-no_space : (space : FreeSpace) (v : Opened) (c : Command) → new_length v c ≡ 0 → IsOldMap space
+pub no_space : (space : FreeSpace) (v : Opened) (c : Command) → new_length v c ≡ 0 → IsOldMap space
     → first_of (space_reasons (Layout.Old space) v c) ≡ full_at (length (with_space_of space (replaced_object v c) space.holes))
 no_space space v c none is =
     ap by (ap (old_need space) none ∙ none_needed space is.units)
@@ -96,7 +96,7 @@ some_times n u (inl one) = let l : nat_lt 0 n ≡ nat_lt 0 (n * 1) = grind (arit
 some_times n u (inr four) = let l : nat_lt 0 n ≡ nat_lt 0 (n * 4) = grind (arith, nat_tests) in subst (λ (k : ℕ). nat_lt 0 n ≡ nat_lt 0 (n * k)) (sym four) l
 
 module _ (spaces : SpaceLaw) (space : FreeSpace) (o : Object) (is : IsOldMap space) (at : IsAt (Layout.Old space) o) where
-  has_units : has_sectors o ≡ nat_lt 0 (units_of space o.entry)
+  pub has_units : has_sectors o ≡ nat_lt 0 (units_of space o.entry)
   has_units = some_times (length o.sectors) space.sector_units is.units ∙ ap (nat_lt 0) (spaces.size space o at)
 
   pub space_is : space_of space o ≡ space_at space o.entry

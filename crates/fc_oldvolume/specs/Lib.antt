@@ -4,3 +4,15 @@ pub mod Spaces
 pub mod Writing
 pub mod Setting
 pub mod Deleting
+pub mod Taking
+pub mod Adding
+pub mod Making
+pub mod MakingLaws
+pub mod Relocating
+pub mod Renaming
+pub mod RenameLaws
+pub mod Filing
+pub mod FilingLaws
+pub mod Replacing
+pub mod Saving
+pub mod Compacting

@@ -35,8 +35,8 @@ pub struct Removal {
     pub map: Option<OldMap>,
 }
 
-// Writes a map, if there is one.
-fn write_some<D: Disk>(disk: &mut D, map: &Option<OldMap>) -> Result<(), DiskFault>
+/// Writes a map, if there is one.
+pub fn write_some<D: Disk>(disk: &mut D, map: &Option<OldMap>) -> Result<(), DiskFault>
     requires attached { IsTrue (D.attached disk.old) }
     requires settled { IsFalse (D.pending disk.old) }
     requires map { (space : FreeSpace) → map.now ≡ Some space → (D.sector_size disk.old ≡ 256 * space.sector_units) × (2 ≤ D.sectors disk.old) }
@@ -86,8 +86,8 @@ fn take_over(tree: &mut Tree, directory: Rewrite, n: u64)
     let _ = tree.take_out(n);
 }
 
-// The map becomes another one, if there is one.
-fn hold_map(places: &mut Places, map: Option<OldMap>)
+/// The map becomes another one, if there is one.
+pub fn hold_map(places: &mut Places, map: Option<OldMap>)
     ensures { (space : FreeSpace) → layout_of places.old ≡ Layout.Old space → layout_of places.new ≡ Layout.Old (map_after space map) }
 {
     let Some(map) = map else {

@@ -7,7 +7,8 @@ ghost use Rattle.fc_oldagree.specs.Spaces.{CanGive};
 ghost use Rattle.fc_oldmap.specs.OldMap.{FreeSpace};
 ghost use Rattle.fc_space.specs.Space.{layout_of};
 ghost use Rattle.fc_oldvolume.specs.Changing.{IsOldLayout};
-ghost use Rattle.fc_oldvolume.specs.Spaces.{GivesBack, LieBehind, space_at, units_of};
+ghost use Rattle.fc_oldvolume.specs.Deleting.{map_after};
+ghost use Rattle.fc_oldvolume.specs.Spaces.{GivesBack, IsEditOf, LieBehind, space_at, units_of};
 
 use fc_bytes::put_le24;
 use fc_dirs::Entry;
@@ -31,8 +32,8 @@ pub fn copy_of(map: &OldMap) -> OldMap
     }
 }
 
-// The units of whole sectors that so many bytes take.
-fn units_for(map: &OldMap, bytes: u64) -> u64
+/// The units of whole sectors that so many bytes take.
+pub fn units_for(map: &OldMap, bytes: u64) -> u64
     ensures { result ≡ old_need map.now bytes }
 {
     let units = u64::from(map.sector_units());
@@ -68,5 +69,23 @@ pub fn map_without(places: &Places, e: &Entry) -> Result<Option<OldMap>, MapFull
     match places.space() {
         Space::OldMapped(map) => with_space(map, e, bytes),
         Space::NewMapped(_) => unreachable!(),
+    }
+}
+
+/// The same once space was taken: this is the map without it, if any was.
+pub fn map_given(
+    places: &Places,
+    taken: &Option<OldMap>,
+    e: &Entry,
+) -> Result<Option<OldMap>, MapFull>
+    requires old_map { IsOldLayout (layout_of places.now) }
+    requires edit { (space : FreeSpace) → layout_of places.now ≡ Layout.Old space → IsEditOf space taken.now }
+    requires behind { (space : FreeSpace) → layout_of places.now ≡ Layout.Old space → LieBehind (map_after space taken.now) }
+    requires space { (space : FreeSpace) → layout_of places.now ≡ Layout.Old space → 0 < units_of space e.now → CanGive space (map_after space taken.now).holes (space_at space e.now) }
+    ensures { (space : FreeSpace) → layout_of places.now ≡ Layout.Old space → GivesBack (map_after space taken.now) e.now result }
+{
+    match taken {
+        Some(map) => with_space(map, e, object_bytes(places.space(), e)),
+        None => map_without(places, e),
     }
 }

@@ -4,7 +4,7 @@ ghost use Rattle.std.specs.Option.{ForSome};
 ghost use Rattle.fc_device.specs.Calls.{FailsByFault, SameForm, StopsAndExitsLeave};
 ghost use Rattle.fc_objects.specs.Bytes.{first_bytes};
 ghost use Rattle.fc_objects.specs.Extents.{sectors_in};
-ghost use Rattle.fc_objects.specs.Written.{AreApart, IsPartWritten};
+ghost use Rattle.fc_objects.specs.Written.{AreApart, HasParts, IsPartWritten};
 ghost use Rattle.fc_oldchanges.specs.Owed.{IsWritten};
 ghost use Rattle.fc_oldmap.specs.OldMap.{with_holes};
 ghost use Rattle.fc_oldvolume.specs.Writing.{ChangesFront, IsFrontWritten, IsMapWritten};
@@ -25,6 +25,7 @@ pub fn store<D: Disk>(
     requires size { D.sector_size disk.old ≡ size }
     requires on_disk { All (λ n. n < D.sectors disk.old) (sectors_in place.now) }
     ensures keeps { StopsAndExitsLeave D.Disk disk.old disk.new (IsPartWritten size (sectors_in place.now) bytes.now) }
+    ensures parts { OnOk result (AreApart (sectors_in place.now) → ForSome (D.bytes disk.new) (HasParts size (sectors_in place.now) bytes.now)) }
     ensures reads_back { OnOk result (AreApart (sectors_in place.now) → length bytes.now ≤ length (sectors_in place.now) * size
         → ForSome (D.bytes disk.new) (λ image. first_bytes size image (sectors_in place.now) (length bytes.now) ≡ bytes.now)) }
     ensures durable { OnOk result (IsFalse (D.pending disk.new)) }

@@ -50,7 +50,7 @@ any_many t (x ∷ xs) = by (t x) (any_many t xs)
     by false h = h ∙ ap (nat_lt 0) (let e : many t xs ≡ 0 + many t xs = omega arith in e)
 
 -- an object with its identifier shares it, if it is the map's or another has it
-shared_is : (m : Map) (objects stay : List Object) (o : Object) → IsPermutation objects (o ∷ stay) → has_sectors o ≡ true
+pub shared_is : (m : Map) (objects stay : List Object) (o : Object) → IsPermutation objects (o ∷ stay) → has_sectors o ≡ true
     → ((id_of o.entry.address == 2) || list_any (is_owner_of (id_of o.entry.address)) stay) ≡ nat_lt 1 (owner_count objects (id_of o.entry.address))
 unfolding many
 shared_is m objects stay o order some = by (id == 2) (list_any (is_owner_of id) stay) refl (any_many (is_owner_of id) stay)
@@ -90,7 +90,7 @@ holders_alike p q same =
     holder_folds p ∙ ap₂ (λ (n : ℕ) (x : Path). take (n - 1) x) long same ∙ sym (holder_folds q)
 
 -- directories are the same exactly if their numbers are
-dirs_same : (nodes : FinMap nat_cmp Node) (p q : Path) (a b : ℕ) → number_of nodes p ≡ Some a → number_of nodes q ≡ Some b → (a == b) ≡ is_same_path p q
+pub dirs_same : (nodes : FinMap nat_cmp Node) (p q : Path) (a b : ℕ) → number_of nodes p ≡ Some a → number_of nodes q ≡ Some b → (a == b) ≡ is_same_path p q
 dirs_same nodes p q a b at_p at_q = by (a == b) refl
   where
     by : (c : Bool) → (a == b) ≡ c → c ≡ is_same_path p q

@@ -217,7 +217,7 @@ ordered g id parts rising low =
 
 -- ---- how many sectors there are
 
-long_runs : (g : Geometry) (runs : List ZoneRun) → 0 < g.sector → (g.q * g.bit_bytes) % g.sector ≡ 0 → AllByRecursion (λ (p : ZoneRun). p.1.len % g.q ≡ 0) runs
+pub long_runs : (g : Geometry) (runs : List ZoneRun) → 0 < g.sector → (g.q * g.bit_bytes) % g.sector ≡ 0 → AllByRecursion (λ (p : ZoneRun). p.1.len % g.q ≡ 0) runs
     → length (sectors_of g runs) ≡ bits_in runs * g.bit_bytes / g.sector
 long_runs g [] some whole all = sym (ap (λ (n : ℕ). n / g.sector) (let e : 0 * g.bit_bytes ≡ 0 * g.sector + 0 = omega arith in e) ∙ div-mul-add 0 g.sector 0 some)
 long_runs g (p ∷ runs) some whole all =
@@ -227,7 +227,7 @@ long_runs g (p ∷ runs) some whole all =
     ∙ ap (λ (n : ℕ). n * g.bit_bytes / g.sector) (sym (sum_by-cons (λ (q : ZoneRun). q.1.len) p runs))
 
 -- some whole sectors with room for bytes are enough sectors
-enough_sectors : (g : Geometry) (bytes bits most : ℕ) → 0 < g.sector → (g.q * g.bit_bytes) % g.sector ≡ 0 → bits % g.q ≡ 0 → bytes ≤ bits * g.bit_bytes → bits ≤ most
+pub enough_sectors : (g : Geometry) (bytes bits most : ℕ) → 0 < g.sector → (g.q * g.bit_bytes) % g.sector ≡ 0 → bits % g.q ≡ 0 → bytes ≤ bits * g.bit_bytes → bits ≤ most
     → div_ceil bytes g.sector ≤ most * g.bit_bytes / g.sector
 enough_sectors g bytes bits most some whole even room fits =
     let k = bits / g.q * (g.q * g.bit_bytes / g.sector) in
@@ -242,7 +242,7 @@ enough_sectors g bytes bits most some whole even room fits =
     let grown : bits * g.bit_bytes ≤ most * g.bit_bytes = mul-le-mul_right {m = bits} {n = most} g.bit_bytes fits in
     le-div (div_ceil bytes g.sector) (most * g.bit_bytes) g.sector some (omega (arith, times, exact, grown))
 
-units_room : (g : Geometry) (bytes : ℕ) → 1 ≤ g.bit_bytes → 0 < bytes → bytes ≤ units g bytes * g.bit_bytes
+pub units_room : (g : Geometry) (bytes : ℕ) → 1 ≤ g.bit_bytes → 0 < bytes → bytes ≤ units g bytes * g.bit_bytes
 units_room g bytes some more =
     let ceil = (div_ceil_times bytes g.bit_bytes some).0 in
     let at_least : div_ceil bytes g.bit_bytes ≤ max g.min (next_multiple_of (div_ceil bytes g.bit_bytes) g.q) = omega arith in

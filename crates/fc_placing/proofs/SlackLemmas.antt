@@ -47,7 +47,7 @@ all_any p (x ∷ xs) = ap (λ (b : Bool). p x && b) (all_any p xs) ∙ by (p x) 
     by true b = refl
     by false b = refl
 
-list_all-IsPermutation : {X : Type 0} (p : X → Bool) (xs ys : List X) → IsPermutation xs ys → list_all p xs ≡ list_all p ys
+pub list_all-IsPermutation : {X : Type 0} (p : X → Bool) (xs ys : List X) → IsPermutation xs ys → list_all p xs ≡ list_all p ys
 list_all-IsPermutation p xs ys order = all_any p xs ∙ ap not (list_any-IsPermutation (λ x. not (p x)) xs ys order) ∙ sym (all_any p ys)
 
 -- ---- the order of the owners

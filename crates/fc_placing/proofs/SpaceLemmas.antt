@@ -114,7 +114,7 @@ holes_same : (m m' : Map) → KeepsRuns m m' → hole_runs m' ≡ hole_runs m
 holes_same m m' kept =
     ap (filter (λ (p : ZoneRun). is_hole p.1.kind)) (ap (λ (g : Geometry). runs_in m' (zone_numbers g)) kept.geometry ∙ all_same m m' kept (zone_numbers m.geometry))
 
-ids_same : (m m' : Map) → KeepsRuns m m' → (id : ℕ) → id_runs m' id ≡ id_runs m id
+pub ids_same : (m m' : Map) → KeepsRuns m m' → (id : ℕ) → id_runs m' id ≡ id_runs m id
 ids_same m m' kept id =
     ap (filter (λ (p : ZoneRun). has_id id p.1.kind)) (ap (λ (g : Geometry). runs_in m' (search_order g id)) kept.geometry ∙ all_same m m' kept (search_order m.geometry id))
 

@@ -74,8 +74,9 @@ fn push_part(
     push(place, extent_of(g, part.zone, run), need)
 }
 
-// Adds the sectors of all parts that are met before the search turns, or afterwards.
-fn push_met(
+/// Adds the sectors of all parts that are met before the search for the plan's identifier turns, or afterwards, `need` of
+/// them at most, and answers how many are still missing.
+pub fn push_met(
     place: &mut Vec<Extent>,
     g: &Geometry,
     plan: &Plan,

@@ -2,3 +2,4 @@ pub mod ReadLemmas
 pub mod TreeLemmas
 pub mod RepliesLemmas
 mod HostRepliesLemmas
+mod HeadlineLemmas

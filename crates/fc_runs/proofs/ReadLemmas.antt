@@ -11,7 +11,8 @@ use Rattle.fc_runs.specs.Replies.{reply_to}
 use Rattle.fc_runs.specs.Run.{Mode, Effect, Serves, Answers, Takes, reply_of, shortage}
 use Rattle.fc_runs.specs.ReadLaw.{ReadLaw, is_reading, served_reply, answered_reply}
 
-same_state : (mode : Mode) (s s' : State) (c : Command) (t : Tree) → is_reading c ≡ true → Effect mode s c t s' → s' ≡ s
+-- A command that reads leaves everything.
+pub same_state : (mode : Mode) (s s' : State) (c : Command) (t : Tree) → is_reading c ≡ true → Effect mode s c t s' → s' ≡ s
 same_state mode s s' (Command.Cat path) t h e = e
 same_state mode s s' (Command.Load path) t h e = e
 same_state mode s s' (Command.Digest path) t h e = e

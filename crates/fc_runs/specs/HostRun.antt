@@ -15,7 +15,7 @@ use Rattle.fc_safe.specs.SafeEffect.{HasTree, HasTreeBeforeOrAfter}
 use Rattle.fc_script.specs.HostLines.{HostLine, host_line_of}
 use Rattle.fc_script.specs.Texts.{refusal_line, ok_line}
 use Rattle.fc_runs.specs.Replies.{bytes_of}
-use Rattle.fc_runs.specs.Run.{Mode, Refuses, Takes, commands_in, script_for, text_for, is_error, keeps_tree, tree_after, line_begun}
+use Rattle.fc_runs.specs.Run.{Mode, Refuses, Takes, commands_in, script_for, text_for, each_line, keeps_tree, tree_after, line_begun}
 
 -- the files of the host by their names
 abbrev pub Files : Type 0
@@ -105,9 +105,7 @@ host_keeps_tree refused (Err refusal) = true
 
 -- Every line that is not refused leaves the tree, and so does the one that broke off without a reply.
 abbrev pub all_host_keep_tree : List (List ℕ) → List (List ℕ) → Bool
-all_host_keep_tree (line ∷ lines) (reply ∷ replies) = host_keeps_tree (is_error reply) (host_line_of line) && all_host_keep_tree lines replies
-all_host_keep_tree (line ∷ lines) [] = host_keeps_tree false (host_line_of line)
-all_host_keep_tree [] replies = true
+all_host_keep_tree lines replies = each_line (λ refused line. host_keeps_tree refused (host_line_of line)) lines replies
 
 -- the tree after `put`, by the file
 abbrev pub tree_after_put : Mode → State → (List ℕ → Command) → Option (List ℕ) → Tree

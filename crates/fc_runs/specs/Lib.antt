@@ -9,3 +9,4 @@ pub mod TreeLaw
 pub mod RepliesLaw
 pub mod Stops
 pub mod Promises
+pub mod Headline

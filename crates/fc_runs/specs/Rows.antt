@@ -4,12 +4,12 @@ use Rattle.fc_dirs.specs.declared.DirFault.TheVariants as dirs
 use Rattle.fc_image.specs.declared.ImageFault.TheVariants as faults
 use Rattle.fc_runs.specs.Replies.{bad_image_line}
 use Rattle.fc_runs.specs.Demo.{next_seed, draw, demo_script}
-use Rattle.fc_names.specs.declared.refusal.Refusal.TheVariants.{NotNewMap, DiscFull}
+use Rattle.fc_names.specs.declared.refusal.Refusal.TheVariants.{NotNewMap, DiscFull, ReadOnly}
 use Rattle.fc_script.specs.Texts.{refusal_line}
 use Rattle.fc_runs.specs.Run.{is_error, whole_replies, all_keep_tree}
 use Rattle.fc_runs.specs.HostRun.{all_host_keep_tree}
 use Rattle.fc_runs.specs.Early.{text_begun}
-use Rattle.fc_runs.specs.Stops.{next_keeps_tree, next_host_keeps_tree, replies_written}
+use Rattle.fc_runs.specs.Stops.{all_leave_image, all_host_leave_image, next_leaves_image, next_keeps_tree, next_host_keeps_tree, replies_written}
 use Rattle.fc_runs.specs.Promises.{Cause, IsUnmade, spares_disk}
 
 -- demos, replies and runs
@@ -32,6 +32,9 @@ pub record RunRows : Type 0 where
   pub was_refused : all_keep_tree (codes "save $.A 00000000 00000000 41" ∷ []) (refusal_line DiscFull ∷ []) ≡ true
   pub reading_broke_off : all_keep_tree (codes "load $.A" ∷ codes "save $.A 00000000 00000000 41" ∷ []) [] ≡ true
   pub second_broke_off : all_keep_tree (codes "compact" ∷ codes "delete $.A" ∷ []) ((codes "ok" ++ 10 ∷ []) ∷ []) ≡ false
+  -- `compact` leaves the tree, but not the image, unless it is refused.
+  pub compacted : all_leave_image (codes "compact" ∷ []) ((codes "ok" ++ 10 ∷ []) ∷ []) ≡ false
+  pub not_compacted : all_leave_image (codes "compact" ∷ codes "free" ∷ []) (refusal_line ReadOnly ∷ []) ≡ true
   pub put_broke_off : all_host_keep_tree (codes "put a $.A 00000000 00000000" ∷ []) [] ≡ false
   pub get_broke_off : all_host_keep_tree (codes "get $.A a" ∷ []) [] ≡ true
   -- the text of a run that breaks off in its second line: what was written of a load's reply may follow, and a demo has none
@@ -42,6 +45,9 @@ pub record RunRows : Type 0 where
   pub not_the_first : all_keep_tree (codes "delete $.A" ∷ codes "compact" ∷ []) ((codes "ok" ++ 10 ∷ []) ∷ []) ≡ false
   pub compact_then_delete : next_keeps_tree (codes "compact" ∷ codes "delete $.A" ∷ []) ((codes "ok" ++ 10 ∷ []) ∷ []) ≡ false
   pub then_get : next_host_keeps_tree (codes "delete $.A" ∷ codes "get $.B b" ∷ []) ((codes "ok" ++ 10 ∷ []) ∷ []) ≡ true
+  pub then_load : next_leaves_image (codes "delete $.A" ∷ codes "load $.B" ∷ []) ((codes "ok" ++ 10 ∷ []) ∷ []) ≡ true
+  pub in_compact : next_leaves_image (codes "delete $.A" ∷ codes "compact" ∷ []) ((codes "ok" ++ 10 ∷ []) ∷ []) ≡ false
+  pub got : all_host_leave_image (codes "get $.A a" ∷ []) ((codes "ok" ++ 10 ∷ []) ∷ []) ≡ true
   pub then_put : next_host_keeps_tree (codes "put a $.A 00000000 00000000" ∷ []) [] ≡ false
   -- a reply that was cut off doesn't count, and a demo writes none
   pub cut_off : replies_written None (codes "ok" ++ 10 ∷ codes "o") ((codes "ok" ++ 10 ∷ []) ∷ (codes "ok" ++ 10 ∷ []) ∷ []) ≡ 1

@@ -157,12 +157,16 @@ abbrev pub keeps_tree_or : Bool → Result Command Refusal → Bool
 keeps_tree_or refused (Err refusal) = true
 keeps_tree_or refused (Ok c) = refused || keeps_tree c
 
--- Every line that isn't refused leaves the tree: then every stop of the run has the tree from before, by `KeepsTree`. The
--- line that broke off without a reply wasn't refused; those behind it were not begun.
+-- Each line with a reply passes a test, which is told whether it was refused, and so does the line that broke off without a reply,
+-- which wasn't refused. Those behind it were not begun.
+abbrev pub each_line : (Bool → List ℕ → Bool) → List (List ℕ) → List (List ℕ) → Bool
+each_line test (line ∷ lines) (reply ∷ replies) = test (is_error reply) line && each_line test lines replies
+each_line test (line ∷ lines) [] = test false line
+each_line test [] replies = true
+
+-- Every line that isn't refused leaves the tree: then every stop of the run has the tree from before, by `KeepsTree`.
 abbrev pub all_keep_tree : List (List ℕ) → List (List ℕ) → Bool
-all_keep_tree (line ∷ lines) (reply ∷ replies) = keeps_tree_or (is_error reply) (command_of line) && all_keep_tree lines replies
-all_keep_tree (line ∷ lines) [] = keeps_tree_or false (command_of line)
-all_keep_tree [] replies = true
+all_keep_tree lines replies = each_line (λ refused line. keeps_tree_or refused (command_of line)) lines replies
 
 -- the replies of which the sink took all, where it took so many bytes
 abbrev pub whole_replies : ℕ → List (List ℕ) → ℕ

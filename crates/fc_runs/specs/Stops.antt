@@ -1,17 +1,44 @@
 -- What a crash during a whole run, or at its end, leaves of the image.
-use Rattle.std.specs.Prelude.{◌≡◌, ℕ, Bool, true, false, List, length, slice_get, Option, Some, None}
+use Rattle.std.specs.Prelude.{◌≡◌, ℕ, Bool, true, false, ◌||◌, List, length, slice_get, Option, Some, None, Result, Ok, Err}
 use Rattle.fc_device.specs.declared.disk.Disk.{Ghosts}
+use Rattle.fc_names.specs.declared.refusal.Refusal.{Refusal}
+use Rattle.fc_model.specs.Command.{Command}
 use Rattle.fc_image.specs.Stays.{KeepsTree, IsNewLayout}
 use Rattle.fc_effects.specs.Effect.{State, tree_in}
 use Rattle.fc_safe.specs.SafeEffect.{HasTree}
 use Rattle.fc_script.specs.Lines.{command_of}
-use Rattle.fc_script.specs.HostLines.{host_line_of}
-use Rattle.fc_runs.specs.Run.{Mode, whole_replies, all_keep_tree, keeps_tree_or, HasTreeAfter}
+use Rattle.fc_script.specs.HostLines.{HostLine, host_line_of}
+use Rattle.fc_runs.specs.ReadLaw.{is_reading}
+use Rattle.fc_runs.specs.Run.{Mode, whole_replies, each_line, all_keep_tree, keeps_tree_or, HasTreeAfter}
 use Rattle.fc_runs.specs.HostRun.{Files, all_host_keep_tree, host_keeps_tree, HostHasTreeAfter}
 
 -- A crash during the call could have left the image. If the disk tells nothing of crashes, any image passes.
 abbrev pub MayHaveLeft : {D : Type 0} → Ghosts D → D → D → List ℕ → Type 0
 MayHaveLeft d old new image = d.tells_stops old ≡ true → d.left_since new (d.moment old) image
+
+-- ---- lines that leave the image
+
+-- A line leaves the image as it is: it is refused, or its command reads.
+abbrev pub leaves_image_or : Bool → Result Command Refusal → Bool
+leaves_image_or refused (Err refusal) = true
+leaves_image_or refused (Ok c) = refused || is_reading c
+
+-- Each line does.
+abbrev pub all_leave_image : List (List ℕ) → List (List ℕ) → Bool
+all_leave_image lines replies = each_line (λ refused line. leaves_image_or refused (command_of line)) lines replies
+
+-- A line that may move a file of the host leaves the image: it is refused, or copies a file to the host, or its command reads.
+abbrev pub host_leaves_image : Bool → Result HostLine Refusal → Bool
+host_leaves_image refused (Ok (HostLine.Get path host)) = true
+host_leaves_image refused (Ok (HostLine.Put host path load exec)) = refused
+host_leaves_image refused (Ok (HostLine.Other command)) = refused || is_reading command
+host_leaves_image refused (Err refusal) = true
+
+-- Each line does.
+abbrev pub all_host_leave_image : List (List ℕ) → List (List ℕ) → Bool
+all_host_leave_image lines replies = each_line (λ refused line. host_leaves_image refused (host_line_of line)) lines replies
+
+-- ---- the line in which a run broke off
 
 -- The next line keeps the tree, if there is one.
 abbrev pub is_kept_by_next : (List ℕ → Bool) → Option (List ℕ) → Bool
@@ -25,6 +52,16 @@ next_keeps_tree lines replies = is_kept_by_next (λ line. keeps_tree_or false (c
 -- the same of a line that may move a file of the host
 abbrev pub next_host_keeps_tree : List (List ℕ) → List (List ℕ) → Bool
 next_host_keeps_tree lines replies = is_kept_by_next (λ line. host_keeps_tree false (host_line_of line)) (slice_get lines (length replies))
+
+-- The line after those with a reply leaves the image as it is,
+abbrev pub next_leaves_image : List (List ℕ) → List (List ℕ) → Bool
+next_leaves_image lines replies = is_kept_by_next (λ line. leaves_image_or false (command_of line)) (slice_get lines (length replies))
+
+-- also if it may move a file of the host.
+abbrev pub next_host_leaves_image : List (List ℕ) → List (List ℕ) → Bool
+next_host_leaves_image lines replies = is_kept_by_next (λ line. host_leaves_image false (host_line_of line)) (slice_get lines (length replies))
+
+-- ---- what crashes leave
 
 -- the number of replies that were written whole; a demo writes none
 abbrev pub replies_written : Option ℕ → List ℕ → List (List ℕ) → ℕ
@@ -42,6 +79,11 @@ pub record Stops {D : Type 0} (d : Ghosts D) (old new : D) (mode : Mode) (fresh 
   -- this speaks of the lines that are given here.
   pub last : IsNewLayout s.view.layout → next_keeps_tree lines replies ≡ true
       → (image : List ℕ) → d.left_since new (d.moment new) image → HasTree mode.kind (tree_in end) image
+  -- If each line reads or is refused, over any map, a crash at any moment of the run leaves the image as it was.
+  pub still : fresh ≡ false → demo ≡ None → all_leave_image lines replies ≡ true
+      → (image : List ℕ) → d.left_since new (d.moment old) image → image ≡ s.image
+  -- If the line in which the run broke off reads, a crash now leaves the image after the lines that were done.
+  pub rest : next_leaves_image lines replies ≡ true → (image : List ℕ) → d.left_since new (d.moment new) image → image ≡ end.image
   -- In the safe mode a crash at any moment leaves the tree after some of the lines, and a crash now the tree after at least those
   -- whose replies were written whole.
   pub during : mode.safe ≡ true → fresh ≡ false → (image : List ℕ) → d.left_since new (d.moment old) image
@@ -55,6 +97,9 @@ pub record HostStops {D : Type 0} (d : Ghosts D) (old new : D) (mode : Mode) (fr
       → (image : List ℕ) → d.left_since new (d.moment old) image → KeepsTree mode.kind s.image s.view image
   pub last : IsNewLayout s.view.layout → next_host_keeps_tree lines replies ≡ true
       → (image : List ℕ) → d.left_since new (d.moment new) image → HasTree mode.kind (tree_in end) image
+  pub still : fresh ≡ false → demo ≡ None → all_host_leave_image lines replies ≡ true
+      → (image : List ℕ) → d.left_since new (d.moment old) image → image ≡ s.image
+  pub rest : next_host_leaves_image lines replies ≡ true → (image : List ℕ) → d.left_since new (d.moment new) image → image ≡ end.image
   pub during : mode.safe ≡ true → fresh ≡ false → (image : List ℕ) → d.left_since new (d.moment old) image
       → HostHasTreeAfter (λ between. Unit {0}) mode s files lines replies 0 image
   pub exit : mode.safe ≡ true → (image : List ℕ) → d.left_since new (d.moment new) image

@@ -2,6 +2,7 @@
 //! of the host; the script of a demo; and what a stop or an early end leaves.
 #![tactic(auto)]
 
+ghost use Rattle.fc_runs.specs.Headline.{HeadlineLaw};
 ghost use Rattle.fc_runs.specs.ReadLaw.{ReadLaw};
 ghost use Rattle.fc_runs.specs.Rows.{RunRows};
 ghost use Rattle.fc_runs.specs.TreeLaw.{TreeLaw};
@@ -25,4 +26,9 @@ pub fn trees()
 /// Lines with the same replies end with the same tree on a new map.
 pub fn replies()
     ensures { RepliesLaw }
+{}
+
+/// The replies to lines, and the tree that the image then holds, are those of a map from paths to attributes and bytes.
+pub fn headline()
+    ensures { HeadlineLaw }
 {}

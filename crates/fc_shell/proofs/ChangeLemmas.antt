@@ -1,5 +1,5 @@
 -- Commands that change the tree, as lines of a script.
-use Rattle.std.proofs.Common.{◌≡◌, ◌⊎◌, ◌≤◌, ℕ, zero, suc, Bool, true, false, ◌||◌, List, [], ◌∷◌, ◌++◌, Option, Some, None, Result, Ok, Err, IfOk, IfErr, inl, inr, refl, sym, ap, ap₂, subst, ◌∙◌, arith}
+use Rattle.std.proofs.Common.{◌≡◌, ◌⊎◌, ◌≤◌, ℕ, zero, suc, Bool, true, false, ◌||◌, List, [], ◌∷◌, ◌++◌, Option, Some, None, Result, Ok, Err, IfOk, IfErr, inl, inr, ⊎_elim, refl, sym, ap, ap₂, subst, ◌∙◌, arith}
 use Rattle.std.specs.Prelude.{if◌then◌else◌, slice_get}
 use Rattle.std.specs.Option.{option_map}
 use Rattle.fc_device.specs.declared.disk.Disk.{Ghosts}
@@ -24,8 +24,9 @@ use Rattle.fc_effects.specs.Short.{short}
 use Rattle.fc_script.specs.Lines.{command_of}
 use Rattle.fc_script.specs.Texts.{ok_line, refusal_line}
 use Rattle.fc_runs.specs.Early.{reply_begun}
-use Rattle.fc_runs.specs.ReadLaw.{reading_reply}
+use Rattle.fc_runs.specs.ReadLaw.{is_reading, reading_reply}
 use Rattle.fc_runs.specs.Run.{Answers, Effect, Serves, Step, Takes, is_error, keeps_tree, keeps_tree_or, layout_reason, shortage}
+use Rattle.fc_runs.specs.Stops.{leaves_image_or}
 use Rattle.fc_runs.proofs.RepliesLemmas.{changing_reply}
 use Rattle.fc_tree.specs.Agree.{Agree, reader_of_nodes}
 use Rattle.fc_tree.specs.Nodes.{nodes_of}
@@ -38,14 +39,14 @@ use Rattle.fc_volume.specs.Compacting.{UnlessFault}
 use Rattle.fc_volume.specs.Volume.{StandsFor, Volume, parts_of}
 use Rattle.fc_shell.specs.declared.answer.LineFault.{LineFault}
 use Rattle.fc_shell.specs.Answered.{Answered, IsCaused}
-use Rattle.fc_shell.specs.Built.{is_reading_line, lacks}
-use Rattle.fc_shell.specs.Changing.{IsAsked, Tells}
+use Rattle.fc_shell.specs.Built.{is_reading_line}
+use Rattle.fc_shell.specs.Changing.{IsAsked, KeepsVolume, Tells}
 use Rattle.fc_shell.specs.Line.{IsDone, IsReady, KeepsGoing, LineEnds}
 use Rattle.fc_shell.specs.Modes.{plain_mode}
 use Rattle.fc_shell.specs.Writing.{Wrote, WrotePart}
 use Rattle.fc_shell.proofs.AnsweredLemmas.{caused_alone}
 use Rattle.fc_shell.proofs.ErrorLemmas.{ok_no_error}
-use Rattle.fc_shell.proofs.LackingLemmas.{change_new, lacks_as_before, not_reading}
+use Rattle.fc_shell.proofs.LackingLemmas.{lacks_as_before, not_reading}
 use Rattle.fc_shell.proofs.StepLemmas.{left_ends, one_fault, unbegun_ends}
 use Rattle.fc_shell.proofs.WritingLemmas.{wrote_nothing}
 
@@ -194,10 +195,12 @@ fault_ends d kind read_only s v line c old new before after changes is same =
     let begun : reply_begun (plain_mode kind read_only) s (command_of line) ≡ [] =
     ap (reply_begun (plain_mode kind read_only) s) is ∙ ap (λ (b : Bool). if b then reading_reply (plain_mode kind read_only) s c else []) (not_reading c changes) in
     let tree : keeps_tree_or false (command_of line) ≡ false = ap (keeps_tree_or false) is ∙ changes in
+    let image : leaves_image_or false (command_of line) ≡ false = ap (leaves_image_or false) is ∙ not_reading c changes in
     inr (record {
       part = subst (WrotePart before after) (sym begun) (0, subst (λ (a : Option (List ℕ)). Wrote before a []) (sym same) (wrote_nothing before));
       holds = λ never. absurd (never refl);
       kept = λ keep. absurd (let clash : false ≡ true = sym tree ∙ keep in cc);
+      still = λ leaves. absurd (let clash : false ≡ true = sym image ∙ leaves in cc);
     })
 
 module _ {D K : Type 0} {d : Ghosts D} (law : Laws d) (k : Sinks K) (kind : Kind) (s : State) (line : List ℕ) (c : Command) (was v : Volume) (old new : D) (before after : K)
@@ -226,12 +229,16 @@ module _ {D K : Type 0} {d : Ghosts D} (law : Laws d) (k : Sinks K) (kind : Kind
       tree : keeps_tree_or (is_error ok_line) (command_of line) ≡ false
       tree = ap (keeps_tree_or (is_error ok_line)) is ∙ ap (λ (b : Bool). b || keeps_tree c) (ok_no_error []) ∙ changes
 
+      image : leaves_image_or (is_error ok_line) (command_of line) ≡ false
+      image = ap (leaves_image_or (is_error ok_line)) is ∙ ap (λ (b : Bool). b || is_reading c) (ok_no_error []) ∙ not_reading c changes
+
       step : IsDone d old new kind was.read_only s line ok_line next
       step = record {
         step = done_step kind was.read_only s line c changes is next accepted does;
         holds = (asked.changed s.image told).1;
         opens = does.opens.opens;
         kept = λ keep. absurd (let clash : false ≡ true = sym tree ∙ keep in cc);
+        still = λ leaves. absurd (let clash : false ≡ true = sym image ∙ leaves in cc);
       }
 
       by : (result : Result Bool LineFault) → Answered ok_line (k.taken before) (k.taken after) result → (result ≡ Err LineFault.Disk → ⊥)
@@ -273,60 +280,18 @@ module _ {D K : Type 0} {d : Ghosts D} (law : Laws d) (k : Sinks K) (kind : Kind
 
 -- ---- what it keeps
 
--- Parts that agree are those of a view, whatever is known of the disk's bytes.
-agreed_view : (v : Volume) → (kind : Kind) × Agree kind (parts_of v) → (view : Opened) × AreSound view.layout view.listings × ArePartsOf (parts_of v) view
-agreed_view v agree =
-    let a = agree.1 in (
-      record { kind = agree.0; layout = (parts_of v).layout; listings = a.listings },
-      record {
-        read = reader_of_nodes (nodes_of v.tree);
-        reserved = reserved_in agree.0 (parts_of v).layout;
-        address = a.root.entry.address;
-        size = a.root.entry.len;
-        walked = a.walked.walked;
-        apart = λ l at. apart_names l.content (a.walked.bodies l at);
-      },
-      record { layout = refl; nodes = a.walked.held; owners = a.owned },
-    )
-
-module _ {D K : Type 0} {d : Ghosts D} (law : Laws d) (k : Sinks K) (line : List ℕ) (c : Command) (was v : Volume) (old new : D) (before after : K)
-    (changes : keeps_tree c ≡ false) (is : command_of line ≡ Ok c) (built_for : lacks (parts_of was).layout c ≡ false) (stands : StandsFor d was old) where
-  -- A volume that may not be changed isn't.
-  spared : (done : Result (Unit {0}) CommandError) → IsAsked d c was v old new done → was.read_only ≡ true → (v ≡ was) × (new ≡ old)
-  spared done asked read_only = by done asked.keeps.unchanged answered
-    where
-      there : (view : Opened) × AreSound view.layout view.listings × ArePartsOf (parts_of was) view
-      there = agreed_view was stands.agree
-
-      answered : AnswersBy (refusal_in there.0 [] was.read_only c) done
-      answered = asked.refused there.0 [] there.1 there.2
-
-      never : refusal_in there.0 [] was.read_only c ≡ None → ⊥
-      never none = locked (tree_of [] there.0.layout there.0.listings) (dir_form there.0.layout) c changes
-          (accepted_by (reasons (tree_of [] there.0.layout there.0.listings) (dir_form there.0.layout) true c) (short there.0 c) (subst (λ (b : Bool). refusal_in there.0 [] b c ≡ None) read_only none)).0
-
-      by : (x : Result (Unit {0}) CommandError) → IfErr x (λ error. (error ≡ DiskFault → ⊥) → (v ≡ was) × (new ≡ old)) → AnswersBy (refusal_in there.0 [] was.read_only c) x → (v ≡ was) × (new ≡ old)
-      by (Ok value) same answers = absurd (never (done_accepted (refusal_in there.0 [] was.read_only c) value answers))
-      by (Err (Refused r)) same answers = same (λ fault. absurd (cc))
-      by (Err NoMemory) same answers = same (λ fault. absurd (cc))
-      by (Err DiskFault) same answers = absurd (never (fault_accepted (refusal_in there.0 [] was.read_only c) answers))
-
-  reads_nothing : (done : Result (Unit {0}) CommandError) → IsAsked d c was v old new done → (was.read_only ≡ true) ⊎ (is_reading_line (command_of line) ≡ true) → OnlyReads d old new × (v ≡ was)
-  reads_nothing done asked (inl read_only) =
-      let same = spared done asked read_only in (subst (λ (x : D). OnlyReads d old x) (sym same.1) (reads_start law old), same.0)
-  reads_nothing done asked (inr reads) = absurd (let clash : true ≡ false = sym reads ∙ ap is_reading_line is ∙ not_reading c changes in cc)
-
+module _ {D K : Type 0} {d : Ghosts D} (law : Laws d) (k : Sinks K) (line : List ℕ) (was v : Volume) (old new : D) (before after : K) where
   -- Unless the disk failed, the volume takes the next line.
-  ready : (done : Result (Unit {0}) CommandError) → IsAsked d c was v old new done → UnlessFault done (IsReady d new was v)
-  ready done asked = by done asked.keeps.fit asked.keeps.stands asked.keeps.settled asked.form_stays
+  ready : (done : Result (Unit {0}) CommandError) → KeepsVolume d old new was v done → UnlessFault done (dir_form (parts_of v).layout ≡ dir_form (parts_of was).layout) → UnlessFault done (IsReady d new was v)
+  ready done keeps form_stays = by done keeps.fit keeps.stands keeps.settled form_stays
     where
       takes : v.fit ≡ true → StandsFor d v new → d.pending new ≡ false → dir_form (parts_of v).layout ≡ dir_form (parts_of was).layout → IsReady d new was v
       takes fit stands settled same = record {
         fit = fit;
         stands = stands;
         settled = settled;
-        read_only = asked.keeps.rights;
-        lacks_no_more = lacks_as_before (parts_of was).layout (parts_of v).layout (change_new (parts_of was).layout c changes built_for) asked.keeps.new_map same;
+        read_only = keeps.rights;
+        lacks_no_more = lacks_as_before (parts_of was).layout (parts_of v).layout keeps.alike same;
       }
 
       by : (x : Result (Unit {0}) CommandError) → UnlessFault x (v.fit ≡ true) → UnlessFault x (StandsFor d v new) → UnlessFault x (d.pending new ≡ false)
@@ -353,26 +318,73 @@ module _ {D K : Type 0} {d : Ghosts D} (law : Laws d) (k : Sinks K) (line : List
   same_faults : after ≡ before → k.faults before ≤ k.faults after
   same_faults same = let e = ap k.faults same in omega (arith, e)
 
-  caused : (done : Result (Unit {0}) CommandError) (result : Result Bool LineFault) → IsAsked d c was v old new done → Tells k before after done result → IsCaused d k old new before after result
-  caused (Ok value) result asked tells = caused_alone d k old new before after result tells.1
-  caused (Err (Refused r)) result asked tells = caused_alone d k old new before after result tells.1
-  caused (Err NoMemory) result asked tells = record {
+  caused : (done : Result (Unit {0}) CommandError) (result : Result Bool LineFault) → KeepsVolume d old new was v done → Tells k before after done result → IsCaused d k old new before after result
+  caused (Ok value) result keeps tells = caused_alone d k old new before after result tells.1
+  caused (Err (Refused r)) result keeps tells = caused_alone d k old new before after result tells.1
+  caused (Err NoMemory) result keeps tells = record {
     later = same_faults tells.1;
     disk = λ disk. absurd (let clash = one_fault result LineFault.NoMemory LineFault.Disk tells.0 disk in cc);
     out = λ out. absurd (let clash = one_fault result LineFault.NoMemory LineFault.Out tells.0 out in cc);
   }
-  caused (Err DiskFault) result asked tells = record {
+  caused (Err DiskFault) result keeps tells = record {
     later = same_faults tells.1;
-    disk = λ disk. asked.keeps.cause refl;
+    disk = λ disk. keeps.cause refl;
     out = λ out. absurd (let clash = one_fault result LineFault.Disk LineFault.Out tells.0 out in cc);
   }
 
+  -- It is so over a line that doesn't read, and that leaves everything if the volume may not be changed.
+  pub going : (done : Result (Unit {0}) CommandError) (result : Result Bool LineFault) → KeepsVolume d old new was v done
+      → UnlessFault done (dir_form (parts_of v).layout ≡ dir_form (parts_of was).layout) → (was.read_only ≡ true → (v ≡ was) × (new ≡ old)) → is_reading_line (command_of line) ≡ false
+      → Tells k before after done result → KeepsGoing d k old new before after was v line result
+  going done result keeps form_stays spared writes tells = record {
+    goes = record { form = keeps.form; stops = keeps.goes; faults = keeps.faults };
+    ready = ready_if done result (ready done keeps form_stays) tells;
+    settled = settled_if done result (ready done keeps form_stays) tells;
+    reads = ⊎_elim
+        (λ read_only. let same = spared read_only in (subst (λ (x : D). OnlyReads d old x) (sym same.1) (reads_start law old), same.0))
+        (λ reads. absurd (let clash : true ≡ false = sym reads ∙ writes in cc));
+    caused = caused done result keeps tells;
+  }
+
+-- Parts that agree are those of a view, whatever is known of the disk's bytes.
+agreed_view : (v : Volume) → (kind : Kind) × Agree kind (parts_of v) → (view : Opened) × AreSound view.layout view.listings × ArePartsOf (parts_of v) view
+agreed_view v agree =
+    let a = agree.1 in (
+      record { kind = agree.0; layout = (parts_of v).layout; listings = a.listings },
+      record {
+        read = reader_of_nodes (nodes_of v.tree);
+        reserved = reserved_in agree.0 (parts_of v).layout;
+        address = a.root.entry.address;
+        size = a.root.entry.len;
+        walked = a.walked.walked;
+        apart = λ l at. apart_names l.content (a.walked.bodies l at);
+      },
+      record { layout = refl; nodes = a.walked.held; owners = a.owned },
+    )
+
+module _ {D K : Type 0} {d : Ghosts D} (law : Laws d) (k : Sinks K) (line : List ℕ) (c : Command) (was v : Volume) (old new : D) (before after : K)
+    (changes : keeps_tree c ≡ false) (is : command_of line ≡ Ok c) (stands : StandsFor d was old) where
+  -- A volume that may not be changed isn't.
+  spared : (done : Result (Unit {0}) CommandError) → IsAsked d c was v old new done → was.read_only ≡ true → (v ≡ was) × (new ≡ old)
+  spared done asked read_only = by done asked.keeps.unchanged answered
+    where
+      there : (view : Opened) × AreSound view.layout view.listings × ArePartsOf (parts_of was) view
+      there = agreed_view was stands.agree
+
+      answered : AnswersBy (refusal_in there.0 [] was.read_only c) done
+      answered = asked.refused there.0 [] there.1 there.2
+
+      never : refusal_in there.0 [] was.read_only c ≡ None → ⊥
+      never none = locked (tree_of [] there.0.layout there.0.listings) (dir_form there.0.layout) c changes
+          (accepted_by (reasons (tree_of [] there.0.layout there.0.listings) (dir_form there.0.layout) true c) (short there.0 c) (subst (λ (b : Bool). refusal_in there.0 [] b c ≡ None) read_only none)).0
+
+      by : (x : Result (Unit {0}) CommandError) → IfErr x (λ error. (error ≡ DiskFault → ⊥) → (v ≡ was) × (new ≡ old)) → AnswersBy (refusal_in there.0 [] was.read_only c) x → (v ≡ was) × (new ≡ old)
+      by (Ok value) same answers = absurd (never (done_accepted (refusal_in there.0 [] was.read_only c) value answers))
+      by (Err (Refused r)) same answers = same (λ fault. absurd (cc))
+      by (Err NoMemory) same answers = same (λ fault. absurd (cc))
+      by (Err DiskFault) same answers = absurd (never (fault_accepted (refusal_in there.0 [] was.read_only c) answers))
+
   pub change_keeps : (done : Result (Unit {0}) CommandError) (result : Result Bool LineFault) → IsAsked d c was v old new done → Tells k before after done result
       → KeepsGoing d k old new before after was v line result
-  change_keeps done result asked tells = record {
-    goes = record { form = asked.keeps.form; stops = asked.keeps.goes; faults = asked.keeps.faults };
-    ready = ready_if done result (ready done asked) tells;
-    settled = settled_if done result (ready done asked) tells;
-    reads = reads_nothing done asked;
-    caused = caused done result asked tells;
-  }
+  change_keeps done result asked tells =
+      going law k line was v old new before after done result asked.keeps asked.form_stays (spared done asked) (ap is_reading_line is ∙ not_reading c changes) tells

@@ -1,8 +1,12 @@
 -- `compact` as a line of a script.
-use Rattle.std.proofs.Common.{◌≡◌, ◌⊎◌, ℕ, Bool, true, false, List, [], ◌∷◌, length, Option, Some, None, Result, Ok, Err, inl, inr, refl, sym, ap, ap₂, subst, ◌∙◌}
+use Rattle.std.proofs.Common.{◌≡◌, ◌⊎◌, ◌≤◌, ℕ, Bool, true, false, ◌||◌, List, [], ◌∷◌, length, Option, Some, None, Result, Ok, Err, inl, inr, refl, sym, ap, ap₂, subst, ◌∙◌}
+use Rattle.std.specs.Prelude.{IfErr}
 use Rattle.std.specs.Option.{option_map}
 use Rattle.fc_device.specs.declared.disk.Disk.{Ghosts}
-use Rattle.fc_device.specs.Calls.{StopsAndExitsLeave}
+use Rattle.fc_device.specs.declared.streams.Sink.{Ghosts as Sinks}
+use Rattle.fc_device.specs.Calls.{OnlyReads}
+use Rattle.fc_device.proofs.DiskLaws.{Laws}
+use Rattle.fc_device.proofs.StopLemmas.{reads_start}
 use Rattle.fc_names.specs.declared.name.NameForm.{NameForm}
 use Rattle.fc_names.specs.declared.refusal.Refusal.{Refusal}
 use Rattle.fc_names.specs.declared.refusal.Refusal.TheVariants as refusals
@@ -10,32 +14,41 @@ use Rattle.fc_record.specs.declared.DiscRecord.{DiscRecord}
 use Rattle.fc_record.specs.declared.Kind.{Kind}
 use Rattle.fc_record.specs.declared.Kind.TheVariants.{Boot, OneZone, DiscD, DiscL}
 use Rattle.fc_oldmap.specs.OldMap.{FreeSpace, free_space, hole_fault}
+use Rattle.fc_oldmap.specs.Holes.{hole_limit}
 use Rattle.fc_newmap.specs.Map.{Map, bits_in, hole_runs}
 use Rattle.fc_model.specs.Tree.{Tree}
 use Rattle.fc_model.specs.Command.{Command}
 use Rattle.fc_model.specs.Answer.{answer, first_of}
 use Rattle.fc_image.specs.declared.ImageFault.{ImageFault}
 use Rattle.fc_image.specs.Layout.{Layout, dir_form}
-use Rattle.fc_image.specs.Moves.{KeepsObjects, with_map}
+use Rattle.fc_image.specs.Moves.{with_map}
 use Rattle.fc_image.specs.Opening.{MapAndRoot, Opened, holes_or}
-use Rattle.fc_image.specs.Stays.{IsNewKind, IsNewLayout, OpensAs}
+use Rattle.fc_image.specs.Stays.{IsNewKind, OpensAs}
 use Rattle.fc_image.proofs.FreeLemmas.{parts_of as opened_parts}
 use Rattle.fc_effects.specs.Effect.{Compacts, State, tree_in}
 use Rattle.fc_effects.specs.Sharing.{new_ids}
-use Rattle.fc_effects.specs.Short.{needed_bits, needed_ids, short, space_reasons}
+use Rattle.fc_effects.specs.Short.{needed_bits, needed_ids, old_need, short, space_reasons}
 use Rattle.fc_script.specs.Lines.{command_of}
 use Rattle.fc_script.specs.Texts.{ok_line, refusal_line}
 use Rattle.fc_runs.specs.Early.{reply_begun}
-use Rattle.fc_runs.specs.Run.{Answers, Mode, Serves, Step, Takes, layout_reason, shortage}
+use Rattle.fc_runs.specs.Run.{Answers, Mode, Serves, Step, Takes, is_error, layout_reason, shortage}
+use Rattle.fc_runs.specs.Stops.{leaves_image_or}
 use Rattle.fc_tree.specs.Parts.{ArePartsOf}
 use Rattle.fc_volume.specs.declared.lines.CommandError.{CommandError}
 use Rattle.fc_volume.specs.Volume.{Volume, parts_of}
+use Rattle.fc_oldvolume.specs.Changing.{IsOldLayout}
 use Rattle.fc_shell.specs.declared.answer.LineFault.{LineFault}
 use Rattle.fc_shell.specs.Answered.{Answered}
-use Rattle.fc_shell.specs.Line.{IsDone, LeavesTree, LineEnds}
+use Rattle.fc_shell.specs.Built.{is_reading_line}
+use Rattle.fc_shell.specs.Changing.{IsCompacting, Tells}
+use Rattle.fc_shell.specs.Line.{IsDone, KeepsGoing, LeavesTree, LineEnds}
 use Rattle.fc_shell.specs.Modes.{plain_mode}
 use Rattle.fc_shell.specs.Writing.{Wrote, WrotePart}
-use Rattle.fc_shell.proofs.ShortageLemmas.{new_enough}
+use Rattle.fc_shell.proofs.ChangeLemmas.{going}
+use Rattle.fc_shell.proofs.ErrorLemmas.{ok_no_error}
+use Rattle.fc_shell.proofs.MapsLemmas.{new_of}
+use Rattle.fc_shell.proofs.ShortageLemmas.{few_holes, new_enough, no_need, old_enough}
+use Rattle.fc_shell.proofs.StepLemmas.{left_ends, unbegun_ends}
 use Rattle.fc_shell.proofs.WritingLemmas.{wrote_nothing}
 
 -- ---- kinds
@@ -61,11 +74,6 @@ new_kind image (DiscL units) v m opens layout =
     let p = opened_parts image (DiscL units) v opens.opened in
     absurd (old_never (free_space image 1) 2 0 (hole_fault image 1) p.0 m p.1.1 (ap (λ (w : Opened). w.layout) p.1.4 ∙ layout))
 
--- a new map
-pub new_of : (layout : Layout) → IsNewLayout layout → (m : Map) × (layout ≡ Layout.New m)
-new_of (Layout.New m) new = (m, refl)
-new_of (Layout.Old space) new = absurd new
-
 -- ---- when it is refused
 
 -- exactly if the volume may not be changed
@@ -77,23 +85,30 @@ answer_writable : (t : Tree) (form : NameForm) → answer t form false Command.C
 unfolding answer
 answer_writable t form = refl
 
--- It takes no space of a new map.
-never_short : (v : Opened) (m : Map) → v.layout ≡ Layout.New m → short v Command.Compact ≡ None
-unfolding short
-never_short v m is = ap (λ (layout : Layout). first_of (space_reasons layout v Command.Compact)) is
-    ∙ new_enough (length (new_ids m)) (bits_in (hole_runs m)) (needed_ids m v Command.Compact) (needed_bits m v Command.Compact) refl refl
+-- It takes no space.
+space_enough : (v : Opened) (layout : Layout) → ((space : FreeSpace) → layout ≡ Layout.Old space → length space.holes ≤ hole_limit) → first_of (space_reasons layout v Command.Compact) ≡ None
+space_enough v (Layout.New m) few = new_enough (length (new_ids m)) (bits_in (hole_runs m)) (needed_ids m v Command.Compact) (needed_bits m v Command.Compact) refl refl
+space_enough v (Layout.Old space) few = old_enough space (old_need space 0) (no_need space) (few space refl)
 
-no_shortage : (v : Opened) (m : Map) → v.layout ≡ Layout.New m → shortage false v Command.Compact ≡ None
-no_shortage v m is = ap₂ (λ (a b : Option Refusal). option_map refusal_line (first_of (a ∷ b ∷ []))) (ap (λ (layout : Layout). layout_reason layout Command.Compact) is) (never_short v m is)
+never_short : (image : List ℕ) (kind : Kind) (v : Opened) → OpensAs image kind v → short v Command.Compact ≡ None
+unfolding short
+never_short image kind v opens = space_enough v v.layout (λ space is. few_holes image kind v space opens is)
+
+no_reason : (layout : Layout) → layout_reason layout Command.Compact ≡ None
+no_reason (Layout.New m) = refl
+no_reason (Layout.Old space) = refl
+
+no_shortage : (image : List ℕ) (kind : Kind) (v : Opened) → OpensAs image kind v → shortage false v Command.Compact ≡ None
+no_shortage image kind v opens = ap₂ (λ (a b : Option Refusal). option_map refusal_line (first_of (a ∷ b ∷ []))) (no_reason v.layout) (never_short image kind v opens)
 
 -- ---- steps
 
-compact_step : (mode : Mode) (s next : State) (line : List ℕ) (m : Map) → mode.read_only ≡ false → mode.safe ≡ false → command_of line ≡ Ok Command.Compact
-    → s.view.layout ≡ Layout.New m → Compacts mode.kind s next → Step mode s line ok_line next
-compact_step mode s next line m writable plain is layout compacts =
+compact_step : (mode : Mode) (s next : State) (line : List ℕ) → mode.read_only ≡ false → mode.safe ≡ false → command_of line ≡ Ok Command.Compact
+    → OpensAs s.image mode.kind s.view → Compacts mode.kind s next → Step mode s line ok_line next
+compact_step mode s next line writable plain is opens compacts =
     let answered : answer (tree_in s) (dir_form s.view.layout) mode.read_only Command.Compact ≡ Ok (tree_in s) =
     ap (λ (b : Bool). answer (tree_in s) (dir_form s.view.layout) b Command.Compact) writable ∙ answer_writable (tree_in s) (dir_form s.view.layout) in
-    let enough : shortage mode.safe s.view Command.Compact ≡ None = ap (λ (b : Bool). shortage b s.view Command.Compact) plain ∙ no_shortage s.view m layout in
+    let enough : shortage mode.safe s.view Command.Compact ≡ None = ap (λ (b : Bool). shortage b s.view Command.Compact) plain ∙ no_shortage s.image mode.kind s.view opens in
     let serves : Serves mode s Command.Compact (tree_in s) (shortage mode.safe s.view Command.Compact) ok_line next =
     subst (λ (o : Option (List ℕ)). Serves mode s Command.Compact (tree_in s) o ok_line next) (sym enough) (refl, compacts) in
     subst (λ (r : Result Command Refusal). Takes mode s r ok_line next) (sym is)
@@ -108,48 +123,114 @@ refused_step mode s line locked is =
 
 -- ---- what the volume answers
 
-pub writable_ok : (read_only : Bool) (result : Result (Unit {0}) CommandError) (done : Unit {0}) → result ≡ Ok done → (read_only ≡ true → result ≡ Err (CommandError.Refused refusals.ReadOnly)) → read_only ≡ false
-writable_ok true result done is refused = absurd (let no = refused refl in cc)
-writable_ok false result done is refused = refl
+-- It answers no other refusal.
+only_read_only : (layout : Layout) (r : Refusal)
+    → (CommandError.Refused r ≡ CommandError.Refused refusals.ReadOnly) ⊎ ((CommandError.Refused r ≡ CommandError.DiskFault) ⊎ ((CommandError.Refused r ≡ CommandError.NoMemory) × IsOldLayout layout))
+    → r ≡ refusals.ReadOnly
+only_read_only layout r (inl locked) = cc
+only_read_only layout r (inr (inl fault)) = absurd (cc)
+only_read_only layout r (inr (inr memory)) = let e : CommandError.Refused r ≡ CommandError.NoMemory = memory.0 in absurd (cc)
 
-pub only_read_only : (e : CommandError) (reason : Refusal) → e ≡ CommandError.Refused reason → (e ≡ CommandError.Refused refusals.ReadOnly) ⊎ (e ≡ CommandError.DiskFault) → reason ≡ refusals.ReadOnly
-only_read_only e reason is (inl locked) = cc
-only_read_only e reason is (inr fault) = absurd (cc)
+writable_ok : (read_only : Bool) (done : Unit {0}) → (read_only ≡ true → (let x : Result (Unit {0}) CommandError = Ok done in x) ≡ Err (CommandError.Refused refusals.ReadOnly)) → read_only ≡ false
+writable_ok true done refused = absurd (let no = refused refl in cc)
+writable_ok false done refused = refl
 
 -- ---- what becomes of the line
 
-module _ {D : Type 0} (d : Ghosts D) (kind : Kind) (v : Volume) (s : State) (line : List ℕ) (old new : D) (before after : Option (List ℕ))
-    (is : command_of line ≡ Ok Command.Compact) (told : d.bytes old ≡ Some s.image) (opens : OpensAs s.image kind s.view) (parts : ArePartsOf (parts_of v) s.view) where
+module _ {D K : Type 0} {d : Ghosts D} (law : Laws d) (k : Sinks K) (kind : Kind) (s : State) (line : List ℕ) (was v : Volume) (old new : D) (before after : K)
+    (is : command_of line ≡ Ok Command.Compact) (quiet : d.pending old ≡ false) (told : d.bytes old ≡ Some s.image) (opens : OpensAs s.image kind s.view) (parts : ArePartsOf (parts_of was) s.view) where
   -- A crash meanwhile leaves the tree, on a new map.
-  pub compact_keeps : ((m : Map) → (parts_of v).layout ≡ Layout.New m → StopsAndExitsLeave d old new (KeepsObjects m.geometry)) → LeavesTree d old new kind s
-  compact_keeps keeps new_map image left =
+  kept : (done : Result (Unit {0}) CommandError) → IsCompacting d was v old new done → LeavesTree d old new kind s
+  kept done asked new_map image left =
       let m = new_of s.view.layout new_map in
       let r = new_kind s.image kind s.view m.0 opens m.1 in
-      let kept = (keeps m.0 (parts.layout ∙ m.1)).stops.since image left s.image told kind r.0 s.view m.0 r.1 opens m.1 refl in
-      record { view = with_map kept.0 s.view; opens = kept.1.opens; tree = kept.1.tree }
+      let stays = (asked.objects m.0 (parts.layout ∙ m.1)).stops.since image left s.image told kind r.0 s.view m.0 r.1 opens m.1 refl in
+      record { view = with_map stays.0 s.view; opens = stays.1.opens; tree = stays.1.tree }
 
   -- It was done.
-  pub compact_done : (v' : Volume) (next : State) (result : Result Bool LineFault) → v.read_only ≡ false → IsNewLayout (parts_of v).layout → LeavesTree d old new kind s
-      → d.bytes new ≡ Some next.image → Compacts kind s next → ArePartsOf (parts_of v') next.view → (result ≡ Err LineFault.Disk → ⊥) → Answered ok_line before after result
-      → LineEnds d old new kind v.read_only s v' line before after result
-  compact_done v' next result writable new_map kept holds compacts now no_disk answered = by result no_disk answered
+  done_ends : (done : Unit {0}) (result : Result Bool LineFault) → IsCompacting d was v old new (Ok done) → Tells k before after (Ok done) result
+      → LineEnds d old new kind was.read_only s v line (k.taken before) (k.taken after) result
+  done_ends done result asked tells = by result tells.0 tells.1.no_disk
     where
-      m : (m : Map) × (s.view.layout ≡ Layout.New m)
-      m = new_of s.view.layout (subst IsNewLayout parts.layout new_map)
+      next : State
+      next = record { image = (asked.compacted s.image told).0; view = ((asked.compacted s.image told).2 kind s.view opens parts).0 }
 
-      done : IsDone d old new kind v.read_only s line ok_line next
-      done = record { step = compact_step (plain_mode kind v.read_only) s next line m.0 writable refl is m.1 compacts; holds = holds; opens = compacts.opens.opens; kept = λ keep. kept }
+      compacts : Compacts kind s next
+      compacts = ((asked.compacted s.image told).2 kind s.view opens parts).1
 
-      by : (result : Result Bool LineFault) → (result ≡ Err LineFault.Disk → ⊥) → Answered ok_line before after result → LineEnds d old new kind v.read_only s v' line before after result
-      by (Ok refused) never answered = record { reply = ok_line; next = next; done = done; parts = now; wrote = answered.0; refused_is = answered.1 }
-      by (Err fault) never answered = inl (record { reply = ok_line; next = next; done = done; part = answered; no_disk = λ is. never (ap Err is) })
+      image : leaves_image_or (is_error ok_line) (command_of line) ≡ false
+      image = ap (leaves_image_or (is_error ok_line)) is ∙ ap (λ (b : Bool). b || false) (ok_no_error [])
+
+      step : IsDone d old new kind was.read_only s line ok_line next
+      step = record {
+        step = compact_step (plain_mode kind was.read_only) s next line (writable_ok was.read_only done asked.refused.1) refl is opens compacts;
+        holds = (asked.compacted s.image told).1;
+        opens = compacts.opens.opens;
+        kept = λ keep. kept (Ok done) asked;
+        still = λ leaves. absurd (let clash : false ≡ true = sym image ∙ leaves in cc);
+      }
+
+      by : (result : Result Bool LineFault) → Answered ok_line (k.taken before) (k.taken after) result → (result ≡ Err LineFault.Disk → ⊥)
+          → LineEnds d old new kind was.read_only s v line (k.taken before) (k.taken after) result
+      by (Ok refused) answered never = record {
+        reply = ok_line;
+        next = next;
+        done = step;
+        parts = ((asked.compacted s.image told).2 kind s.view opens parts).2;
+        wrote = answered.0;
+        refused_is = answered.1;
+      }
+      by (Err fault) answered never = inl (record { reply = ok_line; next = next; done = step; part = answered; no_disk = λ disk. never (ap Err disk) })
 
   -- The disk failed.
-  pub compact_fails : (v' : Volume) → LeavesTree d old new kind s → after ≡ before → LineEnds d old new kind v.read_only s v' line before after (Err LineFault.Disk)
-  compact_fails v' kept same =
-      let begun : reply_begun (plain_mode kind v.read_only) s (command_of line) ≡ [] = ap (reply_begun (plain_mode kind v.read_only) s) is in
+  fails : IsCompacting d was v old new (Err CommandError.DiskFault) → k.taken after ≡ k.taken before → LineEnds d old new kind was.read_only s v line (k.taken before) (k.taken after) (Err LineFault.Disk)
+  fails asked same =
+      let begun : reply_begun (plain_mode kind was.read_only) s (command_of line) ≡ [] = ap (reply_begun (plain_mode kind was.read_only) s) is in
       inr (record {
-        part = subst (WrotePart before after) (sym begun) (0, subst (λ (a : Option (List ℕ)). Wrote before a []) (sym same) (wrote_nothing before));
+        part = subst (WrotePart (k.taken before) (k.taken after)) (sym begun) (0, subst (λ (a : Option (List ℕ)). Wrote (k.taken before) a []) (sym same) (wrote_nothing (k.taken before)));
         holds = λ never. absurd (never refl);
-        kept = λ keep. kept;
+        kept = λ keep. kept (Err CommandError.DiskFault) asked;
+        still = λ leaves. absurd (let clash : false ≡ true = sym (ap (leaves_image_or false) is) ∙ leaves in cc);
       })
+
+  -- It left everything.
+  unchanged : (e : CommandError) (result : Result Bool LineFault) → IsCompacting d was v old new (Err e) → (e ≡ CommandError.DiskFault → ⊥)
+      → (OnlyReads d old new → LineEnds d old new kind was.read_only s was line (k.taken before) (k.taken after) result)
+      → LineEnds d old new kind was.read_only s v line (k.taken before) (k.taken after) result
+  unchanged e result asked never ends =
+      let same = asked.keeps.unchanged never in
+      subst (λ (w : Volume). LineEnds d old new kind was.read_only s w line (k.taken before) (k.taken after) result) (sym same.0)
+      (ends (subst (λ (x : D). OnlyReads d old x) (sym same.1) (reads_start law old)))
+
+  pub compact_ends : (done : Result (Unit {0}) CommandError) (result : Result Bool LineFault) → IsCompacting d was v old new done → Tells k before after done result
+      → LineEnds d old new kind was.read_only s v line (k.taken before) (k.taken after) result
+  compact_ends (Ok done) result asked tells = done_ends done result asked tells
+  compact_ends (Err (CommandError.Refused r)) result asked tells =
+      let why : r ≡ refusals.ReadOnly = only_read_only (parts_of was).layout r asked.errors in
+      let locked : was.read_only ≡ true = asked.refused.0 (ap (λ (x : Refusal). Err (CommandError.Refused x)) why) in
+      let step : Step (plain_mode kind was.read_only) s line (refusal_line r) s =
+      subst (λ (x : Refusal). Step (plain_mode kind was.read_only) s line (refusal_line x) s) (sym why) (refused_step (plain_mode kind was.read_only) s line locked is) in
+      unchanged (CommandError.Refused r) result asked (λ fault. absurd (cc)) (λ reads.
+      left_ends law kind was s line old new (k.taken before) (k.taken after) quiet told opens (refusal_line r) result step reads parts tells.1.no_disk tells.0)
+  compact_ends (Err CommandError.NoMemory) result asked tells =
+      unchanged CommandError.NoMemory result asked (λ fault. absurd (cc)) (λ reads.
+      subst (λ (x : Result Bool LineFault). LineEnds d old new kind was.read_only s was line (k.taken before) (k.taken after) x) (sym tells.0)
+      (unbegun_ends law kind was s line old new (k.taken before) (k.taken after) quiet told opens LineFault.NoMemory reads (ap k.taken (sym tells.1))))
+  compact_ends (Err CommandError.DiskFault) result asked tells =
+      subst (λ (x : Result Bool LineFault). LineEnds d old new kind was.read_only s v line (k.taken before) (k.taken after) x) (sym tells.0) (fails asked (ap k.taken tells.1))
+
+-- ---- what it keeps
+
+module _ {D K : Type 0} {d : Ghosts D} (law : Laws d) (k : Sinks K) (line : List ℕ) (was v : Volume) (old new : D) (before after : K) (is : command_of line ≡ Ok Command.Compact) where
+  -- A volume that may not be changed isn't.
+  spared : (done : Result (Unit {0}) CommandError) → IsCompacting d was v old new done → was.read_only ≡ true → (v ≡ was) × (new ≡ old)
+  spared done asked read_only = by done asked.keeps.unchanged (asked.refused.1 read_only)
+    where
+      by : (x : Result (Unit {0}) CommandError) → IfErr x (λ error. (error ≡ CommandError.DiskFault → ⊥) → (v ≡ was) × (new ≡ old)) → x ≡ Err (CommandError.Refused refusals.ReadOnly) → (v ≡ was) × (new ≡ old)
+      by (Ok value) same locked = absurd (cc)
+      by (Err error) same locked = same (λ fault. absurd (let e : Err error ≡ Err (CommandError.Refused refusals.ReadOnly) = locked in cc))
+
+  pub compact_keeps : (done : Result (Unit {0}) CommandError) (result : Result Bool LineFault) → IsCompacting d was v old new done → Tells k before after done result
+      → KeepsGoing d k old new before after was v line result
+  compact_keeps done result asked tells =
+      going law k line was v old new before after done result asked.keeps asked.form_stays (spared done asked) (ap is_reading_line is) tells

@@ -22,7 +22,7 @@ use Rattle.fc_runs.specs.Demo.{demo_script}
 use Rattle.fc_runs.specs.Early.{reply_begun, text_begun}
 use Rattle.fc_runs.specs.Promises.{Cause, HasRun, HasStopped, spares_disk}
 use Rattle.fc_runs.specs.Run.{Mode, Steps, commands_in, demo_line, is_error, text_of}
-use Rattle.fc_runs.specs.Stops.{MayHaveLeft, Stops, next_keeps_tree}
+use Rattle.fc_runs.specs.Stops.{MayHaveLeft, Stops, next_keeps_tree, next_leaves_image}
 use Rattle.fc_words.specs.CommandLine.{Request, Settings, Text, format_of, image_of, is_decimal, is_set, number_of, optional, request_from, request_of, settings_after, value_of}
 use Rattle.fc_words.specs.declared.Format.{Format as Word}
 use Rattle.fc_shell.specs.declared.answer.LineFault.{LineFault}
@@ -117,6 +117,8 @@ module _ {D : Type 0} (d : Ghosts D) (old new : D) (kind : Kind) (read_only : Bo
   stops_demo end replies text line stops = record {
     idle = λ new_map fresh none keep image left. absurd (cc);
     last = λ new_map keep image left. stops.last new_map (subst (λ (t : List ℕ). next_keeps_tree (commands_in t) replies ≡ true) own keep) image left;
+    still = λ fresh none leave image left. absurd (cc);
+    rest = λ leave image left. stops.rest (subst (λ (t : List ℕ). next_leaves_image (commands_in t) replies ≡ true) own leave) image left;
     during = λ safe fresh image left. absurd (no_fresh safe);
     exit = λ safe image left. absurd (no_fresh safe);
   }

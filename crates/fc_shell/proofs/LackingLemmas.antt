@@ -10,6 +10,7 @@ use Rattle.fc_runs.specs.ReadLaw.{is_reading}
 use Rattle.fc_runs.specs.Run.{commands_in, keeps_tree}
 use Rattle.fc_script.specs.Lines.{command_of}
 use Rattle.fc_shell.specs.Built.{any_changing, any_lacking, are_big, has_changing, has_lacking, is_adding, is_changing, lacks, lacks_command}
+use Rattle.fc_shell.specs.Changing.{AreAlike}
 use Rattle.fc_shell.proofs.ServingLemmas.{first_of_any, rest_of_any}
 
 clash : true ≡ false → ⊥
@@ -51,7 +52,7 @@ none_lacking layout none (line ∷ lines) = by (command_of line) refl (none_lack
 
 -- A command that a disc lacks changes it.
 lacking_changes : (layout : Layout) (c : Command) → lacks layout c ≡ true → not (is_reading c) ≡ true
-lacking_changes (Layout.Old space) c is = is
+lacking_changes (Layout.Old space) c is = absurd (cc)
 lacking_changes (Layout.New m) (Command.Save path load exec bytes) is = refl
 lacking_changes (Layout.New m) (Command.Create path load exec len) is = refl
 lacking_changes (Layout.New m) (Command.Cdir path) is = refl
@@ -86,22 +87,10 @@ lacking_script layout script is = lines_change layout (commands_in script) is
 
 -- ---- what it says of the disc
 
-changing_new : (layout : Layout) (c : Command) → is_reading c ≡ false → lacks layout c ≡ false → IsNewLayout layout
-changing_new (Layout.New m) c changes none = tt
-changing_new (Layout.Old space) c changes none = absurd (clash (sym (ap not changes) ∙ none))
-
--- A command that changes the tree is built for new maps alone,
-pub change_new : (layout : Layout) (c : Command) → keeps_tree c ≡ false → lacks layout c ≡ false → IsNewLayout layout
-change_new layout c changes none = changing_new layout c (not_reading c changes) none
-
--- and so is `compact`;
-pub compact_new : (layout : Layout) → lacks layout Command.Compact ≡ false → IsNewLayout layout
-compact_new layout none = changing_new layout Command.Compact refl none
-
--- one that adds an entry only for small directories.
-pub adding_small : (layout : Layout) (c : Command) → is_adding c ≡ true → is_reading c ≡ false → lacks layout c ≡ false → dir_form layout ≡ NameForm.Ten
-adding_small (Layout.Old space) c adds changes none = absurd (clash (sym (ap not changes) ∙ none))
-adding_small (Layout.New m) c adds changes none = by (m.geometry.version == 0) refl (sym (ap (λ (b : Bool). b && are_big (dir_form (Layout.New m))) adds) ∙ none)
+-- On new maps a command that adds an entry is built only for small directories.
+pub adding_small : (layout : Layout) (c : Command) → IsNewLayout layout → is_adding c ≡ true → lacks layout c ≡ false → dir_form layout ≡ NameForm.Ten
+adding_small (Layout.Old space) c new adds none = absurd new
+adding_small (Layout.New m) c new adds none = by (m.geometry.version == 0) refl (sym (ap (λ (b : Bool). b && are_big (dir_form (Layout.New m))) adds) ∙ none)
   where
     by : (b : Bool) → (m.geometry.version == 0) ≡ b → are_big (dir_form (Layout.New m)) ≡ false → dir_form (Layout.New m) ≡ NameForm.Ten
     by true is small = ap (λ (b : Bool). if b then NameForm.Ten else NameForm.Long) is
@@ -109,8 +98,9 @@ adding_small (Layout.New m) c adds changes none = by (m.geometry.version == 0) r
 
 -- ---- over a command
 
--- A new map with directories of the same form lacks no more.
-pub lacks_as_before : (was now : Layout) → IsNewLayout was → IsNewLayout now → dir_form now ≡ dir_form was → (c : Command) → lacks was c ≡ false → lacks now c ≡ false
-lacks_as_before (Layout.New m) (Layout.New n) new still same c none = ap (λ (f : NameForm). is_adding c && are_big f) same ∙ none
-lacks_as_before (Layout.Old space) now new still same c none = absurd new
-lacks_as_before (Layout.New m) (Layout.Old space) new still same c none = absurd still
+-- A map of the same kind with directories of the same form lacks no more.
+pub lacks_as_before : (was now : Layout) → AreAlike was now → dir_form now ≡ dir_form was → (c : Command) → lacks was c ≡ false → lacks now c ≡ false
+lacks_as_before (Layout.New m) (Layout.New n) alike same c none = ap (λ (f : NameForm). is_adding c && are_big f) same ∙ none
+lacks_as_before (Layout.New m) (Layout.Old space) alike same c none = absurd alike
+lacks_as_before (Layout.Old space) (Layout.New m) alike same c none = absurd alike
+lacks_as_before (Layout.Old space) (Layout.Old other) alike same c none = none

@@ -5,9 +5,11 @@ mod CompactLemmas
 mod DemoLemmas
 mod LineLemmas
 mod FreshLemmas
+mod HeadlineLemmas
 mod KeptLemmas
 mod LackingLemmas
 mod LengthLemmas
+mod MapsLemmas
 mod OutcomeLemmas
 mod PromiseLemmas
 mod ReadsLemmas

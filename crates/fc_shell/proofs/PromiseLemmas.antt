@@ -81,6 +81,13 @@ module _ {D : Type 0} {d : Ghosts D} (law : Laws d) (old mid new : D) (first : L
           (λ since. stops.idle new_map refl none keep image since)
           (second.before (d.moment old) image first.later left);
       last = stops.last;
+      still = λ there none leave image left.
+          let unwritten = same there in
+          ⊎_elim
+          (λ was. law.settled old was_quiet s.image (sym unwritten.bytes_stay ∙ told) image (unwritten.stops.since image was))
+          (λ since. stops.still refl none leave image since)
+          (second.before (d.moment old) image first.later left);
+      rest = stops.rest;
       during = λ safe there image left. absurd (no_fresh safe);
       exit = λ safe image left. absurd (no_fresh safe);
     }
@@ -194,6 +201,8 @@ module _ {D : Type 0} {d : Ghosts D} (law : Laws d) (old new : D) where
           record { view = tree.view; opens = tree.opens; tree = tree.tree };
       last = λ new_map keep image left. has_tree kind s image opens
           (law.settled old quiet s.image told image (same.stops.since image (law.earlier new (d.moment old) (d.moment new) image same.stops.later left)));
+      still = λ there none leave image left. law.settled old quiet s.image told image (same.stops.since image left);
+      rest = λ leave image left. law.settled old quiet s.image told image (same.stops.since image (law.earlier new (d.moment old) (d.moment new) image same.stops.later left));
       during = λ safe there image left. absurd (no_fresh safe);
       exit = λ safe image left. absurd (no_fresh safe);
     };

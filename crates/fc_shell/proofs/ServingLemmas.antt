@@ -17,8 +17,8 @@ use Rattle.fc_safe.specs.SafeEffect.{HasTree}
 use Rattle.fc_script.specs.Lines.{command_of}
 use Rattle.fc_runs.specs.Early.{reply_begun, text_begun}
 use Rattle.fc_runs.specs.Promises.{spares_disk}
-use Rattle.fc_runs.specs.Run.{Mode, Step, Steps, all_keep_tree, commands_in, is_error, keeps_tree_or, text_of, whole_replies}
-use Rattle.fc_runs.specs.Stops.{MayHaveLeft, is_kept_by_next}
+use Rattle.fc_runs.specs.Run.{Mode, Step, Steps, all_keep_tree, commands_in, each_line, is_error, keeps_tree_or, text_of, whole_replies}
+use Rattle.fc_runs.specs.Stops.{MayHaveLeft, all_leave_image, is_kept_by_next, leaves_image_or}
 use Rattle.fc_runs.proofs.RepliesLemmas.{taken_kept}
 use Rattle.fc_tree.specs.Parts.{ArePartsOf}
 use Rattle.fc_volume.specs.Volume.{Volume, parts_of}
@@ -31,7 +31,7 @@ use Rattle.fc_shell.specs.Line.{BreaksOff, GoesOn, IsAnswered, IsCutOff, IsDone,
 use Rattle.fc_shell.specs.Modes.{plain_mode}
 use Rattle.fc_shell.specs.Serving.{AreDone, HasServed, ServesAs, cause_of}
 use Rattle.fc_shell.specs.Writing.{Wrote}
-use Rattle.fc_shell.proofs.StepLemmas.{has_tree, step_keeps}
+use Rattle.fc_shell.proofs.StepLemmas.{has_tree, step_keeps, step_leaves}
 use Rattle.fc_shell.proofs.WritingLemmas.{wrote_nothing, wrote_both}
 
 -- ---- tests
@@ -65,6 +65,13 @@ first_of_any false b e = absurd (cc)
 pub rest_of_any : (a b : Bool) → b ≡ true → (a || b) ≡ true
 rest_of_any true b e = refl
 rest_of_any false b e = e
+
+-- what lines are tested for
+abbrev keeps : Bool → List ℕ → Bool
+keeps refused line = keeps_tree_or refused (command_of line)
+
+abbrev leaves : Bool → List ℕ → Bool
+leaves refused line = leaves_image_or refused (command_of line)
 
 -- ---- steps
 
@@ -110,41 +117,51 @@ module _ (May : List ℕ → Type 0) (mode : Mode) where
       let both = both_true (keeps_tree_or (is_error reply) (command_of line)) (all_keep_tree lines replies) keep in
       steps_keep x.0 s' lines replies x.3 both.1 ∙ step_keeps mode s x.0 (command_of line) reply x.2 both.0
 
-  -- what all lines keep, those done keep,
-  keep_done : (s s' : State) (lines replies left : List (List ℕ)) → Steps May mode s lines replies s' → all_keep_tree (lines ++ left) replies ≡ true → all_keep_tree lines replies ≡ true
-  keep_done s s' [] [] left x keep = refl
-  keep_done s s' [] (reply ∷ replies) left x keep = absurd x
-  keep_done s s' (line ∷ lines) [] left x keep = absurd x
-  keep_done s s' (line ∷ lines) (reply ∷ replies) left x keep =
-      let both = both_true (keeps_tree_or (is_error reply) (command_of line)) (all_keep_tree (lines ++ left) replies) keep in
-      true_both (keeps_tree_or (is_error reply) (command_of line)) (all_keep_tree lines replies) both.0 (keep_done x.0 s' lines replies left x.3 both.1)
+  -- Lines that are refused or read leave everything.
+  steps_leave : (s s' : State) (lines replies : List (List ℕ)) → Steps May mode s lines replies s' → all_leave_image lines replies ≡ true → s' ≡ s
+  steps_leave s s' [] [] x leave = x
+  steps_leave s s' [] (reply ∷ replies) x leave = absurd x
+  steps_leave s s' (line ∷ lines) [] x leave = absurd x
+  steps_leave s s' (line ∷ lines) (reply ∷ replies) x leave =
+      let both = both_true (leaves_image_or (is_error reply) (command_of line)) (all_leave_image lines replies) leave in
+      steps_leave x.0 s' lines replies x.3 both.1 ∙ step_leaves mode s x.0 (command_of line) reply x.2 both.0
 
-  -- and so does the next line,
-  keep_next : (s s' : State) (lines replies : List (List ℕ)) (line : List ℕ) (left : List (List ℕ)) → Steps May mode s lines replies s'
-      → all_keep_tree (lines ++ line ∷ left) replies ≡ true → keeps_tree_or false (command_of line) ≡ true
-  keep_next s s' [] [] line left x keep = keep
-  keep_next s s' [] (r ∷ replies) line left x keep = absurd x
-  keep_next s s' (l ∷ lines) [] line left x keep = absurd x
-  keep_next s s' (l ∷ lines) (r ∷ replies) line left x keep =
-      keep_next x.0 s' lines replies line left x.3 (both_true (keeps_tree_or (is_error r) (command_of l)) (all_keep_tree (lines ++ line ∷ left) replies) keep).1
+  module _ (test : Bool → List ℕ → Bool) where
+    -- What each line passes, those that were done pass,
+    each_done : (s s' : State) (lines replies left : List (List ℕ)) → Steps May mode s lines replies s' → each_line test (lines ++ left) replies ≡ true → each_line test lines replies ≡ true
+    each_done s s' [] [] left x keep = refl
+    each_done s s' [] (reply ∷ replies) left x keep = absurd x
+    each_done s s' (line ∷ lines) [] left x keep = absurd x
+    each_done s s' (line ∷ lines) (reply ∷ replies) left x keep =
+        let both = both_true (test (is_error reply) line) (each_line test (lines ++ left) replies) keep in
+        true_both (test (is_error reply) line) (each_line test lines replies) both.0 (each_done x.0 s' lines replies left x.3 both.1)
 
-  -- or the last one that was done.
-  keep_last : (s s' : State) (lines replies : List (List ℕ)) (line reply : List ℕ) → Steps May mode s lines replies s'
-      → all_keep_tree (lines ++ line ∷ []) (replies ++ reply ∷ []) ≡ true → keeps_tree_or (is_error reply) (command_of line) ≡ true
-  keep_last s s' [] [] line reply x keep = (both_true (keeps_tree_or (is_error reply) (command_of line)) true keep).0
-  keep_last s s' [] (r ∷ replies) line reply x keep = absurd x
-  keep_last s s' (l ∷ lines) [] line reply x keep = absurd x
-  keep_last s s' (l ∷ lines) (r ∷ replies) line reply x keep =
-      keep_last x.0 s' lines replies line reply x.3 (both_true (keeps_tree_or (is_error r) (command_of l)) (all_keep_tree (lines ++ line ∷ []) (replies ++ reply ∷ [])) keep).1
+    -- and so does the next line,
+    each_next : (s s' : State) (lines replies : List (List ℕ)) (line : List ℕ) (left : List (List ℕ)) → Steps May mode s lines replies s'
+        → each_line test (lines ++ line ∷ left) replies ≡ true → test false line ≡ true
+    each_next s s' [] [] line left x keep = keep
+    each_next s s' [] (r ∷ replies) line left x keep = absurd x
+    each_next s s' (l ∷ lines) [] line left x keep = absurd x
+    each_next s s' (l ∷ lines) (r ∷ replies) line left x keep =
+        each_next x.0 s' lines replies line left x.3 (both_true (test (is_error r) l) (each_line test (lines ++ line ∷ left) replies) keep).1
 
-  keep_front : (s s' : State) (lines replies : List (List ℕ)) (line reply : List ℕ) → Steps May mode s lines replies s'
-      → all_keep_tree (lines ++ line ∷ []) (replies ++ reply ∷ []) ≡ true → all_keep_tree lines replies ≡ true
-  keep_front s s' [] [] line reply x keep = refl
-  keep_front s s' [] (r ∷ replies) line reply x keep = absurd x
-  keep_front s s' (l ∷ lines) [] line reply x keep = absurd x
-  keep_front s s' (l ∷ lines) (r ∷ replies) line reply x keep =
-      let both = both_true (keeps_tree_or (is_error r) (command_of l)) (all_keep_tree (lines ++ line ∷ []) (replies ++ reply ∷ [])) keep in
-      true_both (keeps_tree_or (is_error r) (command_of l)) (all_keep_tree lines replies) both.0 (keep_front x.0 s' lines replies line reply x.3 both.1)
+    -- or the last one that was done.
+    each_last : (s s' : State) (lines replies : List (List ℕ)) (line reply : List ℕ) → Steps May mode s lines replies s'
+        → each_line test (lines ++ line ∷ []) (replies ++ reply ∷ []) ≡ true → test (is_error reply) line ≡ true
+    each_last s s' [] [] line reply x keep = (both_true (test (is_error reply) line) true keep).0
+    each_last s s' [] (r ∷ replies) line reply x keep = absurd x
+    each_last s s' (l ∷ lines) [] line reply x keep = absurd x
+    each_last s s' (l ∷ lines) (r ∷ replies) line reply x keep =
+        each_last x.0 s' lines replies line reply x.3 (both_true (test (is_error r) l) (each_line test (lines ++ line ∷ []) (replies ++ reply ∷ [])) keep).1
+
+    each_front : (s s' : State) (lines replies : List (List ℕ)) (line reply : List ℕ) → Steps May mode s lines replies s'
+        → each_line test (lines ++ line ∷ []) (replies ++ reply ∷ []) ≡ true → each_line test lines replies ≡ true
+    each_front s s' [] [] line reply x keep = refl
+    each_front s s' [] (r ∷ replies) line reply x keep = absurd x
+    each_front s s' (l ∷ lines) [] line reply x keep = absurd x
+    each_front s s' (l ∷ lines) (r ∷ replies) line reply x keep =
+        let both = both_true (test (is_error r) l) (each_line test (lines ++ line ∷ []) (replies ++ reply ∷ [])) keep in
+        true_both (test (is_error r) l) (each_line test lines replies) both.0 (each_front x.0 s' lines replies line reply x.3 both.1)
 
 -- ---- texts
 
@@ -245,6 +262,7 @@ module _ {D : Type 0} {d : Ghosts D} (law : Laws d) where
       holds = told;
       opens = opens;
       kept = λ keep new_map image left. has_tree kind s image opens (law.settled old quiet s.image told image left);
+      still = λ leave image left. law.settled old quiet s.image told image left;
     }
 
     pub served_start : (left : List (List ℕ)) (v : Volume) (tally : Tally) (before : Option (List ℕ)) → left ≡ commands_in script → ArePartsOf (parts_of v) s.view
@@ -269,11 +287,17 @@ module _ {D : Type 0} {d : Ghosts D} (law : Laws d) where
       holds = is.holds;
       opens = is.opens;
       kept = λ keep new_map image left.
-          let front = keep_front (MayHaveLeft d old mid) mode s are.state are.done are.replies line reply are.steps keep in
-          let last = keep_last (MayHaveLeft d old mid) mode s are.state are.done are.replies line reply are.steps keep in
+          let front = each_front (MayHaveLeft d old mid) mode keeps s are.state are.done are.replies line reply are.steps keep in
+          let last = each_last (MayHaveLeft d old mid) mode keeps s are.state are.done are.replies line reply are.steps keep in
           let new_now = steps_new (MayHaveLeft d old mid) mode s are.state are.done are.replies are.steps new_map in
           ⊎_elim (λ was. are.kept front new_map image was)
           (λ since. subst (λ t. HasTree kind t image) (steps_keep (MayHaveLeft d old mid) mode s are.state are.done are.replies are.steps front) (is.kept last new_now image since))
+          (second.stops.before (d.moment old) image first.stops.later left);
+      still = λ leave image left.
+          let front = each_front (MayHaveLeft d old mid) mode leaves s are.state are.done are.replies line reply are.steps leave in
+          let last = each_last (MayHaveLeft d old mid) mode leaves s are.state are.done are.replies line reply are.steps leave in
+          ⊎_elim (λ was. are.still front image was)
+          (λ since. is.still last image since ∙ ap (λ (x : State). x.image) (steps_leave (MayHaveLeft d old mid) mode s are.state are.done are.replies are.steps front))
           (second.stops.before (d.moment old) image first.stops.later left);
     }
 
@@ -305,6 +329,9 @@ module _ {D : Type 0} {d : Ghosts D} (law : Laws d) where
                   let tree = are.kept (subst (λ (lines : List (List ℕ)). all_keep_tree lines are.replies ≡ true) (sym all) keep) new_map image left in
                   record { view = tree.view; opens = tree.opens; tree = tree.tree };
               last = λ new_map next image left. has_tree kind are.state image are.opens (law.settled new settled are.state.image are.holds image left);
+              still = λ fresh demo leave image left.
+                  are.still (subst (λ (lines : List (List ℕ)). all_leave_image lines are.replies ≡ true) (sym all) leave) image left;
+              rest = λ next image left. law.settled new settled are.state.image are.holds image left;
               during = λ safe fresh image left. absurd (cc);
               exit = λ safe image left. absurd (cc);
             };
@@ -350,11 +377,15 @@ module _ {D : Type 0} {d : Ghosts D} (law : Laws d) where
             settled = λ spares. inl now_quiet;
             stops = λ was_quiet. record {
               idle = λ new_map fresh demo keep image left'.
-                  let keeps = keep_done (MayHaveLeft d old new) mode s are.state are.done are.replies left are.steps
+                  let done = each_done (MayHaveLeft d old new) mode keeps s are.state are.done are.replies left are.steps
                   (subst (λ (lines : List (List ℕ)). all_keep_tree lines are.replies ≡ true) are.cut keep) in
-                  let tree = are.kept keeps new_map image left' in
+                  let tree = are.kept done new_map image left' in
                   record { view = tree.view; opens = tree.opens; tree = tree.tree };
               last = λ new_map next image left'. has_tree kind are.state image are.opens (law.settled new now_quiet are.state.image are.holds image left');
+              still = λ fresh demo leave image left'.
+                  are.still (each_done (MayHaveLeft d old new) mode leaves s are.state are.done are.replies left are.steps
+                  (subst (λ (lines : List (List ℕ)). all_leave_image lines are.replies ≡ true) are.cut leave)) image left';
+              rest = λ next image left'. law.settled new now_quiet are.state.image are.holds image left';
               during = λ safe fresh image left'. absurd (cc);
               exit = λ safe image left'. absurd (cc);
             };
@@ -395,18 +426,28 @@ module _ {D : Type 0} {d : Ghosts D} (law : Laws d) where
             settled = λ spares. inl (settled (not_disk fault spares));
             stops = λ was_quiet. record {
               idle = λ new_map fresh demo keep image left'.
-                  let keeps = subst (λ (lines : List (List ℕ)). all_keep_tree lines are.replies ≡ true) are.cut keep in
-                  let done = keep_done May mode s are.state are.done are.replies (line ∷ left) are.steps keeps in
+                  let all = subst (λ (lines : List (List ℕ)). all_keep_tree lines are.replies ≡ true) are.cut keep in
+                  let done = each_done May mode keeps s are.state are.done are.replies (line ∷ left) are.steps all in
                   let new_now = steps_new May mode s are.state are.done are.replies are.steps new_map in
                   let tree : HasTree kind (tree_in s) image =
                   ⊎_elim (λ was. are.kept done new_map image was)
                   (λ since. subst (λ t. HasTree kind t image) (steps_keep May mode s are.state are.done are.replies are.steps done)
-                  (broke.kept (keep_next May mode s are.state are.done are.replies line left are.steps keeps) new_now image since))
+                  (broke.kept (each_next May mode keeps s are.state are.done are.replies line left are.steps all) new_now image since))
                   (second.stops.before (d.moment old) image first.stops.later left') in
                   record { view = tree.view; opens = tree.opens; tree = tree.tree };
               last = λ new_map keep image left'.
-                  let keeps = subst (λ (o : Option (List ℕ)). is_kept_by_next (λ l. keeps_tree_or false (command_of l)) o ≡ true) next keep in
-                  broke.kept keeps (steps_new May mode s are.state are.done are.replies are.steps new_map) image
+                  let kept = subst (λ (o : Option (List ℕ)). is_kept_by_next (λ l. keeps_tree_or false (command_of l)) o ≡ true) next keep in
+                  broke.kept kept (steps_new May mode s are.state are.done are.replies are.steps new_map) image
+                  (law.earlier new (d.moment mid) (d.moment new) image second.stops.later left');
+              still = λ fresh demo leave image left'.
+                  let all = subst (λ (lines : List (List ℕ)). all_leave_image lines are.replies ≡ true) are.cut leave in
+                  let done = each_done May mode leaves s are.state are.done are.replies (line ∷ left) are.steps all in
+                  ⊎_elim (λ was. are.still done image was)
+                  (λ since. broke.still (each_next May mode leaves s are.state are.done are.replies line left are.steps all) image since
+                  ∙ ap (λ (x : State). x.image) (steps_leave May mode s are.state are.done are.replies are.steps done))
+                  (second.stops.before (d.moment old) image first.stops.later left');
+              rest = λ leave image left'.
+                  broke.still (subst (λ (o : Option (List ℕ)). is_kept_by_next (λ l. leaves_image_or false (command_of l)) o ≡ true) next leave) image
                   (law.earlier new (d.moment mid) (d.moment new) image second.stops.later left');
               during = λ safe fresh image left'. absurd (cc);
               exit = λ safe image left'. absurd (cc);

@@ -70,7 +70,7 @@ few_disc image (OneZone r) found space e is =
 few_disc image DiscD found space e is = few_found image 4 4 found space (hole_fault image 4) refl e is
 few_disc image (DiscL n) found space e is = few_found image 1 2 found space (hole_fault image 1) refl e is
 
-few_holes : (image : List ℕ) (kind : Kind) (v : Opened) (space : FreeSpace) → OpensAs image kind v → v.layout ≡ Layout.Old space → length space.holes ≤ hole_limit
+pub few_holes : (image : List ℕ) (kind : Kind) (v : Opened) (space : FreeSpace) → OpensAs image kind v → v.layout ≡ Layout.Old space → length space.holes ≤ hole_limit
 few_holes image kind v space opens is =
     let parts = parts_of image kind v opens.opened in
     few_disc image kind parts.0 space parts.1.1 (ap (λ (w : Opened). w.layout) parts.1.4 ∙ is)
@@ -78,7 +78,7 @@ few_holes image kind v space opens is =
 -- ---- nothing is short
 
 -- no bytes need no units
-no_need : (space : FreeSpace) → old_need space 0 ≡ 0
+pub no_need : (space : FreeSpace) → old_need space 0 ≡ 0
 no_need space =
     let none : div_ceil 0 (256 * space.sector_units) ≡ 0 = ap₂ (λ (a b : ℕ). a + min 1 b) (zero-div (256 * space.sector_units)) (zero-mod (256 * space.sector_units)) in
     ap (λ (n : ℕ). n * space.sector_units) none ∙ (let zero : 0 * space.sector_units ≡ 0 = omega arith in zero)
@@ -95,7 +95,7 @@ new_enough ids bits some need none nought =
     let second : nat_lt bits need ≡ false = ap (nat_lt bits) nought ∙ none_below bits in
     ap₂ (λ (a b : Bool). first_of (when a refusals.IdsFull ∷ when b refusals.DiscFull ∷ [])) first second
 
-old_enough : (space : FreeSpace) (need : ℕ) → need ≡ 0 → length space.holes ≤ hole_limit
+pub old_enough : (space : FreeSpace) (need : ℕ) → need ≡ 0 → length space.holes ≤ hole_limit
     → first_of (when (nat_lt (hole_sum space.holes) need) refusals.DiscFull
     ∷ when (nat_lt 0 need && is_none (first_fit_place need space.holes)) refusals.CompactionRequired
     ∷ when (nat_lt hole_limit (length (with_space_of space None (holes_without need space.holes)))) refusals.MapFull ∷ []) ≡ None

@@ -15,20 +15,22 @@ use Rattle.fc_image.specs.Layout.{dir_form}
 use Rattle.fc_image.specs.Objects.{tree_of}
 use Rattle.fc_image.specs.Stays.{OpensAs}
 use Rattle.fc_effects.specs.Effect.{State, tree_in}
+use Rattle.fc_safe.specs.Reclaim.{reclaimed_bytes}
 use Rattle.fc_safe.specs.SafeEffect.{HasTree}
 use Rattle.fc_script.specs.Lines.{command_of}
-use Rattle.fc_script.specs.Texts.{refusal_line}
+use Rattle.fc_script.specs.Texts.{reclaimed_line, refusal_line}
 use Rattle.fc_runs.specs.Early.{reply_begun}
 use Rattle.fc_runs.specs.ReadLaw.{is_reading, reading_reply}
-use Rattle.fc_runs.specs.Run.{Answers, Mode, Serves, Step, Takes, is_error, keeps_tree, keeps_tree_or, shortage}
-use Rattle.fc_runs.proofs.ReadLemmas.{read_law}
+use Rattle.fc_runs.specs.Run.{Answers, Mode, Serves, Step, Takes, is_error, keeps_tree, keeps_tree_or, reply_of, shortage}
+use Rattle.fc_runs.specs.Stops.{leaves_image_or}
+use Rattle.fc_runs.proofs.ReadLemmas.{read_law, same_state}
 use Rattle.fc_runs.proofs.RepliesLemmas.{changing_reply, kept_tree}
 use Rattle.fc_runs.proofs.TreeLemmas.{answer_ok, effect_tree}
 use Rattle.fc_tree.specs.Parts.{ArePartsOf}
 use Rattle.fc_volume.specs.Volume.{StandsFor, Volume, parts_of}
 use Rattle.fc_shell.specs.declared.answer.LineFault.{LineFault}
 use Rattle.fc_shell.specs.Answered.{Answered, IsCaused, volume_reply}
-use Rattle.fc_shell.specs.Line.{IsDone, IsReady, KeepsGoing, LeavesTree, LineEnds}
+use Rattle.fc_shell.specs.Line.{IsDone, IsReady, KeepsGoing, LeavesImage, LeavesTree, LineEnds}
 use Rattle.fc_shell.specs.Modes.{plain_mode}
 use Rattle.fc_shell.specs.Writing.{WrotePart}
 use Rattle.fc_shell.proofs.ErrorLemmas.{ok_no_error}
@@ -58,6 +60,40 @@ pub step_keeps : (mode : Mode) (s s' : State) (r : Result Command Refusal) (repl
 step_keeps mode s s' (Err refusal) reply x h = ap tree_in x.1
 step_keeps mode s s' (Ok c) reply x h = answered_keeps mode s s' c reply (answer (tree_in s) (dir_form s.view.layout) mode.read_only c) refl x h
 
+-- ---- a line that leaves the image
+
+-- An accepted command that doesn't read has a reply that ends with `ok`.
+done_no_error : (s s' : State) (c : Command) → is_reading c ≡ false → is_error (reply_of s c s') ≡ false
+done_no_error s s' (Command.Cat path) h = absurd (cc)
+done_no_error s s' (Command.Load path) h = absurd (cc)
+done_no_error s s' (Command.Digest path) h = absurd (cc)
+done_no_error s s' Command.Free h = absurd (cc)
+done_no_error s s' Command.Check h = absurd (cc)
+done_no_error s s' Command.Compact h = ok_no_error []
+done_no_error s s' Command.Reclaim h = ok_no_error (reclaimed_line (reclaimed_bytes s.view s'.view))
+done_no_error s s' (Command.Save path load exec bytes) h = ok_no_error []
+done_no_error s s' (Command.Create path load exec len) h = ok_no_error []
+done_no_error s s' (Command.Cdir path) h = ok_no_error []
+done_no_error s s' (Command.Delete path) h = ok_no_error []
+done_no_error s s' (Command.Rename from to) h = ok_no_error []
+done_no_error s s' (Command.Set path load exec access) h = ok_no_error []
+done_no_error s s' (Command.Mark path attrs) h = ok_no_error []
+
+served_leaves : (mode : Mode) (s s' : State) (c : Command) (t : Tree) (reply : List ℕ) (reads : Bool) (short : Option (List ℕ)) → is_reading c ≡ reads
+    → Serves mode s c t short reply s' → (is_error reply || reads) ≡ true → s' ≡ s
+served_leaves mode s s' c t reply reads (Some line) k x h = x.1
+served_leaves mode s s' c t reply true None k x h = same_state mode s s' c t k x.1
+served_leaves mode s s' c t reply false None k x h = absurd (both_false (is_error reply) (ap is_error x.0 ∙ done_no_error s s' c k) h)
+
+answered_leaves : (mode : Mode) (s s' : State) (c : Command) (reply : List ℕ) (a : Result Tree Refusal) → Answers mode s c a reply s' → (is_error reply || is_reading c) ≡ true → s' ≡ s
+answered_leaves mode s s' c reply (Err refusal) x h = x.1
+answered_leaves mode s s' c reply (Ok t) x h = served_leaves mode s s' c t reply (is_reading c) (shortage mode.safe s.view c) refl x h
+
+-- A line that is refused or reads leaves everything.
+pub step_leaves : (mode : Mode) (s s' : State) (r : Result Command Refusal) (reply : List ℕ) → Takes mode s r reply s' → leaves_image_or (is_error reply) r ≡ true → s' ≡ s
+step_leaves mode s s' (Err refusal) reply x h = x.1
+step_leaves mode s s' (Ok c) reply x h = answered_leaves mode s s' c reply (answer (tree_in s) (dir_form s.view.layout) mode.read_only c) x h
+
 -- the image of a state has its tree
 pub has_tree : (kind : Kind) (s : State) (image : List ℕ) → OpensAs s.image kind s.view → image ≡ s.image → HasTree kind (tree_in s) image
 has_tree kind s image opens same = record {
@@ -77,9 +113,12 @@ module _ {D : Type 0} {d : Ghosts D} (law : Laws d) (kind : Kind) (v : Volume) (
   pub same_tree : StopsAsBefore d old new → LeavesTree d old new kind s
   same_tree stops new_map image left = has_tree kind s image opens (law.settled old quiet s.image told image (stops.since image left))
 
+  pub same_image : StopsAsBefore d old new → LeavesImage d old new s
+  same_image stops image left = law.settled old quiet s.image told image (stops.since image left)
+
   -- The line is done, and leaves everything.
   pub read_done : (reply : List ℕ) → Step mode s line reply s → OnlyReads d old new → IsDone d old new kind v.read_only s line reply s
-  read_done reply step reads = record { step = step; holds = reads.bytes ∙ told; opens = opens; kept = λ keeps. same_tree reads.stops }
+  read_done reply step reads = record { step = step; holds = reads.bytes ∙ told; opens = opens; kept = λ keeps. same_tree reads.stops; still = λ leaves. same_image reads.stops }
 
   -- a line that leaves everything, whose reply tells no bytes
   pub left_ends : (reply : List ℕ) (result : Result Bool LineFault) → Step mode s line reply s → OnlyReads d old new → ArePartsOf (parts_of v) s.view
@@ -113,7 +152,7 @@ module _ {D : Type 0} {d : Ghosts D} (law : Laws d) (kind : Kind) (v : Volume) (
       by : (result : Result Bool LineFault) → Answered (reading_reply mode s c) before after result → LineEnds d old new kind v.read_only s v line before after result
       by (Ok refused) answered = record { reply = reading_reply mode s c; next = s; done = read_done (reading_reply mode s c) step reads; parts = parts; wrote = answered.0; refused_is = answered.1 }
       by (Err fault) answered =
-          inr (record { part = subst (WrotePart before after) (sym begun) answered; holds = λ never. reads.bytes ∙ told; kept = λ keeps. same_tree reads.stops })
+          inr (record { part = subst (WrotePart before after) (sym begun) answered; holds = λ never. reads.bytes ∙ told; kept = λ keeps. same_tree reads.stops; still = λ leaves. same_image reads.stops })
 
   -- a line that isn't begun
   pub unbegun_ends : (fault : LineFault) → OnlyReads d old new → before ≡ after → LineEnds d old new kind v.read_only s v line before after (Err fault)
@@ -122,6 +161,7 @@ module _ {D : Type 0} {d : Ghosts D} (law : Laws d) (kind : Kind) (v : Volume) (
         part = subst (λ (a : Option (List ℕ)). WrotePart before a (reply_begun mode s (command_of line))) same (0, wrote_nothing before);
         holds = λ never. reads.bytes ∙ told;
         kept = λ keeps. same_tree reads.stops;
+        still = λ leaves. same_image reads.stops;
       })
 
 -- ---- what they keep

@@ -59,10 +59,9 @@ are_big Seven = false
 are_big Ten = false
 are_big Long = true
 
--- A disc of this layout lacks the command: no command that changes the disc is built for old maps, and none that adds an entry for
--- big directories.
+-- A disc of this layout lacks the command: one with big directories those that add an entry.
 abbrev pub lacks : Layout → Command → Bool
-lacks (Layout.Old space) c = not (is_reading c)
+lacks (Layout.Old space) c = false
 lacks (Layout.New m) c = is_adding c && are_big (dir_form (Layout.New m))
 
 -- It lacks the command that the line spells.

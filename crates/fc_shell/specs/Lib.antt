@@ -3,6 +3,7 @@ pub mod Built
 pub mod Changing
 pub mod Counted
 pub mod Ends
+pub mod Headline
 pub mod Kept
 pub mod Left
 pub mod Line

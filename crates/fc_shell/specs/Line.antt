@@ -12,6 +12,7 @@ use Rattle.fc_safe.specs.SafeEffect.{HasTree}
 use Rattle.fc_script.specs.Lines.{command_of}
 use Rattle.fc_runs.specs.Early.{reply_begun}
 use Rattle.fc_runs.specs.Run.{Step, is_error, keeps_tree_or}
+use Rattle.fc_runs.specs.Stops.{leaves_image_or}
 use Rattle.fc_tree.specs.Parts.{ArePartsOf}
 use Rattle.fc_volume.specs.Volume.{StandsFor, Volume, parts_of}
 use Rattle.fc_shell.specs.declared.answer.LineFault.{LineFault}
@@ -26,13 +27,18 @@ use Rattle.fc_shell.specs.Writing.{Wrote, WrotePart}
 abbrev pub LeavesTree : {D : Type 0} → Ghosts D → D → D → Kind → State → Type 0
 LeavesTree d old new kind s = IsNewLayout s.view.layout → (image : List ℕ) → d.left_since new (d.moment old) image → HasTree kind (tree_in s) image
 
+-- A crash since then leaves the image of the state, on any map.
+abbrev pub LeavesImage : {D : Type 0} → Ghosts D → D → D → State → Type 0
+LeavesImage d old new s = (image : List ℕ) → d.left_since new (d.moment old) image → image ≡ s.image
+
 -- The line was done: a step with this reply leads from s to the state that the disk has now. A crash meanwhile leaves the tree, if the
--- line keeps it.
+-- line keeps it, and the image, if the line is refused or reads.
 pub record IsDone {D : Type 0} (d : Ghosts D) (old new : D) (kind : Kind) (read_only : Bool) (s : State) (line reply : List ℕ) (next : State) : Type 0 where
   pub step : Step (plain_mode kind read_only) s line reply next
   pub holds : d.bytes new ≡ Some next.image
   pub opens : OpensAs next.image kind next.view
   pub kept : keeps_tree_or (is_error reply) (command_of line) ≡ true → LeavesTree d old new kind s
+  pub still : leaves_image_or (is_error reply) (command_of line) ≡ true → LeavesImage d old new s
 
 -- It was done, and its whole reply written; the volume's parts are those of the new state.
 pub record IsAnswered {D : Type 0} (d : Ghosts D) (old new : D) (kind : Kind) (read_only : Bool) (s : State) (v : Volume) (line : List ℕ) (before after : Option (List ℕ)) (refused : Bool) : Type 0 where
@@ -56,6 +62,7 @@ pub record BreaksOff {D : Type 0} (d : Ghosts D) (old new : D) (kind : Kind) (re
   pub part : WrotePart before after (reply_begun (plain_mode kind read_only) s (command_of line))
   pub holds : (fault ≡ LineFault.Disk → ⊥) → d.bytes new ≡ Some s.image
   pub kept : keeps_tree_or false (command_of line) ≡ true → LeavesTree d old new kind s
+  pub still : leaves_image_or false (command_of line) ≡ true → LeavesImage d old new s
 
 -- what becomes of a line
 abbrev pub LineEnds : {D : Type 0} → Ghosts D → D → D → Kind → Bool → State → Volume → List ℕ → Option (List ℕ) → Option (List ℕ) → Result Bool LineFault → Type 0

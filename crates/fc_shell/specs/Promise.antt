@@ -35,8 +35,7 @@ EndsOnFault d old new fault text NoMemory = HasNoRun d old new [] text
 EndsOnFault d old new fault text OutFault = (n : ℕ) × HasNoRun d old new (take n (bad_image_line fault)) text
 EndsOnFault d old new fault text end = ⊥
 
--- The script has a command that isn't built for such a disc: over an old map one that changes the disc, and over big directories
--- one that adds an entry. The image was opened or made, and no line was begun.
+-- The script has a command that isn't built for such a disc. The image was opened or made, and no line was begun.
 pub record LacksCommand {D : Type 0} (d : Ghosts D) (old new : D) (fresh : Bool) (s : State) (script text : List ℕ) : Type 0 where
   pub lacking : has_lacking s.view.layout script ≡ true
   pub not_begun : HasNotSuited d old new fresh s text

@@ -6,14 +6,14 @@ use Rattle.fc_image.specs.Stays.{OpensAs}
 use Rattle.fc_effects.specs.Effect.{State}
 use Rattle.fc_runs.specs.Promises.{Cause, HasRun, HasStopped}
 use Rattle.fc_runs.specs.Run.{Steps, all_keep_tree, commands_in, text_of}
-use Rattle.fc_runs.specs.Stops.{MayHaveLeft}
+use Rattle.fc_runs.specs.Stops.{MayHaveLeft, all_leave_image}
 use Rattle.fc_tree.specs.Parts.{ArePartsOf}
 use Rattle.fc_volume.specs.Volume.{Volume, parts_of}
 use Rattle.fc_shell.specs.declared.answer.LineFault.{LineFault}
 use Rattle.fc_shell.specs.declared.answer.LineFault.TheVariants as lines
 use Rattle.fc_shell.specs.declared.tally.Tally.{Tally}
 use Rattle.fc_shell.specs.Counted.{AreCounted, has_refused}
-use Rattle.fc_shell.specs.Line.{LeavesTree}
+use Rattle.fc_shell.specs.Line.{LeavesImage, LeavesTree}
 use Rattle.fc_shell.specs.Modes.{plain_mode}
 use Rattle.fc_shell.specs.Writing.{Wrote}
 
@@ -27,6 +27,7 @@ pub record AreDone {D : Type 0} (d : Ghosts D) (old now : D) (kind : Kind) (read
   pub holds : d.bytes now ≡ Some state.image
   pub opens : OpensAs state.image kind state.view
   pub kept : all_keep_tree done replies ≡ true → LeavesTree d old now kind s
+  pub still : all_leave_image done replies ≡ true → LeavesImage d old now s
 
 -- Their replies were written, and the volume's parts are those of this state.
 pub record HasServed {D : Type 0} (d : Ghosts D) (old now : D) (kind : Kind) (read_only : Bool) (s : State) (script : List ℕ) (left : List (List ℕ)) (v : Volume) (tally : Tally) (before after : Option (List ℕ)) : Type 0 where

@@ -92,7 +92,7 @@ fn lacks(space: &Space, asked: &Command) -> bool
     ensures { result ≡ lacks (layout_of space.now) (command asked.now) }
 {
     match space {
-        Space::OldMapped(_) => !is_reading(asked),
+        Space::OldMapped(_) => false,
         Space::NewMapped(_) => is_adding(asked) && are_big(space.dir_form()),
     }
 }
@@ -102,7 +102,7 @@ fn lacks_nothing(space: &Space) -> bool
     ensures { result ≡ true → (c : Model) → lacks (layout_of space.now) c ≡ false }
 {
     match space {
-        Space::OldMapped(_) => false,
+        Space::OldMapped(_) => true,
         Space::NewMapped(_) => !are_big(space.dir_form()),
     }
 }

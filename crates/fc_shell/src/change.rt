@@ -1,5 +1,7 @@
 // Commands that change the disc.
 ghost use Rattle.std.specs.Prelude.{◌≡◌, ◌≤◌, List, ℕ, length, true, false, Ok, Err, IsFalse, IsTrue};
+ghost use Rattle.fc_image.specs.Stays.{IsNewLayout};
+ghost use Rattle.fc_oldvolume.specs.Changing.{IsOldLayout};
 ghost use Rattle.fc_runs.specs.Run.{keeps_tree};
 ghost use Rattle.fc_script.specs.Lines.{command_of};
 ghost use Rattle.fc_script.specs.Reading.{command};
@@ -16,11 +18,12 @@ use crate::reply::{refusal, tell};
 use crate::sink::write_all;
 use fc_device::{Disk, Sink};
 use fc_script::Command;
+use fc_space::Space;
 use fc_volume::{CommandError, Volume};
 use std::alloc::Global;
 
-/// Writes the reply to a command that was done. No memory is needed.
-pub fn tell_done<K: Sink>(out: &mut K) -> Result<bool, LineFault>
+// Writes the reply to a command that was done. No memory is needed.
+fn tell_done<K: Sink>(out: &mut K) -> Result<bool, LineFault>
     ensures answered { Answered ok_line (K.taken out.old) (K.taken out.new) result }
     ensures only { OnlyTells K.Sink out.old out.new result }
 {
@@ -41,8 +44,8 @@ fn tell_error<K: Sink>(alloc: Global, out: &mut K, error: CommandError) -> Resul
     }
 }
 
-// Writes the reply to a command that changes the disc, by what the volume answered. Answers whether it is an error line.
-fn tell_change<K: Sink>(
+/// Writes the reply to a command that changes the disc, by what the volume answered. Answers whether it is an error line.
+pub fn tell_change<K: Sink>(
     alloc: Global,
     out: &mut K,
     changed: Result<(), CommandError>,
@@ -55,8 +58,16 @@ fn tell_change<K: Sink>(
     }
 }
 
-// Asks a volume to do a command that changes the tree.
-fn change<D: Disk>(
+// Whether a volume's disc has an old map.
+pub fn has_old_map(volume: &Volume) -> bool
+    ensures old_map { result ≡ true → IsOldLayout (parts_of volume.now).layout }
+    ensures new_map { result ≡ false → IsNewLayout (parts_of volume.now).layout }
+{
+    matches!(volume.space(), Space::OldMapped(_))
+}
+
+// Asks a volume with a new map to do a command that changes the tree.
+fn change_new<D: Disk>(
     alloc: Global,
     volume: &mut Volume,
     disk: &mut D,
@@ -66,6 +77,7 @@ fn change<D: Disk>(
     requires fit { IsTrue volume.old.fit }
     requires stands { StandsFor D.Disk volume.old disk.old }
     requires settled { IsFalse (D.pending disk.old) }
+    requires new_map { IsNewLayout (parts_of volume.old).layout }
     requires built_for { lacks (parts_of volume.old).layout (command asked.now) ≡ false }
     requires built { is_built (command asked.now) ≡ true }
     requires changes { keeps_tree (command asked.now) ≡ false }
@@ -96,6 +108,73 @@ fn change<D: Disk>(
         Command::Rename { from, to } => volume.rename(alloc, disk, from, to),
         _ => unreachable!(),
     }
+}
+
+// The same of a volume with an old map.
+fn change_old<D: Disk>(
+    alloc: Global,
+    volume: &mut Volume,
+    disk: &mut D,
+    asked: &Command,
+) -> Result<(), CommandError>
+    requires attached { IsTrue (D.attached disk.old) }
+    requires fit { IsTrue volume.old.fit }
+    requires stands { StandsFor D.Disk volume.old disk.old }
+    requires settled { IsFalse (D.pending disk.old) }
+    requires old_map { IsOldLayout (parts_of volume.old).layout }
+    requires built_for { lacks (parts_of volume.old).layout (command asked.now) ≡ false }
+    requires built { is_built (command asked.now) ≡ true }
+    requires changes { keeps_tree (command asked.now) ≡ false }
+    requires spelled { (line : List ℕ) × (command_of line ≡ Ok (command asked.now)) × (length line ≤ script_limit) }
+    ensures { IsAsked D.Disk (command asked.now) volume.old volume.new disk.old disk.new result }
+{
+    match asked {
+        Command::Cdir { path } => fc_oldvolume::cdir(volume, alloc, disk, path),
+        Command::Delete { path } => fc_oldvolume::delete(volume, alloc, disk, path),
+        Command::Set {
+            path,
+            load,
+            exec,
+            access,
+        } => fc_oldvolume::set(volume, alloc, disk, path, *load, *exec, *access),
+        Command::Save {
+            path,
+            load,
+            exec,
+            bytes,
+        } => fc_oldvolume::save(volume, alloc, disk, path, *load, *exec, bytes.list()),
+        Command::Create {
+            path,
+            load,
+            exec,
+            len,
+        } => fc_oldvolume::create(volume, alloc, disk, path, *load, *exec, *len),
+        Command::Rename { from, to } => fc_oldvolume::rename(volume, alloc, disk, from, to),
+        _ => unreachable!(),
+    }
+}
+
+// Asks a volume to do a command that changes the tree.
+fn change<D: Disk>(
+    alloc: Global,
+    volume: &mut Volume,
+    disk: &mut D,
+    asked: &Command,
+) -> Result<(), CommandError>
+    requires attached { IsTrue (D.attached disk.old) }
+    requires fit { IsTrue volume.old.fit }
+    requires stands { StandsFor D.Disk volume.old disk.old }
+    requires settled { IsFalse (D.pending disk.old) }
+    requires built_for { lacks (parts_of volume.old).layout (command asked.now) ≡ false }
+    requires built { is_built (command asked.now) ≡ true }
+    requires changes { keeps_tree (command asked.now) ≡ false }
+    requires spelled { (line : List ℕ) × (command_of line ≡ Ok (command asked.now)) × (length line ≤ script_limit) }
+    ensures { IsAsked D.Disk (command asked.now) volume.old volume.new disk.old disk.new result }
+{
+    if has_old_map(volume) {
+        return change_old(alloc, volume, disk, asked);
+    }
+    change_new(alloc, volume, disk, asked)
 }
 
 /// Answers a command that changes the tree and is built for such a disc: does it, and then writes the reply. Answers whether the reply

@@ -1,7 +1,7 @@
 //! The top of the filing system: a run of a script over an image.
 //!
-//! Commands that read are served, over images of every kind and over fresh volumes. Commands that change the disc are served
-//! over new maps, those that add an entry only where directories have 2048 bytes. What needs more is answered by `End::NotBuilt`.
+//! All commands are served, over images of every kind and over fresh volumes, but for `reclaim`, and for those that add an entry
+//! where directories are big ones. What needs more is answered by `End::NotBuilt`.
 #![tactic(auto)]
 
 mod answer;
@@ -36,6 +36,7 @@ ghost use Rattle.fc_words.specs.CommandLine.{Request, request_of};
 ghost use Rattle.fc_words.specs.Request.{request_in};
 ghost use Rattle.fc_shell.specs.Built.{Spares, has_changing, has_unbuilt};
 ghost use Rattle.fc_shell.specs.Ends.{AsksFor, FitsGiven, is_early, is_late, is_over_image};
+ghost use Rattle.fc_shell.specs.Headline.{IsAnsweredByMap};
 ghost use Rattle.fc_shell.specs.Kept.{HasImage, LeavesDisk, LeavesUnbegun, LeavesUnbuilt, RunKeeps, RunSpares};
 ghost use Rattle.fc_shell.specs.Promise.{EndsByScript, EndsByWords, Promise};
 ghost use Rattle.fc_shell.specs.Reading.{IsUnwritten};
@@ -174,6 +175,14 @@ pub fn run<D: Disk, S: Source, K: Sink>(
         (text : List ℕ) × Wrote (K.taken out.old) (K.taken out.new) text
         × Promise D.Disk disk.old disk.new gives image lines text (request_of (map string_bytes words.now.items)) result))) }
 
+    // The headline. If all lines were done and all contents are known: the tree in the image is a map from paths to attributes and
+    // bytes. It answers the lines in turn (`answer`), but for those that the layout refuses, by written conditions on how the disc
+    // lies at that point (`short`). Their replies were written, of which `free` and `check` alone tell of the layout; and the image
+    // holds the map after them.
+    ensures headline { (r : Request) → request_of (map string_bytes words.now.items) ≡ Some r → (result ≡ End.Done) ⊎ (result ≡ End.Refused)
+        → ForSome (D.gives disk.old) (λ gives. ForSome (told_script r.demo (S.left script.old)) (λ lines. ForSome (D.bytes disk.old) (λ image.
+        (text : List ℕ) × Wrote (K.taken out.old) (K.taken out.new) text × IsAnsweredByMap D.Disk disk.new r image lines text))) }
+
     // If the script changes nothing, or asks for what isn't built, and is no demo's, end and text are even those of words, script and
     // image, unless a call failed or memory was short.
     ensures reply { AsksNoDemo (request_of (map string_bytes words.now.items)) → ForSome (D.gives disk.old) (λ gives. ForSome (S.left script.old) (λ text. ForSome (D.bytes disk.old) (λ image. (has_unbuilt text ≡ true) ⊎ (has_changing text ≡ false) →
@@ -226,8 +235,9 @@ pub fn run<D: Disk, S: Source, K: Sink>(
     ensures unread { (r : Request) → request_of (map string_bytes words.now.items) ≡ Some r → (n : ℕ) → r.demo ≡ Some n
         → (script.new ≡ script.old) × (result ≢ End.ScriptFault) × (result ≢ End.ScriptTooLong) }
 {
-    // A law, for the proof alone: an image that is accepted opens as its own kind.
+    // Laws, for the proof alone: an image that is accepted opens as its own kind, and lines are answered as by a map.
     fc_image::accepted();
+    fc_runs::headline();
     match read_words(alloc, words) {
         Err(WordsError::BadWords) => End::BadWords,
         Err(WordsError::NoMemory) => End::NoMemory,

@@ -2,6 +2,7 @@
 // programs.
 mod changes;
 mod crashes;
+mod old_maps;
 
 use crate::run;
 use fc_device::{Failing, ListSink, ListSource, MemoryDisk, PlainDisk};

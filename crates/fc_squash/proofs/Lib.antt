@@ -6,3 +6,4 @@ pub mod StandLemmas
 pub mod CarryLemmas
 pub mod EndLemmas
 pub mod LawLemmas
+mod ToldLemmas

@@ -3,7 +3,7 @@ ghost use Rattle.std.specs.Prelude.{◌≡◌, ◌≢◌, ◌<◌, ◌≤◌, �
 ghost use Rattle.fc_device.specs.Calls.{FailsByFault, SameForm};
 ghost use Rattle.fc_oldmap.specs.Holes.{hole_end, hole_limit, AreApart, IsHole};
 ghost use Rattle.fc_oldmap.specs.OldMap.{IsOldMap};
-ghost use Rattle.fc_squash.specs.Sliding.{IsSlidBy, TimeGoesOn};
+ghost use Rattle.fc_squash.specs.Sliding.{IsSlidBy, TellsAsBefore, TimeGoesOn};
 ghost use Rattle.fc_squash.specs.Squashing.{place, IsPulled};
 
 use crate::sliding::slide_down;
@@ -37,7 +37,7 @@ pub fn pull<D: Disk>(
 ) -> Result<u32, DiskFault>
     requires attached { IsTrue (D.attached disk.old) }
     requires size { D.sector_size disk.old ≡ 256 * map.old.sector_units }
-    requires on_disk { map.old.disc_units ≤ map.old.sector_units * D.sectors disk.old }
+    requires on_disk { map.old.disc_units / map.old.sector_units ≤ D.sectors disk.old }
     requires whole { length buffer.old ≡ D.sector_size disk.old }
     requires place { IsHole map.old.disc_units map.old.sector_units 0 (place object) }
     requires apart { All (AreApart (place object)) map.old.holes }
@@ -49,6 +49,7 @@ pub fn pull<D: Disk>(
     ensures err { OnErr result (map.new ≡ map.old) }
     ensures form { SameForm D.Disk disk.old disk.new }
     ensures stops { TimeGoesOn D.Disk disk.old disk.new }
+    ensures told { TellsAsBefore D.Disk disk.old disk.new }
     ensures cause { FailsByFault D.Disk disk.old disk.new result }
     ensures buffer { length buffer.new ≡ length buffer.old }
 {

@@ -1,8 +1,8 @@
 // All objects, one after another.
-ghost use Rattle.std.specs.Prelude.{◌≡◌, ◌<◌, ◌≤◌, ◌*◌, length, IsTrue, OnOk};
+ghost use Rattle.std.specs.Prelude.{◌≡◌, ◌<◌, ◌≤◌, ◌*◌, ◌/◌, length, IsTrue, OnOk};
 ghost use Rattle.fc_device.specs.Calls.{FailsByFault, SameForm};
 ghost use Rattle.fc_oldmap.specs.OldMap.{IsOldMap};
-ghost use Rattle.fc_squash.specs.Sliding.{TimeGoesOn};
+ghost use Rattle.fc_squash.specs.Sliding.{TellsAsBefore, TimeGoesOn};
 ghost use Rattle.fc_effects.specs.Moves.{Squashed};
 ghost use Rattle.fc_squash.specs.Squashing.{AreBodies, KeepsBodies, SquashedBy, with_start};
 
@@ -34,7 +34,7 @@ fn pull_all<D: Disk>(
 ) -> Result<(), DiskFault>
     requires attached { IsTrue (D.attached disk.old) }
     requires size { D.sector_size disk.old ≡ 256 * map.old.sector_units }
-    requires on_disk { map.old.disc_units ≤ map.old.sector_units * D.sectors disk.old }
+    requires on_disk { map.old.disc_units / map.old.sector_units ≤ D.sectors disk.old }
     requires whole { length buffer.old ≡ D.sector_size disk.old }
     requires map { IsOldMap map.old }
     requires bodies { AreBodies map.old owned.old }
@@ -43,6 +43,7 @@ fn pull_all<D: Disk>(
     ensures bytes { OnOk result (SquashedBy D.Disk disk.old disk.new map.old owned.old owned.new) }
     ensures form { SameForm D.Disk disk.old disk.new }
     ensures stops { TimeGoesOn D.Disk disk.old disk.new }
+    ensures told { TellsAsBefore D.Disk disk.old disk.new }
     ensures cause { FailsByFault D.Disk disk.old disk.new result }
 {
     map.tidy();
@@ -65,13 +66,14 @@ pub fn squash<D: Disk>(
 ) -> Result<(), DiskFault>
     requires attached { IsTrue (D.attached disk.old) }
     requires size { D.sector_size disk.old ≡ 256 * map.old.sector_units }
-    requires on_disk { map.old.disc_units ≤ map.old.sector_units * D.sectors disk.old }
+    requires on_disk { map.old.disc_units / map.old.sector_units ≤ D.sectors disk.old }
     requires bodies { AreBodies map.old owned.old.items }
     ensures bodies { KeepsBodies map.old map.new owned.old.items owned.new.items }
     ensures squashed { OnOk result (Squashed map.old map.new owned.old.items owned.new.items) }
     ensures bytes { OnOk result (SquashedBy D.Disk disk.old disk.new map.old owned.old.items owned.new.items) }
     ensures form { SameForm D.Disk disk.old disk.new }
     ensures stops { TimeGoesOn D.Disk disk.old disk.new }
+    ensures told { TellsAsBefore D.Disk disk.old disk.new }
     ensures cause { FailsByFault D.Disk disk.old disk.new result }
 {
     let mut room = [0; LARGEST];

@@ -21,6 +21,7 @@ use Rattle.fc_tree.specs.Nodes.{HoldObjects, nodes_of}
 use Rattle.fc_tree.specs.Parts.{ArePartsOf}
 use Rattle.fc_volume.specs.Changing.{refusal_in}
 use Rattle.fc_volume.specs.Renaming.{IsAccepted}
+use Rattle.fc_volume.specs.Roomy.{IsRoomy}
 use Rattle.fc_volume.specs.Volume.{Volume, parts_of}
 
 -- as the judge says
@@ -28,17 +29,17 @@ abbrev pub JudgesRename : Volume → Path → Path → NameForm → Result Renam
 JudgesRename v from to form result = (image : List ℕ) (layout : Layout) (listings : List Listing) → AreSound layout listings → HoldObjects (nodes_of v.tree) listings
     → refusal_of result ≡ first_of (reasons (tree_of image layout listings) form v.read_only (Command.Rename from to))
 
-pub accepted_by : (v : Volume) (from to : Path) (form : NameForm) (result : Result Renaming Refusal) → form ≡ dir_form (layout_of v.space) → dir_form (layout_of v.space) ≡ NameForm.Ten
+pub accepted_by : (v : Volume) (from to : Path) (form : NameForm) (result : Result Renaming Refusal) → form ≡ dir_form (layout_of v.space) → IsRoomy (parts_of v) (Command.Rename from to)
     → JudgesRename v from to form result
     → IfOk result (λ r. (layout : Layout) (listings : List Listing) → AreSound layout listings → HoldObjects (nodes_of v.tree) listings → IsRenaming (nodes_of v.tree) listings from to r)
     → OnOk result (IsTrue (is_writable form (last_name to))) → IfOk result (λ r. IsAccepted v from to r)
-accepted_by v from to form (Err refusal) is ten judge renaming name = tt
-accepted_by v from to form (Ok r) is ten judge renaming name = record {
+accepted_by v from to form (Err refusal) is roomy judge renaming name = tt
+accepted_by v from to form (Ok r) is roomy judge renaming name = record {
   renaming = renaming;
   accepted = λ image layout listings sound held.
       subst (λ (f : NameForm). first_of (reasons (tree_of image layout listings) f v.read_only (Command.Rename from to)) ≡ None) is (sym (judge image layout listings sound held));
   writable = subst (λ (f : NameForm). is_writable f (last_name to) ≡ Rattle.std.proofs.Common.true) is name;
-  small = ten;
+  roomy = roomy;
 }
 
 first_some : (xs : List (Option Refusal)) (o : Option Refusal) (r : Refusal) → first_of xs ≡ Some r → first_of (xs ++ o ∷ []) ≡ Some r

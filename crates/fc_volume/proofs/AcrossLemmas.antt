@@ -1,4 +1,4 @@
--- An entry that goes from one small directory to another, where it may be another one: both directories are ready in memory.
+-- An entry that goes from one directory to another, where it may be another one: both directories are ready in memory.
 use Rattle.std.proofs.Common.{◌≡◌, ◌||◌, ℕ, Bool, true, false, List, ◌∷◌, length, take, slice_get, None, refl, sym, ap, subst, ◌∙◌, arith}
 use Rattle.std.proofs.lemmas.List.{take_all}
 use Rattle.std.specs.Prelude.{Contains, IsPermutation}
@@ -47,8 +47,10 @@ use Rattle.fc_volume.specs.declared.changes.rewrite.Rewrite.{Rewrite}
 use Rattle.fc_volume.specs.ChangeLaws.{ChangeLaws}
 use Rattle.fc_volume.specs.Moving.{IsEntering, IsLeaving}
 use Rattle.fc_volume.specs.Relocating.{AreFilled}
-use Rattle.fc_volume.proofs.RenameLemmas.{listed_as, too_long}
-use Rattle.fc_volume.proofs.RenameSpaceLemmas.{no_growth}
+use Rattle.fc_volume.proofs.DeleteLemmas.{entries_left, form_left}
+use Rattle.fc_volume.proofs.RenameLemmas.{too_long}
+use Rattle.fc_volume.proofs.RespelledLemmas.{entries_come}
+use Rattle.fc_volume.proofs.RoomyLemmas.{HasRoomFor, form_entered, size_entered}
 use Rattle.fc_volume.proofs.RewriteLemmas.{size_of_form}
 use Rattle.fc_volume.proofs.SettingLemmas.{one_content}
 use Rattle.fc_volume.proofs.TargetLemmas as target_of
@@ -82,9 +84,6 @@ entered_form form len parent e old new dir is small has =
     by forms.Ten h = h
     by forms.Long h = absurd h
 
-entered_size : (parent : ℕ) (e : Entry) (old new : Directory) (dir : SmallDir) → HasEntered parent e old new → old ≡ Directory.Small dir → size_of new ≡ size_of old
-entered_size parent e old new dir is small = ap size_of (is.is ∙ ap (λ (d : Directory). with_head parent (with_new e d)) small) ∙ ap size_of (sym small)
-
 -- ---- paths
 
 or_second : (a b : Bool) → b ≡ true → (a || b) ≡ true
@@ -110,10 +109,8 @@ pub record AreBothReady (m : Map) (nodes : Nodes) (from to : Path) (rn : Renamin
   pub renaming : (layout : Layout) (listings : List Listing) → AreSound layout listings → HoldObjects nodes listings → IsRenaming nodes listings from to rn
   pub left : IsLeaving nodes (Layout.New m) rn.target (last_name to) leaving
   pub entering : IsEntering nodes (Layout.New m) rn.holder e into
-  pub from_dir : SmallDir
-  pub from_small : left.content ≡ Directory.Small from_dir
-  pub dir : SmallDir
-  pub small : entering.content ≡ Directory.Small dir
+  pub room : HasRoomFor entering.content e.name
+  pub no_growth : (view : Opened) → view.layout ≡ Layout.New m → AreSound (Layout.New m) view.listings → HoldObjects nodes view.listings → growth_in view (Command.Rename from to) ≡ None
 
 module _ {m : Map} {nodes : Nodes} {from to : Path} {rn : Renaming} {leaving : Leaving} {e : Entry} {into : Rewrite} (laws : ChangeLaws) (is : AreBothReady m nodes from to rn leaving e into) where
   abbrev pub t : Target
@@ -199,16 +196,19 @@ module _ {m : Map} {nodes : Nodes} {from to : Path} {rn : Renaming} {leaving : L
     o_among = child_is_object (Layout.New m) listings sound k o target.listed (contained k.children t.at o target.at)
 
     pub k_entries : entries_of k_content ≡ without_entry t.at (entries_of k.content)
-    k_entries = left_small (holder_address listings k.object.path) t.at k.content k_content is.from_dir left (sym k_content_is ∙ is.from_small)
+    k_entries = entries_left (holder_address listings k.object.path) t.at k.content k_content left
 
     pub l_entries : entries_of l_content ≡ with_new_entry e (entries_of l.content)
-    l_entries = entered_small (holder_address listings l.object.path) e l.content l_content is.dir entered (sym l_content_is ∙ is.small)
+    l_entries = entries_come (holder_address listings l.object.path) e l.content l_content entered
+
+    l_size : size_of l_content ≡ size_of l.content
+    l_size = size_entered (holder_address listings l.object.path) e l.content l_content e.name l entered refl (subst (λ (d : Directory). HasRoomFor d e.name) l_content_is is.room)
 
     pub k_form : HasForm form k.object.entry.len k.content → HasForm form k.object.entry.len k_content
-    k_form has = left_form form k.object.entry.len (holder_address listings k.object.path) t.at k.content k_content is.from_dir left (sym k_content_is ∙ is.from_small) has
+    k_form has = form_left form k.object.entry.len (holder_address listings k.object.path) t.at k.content k_content left has
 
     pub l_form : HasForm form l.object.entry.len l.content → HasForm form l.object.entry.len l_content
-    l_form has = entered_form form l.object.entry.len (holder_address listings l.object.path) e l.content l_content is.dir entered (sym l_content_is ∙ is.small) has
+    l_form has = form_entered form l.object.entry.len (holder_address listings l.object.path) e l.content l_content entered l_size has
 
     -- ---- lengths, where each directory has the disc's form
 
@@ -221,7 +221,7 @@ module _ {m : Map} {nodes : Nodes} {from to : Path} {rn : Renaming} {leaving : L
     pub long : ((d : Listing) → Contains listings d → HasForm form d.object.entry.len d.content) → IsLong
     long all = record {
       holder = is.entering.prepared.length_is
-          ∙ entered_size (holder_address listings l.object.path) e l.content l_content is.dir entered (sym l_content_is ∙ is.small)
+          ∙ l_size
           ∙ size_of_form form l.object.entry l.content (all l aim.listed) (target_of.directory nodes (Layout.New m) listings sound held l aim.listed rn.holder aim.holder_is)
           ∙ ap (object_size form) (sym l_entry_is);
       source = is.left.prepared.length_is ∙ left.size
@@ -273,8 +273,7 @@ module _ {m : Map} {nodes : Nodes} {from to : Path} {rn : Renaming} {leaving : L
     ds = aim view.listings view_sound hold
 
     pub grows_not : growth_in view c ≡ None
-    grows_not =
-        no_growth view from to y is.dir (listed_as (Layout.New m) view.listings view_sound (holder to) y ds.listed ds.above) (sym (l_content_is view.listings view_sound hold) ∙ is.small)
+    grows_not = is.no_growth view at view_sound hold
 
     -- neither directory is itself renamed
     x_not_itself : is_same_path x.object.path from ≡ false

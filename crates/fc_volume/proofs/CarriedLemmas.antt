@@ -1,5 +1,5 @@
 -- `rename` of a file that is copied: from what is ready in memory and written, to what it promises.
-use Rattle.std.proofs.Common.{◌≡◌, ◌<◌, ◌≤◌, ◌+◌, ◌-◌, ◌*◌, ◌/◌, ◌&&◌, ◌++◌, inl, inr, ℕ, Bool, true, false, cond, not, List, [], ◌∷◌, length, insert, remove, refl, sym, ap, ap₂, subst, ◌∙◌, arith, eq-eqb}
+use Rattle.std.proofs.Common.{◌≡◌, ◌<◌, ◌≤◌, ◌+◌, ◌-◌, ◌*◌, ◌/◌, ◌&&◌, ◌++◌, inl, inr, ℕ, Bool, true, false, cond, not, List, [], ◌∷◌, length, insert, remove, refl, sym, ap, ap₂, subst, ◌∙◌, arith, eq-eqb, None}
 use Rattle.std.specs.Prelude.{Contains}
 use Rattle.std.specs.Int.{div_ceil}
 use Rattle.std.specs.FinMap.{get}
@@ -16,13 +16,12 @@ use Rattle.fc_alloc.specs.Owners.{HaveOwnNodes, has_node, is_node, with_changed}
 use Rattle.fc_model.specs.Command.{Command}
 use Rattle.fc_model.specs.Tree.{holder, last_name}
 use Rattle.fc_dirs.specs.declared.Entry.{Entry}
-use Rattle.fc_dirs.specs.Small.{SmallDir}
 use Rattle.fc_dirs.specs.Entries.{entry_place, with_entry as with_new_entry}
 use Rattle.fc_dirs.specs.Directory.{Directory, directory_size, entries_of}
 use Rattle.fc_drafts.specs.Draft.{directory_in}
 use Rattle.fc_drafts.specs.Entries.{renamed_entry}
 use Rattle.fc_effects.specs.Placed.{file_low}
-use Rattle.fc_effects.specs.Short.{is_copied, is_sharing}
+use Rattle.fc_effects.specs.Short.{is_copied, is_sharing, growth_in}
 use Rattle.fc_changes.proofs.BasicLemmas.{any_in}
 use Rattle.fc_changes.specs.Changed.{IsInNewSpace}
 use Rattle.fc_changes.specs.Owed.{IsWritten}
@@ -68,6 +67,7 @@ use Rattle.fc_volume.proofs.RenameLemmas.{named_in}
 use Rattle.fc_volume.proofs.CarryingLemmas.{low_small}
 use Rattle.fc_volume.proofs.CopyingLemmas.{only_written}
 use Rattle.fc_volume.proofs.RewriteLemmas.{says_it}
+use Rattle.fc_volume.proofs.RoomyLemmas.{HasRoomFor}
 
 -- ---- what is copied
 
@@ -111,10 +111,8 @@ pub record IsReadyToCarry (m : Map) (nodes : Nodes) (owners : List Owner) (from 
   pub other : rn.holder ≡ rn.target.holder → ⊥
   pub renaming : (layout : Layout) (listings : List Listing) → AreSound layout listings → HoldObjects nodes listings → IsRenaming nodes listings from to rn
   pub ready : IsCarryReady nodes (Layout.New m) rn.target rn.holder (last_name to) r
-  pub from_dir : SmallDir
-  pub from_small : ready.left.content ≡ Directory.Small from_dir
-  pub dir : SmallDir
-  pub small : ready.entering.content ≡ Directory.Small dir
+  pub room : HasRoomFor ready.entering.content (last_name to)
+  pub no_growth : (view : Opened) → view.layout ≡ Layout.New m → AreSound (Layout.New m) view.listings → HoldObjects nodes view.listings → growth_in view (Command.Rename from to) ≡ None
   pub space : IsCopySpace m ready.node.entry.len r.space
   pub copied : SaysCopied owners rn.target.node rn.holder true
   pub own_nodes : HaveOwnNodes owners
@@ -130,10 +128,8 @@ module _ {m : Map} {nodes : Nodes} {owners : List Owner} {from to : Path} {rn : 
     renaming = is.renaming;
     left = is.ready.left;
     entering = is.ready.entering;
-    from_dir = is.from_dir;
-    from_small = is.from_small;
-    dir = is.dir;
-    small = is.small;
+    room = subst (HasRoomFor is.ready.entering.content) (sym (ap (λ (e : Entry). e.name) is.ready.entry ∙ ap (λ (e : Entry). e.name) is.ready.left.own)) is.room;
+    no_growth = is.no_growth;
   }
 
   abbrev name : List ℕ

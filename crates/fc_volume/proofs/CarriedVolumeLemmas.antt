@@ -1,5 +1,5 @@
 -- `rename` of a file that is copied, of a volume: what is asked before the writing, what is refused, and what the volume stands for afterwards.
-use Rattle.std.proofs.Common.{◌≡◌, ◌<◌, ◌≤◌, ℕ, Bool, true, false, List, Some, refl, sym, ap, subst, ◌∙◌, arith}
+use Rattle.std.proofs.Common.{◌≡◌, ◌<◌, ◌≤◌, ℕ, Bool, true, false, List, Some, refl, sym, ap, subst, ◌∙◌, arith, ◌^◌}
 use Rattle.std.specs.Prelude.{All, Contains, Result, is_some}
 use Rattle.std.specs.Option.{ForSome}
 use Rattle.std.specs.FinMap.{get}
@@ -26,7 +26,7 @@ use Rattle.fc_image.specs.Objects.{listing_at, objects_of}
 use Rattle.fc_image.specs.Opening.{Opened}
 use Rattle.fc_image.specs.Sound.{AreSound}
 use Rattle.fc_image.specs.Stays.{OpensAs}
-use Rattle.fc_image.specs.Walk.{Object, object_size}
+use Rattle.fc_image.specs.Walk.{Object, object_size, Listing}
 use Rattle.fc_image.proofs.HolesLemmas.{apart_at, apart_from}
 use Rattle.fc_objects.specs.Extents.{sectors_in}
 use Rattle.fc_placing.specs.Copying.{SaysCopied}
@@ -37,7 +37,7 @@ use Rattle.fc_space.specs.Space.{PlacesSuffice, layout_of}
 use Rattle.fc_takeover.specs.Laws.{TakesOver}
 use Rattle.fc_tree.specs.declared.node.Node.{Node}
 use Rattle.fc_tree.specs.Agree.{Agree}
-use Rattle.fc_tree.specs.Nodes.{body_of, nodes_of}
+use Rattle.fc_tree.specs.Nodes.{body_of, nodes_of, body_in}
 use Rattle.fc_tree.specs.Parts.{AreOwners, ArePartsOf, Parts}
 use Rattle.fc_tree.proofs.WalkedLemmas.{child_is_object, contained, same_some}
 use Rattle.fc_nodes.specs.Edits.{Nodes}
@@ -61,6 +61,8 @@ use Rattle.fc_volume.proofs.RenameVolumeLemmas as vol
 use Rattle.fc_volume.proofs.RenameVolumeLemmas.{placed_low}
 use Rattle.fc_volume.proofs.SetVolumeLemmas.{HasMap}
 use Rattle.fc_volume.proofs.SpacedLemmas.{HasNow, has_changed as space_changed, stands_now as space_stands}
+use Rattle.fc_volume.proofs.RoomyLemmas.{addressed_by}
+use Rattle.fc_drafts.specs.Draft.{CanAddress}
 
 -- The space is right for the node on each map that the volume's layout may be.
 abbrev pub HasCopySpace : Nodes → Layout → ℕ → Carrying → Type 0
@@ -122,8 +124,20 @@ module _ (w v : Volume) (same : w ≡ v) (m : Map) (layout : layout_of v.space �
       (subst (λ (l : Layout). CanCopy nodes l rn.target.node) (sym layout)
       (record { node = node; there = node_there; some = laws.copies.some seen m from to o placed copied; placed = ap is_some placed }))
 
-  pub small : dir_form (layout_of w.space) ≡ forms.Ten
-  small = ap (λ (x : Volume). dir_form (layout_of x.space)) same ∙ acc.small
+  abbrev y : Listing
+  y = known.destination.listing
+
+  -- the entries of the directory can have each address that a small one's can
+  fields_v : (n : Node) (content : Directory) (address : ℕ) → get nodes rn.holder ≡ Some n → n.body ≡ body_in content → (dir_form (layout_of v.space) ≡ forms.Ten → address < 2 ^ 24) → CanAddress content address
+  fields_v n content address there says low =
+      subst (λ (d : Directory). CanAddress d address) (sym (vol.y_says w v same m layout maps from to rn acc laws.rename agree other n content there says))
+      (addressed_by m y.content y.object.entry.len address (agreed.walked.forms y known.destination.listed) (λ small. low (ap dir_form layout ∙ small)))
+
+  pub fields : (n : Node) (content : Directory) (address : ℕ) → get (nodes_of w.tree) rn.holder ≡ Some n → n.body ≡ body_in content → (dir_form (layout_of w.space) ≡ forms.Ten → address < 2 ^ 24)
+      → CanAddress content address
+  fields =
+      subst (λ (x : Volume). (n : Node) (content : Directory) (address : ℕ) → get (nodes_of x.tree) rn.holder ≡ Some n → n.body ≡ body_in content → (dir_form (layout_of x.space) ≡ forms.Ten → address < 2 ^ 24)
+      → CanAddress content address) (sym same) fields_v
 
   module _ (r : Carrying) (ready_w : IsCarryReady (nodes_of w.tree) (layout_of w.space) rn.target rn.holder (last_name to) r)
       (space_w : HasCopySpace (nodes_of w.tree) (layout_of w.space) rn.target.node r) (single : HaveOwnNodes w.owners) where
@@ -134,27 +148,14 @@ module _ (w v : Volume) (same : w ≡ v) (m : Map) (layout : layout_of v.space �
     space : IsCopySpace m ready.node.entry.len r.space
     space = subst (λ (x : Volume). HasCopySpace (nodes_of x.tree) (layout_of x.space) rn.target.node r) same space_w m ready.node layout ready.there
 
-    from_small : (s : SmallDir) × (ready.left.content ≡ Directory.Small s)
-    from_small =
-        let s = vol.small_of (dir_form (Layout.New m)) known.target.listing.object.entry.len known.target.listing.content (ap dir_form (sym layout) ∙ acc.small)
-        (agreed.walked.forms known.target.listing known.target.listed) in
-        (s.0, vol.x_says w v same m layout maps from to rn acc laws.rename agree other ready.left.node ready.left.content ready.left.there ready.left.says ∙ s.1)
-
-    into_small : (s : SmallDir) × (ready.entering.content ≡ Directory.Small s)
-    into_small =
-        let s = vol.y_small w v same m layout maps from to rn acc laws.rename agree other in
-        (s.0, vol.y_says w v same m layout maps from to rn acc laws.rename agree other ready.entering.node ready.entering.content ready.entering.there ready.entering.says ∙ s.1)
-
     pub is_ready : carried.IsReadyToCarry m nodes v.owners from to rn r
     is_ready = record {
       ready = ready;
       is_map = is_map;
       other = other;
       renaming = acc.renaming;
-      from_dir = from_small.0;
-      from_small = from_small.1;
-      dir = into_small.0;
-      small = into_small.1;
+      room = vol.room_of w v same m layout maps from to rn acc laws.rename agree other ready.entering.node ready.entering.content ready.entering.there ready.entering.says;
+      no_growth = vol.stays w v same m layout maps from to rn acc laws.rename agree other;
       space = space;
       copied = says;
       own_nodes = subst (λ (x : Volume). HaveOwnNodes x.owners) same single;

@@ -14,7 +14,7 @@ use Rattle.fc_newmap.specs.Map.{Map, bits_in}
 use Rattle.fc_newmap.specs.NewMap.{IsNewMap}
 use Rattle.fc_dirs.specs.declared.Entry.{Entry}
 use Rattle.fc_dirs.specs.Directory.{Directory}
-use Rattle.fc_drafts.specs.Draft.{CanHold}
+use Rattle.fc_drafts.specs.Draft.{CanHold, CanAddress}
 use Rattle.fc_drafts.specs.Entries.{renamed_entry}
 use Rattle.fc_effects.specs.Placed.{file_low, has_spare_share}
 use Rattle.fc_image.specs.Layout.{Layout, dir_form, sectors_at}
@@ -38,11 +38,12 @@ use Rattle.fc_volume.proofs.SettingLemmas.{one_content}
 use Rattle.fc_volume.proofs.TargetLemmas.{few_ids}
 use Rattle.fc_volume.proofs.StoringLemmas.{stored_as, wider_first, wider_last}
 use Rattle.fc_volume.proofs.WritingLemmas.{part_kept, part_written}
+use Rattle.fc_tree.specs.Nodes.{body_in}
 
 -- ---- ready in memory
 
 -- a directory can hold an entry with any address that its field can hold
-readdressed : (d : Directory) (e : Entry) (name : List ℕ) (address : ℕ) → address < 2 ^ 24 → CanHold d e → CanHold d (renamed_entry e name address)
+readdressed : (d : Directory) (e : Entry) (name : List ℕ) (address : ℕ) → CanAddress d address → CanHold d e → CanHold d (renamed_entry e name address)
 readdressed (Directory.Small d) e name address low can = record { address = low; attrs = can.attrs; last = can.last }
 readdressed (Directory.Big d) e name address low can = can
 
@@ -53,7 +54,8 @@ module _ (nodes : FinMap nat_cmp Node) (layout : Layout) (t : Target) (dir : ℕ
       (sym left.says ∙ ap (λ (n : Node). n.body) (same_some left.node can.held.node (sym left.there ∙ can.held.there)) ∙ can.held.says)
 
   -- the other directory can take the copy's entry
-  pub can_take : (e : Entry) (address : ℕ) → address < 2 ^ 24 → e ≡ renamed_entry left.was name address → CanTake nodes layout dir e
+  pub can_take : (e : Entry) (address : ℕ) → ((node : Node) (content : Directory) → get nodes dir ≡ Some node → node.body ≡ body_in content → CanAddress content address)
+      → e ≡ renamed_entry left.was name address → CanTake nodes layout dir e
   can_take e address low is =
       subst (CanTake nodes layout dir) (sym is)
       (record {
@@ -65,7 +67,7 @@ module _ (nodes : FinMap nat_cmp Node) (layout : Layout) (t : Target) (dir : ℕ
         placed = can.placed;
         named = can.named;
         absent = can.absent;
-        held = readdressed can.content left.was name address low (can.holds left.was (subst (λ (d : Directory). CanHold d left.was) same_content left.held));
+        held = readdressed can.content left.was name address (low can.node can.content can.there can.says) (can.holds left.was (subst (λ (d : Directory). CanHold d left.was) same_content left.held));
       })
 
 module _ (nodes : FinMap nat_cmp Node) (layout : Layout) (n : ℕ) (can : CanCopy nodes layout n) (node : Node) (there : get nodes n ≡ Some node) where

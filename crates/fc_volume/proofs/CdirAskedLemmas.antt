@@ -5,7 +5,6 @@ use Rattle.std.specs.FinMap.{get}
 use Rattle.fc_device.specs.declared.disk.Disk.{Ghosts}
 use Rattle.fc_record.specs.declared.Kind.{Kind}
 use Rattle.fc_names.specs.declared.name.NameForm.{NameForm}
-use Rattle.fc_names.specs.declared.name.NameForm.TheVariants as forms
 use Rattle.fc_names.specs.declared.refusal.Refusal.{Refusal}
 use Rattle.fc_names.specs.Names.{Path, is_writable}
 use Rattle.fc_newmap.specs.Map.{Map}
@@ -30,9 +29,10 @@ use Rattle.fc_volume.specs.CdirLaws.{CdirLaws}
 use Rattle.fc_volume.specs.Making.{CanMakeIn, IsAdmitted, IsMakingReady}
 use Rattle.fc_volume.specs.Storing.{CanStore}
 use Rattle.fc_volume.specs.Volume.{StandsFor, Volume, parts_of}
-use Rattle.fc_volume.proofs.CdirHeldLemmas.{can_make, hole_apart, hole_on_disc, ten, unowned}
+use Rattle.fc_volume.proofs.CdirHeldLemmas.{can_make, formed, hole_apart, hole_on_disc, unowned}
 use Rattle.fc_volume.proofs.CdirLemmas.{IsReady}
 use Rattle.fc_volume.proofs.PieceLemmas.{all_low}
+use Rattle.fc_volume.proofs.RoomyLemmas.{HasRoomFor, room_found}
 use Rattle.fc_volume.proofs.SettingLemmas.{one_content}
 use Rattle.fc_volume.proofs.SetVolumeLemmas.{HasMap}
 use Rattle.fc_volume.proofs.TargetLemmas as target_of
@@ -42,13 +42,12 @@ use Rattle.fc_image.specs.Stays.{IsNewLayout}
 use Rattle.fc_volume.specs.Compacting.{UnlessFault}
 use Rattle.fc_volume.specs.Changing.{ChangeKeeps}
 use Rattle.std.specs.Prelude.{Err, Result, option_map}
-use Rattle.std.specs.Option.{option_and_then}
 use Rattle.fc_names.specs.Names.{is_same_path}
 use Rattle.fc_model.specs.Answer.{reasons}
 use Rattle.fc_model.specs.Command.{Command}
 use Rattle.fc_model.specs.Tree.{holder}
 use Rattle.fc_drafts.specs.Gains.{GetsName}
-use Rattle.fc_effects.specs.Short.{Gain, gain_in, gain_of, growth_in, growth_of, growth_with, short}
+use Rattle.fc_effects.specs.Short.{Gain, gain_in, gain_of, growth_in, short}
 use Rattle.fc_image.specs.Objects.{listing_at, tree_of}
 use Rattle.fc_image.specs.Opening.{Opened}
 use Rattle.fc_image.specs.Walk.{Object}
@@ -59,6 +58,7 @@ use Rattle.fc_volume.specs.declared.lines.CommandError.{CommandError}
 use Rattle.fc_volume.specs.declared.lines.CommandError.TheVariants.{Refused, NoMemory, DiskFault}
 use Rattle.fc_volume.specs.Changing.{AnswersBy, refusal_in}
 use Rattle.fc_volume.specs.Making.{AnswersSpace}
+use Rattle.fc_volume.specs.Roomy.{IsRoomy}
 use Rattle.fc_volume.proofs.JudgedLemmas.{refused_by}
 
 -- ---- the gain
@@ -86,21 +86,18 @@ module _ (m : Map) (nodes : Nodes) (listings : List Listing) (sound : AreSound (
           find_only (λ (k : Listing). is_same_path (holder path) k.object.path) listings at.0 l at.1 spot.above
           (λ i k at_k e. one_listing (Layout.New m) listings sound (holder path) at.0 i l k at.1 at_k spot.above e)
 
-  no_growth : (len : ℕ) (v : Opened) → v.listings ≡ listings → HasForm forms.Ten len content → growth_in v (Command.Cdir path) ≡ None
-  no_growth len v same form = ap (option_and_then growth_of) (gains v same) ∙ by l.content (gain_of path l) (subst (HasForm forms.Ten len) (sym same_content) form)
-    where
-      by : (c : Directory) (gain : Gain) → HasForm forms.Ten len c → growth_with l.object c gain ≡ None
-      by (Directory.Small x) gain h = refl
-      by (Directory.Big x) gain h = absurd h
-
-  -- what is answered for want of space
-  pub space_answered : {T : Type 0} (len : ℕ) (result : Result T CommandError) (v : Opened) (places : Layout) → v.listings ≡ listings → v.layout ≡ places → HasForm forms.Ten len content
+  -- what is answered for want of space, where the directory has room
+  pub space_answered : {T : Type 0} (result : Result T CommandError) (v : Opened) (places : Layout) → v.listings ≡ listings → v.layout ≡ places → growth_in v (Command.Cdir path) ≡ None
       → ((w : Opened) (gain : Gain) (n : Node) (c : Directory) → w.layout ≡ places → get nodes dir ≡ Some n → n.body ≡ body_in c → gain_in w (Command.Cdir path) ≡ Some gain
       → growth_in w (Command.Cdir path) ≡ None → GetsName c (last_name path) gain → gain.listing.content ≡ c → AnswersSpace result (short w (Command.Cdir path)))
       → AnswersSpace result (short v (Command.Cdir path))
-  space_answered len result v places same at form answers =
-      answers v (gain_of path l) node content at there says (gains v same) (no_growth len v same form)
+  space_answered result v places same at none answers =
+      answers v (gain_of path l) node content at there says (gains v same) none
       (subst (λ (c : Directory). GetsName c (last_name path) (gain_of path l)) same_content (record { name_is = refl; names_are = refl })) same_content
+
+  -- and it has that room
+  pub has_room : (v : Opened) → v.listings ≡ listings → growth_in v (Command.Cdir path) ≡ None → HasRoomFor content (last_name path)
+  has_room v same none = subst (λ (c : Directory). HasRoomFor c (last_name path)) same_content (room_found v (Command.Cdir path) path l (gains v same) none)
 
 -- ---- the volume
 
@@ -110,7 +107,7 @@ IsVacantIn v path dir = (layout : Layout) (listings : List Listing) → AreSound
 
 -- `w` is the same volume as `v`, by its parts.
 module _ (laws : CdirLaws) (w v : Volume) (same : w ≡ v) (m : Map) (layout : layout_of v.space ≡ Layout.New m) (maps : HasMap w) (path : Path) (dir : ℕ) (vacant : IsVacantIn w path dir)
-    (agree : (kind : Kind) × Agree kind (parts_of v)) (small : dir_form (Layout.New m) ≡ forms.Ten) where
+    (agree : (kind : Kind) × Agree kind (parts_of v)) (roomy : IsRoomy (parts_of v) (Command.Cdir path)) where
   is_map : IsNewMap m
   is_map = maps m (ap (λ (x : Volume). layout_of x.space) same ∙ layout)
 
@@ -139,7 +136,7 @@ module _ (laws : CdirLaws) (w v : Volume) (same : w ≡ v) (m : Map) (layout : l
     pub asked : CanMakeIn (nodes_of w.tree) m dir (last_name path)
     asked =
         subst (λ (x : Volume). CanMakeIn (nodes_of x.tree) m dir (last_name path)) (sym same)
-        (can_make m (nodes_of v.tree) agreed.listings sound agreed.walked.held path dir spot is_map small agreed.walked.forms good)
+        (can_make m (nodes_of v.tree) agreed.listings sound agreed.walked.held path dir spot is_map agreed.walked.forms good)
 
     -- what is answered for want of space, over each view whose parts the volume has
     pub answered : {T : Type 0} (result : Result T CommandError)
@@ -154,8 +151,7 @@ module _ (laws : CdirLaws) (w v : Volume) (same : w ≡ v) (m : Map) (layout : l
         (target_of.node (nodes_of v.tree) (Layout.New m) agreed.listings sound agreed.walked.held k spot.listed dir spot.holder_is) k.content
         (target_of.there (nodes_of v.tree) (Layout.New m) agreed.listings sound agreed.walked.held k spot.listed dir spot.holder_is)
         (target_of.says (nodes_of v.tree) (Layout.New m) agreed.listings sound agreed.walked.held k spot.listed dir spot.holder_is)
-        k.object.entry.len result view (layout_of v.space) refl (sym parts.layout)
-        (ten m (nodes_of v.tree) agreed.listings sound agreed.walked.held path dir spot is_map small agreed.walked.forms good)
+        result view (layout_of v.space) refl (sym parts.layout) (roomy view view_sound parts)
         (subst (λ (y : Volume). (x : Opened) (gain : Gain) (n : Node) (c : Directory) → x.layout ≡ layout_of y.space → get (nodes_of y.tree) dir ≡ Some n → n.body ≡ body_in c
         → gain_in x (Command.Cdir path) ≡ Some gain → growth_in x (Command.Cdir path) ≡ None → GetsName c (last_name path) gain → gain.listing.content ≡ c
         → AnswersSpace result (short x (Command.Cdir path))) same answers)
@@ -164,18 +160,35 @@ module _ (laws : CdirLaws) (w v : Volume) (same : w ≡ v) (m : Map) (layout : l
       made_v : IsMakingReady (nodes_of v.tree) m dir (last_name path) r
       made_v = subst (λ (x : Volume). IsMakingReady (nodes_of x.tree) m dir (last_name path) r) same made
 
-      form : HasForm forms.Ten made_v.node.entry.len made_v.content
+      node_is : target_of.node (nodes_of v.tree) (Layout.New m) agreed.listings sound agreed.walked.held spot.listing spot.listed dir spot.holder_is ≡ made_v.node
+      node_is = target_of.one_node (nodes_of v.tree) (Layout.New m) agreed.listings sound agreed.walked.held spot.listing spot.listed dir spot.holder_is made_v.node made_v.there
+
+      content_is : spot.listing.content ≡ made_v.content
+      content_is =
+          one_content spot.listing.content made_v.content
+          (sym (target_of.says (nodes_of v.tree) (Layout.New m) agreed.listings sound agreed.walked.held spot.listing spot.listed dir spot.holder_is)
+          ∙ ap (λ (n : Node). n.body) node_is ∙ made_v.says)
+
+      form : HasForm (dir_form (Layout.New m)) made_v.node.entry.len made_v.content
       form =
-          let l = spot.listing in
-          let node_is = target_of.one_node (nodes_of v.tree) (Layout.New m) agreed.listings sound agreed.walked.held l spot.listed dir spot.holder_is made_v.node made_v.there in
-          let says = target_of.says (nodes_of v.tree) (Layout.New m) agreed.listings sound agreed.walked.held l spot.listed dir spot.holder_is in
-          let content_is : l.content ≡ made_v.content = one_content l.content made_v.content (sym says ∙ ap (λ (n : Node). n.body) node_is ∙ made_v.says) in
-          subst (HasForm forms.Ten made_v.node.entry.len) content_is
-          (subst (λ (n : Node). HasForm forms.Ten n.entry.len l.content) node_is
-          (ten m (nodes_of v.tree) agreed.listings sound agreed.walked.held path dir spot is_map small agreed.walked.forms good))
+          subst (HasForm (dir_form (Layout.New m)) made_v.node.entry.len) content_is
+          (subst (λ (n : Node). HasForm (dir_form (Layout.New m)) n.entry.len spot.listing.content) node_is
+          (formed m (nodes_of v.tree) agreed.listings sound agreed.walked.held path dir spot is_map agreed.walked.forms good))
+
+      -- the walk over the nodes tells that the directory has room
+      abbrev own_view : Opened
+      own_view = record { kind = agree.0; layout = Layout.New m; listings = agreed.listings }
+
+      no_growth : growth_in own_view (Command.Cdir path) ≡ None
+      no_growth =
+          subst (λ (x : Layout). IsRoomy (record { layout = x; nodes = nodes_of v.tree; owners = v.owners }) (Command.Cdir path)) layout roomy own_view
+          (laws.agreed.sound_by agree.0 parts_v agreed) (laws.agreed.viewed agree.0 parts_v agreed)
+
+      room_there : HasRoomFor made_v.content (last_name path)
+      room_there = has_room m (nodes_of v.tree) agreed.listings sound agreed.walked.held path dir spot made_v.node made_v.content made_v.there made_v.says own_view refl no_growth
 
       pub ready : (n : ℕ) → get (nodes_of v.tree) n ≡ None → IsReady m (nodes_of v.tree) path dir n r
-      ready n free = record { is_map = is_map; small = small; vacant = vacant_v; free = free; ready = made_v; form = form }
+      ready n free = record { is_map = is_map; vacant = vacant_v; free = free; ready = made_v; form = form; room = room_there }
 
       pub can_store : CanStore m r.object
       can_store = record {

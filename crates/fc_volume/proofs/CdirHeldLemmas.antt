@@ -46,6 +46,7 @@ use Rattle.fc_agree.proofs.BeforeLemmas.{new_facts, new_shape, tight}
 use Rattle.fc_refusals.specs.Targets.{IsVacant}
 use Rattle.fc_volume.specs.Making.{CanGain, CanHoldNew, CanMakeIn}
 use Rattle.fc_volume.proofs.ReadingLemmas.{each_at}
+use Rattle.fc_volume.proofs.RoomyLemmas.{addressed_by}
 use Rattle.fc_volume.proofs.TargetLemmas as target_of
 use Rattle.fc_volume.proofs.TargetLemmas.{addressed, few_ids}
 
@@ -72,13 +73,11 @@ small_addresses : (content : Directory) (len address : ℕ) → HasForm forms.Te
 small_addresses (Directory.Small dir) len address has can = can
 small_addresses (Directory.Big dir) len address has can = absurd has
 
-pub by_small : (content : Directory) (len address : ℕ) → HasForm forms.Ten len content → address < 2 ^ 24 → CanAddress content address
-by_small (Directory.Small dir) len address has low = low
-by_small (Directory.Big dir) len address has low = absurd has
-
-by_form : (content : Directory) (len : ℕ) (name : List ℕ) → HasForm forms.Ten len content → is_writable forms.Ten name ≡ true → CanName content name
-by_form (Directory.Small dir) len name has good = subst (λ (f : SmallForm). is_writable (names_of_form f) name ≡ true) (sym has) good
-by_form (Directory.Big dir) len name has good = absurd has
+pub by_form : (form : NameForm) (content : Directory) (len : ℕ) (name : List ℕ) → HasForm form len content → is_writable form name ≡ true → CanName content name
+by_form forms.Seven (Directory.Small dir) len name has good = subst (λ (f : SmallForm). is_writable (names_of_form f) name ≡ true) (sym has) good
+by_form forms.Ten (Directory.Small dir) len name has good = subst (λ (f : SmallForm). is_writable (names_of_form f) name ≡ true) (sym has) good
+by_form forms.Long (Directory.Small dir) len name has good = absurd has
+by_form form (Directory.Big dir) len name has good = tt
 
 short_name : (name : List ℕ) → is_writable forms.Ten name ≡ true → length name ≤ 10
 short_name name good = leb-true (length name) 10 (second (nat_le 1 (length name)) (nat_le (length name) 10) (first (nat_le 1 (length name) && nat_le (length name) 10) (list_all (is_writable_byte forms.Ten) name) good))
@@ -91,8 +90,17 @@ short_name name good = leb-true (length name) 10 (second (nat_le 1 (length name)
     second true b e = e
     second false b e = absurd (cc)
 
+-- a new directory can name its holder, and has the name
+new_parent : (b : Bool) (address : ℕ) (name : List ℕ) → (cond b forms.Ten forms.Long ≡ forms.Ten → address < 2 ^ 24) → CanAddress (new_directory (cond b forms.Ten forms.Long) address name) address
+new_parent true address name low = low refl
+new_parent false address name low = tt
+
+new_called : (b : Bool) (address : ℕ) (name : List ℕ) → is_writable (cond b forms.Ten forms.Long) name ≡ true → CanBeCalled (new_directory (cond b forms.Ten forms.Long) address name) name
+new_called true address name good = short_name name good
+new_called false address name good = tt
+
 module _ (m : Map) (nodes : Nodes) (listings : List Listing) (sound : AreSound (Layout.New m) listings) (held : HoldObjects nodes listings) (path : Path) (dir : ℕ) (spot : IsVacant nodes listings path dir)
-    (is : IsNewMap m) (small : dir_form (Layout.New m) ≡ forms.Ten) (forms_are : (k : Listing) → Contains listings k → HasForm (dir_form (Layout.New m)) k.object.entry.len k.content)
+    (is : IsNewMap m) (forms_are : (k : Listing) → Contains listings k → HasForm (dir_form (Layout.New m)) k.object.entry.len k.content)
     (good : is_writable (dir_form (Layout.New m)) (last_name path) ≡ true) where
   abbrev l : Listing
   l = spot.listing
@@ -100,17 +108,14 @@ module _ (m : Map) (nodes : Nodes) (listings : List Listing) (sound : AreSound (
   abbrev layout : Layout
   layout = Layout.New m
 
-  pub ten : HasForm forms.Ten l.object.entry.len l.content
-  ten = subst (λ (f : NameForm). HasForm f l.object.entry.len l.content) small (forms_are l spot.listed)
+  pub formed : HasForm (dir_form (Layout.New m)) l.object.entry.len l.content
+  formed = forms_are l spot.listed
 
-  good_ten : is_writable forms.Ten (last_name path) ≡ true
-  good_ten = subst (λ (f : NameForm). is_writable f (last_name path) ≡ true) small good
-
-  own_address : l.object.entry.address < 2 ^ 24
-  own_address =
+  own_address : dir_form (Layout.New m) ≡ forms.Ten → l.object.entry.address < 2 ^ 24
+  own_address small =
       let top = listed_directory layout listings sound l spot.listed in
-      small_addresses l.content l.object.entry.len l.object.entry.address ten
-      (addressed m l.content l.object.entry.len l.object is (forms_are l spot.listed) top.1 (each_at layout listings sound l.object top.0))
+      small_addresses l.content l.object.entry.len l.object.entry.address (subst (λ (f : NameForm). HasForm f l.object.entry.len l.content) small formed)
+      (addressed m l.content l.object.entry.len l.object is formed top.1 (each_at layout listings sound l.object top.0))
 
   pub gain : CanGain nodes m dir (last_name path) (target_of.node nodes layout listings sound held l spot.listed dir spot.holder_is) l.content
   gain =
@@ -122,15 +127,15 @@ module _ (m : Map) (nodes : Nodes) (listings : List Listing) (sound : AreSound (
         placed = ap is_some (target_of.placed nodes layout listings sound held l spot.listed dir spot.holder_is);
         addressed = subst (CanAddress l.content) (sym (target_of.above_address nodes layout listings sound held l spot.listed dir spot.holder_is))
             (addressed m l.content l.object.entry.len up.0.object is (forms_are l spot.listed) top.1 (each_at layout listings sound up.0.object top.0));
-        ids = λ id low. by_small l.content l.object.entry.len (256 * id) ten (few_ids m is small id low);
-        named = by_form l.content l.object.entry.len (last_name path) ten good_ten;
+        ids = λ id low. addressed_by m l.content l.object.entry.len (256 * id) formed (λ small. few_ids m is small id low);
+        named = by_form (dir_form (Layout.New m)) l.content l.object.entry.len (last_name path) formed good;
         absent = spot.no_name;
       }
 
   pub hold : CanHoldNew m (last_name path) (target_of.node nodes layout listings sound held l spot.listed dir spot.holder_is)
   hold = record {
-    parent = subst (λ (f : NameForm). CanAddress (new_directory f l.object.entry.address (last_name path)) l.object.entry.address) (sym small) own_address;
-    called = subst (λ (f : NameForm). CanBeCalled (new_directory f l.object.entry.address (last_name path)) (last_name path)) (sym small) (short_name (last_name path) good_ten);
+    parent = new_parent (m.geometry.version == 0) l.object.entry.address (last_name path) own_address;
+    called = new_called (m.geometry.version == 0) l.object.entry.address (last_name path) good;
   }
 
   pub can_make : CanMakeIn nodes m dir (last_name path)

@@ -17,7 +17,7 @@ use Rattle.fc_dirs.specs.declared.Entry.{Entry}
 use Rattle.fc_dirs.specs.declared.SmallForm.{SmallForm}
 use Rattle.fc_dirs.specs.Small.{tail_of}
 use Rattle.fc_dirs.specs.Entries.{entry_place, has_name}
-use Rattle.fc_dirs.specs.Directory.{Directory, entries_of}
+use Rattle.fc_dirs.specs.Directory.{Directory, directory_size, entries_of}
 use Rattle.fc_drafts.specs.Draft.{IsSayable, directory_in, size_of, with_head, with_new}
 use Rattle.fc_drafts.specs.Entries.{directory_entry}
 use Rattle.fc_drafts.specs.Rewriting.{HasEntered}
@@ -67,7 +67,9 @@ use Rattle.fc_takeover.specs.Places.{OpensBy}
 use Rattle.fc_takeover.specs.Steps.{IsMadeInSteps}
 use Rattle.fc_volume.specs.Changing.{WritesPlaces}
 use Rattle.fc_volume.specs.Storing.{IsObjectMade}
-use Rattle.fc_volume.proofs.MakingLemmas.{new_size}
+use Rattle.fc_volume.proofs.MakingLemmas.{dir_bytes, new_size}
+use Rattle.fc_volume.proofs.RewriteLemmas.{size_of_form}
+use Rattle.fc_volume.proofs.RoomyLemmas.{HasRoomFor, entries_entered, form_entered, room_kept, size_entered}
 use Rattle.fc_refusals.specs.Targets.{IsVacant}
 use Rattle.fc_refusals.proofs.HolderLemmas.{named}
 use Rattle.fc_volume.specs.declared.changes.making.Making.{Making}
@@ -98,22 +100,6 @@ at_path path dir name some above same =
 
 -- ---- directories
 
--- a small directory that gets an entry keeps its form, and its entries have the new one
-pub entered_form : (len parent : ℕ) (e : Entry) (old new : Directory) → HasEntered parent e old new → HasForm forms.Ten len old → HasForm forms.Ten len new
-entered_form len parent e old new is has = subst (HasForm forms.Ten len) (sym is.is) (by old has)
-  where
-    by : (dir : Directory) → HasForm forms.Ten len dir → HasForm forms.Ten len (with_head parent (with_new e dir))
-    by (Directory.Small dir) h = h
-    by (Directory.Big dir) h = absurd h
-
-pub entered_entries : (len parent : ℕ) (e : Entry) (old new : Directory) → HasEntered parent e old new → HasForm forms.Ten len old
-    → entries_of new ≡ insert (entries_of old) (entry_place e.name (entries_of old)) e
-entered_entries len parent e old new is has = ap entries_of is.is ∙ by old has
-  where
-    by : (dir : Directory) → HasForm forms.Ten len dir → entries_of (with_head parent (with_new e dir)) ≡ insert (entries_of dir) (entry_place e.name (entries_of dir)) e
-    by (Directory.Small dir) h = refl
-    by (Directory.Big dir) h = absurd h
-
 pub no_entries : (form : NameForm) (parent : ℕ) (name : List ℕ) → entries_of (new_directory form parent name) ≡ []
 no_entries forms.Seven parent name = refl
 no_entries forms.Ten parent name = refl
@@ -123,10 +109,10 @@ says_it : (dir : Directory) → IsSayable dir → IsDirectory dir
 says_it (Directory.Small dir) is = is
 says_it (Directory.Big dir) is = is
 
--- the bytes of a small directory
-pub small_size : (len : ℕ) (e : Entry) (dir : Directory) → HasForm forms.Ten len dir → is_directory e.attrs ≡ true → size_of dir ≡ object_size forms.Ten e
-small_size len e (Directory.Small dir) has is = ap (λ (f : SmallForm). (tail_of f).size) has ∙ ap (λ (b : Bool). cond b 2048 e.len) (sym is)
-small_size len e (Directory.Big dir) has is = absurd has
+-- a new directory has the length of its form
+new_length : (b : Bool) → directory_size (cond b forms.Ten forms.Long) (new_dir_size (cond b forms.Ten forms.Long)) ≡ new_dir_size (cond b forms.Ten forms.Long)
+new_length true = refl
+new_length false = refl
 
 -- a new directory takes a sector at least
 some_needed : (m : Map) → IsNewMap m → 0 < div_ceil 2048 m.geometry.sector
@@ -142,11 +128,11 @@ some_needed m is = elim (geometry_facts m.geometry is.of_record).size [
 
 pub record IsReady (m : Map) (nodes : Nodes) (path : Path) (dir number : ℕ) (r : Making) : Type 0 where
   pub is_map : IsNewMap m
-  pub small : dir_form (Layout.New m) ≡ forms.Ten
   pub vacant : (layout : Layout) (listings : List Listing) → AreSound layout listings → HoldObjects nodes listings → IsVacant nodes listings path dir
   pub free : get nodes number ≡ None
   pub ready : IsMakingReady nodes m dir (last_name path) r
-  pub form : HasForm forms.Ten ready.node.entry.len ready.content
+  pub form : HasForm (dir_form (Layout.New m)) ready.node.entry.len ready.content
+  pub room : HasRoomFor ready.content (last_name path)
 
 -- ---- the edit
 
@@ -234,11 +220,25 @@ module _ (laws : CdirLaws) (m : Map) (nodes : Nodes) (path : Path) (dir number :
     pub new_says : directory_in r.draft ≡ new_directory (dir_form (Layout.New m)) l.object.entry.address (last_name path)
     new_says = is.ready.new_says ∙ ap (λ (e : Entry). new_directory (dir_form (Layout.New m)) e.address (last_name path)) entry_is
 
-    pub ten : HasForm forms.Ten l.object.entry.len l.content
-    ten = subst (λ (e : Entry). HasForm forms.Ten e.len l.content) entry_is (subst (HasForm forms.Ten is.ready.node.entry.len) content_is is.form)
+    pub formed : HasForm (dir_form (Layout.New m)) l.object.entry.len l.content
+    formed =
+        subst (λ (e : Entry). HasForm (dir_form (Layout.New m)) e.len l.content) entry_is
+        (subst (HasForm (dir_form (Layout.New m)) is.ready.node.entry.len) content_is is.form)
+
+    pub has_room : HasRoomFor l.content (last_name path)
+    has_room = subst (λ (d : Directory). HasRoomFor d (last_name path)) content_is is.room
+
+    pub absent : has_name (entries_of l.content) r.entry.name ≡ false
+    absent = ap (has_name (entries_of l.content)) name_is ∙ spot.no_name
 
     pub entries_are : entries_of content ≡ insert (entries_of l.content) j r.entry
-    entries_are = entered_entries l.object.entry.len (holder_address listings l.object.path) r.entry l.content content entered ten
+    entries_are = entries_entered (holder_address listings l.object.path) r.entry l.content content entered absent
+
+    -- it keeps its size, and so its form
+    pub formed_now : HasForm (dir_form (Layout.New m)) l.object.entry.len content
+    formed_now =
+        form_entered (dir_form (Layout.New m)) l.object.entry.len (holder_address listings l.object.path) r.entry l.content content entered
+        (size_entered (holder_address listings l.object.path) r.entry l.content content (last_name path) l entered name_is has_room) formed
 
     pub edit : IsDirectoryAdded nodes nodes' listings listings' rest l content j d dir number
     edit = record {
@@ -249,7 +249,7 @@ module _ (laws : CdirLaws) (m : Map) (nodes : Nodes) (path : Path) (dir number :
       empty = refl;
       says_none = ap entries_of is.ready.new_says ∙ no_entries (dir_form (Layout.New m)) is.ready.node.entry.address (last_name path);
       path = refl;
-      absent = ap (has_name (entries_of l.content)) name_is ∙ spot.no_name;
+      absent = absent;
       entries = entries_are;
       listings_are = refl;
       nodes_are = λ i. put (with_body (is.ready.prepared.node i) (body_in content) nodes) number (record { holder = is.ready.prepared.node i; entry = r.entry; body = body_in (directory_in r.draft) });
@@ -261,9 +261,7 @@ module _ (laws : CdirLaws) (m : Map) (nodes : Nodes) (path : Path) (dir number :
     -- the bytes of the directory that holds it
     pub long : length r.directory.bytes.items ≡ object_size (dir_form (Layout.New m)) l.object.entry
     long =
-        is.ready.prepared.length_is
-        ∙ small_size l.object.entry.len l.object.entry content (entered_form l.object.entry.len (holder_address listings l.object.path) r.entry l.content content entered ten) is_dir
-        ∙ ap (λ (f : NameForm). object_size f l.object.entry) (sym is.small)
+        is.ready.prepared.length_is ∙ size_of_form (dir_form (Layout.New m)) l.object.entry content formed_now is_dir
 
     -- no directory grows
     pub gains : (v : Opened) → v.listings ≡ listings → gain_in v (Command.Cdir path) ≡ Some (gain_of path l)
@@ -279,11 +277,7 @@ module _ (laws : CdirLaws) (m : Map) (nodes : Nodes) (path : Path) (dir number :
             (λ i k at_k e. one_listing (Layout.New m) listings sound (holder path) at.0 i l k at.1 at_k spot.above e)
 
     pub no_growth : (v : Opened) → v.listings ≡ listings → growth_in v (Command.Cdir path) ≡ None
-    no_growth v same = ap (option_and_then growth_of) (gains v same) ∙ by l.content (gain_of path l) ten
-      where
-        by : (content : Directory) (gain : Gain) → HasForm forms.Ten l.object.entry.len content → growth_with l.object content gain ≡ None
-        by (Directory.Small x) gain h = refl
-        by (Directory.Big x) gain h = absurd h
+    no_growth v same = room_kept v (Command.Cdir path) path l (gains v same) has_room
 
   -- ---- the space
 
@@ -303,13 +297,14 @@ module _ (laws : CdirLaws) (m : Map) (nodes : Nodes) (path : Path) (dir number :
     len_is : r.entry.len ≡ new_dir_size (dir_form (Layout.New m))
     len_is = ap (λ (e : Entry). e.len) is.ready.entry
 
-    small' : dir_form (Layout.New m') ≡ forms.Ten
-    small' = ap (λ (g : Geometry). cond (g.version == 0) forms.Ten forms.Long) geometry ∙ is.small
+    -- the bytes of the new directory, whichever form it has
+    own_size : object_size (dir_form (Layout.New m)) r.entry ≡ new_dir_size (dir_form (Layout.New m))
+    own_size =
+        ap (λ (b : Bool). cond b (directory_size (dir_form (Layout.New m)) r.entry.len) r.entry.len) attrs_is ∙ ap (directory_size (dir_form (Layout.New m))) len_is
+        ∙ new_length (m.geometry.version == 0)
 
     size_is : object_size (dir_form (Layout.New m')) r.entry ≡ new_dir_size (dir_form (Layout.New m))
-    size_is =
-        ap (λ (f : NameForm). object_size f r.entry) small' ∙ ap (λ (b : Bool). cond b 2048 r.entry.len) attrs_is
-        ∙ (let n : 2048 ≡ new_dir_size forms.Ten = refl in n) ∙ sym (ap new_dir_size is.small)
+    size_is = ap (λ (g : Geometry). object_size (cond (g.version == 0) forms.Ten forms.Long) r.entry) geometry ∙ own_size
 
     lies : sectors_at (Layout.New m') r.entry.address (object_size (dir_form (Layout.New m')) r.entry) ≡ Some new_sectors
     lies = ap₂ (sectors_at (Layout.New m')) address_is size_is ∙ is.ready.object.place.at m' 0 (omega arith) has.taken
@@ -343,7 +338,7 @@ module _ (laws : CdirLaws) (m : Map) (nodes : Nodes) (path : Path) (dir number :
       some_sectors = lt-ltb 0 (length new_sectors) (subst (λ (n : ℕ). 0 < n) (sym (count_is ∙ ap (λ (n : ℕ). div_ceil n m.geometry.sector) bytes_are)) (some_needed m is.is_map))
         where
           bytes_are : object_size (dir_form (Layout.New m)) r.entry ≡ 2048
-          bytes_are = ap (λ (f : NameForm). object_size f r.entry) is.small ∙ ap (λ (b : Bool). cond b 2048 r.entry.len) attrs_is
+          bytes_are = own_size ∙ dir_bytes m
 
       edited : (owners : List Owner) → OwnersEdited owners (owners ++ owner ∷ []) [] (owners_with (Layout.New m') dir number p)
       edited owners = record {
@@ -377,8 +372,7 @@ module _ (laws : CdirLaws) (m : Map) (nodes : Nodes) (path : Path) (dir number :
         laws.added_agree kind m m' nodes nodes' owners (owners ++ owner ∷ []) a.root a.listings (listings' a.listings sound held) (rest a.listings sound held) k content (j a.listings sound held)
         (d a.listings sound held) dir number id parts [] on (edit a.listings sound held)
         (record {
-          form = subst (λ (f : NameForm). HasForm f k.object.entry.len content) (sym is.small)
-              (entered_form k.object.entry.len (holder_address a.listings k.object.path) r.entry k.content content (entered a.listings sound held) (ten a.listings sound held));
+          form = formed_now a.listings sound held;
           body = says_it content is.ready.prepared.sayable;
         })
         (subst (CanSay (Layout.New m) (o a.listings sound held)) (sym is.ready.new_says)

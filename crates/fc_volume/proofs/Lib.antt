@@ -1,7 +1,7 @@
 mod MapsLemmas
 mod MapsOldLemmas
 mod MisplacedLemmas
-mod OwnersLemmas
+pub mod OwnersLemmas
 mod MountLemmas
 mod ReadingLemmas
 mod BlockLemmas
@@ -9,15 +9,19 @@ mod CatLemmas
 mod FreeLemmas
 mod CarryLemmas
 mod AgreeLemmas
-mod RepairedLemmas
+pub mod RepairedLemmas
 mod CompactedLemmas
 pub mod StandsLemmas
 pub mod PieceLemmas
 pub mod WritingLemmas
 pub mod TakingLemmas
 pub mod SettingLemmas
-mod StoringLemmas
+pub mod StoringLemmas
 mod MakingLemmas
+pub mod RoomyLemmas
+pub mod SmallLemmas
+pub mod RespelledLemmas
+pub mod FitsLemmas
 pub mod TargetLemmas
 pub mod JudgedLemmas
 pub mod SetLemmas
@@ -30,33 +34,33 @@ mod CdirVolumeLemmas
 mod CdirAskedLemmas
 pub mod DeleteLemmas
 mod DeleteVolumeLemmas
-mod FilingLemmas
+pub mod FilingLemmas
 pub mod RewriteLemmas
-mod RelocatingLemmas
+pub mod RelocatingLemmas
 mod LastNameLemmas
 mod RenamingLemmas
-mod TurnedLemmas
+pub mod TurnedLemmas
 mod RenameSpaceLemmas
-mod RenameLemmas
+pub mod RenameLemmas
 mod RelocatedLemmas
 mod RenameVolumeLemmas
-mod AcceptedLemmas
-mod MoveLemmas
+pub mod AcceptedLemmas
+pub mod MoveLemmas
 mod CopyingLemmas
-mod AcrossLemmas
+pub mod AcrossLemmas
 mod CarryingLemmas
 mod CarriedLemmas
 mod SpacedLemmas
 mod CarriedVolumeLemmas
-mod FilledLemmas
+pub mod FilledLemmas
 mod FilePlaceLemmas
-mod ReplacedOwnersLemmas
-mod ReplaceLemmas
+pub mod ReplacedOwnersLemmas
+pub mod ReplaceLemmas
 mod ReplaceImageLemmas
 mod ReplaceVolumeLemmas
 mod ReplaceAskedLemmas
-mod SavingLemmas
-mod SaveGainLemmas
+pub mod SavingLemmas
+pub mod SaveGainLemmas
 mod SaveSpaceLemmas
 mod SaveLemmas
 mod SaveAskedLemmas

@@ -18,13 +18,12 @@ use Rattle.fc_dirs.proofs.SearchLemmas.{is_some-find}
 use Rattle.fc_model.specs.Command.{Command}
 use Rattle.fc_model.specs.Tree.{holder, last_name}
 use Rattle.fc_dirs.specs.declared.Entry.{Entry}
-use Rattle.fc_dirs.specs.Small.{SmallDir}
 use Rattle.fc_dirs.specs.Entries.{entry_place, with_entry as with_new_entry}
 use Rattle.fc_dirs.specs.Directory.{Directory, entries_of}
 use Rattle.fc_drafts.specs.Draft.{directory_in}
 use Rattle.fc_drafts.specs.Entries.{renamed_entry}
 use Rattle.fc_drafts.specs.Rewriting.{HasMoved}
-use Rattle.fc_effects.specs.Short.{is_copied}
+use Rattle.fc_effects.specs.Short.{is_copied, growth_in}
 use Rattle.fc_effects.specs.Steady.{AreWritten, IsRewritten, has_grown, has_new_holder}
 use Rattle.fc_image.specs.Layout.{Layout, dir_form}
 use Rattle.fc_image.specs.Opening.{Opened}
@@ -65,6 +64,7 @@ use Rattle.fc_volume.proofs.RenameLemmas.{IsLongOwn, IsOwnWritten, can_say, move
 use Rattle.fc_volume.proofs.RewriteLemmas.{says_it, size_of_form}
 use Rattle.fc_volume.proofs.TurnedLemmas.{Turns, now_of, sectors_turned, turns, with_turned}
 use Rattle.fc_volume.proofs.TargetLemmas as target_of
+use Rattle.fc_volume.proofs.RoomyLemmas.{HasRoomFor}
 
 -- ---- owners
 
@@ -110,10 +110,8 @@ pub record IsReadyToMove (m : Map) (nodes : Nodes) (owners : List Owner) (from t
   pub other : rn.holder ≡ rn.target.holder → ⊥
   pub renaming : (layout : Layout) (listings : List Listing) → AreSound layout listings → HoldObjects nodes listings → IsRenaming nodes listings from to rn
   pub ready : IsMoveReady nodes (Layout.New m) owners rn.target rn.holder (last_name to) r
-  pub from_dir : SmallDir
-  pub from_small : ready.left.content ≡ Directory.Small from_dir
-  pub dir : SmallDir
-  pub small : ready.entering.content ≡ Directory.Small dir
+  pub room : HasRoomFor ready.entering.content (last_name to)
+  pub no_growth : (view : Opened) → view.layout ≡ Layout.New m → AreSound (Layout.New m) view.listings → HoldObjects nodes view.listings → growth_in view (Command.Rename from to) ≡ None
 
 module _ (laws : RenameLaws) (m : Map) (nodes : Nodes) (owners : List Owner) (from to : Path) (rn : Renaming) (r : Relocation) (is : IsReadyToMove m nodes owners from to rn r) where
   abbrev both : AreBothReady m nodes from to rn is.ready.leaving is.ready.leaving.entry r.holder
@@ -123,10 +121,8 @@ module _ (laws : RenameLaws) (m : Map) (nodes : Nodes) (owners : List Owner) (fr
     renaming = is.renaming;
     left = is.ready.left;
     entering = is.ready.entering;
-    from_dir = is.from_dir;
-    from_small = is.from_small;
-    dir = is.dir;
-    small = is.small;
+    room = subst (HasRoomFor is.ready.entering.content) (ap (λ (e : Entry). e.name) (sym is.ready.left.entry)) is.room;
+    no_growth = is.no_growth;
   }
 
   abbrev pub t : Target

@@ -60,7 +60,7 @@ use Rattle.fc_volume.specs.Renaming.{IsRenameReady, IsTurned}
 use Rattle.fc_volume.proofs.RewriteLemmas.{says_it, size_of_form}
 use Rattle.fc_volume.proofs.SettingLemmas.{one_content}
 use Rattle.fc_volume.proofs.TurnedLemmas.{Turns, fills, moved_form, now_of, sectors_turned, turns, with_turned}
-use Rattle.fc_volume.proofs.RenameSpaceLemmas.{no_growth}
+use Rattle.fc_volume.proofs.RespelledLemmas.{HasRoomForOther, entries_renamed, form_renamed, other_kept, size_renamed}
 use Rattle.fc_volume.proofs.TargetLemmas as target_of
 
 -- ---- paths
@@ -212,8 +212,7 @@ pub record IsReady (m : Map) (nodes : Nodes) (from to : Path) (rn : Renaming) (r
   pub same : rn.holder ≡ rn.target.holder
   pub renaming : (layout : Layout) (listings : List Listing) → AreSound layout listings → HoldObjects nodes listings → IsRenaming nodes listings from to rn
   pub ready : IsRenameReady nodes (Layout.New m) rn.target (last_name to) r
-  pub dir : SmallDir
-  pub small : ready.content ≡ Directory.Small dir
+  pub room : HasRoomForOther ready.content ready.was.name (last_name to)
 
 module _ (laws : RenameLaws) (m : Map) (nodes : Nodes) (from to : Path) (rn : Renaming) (r : Relocation) (is : IsReady m nodes from to rn r) where
   abbrev pub t : Target
@@ -273,9 +272,6 @@ module _ (laws : RenameLaws) (m : Map) (nodes : Nodes) (from to : Path) (rn : Re
         one_content is.ready.content l.content
         (sym is.ready.says ∙ ap (λ (n : Node). n.body) (sym node_is) ∙ target_of.says nodes (Layout.New m) listings sound held l target.listed t.holder target.holder_is)
 
-    pub l_small : l.content ≡ Directory.Small is.dir
-    l_small = sym content_is ∙ is.small
-
     pub was_is : is.ready.was ≡ o.entry
     was_is =
         same_some is.ready.was o.entry
@@ -319,7 +315,15 @@ module _ (laws : RenameLaws) (m : Map) (nodes : Nodes) (from to : Path) (rn : Re
     listings' = says_now l content (insert (remove l.children t.at) j (moved_object o.path to' o)) ∷ relisted (moved_object o.path to') (as_moved o now) rest
 
     pub entries_are : entries_of content ≡ with_new_entry entry (without_entry t.at (entries_of l.content))
-    entries_are = (renamed_small (holder_address listings l.object.path) t.at entry l.content content is.dir renamed l_small).0
+    entries_are = entries_renamed (holder_address listings l.object.path) t.at entry l.content content renamed
+
+    pub has_room : HasRoomForOther l.content o.entry.name name
+    has_room = subst (λ (d : Directory). HasRoomForOther d o.entry.name name) content_is (subst (λ (e : Entry). HasRoomForOther is.ready.content e.name name) was_is is.room)
+
+    pub size_is : size_of content ≡ size_of l.content
+    size_is =
+        size_renamed (holder_address listings l.object.path) t.at entry o.entry l.content content l renamed
+        (target_of.child_entry (Layout.New m) listings l t.at o laws.change.entries sound target.listed target.at) has_room
 
     pub absent : has_name (without_entry t.at (entries_of l.content)) name ≡ false
     absent = (known.within is.same).1
@@ -360,7 +364,7 @@ module _ (laws : RenameLaws) (m : Map) (nodes : Nodes) (from to : Path) (rn : Re
     module _ (all : (k : Listing) → Contains listings k → HasForm (dir_form (Layout.New m)) k.object.entry.len k.content) where
       pub holder_long : length r.holder.bytes.items ≡ object_size (dir_form (Layout.New m)) l.object.entry
       holder_long =
-          is.ready.prepared.length_is ∙ (renamed_small (holder_address listings l.object.path) t.at entry l.content content is.dir renamed l_small).1
+          is.ready.prepared.length_is ∙ size_is
           ∙ size_of_form (dir_form (Layout.New m)) l.object.entry l.content (all l target.listed) directory
 
       pub own_long : is_directory_object o ≡ true → IsLongOwn r.own (object_size (dir_form (Layout.New m)) o.entry)
@@ -389,8 +393,8 @@ module _ (laws : RenameLaws) (m : Map) (nodes : Nodes) (from to : Path) (rn : Re
       laws.renamed_agree kind m nodes nodes' owners owners a.root a.listings (listings' a.listings sound held) (rest a.listings sound held) k content t.at (j a.listings sound held) p t.holder t.node
       name now on (edit a.listings sound held)
       (record {
-        form = renamed_form (dir_form (Layout.New m)) k.object.entry.len (holder_address a.listings k.object.path) t.at (entry a.listings sound held) k.content content is.dir
-            (renamed a.listings sound held) (l_small a.listings sound held) (a.walked.forms k (target a.listings sound held).listed);
+        form = form_renamed (dir_form (Layout.New m)) k.object.entry.len (holder_address a.listings k.object.path) t.at (entry a.listings sound held) k.content content
+            (renamed a.listings sound held) (size_is a.listings sound held) (a.walked.forms k (target a.listings sound held).listed);
         body = says_it content is.ready.prepared.sayable;
       })
       (λ is_dir.
@@ -443,7 +447,9 @@ module _ (laws : RenameLaws) (m : Map) (nodes : Nodes) (from to : Path) (rn : Re
     found_to = listed_as (Layout.New m) view.listings view_sound (holder to) k tg.listed above_to
 
     grows_not : growth_in view c ≡ None
-    grows_not = no_growth view from to k is.dir found_to (l_small view.listings view_sound hold)
+    grows_not =
+        other_kept view from to k p (object_as (Layout.New m) view.listings view_sound from p (o_among view.listings view_sound hold) tg.path_is) found_to
+        (both_same (holder from) (holder to) k.object.path tg.above above_to) (has_room view.listings view_sound hold)
 
     -- the target's directory isn't itself renamed
     not_itself : is_same_path k.object.path from ≡ false

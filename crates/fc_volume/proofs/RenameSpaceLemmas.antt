@@ -1,4 +1,4 @@
--- `rename` without a copy takes no space on a new map, and small directories don't grow.
+-- `rename` without a copy takes no space on a new map, where no directory grows.
 use Rattle.std.proofs.Common.{◌≡◌, ◌&&◌, ℕ, ◌+◌, ◌*◌, Bool, true, false, cond, not, [], ◌∷◌, length, Option, Some, None, refl, ap, ap₂, ◌∙◌, arith}
 use Rattle.std.proofs.lemmas.Bool.Decides.{nat_tests}
 use Rattle.std.specs.Prelude.{nat_lt, if◌then◌else◌, option_map}
@@ -18,32 +18,6 @@ use Rattle.fc_image.specs.Opening.{Opened}
 use Rattle.fc_image.specs.Walk.{Listing, Object, is_directory_object}
 use Rattle.fc_effects.specs.Sharing.{new_ids, units}
 use Rattle.fc_effects.specs.Short.{Gain, Growth, gain_at, gain_by_new_name, gain_by_rename, gain_in, gain_of, growth_in, growth_of, growth_with, is_copied, is_full_with, is_sharing, moved_growth, needed_bits, needed_ids, new_length, short, space_reasons}
-
--- ---- no growth
-
-still_small : (o : Object) (content : Directory) (dir : SmallDir) (gain : Gain) → content ≡ Directory.Small dir → growth_with o content gain ≡ None
-still_small o content dir gain is = ap (λ (d : Directory). growth_with o d gain) is
-
-module _ (v : Opened) (from to : Path) (l : Listing) (dir : SmallDir) (found : listing_at v.listings (holder to) ≡ Some l) (small : l.content ≡ Directory.Small dir) where
-  of_gain : (o : Object) → option_and_then growth_of (gain_by_rename v from to o) ≡ None
-  of_gain o =
-      ap (λ (x : Option Listing). option_and_then growth_of
-      (if not (is_same_path (holder from) (holder to)) then option_map (gain_of to) x
-      else if bytes_eq o.entry.name (last_name to) then None else option_map (gain_by_new_name o.entry.name (last_name to)) x)) found
-      ∙ by (is_same_path (holder from) (holder to)) (bytes_eq o.entry.name (last_name to))
-    where
-      by : (same spelled : Bool) → option_and_then growth_of (if not same then (let g : Option Gain = Some (gain_of to l) in g)
-          else if spelled then None else Some (gain_by_new_name o.entry.name (last_name to) l)) ≡ None
-      by false spelled = still_small l.object l.content dir (gain_of to l) small
-      by true true = refl
-      by true false = still_small l.object l.content dir (gain_by_new_name o.entry.name (last_name to) l) small
-
-  pub no_growth : growth_in v (Command.Rename from to) ≡ None
-  no_growth = by (object_at v.listings from)
-    where
-      by : (x : Option Object) → option_and_then growth_of (option_and_then (gain_by_rename v from to) x) ≡ None
-      by None = refl
-      by (Some o) = of_gain o
 
 -- ---- no space
 

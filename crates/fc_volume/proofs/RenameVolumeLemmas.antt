@@ -1,5 +1,5 @@
 -- `rename` within a directory, of a volume: what is asked before the writing.
-use Rattle.std.proofs.Common.{◌≡◌, ◌<◌, ◌&&◌, ◌++◌, ◌∷◌, [], ℕ, Bool, true, false, not, map, List, length, slice_get, Option, Some, None, refl, sym, ap, ap₂, subst, ◌∙◌, arith, find}
+use Rattle.std.proofs.Common.{◌≡◌, ◌<◌, ◌==◌, cond, ◌++◌, ◌∷◌, [], ℕ, Bool, true, false, not, map, List, length, slice_get, Option, Some, None, refl, sym, ap, ap₂, subst, ◌∙◌, arith, find}
 use Rattle.std.specs.Prelude.{All, Contains, IsSome, filter, is_some, nat_le, option_map, if◌then◌else◌}
 use Rattle.std.proofs.lemmas.Bool.{leb-true}
 use Rattle.std.specs.Option.{ForSome, option_and_then, option_map_or}
@@ -62,65 +62,37 @@ use Rattle.fc_volume.proofs.PieceLemmas.{all_low}
 use Rattle.fc_volume.proofs.ReadingLemmas.{each_at}
 use Rattle.fc_model.specs.Answer.{first_of, reasons, when}
 use Rattle.fc_drafts.proofs.SizeLemmas.{small_full, small_renamed_fits}
-use Rattle.fc_effects.specs.Short.{Gain, gain_at, gain_by_new_name, gain_by_rename, gain_in, gain_of, is_copied, is_full_with, short, space_reasons}
+use Rattle.fc_effects.specs.Short.{Gain, gain_at, gain_by_new_name, gain_by_rename, gain_in, gain_of, is_copied, is_full_with, short, space_reasons, growth_in, growth_with}
 use Rattle.fc_volume.specs.Changing.{refusal_in}
 use Rattle.fc_volume.proofs.CdirAskedLemmas.{first_none}
+use Rattle.fc_volume.proofs.FitsLemmas as goes
 use Rattle.fc_volume.proofs.JudgedLemmas.{judged}
 use Rattle.fc_volume.proofs.MoveLemmas as move
 use Rattle.fc_volume.proofs.RenameLemmas.{IsReady, agrees, long, takes_over, both_same, listed_as, object_as, turned_round}
-use Rattle.fc_volume.proofs.RenameSpaceLemmas.{needs_nothing, no_growth, rename_takes_none, within_not_copied}
+use Rattle.fc_volume.proofs.RenameSpaceLemmas.{needs_nothing, rename_takes_none, within_not_copied}
+use Rattle.fc_volume.proofs.RespelledLemmas.{HasRoomForOther, alike_hold, big_not_full, called_by, like, other_room, renamed_not_full}
+use Rattle.fc_volume.proofs.RoomyLemmas.{HasRoomFor, room_found, room_kept}
 use Rattle.fc_volume.proofs.SetVolumeLemmas.{HasMap}
 use Rattle.fc_volume.proofs.SettingLemmas.{one_content}
 use Rattle.fc_volume.proofs.TargetLemmas as target_of
-
--- ---- small directories
-
--- a directory of this form is a small one
-pub small_of : (form : NameForm) (len : ℕ) (d : Directory) → form ≡ forms.Ten → HasForm form len d → (s : SmallDir) × (d ≡ Directory.Small s)
-small_of form len d is has = by d (subst (λ (f : NameForm). HasForm f len d) is has)
-  where
-    by : (x : Directory) → HasForm forms.Ten len x → (s : SmallDir) × (x ≡ Directory.Small s)
-    by (Directory.Small s) h = (s, refl)
-    by (Directory.Big b) h = absurd h
-
-pub small_names : (form : NameForm) (len : ℕ) (d : Directory) (name : List ℕ) → form ≡ forms.Ten → HasForm form len d → is_writable form name ≡ true → CanName d name
-small_names form len d name is has writable = by d (subst (λ (f : NameForm). HasForm f len d) is has) (ap (λ (f : NameForm). is_writable f name) (sym is) ∙ writable)
-  where
-    by : (x : Directory) → HasForm forms.Ten len x → is_writable forms.Ten name ≡ true → CanName x name
-    by (Directory.Small s) h w = ap (λ (f : SmallForm). is_writable (names_of_form f) name) h ∙ w
-    by (Directory.Big b) h w = absurd h
-
-pub small_form : (form : NameForm) (len : ℕ) (d : Directory) (s : SmallDir) → form ≡ forms.Ten → HasForm form len d → d ≡ Directory.Small s → s.form ≡ Bytes2048
-small_form form len d s is has small = subst (HasForm forms.Ten len) small (subst (λ (f : NameForm). HasForm f len d) is has)
-
--- what one small directory of this form can hold others can, too
-pub small_holds : (form : NameForm) (a b : ℕ) (old new : Directory) (e : Entry) → form ≡ forms.Ten → HasForm form a old → HasForm form b new → CanHold old e → CanHold new e
-small_holds form a b old new e is has_old has_new can =
-    by old new (subst (λ (f : NameForm). HasForm f a old) is has_old) (subst (λ (f : NameForm). HasForm f b new) is has_new) can
-  where
-    by : (x y : Directory) → HasForm forms.Ten a x → HasForm forms.Ten b y → CanHold x e → CanHold y e
-    by (Directory.Small x) (Directory.Small y) h k c = subst (λ (f : SmallForm). NumbersFit f e) (h ∙ sym k) c
-    by (Directory.Big x) y h k c = absurd h
-    by (Directory.Small x) (Directory.Big y) h k c = absurd k
+use Rattle.fc_volume.proofs.CdirHeldLemmas.{by_form}
+use Rattle.fc_drafts.specs.Gains.{GetsName, GetsNameFor}
+use Rattle.fc_volume.specs.Roomy.{IsRoomy}
 
 -- ---- want of room
+
+-- a small directory of a new map has 2,048 bytes
+ten_of : (m : Map) (s : SmallDir) (len : ℕ) → HasForm (dir_form (Layout.New m)) len (Directory.Small s) → s.form ≡ Bytes2048
+ten_of m s len has = by (m.geometry.version == 0) has
+  where
+    by : (b : Bool) → HasForm (cond b forms.Ten forms.Long) len (Directory.Small s) → s.form ≡ Bytes2048
+    by true h = h
+    by false h = absurd h
 
 full_short : (v : Opened) (from to : Path) → option_map_or (λ (gain : Gain). is_full_with gain.listing.content gain) (gain_in v (Command.Rename from to)) false ≡ true
     → short v (Command.Rename from to) ≡ Some refusals.DirFull
 unfolding short
 full_short v from to room = ap (λ (b : Bool). first_of (when b refusals.DirFull ∷ space_reasons v.layout v (Command.Rename from to))) room
-
-both_true : (a b : Bool) → (a && b) ≡ true → (a ≡ true) × (b ≡ true)
-both_true true true e = (refl, refl)
-both_true true false e = absurd (cc)
-both_true false b e = absurd (cc)
-
--- and its head can hold a name that may be written
-pub small_called : (d : Directory) (name : List ℕ) (form : NameForm) → form ≡ forms.Ten → is_writable form name ≡ true → CanBeCalled d name
-small_called (Directory.Big b) name form is writable = tt
-small_called (Directory.Small s) name form is writable =
-    let w : is_writable forms.Ten name ≡ true = ap (λ (f : NameForm). is_writable f name) (sym is) ∙ writable in
-    leb-true (length name) 10 (both_true (nat_le 1 (length name)) (nat_le (length name) 10) (both_true (is_in_range 1 10 (length name)) _ w).0).1
 
 -- ---- before the writing
 
@@ -166,8 +138,14 @@ module _ (w v : Volume) (same : w ≡ v) (m : Map) (layout : layout_of v.space �
   among : Contains (objects_of agreed.listings) o
   among = child_is_object (Layout.New m) agreed.listings sound aim.listing o aim.listed (contained aim.listing.children rn.target.at o aim.at)
 
-  ten : dir_form (Layout.New m) ≡ forms.Ten
-  ten = ap dir_form (sym layout) ∙ acc.small
+  -- the walk over the nodes, by which no directory grows
+  abbrev own_view : Opened
+  own_view = record { kind = agree.0; layout = Layout.New m; listings = agreed.listings }
+
+  own_stays : growth_in own_view (Command.Rename from to) ≡ None
+  own_stays =
+      subst (λ (x : Layout). IsRoomy (record { layout = x; nodes = nodes_of v.tree; owners = v.owners }) (Command.Rename from to)) layout acc.roomy own_view
+      (laws.change.agreed.sound_by agree.0 parts_v agreed) (laws.change.agreed.viewed agree.0 parts_v agreed)
 
   writable : is_writable (dir_form (Layout.New m)) (last_name to) ≡ true
   writable = ap (λ (l : Layout). is_writable (dir_form l) (last_name to)) (sym layout) ∙ acc.writable
@@ -185,18 +163,21 @@ module _ (w v : Volume) (same : w ≡ v) (m : Map) (layout : layout_of v.space �
       place : IsSome (sectors_at (Layout.New m) o.entry.address (object_size (dir_form (Layout.New m)) o.entry))
       place = ap is_some (each_at (Layout.New m) agreed.listings sound o among)
 
+      formed : (d : Directory) → body_of (listing_at agreed.listings o.path) ≡ body_in d → (len : ℕ) × HasForm (dir_form (Layout.New m)) len d
+      formed d is =
+          let x = listing_of_body (Layout.New m) agreed.listings sound o among d is in
+          (x.0.object.entry.len, subst (HasForm (dir_form (Layout.New m)) x.0.object.entry.len) x.3 (agreed.walked.forms x.0 x.1))
+
       address : (d : Directory) → body_of (listing_at agreed.listings o.path) ≡ body_in d → CanAddress d l.object.entry.address
       address d is =
-          let x = listing_of_body (Layout.New m) agreed.listings sound o among d is in
           let top = Rattle.fc_tree.proofs.WalkedLemmas.listed_directory (Layout.New m) agreed.listings sound l listed in
-          target_of.addressed m d x.0.object.entry.len l.object is_map (subst (HasForm (dir_form (Layout.New m)) x.0.object.entry.len) x.3 (agreed.walked.forms x.0 x.1)) top.1
-          (each_at (Layout.New m) agreed.listings sound l.object top.0)
+          target_of.addressed m d (formed d is).0 l.object is_map (formed d is).1 top.1 (each_at (Layout.New m) agreed.listings sound l.object top.0)
 
       by : (b : Rattle.fc_tree.specs.declared.node.Body.Body) → body_of (listing_at agreed.listings o.path) ≡ b → (n : Node) → n.entry ≡ o.entry → CanTurn (Layout.New m) n l.object.entry.address (last_name to) b
       by Rattle.fc_tree.specs.declared.node.Body.TheVariants.File is n e = tt
       by (Rattle.fc_tree.specs.declared.node.Body.TheVariants.Small s) is n e = (
         address (Directory.Small s) is,
-        small_called (Directory.Small s) (last_name to) (dir_form (Layout.New m)) ten writable,
+        called_by m (Directory.Small s) (formed (Directory.Small s) is).0 (last_name to) (formed (Directory.Small s) is).1 writable,
         subst (λ (x : Entry). IsSome (sectors_at (Layout.New m) x.address (object_size (dir_form (Layout.New m)) x))) (sym e) place,
       )
       by (Rattle.fc_tree.specs.declared.node.Body.TheVariants.Big s) is n e = subst (λ (x : Entry). IsSome (sectors_at (Layout.New m) x.address (object_size (dir_form (Layout.New m)) x))) (sym e) place
@@ -218,7 +199,7 @@ module _ (w v : Volume) (same : w ≡ v) (m : Map) (layout : layout_of v.space �
     can_v = record {
       held = held_entry;
       named = subst (λ (d : Directory). CanName d (last_name to)) content_same
-          (small_names (dir_form (Layout.New m)) aim.listing.object.entry.len aim.listing.content (last_name to) ten (agreed.walked.forms aim.listing aim.listed) writable);
+          (by_form (dir_form (Layout.New m)) aim.listing.content aim.listing.object.entry.len (last_name to) (agreed.walked.forms aim.listing aim.listed) writable);
       absent = subst (λ (d : Directory). has_name (without_entry rn.target.at (entries_of d)) (last_name to) ≡ false) content_same (known.within within).1;
       turnable = subst (λ (n : Node). IsTurnable (nodes_of v.tree) (Layout.New m) rn.target.node n.entry.address (last_name to)) node_same (turnable aim.listing aim.listed);
     }
@@ -251,58 +232,51 @@ module _ (w v : Volume) (same : w ≡ v) (m : Map) (layout : layout_of v.space �
           ∙ ap (λ (n : Node). n.body) (sym node_is)
           ∙ target_of.says (nodes_of v.tree) (Layout.New m) agreed.listings sound agreed.walked.held aim.listing aim.listed rn.target.holder aim.holder_is)
 
-      small : (s : SmallDir) × (l.content ≡ Directory.Small s) × IsSmall s
-      small =
-          let s = small_of (dir_form (Layout.New m)) aim.listing.object.entry.len aim.listing.content ten (agreed.walked.forms aim.listing aim.listed) in
-          (s.0, content_is ∙ s.1, subst IsDirectory s.1 (agreed.walked.bodies aim.listing aim.listed))
-
-      above_to : is_same_path (holder to) l.object.path ≡ true
-      above_to = subst (λ (x : Listing). is_same_path (holder to) x.object.path ≡ true) (seen.within within).0 seen.destination.above
+      bodied : IsDirectory l.content
+      bodied = subst IsDirectory (sym content_is) (agreed.walked.bodies aim.listing aim.listed)
 
       found_to : listing_at view.listings (holder to) ≡ Some l
-      found_to = listed_as (Layout.New m) view.listings sound_v (holder to) l seen.target.listed above_to
+      found_to = goes.found_within (Layout.New m) (nodes_of v.tree) view sound_v held_v from to rn seen within
 
       holders : is_same_path (holder from) (holder to) ≡ true
-      holders = both_same (holder from) (holder to) l.object.path seen.target.above above_to
+      holders = goes.holders_within (Layout.New m) (nodes_of v.tree) view sound_v held_v from to rn seen within
 
       there : object_at view.listings from ≡ Some p
-      there = object_as (Layout.New m) view.listings sound_v from p
-          (child_is_object (Layout.New m) view.listings sound_v l p seen.target.listed (contained l.children rn.target.at p seen.target.at)) seen.target.path_is
+      there = goes.there_from (Layout.New m) (nodes_of v.tree) view sound_v held_v from to rn seen
 
-      respelled : is_full_with l.content (gain_by_new_name p.entry.name (last_name to) l) ≡ false
-      respelled =
-          let gain = gain_by_new_name p.entry.name (last_name to) l in
-          ap (λ (d : Directory). is_full_with d gain) small.1
-          ∙ small_renamed_fits small.0 rn.target.at p.entry (last_name to) gain small.2
-          (ap (λ (d : Directory). slice_get (entries_of d) rn.target.at) (sym small.1)
-          ∙ target_of.child_entry (Layout.New m) view.listings l rn.target.at p laws.change.entries sound_v seen.target.listed seen.target.at)
-          (record {
-            name_is = refl;
-            names_are = ap (λ (d : Directory). filter (λ (n : List ℕ). not (is_same_name n p.entry.name)) (map (λ (e : Entry). e.name) (entries_of d)) ++ last_name to ∷ []) small.1;
-          })
+      entry_there : slice_get (entries_of l.content) rn.target.at ≡ Some p.entry
+      entry_there = target_of.child_entry (Layout.New m) view.listings l rn.target.at p laws.change.entries sound_v seen.target.listed seen.target.at
 
-      room : option_map_or (λ (gain : Gain). is_full_with gain.listing.content gain) (gain_in view c) false ≡ false
-      room =
+      -- the directory has room, if no directory grows
+      pub room_within : growth_in view c ≡ None → HasRoomForOther l.content p.entry.name (last_name to)
+      room_within none = other_room view from to l p there found_to holders none
+
+      respelled : growth_in view c ≡ None → (p.entry.name ≡ last_name to → ⊥) → is_full_with l.content (gain_by_new_name p.entry.name (last_name to) l) ≡ false
+      respelled none differ =
+          let gets : GetsNameFor l.content p.entry.name (last_name to) (gain_by_new_name p.entry.name (last_name to) l) = record { name_is = refl; names_are = refl } in
+          renamed_not_full l.content rn.target.at p.entry (last_name to) l.object (gain_by_new_name p.entry.name (last_name to) l) bodied entry_there gets
+          (room_within none l.object (gain_by_new_name p.entry.name (last_name to) l) differ gets)
+
+      room : growth_in view c ≡ None → option_map_or (λ (gain : Gain). is_full_with gain.listing.content gain) (gain_in view c) false ≡ false
+      room none =
           ap (λ (x : Option Object). option_map_or (λ (gain : Gain). is_full_with gain.listing.content gain) (option_and_then (gain_by_rename view from to) x) false) there
           ∙ ap₂ (λ (b : Bool) (x : Option Listing). option_map_or (λ (gain : Gain). is_full_with gain.listing.content gain)
           (if not b then gain_at view to
           else if bytes_eq p.entry.name (last_name to) then None else option_map (gain_by_new_name p.entry.name (last_name to)) x) false) holders found_to
-          ∙ by (bytes_eq p.entry.name (last_name to))
+          ∙ by (bytes_eq p.entry.name (last_name to)) refl
         where
-          by : (b : Bool) → option_map_or (λ (gain : Gain). is_full_with gain.listing.content gain)
+          by : (b : Bool) → bytes_eq p.entry.name (last_name to) ≡ b → option_map_or (λ (gain : Gain). is_full_with gain.listing.content gain)
               (if b then None else (let g : Option Gain = Some (gain_by_new_name p.entry.name (last_name to) l) in g)) false ≡ false
-          by true = refl
-          by false = respelled
+          by true h = refl
+          by false h = respelled none (like p.entry.name (last_name to) h)
 
-      takes_none : short view c ≡ None
-      takes_none =
-          rename_takes_none view m from to (no_growth view from to l small.0 found_to small.1)
-          (needs_nothing view from to p there (within_not_copied view from to p holders)) at room
+      takes_none : growth_in view c ≡ None → short view c ≡ None
+      takes_none none = rename_takes_none view m from to none (needs_nothing view from to p there (within_not_copied view from to p holders)) at (room none)
 
-      pub not_refused : (image : List ℕ) → refusal_in view image v.read_only c ≡ None
-      not_refused image =
+      pub not_refused : growth_in view c ≡ None → (image : List ℕ) → refusal_in view image v.read_only c ≡ None
+      not_refused none image =
           let is = acc.accepted image (Layout.New m) view.listings sound_v held_v in
-          judged view image v.read_only c None takes_none
+          judged view image v.read_only c None (takes_none none)
           (sym (subst (λ (l : Layout). first_of (reasons (tree_of image l view.listings) (dir_form l) v.read_only c) ≡ None) (sym at)
           (ap (λ (l : Layout). first_of (reasons (tree_of image (Layout.New m) view.listings) (dir_form l) v.read_only c)) (sym layout) ∙ is)))
 
@@ -311,17 +285,27 @@ module _ (w v : Volume) (same : w ≡ v) (m : Map) (layout : layout_of v.space �
       ready = subst (λ (l : Layout). IsRenameReady (nodes_of v.tree) l rn.target (last_name to) r) layout
           (subst (λ (x : Volume). IsRenameReady (nodes_of x.tree) (layout_of x.space) rn.target (last_name to) r) same ready_w)
 
-      content_small : (s : SmallDir) × (ready.content ≡ Directory.Small s)
-      content_small =
+      content_is_ready : aim.listing.content ≡ ready.content
+      content_is_ready =
           let node_is = target_of.one_node (nodes_of v.tree) (Layout.New m) agreed.listings sound agreed.walked.held aim.listing aim.listed rn.target.holder aim.holder_is ready.node ready.there in
-          let content_is = one_content ready.content aim.listing.content
-          (sym ready.says ∙ ap (λ (n : Node). n.body) (sym node_is)
-          ∙ target_of.says (nodes_of v.tree) (Layout.New m) agreed.listings sound agreed.walked.held aim.listing aim.listed rn.target.holder aim.holder_is) in
-          let s = small_of (dir_form (Layout.New m)) aim.listing.object.entry.len aim.listing.content ten (agreed.walked.forms aim.listing aim.listed) in
-          (s.0, content_is ∙ s.1)
+          one_content aim.listing.content ready.content
+          (sym (target_of.says (nodes_of v.tree) (Layout.New m) agreed.listings sound agreed.walked.held aim.listing aim.listed rn.target.holder aim.holder_is)
+          ∙ ap (λ (n : Node). n.body) node_is ∙ ready.says)
+
+      was_is : o.entry ≡ ready.was
+      was_is =
+          same_some o.entry ready.was
+          (sym (target_of.child_entry (Layout.New m) agreed.listings aim.listing rn.target.at o laws.change.entries sound aim.listed aim.at)
+          ∙ ap (λ (d : Directory). slice_get (entries_of d) rn.target.at) content_is_ready ∙ ready.at)
+
+      room_ready : HasRoomForOther ready.content ready.was.name (last_name to)
+      room_ready =
+          subst (λ (d : Directory). HasRoomForOther d ready.was.name (last_name to)) content_is_ready
+          (subst (λ (e : Entry). HasRoomForOther aim.listing.content e.name (last_name to)) was_is
+          (room_within own_view sound agreed.walked.held refl own_stays))
 
       pub is_ready : IsReady m (nodes_of v.tree) from to rn r
-      is_ready = record { is_map = is_map; same = within; renaming = acc.renaming; ready = ready; dir = content_small.0; small = content_small.1 }
+      is_ready = record { is_map = is_map; same = within; renaming = acc.renaming; ready = ready; room = room_ready }
 
       -- what is about to change is there
       pub can_take_over : CanTakeOver (nodes_of v.tree) v.owners r
@@ -370,13 +354,6 @@ module _ (w v : Volume) (same : w ≡ v) (m : Map) (layout : layout_of v.space �
         one_content d y.content
         (sym says ∙ ap (λ (k : Node). k.body) (sym node_is) ∙ target_of.says (nodes_of v.tree) (Layout.New m) agreed.listings sound agreed.walked.held y aimed.listed rn.holder aimed.holder_is)
 
-    pub x_says : (n : Node) (d : Directory) → get (nodes_of v.tree) rn.target.holder ≡ Some n → n.body ≡ body_in d → d ≡ aim.listing.content
-    x_says n d is says =
-        let node_is = target_of.one_node (nodes_of v.tree) (Layout.New m) agreed.listings sound agreed.walked.held aim.listing aim.listed rn.target.holder aim.holder_is n is in
-        one_content d aim.listing.content
-        (sym says ∙ ap (λ (k : Node). k.body) (sym node_is)
-        ∙ target_of.says (nodes_of v.tree) (Layout.New m) agreed.listings sound agreed.walked.held aim.listing aim.listed rn.target.holder aim.holder_is)
-
     y_address : address_in (nodes_of v.tree) rn.holder ≡ y.object.entry.address
     y_address =
         ap (λ (x : Option Node). option_map_or (λ (n : Node). n.entry.address) x 0)
@@ -396,9 +373,9 @@ module _ (w v : Volume) (same : w ≡ v) (m : Map) (layout : layout_of v.space �
               (sym (target_of.above_address (nodes_of v.tree) (Layout.New m) agreed.listings sound agreed.walked.held y aimed.listed rn.holder aimed.holder_is))
               (target_of.addressed m y.content y.object.entry.len up.0.object is_map (agreed.walked.forms y aimed.listed) top.1 (each_at (Layout.New m) agreed.listings sound up.0.object top.0));
           placed = ap is_some (target_of.placed (nodes_of v.tree) (Layout.New m) agreed.listings sound agreed.walked.held y aimed.listed rn.holder aimed.holder_is);
-          named = small_names (dir_form (Layout.New m)) y.object.entry.len y.content (last_name to) ten (agreed.walked.forms y aimed.listed) writable;
+          named = by_form (dir_form (Layout.New m)) y.content y.object.entry.len (last_name to) (agreed.walked.forms y aimed.listed) writable;
           absent = (known.across across).0;
-          holds = λ e can. small_holds (dir_form (Layout.New m)) aim.listing.object.entry.len y.object.entry.len aim.listing.content y.content e ten (agreed.walked.forms aim.listing aim.listed)
+          holds = λ e can. alike_hold (dir_form (Layout.New m)) aim.listing.object.entry.len y.object.entry.len aim.listing.content y.content e (agreed.walked.forms aim.listing aim.listed)
               (agreed.walked.forms y aimed.listed) (subst (λ (d : Directory). CanHold d e) (sym content_same) can);
           turnable = subst (λ (a : ℕ). IsTurnable (nodes_of v.tree) (Layout.New m) rn.target.node a (last_name to)) (sym y_address) (turnable y aimed.listed);
         }
@@ -407,24 +384,17 @@ module _ (w v : Volume) (same : w ≡ v) (m : Map) (layout : layout_of v.space �
     can_move = subst (λ (x : Volume). CanMove (nodes_of x.tree) (layout_of x.space) rn.target rn.holder (last_name to)) (sym same)
         (subst (λ (l : Layout). CanMove (nodes_of v.tree) l rn.target rn.holder (last_name to)) (sym layout) can_move_v)
 
-    pub y_small : (s : SmallDir) × (y.content ≡ Directory.Small s)
-    y_small = small_of (dir_form (Layout.New m)) y.object.entry.len y.content ten (agreed.walked.forms y aimed.listed)
-
     -- ---- whether there is room
 
-    module _ (full : Bool) (says : SaysFull (nodes_of w.tree) rn.holder full) (view : Opened) (sound_v : AreSound (Layout.New m) view.listings) (held_v : HoldObjects (nodes_of v.tree) view.listings)
-        (at : view.layout ≡ Layout.New m) where
-      abbrev renames : Command
-      renames = Command.Rename from to
+    abbrev renames : Command
+    renames = Command.Rename from to
 
+    module _ (view : Opened) (sound_v : AreSound (Layout.New m) view.listings) (held_v : HoldObjects (nodes_of v.tree) view.listings) where
       abbrev seen_there : IsRenaming (nodes_of v.tree) view.listings from to rn
       seen_there = acc.renaming (Layout.New m) view.listings sound_v held_v
 
       abbrev y_now : Listing
       y_now = seen_there.destination.listing
-
-      abbrev k : Listing
-      k = seen_there.target.listing
 
       abbrev p_now : Object
       p_now = seen_there.target.object
@@ -434,44 +404,58 @@ module _ (w v : Volume) (same : w ≡ v) (m : Map) (layout : layout_of v.space �
           y_says _ y_now.content (target_of.there (nodes_of v.tree) (Layout.New m) view.listings sound_v held_v y_now seen_there.destination.listed rn.holder seen_there.destination.holder_is)
           (target_of.says (nodes_of v.tree) (Layout.New m) view.listings sound_v held_v y_now seen_there.destination.listed rn.holder seen_there.destination.holder_is)
 
-      y_now_small : y_now.content ≡ Directory.Small y_small.0
-      y_now_small = y_content_is ∙ y_small.1
-
-      y_found : listing_at view.listings (holder to) ≡ Some y_now
-      y_found = listed_as (Layout.New m) view.listings sound_v (holder to) y_now seen_there.destination.listed seen_there.destination.above
-
-      holders_apart : is_same_path (holder from) (holder to) ≡ false
-      holders_apart =
-          unless (is_same_path (holder from) (holder to))
-          (λ alike.
-          let above = both_same (holder to) k.object.path (holder from) (turned_round (holder from) (holder to) alike) (turned_round (holder from) k.object.path seen_there.target.above) in
-          let found = listed_as (Layout.New m) view.listings sound_v (holder to) k seen_there.target.listed above in
-          across (same_some rn.holder rn.target.holder
-          (sym seen_there.destination.holder_is ∙ ap (λ (x : Listing). number_of (nodes_of v.tree) x.object.path) (same_some y_now k (sym y_found ∙ found)) ∙ seen_there.target.holder_is)))
-
       there_from : object_at view.listings from ≡ Some p_now
-      there_from = object_as (Layout.New m) view.listings sound_v from p_now
-          (child_is_object (Layout.New m) view.listings sound_v k p_now seen_there.target.listed (contained k.children rn.target.at p_now seen_there.target.at)) seen_there.target.path_is
+      there_from = goes.there_from (Layout.New m) (nodes_of v.tree) view sound_v held_v from to rn seen_there
 
-      is_full : is_full_with y_now.content (gain_of to y_now) ≡ full
-      is_full =
-          let small : IsSmall y_small.0 = subst IsDirectory y_small.1 (agreed.walked.bodies y aimed.listed) in
-          let node = target_of.node (nodes_of v.tree) (Layout.New m) agreed.listings sound agreed.walked.held y aimed.listed rn.holder aimed.holder_is in
-          ap (λ (d : Directory). is_full_with d (gain_of to y_now)) y_now_small
-          ∙ small_full y_small.0 (last_name to) (gain_of to y_now) small
-          (record { name_is = refl; names_are = ap (λ (d : Directory). map (λ (e : Entry). e.name) (entries_of d) ++ last_name to ∷ []) y_now_small })
-          ∙ sym (subst (λ (x : Volume). SaysFull (nodes_of x.tree) rn.holder full) same says node y_small.0
-          (target_of.there (nodes_of v.tree) (Layout.New m) agreed.listings sound agreed.walked.held y aimed.listed rn.holder aimed.holder_is)
-          (target_of.says (nodes_of v.tree) (Layout.New m) agreed.listings sound agreed.walked.held y aimed.listed rn.holder aimed.holder_is ∙ ap body_in y_small.1)
-          (small_form (dir_form (Layout.New m)) y.object.entry.len y.content y_small.0 ten (agreed.walked.forms y aimed.listed) y_small.1))
+      gain_is : gain_in view renames ≡ Some (gain_of to y_now)
+      gain_is = goes.gain_across (Layout.New m) (nodes_of v.tree) view sound_v held_v from to rn seen_there across
+
+    -- the directory has room, as the walk over the nodes tells,
+    y_room : HasRoomFor y.content (last_name to)
+    y_room = room_found own_view renames to y (gain_is own_view sound agreed.walked.held) own_stays
+
+    pub room_of : (n : Node) (d : Directory) → get (nodes_of v.tree) rn.holder ≡ Some n → n.body ≡ body_in d → HasRoomFor d (last_name to)
+    room_of n d is says = subst (λ (x : Directory). HasRoomFor x (last_name to)) (sym (y_says n d is says)) y_room
+
+    -- so that it doesn't grow, over any walk,
+    pub stays : (view : Opened) → view.layout ≡ Layout.New m → AreSound (Layout.New m) view.listings → HoldObjects (nodes_of v.tree) view.listings → growth_in view renames ≡ None
+    stays view at sound_v held_v =
+        room_kept view renames to (y_now view sound_v held_v) (gain_is view sound_v held_v)
+        (subst (λ (x : Directory). HasRoomFor x (last_name to)) (sym (y_content_is view sound_v held_v)) y_room)
+
+    abbrev y_node : Node
+    y_node = target_of.node (nodes_of v.tree) (Layout.New m) agreed.listings sound agreed.walked.held y aimed.listed rn.holder aimed.holder_is
+
+    y_there : get (nodes_of v.tree) rn.holder ≡ Some y_node
+    y_there = target_of.there (nodes_of v.tree) (Layout.New m) agreed.listings sound agreed.walked.held y aimed.listed rn.holder aimed.holder_is
+
+    y_body : (d : Directory) → y.content ≡ d → y_node.body ≡ body_in d
+    y_body d is = target_of.says (nodes_of v.tree) (Layout.New m) agreed.listings sound agreed.walked.held y aimed.listed rn.holder aimed.holder_is ∙ ap body_in is
+
+    -- and is full if the test says so
+    full_as : (full : Bool) → SaysFull (nodes_of v.tree) rn.holder full → (gain : Gain) → GetsName y.content (last_name to) gain → is_full_with y.content gain ≡ full
+    full_as full says gain gets = by y.content (agreed.walked.forms y aimed.listed) (agreed.walked.bodies y aimed.listed) gets (y_room y.object gain gets) refl
+      where
+        by : (d : Directory) → HasForm (dir_form (Layout.New m)) y.object.entry.len d → IsDirectory d → GetsName d (last_name to) gain → growth_with y.object d gain ≡ None → y.content ≡ d
+            → is_full_with d gain ≡ full
+        by (Directory.Small s) has body g none is =
+            small_full s (last_name to) gain body g
+            ∙ sym (says.small y_node s y_there (y_body (Directory.Small s) is) (ten_of m s y.object.entry.len has))
+        by (Directory.Big b) has body g none is =
+            big_not_full b y.object gain body none
+            ∙ sym (says.big y_node b y_there (y_body (Directory.Big b) is))
+
+    module _ (full : Bool) (says : SaysFull (nodes_of w.tree) rn.holder full) (view : Opened) (sound_v : AreSound (Layout.New m) view.listings) (held_v : HoldObjects (nodes_of v.tree) view.listings)
+        (at : view.layout ≡ Layout.New m) where
+      abbrev there_now : Listing
+      there_now = y_now view sound_v held_v
 
       move_room : option_map_or (λ (gain : Gain). is_full_with gain.listing.content gain) (gain_in view renames) false ≡ full
       move_room =
-          ap (λ (x : Option Object). option_map_or (λ (gain : Gain). is_full_with gain.listing.content gain) (option_and_then (gain_by_rename view from to) x) false) there_from
-          ∙ ap₂ (λ (b : Bool) (x : Option Listing). option_map_or (λ (gain : Gain). is_full_with gain.listing.content gain)
-          (if not b then option_map (gain_of to) x
-          else if bytes_eq p_now.entry.name (last_name to) then None else option_map (gain_by_new_name p_now.entry.name (last_name to)) (listing_at view.listings (holder to))) false) holders_apart y_found
-          ∙ is_full
+          ap (λ (x : Option Gain). option_map_or (λ (gain : Gain). is_full_with gain.listing.content gain) x false) (gain_is view sound_v held_v)
+          ∙ ap (λ (d : Directory). is_full_with d (gain_of to there_now)) (y_content_is view sound_v held_v)
+          ∙ full_as full (subst (λ (x : Volume). SaysFull (nodes_of x.tree) rn.holder full) same says) (gain_of to there_now)
+          (subst (λ (d : Directory). GetsName d (last_name to) (gain_of to there_now)) (y_content_is view sound_v held_v) (record { name_is = refl; names_are = refl }))
 
       unreasoned : (image : List ℕ) → first_of (reasons (tree_of image view.layout view.listings) (dir_form view.layout) v.read_only renames) ≡ None
       unreasoned image =
@@ -488,12 +472,12 @@ module _ (w v : Volume) (same : w ≡ v) (m : Map) (layout : layout_of v.space �
       move_short image = first_none (reasons (tree_of image view.layout view.listings) (dir_form view.layout) v.read_only renames) (short view renames) (unreasoned image)
 
       pub move_fits : full ≡ false → FitsDirectory view renames
-      move_fits is = record { no_growth = no_growth view from to y_now y_small.0 y_found y_now_small; not_full = move_room ∙ is }
+      move_fits is = record { no_growth = stays view at sound_v held_v; not_full = move_room ∙ is }
 
-      pub move_not_refused : full ≡ false → is_copied view from to p_now ≡ false → (image : List ℕ) → refusal_in view image v.read_only renames ≡ None
+      pub move_not_refused : full ≡ false → is_copied view from to (p_now view sound_v held_v) ≡ false → (image : List ℕ) → refusal_in view image v.read_only renames ≡ None
       move_not_refused is not_copied image =
           judged view image v.read_only renames None
-          (rename_takes_none view m from to (no_growth view from to y_now y_small.0 y_found y_now_small) (needs_nothing view from to p_now there_from not_copied) at (move_room ∙ is))
+          (rename_takes_none view m from to (stays view at sound_v held_v) (needs_nothing view from to (p_now view sound_v held_v) (there_from view sound_v held_v) not_copied) at (move_room ∙ is))
           (sym (unreasoned image))
 
     module _ (r : Relocation) (ready_w : IsMoveReady (nodes_of w.tree) (layout_of w.space) w.owners rn.target rn.holder (last_name to) r) where
@@ -501,21 +485,14 @@ module _ (w v : Volume) (same : w ≡ v) (m : Map) (layout : layout_of v.space �
       move_ready = subst (λ (l : Layout). IsMoveReady (nodes_of v.tree) l v.owners rn.target rn.holder (last_name to) r) layout
           (subst (λ (x : Volume). IsMoveReady (nodes_of x.tree) (layout_of x.space) x.owners rn.target rn.holder (last_name to) r) same ready_w)
 
-      from_small : (s : SmallDir) × (move_ready.left.content ≡ Directory.Small s)
-      from_small =
-          let s = small_of (dir_form (Layout.New m)) aim.listing.object.entry.len aim.listing.content ten (agreed.walked.forms aim.listing aim.listed) in
-          (s.0, x_says move_ready.left.node move_ready.left.content move_ready.left.there move_ready.left.says ∙ s.1)
-
       pub is_ready_to_move : move.IsReadyToMove m (nodes_of v.tree) v.owners from to rn r
       is_ready_to_move = record {
         is_map = is_map;
         other = across;
         renaming = acc.renaming;
         ready = move_ready;
-        from_dir = from_small.0;
-        from_small = from_small.1;
-        dir = y_small.0;
-        small = y_says move_ready.entering.node move_ready.entering.content move_ready.entering.there move_ready.entering.says ∙ y_small.1;
+        room = room_of move_ready.entering.node move_ready.entering.content move_ready.entering.there move_ready.entering.says;
+        no_growth = stays;
       }
 
       pub can_take_over_move : CanTakeOver (nodes_of v.tree) v.owners r

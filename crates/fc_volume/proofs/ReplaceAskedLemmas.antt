@@ -73,9 +73,6 @@ module _ (laws : ReplaceLaws) (w v : Volume) (same : w ≡ v) (m : Map) (layout 
   is_map : IsNewMap m
   is_map = maps m (ap (λ (x : Volume). layout_of x.space) same ∙ layout)
 
-  small : dir_form (Layout.New m) ≡ forms.Ten
-  small = sym (ap dir_form layout) ∙ accepted.small
-
   abbrev parts_v : Parts
   parts_v = record { layout = Layout.New m; nodes = nodes_of v.tree; owners = v.owners }
 
@@ -112,8 +109,7 @@ module _ (laws : ReplaceLaws) (w v : Volume) (same : w ≡ v) (m : Map) (layout 
   can_address : (place : Placing) → IsFilePlace m v.owners t.holder words.len place → CanAddress holds.content (address_in m place words.len)
   can_address place at =
       subst (λ (c : Directory). CanAddress c (address_in m place words.len)) content_is
-      (address_fits m is_map small v.owners t.holder words.len l.content l.object.entry.len
-      (subst (λ (f : NameForm). HasForm f l.object.entry.len l.content) small (agreed.walked.forms l file.target.listed)) place at)
+      (address_fits m is_map v.owners t.holder words.len l.content l.object.entry.len (agreed.walked.forms l file.target.listed) place at)
 
   pub can_save : (place : Placing) → IsFilePlace m w.owners t.holder words.len place → CanSaveOver (nodes_of w.tree) (Layout.New m) t (address_in m place words.len)
   can_save place at =

@@ -1,10 +1,9 @@
 -- `save` and `create` of a new file: what its steps ask for, and what is answered for want of space.
-use Rattle.std.proofs.Common.{◌≡◌, ◌<◌, ◌≤◌, ℕ, true, false, List, length, Some, None, refl, sym, ap, subst, ◌∙◌, arith}
+use Rattle.std.proofs.Common.{◌≡◌, ◌<◌, ◌≤◌, inl, ℕ, true, false, List, [], length, Some, None, refl, sym, ap, subst, ◌∙◌, arith}
 use Rattle.std.specs.Prelude.{All, IsSome, Result, is_some}
 use Rattle.std.specs.FinMap.{get}
 use Rattle.fc_device.specs.declared.disk.Disk.{Ghosts}
 use Rattle.fc_record.specs.declared.Kind.{Kind}
-use Rattle.fc_names.specs.declared.name.NameForm.TheVariants as forms
 use Rattle.fc_names.specs.Names.{Path, is_writable}
 use Rattle.fc_newmap.specs.Map.{Map}
 use Rattle.fc_newmap.specs.NewMap.{IsNewMap}
@@ -13,7 +12,7 @@ use Rattle.fc_model.specs.Command.{Command}
 use Rattle.fc_model.specs.Answer.{first_of, reasons}
 use Rattle.fc_model.specs.Tree.{holder, last_name}
 use Rattle.fc_dirs.specs.Directory.{Directory}
-use Rattle.fc_effects.specs.Short.{gain_of, short}
+use Rattle.fc_effects.specs.Short.{gain_of, growth_in, short}
 use Rattle.fc_image.specs.Layout.{Layout, dir_form, disc_sectors, sectors_at}
 use Rattle.fc_image.specs.Objects.{objects_of, tree_of}
 use Rattle.fc_image.specs.Opening.{Opened}
@@ -38,12 +37,14 @@ use Rattle.fc_volume.specs.SaveLaws.{SaveLaws}
 use Rattle.fc_volume.specs.Changing.{refusal_in}
 use Rattle.fc_volume.specs.Filing.{CanFile, IsFileAdmitted, IsFileDrafted, IsPlaceFor, WantsFile, plan_in}
 use Rattle.fc_volume.specs.Making.{AnswersSpace}
+use Rattle.fc_volume.specs.Roomy.{IsRoomyFor}
 use Rattle.fc_volume.specs.Saving.{CanPutIn, IsFileAccepted}
 use Rattle.fc_volume.specs.Volume.{StandsFor, Volume, parts_of}
 use Rattle.fc_volume.proofs.CdirAskedLemmas.{first_none}
-use Rattle.fc_volume.proofs.CdirHeldLemmas.{gain, hole_on_disc, ten, unowned}
+use Rattle.fc_volume.proofs.CdirHeldLemmas.{gain, hole_on_disc, unowned}
 use Rattle.fc_volume.proofs.PieceLemmas.{all_low}
-use Rattle.fc_volume.proofs.SaveGainLemmas.{gains, holder_number, no_growth, wants}
+use Rattle.fc_volume.proofs.RoomyLemmas.{HasRoomFor, room_found}
+use Rattle.fc_volume.proofs.SaveGainLemmas.{gains, holder_number, wants}
 use Rattle.fc_volume.proofs.SaveLemmas.{IsReady, can_file, place_is}
 use Rattle.fc_volume.proofs.SaveSpaceLemmas.{address_fits}
 use Rattle.fc_volume.proofs.SettingLemmas.{one_content}
@@ -55,9 +56,6 @@ module _ (laws : SaveLaws) (w v : Volume) (same : w ≡ v) (m : Map) (layout : l
     (accepted : IsFileAccepted v path (Slot.New dir)) (agree : (kind : Kind) × Agree kind (parts_of v)) where
   is_map : IsNewMap m
   is_map = maps m (ap (λ (x : Volume). layout_of x.space) same ∙ layout)
-
-  small : dir_form (Layout.New m) ≡ forms.Ten
-  small = sym (ap dir_form layout) ∙ accepted.small
 
   good : is_writable (dir_form (Layout.New m)) (last_name path) ≡ true
   good = subst (λ (l : Layout). is_writable (dir_form l) (last_name path) ≡ true) layout accepted.writable
@@ -80,16 +78,16 @@ module _ (laws : SaveLaws) (w v : Volume) (same : w ≡ v) (m : Map) (layout : l
   pub some : 0 < length path
   some = spot.no_root
 
-  small_form : HasForm forms.Ten spot.listing.object.entry.len spot.listing.content
-  small_form = ten m (nodes_of v.tree) agreed.listings sound agreed.walked.held path dir spot is_map small agreed.walked.forms good
+  formed : HasForm (dir_form (Layout.New m)) spot.listing.object.entry.len spot.listing.content
+  formed = agreed.walked.forms spot.listing spot.listed
 
   pub asked : CanPutIn (nodes_of w.tree) m w.owners dir words.len (last_name path)
   asked =
       subst (λ (x : Volume). CanPutIn (nodes_of x.tree) m x.owners dir words.len (last_name path)) (sym same) (
         target_of.node (nodes_of v.tree) (Layout.New m) agreed.listings sound agreed.walked.held spot.listing spot.listed dir spot.holder_is,
         spot.listing.content,
-        gain m (nodes_of v.tree) agreed.listings sound agreed.walked.held path dir spot is_map small agreed.walked.forms good,
-        λ place at. address_fits m is_map small v.owners dir words.len spot.listing.content spot.listing.object.entry.len small_form place at,
+        gain m (nodes_of v.tree) agreed.listings sound agreed.walked.held path dir spot is_map agreed.walked.forms good,
+        λ place at. address_fits m is_map v.owners dir words.len spot.listing.content spot.listing.object.entry.len formed place at,
       )
 
   -- ---- want of space
@@ -106,18 +104,6 @@ module _ (laws : SaveLaws) (w v : Volume) (same : w ≡ v) (m : Map) (layout : l
     abbrev place : IsVacant (nodes_of v.tree) view.listings path dir
     place = accepted.slot (Layout.New m) view.listings here parts.nodes
 
-    abbrev old : Node
-    old = target_of.node (nodes_of v.tree) (Layout.New m) agreed.listings sound agreed.walked.held spot.listing spot.listed dir spot.holder_is
-
-    -- both walks find the same directory there
-    same_content : place.listing.content ≡ spot.listing.content
-    same_content =
-        one_content place.listing.content spot.listing.content
-        (sym (target_of.says (nodes_of v.tree) (Layout.New m) view.listings here parts.nodes place.listing place.listed dir place.holder_is)
-        ∙ ap (λ (n : Node). n.body) (target_of.one_node (nodes_of v.tree) (Layout.New m) view.listings here parts.nodes place.listing place.listed dir place.holder_is old
-        (target_of.there (nodes_of v.tree) (Layout.New m) agreed.listings sound agreed.walked.held spot.listing spot.listed dir spot.holder_is))
-        ∙ target_of.says (nodes_of v.tree) (Layout.New m) agreed.listings sound agreed.walked.held spot.listing spot.listed dir spot.holder_is)
-
     wanted : WantsFile m v.owners dir words.len place.listing.content (last_name path) view c
     wanted = record {
       nodes = nodes_of v.tree;
@@ -131,8 +117,7 @@ module _ (laws : SaveLaws) (w v : Volume) (same : w ≡ v) (m : Map) (layout : l
       wants = subst (Rattle.fc_placing.specs.Places.WantsSpace view c (holder path)) whole
           (wants (Layout.New m) (nodes_of v.tree) view.listings here path dir place c words.load words.exec bytes makes view);
       gains = gains (Layout.New m) (nodes_of v.tree) view.listings here path dir place c words.load words.exec bytes makes view refl;
-      no_growth = no_growth (Layout.New m) (nodes_of v.tree) view.listings here path dir place c words.load words.exec bytes makes spot.listing.object.entry.len
-          (subst (HasForm forms.Ten spot.listing.object.entry.len) (sym same_content) small_form) view refl;
+      no_growth = accepted.roomy c words.load words.exec bytes makes view view_sound parts;
       gets = record { name_is = refl; names_are = refl };
       says = refl;
     }
@@ -161,20 +146,44 @@ module _ (laws : SaveLaws) (w v : Volume) (same : w ≡ v) (m : Map) (layout : l
     abbrev made_v : IsFileDrafted (nodes_of v.tree) m v.owners dir (last_name path) words r
     made_v = subst (λ (x : Volume). IsFileDrafted (nodes_of x.tree) m x.owners dir (last_name path) words r) same made
 
-    form : HasForm forms.Ten made_v.ready.node.entry.len made_v.ready.content
+    node_is : target_of.node (nodes_of v.tree) (Layout.New m) agreed.listings sound agreed.walked.held spot.listing spot.listed dir spot.holder_is ≡ made_v.ready.node
+    node_is = target_of.one_node (nodes_of v.tree) (Layout.New m) agreed.listings sound agreed.walked.held spot.listing spot.listed dir spot.holder_is made_v.ready.node made_v.ready.there
+
+    content_is : spot.listing.content ≡ made_v.ready.content
+    content_is =
+        one_content spot.listing.content made_v.ready.content
+        (sym (target_of.says (nodes_of v.tree) (Layout.New m) agreed.listings sound agreed.walked.held spot.listing spot.listed dir spot.holder_is)
+        ∙ ap (λ (n : Node). n.body) node_is ∙ made_v.ready.says)
+
+    form : HasForm (dir_form (Layout.New m)) made_v.ready.node.entry.len made_v.ready.content
     form =
-        let l = spot.listing in
-        let node_is = target_of.one_node (nodes_of v.tree) (Layout.New m) agreed.listings sound agreed.walked.held l spot.listed dir spot.holder_is made_v.ready.node made_v.ready.there in
-        let says = target_of.says (nodes_of v.tree) (Layout.New m) agreed.listings sound agreed.walked.held l spot.listed dir spot.holder_is in
-        let content_is : l.content ≡ made_v.ready.content = one_content l.content made_v.ready.content (sym says ∙ ap (λ (n : Node). n.body) node_is ∙ made_v.ready.says) in
-        subst (HasForm forms.Ten made_v.ready.node.entry.len) content_is (subst (λ (n : Node). HasForm forms.Ten n.entry.len l.content) node_is small_form)
+        subst (HasForm (dir_form (Layout.New m)) made_v.ready.node.entry.len) content_is
+        (subst (λ (n : Node). HasForm (dir_form (Layout.New m)) n.entry.len spot.listing.content) node_is formed)
+
+    -- the walk over the nodes tells that the directory has room
+    abbrev own_view : Opened
+    own_view = record { kind = agree.0; layout = Layout.New m; listings = agreed.listings }
+
+    abbrev command : Command
+    command = Command.Save path words.load words.exec []
+
+    no_growth : growth_in own_view command ≡ None
+    no_growth =
+        subst (λ (x : Layout). IsRoomyFor (record { layout = x; nodes = nodes_of v.tree; owners = v.owners }) path) layout accepted.roomy command words.load words.exec [] (inl refl) own_view
+        (laws.agreed.sound_by agree.0 parts_v agreed) (laws.agreed.viewed agree.0 parts_v agreed)
+
+    room_there : HasRoomFor made_v.ready.content (last_name path)
+    room_there =
+        subst (λ (d : Directory). HasRoomFor d (last_name path)) content_is
+        (room_found own_view command path spot.listing
+        (gains (Layout.New m) (nodes_of v.tree) agreed.listings sound path dir spot command words.load words.exec [] (inl refl) own_view refl) no_growth)
 
     pub there : IsSome (get (nodes_of v.tree) r.filing.directory.node)
     there = ap is_some (ap (get (nodes_of v.tree)) made_v.ready.prepared.node ∙ made_v.ready.there)
 
     module _ (n : ℕ) (free : get (nodes_of v.tree) n ≡ None) where
       pub ready : IsReady m (nodes_of v.tree) v.owners path dir n words r
-      ready = record { is_map = is_map; small = small; vacant = accepted.slot; free = free; drafted = made_v; form = form }
+      ready = record { is_map = is_map; vacant = accepted.slot; free = free; drafted = made_v; form = form; room = room_there }
 
       pub can_write : CanFile m r.filing
       can_write = can_file laws m (nodes_of v.tree) v.owners path dir n words r ready agree.0 agreed.root agreed.listings on

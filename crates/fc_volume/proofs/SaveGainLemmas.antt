@@ -1,13 +1,10 @@
 -- The directory that gets a new file: its number, and what the command wants of it and of the disc.
 use Rattle.std.proofs.Common.{◌≡◌, ℕ, cond, List, length, Option, Some, None, refl, sym, ap, ◌∙◌}
 use Rattle.std.specs.Prelude.{is_some, option_map}
-use Rattle.std.specs.Option.{option_and_then}
 use Rattle.fc_names.specs.Names.{Path, is_same_path}
-use Rattle.fc_names.specs.declared.name.NameForm.TheVariants as forms
 use Rattle.fc_model.specs.Command.{Command}
-use Rattle.fc_model.specs.Tree.{holder}
-use Rattle.fc_dirs.specs.Directory.{Directory}
-use Rattle.fc_effects.specs.Short.{Gain, gain_in, gain_of, growth_in, growth_of, growth_with, new_length, slack_for, slack_in}
+use Rattle.fc_model.specs.Tree.{holder, last_name}
+use Rattle.fc_effects.specs.Short.{gain_in, gain_of, growth_in, new_length, slack_for, slack_in}
 use Rattle.fc_image.specs.Layout.{Layout}
 use Rattle.fc_image.specs.Objects.{listing_at, objects_of}
 use Rattle.fc_image.specs.Opening.{Opened}
@@ -15,13 +12,13 @@ use Rattle.fc_image.specs.Sound.{AreSound}
 use Rattle.fc_image.specs.Walk.{Listing, Object}
 use Rattle.fc_changes.specs.Changed.{MakesFile}
 use Rattle.fc_placing.specs.Places.{WantsSpace}
-use Rattle.fc_tree.specs.Agree.{HasForm}
 use Rattle.fc_tree.specs.Nodes.{number_of}
 use Rattle.fc_tree.proofs.PlaceLemmas.{same_number}
 use Rattle.fc_tree.proofs.SoundLemmas.{folds_alike}
 use Rattle.fc_tree.proofs.WalkedLemmas.{find_only, one_listing, place_of}
 use Rattle.fc_nodes.specs.Edits.{Nodes}
 use Rattle.fc_refusals.specs.Targets.{IsVacant}
+use Rattle.fc_volume.proofs.RoomyLemmas.{HasRoomFor, room_kept}
 use Rattle.fc_volume.proofs.SavingLemmas.{of_both}
 
 module _ (layout : Layout) (nodes : Nodes) (listings : List Listing) (sound : AreSound layout listings) (path : Path) (dir : ℕ) (spot : IsVacant nodes listings path dir) where
@@ -49,12 +46,8 @@ module _ (layout : Layout) (nodes : Nodes) (listings : List Listing) (sound : Ar
         ∙ ap (λ (x : Option Object). cond (is_some x) None (option_map (gain_of path) (listing_at listings (holder path)))) spot.absent
         ∙ ap (option_map (gain_of path)) at_holder
 
-    pub no_growth : (len : ℕ) → HasForm forms.Ten len l.content → (v : Opened) → v.listings ≡ listings → growth_in v c ≡ None
-    no_growth len ten v same = ap (option_and_then growth_of) (gains v same) ∙ by l.content (gain_of path l) ten
-      where
-        by : (content : Directory) (gain : Gain) → HasForm forms.Ten len content → growth_with l.object content gain ≡ None
-        by (Directory.Small x) gain h = refl
-        by (Directory.Big x) gain h = absurd h
+    pub no_growth : HasRoomFor l.content (last_name path) → (v : Opened) → v.listings ≡ listings → growth_in v c ≡ None
+    no_growth room v same = room_kept v c path l (gains v same) room
 
     pub wants : (v : Opened) → WantsSpace v c (holder path) (length bytes)
     wants v = record {

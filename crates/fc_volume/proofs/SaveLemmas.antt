@@ -64,8 +64,10 @@ use Rattle.fc_volume.specs.Filing.{CanFile, CanTake, HasSpaceMoved, IsFileDrafte
 use Rattle.fc_volume.specs.Owners.{entry_owner, with_owner}
 use Rattle.fc_volume.specs.Storing.{AreStored}
 use Rattle.fc_volume.proofs.CdirHeldLemmas.{hole_apart}
-use Rattle.fc_volume.proofs.CdirLemmas.{at_path, entered_entries, entered_form, small_size}
+use Rattle.fc_volume.proofs.CdirLemmas.{at_path}
 use Rattle.fc_volume.proofs.OwnersLemmas.{sectors_long}
+use Rattle.fc_volume.proofs.RewriteLemmas.{size_of_form}
+use Rattle.fc_volume.proofs.RoomyLemmas.{HasRoomFor, entries_entered, form_entered, size_entered}
 use Rattle.fc_volume.proofs.SaveGainLemmas.{holder_number as by_path, no_growth}
 use Rattle.fc_volume.proofs.SaveSpaceLemmas as one_change
 use Rattle.fc_volume.proofs.SaveSpaceLemmas.{none_changed}
@@ -81,11 +83,11 @@ says_it (Directory.Big dir) is = is
 
 pub record IsReady (m : Map) (nodes : Nodes) (owners : List Owner) (path : Path) (dir number : ℕ) (words : FileWords) (r : NewFile) : Type 0 where
   pub is_map : IsNewMap m
-  pub small : dir_form (Layout.New m) ≡ forms.Ten
   pub vacant : (layout : Layout) (listings : List Listing) → AreSound layout listings → HoldObjects nodes listings → IsVacant nodes listings path dir
   pub free : get nodes number ≡ None
   pub drafted : IsFileDrafted nodes m owners dir (last_name path) words r
-  pub form : HasForm forms.Ten drafted.ready.node.entry.len drafted.ready.content
+  pub form : HasForm (dir_form (Layout.New m)) drafted.ready.node.entry.len drafted.ready.content
+  pub room : HasRoomFor drafted.ready.content (last_name path)
 
 -- ---- the edit
 
@@ -189,11 +191,25 @@ module _ (laws : SaveLaws) (m : Map) (nodes : Nodes) (owners : List Owner) (path
     pub path_is : is_same_path path o.path ≡ true
     path_is = at_path path l.object.path r.entry.name spot.no_root spot.above name_is
 
-    pub ten : HasForm forms.Ten l.object.entry.len l.content
-    ten = subst (λ (e : Entry). HasForm forms.Ten e.len l.content) entry_is (subst (HasForm forms.Ten is.drafted.ready.node.entry.len) content_is is.form)
+    pub formed : HasForm (dir_form (Layout.New m)) l.object.entry.len l.content
+    formed =
+        subst (λ (e : Entry). HasForm (dir_form (Layout.New m)) e.len l.content) entry_is
+        (subst (HasForm (dir_form (Layout.New m)) is.drafted.ready.node.entry.len) content_is is.form)
+
+    pub has_room : HasRoomFor l.content (last_name path)
+    has_room = subst (λ (d : Directory). HasRoomFor d (last_name path)) content_is is.room
+
+    pub absent : has_name (entries_of l.content) r.entry.name ≡ false
+    absent = ap (has_name (entries_of l.content)) name_is ∙ spot.no_name
 
     pub entries_are : entries_of content ≡ insert (entries_of l.content) j r.entry
-    entries_are = entered_entries l.object.entry.len (holder_address listings l.object.path) r.entry l.content content entered ten
+    entries_are = entries_entered (holder_address listings l.object.path) r.entry l.content content entered absent
+
+    -- it keeps its size, and so its form
+    pub formed_now : HasForm (dir_form (Layout.New m)) l.object.entry.len content
+    formed_now =
+        form_entered (dir_form (Layout.New m)) l.object.entry.len (holder_address listings l.object.path) r.entry l.content content entered
+        (size_entered (holder_address listings l.object.path) r.entry l.content content (last_name path) l entered name_is has_room) formed
 
     pub holder_number : number_of nodes (holder path) ≡ Some dir
     holder_number = by_path (Layout.New m) nodes listings sound path dir spot
@@ -205,7 +221,7 @@ module _ (laws : SaveLaws) (m : Map) (nodes : Nodes) (owners : List Owner) (path
       free = is.free;
       file = attrs_is;
       path = refl;
-      absent = ap (has_name (entries_of l.content)) name_is ∙ spot.no_name;
+      absent = absent;
       entries = entries_are;
       listings_are = refl;
       nodes_are = λ i. put (with_body (is.drafted.ready.prepared.node i) (body_in content) nodes) number (record { holder = is.drafted.ready.prepared.node i; entry = r.entry; body = File });
@@ -217,9 +233,7 @@ module _ (laws : SaveLaws) (m : Map) (nodes : Nodes) (owners : List Owner) (path
     -- the bytes of the directory
     pub long : length r.filing.directory.bytes.items ≡ object_size (dir_form (Layout.New m)) l.object.entry
     long =
-        is.drafted.ready.prepared.length_is
-        ∙ small_size l.object.entry.len l.object.entry content (entered_form l.object.entry.len (holder_address listings l.object.path) r.entry l.content content entered ten) is_dir
-        ∙ ap (λ (f : NameForm). object_size f l.object.entry) (sym is.small)
+        is.drafted.ready.prepared.length_is ∙ size_of_form (dir_form (Layout.New m)) l.object.entry content formed_now is_dir
 
     -- where the file lies, by the objects
     pub file_at : AreOwners owners nodes (Layout.New m) (objects_of listings) → IsFileAt m (objects_of listings) (holder path) words.len (id_in place) (parts_in place) o
@@ -358,8 +372,7 @@ module _ (laws : SaveLaws) (m : Map) (nodes : Nodes) (owners : List Owner) (path
         laws.added_agree kind m m' nodes nodes' owners owners' a.root a.listings (listings' a.listings sound held) (rest a.listings sound held) k content (j a.listings sound held)
         (o a.listings sound held) dir number (holder path) words.len id parts [] on (edit a.listings sound held)
         (record {
-          form = subst (λ (f : NameForm). HasForm f k.object.entry.len content) (sym is.small)
-              (entered_form k.object.entry.len (holder_address a.listings k.object.path) r.entry k.content content (entered a.listings sound held) (ten a.listings sound held));
+          form = formed_now a.listings sound held;
           body = says_it content is.drafted.ready.prepared.sayable;
         })
         (record { nodes_follow = nodes_follow a.listings sound held; owners_follow = owners_follow a.listings sound held a.owned }) len_is lies (file_at a.listings sound held a.owned)
@@ -416,7 +429,7 @@ module _ (laws : SaveLaws) (m : Map) (nodes : Nodes) (owners : List Owner) (path
           found = found view.listings view_sound hold;
           there = (spot view.listings view_sound hold).absent;
           others = IsPermutation-refl (objects_of view.listings);
-          no_growth = no_growth (Layout.New m) nodes view.listings view_sound path dir (spot view.listings view_sound hold) c words.load words.exec bytes makes k.object.entry.len (ten view.listings view_sound hold) view refl;
+          no_growth = no_growth (Layout.New m) nodes view.listings view_sound path dir (spot view.listings view_sound hold) c words.load words.exec bytes makes (has_room view.listings view_sound hold) view refl;
           path_now = refl;
           path_is = path_is view.listings view_sound hold;
           made = (

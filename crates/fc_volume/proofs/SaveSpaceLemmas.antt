@@ -30,7 +30,7 @@ use Rattle.fc_placing.specs.declared.placing.Placing.TheVariants.{Nowhere, Share
 use Rattle.fc_slack.specs.Slack.{holdings, place_in}
 use Rattle.fc_tree.specs.Agree.{HasForm}
 use Rattle.fc_volume.specs.Filing.{HasSpaceMoved, IsPlaceFor, plan_in}
-use Rattle.fc_volume.proofs.CdirHeldLemmas.{by_small}
+use Rattle.fc_volume.proofs.RoomyLemmas.{addressed_by}
 use Rattle.fc_volume.proofs.FilingLemmas.{share_placed}
 use Rattle.fc_volume.proofs.TargetLemmas.{few_ids, low_address}
 
@@ -124,19 +124,17 @@ some_bytes m owners dir bytes share h = by (bytes == 0) refl h
     by true e g = absurd (cc)
     by false e g = e
 
-pub address_fits : (m : Map) → IsNewMap m → dir_form (Layout.New m) ≡ forms.Ten → (owners : List Owner) (dir bytes : ℕ) (content : Directory) (len : ℕ) → HasForm forms.Ten len content → (place : Placing)
+pub address_fits : (m : Map) → IsNewMap m → (owners : List Owner) (dir bytes : ℕ) (content : Directory) (len : ℕ) → HasForm (dir_form (Layout.New m)) len content → (place : Placing)
     → IsFilePlace m owners dir bytes place → CanAddress content (address_in m place bytes)
-address_fits m is small owners dir bytes content len form place at = by_small content len (address_in m place bytes) form (by place at)
+address_fits m is owners dir bytes content len form place at = addressed_by m content len (address_in m place bytes) form (λ small. by small place at)
   where
-    old : m.geometry.version ≡ 0
-    old = eqb-true m.geometry.version 0 (version_is (m.geometry.version == 0) small)
-
-    by : (place : Placing) → IsFilePlace m owners dir bytes place → address_in m place bytes < 2 ^ 24
-    by Nowhere none = omega arith
-    by (Shared share) found =
+    by : dir_form (Layout.New m) ≡ forms.Ten → (place : Placing) → IsFilePlace m owners dir bytes place → address_in m place bytes < 2 ^ 24
+    by small Nowhere none = omega arith
+    by small (Shared share) found =
+        let old = eqb-true m.geometry.version 0 (version_is (m.geometry.version == 0) small) in
         let there = a_place (sectors_at (Layout.New m) (256 * share.id + share.low) bytes) (share_placed m owners dir bytes (place_in share) found) in
         low_address m (256 * share.id + share.low) bytes there.0 is old (some_bytes m owners dir bytes (place_in share) found) there.1
-    by (New plan) new =
+    by small (New plan) new =
         let low = few_ids m is small plan.id new.1.can.fits in
         let little = low_small m.geometry (bits_in (fronts plan.parts.items) * m.geometry.bit_bytes) bytes in
         omega (arith, low, little)

@@ -21,6 +21,7 @@ use Rattle.fc_space.specs.Space.{layout_of}
 use Rattle.fc_tree.specs.Nodes.{HoldObjects, nodes_of}
 use Rattle.fc_tree.specs.Parts.{ArePartsOf}
 use Rattle.fc_volume.specs.Changing.{refusal_in}
+use Rattle.fc_volume.specs.Roomy.{IsRoomyFor}
 use Rattle.fc_volume.specs.Saving.{IsFileAccepted}
 use Rattle.fc_volume.specs.Volume.{Volume, parts_of}
 use Rattle.fc_volume.proofs.CdirAskedLemmas.{first_some}
@@ -48,18 +49,18 @@ judged v path form result judge image layout listings c load exec bytes sound he
     let both = judge image layout listings load exec (length bytes) bytes sound held in
     of_both (λ (k : Command). refusal_of result ≡ first_of (reasons (tree_of image layout listings) form v.read_only k)) c path load exec bytes both.0 both.1 makes
 
-pub accepted_by : (v : Volume) (path : Path) (form : NameForm) (result : Result Slot Refusal) → form ≡ dir_form (layout_of v.space) → dir_form (layout_of v.space) ≡ NameForm.Ten
+pub accepted_by : (v : Volume) (path : Path) (form : NameForm) (result : Result Slot Refusal) → form ≡ dir_form (layout_of v.space) → IsRoomyFor (parts_of v) path
     → JudgesSave v path form result
     → IfOk result (λ s. (layout : Layout) (listings : List Listing) → AreSound layout listings → HoldObjects (nodes_of v.tree) listings → IsSlot (nodes_of v.tree) listings path s)
     → OnOk result (IsTrue (is_writable form (last_name path))) → IfOk result (λ s. IsFileAccepted v path s)
-accepted_by v path form (Err refusal) is ten judge slot name = tt
-accepted_by v path form (Ok s) is ten judge slot name = record {
+accepted_by v path form (Err refusal) is roomy judge slot name = tt
+accepted_by v path form (Ok s) is roomy judge slot name = record {
   slot = slot;
   accepted = λ image layout listings c load exec bytes sound held makes.
       subst (λ (f : NameForm). first_of (reasons (tree_of image layout listings) f v.read_only c) ≡ None) is
       (sym (judged v path form (Ok s) judge image layout listings c load exec bytes sound held makes));
   writable = subst (λ (f : NameForm). is_writable f (last_name path) ≡ true) is name;
-  small = ten;
+  roomy = roomy;
 }
 
 refused_in' : (v : Volume) (path : Path) (form : NameForm) (result : Result Slot Refusal) → form ≡ dir_form (layout_of v.space) → JudgesSave v path form result

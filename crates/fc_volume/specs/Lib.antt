@@ -7,6 +7,7 @@ pub mod Mounting
 pub mod Reading
 pub mod Compacting
 pub mod Changing
+pub mod Roomy
 pub mod Rewrites
 pub mod Setting
 pub mod Storing

@@ -1,5 +1,5 @@
 -- An object that moves to another directory, ready in memory.
-use Rattle.std.specs.Prelude.{◌≡◌, ℕ, Bool, IsFalse, IsSome, List, slice_get, Some, option_map}
+use Rattle.std.specs.Prelude.{◌≡◌, ℕ, Bool, IsFalse, IsSome, List, slice_get, Some, option_map, false}
 use Rattle.std.specs.List.{find}
 use Rattle.std.specs.Ordering.{nat_cmp}
 use Rattle.std.specs.FinMap.{FinMap, get}
@@ -7,6 +7,7 @@ use Rattle.fc_alloc.specs.declared.owner.Owner.{Owner}
 use Rattle.fc_alloc.specs.Owners.{is_node}
 use Rattle.fc_dirs.specs.declared.Entry.{Entry}
 use Rattle.fc_dirs.specs.declared.SmallForm.TheVariants.{Bytes2048}
+use Rattle.fc_dirs.specs.Big.{BigDir}
 use Rattle.fc_dirs.specs.Small.{SmallDir, is_full_small}
 use Rattle.fc_dirs.specs.Directory.{Directory, entries_of}
 use Rattle.fc_dirs.specs.Entries.{has_name}
@@ -79,9 +80,11 @@ pub record CanMove (nodes : FinMap nat_cmp Node) (layout : Layout) (t : Target) 
   pub holds : (e : Entry) → CanHold held.content e → CanHold content e
   pub turnable : IsTurnable nodes layout t.node (address_in nodes dir) name
 
--- It says whether the small directory of the node has as many entries as it can hold.
-abbrev pub SaysFull : FinMap nat_cmp Node → ℕ → Bool → Type 0
-SaysFull nodes n full = (node : Node) (dir : SmallDir) → get nodes n ≡ Some node → node.body ≡ body_in (Directory.Small dir) → dir.form ≡ Bytes2048 → full ≡ is_full_small dir
+-- It says whether the directory of the node, if it is one of 2,048 bytes, has as many entries as it can hold. A big one is never full where it
+-- needn't grow.
+pub record SaysFull (nodes : FinMap nat_cmp Node) (n : ℕ) (full : Bool) : Type 0 where
+  pub small : (node : Node) (dir : SmallDir) → get nodes n ≡ Some node → node.body ≡ body_in (Directory.Small dir) → dir.form ≡ Bytes2048 → full ≡ is_full_small dir
+  pub big : (node : Node) (dir : BigDir) → get nodes n ≡ Some node → node.body ≡ body_in (Directory.Big dir) → full ≡ false
 
 -- All is ready for it: both directories, and the target, if it is a directory.
 pub record IsMoveReady (nodes : FinMap nat_cmp Node) (layout : Layout) (owners : List Owner) (t : Target) (dir : ℕ) (name : List ℕ) (r : Relocation) : Type 0 where

@@ -15,13 +15,13 @@ use Rattle.fc_image.specs.Walk.{Listing, object_size}
 use Rattle.fc_model.specs.Answer.{first_of, reasons}
 use Rattle.fc_model.specs.Command.{Command}
 use Rattle.fc_model.specs.Tree.{last_name}
-use Rattle.fc_names.specs.declared.name.NameForm.{NameForm}
 use Rattle.fc_names.specs.Names.{Path, is_writable}
 use Rattle.fc_refusals.specs.declared.target.Renaming.{Renaming}
 use Rattle.fc_refusals.specs.Slots.{IsRenaming}
 use Rattle.fc_space.specs.Space.{layout_of}
 use Rattle.fc_tree.specs.Nodes.{HoldObjects, nodes_of}
-use Rattle.fc_volume.specs.Volume.{Volume}
+use Rattle.fc_volume.specs.Roomy.{IsRoomy}
+use Rattle.fc_volume.specs.Volume.{Volume, parts_of}
 use Rattle.fc_refusals.specs.declared.target.Target.{Target}
 use Rattle.fc_tree.specs.declared.node.Body.{Body}
 use Rattle.fc_tree.specs.declared.node.Body.TheVariants as bodies
@@ -80,11 +80,11 @@ pub record IsRenameReady (nodes : FinMap nat_cmp Node) (layout : Layout) (t : Ta
 
 -- ---- what a rename is about
 
--- What is renamed is right for each walk whose objects the nodes of a volume hold, and the model refuses nothing. The disc's directories
--- are small ones of a new map, and the name may be written in them.
+-- What is renamed is right for each walk whose objects the nodes of a volume hold, and the model refuses nothing. No directory
+-- grows by it, and the name may be written in the disc's directories.
 pub record IsAccepted (v : Volume) (from to : Path) (r : Renaming) : Type 0 where
   pub renaming : (layout : Layout) (listings : List Listing) → AreSound layout listings → HoldObjects (nodes_of v.tree) listings → IsRenaming (nodes_of v.tree) listings from to r
   pub accepted : (image : List ℕ) (layout : Layout) (listings : List Listing) → AreSound layout listings → HoldObjects (nodes_of v.tree) listings
       → first_of (reasons (tree_of image layout listings) (dir_form (layout_of v.space)) v.read_only (Command.Rename from to)) ≡ None
   pub writable : IsTrue (is_writable (dir_form (layout_of v.space)) (last_name to))
-  pub small : dir_form (layout_of v.space) ≡ NameForm.Ten
+  pub roomy : IsRoomy (parts_of v) (Command.Rename from to)

@@ -13,7 +13,6 @@ use Rattle.fc_image.specs.Walk.{Listing}
 use Rattle.fc_model.specs.Answer.{first_of, reasons}
 use Rattle.fc_model.specs.Command.{Command}
 use Rattle.fc_model.specs.Tree.{last_name}
-use Rattle.fc_names.specs.declared.name.NameForm.{NameForm}
 use Rattle.fc_names.specs.Names.{Path, is_writable}
 use Rattle.fc_newmap.specs.Map.{Map}
 use Rattle.fc_placing.specs.declared.placing.Placing.{Placing}
@@ -25,7 +24,8 @@ use Rattle.fc_tree.specs.declared.node.Node.{Node}
 use Rattle.fc_tree.specs.Nodes.{HoldObjects, nodes_of}
 use Rattle.fc_volume.specs.declared.changes.putting.FileWords.{FileWords}
 use Rattle.fc_volume.specs.Making.{CanGain}
-use Rattle.fc_volume.specs.Volume.{Volume}
+use Rattle.fc_volume.specs.Roomy.{IsRoomyFor}
+use Rattle.fc_volume.specs.Volume.{Volume, parts_of}
 
 -- the bytes of a file of so many, of which only the first are given: the others are zeros
 abbrev pub filled : ℕ → List ℕ → List ℕ
@@ -41,10 +41,10 @@ CanPutIn nodes m owners n bytes name = (node : Node) × (content : Directory) ×
     × ((place : Placing) → IsFilePlace m owners n bytes place → CanAddress content (address_in m place bytes))
 
 -- The place for a file is right for each walk whose objects the nodes of a volume hold, and the model refuses no command that makes a
--- file there. The disc's directories are small ones of a new map, and the name may be written in them.
+-- file there. No directory grows by it, and the name may be written in the disc's directories.
 pub record IsFileAccepted (v : Volume) (path : Path) (s : Slot) : Type 0 where
   pub slot : (layout : Layout) (listings : List Listing) → AreSound layout listings → HoldObjects (nodes_of v.tree) listings → IsSlot (nodes_of v.tree) listings path s
   pub accepted : (image : List ℕ) (layout : Layout) (listings : List Listing) (c : Command) (load exec : ℕ) (bytes : List ℕ) → AreSound layout listings → HoldObjects (nodes_of v.tree) listings
       → MakesFile c path load exec bytes → first_of (reasons (tree_of image layout listings) (dir_form (layout_of v.space)) v.read_only c) ≡ None
   pub writable : IsTrue (is_writable (dir_form (layout_of v.space)) (last_name path))
-  pub small : dir_form (layout_of v.space) ≡ NameForm.Ten
+  pub roomy : IsRoomyFor (parts_of v) path

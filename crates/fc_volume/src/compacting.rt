@@ -23,7 +23,7 @@ use fc_newmap::NewMap;
 use fc_space::{Places, Space};
 use std::alloc::Global;
 
-// Makes the copies of a map equal, if they may differ.
+/// Makes the copies of a map equal, if they may differ.
 pub fn match_copies<D: Disk>(disk: &mut D, map: &NewMap, copies: Copies) -> Result<(), DiskFault>
     requires attached { IsTrue (D.attached disk.old) }
     requires settled { IsFalse (D.pending disk.old) }

@@ -2,7 +2,7 @@
 #![tactic(auto)]
 
 pub mod changes;
-mod compacting;
+pub mod compacting;
 mod copies;
 mod lines;
 mod maps;

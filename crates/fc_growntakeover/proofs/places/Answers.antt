@@ -1,4 +1,4 @@
-use Rattle.fc_growntakeover.proofs.PlaceLemmas.{grown_places_law}
+use Rattle.fc_growntakeover.proofs.CarriedLemmas.{grown_places_law}
 use Rattle.fc_growntakeover.proofs.places.Goals as goal
 
 pub returns : goal.returns

@@ -8,6 +8,7 @@ use Rattle.fc_shell.specs.Promise.{Promise}
 use Rattle.fc_shell.specs.Replies.{asked_script}
 use Rattle.fc_shell.proofs.AskedLemmas.{asked_plain}
 use Rattle.fc_shell.proofs.DemoLemmas.{asked_few}
+use Rattle.fc_shell.proofs.HeadlineLemmas.{answered_by_map}
 use Rattle.fc_shell.proofs.KeptLemmas.{memory_promise}
 use Rattle.fc_shell.proofs.OutcomeLemmas.{promise_as}
 use Rattle.fc_shell.proofs.PromiseLemmas.{none}
@@ -31,6 +32,16 @@ returns-in-Ok-clause-promise g c gives given text left image told =
     let here = sym (ap (λ (o : Option Request). asked_script o (g.S.Source.left c.args.script.now)) c.in-Ok.ensures.ok) ∙ left in
     let promise = c.run_request.ensures.promise gives given text here image told in
     (promise.0, promise.1, subst (λ o. Promise g.D.Disk c.args.disk.now c.run_request.new.disk gives image text promise.0 o c.run_request.result) (sym c.in-Ok.ensures.ok) promise.2)
+
+pub returns-in-Ok-clause-headline : goal.returns-in-Ok-clause-headline
+returns-in-Ok-clause-headline g c r asked whole gives given text left image told =
+    let here = ap (λ (o : Option Request). asked_script o (g.S.Source.left c.args.script.now)) asked ∙ left in
+    let promise = returns-in-Ok-clause-promise g c gives given text here image told in (
+      promise.0,
+      promise.1,
+      answered_by_map g.D.Disk c.args.disk.now c.run_request.new.disk c.headline.ensures c.accepted.ensures r image text promise.0 gives c.run_request.result whole
+          (subst (λ o. Promise g.D.Disk c.args.disk.now c.run_request.new.disk gives image text promise.0 o c.run_request.result) asked promise.2),
+    )
 
 pub returns-in-Ok-clause-reply : goal.returns-in-Ok-clause-reply
 returns-in-Ok-clause-reply g c plain gives given text left image told calm =

@@ -8,7 +8,7 @@ use std::test::Fail;
 #[test]
 fn changes_of_fresh_volumes(rt: HostRuntime) -> Result<(), Fail> {
     let alloc = rt.alloc();
-    let cases: [(&str, &[u8], u8, &[u8]); 11] = [
+    let cases: [(&str, &[u8], u8, &[u8]); 10] = [
         ("E", b"compact\n", 0, b"ok\n"),
         (
             "E+",
@@ -22,14 +22,18 @@ fn changes_of_fresh_volumes(rt: HostRuntime) -> Result<(), Fail> {
             1,
             b"error 7 RootRefused\n",
         ),
-        ("D", b"compact\n", 9, b""),
+        ("D", b"compact\n", 0, b"ok\n"),
         ("E+", b"free\ncdir $.D", 9, b""),
         ("E+", b"free\nrename $ $\n", 9, b""),
         ("F+", b"free\nlod\ncreate $.A 00000000 00000000 0\n", 9, b""),
         ("F+", b"save $ 00000000 00000000 -\nfree\n", 9, b""),
-        ("L", b"save $.A 00000000 00000000 01\nfree", 9, b""),
-        ("D", b"free\nset $.A 00000000 00000000 R\n", 9, b""),
-        ("L", b"free\ndelete $.A", 9, b""),
+        (
+            "D",
+            b"free\nset $.A 00000000 00000000 R\n",
+            1,
+            b"free 816128 816128\nok\nerror 3 NotFound\n",
+        ),
+        ("L", b"delete $", 1, b"error 7 RootRefused\n"),
     ];
     for (format, script, wanted, text) in cases {
         let words = ["--new", format, "disc"];

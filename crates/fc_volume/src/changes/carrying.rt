@@ -1,6 +1,8 @@
 // Files that move to another directory and are copied into space of their own, made ready in memory.
-ghost use Rattle.std.specs.Prelude.{◌≡◌, ◌<◌, ◌+◌, ◌*◌, ◌^◌, IfOk, Some, length};
+ghost use Rattle.std.specs.Prelude.{◌≡◌, ◌<◌, ◌+◌, ◌*◌, ◌^◌, ℕ, IfOk, Some, length};
 ghost use Rattle.std.specs.FinMap.{get};
+ghost use Rattle.fc_dirs.specs.Directory.{Directory};
+ghost use Rattle.fc_drafts.specs.Draft.{CanAddress};
 ghost use Rattle.fc_effects.specs.Placed.{file_low};
 ghost use Rattle.fc_effects.specs.Short.{short};
 ghost use Rattle.fc_image.specs.Layout.{Layout, dir_form};
@@ -14,7 +16,7 @@ ghost use Rattle.fc_plan.specs.Parts.{fronts};
 ghost use Rattle.fc_placing.specs.Places.{FitsDirectory, IsOwnPlan, WantsOwnSpace};
 ghost use Rattle.fc_space.specs.Space.{layout_of};
 ghost use Rattle.fc_tree.specs.declared.node.Node.{Node};
-ghost use Rattle.fc_tree.specs.Nodes.{nodes_of};
+ghost use Rattle.fc_tree.specs.Nodes.{body_in, nodes_of};
 ghost use Rattle.fc_volume.specs.Carrying.{CanCopy, IsCarryReady, IsCopySpace};
 ghost use Rattle.fc_volume.specs.Making.{AnswersSpace};
 ghost use Rattle.fc_volume.specs.Moving.{CanMove};
@@ -147,7 +149,7 @@ fn prepare_copy(
     requires path { 0 < length to.now }
     requires can { CanMove (nodes_of tree.now) (layout_of places.now) target dir (last_name to.now) }
     requires copy { CanCopy (nodes_of tree.now) (layout_of places.now) target.node }
-    requires address { space.address < 2 ^ 24 }
+    requires address { (node : Node) (content : Directory) → get (nodes_of tree.now) dir ≡ Some node → node.body ≡ body_in content → CanAddress content space.address }
     ensures ready { IfOk result (IsCarryReady (nodes_of tree.now) (layout_of places.now) target dir (last_name to.now)) }
     ensures same { IfOk result (λ change. change.space ≡ space) }
 {
@@ -176,7 +178,7 @@ fn prepare_copy(
 }
 
 /// Makes a move of a file to the directory of a node ready, where it is a copy, under the last name of a path, or says why
-/// there is no space. The directory, a small one, has room for it.
+/// there is no space. The directory has room for it, and its entries can have each address, if it isn't a small one.
 pub fn prepare_carrying(
     alloc: Global,
     tree: &Tree,
@@ -186,7 +188,8 @@ pub fn prepare_carrying(
     to: &Path,
 ) -> Result<Carrying, CommandError>
     requires new_map { IsNewLayout (layout_of places.now) }
-    requires small { dir_form (layout_of places.now) ≡ NameForm.Ten }
+    requires fields { (node : Node) (content : Directory) (address : ℕ) → get (nodes_of tree.now) dir ≡ Some node → node.body ≡ body_in content
+        → (dir_form (layout_of places.now) ≡ NameForm.Ten → address < 2 ^ 24) → CanAddress content address }
     requires path { 0 < length to.now }
     requires can { CanMove (nodes_of tree.now) (layout_of places.now) target dir (last_name to.now) }
     requires copy { CanCopy (nodes_of tree.now) (layout_of places.now) target.node }

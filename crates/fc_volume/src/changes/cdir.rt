@@ -9,7 +9,6 @@ ghost use Rattle.fc_image.specs.Opening.{Opened};
 ghost use Rattle.fc_image.specs.Stays.{IsNewLayout};
 ghost use Rattle.fc_model.specs.Command.{Command};
 ghost use Rattle.fc_model.specs.Tree.{last_name};
-ghost use Rattle.fc_names.specs.declared.name.NameForm.TheVariants as forms;
 ghost use Rattle.fc_newmap.specs.Map.{Map};
 ghost use Rattle.fc_space.specs.Space.{layout_of};
 ghost use Rattle.fc_tree.specs.declared.node.Node.{Node};
@@ -17,6 +16,7 @@ ghost use Rattle.fc_tree.specs.Nodes.{body_in, nodes_of};
 ghost use Rattle.fc_volume.specs.Changing.{AnswersOver, ChangeKeeps, HasChanged, WritesOnlyPlaces};
 ghost use Rattle.fc_volume.specs.Compacting.{UnlessFault};
 ghost use Rattle.fc_volume.specs.Making.{AnswersSpace, CanMakeIn, IsMakingReady};
+ghost use Rattle.fc_volume.specs.Roomy.{IsRoomy};
 ghost use Rattle.fc_volume.specs.Volume.{StandsFor, parts_of};
 
 use crate::changes::laws::{cdir_laws, is_new_map};
@@ -92,9 +92,9 @@ fn draft_cdir(
 }
 
 impl Volume {
-    /// Makes an empty directory. The disc has a new map and small directories, and nothing is pending. Copies of the map that
-    /// may differ are made equal first; then the new directory is written into holes, the map with its space, and the
-    /// directory that holds it. No other sector is written.
+    /// Makes an empty directory. The disc has a new map, no directory grows, and nothing is pending. Copies of the map that may
+    /// differ are made equal first; then the new directory is written into holes, the map with its space, and the directory
+    /// that holds it. No other sector is written.
     ///
     /// Refused with the first reason that applies, and then nothing has changed; `NoMemory` leaves all as it was, too.
     /// `DiskFault` only if the disk's count of faults rose; the volume is unfit afterwards.
@@ -109,7 +109,7 @@ impl Volume {
         requires fit { IsTrue self.old.fit }
         requires stands { StandsFor D.Disk self.old disk.old }
         requires new_map { IsNewLayout (parts_of self.old).layout }
-        requires small { dir_form (parts_of self.old).layout ≡ forms.Ten }
+        requires roomy { IsRoomy (parts_of self.old) (Command.Cdir p.now) }
         ensures refused { AnswersOver self.old (Command.Cdir p.now) result }
         ensures changed { OnOk result (HasChanged D.Disk (Command.Cdir p.now) (parts_of self.old) (parts_of self.new) disk.old disk.new) }
         ensures places { WritesOnlyPlaces D.Disk (Command.Cdir p.now) (parts_of self.old) disk.old disk.new }

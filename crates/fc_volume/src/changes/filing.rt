@@ -38,8 +38,8 @@ pub struct Filing {
     pub back: Vec<u16>,
 }
 
-// Makes the copies of the map equal, if they may differ, and then writes the bytes of a file.
-fn store_first<D: Disk>(
+/// Makes the copies of the map equal, if they may differ, and then writes the bytes of a file.
+pub fn store_first<D: Disk>(
     disk: &mut D,
     map: &NewMap,
     copies: Copies,

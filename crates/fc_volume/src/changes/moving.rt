@@ -5,6 +5,7 @@ ghost use Rattle.std.specs.Option.{option_map_or};
 ghost use Rattle.std.specs.FinMap.{get};
 ghost use Rattle.fc_alloc.specs.Owners.{is_node};
 ghost use Rattle.fc_dirs.specs.Directory.{entries_of};
+ghost use Rattle.fc_dirs.specs.Big.{BigDir};
 ghost use Rattle.fc_dirs.specs.Small.{SmallDir, is_full_small};
 ghost use Rattle.fc_dirs.specs.declared.SmallForm.{SmallForm};
 ghost use Rattle.fc_dirs.specs.Entries.{has_name};
@@ -109,9 +110,10 @@ pub fn prepare_entering(
     Rewrite::prepare(alloc, places, dir, node, draft)
 }
 
-// Whether what a directory of 2,048 bytes says has as many entries as it can hold.
+// Whether what a directory of 2,048 bytes says has as many entries as it can hold. A big one isn't asked for it.
 fn has_no_place(body: &Body) -> bool
-    ensures { (dir : SmallDir) → body.now ≡ Body.Small dir → dir.form ≡ SmallForm.Bytes2048 → result ≡ is_full_small dir }
+    ensures small { (dir : SmallDir) → body.now ≡ Body.Small dir → dir.form ≡ SmallForm.Bytes2048 → result ≡ is_full_small dir }
+    ensures big { (dir : BigDir) → body.now ≡ Body.Big dir → result ≡ false }
 {
     match body {
         Body::Small(dir) => dir.entries().len() == 77,
@@ -120,7 +122,8 @@ fn has_no_place(body: &Body) -> bool
     }
 }
 
-/// Whether the directory of a node, one of 2,048 bytes, has as many entries as it can hold.
+/// Whether the directory of a node, if it is one of 2,048 bytes, has as many entries as it can hold. A big one has room where it
+/// needn't grow.
 pub fn is_full(tree: &Tree, n: u64) -> bool
     ensures { SaysFull (nodes_of tree.now) n result }
 {

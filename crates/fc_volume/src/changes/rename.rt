@@ -1,6 +1,5 @@
 // `rename`: another name for an object, another directory, or both.
 ghost use Rattle.std.specs.Prelude.{◌≡◌, ℕ, List, Some, false, true, IfErr, IfOk, IsFalse, IsTrue, OnOk};
-ghost use Rattle.fc_names.specs.declared.name.NameForm.{NameForm};
 ghost use Rattle.fc_image.specs.Layout.{dir_form};
 ghost use Rattle.fc_image.specs.Opening.{Opened};
 ghost use Rattle.fc_image.specs.Sound.{AreSound};
@@ -11,6 +10,7 @@ ghost use Rattle.fc_volume.specs.Changing.{AnswersOver, ChangeKeeps, HasChanged,
 ghost use Rattle.fc_placing.specs.Copying.{SaysCopied};
 ghost use Rattle.fc_volume.specs.Compacting.{UnlessFault};
 ghost use Rattle.fc_volume.specs.Renaming.{IsAccepted};
+ghost use Rattle.fc_volume.specs.Roomy.{IsRoomy};
 ghost use Rattle.fc_volume.specs.Volume.{StandsFor, parts_of};
 
 use crate::changes::carrying::prepare_carrying;
@@ -27,7 +27,7 @@ use std::alloc::Global;
 impl Volume {
     // What a rename is about, if the judge refuses nothing.
     fn accept(&self, from: &Path, to: &Path) -> Result<Renaming, Refusal>
-        requires small { dir_form (parts_of self.now).layout ≡ NameForm.Ten }
+        requires roomy { IsRoomy (parts_of self.now) (Command.Rename from.now to.now) }
         ensures accepted { IfOk result (λ renaming. IsAccepted self.now from.now to.now renaming) }
         ensures refused { IfErr result (λ refusal. (v : Opened) (image : List ℕ) → AreSound v.layout v.listings → ArePartsOf (parts_of self.now) v
             → refusal_in v image self.now.read_only (Command.Rename from.now to.now) ≡ Some refusal) }
@@ -35,7 +35,7 @@ impl Volume {
         judge_rename(&self.tree, self.places.dir_form(), self.read_only, from, to)
     }
 
-    // Gives an object, which the judge has accepted, another name in its directory. A small directory has room for it.
+    // Gives an object, which the judge has accepted, another name in its directory, which has room for it.
     fn rename_within<D: Disk>(
         &mut self,
         alloc: Global,
@@ -155,7 +155,7 @@ impl Volume {
         }
     }
 
-    /// Gives an object another name, another directory, or both. The disc has a new map and small directories, and nothing is
+    /// Gives an object another name, another directory, or both. The disc has a new map, no directory grows, and nothing is
     /// pending. Copies of the map that may differ are made equal first. A file that moves to another directory and shares its
     /// identifier with another object is copied into holes then, and the map is written with its space. Last come the
     /// directory that gets the entry, the object's own, if it is a directory, and the directory that loses the entry. No other
@@ -175,7 +175,7 @@ impl Volume {
         requires fit { IsTrue self.old.fit }
         requires stands { StandsFor D.Disk self.old disk.old }
         requires new_map { IsNewLayout (parts_of self.old).layout }
-        requires small { dir_form (parts_of self.old).layout ≡ NameForm.Ten }
+        requires roomy { IsRoomy (parts_of self.old) (Command.Rename from.now to.now) }
         ensures refused { AnswersOver self.old (Command.Rename from.now to.now) result }
         ensures changed { OnOk result (HasChanged D.Disk (Command.Rename from.now to.now) (parts_of self.old) (parts_of self.new) disk.old disk.new) }
         ensures places { WritesOnlyPlaces D.Disk (Command.Rename from.now to.now) (parts_of self.old) disk.old disk.new }

@@ -85,7 +85,7 @@ fn renamed(draft: Draft, parent: u32, at: usize, e: Entry) -> Result<Draft, NoMe
     }
 }
 
-/// Makes an object ready to be written under another name in its directory. A small directory has room for it.
+/// Makes an object ready to be written under another name in its directory, which has room for it.
 pub fn prepare_rename(
     alloc: Global,
     tree: &Tree,

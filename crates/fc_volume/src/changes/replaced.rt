@@ -33,9 +33,9 @@ fn has_owner(owners: &[Owner], node: u64) -> bool
     owners.iter().any(|o| o.node == node)
 }
 
-// Takes the memory for an owner, if there is one: it is added, unless its node has one already. After `NoMemory` the owners
-// are as before.
-fn make_room(owners: &mut Owners, owner: Option<Owner>) -> Result<(), NoMemory>
+/// Takes the memory for an owner, if there is one: it is added, unless its node has one already. After `NoMemory` the owners
+/// are as before.
+pub fn make_room(owners: &mut Owners, owner: Option<Owner>) -> Result<(), NoMemory>
     ensures ok { OnOk result (owners.new ≡ owners_with_room owner owners.old) }
     ensures err { OnErr result (owners.new ≡ owners.old) }
 {
@@ -48,8 +48,8 @@ fn make_room(owners: &mut Owners, owner: Option<Owner>) -> Result<(), NoMemory>
     owners.add(owner)
 }
 
-// The node's owner becomes this, or goes if there is none. It takes no memory.
-fn set_owner(owners: &mut Owners, node: u64, owner: Option<Owner>)
+/// The node's owner becomes this, or goes if there is none. It takes no memory.
+pub fn set_owner(owners: &mut Owners, node: u64, owner: Option<Owner>)
     requires { HasOwner owners.old owner }
     ensures { HasOwnerNow owner node owners.old owners.new }
 {

@@ -52,8 +52,8 @@ fn shared_id(place: &Placing) -> Option<u32>
     }
 }
 
-// The owner that the object of an entry is, if it has sectors.
-fn owner_if(space: &Space, n: u64, holder: u64, e: &Entry) -> Option<Owner>
+/// The owner that the object of an entry is, if it has sectors.
+pub fn owner_if(space: &Space, n: u64, holder: u64, e: &Entry) -> Option<Owner>
     ensures { result ≡ owner_if (layout_of space.now) n holder e.now }
 {
     let owner = entry_owner(space, n, holder, e);
@@ -63,8 +63,8 @@ fn owner_if(space: &Space, n: u64, holder: u64, e: &Entry) -> Option<Owner>
     Some(owner)
 }
 
-// Makes the target's entry ready with other words, another length and another address, and the directory that holds it.
-fn prepare_saved(
+/// Makes the target's entry ready with other words, another length and another address, and the directory that holds it.
+pub fn prepare_saved(
     alloc: Global,
     tree: &Tree,
     places: &Places,

@@ -10,7 +10,6 @@ ghost use Rattle.fc_image.specs.Sound.{AreSound};
 ghost use Rattle.fc_image.specs.Stays.{IsNewLayout};
 ghost use Rattle.fc_model.specs.Command.{Command};
 ghost use Rattle.fc_model.specs.Tree.{last_name};
-ghost use Rattle.fc_names.specs.declared.name.NameForm.{NameForm};
 ghost use Rattle.fc_newmap.specs.Map.{Map};
 ghost use Rattle.fc_refusals.specs.declared.target.Slot.{Slot};
 ghost use Rattle.fc_space.specs.Space.{layout_of};
@@ -21,6 +20,7 @@ ghost use Rattle.fc_volume.specs.Changing.{AnswersOver, ChangeKeeps, HasChanged,
 ghost use Rattle.fc_volume.specs.Compacting.{UnlessFault};
 ghost use Rattle.fc_volume.specs.Filing.{IsFileDrafted, WantsFile};
 ghost use Rattle.fc_volume.specs.Making.{AnswersSpace};
+ghost use Rattle.fc_volume.specs.Roomy.{IsRoomy, IsRoomyFor};
 ghost use Rattle.fc_volume.specs.Saving.{CanPutIn, IsFileAccepted, MakesFilled};
 ghost use Rattle.fc_volume.specs.Volume.{StandsFor, parts_of};
 
@@ -96,7 +96,7 @@ fn draft_put(
 impl Volume {
     // The place for a file, if the judge refuses nothing.
     fn accept_file(&self, p: &Path) -> Result<Slot, Refusal>
-        requires small { dir_form (parts_of self.now).layout ≡ NameForm.Ten }
+        requires roomy { IsRoomyFor (parts_of self.now) p.now }
         ensures accepted { IfOk result (λ slot. IsFileAccepted self.now p.now slot) }
         ensures refused { IfErr result (λ refusal. (v : Opened) (image : List ℕ) (c : Command) (load exec : ℕ) (bytes : List ℕ) → MakesFile c p.now load exec bytes
             → AreSound v.layout v.listings → ArePartsOf (parts_of self.now) v → refusal_in v image self.now.read_only c ≡ Some refusal) }
@@ -157,7 +157,7 @@ impl Volume {
         requires fit { IsTrue self.old.fit }
         requires stands { StandsFor D.Disk self.old disk.old }
         requires new_map { IsNewLayout (parts_of self.old).layout }
-        requires small { dir_form (parts_of self.old).layout ≡ NameForm.Ten }
+        requires roomy { IsRoomyFor (parts_of self.old) p.now }
         requires long { length bytes.now ≤ words.len }
         ensures refused { (c : Command) → MakesFilled p.now words bytes.now c → AnswersOver self.old c result }
         ensures changed { OnOk result ((c : Command) → MakesFilled p.now words bytes.now c → HasChanged D.Disk c (parts_of self.old) (parts_of self.new) disk.old disk.new) }
@@ -174,7 +174,7 @@ impl Volume {
     }
 
     /// Writes a file of these bytes, new or in the place of another, which keeps its name and its attributes. The disc has a
-    /// new map and small directories, and nothing is pending. Copies of the map that may differ are made equal first; then the
+    /// new map, no directory grows, and nothing is pending. Copies of the map that may differ are made equal first; then the
     /// bytes are written into holes, or into slack that other files of the directory leave, the map with their space, the
     /// directory, and the map without the space of the file that was there. No other sector is written.
     ///
@@ -194,7 +194,7 @@ impl Volume {
         requires fit { IsTrue self.old.fit }
         requires stands { StandsFor D.Disk self.old disk.old }
         requires new_map { IsNewLayout (parts_of self.old).layout }
-        requires small { dir_form (parts_of self.old).layout ≡ NameForm.Ten }
+        requires roomy { IsRoomy (parts_of self.old) (Command.Save p.now load exec bytes.now) }
         requires length { length bytes.now < 2 ^ 32 }
         ensures refused { AnswersOver self.old (Command.Save p.now load exec bytes.now) result }
         ensures changed { OnOk result (HasChanged D.Disk (Command.Save p.now load exec bytes.now) (parts_of self.old) (parts_of self.new) disk.old disk.new) }
@@ -225,7 +225,7 @@ impl Volume {
         requires fit { IsTrue self.old.fit }
         requires stands { StandsFor D.Disk self.old disk.old }
         requires new_map { IsNewLayout (parts_of self.old).layout }
-        requires small { dir_form (parts_of self.old).layout ≡ NameForm.Ten }
+        requires roomy { IsRoomy (parts_of self.old) (Command.Create p.now load exec len) }
         ensures refused { AnswersOver self.old (Command.Create p.now load exec len) result }
         ensures changed { OnOk result (HasChanged D.Disk (Command.Create p.now load exec len) (parts_of self.old) (parts_of self.new) disk.old disk.new) }
         ensures places { WritesOnlyPlaces D.Disk (Command.Create p.now load exec len) (parts_of self.old) disk.old disk.new }

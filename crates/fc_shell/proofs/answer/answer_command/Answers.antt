@@ -6,8 +6,6 @@ use Rattle.fc_script.specs.Reading.{command}
 use Rattle.fc_volume.specs.Volume.{StandsFor, parts_of}
 use Rattle.fc_shell.specs.Answered.{Answered, ForState, volume_reply}
 use Rattle.fc_shell.specs.Line.{KeepsGoing, LineEnds}
-use Rattle.fc_shell.specs.Built.{lacks}
-use Rattle.fc_shell.proofs.LackingLemmas.{compact_new}
 use Rattle.fc_shell.proofs.ReplyLemmas.{built_changing}
 use Rattle.fc_shell.proofs.StepLemmas.{reading_ends, reading_keeps}
 use Rattle.fc_shell.proofs.answer.answer_command.Goals as goal
@@ -40,10 +38,6 @@ returns-then-is_reading-clause-keeps g c line is =
     subst (λ w. KeepsGoing g.D.Disk g.K.Sink c.args.disk.now c.answer_reading.new.disk c.args.out.now c.answer_reading.new.out v w line c.answer_reading.result) (sym c.renew_index.ensures)
     (reading_keeps (laws g.met.D.Disk) g.K.Sink v line c.args.disk.now c.answer_reading.new.disk c.args.out.now c.answer_reading.new.out c.answer_reading.result
     c.requires.settled c.requires.fit c.requires.stands c.answer_reading.ensures.reads c.answer_reading.ensures.caused)
-
-pub compact-requires-clause-new_map : goal.compact-requires-clause-new_map
-compact-requires-clause-new_map g c =
-    compact_new (parts_of c.args.volume.now).layout (ap (λ a. lacks (parts_of c.args.volume.now).layout (command a)) (sym c.in-Compact.is) ∙ c.requires.built_for)
 
 pub returns-in-Compact-clause-step : goal.returns-in-Compact-clause-step
 returns-in-Compact-clause-step g c line is = c.compact.ensures.step line (is ∙ ap (λ a. Ok (command a)) c.in-Compact.is)

@@ -13,4 +13,4 @@ returns-clause-step g c line is image told kind view opens parts =
 pub returns-clause-keeps : goal.returns-clause-keeps
 returns-clause-keeps g c line is =
     change_keeps (laws g.met.D.Disk) g.K.Sink line (command c.args.asked.now) c.args.volume.now c.change-changed.new.volume c.args.disk.now c.change-changed.new.disk c.args.out.now c.tell_change.new.out
-    c.requires.changes is c.requires.built_for c.requires.stands c.change-changed.result c.tell_change.result c.change-changed.ensures c.tell_change.ensures
+    c.requires.changes is c.requires.stands c.change-changed.result c.tell_change.result c.change-changed.ensures c.tell_change.ensures

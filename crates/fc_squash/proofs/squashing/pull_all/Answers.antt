@@ -7,6 +7,7 @@ use Rattle.fc_squash.specs.Squashing.{no_object, moved_to, with_start}
 use Rattle.fc_squash.proofs.StandLemmas.{Standing, comes, stand_start, stand_more}
 use Rattle.fc_squash.proofs.CarryLemmas.{CarriedBy, carried_start, carried_by_more}
 use Rattle.fc_squash.proofs.EndLemmas.{squashed, squashed_by}
+use Rattle.fc_squash.proofs.ToldLemmas.{told_start, told_then}
 use Rattle.fc_squash.proofs.squashing.pull_all.Goals as goal
 
 pub loop-k-init : goal.loop-k-init
@@ -15,6 +16,7 @@ loop-k-init g c = record {
   stand = stand_start c.args.map.now c.tidy.new.self c.args.owned.now c.requires.map c.requires.bodies c.tidy.ensures.holes;
   carried = carried_start g.D.Disk c.args.disk.now c.args.map.now.sector_units c.args.map.now c.args.owned.now;
   stops = started (laws g.met.D.Disk) c.args.disk.now (λ image. Unit {0}) (λ image left. tt);
+  told = told_start g.D.Disk c.args.disk.now;
   faults = omega arith;
   long = refl;
 }
@@ -31,6 +33,9 @@ pull-requires-clause-apart g c =
 
 pub returns-in_err-start-clause-stops : goal.returns-in_err-start-clause-stops
 returns-in_err-start-clause-stops g c = goes_on (laws g.met.D.Disk) c.loop-k.invariant.stops c.pull.ensures.stops (λ image left. tt)
+
+pub returns-in_err-start-clause-told : goal.returns-in_err-start-clause-told
+returns-in_err-start-clause-told g c = told_then g.D.Disk c.loop-k.invariant.told c.pull.ensures.told
 
 pub loop-k-preserved : goal.loop-k-preserved
 loop-k-preserved g c =
@@ -53,6 +58,7 @@ loop-k-preserved g c =
       stand = subst (λ l. Standing old c.pull.new.map list l (k + 1)) (sym set) stand;
       carried = subst (λ l. CarriedBy d c.args.disk.now c.pull.new.disk old.sector_units old list l) (sym set) carried;
       stops = goes_on law was.stops c.pull.ensures.stops (λ image left. tt);
+      told = told_then d was.told c.pull.ensures.told;
       faults = omega (arith, was.faults, c.pull.ensures.cause.later);
       long = ap (λ (l : List Owned). length l) set ∙ length-set now k (moved_to start (get_or now k no_object)) ∙ was.long;
     }

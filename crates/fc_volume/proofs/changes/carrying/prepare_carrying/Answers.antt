@@ -20,9 +20,10 @@ space_for-requires-clause-some c =
     some_len (nodes_of c.args.tree.now) (layout_of c.args.places.now) c.args.target.node c.requires.copy c.unwrap-node.result.now (sym c.node.ensures ∙ ap (option_map (λ n. n.now)) c.unwrap-node.ensures)
 
 pub prepare_copy-requires-clause-address : goal.prepare_copy-requires-clause-address
-prepare_copy-requires-clause-address c =
+prepare_copy-requires-clause-address c = λ n content there says.
     let map = new_layout (layout_of c.args.places.now) c.requires.new_map in
-    low_address map.0 c.unwrap-node.result.now.entry.len c.in-Ok.found (c.is_new_map.ensures map.0 map.1) (sym (ap dir_form map.1) ∙ c.requires.small) (c.in-Ok.ensures.space map.0 map.1)
+    c.requires.fields n content c.in-Ok.found.address there says
+    (λ small. low_address map.0 c.unwrap-node.result.now.entry.len c.in-Ok.found (c.is_new_map.ensures map.0 map.1) (sym (ap dir_form map.1) ∙ small) (c.in-Ok.ensures.space map.0 map.1))
 
 pub returns-in-Err-clause-refused : goal.returns-in-Err-clause-refused
 returns-in-Err-clause-refused c = λ v k n at there wants fits.

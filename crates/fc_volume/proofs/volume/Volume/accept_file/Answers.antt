@@ -1,10 +1,8 @@
 use Rattle.std.proofs.Common.{◌≡◌, sym, subst}
 use Rattle.std.specs.Prelude.{IfOk}
-use Rattle.fc_image.specs.Layout.{dir_form}
-use Rattle.fc_names.specs.declared.name.NameForm.{NameForm}
-use Rattle.fc_space.specs.Space.{layout_of}
+use Rattle.fc_volume.specs.Roomy.{IsRoomyFor}
 use Rattle.fc_volume.specs.Saving.{IsFileAccepted}
-use Rattle.fc_volume.specs.Volume.{Volume}
+use Rattle.fc_volume.specs.Volume.{Volume, parts_of}
 use Rattle.fc_volume.proofs.SavingLemmas.{accepted_by, refused_as}
 use Rattle.fc_volume.proofs.volume.Volume.accept_file.Goals as goal
 
@@ -12,7 +10,7 @@ pub returns-clause-accepted : goal.returns-clause-accepted
 returns-clause-accepted c =
     subst (λ (v : Volume). IfOk c.judge_save.result (λ slot. IsFileAccepted v c.args.p.now slot)) c.self.view_is
     (accepted_by _ c.args.p.now c.dir_form.result c.judge_save.result c.dir_form.ensures
-    (subst (λ (v : Volume). dir_form (layout_of v.space) ≡ NameForm.Ten) (sym c.self.view_is) c.requires.small)
+    (subst (λ (v : Volume). IsRoomyFor (parts_of v) c.args.p.now) (sym c.self.view_is) c.requires.roomy)
     c.judge_save.ensures.refusal c.judge_save.ensures.slot c.judge_save.ensures.name)
 
 pub returns-clause-refused : goal.returns-clause-refused

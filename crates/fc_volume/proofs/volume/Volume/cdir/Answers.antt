@@ -5,7 +5,6 @@ use Rattle.std.specs.FinMap.{get}
 use Rattle.fc_device.proofs.DiskLaws.{form_same, laws}
 use Rattle.fc_device.proofs.StopLemmas.{started, weaker}
 use Rattle.fc_names.specs.declared.name.NameForm.{NameForm}
-use Rattle.fc_names.specs.declared.name.NameForm.TheVariants as forms
 use Rattle.fc_names.specs.Names.{is_writable}
 use Rattle.fc_record.specs.declared.Geometry.{Geometry}
 use Rattle.fc_newmap.specs.Map.{Map}
@@ -46,26 +45,23 @@ returns-in-Err-clause-places g c = λ was told.
 pub draft_cdir-requires-clause-some : goal.draft_cdir-requires-clause-some
 draft_cdir-requires-clause-some g c =
     let map = new_layout (parts_of c.args.self.now).layout c.requires.new_map in
-    let small : dir_form (Layout.New map.0) ≡ forms.Ten = sym (ap dir_form map.1) ∙ c.requires.small in
-    some c.cdir_laws.ensures _ c.args.self.now c.self.view_is map.0 map.1 c.is_new_map.ensures c.args.p.now c.in-Ok.dir c.in-Ok.ensures.vacant c.requires.stands.agree small
+    some c.cdir_laws.ensures _ c.args.self.now c.self.view_is map.0 map.1 c.is_new_map.ensures c.args.p.now c.in-Ok.dir c.in-Ok.ensures.vacant c.requires.stands.agree c.requires.roomy
 
 pub draft_cdir-requires-clause-held : goal.draft_cdir-requires-clause-held
 draft_cdir-requires-clause-held g c = λ m at.
     let here = ap (λ (x : Volume). layout_of x.space) (sym c.self.view_is) ∙ at in
-    let small : dir_form (Layout.New m) ≡ forms.Ten = sym (ap dir_form here) ∙ c.requires.small in
     let good = subst (λ (f : NameForm). is_writable f (last_name c.args.p.now) ≡ Rattle.std.proofs.Common.true) (c.dir_form.ensures ∙ ap dir_form at) c.in-Ok.ensures.name in
-    asked c.cdir_laws.ensures _ c.args.self.now c.self.view_is m here c.is_new_map.ensures c.args.p.now c.in-Ok.dir c.in-Ok.ensures.vacant c.requires.stands.agree small good
+    asked c.cdir_laws.ensures _ c.args.self.now c.self.view_is m here c.is_new_map.ensures c.args.p.now c.in-Ok.dir c.in-Ok.ensures.vacant c.requires.stands.agree c.requires.roomy good
 
 pub returns-in-Err-draft_cdir-clause-refused : goal.returns-in-Err-draft_cdir-clause-refused
 returns-in-Err-draft_cdir-clause-refused g c = λ v image sound parts.
     let map = new_layout (parts_of c.args.self.now).layout c.requires.new_map in
-    let small : dir_form (Layout.New map.0) ≡ forms.Ten = sym (ap dir_form map.1) ∙ c.requires.small in
     let good = subst (λ (f : NameForm). is_writable f (last_name c.args.p.now) ≡ Rattle.std.proofs.Common.true) (c.dir_form.ensures ∙ ap dir_form (ap (λ (x : Volume). layout_of x.space) c.self.view_is ∙ map.1)) c.in-Ok.ensures.name in
     let held = subst (λ (w : Volume). HoldObjects (nodes_of w.tree) v.listings) (sym c.self.view_is) parts.nodes in
     subst (λ (w : Volume). AnswersBy {T = Unit {0}} (refusal_in v image w.read_only (Command.Cdir c.args.p.now)) (Err c.in-Err-draft_cdir.error)) c.self.view_is
     (space_answer (Unit {0}) _ (short v (Command.Cdir c.args.p.now)) c.in-Err-draft_cdir.error
     (by_space v image c.self.inside.read_only c.args.p.now c.dir_form.result (c.dir_form.ensures ∙ ap dir_form (ap (λ (x : Volume). layout_of x.space) c.self.view_is ∙ parts.layout)) (c.in-Ok.ensures.refusal image v.layout v.listings sound held))
-    (answered c.cdir_laws.ensures _ c.args.self.now c.self.view_is map.0 map.1 c.is_new_map.ensures c.args.p.now c.in-Ok.dir c.in-Ok.ensures.vacant c.requires.stands.agree small good {T = Making} (Err c.in-Err-draft_cdir.error) c.in-Err-draft_cdir.ensures.refused v sound parts))
+    (answered c.cdir_laws.ensures _ c.args.self.now c.self.view_is map.0 map.1 c.is_new_map.ensures c.args.p.now c.in-Ok.dir c.in-Ok.ensures.vacant c.requires.stands.agree c.requires.roomy good {T = Making} (Err c.in-Err-draft_cdir.error) c.in-Err-draft_cdir.ensures.refused v sound parts))
 
 pub returns-in-Err-draft_cdir-clause-places : goal.returns-in-Err-draft_cdir-clause-places
 returns-in-Err-draft_cdir-clause-places g c = λ was told.
@@ -74,9 +70,8 @@ returns-in-Err-draft_cdir-clause-places g c = λ was told.
 pub admit-requires : goal.admit-requires
 admit-requires g c =
     let map = new_layout (parts_of c.args.self.now).layout c.requires.new_map in
-    let small : dir_form (Layout.New map.0) ≡ forms.Ten = sym (ap dir_form map.1) ∙ c.requires.small in
     let free = subst (λ (x : Volume). get (nodes_of x.tree) c.next_number-n.result ≡ None) c.self.view_is c.next_number-n.ensures.free in
-    no_owner c.cdir_laws.ensures _ c.args.self.now c.self.view_is map.0 map.1 c.is_new_map.ensures c.args.p.now c.in-Ok.dir c.in-Ok.ensures.vacant c.requires.stands.agree small c.next_number-n.result free
+    no_owner c.cdir_laws.ensures _ c.args.self.now c.self.view_is map.0 map.1 c.is_new_map.ensures c.args.p.now c.in-Ok.dir c.in-Ok.ensures.vacant c.requires.stands.agree c.requires.roomy c.next_number-n.result free
 
 pub make-requires-clause-size : goal.make-requires-clause-size
 make-requires-clause-size g c =
@@ -109,41 +104,37 @@ make-requires-clause-object g c = λ m at.
     let number = c.next_number-n.ensures.number ∙ ap (λ (x : Volume). next_number x.tree) c.self.view_is in
     let adm = admitted_from _ c.args.self.now c.admit.new.self c.next_number-n.new.self c.next_number-n.result (next_number c.args.self.now.tree) c.in-Ok-draft_cdir.change c.next_number-n.ensures.same c.self.view_is number c.in-Ok-admit.ensures.ok in
     let here = ap layout_of (sym adm.space) ∙ at in
-    let small : dir_form (Layout.New m) ≡ forms.Ten = sym (ap dir_form here) ∙ c.requires.small in
     let inner = ap (λ (x : Volume). layout_of x.space) c.self.view_is ∙ here in
     let good = subst (λ (f : NameForm). is_writable f (last_name c.args.p.now) ≡ Rattle.std.proofs.Common.true) (c.dir_form.ensures ∙ ap dir_form inner) c.in-Ok.ensures.name in
     let made = c.in-Ok-draft_cdir.ensures.ready m inner in
-    can_store c.cdir_laws.ensures _ c.args.self.now c.self.view_is m here c.is_new_map.ensures c.args.p.now c.in-Ok.dir c.in-Ok.ensures.vacant c.requires.stands.agree small good c.in-Ok-draft_cdir.change made
+    can_store c.cdir_laws.ensures _ c.args.self.now c.self.view_is m here c.is_new_map.ensures c.args.p.now c.in-Ok.dir c.in-Ok.ensures.vacant c.requires.stands.agree c.requires.roomy good c.in-Ok-draft_cdir.change made
 
 pub make-requires-clause-object_on_disk : goal.make-requires-clause-object_on_disk
 make-requires-clause-object_on_disk g c =
     let map = new_layout (parts_of c.args.self.now).layout c.requires.new_map in
-    let small : dir_form (Layout.New map.0) ≡ forms.Ten = sym (ap dir_form map.1) ∙ c.requires.small in
     let inner = ap (λ (x : Volume). layout_of x.space) c.self.view_is ∙ map.1 in
     let good = subst (λ (f : NameForm). is_writable f (last_name c.args.p.now) ≡ Rattle.std.proofs.Common.true) (c.dir_form.ensures ∙ ap dir_form inner) c.in-Ok.ensures.name in
     let made = c.in-Ok-draft_cdir.ensures.ready map.0 inner in
-    object_on_disk c.cdir_laws.ensures _ c.args.self.now c.self.view_is map.0 map.1 c.is_new_map.ensures c.args.p.now c.in-Ok.dir c.in-Ok.ensures.vacant c.requires.stands.agree small good c.in-Ok-draft_cdir.change made g.D.Disk c.args.disk.now c.requires.stands
+    object_on_disk c.cdir_laws.ensures _ c.args.self.now c.self.view_is map.0 map.1 c.is_new_map.ensures c.args.p.now c.in-Ok.dir c.in-Ok.ensures.vacant c.requires.stands.agree c.requires.roomy good c.in-Ok-draft_cdir.change made g.D.Disk c.args.disk.now c.requires.stands
 
 pub make-requires-clause-on_disk : goal.make-requires-clause-on_disk
 make-requires-clause-on_disk g c =
     let map = new_layout (parts_of c.args.self.now).layout c.requires.new_map in
-    let small : dir_form (Layout.New map.0) ≡ forms.Ten = sym (ap dir_form map.1) ∙ c.requires.small in
     let inner = ap (λ (x : Volume). layout_of x.space) c.self.view_is ∙ map.1 in
     let good = subst (λ (f : NameForm). is_writable f (last_name c.args.p.now) ≡ Rattle.std.proofs.Common.true) (c.dir_form.ensures ∙ ap dir_form inner) c.in-Ok.ensures.name in
     let made = c.in-Ok-draft_cdir.ensures.ready map.0 inner in
-    on_disk c.cdir_laws.ensures _ c.args.self.now c.self.view_is map.0 map.1 c.is_new_map.ensures c.args.p.now c.in-Ok.dir c.in-Ok.ensures.vacant c.requires.stands.agree small good c.in-Ok-draft_cdir.change made g.D.Disk c.args.disk.now c.requires.stands c.places_suffice.ensures
+    on_disk c.cdir_laws.ensures _ c.args.self.now c.self.view_is map.0 map.1 c.is_new_map.ensures c.args.p.now c.in-Ok.dir c.in-Ok.ensures.vacant c.requires.stands.agree c.requires.roomy good c.in-Ok-draft_cdir.change made g.D.Disk c.args.disk.now c.requires.stands c.places_suffice.ensures
 
 pub make-requires-clause-directory : goal.make-requires-clause-directory
 make-requires-clause-directory g c =
     let map = new_layout (parts_of c.args.self.now).layout c.requires.new_map in
     let number = c.next_number-n.ensures.number ∙ ap (λ (x : Volume). next_number x.tree) c.self.view_is in
     let adm = admitted_from _ c.args.self.now c.admit.new.self c.next_number-n.new.self c.next_number-n.result (next_number c.args.self.now.tree) c.in-Ok-draft_cdir.change c.next_number-n.ensures.same c.self.view_is number c.in-Ok-admit.ensures.ok in
-    let small : dir_form (Layout.New map.0) ≡ forms.Ten = sym (ap dir_form map.1) ∙ c.requires.small in
     let inner = ap (λ (x : Volume). layout_of x.space) c.self.view_is ∙ map.1 in
     let good = subst (λ (f : NameForm). is_writable f (last_name c.args.p.now) ≡ Rattle.std.proofs.Common.true) (c.dir_form.ensures ∙ ap dir_form inner) c.in-Ok.ensures.name in
     let made = c.in-Ok-draft_cdir.ensures.ready map.0 inner in
     subst (λ (ns : Nodes). IsSome (get ns c.in-Ok-draft_cdir.change.directory.node)) (sym (ap nodes_of adm.tree ∙ same_nodes c.args.self.now.tree (c.args.self.now.tree.room + 1)))
-    (there c.cdir_laws.ensures _ c.args.self.now c.self.view_is map.0 map.1 c.is_new_map.ensures c.args.p.now c.in-Ok.dir c.in-Ok.ensures.vacant c.requires.stands.agree small good c.in-Ok-draft_cdir.change made)
+    (there c.cdir_laws.ensures _ c.args.self.now c.self.view_is map.0 map.1 c.is_new_map.ensures c.args.p.now c.in-Ok.dir c.in-Ok.ensures.vacant c.requires.stands.agree c.requires.roomy good c.in-Ok-draft_cdir.change made)
 
 pub make-requires-clause-room : goal.make-requires-clause-room
 make-requires-clause-room g c =
@@ -154,13 +145,12 @@ make-requires-clause-room g c =
 pub returns-in-Ok-admit-clause-refused : goal.returns-in-Ok-admit-clause-refused
 returns-in-Ok-admit-clause-refused g c = λ v image sound parts.
     let map = new_layout (parts_of c.args.self.now).layout c.requires.new_map in
-    let small : dir_form (Layout.New map.0) ≡ forms.Ten = sym (ap dir_form map.1) ∙ c.requires.small in
     let inner = ap (λ (x : Volume). layout_of x.space) c.self.view_is ∙ map.1 in
     let good = subst (λ (f : NameForm). is_writable f (last_name c.args.p.now) ≡ Rattle.std.proofs.Common.true) (c.dir_form.ensures ∙ ap dir_form inner) c.in-Ok.ensures.name in
     let made = c.in-Ok-draft_cdir.ensures.ready map.0 inner in
     let held = subst (λ (w : Volume). HoldObjects (nodes_of w.tree) v.listings) (sym c.self.view_is) parts.nodes in
     subst (λ (w : Volume). AnswersBy (refusal_in v image w.read_only (Command.Cdir c.args.p.now)) c.make.result) c.self.view_is
-    (done_by _ c.make.result ((by_space v image c.self.inside.read_only c.args.p.now c.dir_form.result (c.dir_form.ensures ∙ ap dir_form (ap (λ (x : Volume). layout_of x.space) c.self.view_is ∙ parts.layout)) (c.in-Ok.ensures.refusal image v.layout v.listings sound held)) ∙ answered c.cdir_laws.ensures _ c.args.self.now c.self.view_is map.0 map.1 c.is_new_map.ensures c.args.p.now c.in-Ok.dir c.in-Ok.ensures.vacant c.requires.stands.agree small good {T = Making} (Rattle.std.specs.Prelude.Ok c.in-Ok-draft_cdir.change) c.in-Ok-draft_cdir.ensures.refused v sound parts) c.make.ensures.error)
+    (done_by _ c.make.result ((by_space v image c.self.inside.read_only c.args.p.now c.dir_form.result (c.dir_form.ensures ∙ ap dir_form (ap (λ (x : Volume). layout_of x.space) c.self.view_is ∙ parts.layout)) (c.in-Ok.ensures.refusal image v.layout v.listings sound held)) ∙ answered c.cdir_laws.ensures _ c.args.self.now c.self.view_is map.0 map.1 c.is_new_map.ensures c.args.p.now c.in-Ok.dir c.in-Ok.ensures.vacant c.requires.stands.agree c.requires.roomy good {T = Making} (Rattle.std.specs.Prelude.Ok c.in-Ok-draft_cdir.change) c.in-Ok-draft_cdir.ensures.refused v sound parts) c.make.ensures.error)
 
 pub returns-in-Ok-admit-clause-changed : goal.returns-in-Ok-admit-clause-changed
 returns-in-Ok-admit-clause-changed g c =
@@ -168,11 +158,10 @@ returns-in-Ok-admit-clause-changed g c =
     let number = c.next_number-n.ensures.number ∙ ap (λ (x : Volume). next_number x.tree) c.self.view_is in
     let adm = admitted_from _ c.args.self.now c.admit.new.self c.next_number-n.new.self c.next_number-n.result (next_number c.args.self.now.tree) c.in-Ok-draft_cdir.change c.next_number-n.ensures.same c.self.view_is number c.in-Ok-admit.ensures.ok in
     let free = subst (λ (k : ℕ). get (nodes_of c.args.self.now.tree) k ≡ None) number (subst (λ (x : Volume). get (nodes_of x.tree) c.next_number-n.result ≡ None) c.self.view_is c.next_number-n.ensures.free) in
-    let small : dir_form (Layout.New map.0) ≡ forms.Ten = sym (ap dir_form map.1) ∙ c.requires.small in
     let inner = ap (λ (x : Volume). layout_of x.space) c.self.view_is ∙ map.1 in
     let good = subst (λ (f : NameForm). is_writable f (last_name c.args.p.now) ≡ Rattle.std.proofs.Common.true) (c.dir_form.ensures ∙ ap dir_form inner) c.in-Ok.ensures.name in
     let made = c.in-Ok-draft_cdir.ensures.ready map.0 inner in
-    let is = ready c.cdir_laws.ensures _ c.args.self.now c.self.view_is map.0 map.1 c.is_new_map.ensures c.args.p.now c.in-Ok.dir c.in-Ok.ensures.vacant c.requires.stands.agree small good c.in-Ok-draft_cdir.change made (next_number c.args.self.now.tree) free in
+    let is = ready c.cdir_laws.ensures _ c.args.self.now c.self.view_is map.0 map.1 c.is_new_map.ensures c.args.p.now c.in-Ok.dir c.in-Ok.ensures.vacant c.requires.stands.agree c.requires.roomy good c.in-Ok-draft_cdir.change made (next_number c.args.self.now.tree) free in
     let mid = ap layout_of adm.space ∙ map.1 in
     ok_then c.make.result _ _ (λ both. has_changed g.D.Disk c.cdir_laws.ensures map.0 c.args.self.now c.args.disk.now c.args.p.now c.in-Ok.dir c.in-Ok-draft_cdir.change map.1 is c.requires.stands c.admit.new.self c.make.new.self c.make.new.disk (both.0.1 map.0 mid).0 adm both.0.0 (both.0.1 map.0 mid).1 (both.0.1 map.0 mid).2 (both.1 map.0 (both.0.1 map.0 mid).0 mid (both.0.1 map.0 mid).1) (c.make.ensures.exits map.0 mid))
     (ok_both c.make.result _ _ (ok_both c.make.result _ _ c.make.ensures.volume c.make.ensures.taken) c.make.ensures.made)
@@ -185,11 +174,10 @@ returns-in-Ok-admit-clause-places g c =
     let free = subst (λ (k : ℕ). get (nodes_of c.args.self.now.tree) k ≡ None) number (subst (λ (x : Volume). get (nodes_of x.tree) c.next_number-n.result ≡ None) c.self.view_is c.next_number-n.ensures.free) in
     places_written g.D.Disk (Command.Cdir c.args.p.now) c.args.self.now c.args.disk.now c.make.new.disk _ (λ m at. c.make.ensures.exits m (ap layout_of adm.space ∙ at)) c.requires.new_map
     (λ kind view m was image opens held here written.
-    let small : dir_form (Layout.New m) ≡ forms.Ten = sym (ap dir_form here) ∙ c.requires.small in
     let inner = ap (λ (x : Volume). layout_of x.space) c.self.view_is ∙ here in
     let good = subst (λ (f : NameForm). is_writable f (last_name c.args.p.now) ≡ Rattle.std.proofs.Common.true) (c.dir_form.ensures ∙ ap dir_form inner) c.in-Ok.ensures.name in
     let made = c.in-Ok-draft_cdir.ensures.ready m inner in
-    places_of g.D.Disk c.cdir_laws.ensures m c.args.self.now c.args.disk.now c.args.p.now c.in-Ok.dir c.in-Ok-draft_cdir.change here (ready c.cdir_laws.ensures _ c.args.self.now c.self.view_is m here c.is_new_map.ensures c.args.p.now c.in-Ok.dir c.in-Ok.ensures.vacant c.requires.stands.agree small good c.in-Ok-draft_cdir.change made (next_number c.args.self.now.tree) free) c.requires.stands kind view was image opens held written)
+    places_of g.D.Disk c.cdir_laws.ensures m c.args.self.now c.args.disk.now c.args.p.now c.in-Ok.dir c.in-Ok-draft_cdir.change here (ready c.cdir_laws.ensures _ c.args.self.now c.self.view_is m here c.is_new_map.ensures c.args.p.now c.in-Ok.dir c.in-Ok.ensures.vacant c.requires.stands.agree c.requires.roomy good c.in-Ok-draft_cdir.change made (next_number c.args.self.now.tree) free) c.requires.stands kind view was image opens held written)
     map.0 map.1
 
 pub returns-in-Ok-admit-clause-keeps : goal.returns-in-Ok-admit-clause-keeps
@@ -198,11 +186,10 @@ returns-in-Ok-admit-clause-keeps g c =
     let number = c.next_number-n.ensures.number ∙ ap (λ (x : Volume). next_number x.tree) c.self.view_is in
     let adm = admitted_from _ c.args.self.now c.admit.new.self c.next_number-n.new.self c.next_number-n.result (next_number c.args.self.now.tree) c.in-Ok-draft_cdir.change c.next_number-n.ensures.same c.self.view_is number c.in-Ok-admit.ensures.ok in
     let free = subst (λ (k : ℕ). get (nodes_of c.args.self.now.tree) k ≡ None) number (subst (λ (x : Volume). get (nodes_of x.tree) c.next_number-n.result ≡ None) c.self.view_is c.next_number-n.ensures.free) in
-    let small : dir_form (Layout.New map.0) ≡ forms.Ten = sym (ap dir_form map.1) ∙ c.requires.small in
     let inner = ap (λ (x : Volume). layout_of x.space) c.self.view_is ∙ map.1 in
     let good = subst (λ (f : NameForm). is_writable f (last_name c.args.p.now) ≡ Rattle.std.proofs.Common.true) (c.dir_form.ensures ∙ ap dir_form inner) c.in-Ok.ensures.name in
     let made = c.in-Ok-draft_cdir.ensures.ready map.0 inner in
-    let is = ready c.cdir_laws.ensures _ c.args.self.now c.self.view_is map.0 map.1 c.is_new_map.ensures c.args.p.now c.in-Ok.dir c.in-Ok.ensures.vacant c.requires.stands.agree small good c.in-Ok-draft_cdir.change made (next_number c.args.self.now.tree) free in
+    let is = ready c.cdir_laws.ensures _ c.args.self.now c.self.view_is map.0 map.1 c.is_new_map.ensures c.args.p.now c.in-Ok.dir c.in-Ok.ensures.vacant c.requires.stands.agree c.requires.roomy good c.in-Ok-draft_cdir.change made (next_number c.args.self.now.tree) free in
     let mid = ap layout_of adm.space ∙ map.1 in
     record {
       unchanged = only_faults c.make.result _ c.make.ensures.error;
@@ -245,13 +232,12 @@ returns-in-Err-admit-clause-keeps g c =
 pub returns-in-Err-draft_cdir-clause-keeps : goal.returns-in-Err-draft_cdir-clause-keeps
 returns-in-Err-draft_cdir-clause-keeps g c =
     let map = new_layout (parts_of c.args.self.now).layout c.requires.new_map in
-    let small : dir_form (Layout.New map.0) ≡ forms.Ten = sym (ap dir_form map.1) ∙ c.requires.small in
     let inner = ap (λ (x : Volume). layout_of x.space) c.self.view_is ∙ map.1 in
     let good = subst (λ (f : NameForm). is_writable f (last_name c.args.p.now) ≡ Rattle.std.proofs.Common.true) (c.dir_form.ensures ∙ ap dir_form inner) c.in-Ok.ensures.name in
     let agree = c.requires.stands.agree in
     let view : Opened = record { kind = agree.0; layout = (parts_of c.args.self.now).layout; listings = agree.1.listings } in
     kept_as_it_was g.D.Disk (laws g.met.D.Disk) c.args.disk.now c.args.self.now c.in-Err-draft_cdir.error (short view (Command.Cdir c.args.p.now))
-    (answered c.cdir_laws.ensures _ c.args.self.now c.self.view_is map.0 map.1 c.is_new_map.ensures c.args.p.now c.in-Ok.dir c.in-Ok.ensures.vacant c.requires.stands.agree small good {T = Making}
+    (answered c.cdir_laws.ensures _ c.args.self.now c.self.view_is map.0 map.1 c.is_new_map.ensures c.args.p.now c.in-Ok.dir c.in-Ok.ensures.vacant c.requires.stands.agree c.requires.roomy good {T = Making}
     (Err c.in-Err-draft_cdir.error) c.in-Err-draft_cdir.ensures.refused view (c.cdir_laws.ensures.agreed.sound_by agree.0 (parts_of c.args.self.now) agree.1)
     (c.cdir_laws.ensures.agreed.viewed agree.0 (parts_of c.args.self.now) agree.1))
     c.requires.stands c.requires.settled c.requires.fit c.requires.new_map

@@ -1,6 +1,9 @@
 use Rattle.std.proofs.lemmas.Result.{on_ok_weaker}
 use Rattle.fc_model.specs.Command.{Command}
 use Rattle.fc_volume.proofs.FilledLemmas.{makes_create}
+use Rattle.fc_volume.specs.Roomy.{IsRoomy}
+use Rattle.fc_volume.specs.Volume.{parts_of}
+use Rattle.fc_volume.proofs.SavingLemmas.{of_both}
 use Rattle.fc_volume.proofs.volume.Volume.create.Goals as goal
 
 pub returns-clause-refused : goal.returns-clause-refused
@@ -11,3 +14,6 @@ returns-clause-changed g c = on_ok_weaker c.write_whole.result (λ all. all (Com
 
 pub returns-clause-places : goal.returns-clause-places
 returns-clause-places g c = c.write_whole.ensures.places (Command.Create c.args.p.now c.args.load c.args.exec c.args.len) (makes_create c.args.p.now (record { load = c.args.load; exec = c.args.exec; len = c.args.len }))
+
+pub write_whole-requires-clause-roomy : goal.write_whole-requires-clause-roomy
+write_whole-requires-clause-roomy g c = λ k load exec bytes makes. of_both (IsRoomy (parts_of c.args.self.now)) k c.args.p.now load exec bytes c.requires.roomy c.requires.roomy makes

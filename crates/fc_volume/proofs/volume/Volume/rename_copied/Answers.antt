@@ -11,7 +11,7 @@ use Rattle.fc_names.specs.declared.refusal.Refusal.TheVariants as refusals
 use Rattle.fc_record.specs.declared.Geometry.{Geometry}
 use Rattle.fc_volume.specs.declared.changes.carrying.Carrying.{Carrying}
 use Rattle.fc_volume.specs.Volume.{parts_of}
-use Rattle.fc_volume.proofs.CarriedVolumeLemmas.{answered, by_space, can_carry, can_copy, can_take_over, has_changed, is_ready, lie_below, places_of, small, stands_now}
+use Rattle.fc_volume.proofs.CarriedVolumeLemmas.{answered, by_space, can_carry, can_copy, can_take_over, fields, has_changed, is_ready, lie_below, places_of, stands_now}
 use Rattle.fc_volume.proofs.CdirAskedLemmas.{kept_as_it_was, space_answer, unless_any}
 use Rattle.fc_volume.proofs.ChangeLemmas.{ok_both, ok_then, only_faults, places_written, unless_fault, writes_nothing}
 use Rattle.fc_volume.proofs.JudgedLemmas.{done_by, refused_by}
@@ -33,10 +33,10 @@ pub returns-then-is_full-clause-places : goal.returns-then-is_full-clause-places
 returns-then-is_full-clause-places g c = λ was told.
     (was, told, λ kind view m opens parts at. writes_nothing c.carry_laws.ensures.rename.change.places kind view m (Command.Rename c.args.from.now c.args.to.now) was)
 
-pub prepare_carrying-requires-clause-small : goal.prepare_carrying-requires-clause-small
-prepare_carrying-requires-clause-small g c =
+pub prepare_carrying-requires-clause-fields : goal.prepare_carrying-requires-clause-fields
+prepare_carrying-requires-clause-fields g c =
     let map = new_layout (parts_of c.args.self.now).layout c.requires.new_map in
-    small _ c.args.self.now c.self.view_is map.0 map.1 c.is_new_map.ensures c.args.from.now c.args.to.now c.args.renaming c.requires.accepted c.carry_laws.ensures c.requires.stands.agree c.requires.across c.requires.copied
+    fields _ c.args.self.now c.self.view_is map.0 map.1 c.is_new_map.ensures c.args.from.now c.args.to.now c.args.renaming c.requires.accepted c.carry_laws.ensures c.requires.stands.agree c.requires.across c.requires.copied
 
 pub prepare_carrying-requires-clause-path : goal.prepare_carrying-requires-clause-path
 prepare_carrying-requires-clause-path g c =

@@ -44,7 +44,7 @@ returns-in-Ok-clause-refused g c = λ v image sound parts.
     let at = sym parts.layout ∙ map.1 in
     done_by _ c.relocate.result
     (not_refused _ c.args.self.now c.self.view_is map.0 map.1 c.is_new_map.ensures c.args.from.now c.args.to.now c.args.renaming c.requires.accepted c.rename_laws.ensures c.requires.stands.agree c.requires.within
-    v (subst (λ (l : Layout). AreSound l v.listings) at sound) parts.nodes at image)
+    v (subst (λ (l : Layout). AreSound l v.listings) at sound) parts.nodes at (c.requires.accepted.roomy v sound parts) image)
     c.relocate.ensures.error
 
 pub returns-in-Ok-clause-changed : goal.returns-in-Ok-clause-changed

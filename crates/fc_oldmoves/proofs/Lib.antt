@@ -1,0 +1,16 @@
+pub mod StartLemmas
+pub mod PlaceLemmas
+pub mod WalkLemmas
+pub mod FormLemmas
+pub mod ListedLemmas
+pub mod BytesLemmas
+pub mod SaysLemmas
+pub mod ImageLemmas
+pub mod LostLemmas
+pub mod CompactedLemmas
+pub mod NodesLemmas
+pub mod OwnedLemmas
+pub mod SayableLemmas
+pub mod AgreedLemmas
+pub mod ReadyLemmas
+pub mod WritesLemmas

@@ -1,0 +1,83 @@
+-- An object under another name or in another directory, of a volume with an old map: what the command changes, and what the volume
+-- stands for afterwards.
+use Rattle.std.proofs.Common.{◌≡◌, ◌≤◌, ℕ, List, Option, refl, sym, ap, subst, ◌∙◌, Some}
+use Rattle.fc_device.specs.declared.disk.Disk.{Ghosts}
+use Rattle.fc_device.specs.Calls.{SameForm, StopsAndExitsLeave}
+use Rattle.fc_record.specs.declared.Kind.{Kind}
+use Rattle.fc_oldmap.specs.OldMap.{FreeSpace}
+use Rattle.fc_oldchanges.specs.Owed.{MapStays}
+use Rattle.fc_model.specs.Command.{Command}
+use Rattle.fc_image.specs.Layout.{Layout, disc_sectors, sector_bytes}
+use Rattle.fc_image.specs.Opening.{Opened}
+use Rattle.fc_image.specs.Stays.{HasEqualCopies, OpensAs}
+use Rattle.fc_oldtakeover.specs.Laws.{TakesOver}
+use Rattle.fc_space.specs.Space.{layout_of}
+use Rattle.fc_tree.specs.Agree.{Agree}
+use Rattle.fc_tree.specs.Nodes.{nodes_of}
+use Rattle.fc_tree.specs.Parts.{ArePartsOf, Parts}
+use Rattle.fc_volume.specs.declared.changes.relocate.Relocation.{Relocation}
+use Rattle.fc_volume.specs.declared.copies.Copies.{Copies}
+use Rattle.fc_volume.specs.Changing.{HasChanged}
+use Rattle.fc_volume.specs.Relocating.{HasRelocated, relocated, with_owner}
+use Rattle.fc_volume.specs.Volume.{HasCopies, HoldsMap, StandsFor, Volume, parts_of}
+use Rattle.fc_oldvolume.specs.Relocating.{LieOffMap, WritesRelocation}
+use Rattle.fc_oldvolume.specs.Renaming.{WritesNoMap}
+use Rattle.fc_oldvolume.proofs.ChangeLemmas.{one_space}
+use Rattle.fc_oldvolume.proofs.WritingLemmas.{kept_to}
+
+module _ {D : Type 0} (d : Ghosts D) (c : Command) (space : FreeSpace) (v v' : Volume) (old new : D) (r : Relocation) (layout : layout_of v.space ≡ Layout.Old space) (stands : StandsFor d v old)
+    (has : HasRelocated v v' r) (exits : StopsAndExitsLeave d old new (WritesRelocation space r))
+    (over : (kind : Kind) (view : Opened) (was image : List ℕ) → d.bytes old ≡ Some was → d.bytes new ≡ Some image → OpensAs was kind view → ArePartsOf (parts_of v) view
+    → TakesOver kind was image view c space (relocated r (nodes_of v.tree)) (with_owner r.owner v.owners)) where
+  abbrev now : Parts
+  now = record { layout = Layout.Old space; nodes = relocated r (nodes_of v.tree); owners = with_owner r.owner v.owners }
+
+  now_are : now ≡ parts_of v'
+  now_are = λ i. record { layout = sym (ap layout_of has.space ∙ layout) i; nodes = sym has.nodes i; owners = sym has.owners i }
+
+  pub has_changed : HasChanged d c (parts_of v) (parts_of v') old new
+  has_changed was told =
+      let there = exits.exit was told in (
+        there.0,
+        there.1,
+        λ kind view opens held.
+            (let o = over kind view was there.0 told there.1 opens held in
+            (o.0, o.1, subst (λ (p : Parts). ArePartsOf p o.0) now_are o.2)),
+      )
+
+  layout' : layout_of v'.space ≡ layout_of v.space
+  layout' = ap layout_of has.space
+
+  pub stands_now : SameForm d old new → Agree stands.agree.0 now → StandsFor d v' new
+  stands_now form agree = record {
+    size = form.size_stays ∙ stands.size ∙ ap sector_bytes (sym layout');
+    room = subst (λ (n : ℕ). disc_sectors (layout_of v'.space) ≤ n) (sym form.sectors_stay) (subst (λ (l : Layout). disc_sectors l ≤ d.sectors old) (sym layout') stands.room);
+    map_room = subst (λ (n : ℕ). HoldsMap (layout_of v'.space) n) (sym form.sectors_stay) (subst (λ (l : Layout). HoldsMap l (d.sectors old)) (sym layout') stands.map_room);
+    agree = (stands.agree.0, subst (Agree stands.agree.0) now_are agree);
+    image = λ image told.
+        (let was = exits.told image told in
+        let s = stands.image was.0 was.1 in
+        let o = over s.0 s.1 was.0 image was.1 told s.2 s.3 in
+        (s.0, o.0, o.1.opens.opens, subst (λ (p : Parts). ArePartsOf p o.0) now_are o.2));
+    copies = λ image told.
+        (let was = exits.told image told in
+        let s = stands.image was.0 was.1 in
+        let o = over s.0 s.1 was.0 image was.1 told s.2 s.3 in
+        subst (λ (k : Copies). HasCopies k (layout_of v'.space) image) (sym has.copies)
+        (subst (HasEqualCopies image) (sym o.2.layout ∙ sym layout ∙ sym layout') o.1.opens.copies));
+  }
+
+-- The map isn't written, if the directories lie apart from it by each view of the image.
+pub map_unwritten : {D : Type 0} (d : Ghosts D) (space : FreeSpace) (v : Volume) (old new : D) (r : Relocation) → layout_of v.space ≡ Layout.Old space → StandsFor d v old
+    → StopsAndExitsLeave d old new (WritesRelocation space r)
+    → ((kind : Kind) (view : Opened) (was : List ℕ) → OpensAs was kind view → ArePartsOf (parts_of v) view → LieOffMap space r) → WritesNoMap d (parts_of v) old new
+map_unwritten d space v old new r layout stands exits off was told image now other at =
+    let s = stands.image was told in
+    subst (λ (x : FreeSpace). MapStays x was image) (one_space (layout_of v.space) space other layout at) ((kept_to d exits was image told now).map_stays (off s.0 s.1 was s.2 s.3))
+
+-- It isn't if nothing is.
+pub map_same : {D : Type 0} (d : Ghosts D) (v : Volume) (disk : D) → WritesNoMap d (parts_of v) disk disk
+map_same d v disk was told image now space at = subst (λ (i : List ℕ). MapStays space was i) (same was image (sym told ∙ now)) (λ s among. refl)
+  where
+    same : (a b : List ℕ) → (let x : Option (List ℕ) = Some a in x) ≡ Some b → a ≡ b
+    same a b e = cc

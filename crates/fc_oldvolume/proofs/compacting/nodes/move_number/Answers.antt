@@ -1,0 +1,22 @@
+use Rattle.std.proofs.Common.{◌≡◌, ℕ, sym, subst, ap, ◌∙◌}
+use Rattle.std.specs.FinMap.{insert}
+use Rattle.fc_image.specs.Layout.{dir_form}
+use Rattle.fc_dirs.specs.declared.Entry.{Entry}
+use Rattle.fc_oldmoves.specs.After.{start_after}
+use Rattle.fc_space.specs.Space.{layout_of}
+use Rattle.fc_tree.specs.Nodes.{nodes_of}
+use Rattle.fc_volume.proofs.TakingLemmas.{put_changed, taken_free}
+use Rattle.fc_oldvolume.specs.Compacting.{addressed}
+use Rattle.fc_oldvolume.proofs.compacting.nodes.move_number.Goals as goal
+
+pub put_back-requires-clause-free : goal.put_back-requires-clause-free
+put_back-requires-clause-free c = taken_free (nodes_of c.args.tree.now) (nodes_of c.take_out-node.new.self) c.args.n c.take_out-node.ensures.nodes
+
+pub returns-clause-nodes : goal.returns-clause-nodes
+returns-clause-nodes c =
+    let form = dir_form (layout_of c.args.space.now) in
+    let move = start_after c.args.moves.now.before.items c.args.moves.now.after.items in
+    let e : Entry = c.take_out-node.result.entry in
+    put_changed (nodes_of c.args.tree.now) (nodes_of c.take_out-node.new.self) (nodes_of c.put_back.new.self) c.args.n c.take_out-node.result (addressed form move) c.take_out-node.ensures.node
+    c.take_out-node.ensures.nodes
+    (c.put_back.ensures.nodes ∙ ap (λ (a : ℕ). insert (nodes_of c.take_out-node.new.self) c.args.n (record c.take_out-node.result { entry = record e { address = a } })) c.address_after-node.ensures)

@@ -1,0 +1,36 @@
+use Rattle.std.proofs.Common.{◌≡◌, ◌≤◌, ◌*◌, ◌∙◌, ℕ, List, length, sym, ap, subst, refl}
+use Rattle.fc_device.proofs.DiskLaws.{laws}
+use Rattle.fc_device.proofs.StopLemmas.{weaker}
+use Rattle.fc_objects.specs.Extents.{sectors_in}
+use Rattle.fc_dirs.specs.Small.{tail_of}
+use Rattle.fc_oldvolume.specs.Compacting.{IsDirWritten}
+use Rattle.fc_oldvolume.proofs.RowsLemmas.{dir_written, one_row_apart, one_row_low, one_row_room}
+use Rattle.fc_oldvolume.proofs.compacting.writing.write_directory.Goals as goal
+
+pub store-requires-clause-on_disk : goal.store-requires-clause-on_disk
+store-requires-clause-on_disk g c = one_row_low (g.D.Disk.sectors c.args.disk.now) c.args.row c.requires.on_disk
+
+pub returns-clause-written : goal.returns-clause-written
+returns-clause-written g c = λ was told.
+    let d = g.D.Disk in
+    let after = c.store.ensures.keeps.exit was told in
+    let long : length c.write.new.b ≡ (tail_of c.args.dir.now.form).size = c.write.auto.b ∙ c.requires.whole in
+    let size = c.requires.size in
+    let back = c.in_ok-store.ensures.reads_back (one_row_apart c.args.row) (one_row_room c.args.size (length c.write.new.b) c.args.row (subst (λ (n : ℕ). n ≤ c.args.row.sectors * c.args.size) (sym long) c.requires.room)) after.0 after.1 in (
+      after.0,
+      after.1,
+      subst (λ (n : ℕ). IsDirWritten n c.args.row.first c.args.row.sectors c.args.dir.now was after.0) (sym size)
+          (dir_written c.args.size c.args.row c.args.dir.now c.write.new.b was after.0 long c.write.ensures.written back after.2),
+    )
+
+pub returns-clause-stops : goal.returns-clause-stops
+returns-clause-stops g c = weaker (laws g.met.D.Disk) (λ image. Unit {0}) c.store.ensures.keeps.stops (λ image left. tt)
+
+pub returns-in_err-store-clause-stops : goal.returns-in_err-store-clause-stops
+returns-in_err-store-clause-stops g c = weaker (laws g.met.D.Disk) (λ image. Unit {0}) c.store.ensures.keeps.stops (λ image left. tt)
+
+pub returns-clause-told : goal.returns-clause-told
+returns-clause-told g c = c.store.ensures.keeps.told
+
+pub returns-in_err-store-clause-told : goal.returns-in_err-store-clause-told
+returns-in_err-store-clause-told g c = c.store.ensures.keeps.told

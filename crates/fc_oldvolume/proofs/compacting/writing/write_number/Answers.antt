@@ -1,0 +1,15 @@
+use Rattle.std.proofs.Common.{◌≡◌, ◌∙◌, ℕ, sym, ap, subst}
+use Rattle.fc_tree.specs.Nodes.{nodes_of}
+use Rattle.fc_oldvolume.specs.Compacting.{IsDirWritten}
+use Rattle.fc_oldvolume.proofs.RowsLemmas.{none_written, number_written}
+use Rattle.fc_oldvolume.proofs.compacting.writing.write_number.Goals as goal
+
+pub returns-in-Small-clause-written : goal.returns-in-Small-clause-written
+returns-in-Small-clause-written g c = λ was told.
+    let w = c.in_ok-write_directory.ensures.written was told in (
+      w.0,
+      w.1,
+      number_written c.args.map.now (nodes_of c.args.tree.now) c.requires.placed c.args.n c.in-Some.node.now c.in-Small.dir c.row_at-row.result.first c.row_at-row.result.sectors was w.0
+          (record { there = sym c.in-Some.ensures; says = c.in-Small.is }) c.row_at-row.ensures.first c.row_at-row.ensures.sectors
+          (subst (λ (k : ℕ). IsDirWritten k c.row_at-row.result.first c.row_at-row.result.sectors c.in-Small.dir was w.0) c.requires.size w.2),
+    )

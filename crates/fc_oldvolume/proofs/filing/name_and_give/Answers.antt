@@ -1,0 +1,34 @@
+use Rattle.std.proofs.Common.{subst}
+use Rattle.fc_device.proofs.DiskLaws.{laws}
+use Rattle.fc_device.proofs.StopLemmas.{keeps_then, keeps_weaker, led}
+use Rattle.fc_objects.specs.Extents.{sectors_in}
+use Rattle.fc_oldmap.specs.OldMap.{FreeSpace}
+use Rattle.fc_space.specs.Space.{layout_of}
+use Rattle.fc_volume.proofs.ChangeLemmas.{ok_then}
+use Rattle.fc_oldvolume.specs.Spaces.{IsEditOf}
+use Rattle.fc_oldvolume.proofs.ChangeLemmas.{one_space, part_written, written_more, written_then}
+use Rattle.fc_oldvolume.proofs.filing.name_and_give.Goals as goal
+
+pub returns-in_err-write_directory-clause-exits : goal.returns-in_err-write_directory-clause-exits
+returns-in_err-write_directory-clause-exits g c = λ space at.
+    keeps_weaker (laws g.met.D.Disk) c.write_directory.ensures.keeps
+    (part_written c.writes.ensures (layout_of c.args.places.now) space (sectors_in c.args.f.now.directory.place.items) c.args.f.now.directory.bytes.items at)
+
+pub returns-clause-exits : goal.returns-clause-exits
+returns-clause-exits g c = λ space at.
+    let xs = sectors_in c.args.f.now.directory.place.items in
+    let own = c.requires.map in
+    keeps_then (laws g.met.D.Disk) (written_then space xs)
+    (keeps_weaker (laws g.met.D.Disk) c.write_directory.ensures.keeps (part_written c.writes.ensures (layout_of c.args.places.now) space xs c.args.f.now.directory.bytes.items at))
+    (keeps_weaker (laws g.met.D.Disk)
+    (c.write_some.ensures.keeps space (subst (λ (s : FreeSpace). IsEditOf s c.args.f.now.given) (one_space (layout_of c.args.places.now) own.0 space own.1 at) own.2.given))
+    (written_more space xs))
+
+pub returns-clause-done : goal.returns-clause-done
+returns-clause-done g c =
+    let own = c.requires.map in
+    ok_then c.write_some.result _ _
+    (λ map. λ was told image now.
+    (let mid = led (laws g.met.D.Disk) (c.write_some.ensures.keeps own.0 own.2.given) image now in
+    record { named = mid.0; directory = c.in_ok-write_directory.ensures.stored was told mid.0 mid.1; map = map mid.0 mid.1 image now }))
+    c.write_some.ensures.done

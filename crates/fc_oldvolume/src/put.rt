@@ -1,0 +1,92 @@
+// A new file that is ready in memory: it is written, and then the volume has it.
+ghost use Rattle.std.specs.Prelude.{◌≡◌, ◌<◌, ◌≤◌, ◌++◌, false, All, Err, IfErr, IsSome, IsTrue, IsFalse, OnOk};
+ghost use Rattle.std.specs.FinMap.{get};
+ghost use Rattle.std.specs.Option.{ForSome};
+ghost use Rattle.fc_device.specs.Calls.{SameForm, StopsAndExitsLeave};
+ghost use Rattle.fc_device.specs.Faults.{Rose};
+ghost use Rattle.fc_image.specs.Layout.{Layout, sector_bytes};
+ghost use Rattle.fc_objects.specs.Extents.{sectors_in};
+ghost use Rattle.fc_oldchanges.specs.Owed.{IsWritten};
+ghost use Rattle.fc_oldmap.specs.OldMap.{FreeSpace};
+ghost use Rattle.fc_tree.specs.Nodes.{nodes_of};
+ghost use Rattle.fc_volume.specs.Volume.{parts_of};
+ghost use Rattle.fc_oldvolume.specs.Filing.{CanFile, HasPut, IsFileWritten};
+
+use crate::adding::add_object;
+use crate::filing::{Filing, write_file};
+use crate::putting::NewFile;
+use crate::removal::hold_map;
+use fc_device::{Disk, DiskFault};
+use fc_tree::{Body, Node};
+use fc_volume::changes::rewrite::Rewrite;
+use fc_volume::{CommandError, Copies, Volume};
+
+// The volume has a new file. It takes no memory.
+fn put_object(volume: &mut Volume, change: NewFile)
+    requires directory { IsSome (get (nodes_of volume.old.tree) change.filing.directory.node) }
+    requires room { 0 < volume.old.tree.room }
+    ensures { HasPut volume.old volume.new change }
+{
+    let NewFile { filing, entry } = change;
+    let Filing {
+        taken,
+        directory,
+        given,
+    } = filing;
+    let Rewrite {
+        node: holder,
+        draft: above,
+        ..
+    } = directory;
+    let node = Node {
+        holder,
+        entry,
+        body: Body::File,
+    };
+    hold_map(&mut volume.places, taken.map);
+    hold_map(&mut volume.places, given);
+    volume.copies = Copies::Equal;
+    add_object(&mut volume.tree, above, node);
+}
+
+/// Writes a new file for which the volume has memory, the map without its space, and the directory that holds it; then the volume has
+/// it. After `DiskFault` the volume is unfit.
+pub fn put_new<D: Disk>(
+    volume: &mut Volume,
+    disk: &mut D,
+    change: NewFile,
+    bytes: &[u8],
+) -> Result<(), CommandError>
+    requires attached { IsTrue (D.attached disk.old) }
+    requires settled { IsFalse (D.pending disk.old) }
+    requires size { D.sector_size disk.old ≡ sector_bytes (parts_of volume.old).layout }
+    requires two { 2 ≤ D.sectors disk.old }
+    requires map { (space : FreeSpace) × ((parts_of volume.old).layout ≡ Layout.Old space) × CanFile space change.filing }
+    requires file_on_disk { All (λ n. n < D.sectors disk.old) (sectors_in change.filing.taken.place.items) }
+    requires on_disk { All (λ n. n < D.sectors disk.old) (sectors_in change.filing.directory.place.items) }
+    requires directory { IsSome (get (nodes_of volume.old.tree) change.filing.directory.node) }
+    requires room { 0 < volume.old.tree.room }
+    ensures volume { OnOk result (HasPut volume.old volume.new change) }
+    ensures done { OnOk result (ForSome (D.bytes disk.old) (λ was. ForSome (D.bytes disk.new) (IsFileWritten (parts_of volume.old).layout change.filing bytes.now was))) }
+    ensures exits { (space : FreeSpace) → (parts_of volume.old).layout ≡ Layout.Old space
+        → StopsAndExitsLeave D.Disk disk.old disk.new (IsWritten space (sectors_in change.filing.directory.place.items ++ sectors_in change.filing.taken.place.items)) }
+    ensures durable { OnOk result (IsFalse (D.pending disk.new)) }
+    ensures error { IfErr result (λ error. error ≡ CommandError.DiskFault) }
+    ensures unfit { result ≡ Err CommandError.DiskFault → volume.new.fit ≡ false }
+    ensures kept { IfErr result (λ error. (parts_of volume.new).layout ≡ (parts_of volume.old).layout) }
+    ensures rights { volume.new.read_only ≡ volume.old.read_only }
+    ensures form { SameForm D.Disk disk.old disk.new }
+    ensures faults { D.faults disk.old ≤ D.faults disk.new }
+    ensures cause { result ≡ Err CommandError.DiskFault → Rose (D.faults disk.old) (D.faults disk.new) }
+{
+    match write_file(disk, &volume.places, &change.filing, bytes) {
+        Ok(()) => {
+            put_object(volume, change);
+            Ok(())
+        }
+        Err(DiskFault) => {
+            volume.fit = false;
+            Err(CommandError::DiskFault)
+        }
+    }
+}
