@@ -30,8 +30,8 @@ use Rattle.fc_image.specs.Laws.{Tells}
 use Rattle.fc_image.specs.MapEdits.{IsMapEdit}
 use Rattle.fc_image.proofs.WalkLemmas.{walk-Tells}
 use Rattle.fc_image.proofs.PathsLemmas.{itself}
-use Rattle.fc_effects.specs.Short.{Growth, growth_in}
-use Rattle.fc_effects.specs.Steady.{MapOutside, SameSectors, ZoneSteady, expected_zone, idle_sectors, zone0_after}
+use Rattle.fc_image.specs.effects.Short.{Growth, growth_in}
+use Rattle.fc_image.specs.effects.Steady.{MapOutside, SameSectors, ZoneSteady, expected_zone, idle_sectors, zone0_after}
 use Rattle.fc_changes.specs.Owed.{IsMapAfter, IsWritten}
 use Rattle.fc_changes.proofs.BasicLemmas.{any_in, in_any, unless}
 use Rattle.fc_changes.proofs.BeforeLemmas.{address_by, boot_stays, had, held_by, parts, sound}

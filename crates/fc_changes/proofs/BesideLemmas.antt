@@ -13,7 +13,7 @@ use Rattle.fc_image.specs.Commanded.{Each}
 use Rattle.fc_image.proofs.OneZoneLemmas.{and_second}
 use Rattle.fc_image.proofs.PathsLemmas.{many}
 use Rattle.fc_image.proofs.RenameLemmas.{many_shuffled}
-use Rattle.fc_effects.specs.Short.{is_sharing}
+use Rattle.fc_image.specs.effects.Short.{is_sharing}
 use Rattle.fc_changes.specs.Owed.{GivesBack}
 use Rattle.fc_changes.proofs.BasicLemmas.{any_in, cases_cons, first_in, in_any, next_in}
 

@@ -33,10 +33,10 @@ use Rattle.fc_image.proofs.LookupLemmas.{lookup_law}
 use Rattle.fc_image.proofs.RelistLemmas.{edited_apart_law}
 use Rattle.fc_plan.proofs.Left.{left_of_none}
 use Rattle.fc_plan.proofs.Units.{units_some}
-use Rattle.fc_effects.specs.Sharing.{units}
-use Rattle.fc_effects.specs.Short.{Growth, moved_growth, new_dir_size}
-use Rattle.fc_effects.specs.Placed.{GrowthPlacedIn, NewObjectPlaced, file_low, holes_left, made_object, object_parts}
-use Rattle.fc_effects.specs.Steady.{AreWritten, EntrySteady, IsMadeDirectory, NewDirectory, edited, holes_untaken, named_entry, new_directory, replaced_entry, with_made}
+use Rattle.fc_image.specs.effects.Sharing.{units}
+use Rattle.fc_image.specs.effects.Short.{Growth, moved_growth, new_dir_size}
+use Rattle.fc_image.specs.effects.Placed.{GrowthPlacedIn, NewObjectPlaced, file_low, holes_left, made_object, object_parts}
+use Rattle.fc_image.specs.effects.Steady.{AreWritten, EntrySteady, IsMadeDirectory, NewDirectory, edited, holes_untaken, named_entry, new_directory, replaced_entry, with_made}
 use Rattle.fc_changes.specs.Owed.{GivesBack}
 use Rattle.fc_changes.specs.Changed.{IsChanged, IsDirectoryChange}
 use Rattle.fc_changes.specs.Laws.{DirectoryMadeLaw}

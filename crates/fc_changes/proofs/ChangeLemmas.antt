@@ -38,9 +38,9 @@ use Rattle.fc_image.proofs.EntriesLemmas.{from_filter, from_map, in_mapped, same
 use Rattle.fc_image.proofs.PathsLemmas.{itself}
 use Rattle.fc_image.proofs.RenameLemmas.{child_path}
 use Rattle.fc_image.proofs.ShuffleLemmas.{IsPermutation-flat_map, IsPermutation-unappend, flat_map-append}
-use Rattle.fc_effects.specs.Short.{growth_in}
-use Rattle.fc_effects.specs.Placed.{holes_left}
-use Rattle.fc_effects.specs.Steady.{AreWritten, DirectoriesSteady, IsRewritten, holes_untaken, MapOutside, NewMapSteady, edited, expected_zone, holds_named, idle_sectors, is_given_back, is_gone, named_entry}
+use Rattle.fc_image.specs.effects.Short.{growth_in}
+use Rattle.fc_image.specs.effects.Placed.{holes_left}
+use Rattle.fc_image.specs.effects.Steady.{AreWritten, DirectoriesSteady, IsRewritten, holes_untaken, MapOutside, NewMapSteady, edited, expected_zone, holds_named, idle_sectors, is_given_back, is_gone, named_entry}
 use Rattle.fc_changes.specs.Owed.{GivesBack, IsBefore, IsDirectoryWritten, IsMapAfter, IsSpaceEdit, IsWritten}
 use Rattle.fc_changes.proofs.BasicLemmas.{and_false, any_in, cases_cons, clash, first_in, in_any, long_pushed, next_in, not_zero, nothing_in, or_cases, or_second, unless}
 use Rattle.fc_changes.proofs.BeforeLemmas.{Had, boot_stays, had, listed_in, map_edit, object_lies, other_path, parts, says_old, sound}

@@ -20,7 +20,7 @@ use Rattle.fc_newmap.proofs.HeldLemmas.{geometry_facts}
 use Rattle.fc_newmap.specs.RunsLaw.{IsGeometry, placed}
 use Rattle.fc_copies.specs.Copies.{CommitEnds}
 use Rattle.fc_copies.specs.Committing.{KeepsContents}
-use Rattle.fc_effects.specs.Steady.{KeepsOrWritesLinks, ZoneSteady, holes_with, zone_holes}
+use Rattle.fc_image.specs.effects.Steady.{KeepsOrWritesLinks, ZoneSteady, holes_with, zone_holes}
 use Rattle.fc_plan.specs.Giving.{is_one_of}
 use Rattle.fc_plan.specs.Applied.{unless_gone}
 use Rattle.fc_plan.specs.Taking.{as_runs}

@@ -49,11 +49,11 @@ use Rattle.fc_image.proofs.RenameLemmas.{alone, child_path, child_stays, last_pu
 use Rattle.fc_image.proofs.ShuffleLemmas.{IsPermutation-flat_map, flipped}
 use Rattle.fc_image.proofs.TreeLemmas.{folds_alike}
 use Rattle.fc_image.proofs.WrittenLemmas.{cut, written_law}
-use Rattle.fc_effects.specs.Effect.{copies_file}
-use Rattle.fc_effects.specs.Sharing.{units}
-use Rattle.fc_effects.specs.Short.{Growth, is_copied, is_sharing, new_length}
-use Rattle.fc_effects.specs.Placed.{GrowthPlacedIn, NewObjectPlaced, StandsInNewSpace, file_low, holes_left, made_object, object_parts}
-use Rattle.fc_effects.specs.Steady.{DirectoriesSteady, DirectorySteady, EntrySteady, HasName, IsRewritten, NamedStays, NewMapSteady, RenamedHead, edited, gets_parent, holds_named, holes_untaken, is_moved_by, is_renamed_by, named_entry, path_after, replaced_entry, with_made, without_name}
+use Rattle.fc_image.specs.effects.Effect.{copies_file}
+use Rattle.fc_image.specs.effects.Sharing.{units}
+use Rattle.fc_image.specs.effects.Short.{Growth, is_copied, is_sharing, new_length}
+use Rattle.fc_image.specs.effects.Placed.{GrowthPlacedIn, NewObjectPlaced, StandsInNewSpace, file_low, holes_left, made_object, object_parts}
+use Rattle.fc_image.specs.effects.Steady.{DirectoriesSteady, DirectorySteady, EntrySteady, HasName, IsRewritten, NamedStays, NewMapSteady, RenamedHead, edited, gets_parent, holds_named, holes_untaken, is_moved_by, is_renamed_by, named_entry, path_after, replaced_entry, with_made, without_name}
 use Rattle.fc_plan.proofs.Units.{units_some}
 use Rattle.fc_changes.specs.Owed.{GivesBack, IsDirectoryWritten}
 use Rattle.fc_changes.specs.Changed.{IsChanged}

@@ -26,7 +26,7 @@ use Rattle.fc_image.proofs.AnsweredLemmas.{answered_law}
 use Rattle.fc_image.proofs.InPlaceLemmas.{in_place_law}
 use Rattle.fc_image.proofs.RenameLemmas.{child_path}
 use Rattle.std.proofs.lemmas.List.Sorted.{Contains-permutation, IsPermutation-sym}
-use Rattle.fc_effects.specs.Steady.{edited, without_name}
+use Rattle.fc_image.specs.effects.Steady.{edited, without_name}
 use Rattle.fc_changes.specs.Owed.{GoesAlone}
 use Rattle.fc_changes.specs.Changed.{IsChanged, IsDeleteChange}
 use Rattle.fc_changes.specs.Laws.{DeletedLaw}

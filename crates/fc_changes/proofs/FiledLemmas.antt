@@ -31,10 +31,10 @@ use Rattle.fc_image.proofs.InPlaceLemmas.{in_place_law}
 use Rattle.fc_image.proofs.LookupLemmas.{lookup_law}
 use Rattle.fc_plan.proofs.Left.{left_of_none}
 use Rattle.fc_plan.proofs.Units.{units_some}
-use Rattle.fc_effects.specs.Sharing.{slack, units}
-use Rattle.fc_effects.specs.Short.{Growth, moved_growth, new_length, slack_for}
-use Rattle.fc_effects.specs.Placed.{GrowthPlacedIn, HasAddress, NewObjectPlaced, file_low, holes_left, is_written_empty, made_object, object_parts}
-use Rattle.fc_effects.specs.Steady.{EntrySteady, NamedStays, NewDirectory, edited, holds_named, holes_untaken, is_moved_by, named_entry, named_object, replaced_entry, source_object, with_made}
+use Rattle.fc_image.specs.effects.Sharing.{slack, units}
+use Rattle.fc_image.specs.effects.Short.{Growth, moved_growth, new_length, slack_for}
+use Rattle.fc_image.specs.effects.Placed.{GrowthPlacedIn, HasAddress, NewObjectPlaced, file_low, holes_left, is_written_empty, made_object, object_parts}
+use Rattle.fc_image.specs.effects.Steady.{EntrySteady, NamedStays, NewDirectory, edited, holds_named, holes_untaken, is_moved_by, named_entry, named_object, replaced_entry, source_object, with_made}
 use Rattle.fc_changes.specs.Changed.{IsChanged, IsEntryMade, IsFileAt, IsFileChange, IsInNewSpace, children_with}
 use Rattle.fc_changes.specs.Laws.{FiledLaw}
 use Rattle.fc_changes.proofs.BasicLemmas.{cases_cons, clash, first_in, map_or_none, nothing_in, without_it}

@@ -23,8 +23,8 @@ use Rattle.fc_image.proofs.HolesLemmas.{apart_at, apart_from}
 use Rattle.fc_image.proofs.LookupLemmas.{lookup_law}
 use Rattle.fc_plan.specs.Taking.{as_runs, with_id}
 use Rattle.fc_image.proofs.EntriesLemmas.{in_mapped}
-use Rattle.fc_effects.specs.Sharing.{slack, slack_among, units}
-use Rattle.fc_effects.specs.Placed.{IsNewId, IsTaken, has_spare_share, StandsInNewSpace, file_low, first_low}
+use Rattle.fc_image.specs.effects.Sharing.{slack, slack_among, units}
+use Rattle.fc_image.specs.effects.Placed.{IsNewId, IsTaken, has_spare_share, StandsInNewSpace, file_low, first_low}
 use Rattle.fc_changes.specs.Owed.{IsSpaceEdit}
 use Rattle.fc_changes.specs.Changed.{IsInNewSpace}
 use Rattle.fc_changes.proofs.BasicLemmas.{any_in, first_in, unless}

@@ -38,9 +38,9 @@ use Rattle.fc_image.proofs.MapEditLemmas.{file_stays}
 use Rattle.fc_image.proofs.PathsLemmas.{itself}
 use Rattle.fc_image.proofs.RenameLemmas.{child_path}
 use Rattle.fc_image.proofs.WrittenLemmas.{written_law}
-use Rattle.fc_effects.specs.Effect.{copies_file}
-use Rattle.fc_effects.specs.Placed.{made_object, object_parts}
-use Rattle.fc_effects.specs.Steady.{AreWritten, DirectoriesSteady, EntrySteady, IsDirLength, IsRewritten, NewMapSteady, edited, holds_named, named_entry, with_made}
+use Rattle.fc_image.specs.effects.Effect.{copies_file}
+use Rattle.fc_image.specs.effects.Placed.{made_object, object_parts}
+use Rattle.fc_image.specs.effects.Steady.{AreWritten, DirectoriesSteady, EntrySteady, IsDirLength, IsRewritten, NewMapSteady, edited, holds_named, named_entry, with_made}
 use Rattle.fc_image.proofs.ShuffleLemmas.{flipped}
 use Rattle.fc_changes.specs.Owed.{IsDirectoryWritten, GivesBack, IsMapAfter}
 use Rattle.fc_changes.specs.Changed.{IsChanged, IsMoveChange}
@@ -80,10 +80,10 @@ use Rattle.std.specs.Option.{option_map_or}
 use Rattle.std.proofs.lemmas.List.{length-take}
 use Rattle.std.proofs.lemmas.List.Elements.{Contains-append_left, Contains-append_right}
 use Rattle.std.proofs.lemmas.List.Sorted.{IsPermutation-insert}
-use Rattle.fc_effects.specs.Short.{Growth, is_copied, new_length}
-use Rattle.fc_effects.specs.Placed.{GrowthPlacedIn, NewObjectPlaced}
-use Rattle.fc_effects.specs.Sharing.{units}
-use Rattle.fc_effects.specs.Steady.{is_moved_by, DirectorySteady, HasName, IsKept, IsWrittenAnew, NamedStays, RenamedHead, gets_parent, is_renamed_by, path_after, replaced_entry, without_name}
+use Rattle.fc_image.specs.effects.Short.{Growth, is_copied, new_length}
+use Rattle.fc_image.specs.effects.Placed.{GrowthPlacedIn, NewObjectPlaced}
+use Rattle.fc_image.specs.effects.Sharing.{units}
+use Rattle.fc_image.specs.effects.Steady.{is_moved_by, DirectorySteady, HasName, IsKept, IsWrittenAnew, NamedStays, RenamedHead, gets_parent, is_renamed_by, path_after, replaced_entry, without_name}
 use Rattle.fc_changes.proofs.BasicLemmas.{clash, long_pushed, or_left, or_second, holder_pushed, unless}
 use Rattle.fc_changes.proofs.BeforeLemmas.{address_by, held_by, opened_as}
 use Rattle.fc_changes.proofs.ChangeLemmas.{opened}

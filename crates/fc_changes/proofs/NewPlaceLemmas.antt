@@ -26,7 +26,7 @@ use Rattle.fc_image.proofs.HolesLemmas.{apart_at, apart_from, holes_law, in_id, 
 use Rattle.fc_image.proofs.MapEditLemmas.{places_law}
 use Rattle.fc_image.proofs.MoveLemmas.{id_loose}
 use Rattle.fc_image.proofs.OneZoneLemmas.{and_first, and_second}
-use Rattle.fc_effects.specs.Placed.{file_low, has_spare_share}
+use Rattle.fc_image.specs.effects.Placed.{file_low, has_spare_share}
 use Rattle.fc_changes.specs.Owed.{GivesBack, IsSpaceEdit}
 use Rattle.fc_changes.specs.Changed.{IsFileAt, IsInNewSpace, IsInSlack, IsNowhere}
 use Rattle.fc_changes.proofs.BasicLemmas.{any_in, clash, first_in, or_second}

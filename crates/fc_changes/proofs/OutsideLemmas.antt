@@ -19,7 +19,7 @@ use Rattle.fc_image.specs.Edits.{IsAt}
 use Rattle.fc_image.proofs.HolesLemmas.{apart_from, in_id}
 use Rattle.fc_image.proofs.OneZoneLemmas.{and_first, and_second}
 use Rattle.fc_image.proofs.MoveLemmas.{all_filter, not_true}
-use Rattle.fc_effects.specs.Steady.{SameSectors, is_idle}
+use Rattle.fc_image.specs.effects.Steady.{SameSectors, is_idle}
 use Rattle.fc_changes.proofs.BasicLemmas.{any_in, clash, in_any, unless}
 use Rattle.fc_changes.proofs.BeforeLemmas.{id_high}
 

@@ -23,8 +23,8 @@ use Rattle.fc_image.proofs.EntriesLemmas.{from_filter, from_map, in_filter, in_m
 use Rattle.fc_image.proofs.HolesLemmas.{apart_at, apart_from}
 use Rattle.fc_image.proofs.MoveLemmas.{not_true}
 use Rattle.fc_image.proofs.OneZoneLemmas.{and_first, and_second}
-use Rattle.fc_effects.specs.Sharing.{Holding, holding_of, holdings_in, is_shareable, is_spare, may_share_with, shares, slack, slack_among, units}
-use Rattle.fc_effects.specs.Placed.{IsFront, IsTaken, holes_left}
+use Rattle.fc_image.specs.effects.Sharing.{Holding, holding_of, holdings_in, is_shareable, is_spare, may_share_with, shares, slack, slack_among, units}
+use Rattle.fc_image.specs.effects.Placed.{IsFront, IsTaken, holes_left}
 use Rattle.fc_plan.specs.Plan.{AreApart}
 use Rattle.fc_plan.specs.Taking.{as_runs, with_id}
 use Rattle.fc_plan.proofs.Composed.{left_in_order}

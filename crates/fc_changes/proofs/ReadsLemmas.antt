@@ -23,7 +23,7 @@ use Rattle.fc_image.proofs.PathsLemmas.{cut, itself, root_other, same_last}
 use Rattle.fc_image.proofs.RenameLemmas.{last_pushed}
 use Rattle.fc_image.proofs.CommandLemmas.{same_by_folds}
 use Rattle.fc_image.proofs.TreeLemmas.{folds_alike}
-use Rattle.fc_effects.specs.Steady.{AreWritten, IsRewritten, replaced_entry, with_made}
+use Rattle.fc_image.specs.effects.Steady.{AreWritten, IsRewritten, replaced_entry, with_made}
 use Rattle.fc_changes.proofs.BasicLemmas.{cases_cons, clash, first_in, holder_pushed, next_in, nothing_in, unless}
 
 -- ---- reading back

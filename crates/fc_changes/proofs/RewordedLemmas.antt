@@ -45,9 +45,9 @@ use Rattle.fc_image.proofs.RenameLemmas.{child_path}
 use Rattle.fc_image.proofs.RewordLemmas.{reword_law}
 use Rattle.fc_image.proofs.WrittenLemmas.{written_law}
 use Rattle.fc_plan.proofs.Left.{left_of_none}
-use Rattle.fc_effects.specs.Short.{growth_in}
-use Rattle.fc_effects.specs.Placed.{made_object, object_parts}
-use Rattle.fc_effects.specs.Steady.{DirectoriesSteady, EntrySteady, HasSameAddress, IsDirLength, IsRewritten, MapOutside, NewMapSteady, edited, expected_zone, has_id_that, holds_named, holes_with, idle_sectors, is_gone, named_entry, runs_that, with_made, zone_holes}
+use Rattle.fc_image.specs.effects.Short.{growth_in}
+use Rattle.fc_image.specs.effects.Placed.{made_object, object_parts}
+use Rattle.fc_image.specs.effects.Steady.{DirectoriesSteady, EntrySteady, HasSameAddress, IsDirLength, IsRewritten, MapOutside, NewMapSteady, edited, expected_zone, has_id_that, holds_named, holes_with, idle_sectors, is_gone, named_entry, runs_that, with_made, zone_holes}
 use Rattle.fc_plan.specs.Giving.{is_one_of}
 use Rattle.fc_changes.specs.Owed.{GivesBack, IsMapAfter, IsSpaceEdit}
 use Rattle.fc_changes.specs.Changed.{IsChanged, IsRewordChange}

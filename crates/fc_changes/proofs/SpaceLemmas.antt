@@ -10,10 +10,10 @@ use Rattle.fc_model.specs.Command.{Command}
 use Rattle.fc_image.specs.Walk.{Object}
 use Rattle.fc_image.specs.Objects.{is_lost, is_owned, is_owner_of, objects_of}
 use Rattle.fc_image.specs.Opening.{Opened}
-use Rattle.fc_effects.specs.Short.{growth_in, moved_growth}
-use Rattle.fc_effects.specs.Placed.{holes_left, made_object, object_parts}
+use Rattle.fc_image.specs.effects.Short.{growth_in, moved_growth}
+use Rattle.fc_image.specs.effects.Placed.{holes_left, made_object, object_parts}
 use Rattle.fc_plan.proofs.Left.{left_of_none}
-use Rattle.fc_effects.specs.Steady.{NewMapSteady, back_runs, goes_back, has_id_that, holes_untaken, holes_with, is_given_back, is_left_by_growth, runs_that, zone_holes}
+use Rattle.fc_image.specs.effects.Steady.{NewMapSteady, back_runs, goes_back, has_id_that, holes_untaken, holes_with, is_given_back, is_left_by_growth, runs_that, zone_holes}
 use Rattle.fc_plan.specs.Giving.{is_one_of}
 use Rattle.fc_changes.specs.Owed.{GivesBack, IsSpaceEdit}
 use Rattle.fc_changes.proofs.BasicLemmas.{and_false, any_in, clash, filter_same, first_in, in_any, map_or_none, nothing_in, or_false, unless}

@@ -18,11 +18,11 @@ use Rattle.fc_image.specs.Objects.{objects_of, object_at, tree_of}
 use Rattle.fc_image.specs.Opening.{Opened}
 use Rattle.fc_image.specs.Stays.{HasSectorsOf}
 use Rattle.fc_image.specs.Edits.{IsAt}
-use Rattle.fc_effects.specs.Effect.{Changes}
-use Rattle.fc_effects.specs.Sharing.{new_ids, slack, units}
-use Rattle.fc_effects.specs.Short.{growth_in, is_copied, new_dir_size}
-use Rattle.fc_effects.specs.Placed.{IsPlan, file_low}
-use Rattle.fc_effects.specs.Steady.{AreWritten, IsRewritten, new_directory}
+use Rattle.fc_image.specs.effects.Effect.{Changes}
+use Rattle.fc_image.specs.effects.Sharing.{new_ids, slack, units}
+use Rattle.fc_image.specs.effects.Short.{growth_in, is_copied, new_dir_size}
+use Rattle.fc_image.specs.effects.Placed.{IsPlan, file_low}
+use Rattle.fc_image.specs.effects.Steady.{AreWritten, IsRewritten, new_directory}
 use Rattle.fc_changes.specs.Owed.{GivesBack, GoesAlone, IsBefore, IsDirectoryWritten, IsMapAfter, IsSpaceEdit, IsWritten}
 
 -- ---- what is promised

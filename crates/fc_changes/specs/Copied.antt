@@ -14,8 +14,8 @@ use Rattle.fc_image.specs.Walk.{Object, Listing, object_bytes}
 use Rattle.fc_image.specs.Opening.{Opened}
 use Rattle.fc_image.specs.Edits.{IsAt}
 use Rattle.fc_image.specs.InPlace.{says_now}
-use Rattle.fc_effects.specs.Short.{growth_in, is_copied}
-use Rattle.fc_effects.specs.Placed.{file_low}
+use Rattle.fc_image.specs.effects.Short.{growth_in, is_copied}
+use Rattle.fc_image.specs.effects.Placed.{file_low}
 use Rattle.fc_changes.specs.Owed.{IsBefore, IsDirectoryWritten, IsMapAfter, IsSpaceEdit, IsWritten}
 use Rattle.fc_changes.specs.Changed.{IsChanged, IsInNewSpace}
 

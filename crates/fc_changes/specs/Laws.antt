@@ -17,8 +17,8 @@ use Rattle.fc_image.specs.Opening.{Opened}
 use Rattle.fc_image.specs.EditedWalk.{AreListedBy, moved_object}
 use Rattle.fc_image.specs.InPlace.{says_now}
 use Rattle.fc_image.specs.Commanded.{set_object, mark_object}
-use Rattle.fc_effects.specs.Placed.{holes_left}
-use Rattle.fc_effects.specs.Steady.{holes_with, zone_holes}
+use Rattle.fc_image.specs.effects.Placed.{holes_left}
+use Rattle.fc_image.specs.effects.Steady.{holes_with, zone_holes}
 use Rattle.fc_plan.specs.Giving.{is_given, is_one_of, stays_given}
 use Rattle.fc_plan.specs.Taking.{as_runs, runs_taken}
 use Rattle.fc_changes.specs.Owed.{IsMapAfter, IsSpaceEdit, IsWritten}

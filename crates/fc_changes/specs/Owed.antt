@@ -15,8 +15,8 @@ use Rattle.fc_image.specs.Walk.{Object, Listing, object_bytes, is_directory_obje
 use Rattle.fc_image.specs.Opening.{Opened}
 use Rattle.fc_image.specs.Stays.{IsNewKind, OpensAs}
 use Rattle.fc_image.specs.Written.{WritesOnly}
-use Rattle.fc_effects.specs.Placed.{holes_left}
-use Rattle.fc_effects.specs.Steady.{AreWritten, IsRewritten, KeepsOrWritesLinks, ZoneSteady, holes_with, is_given_back, runs_that, zone_holes}
+use Rattle.fc_image.specs.effects.Placed.{holes_left}
+use Rattle.fc_image.specs.effects.Steady.{AreWritten, IsRewritten, KeepsOrWritesLinks, ZoneSteady, holes_with, is_given_back, runs_that, zone_holes}
 use Rattle.fc_plan.specs.Applied.{unless_gone}
 use Rattle.fc_plan.specs.Giving.{is_one_of}
 use Rattle.fc_plan.specs.Taking.{as_runs}

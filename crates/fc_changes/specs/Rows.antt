@@ -3,7 +3,7 @@ use Rattle.std.specs.Prelude.{[], ◌∷◌}
 use Rattle.fc_image.specs.Rows.{fresh_sector}
 use Rattle.fc_image.specs.Walk.{Object}
 use Rattle.fc_newmap.specs.Map.{Map}
-use Rattle.fc_effects.specs.WrittenRows.{map_with, used}
+use Rattle.fc_image.specs.effects.WrittenRows.{map_with, used}
 use Rattle.fc_changes.specs.Owed.{GivesBack, IsSpaceEdit}
 
 -- a file in both sectors of identifier 3

@@ -7,7 +7,7 @@ use Rattle.fc_zone.specs.declared.Run.{Run}
 use Rattle.fc_zone.specs.declared.RunKind.{RunKind}
 use Rattle.fc_zone.specs.declared.RunKind.TheVariants as kinds
 use Rattle.fc_alloc.specs.declared.owner.Owner.{Owner}
-use Rattle.fc_effects.specs.Settled.{passes_adjacent}
+use Rattle.fc_image.specs.effects.Settled.{passes_adjacent}
 use Rattle.fc_compact.specs.Compacting.{is_done_by}
 use Rattle.fc_compact.specs.Ready.{is_movable_by}
 

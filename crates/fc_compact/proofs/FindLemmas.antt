@@ -8,7 +8,7 @@ use Rattle.fc_newmap.proofs.ComposeLemmas.{zone_cut}
 use Rattle.fc_newmap.specs.Map.{Map, runs_of, sector_of, shape}
 use Rattle.fc_newmap.specs.NewMap.{IsNewMap}
 use Rattle.fc_newmap.proofs.HeldLemmas.{end_within, geometry_facts, sector_high, shape_fits}
-use Rattle.fc_effects.specs.Moves.{Slid}
+use Rattle.fc_image.specs.effects.Moves.{Slid}
 use Rattle.fc_compact.specs.Sliding.{HasRuns, hole_at, part, row, run_at}
 use Rattle.fc_compact.proofs.ShiftLemmas.{part_some}
 use Rattle.fc_compact.proofs.WholeLemmas.{run_room, run_whole}

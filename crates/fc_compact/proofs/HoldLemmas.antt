@@ -21,7 +21,7 @@ use Rattle.fc_newmap.proofs.NextLemmas.{split_at, zone_of_run}
 use Rattle.fc_newmap.proofs.PlaceLemmas.{filter_in, in_id_runs, in_range, in_zone, range_in, zone_in}
 use Rattle.fc_alloc.specs.declared.owner.Owner.{Owner}
 use Rattle.fc_alloc.specs.Owners.{is_id_owned}
-use Rattle.fc_effects.specs.Settled.{zones_with}
+use Rattle.fc_image.specs.effects.Settled.{zones_with}
 use Rattle.fc_compact.specs.Joining.{HasBetween, has_run_in, join_zones}
 use Rattle.fc_compact.specs.Ready.{is_movable_by}
 use Rattle.fc_compact.specs.Sliding.{HasRuns, hole_at}

@@ -22,7 +22,7 @@ use Rattle.fc_copies.specs.Committing.{KeepsContents}
 use Rattle.fc_copies.specs.declared.Which.TheVariants.{One}
 use Rattle.fc_copies.specs.Copies.{CommitEnds, CommitLeaves, copy_of}
 use Rattle.fc_record.specs.declared.Geometry.{Geometry}
-use Rattle.fc_effects.specs.Moves.{with_holes_joined}
+use Rattle.fc_image.specs.effects.Moves.{with_holes_joined}
 use Rattle.fc_image.specs.Layout.{Layout, disc_sectors, hole_sectors, id_sectors, is_among}
 use Rattle.fc_image.specs.Objects.{objects_of}
 use Rattle.fc_image.specs.Moves.{CanCommit}

@@ -13,7 +13,7 @@ use Rattle.fc_alloc.specs.Owners.{is_id_owned}
 use Rattle.fc_image.specs.Layout.{id_of}
 use Rattle.fc_image.specs.Objects.{is_movable}
 use Rattle.fc_image.specs.Walk.{Object}
-use Rattle.fc_effects.specs.Settled.{CompactedMap, can_join, can_slide, is_done, is_settled_map, passes_adjacent}
+use Rattle.fc_image.specs.effects.Settled.{CompactedMap, can_join, can_slide, is_done, is_settled_map, passes_adjacent}
 use Rattle.fc_compact.specs.Compacting.{ByOwnersLaw, CompactedBy, IsSettledBy, is_done_by}
 use Rattle.fc_compact.specs.Ready.{AreOwnersOf, is_movable_by}
 

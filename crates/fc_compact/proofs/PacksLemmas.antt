@@ -13,7 +13,7 @@ use Rattle.fc_newmap.proofs.CoverLemmas.{order_Distinct, split_once}
 use Rattle.fc_newmap.proofs.HeldLemmas.{geometry_facts}
 use Rattle.fc_newmap.proofs.PlaceLemmas.{in_order_of, is_in}
 use Rattle.fc_alloc.specs.declared.owner.Owner.{Owner}
-use Rattle.fc_effects.specs.Settled.{KeepsBits}
+use Rattle.fc_image.specs.effects.Settled.{KeepsBits}
 use Rattle.fc_compact.specs.Joining.{ids_in}
 use Rattle.fc_compact.specs.Ready.{is_movable_by}
 use Rattle.fc_compact.specs.Steps.{Leads, Packs}

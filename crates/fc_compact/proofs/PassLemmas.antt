@@ -14,8 +14,8 @@ use Rattle.fc_newmap.proofs.HeldLemmas.{geometry_facts}
 use Rattle.fc_newmap.proofs.PlaceLemmas.{id_run_in, in_id_runs}
 use Rattle.fc_alloc.specs.declared.owner.Owner.{Owner}
 use Rattle.fc_alloc.specs.Owners.{is_id_owned}
-use Rattle.fc_effects.specs.Placed.{front_of}
-use Rattle.fc_effects.specs.Settled.{KeepsBits, can_join, zones_with}
+use Rattle.fc_image.specs.effects.Placed.{front_of}
+use Rattle.fc_image.specs.effects.Settled.{KeepsBits, can_join, zones_with}
 use Rattle.fc_compact.specs.Passing.{IsLongest, Tries, run_count}
 use Rattle.fc_compact.specs.Ready.{is_movable_by}
 use Rattle.fc_compact.specs.Settling.{one_if}

@@ -10,8 +10,8 @@ use Rattle.fc_zone.proofs.UniqueLemmas.{same_cut}
 use Rattle.fc_newmap.specs.Map.{Map, ZoneRun, bits_in, has_id, id_runs, runs_of, sector_of, shape}
 use Rattle.fc_newmap.specs.NewMap.{IsNewMap}
 use Rattle.fc_newmap.proofs.ComposeLemmas.{zone_cut}
-use Rattle.fc_effects.specs.Moves.{cut_run, is_joined_in, is_the_hole, rejoined, runs_joined, with_holes_joined}
-use Rattle.fc_effects.specs.Placed.{front_of}
+use Rattle.fc_image.specs.effects.Moves.{cut_run, is_joined_in, is_the_hole, rejoined, runs_joined, with_holes_joined}
+use Rattle.fc_image.specs.effects.Placed.{front_of}
 use Rattle.fc_compact.specs.Joining.{HasBetween, all_freed, changed_runs, freed, has_run_in, hole_part, is_listed}
 use Rattle.fc_compact.specs.Sliding.{HasRuns, hole_at, run_at}
 use Rattle.fc_compact.proofs.HoldLemmas.{has_run_same}

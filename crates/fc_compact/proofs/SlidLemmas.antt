@@ -9,7 +9,7 @@ use Rattle.fc_newmap.specs.Map.{Map, ZoneRun, has_id, is_hole, runs_of, sector_o
 use Rattle.fc_newmap.specs.NewMap.{IsNewMap}
 use Rattle.fc_newmap.proofs.ComposeLemmas.{zone_cut}
 use Rattle.fc_alloc.specs.declared.owner.Owner.{Owner}
-use Rattle.fc_effects.specs.Moves.{Slid}
+use Rattle.fc_image.specs.effects.Moves.{Slid}
 use Rattle.fc_compact.specs.Joining.{ids_in}
 use Rattle.fc_compact.specs.Settling.{run_weight, zone_weight}
 use Rattle.fc_compact.specs.Sliding.{HasRuns}

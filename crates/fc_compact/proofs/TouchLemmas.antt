@@ -6,7 +6,7 @@ use Rattle.fc_zone.specs.declared.RunKind.{RunKind}
 use Rattle.fc_zone.specs.declared.RunKind.TheVariants as kinds
 use Rattle.fc_newmap.specs.Map.{ZoneRun, has_id, is_hole}
 use Rattle.fc_newmap.specs.RunsLaw.{placed}
-use Rattle.fc_effects.specs.Moves.{before_holes, with_holes_joined}
+use Rattle.fc_image.specs.effects.Moves.{before_holes, with_holes_joined}
 use Rattle.fc_compact.specs.Joining.{are_holes, hole_or_next, joined, passed}
 
 -- two holes, the first before others

@@ -9,8 +9,8 @@ use Rattle.fc_newmap.specs.Map.{Map, all_runs, id_runs, is_used, map_sectors, ru
 use Rattle.fc_alloc.specs.declared.owner.Owner.{Owner}
 use Rattle.fc_image.specs.Layout.{is_among}
 use Rattle.fc_image.specs.Walk.{Object}
-use Rattle.fc_effects.specs.Settled.{CompactedMap, KeepsBits, can_join, can_slide, is_settled_map, passes_adjacent}
-use Rattle.fc_effects.specs.Steady.{KeepsOrWritesLinks, ZoneSteady}
+use Rattle.fc_image.specs.effects.Settled.{CompactedMap, KeepsBits, can_join, can_slide, is_settled_map, passes_adjacent}
+use Rattle.fc_image.specs.effects.Steady.{KeepsOrWritesLinks, ZoneSteady}
 use Rattle.fc_compact.specs.Ready.{AreOwnersOf, is_movable_by}
 
 -- ---- the runs

@@ -8,7 +8,7 @@ use Rattle.fc_newmap.specs.Edits.{AreEdits}
 use Rattle.fc_newmap.specs.Map.{Map, ZoneRun, bits_in, has_id, hole_runs, id_runs, is_hole, runs_of, sector_of, zone_numbers}
 use Rattle.fc_newmap.specs.RunsLaw.{placed}
 use Rattle.fc_alloc.specs.declared.owner.Owner.{Owner}
-use Rattle.fc_effects.specs.Settled.{zones_with}
+use Rattle.fc_image.specs.effects.Settled.{zones_with}
 use Rattle.fc_compact.specs.Ready.{is_movable_by}
 use Rattle.fc_compact.specs.Sliding.{HasRuns, hole_at}
 

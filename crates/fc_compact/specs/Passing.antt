@@ -3,7 +3,7 @@ use Rattle.std.specs.Prelude.{◌≡◌, ◌<◌, ◌≤◌, ℕ, ◌+◌, ◌%�
 use Rattle.std.specs.List.{sum_by}
 use Rattle.fc_newmap.specs.Map.{Map, ZoneRun, has_id, hole_runs, id_runs, longest}
 use Rattle.fc_alloc.specs.declared.owner.Owner.{Owner}
-use Rattle.fc_effects.specs.Settled.{can_join}
+use Rattle.fc_image.specs.effects.Settled.{can_join}
 use Rattle.fc_compact.specs.Ready.{is_movable_by}
 use Rattle.fc_compact.specs.Settling.{IsSettledZone, one_if}
 use Rattle.fc_compact.specs.Steps.{Packs}

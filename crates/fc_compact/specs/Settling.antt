@@ -6,7 +6,7 @@ use Rattle.fc_zone.specs.declared.Run.{Run}
 use Rattle.fc_zone.specs.declared.RunKind.TheVariants.{Hole, Id}
 use Rattle.fc_newmap.specs.Map.{Map, is_hole, runs_of}
 use Rattle.fc_alloc.specs.declared.owner.Owner.{Owner}
-use Rattle.fc_effects.specs.Settled.{passes_adjacent}
+use Rattle.fc_image.specs.effects.Settled.{passes_adjacent}
 use Rattle.fc_compact.specs.declared.settling.Step.{Step}
 use Rattle.fc_compact.specs.declared.settling.Stepped.{Stepped}
 use Rattle.fc_compact.specs.Compacting.{is_done_by}

@@ -4,7 +4,7 @@ use Rattle.fc_newmap.specs.Map.{Map, id_runs}
 use Rattle.fc_newmap.specs.NewMap.{IsNewMap}
 use Rattle.fc_alloc.specs.declared.owner.Owner.{Owner}
 use Rattle.fc_image.specs.Moves.{KeepsObjects}
-use Rattle.fc_effects.specs.Settled.{KeepsBits}
+use Rattle.fc_image.specs.effects.Settled.{KeepsBits}
 use Rattle.fc_compact.specs.Compacting.{ChangesLoose, ZoneStays}
 use Rattle.fc_compact.specs.Ready.{is_movable_by}
 

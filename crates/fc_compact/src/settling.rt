@@ -5,7 +5,7 @@ ghost use Rattle.fc_device.specs.Calls.{FailsByFault, SameForm, StopsAndExitsLea
 ghost use Rattle.fc_zone.specs.declared.Run.{Run};
 ghost use Rattle.fc_newmap.specs.Map.{runs_of};
 ghost use Rattle.fc_image.specs.Layout.{Layout, disc_sectors};
-ghost use Rattle.fc_effects.specs.Settled.{can_slide, passes_adjacent};
+ghost use Rattle.fc_image.specs.effects.Settled.{can_slide, passes_adjacent};
 ghost use Rattle.fc_compact.specs.Compacting.{is_done_by};
 ghost use Rattle.fc_compact.specs.Ready.{IsReady, is_movable_by};
 ghost use Rattle.fc_compact.specs.Joining.{joined};

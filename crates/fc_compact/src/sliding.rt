@@ -11,7 +11,7 @@ ghost use Rattle.fc_copies.specs.declared.Which.TheVariants.{One};
 ghost use Rattle.fc_copies.specs.Committing.{CanWrite, KeepsContents};
 ghost use Rattle.fc_copies.specs.Copies.{CommitEnds, CommitLeaves, copy_of};
 ghost use Rattle.fc_image.specs.Layout.{Layout, disc_sectors};
-ghost use Rattle.fc_effects.specs.Moves.{Slid};
+ghost use Rattle.fc_image.specs.effects.Moves.{Slid};
 ghost use Rattle.fc_compact.specs.Ready.{IsReady, is_movable_by};
 ghost use Rattle.fc_compact.specs.Sliding.{CanSlide, HasRuns, IsPart, row};
 ghost use Rattle.fc_compact.specs.Steps.{Leads, Preserves};

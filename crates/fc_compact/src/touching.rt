@@ -4,7 +4,7 @@ ghost use Rattle.std.specs.List.Sorted.{IsStrictlyIncreasing};
 ghost use Rattle.fc_zone.specs.declared.Run.{Run};
 ghost use Rattle.fc_newmap.specs.Edits.{IsEdit};
 ghost use Rattle.fc_newmap.specs.Map.{is_hole, runs_of};
-ghost use Rattle.fc_effects.specs.Moves.{with_holes_joined};
+ghost use Rattle.fc_image.specs.effects.Moves.{with_holes_joined};
 ghost use Rattle.fc_compact.specs.Joining.{EditsListed, are_holes, changed_runs, hole_or_next, passed};
 ghost use Rattle.fc_compact.specs.Sliding.{HasRuns};
 

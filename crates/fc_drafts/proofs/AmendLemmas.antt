@@ -20,8 +20,8 @@ use Rattle.fc_image.specs.Walk.{Object}
 use Rattle.fc_image.proofs.CommandLemmas.{same_by_folds}
 use Rattle.fc_image.proofs.PathsLemmas.{itself, same_last}
 use Rattle.fc_image.proofs.TreeLemmas.{folds_alike}
-use Rattle.fc_effects.specs.Short.{Gain, growth_with, is_full_with}
-use Rattle.fc_effects.specs.Steady.{BigNameAfter, HeapAfter, IsRewritten, RenamedHead, holds_name, names_added, packed_len, regrown_entry}
+use Rattle.fc_image.specs.effects.Short.{Gain, growth_with, is_full_with}
+use Rattle.fc_image.specs.effects.Steady.{BigNameAfter, HeapAfter, IsRewritten, RenamedHead, holds_name, names_added, packed_len, regrown_entry}
 use Rattle.fc_drafts.specs.Draft.{CanHold, IsSayable, names_of, size_of, with_changed}
 use Rattle.fc_drafts.specs.Rewriting.{HasAmended, IsAt}
 

@@ -7,7 +7,7 @@ use Rattle.fc_dirs.specs.Entries.{first_twin, has_name, with_entry}
 use Rattle.fc_dirs.proofs.EditLemmas.{edit_law}
 use Rattle.fc_dirs.proofs.SearchLemmas.{blank}
 use Rattle.fc_bigdir.proofs.ChangeLemmas.{named_at}
-use Rattle.fc_effects.specs.Steady.{replaced_entry, with_made, without_name}
+use Rattle.fc_image.specs.effects.Steady.{replaced_entry, with_made, without_name}
 use Rattle.fc_drafts.specs.Rewriting.{IsAt}
 use Rattle.fc_drafts.proofs.SizeLemmas.{same_name_itself}
 

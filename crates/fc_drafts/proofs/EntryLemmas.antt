@@ -9,7 +9,7 @@ use Rattle.fc_dirs.specs.declared.SmallForm.TheVariants.{Bytes1280, Bytes2048}
 use Rattle.fc_dirs.specs.Small.{attrs_limit, last_limit}
 use Rattle.fc_dirs.specs.Directory.{Directory}
 use Rattle.fc_image.specs.Walk.{Object, is_directory_object}
-use Rattle.fc_effects.specs.Steady.{EntrySteady, IsDirLength}
+use Rattle.fc_image.specs.effects.Steady.{EntrySteady, IsDirLength}
 use Rattle.fc_drafts.specs.Draft.{CanAddress, CanHold}
 use Rattle.fc_drafts.specs.Entries.{directory_entry, file_entry, regrown, renamed_entry, saved_entry, set_entry}
 use Rattle.fc_drafts.specs.Laws.{EntryLaw}

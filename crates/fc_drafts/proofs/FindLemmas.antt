@@ -15,7 +15,7 @@ use Rattle.fc_dirs.specs.Directory.{Directory, entries_of}
 use Rattle.fc_dirs.proofs.SearchLemmas.{blank, is_some-find, place_or_end}
 use Rattle.fc_dirs.proofs.EditLemmas.{edit_law}
 use Rattle.fc_bigdir.proofs.RenameLemmas.{absent_without}
-use Rattle.fc_effects.specs.Steady.{without_name}
+use Rattle.fc_image.specs.effects.Steady.{without_name}
 use Rattle.fc_drafts.specs.Laws.{FreeNameLaw}
 use Rattle.fc_dirs.proofs.TwinLemmas.{same_name_sym}
 use Rattle.fc_drafts.specs.Draft.{CanHold, IsSayable}

@@ -15,7 +15,7 @@ use Rattle.fc_dirs.specs.Directory.{Directory}
 use Rattle.fc_bigdir.proofs.LaidLemmas.{SizeBounds, size_bounds}
 use Rattle.fc_image.proofs.CommandLemmas.{same_by_folds}
 use Rattle.fc_image.proofs.TreeLemmas.{folds_alike}
-use Rattle.fc_effects.specs.Steady.{BigNameAfter, HeapAfter, RenamedHead, holds_name, is_renamed_by, names_added, packed_len, small_name_after}
+use Rattle.fc_image.specs.effects.Steady.{BigNameAfter, HeapAfter, RenamedHead, holds_name, is_renamed_by, names_added, packed_len, small_name_after}
 use Rattle.fc_drafts.specs.Draft.{with_head, with_name}
 use Rattle.fc_drafts.specs.Rewriting.{IsRewrittenAs, IsRewrittenFor}
 use Rattle.fc_drafts.proofs.NamesLemmas.{is_unspelled, none_pass, own_name}

@@ -11,7 +11,7 @@ use Rattle.fc_dirs.specs.Directory.{Directory, entries_of}
 use Rattle.fc_dirs.proofs.EditLemmas.{edit_law}
 use Rattle.fc_dirs.proofs.SearchLemmas.{blank}
 use Rattle.fc_bigdir.proofs.GrowLemmas.{place_within}
-use Rattle.fc_effects.specs.Steady.{HeapAfter}
+use Rattle.fc_image.specs.effects.Steady.{HeapAfter}
 use Rattle.fc_drafts.specs.Draft.{IsSayable, with_changed, with_head, with_less, with_name, with_new, with_renamed}
 use Rattle.fc_drafts.specs.Rewriting.{HasEntered, HasLeft, HasMoved, HasNewHolder, HasRenamed, HasReplaced, IsRewrittenFor}
 use Rattle.fc_drafts.proofs.NamesLemmas.{AllFail, absent_unspelled, is_unspelled, left_fail, none_pass, none_passes, one_passes, own_name, respelled}

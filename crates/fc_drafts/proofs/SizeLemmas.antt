@@ -17,8 +17,8 @@ use Rattle.fc_dirs.specs.Directory.{Directory, entries_of}
 use Rattle.fc_dirs.proofs.EditLemmas.{edit_law}
 use Rattle.fc_names.proofs.FoldOrder.{fold_law}
 use Rattle.fc_image.specs.Walk.{Object}
-use Rattle.fc_effects.specs.Short.{Gain, Growth, growth_with, is_full_with}
-use Rattle.fc_effects.specs.Steady.{without_name}
+use Rattle.fc_image.specs.effects.Short.{Gain, Growth, growth_with, is_full_with}
+use Rattle.fc_image.specs.effects.Steady.{without_name}
 use Rattle.fc_bigdir.proofs.GrowLemmas.{needed_is, tight_with}
 use Rattle.fc_bigdir.proofs.NeededLemmas.{needed_more}
 use Rattle.fc_drafts.specs.Draft.{IsFullFor, IsFullForRenamed, IsSayable, size_of, with_head, with_new, with_renamed}

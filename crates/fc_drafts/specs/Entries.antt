@@ -2,7 +2,7 @@
 use Rattle.std.specs.Prelude.{ℕ, ◌+◌, ◌*◌, ◌/◌, ◌%◌, List}
 use Rattle.fc_names.specs.declared.name.NameForm.{NameForm}
 use Rattle.fc_dirs.specs.declared.Entry.{Entry}
-use Rattle.fc_effects.specs.Short.{new_dir_size}
+use Rattle.fc_image.specs.effects.Short.{new_dir_size}
 
 -- a new file, which may be read and written
 abbrev pub file_entry : List ℕ → (load exec len address : ℕ) → Entry

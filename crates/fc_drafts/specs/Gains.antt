@@ -6,7 +6,7 @@ use Rattle.fc_dirs.specs.Small.{SmallDir, is_full_small}
 use Rattle.fc_dirs.specs.Big.{size_limit}
 use Rattle.fc_dirs.specs.Directory.{Directory}
 use Rattle.fc_image.specs.Walk.{Object}
-use Rattle.fc_effects.specs.Short.{Gain, growth_with, is_full_with}
+use Rattle.fc_image.specs.effects.Short.{Gain, growth_with, is_full_with}
 use Rattle.fc_drafts.specs.declared.room.Room.{Room}
 use Rattle.fc_drafts.specs.declared.room.Room.TheVariants as rooms
 use Rattle.fc_drafts.specs.Draft.{names_of, size_of}

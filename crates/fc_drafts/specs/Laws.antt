@@ -8,7 +8,7 @@ use Rattle.fc_model.specs.Command.{Command}
 use Rattle.fc_dirs.specs.Entries.{has_name, without_entry}
 use Rattle.fc_dirs.specs.Directory.{Directory, entries_of}
 use Rattle.fc_image.specs.Walk.{Object, is_directory_object}
-use Rattle.fc_effects.specs.Steady.{EntrySteady, edited, with_made, without_name}
+use Rattle.fc_image.specs.effects.Steady.{EntrySteady, edited, with_made, without_name}
 use Rattle.fc_drafts.specs.Draft.{CanAddress, CanHold, IsSayable}
 use Rattle.fc_drafts.specs.Entries.{directory_entry, file_entry, marked_entry, regrown, renamed_entry, saved_entry, set_entry}
 use Rattle.fc_drafts.specs.Rewriting.{IsAt}

@@ -6,8 +6,8 @@ use Rattle.fc_dirs.specs.Directory.{Directory, entries_of}
 use Rattle.fc_model.specs.Tree.{last_name}
 use Rattle.fc_model.specs.Command.{Command}
 use Rattle.fc_image.specs.Walk.{Object}
-use Rattle.fc_effects.specs.Short.{Gain, is_full_with, growth_with}
-use Rattle.fc_effects.specs.Steady.{IsRewritten, is_renamed_by, regrown_entry, with_made, without_name}
+use Rattle.fc_image.specs.effects.Short.{Gain, is_full_with, growth_with}
+use Rattle.fc_image.specs.effects.Steady.{IsRewritten, is_renamed_by, regrown_entry, with_made, without_name}
 use Rattle.fc_drafts.specs.Draft.{CanHold, names_of, size_of, with_changed, with_head, with_less, with_name, with_new, with_renamed}
 use Rattle.fc_drafts.specs.Gains.{GetsName, GetsNameFor, HasSizeAfter}
 

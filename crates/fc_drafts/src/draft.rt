@@ -5,7 +5,7 @@ ghost use Rattle.fc_dirs.specs.declared.Entry.{Entry};
 ghost use Rattle.fc_dirs.specs.Entries.{has_name};
 ghost use Rattle.fc_dirs.specs.Small.{tail_of};
 ghost use Rattle.fc_dirs.specs.Directory.{Directory, entries_of, parent_of};
-ghost use Rattle.fc_effects.specs.Steady.{AreWritten, new_directory};
+ghost use Rattle.fc_image.specs.effects.Steady.{AreWritten, new_directory};
 ghost use Rattle.fc_drafts.specs.Draft.{CanBeCalled, CanHold, CanAddress, IsSayable, directory_in, size_of};
 
 use fc_bigdir::BigDir;

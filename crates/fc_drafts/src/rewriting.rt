@@ -5,7 +5,7 @@ ghost use Rattle.std.specs.Option.{option_map};
 ghost use Rattle.fc_dirs.specs.declared.Entry.{Entry};
 ghost use Rattle.fc_dirs.specs.Entries.{has_name, without_entry};
 ghost use Rattle.fc_dirs.specs.Directory.{entries_of};
-ghost use Rattle.fc_effects.specs.Short.{Gain, is_full_with};
+ghost use Rattle.fc_image.specs.effects.Short.{Gain, is_full_with};
 ghost use Rattle.fc_drafts.specs.Draft.{CanBeCalled, CanHold, CanAddress, CanName, directory_in};
 ghost use Rattle.fc_drafts.specs.Gains.{GetsName, GetsNameFor};
 ghost use Rattle.fc_drafts.specs.Rewriting.{HasAmended, HasEntered, HasLeft, HasMoved, HasNewHolder, HasRenamed, HasReplaced, IsAt};

@@ -3,7 +3,7 @@ ghost use Rattle.std.specs.Prelude.{◌≡◌, ◌<◌, length};
 ghost use Rattle.fc_dirs.specs.declared.Entry.{Entry};
 ghost use Rattle.fc_dirs.specs.Directory.{entries_of};
 ghost use Rattle.fc_dirs.specs.Small.{tail_of};
-ghost use Rattle.fc_effects.specs.Short.{Gain};
+ghost use Rattle.fc_image.specs.effects.Short.{Gain};
 ghost use Rattle.fc_drafts.specs.Draft.{directory_in};
 ghost use Rattle.fc_drafts.specs.Gains.{GetsName, GetsNameFor, HasRoom, room_of_size, small_room};
 ghost use Rattle.fc_drafts.specs.Rewriting.{IsAt};

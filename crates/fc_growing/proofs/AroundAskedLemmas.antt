@@ -23,10 +23,10 @@ use Rattle.fc_tree.proofs.MemberLemmas.{from_map, in_filter, in_map}
 use Rattle.fc_tree.proofs.PlaceLemmas.{last_step}
 use Rattle.fc_tree.proofs.SoundLemmas.{children_stored, root_or_child}
 use Rattle.fc_tree.proofs.WalkedLemmas.{child_is_object, child_path, directories_listed, holder-push, listed_directory, root, root_path, same_some}
-use Rattle.fc_nodes.specs.Edits.{Nodes}
-use Rattle.fc_nodes.proofs.OtherLemmas.{name_there}
-use Rattle.fc_agree.specs.Agreed.{AgreeOn}
-use Rattle.fc_agree.proofs.BeforeLemmas.{sound}
+use Rattle.fc_laws.specs.nodes.Edits.{Nodes}
+use Rattle.fc_laws.proofs.lemmas.nodes.OtherLemmas.{name_there}
+use Rattle.fc_laws.specs.agree.Agreed.{AgreeOn}
+use Rattle.fc_laws.proofs.lemmas.agree.BeforeLemmas.{sound}
 use Rattle.fc_volume.proofs.TargetLemmas as target_of
 use Rattle.fc_growing.specs.declared.around.Regrowth.{Regrowth}
 use Rattle.fc_growing.specs.Around.{CanHoldGrown, CanRegrow, CanTurn}

@@ -13,8 +13,8 @@ use Rattle.fc_model.specs.Command.{Command}
 use Rattle.fc_alloc.specs.declared.owner.Owner.{Owner}
 use Rattle.fc_alloc.specs.Owners.{HaveOwnNodes, has_node, with_changed}
 use Rattle.fc_drafts.specs.Entries.{regrown}
-use Rattle.fc_effects.specs.Short.{growth_in}
-use Rattle.fc_effects.specs.Steady.{has_new_holder, is_renamed_by}
+use Rattle.fc_image.specs.effects.Short.{growth_in}
+use Rattle.fc_image.specs.effects.Steady.{has_new_holder, is_renamed_by}
 use Rattle.fc_image.specs.Layout.{Layout, dir_form, disc_sectors}
 use Rattle.fc_image.specs.Edits.{IsAt}
 use Rattle.fc_image.specs.Objects.{has_sectors, objects_of}
@@ -28,16 +28,16 @@ use Rattle.fc_tree.specs.declared.node.Body.TheVariants as bodies
 use Rattle.fc_tree.specs.declared.node.Node.{Node}
 use Rattle.fc_tree.specs.Nodes.{HoldObjects, body_in, number_of}
 use Rattle.fc_tree.proofs.WalkedLemmas.{listed_directory, same_some}
-use Rattle.fc_nodes.specs.Edits.{Nodes, OwnersEdited, owners_with, with_body}
-use Rattle.fc_agree.specs.Agreed.{CanSay}
-use Rattle.fc_agree.proofs.RoomLemmas.{dir_sector}
+use Rattle.fc_laws.specs.nodes.Edits.{Nodes, OwnersEdited, owners_with, with_body}
+use Rattle.fc_laws.specs.agree.Agreed.{CanSay}
+use Rattle.fc_laws.proofs.lemmas.agree.RoomLemmas.{dir_sector}
 use Rattle.fc_changes.specs.Owed.{IsWritten}
-use Rattle.fc_takeover.specs.Places.{MayBeWritten, OpensBy}
+use Rattle.fc_laws.specs.takeover.Places.{MayBeWritten, OpensBy}
 use Rattle.fc_growths.specs.Grown.{IsGrownAt, NewPlace, at_place, grown_says}
-use Rattle.fc_grownnodes.specs.Commands.{IsGrownAdded, IsGrownDirectoryAdded}
+use Rattle.fc_grownlaws.specs.nodes.Commands.{IsGrownAdded, IsGrownDirectoryAdded}
 use Rattle.fc_growths.proofs.SpaceLemmas.{sectors_some}
-use Rattle.fc_grownnodes.specs.Regrown.{IsAround, with_bodies, with_regrown}
-use Rattle.fc_growntakeover.specs.Steps.{AreAgainSteps}
+use Rattle.fc_grownlaws.specs.nodes.Regrown.{IsAround, with_bodies, with_regrown}
+use Rattle.fc_grownlaws.specs.takeover.Steps.{AreAgainSteps}
 use Rattle.fc_volume.specs.declared.changes.rewrite.Rewrite.{Rewrite}
 use Rattle.fc_volume.specs.Owners.{entry_owner}
 use Rattle.fc_volume.proofs.TargetLemmas as target_of

@@ -18,7 +18,7 @@ use Rattle.fc_alloc.specs.declared.owner.Owner.{Owner}
 use Rattle.fc_drafts.specs.Draft.{directory_in, with_changed, with_head}
 use Rattle.fc_drafts.specs.Entries.{regrown}
 use Rattle.fc_drafts.specs.Rewriting.{HasAmended, HasNewHolder}
-use Rattle.fc_effects.specs.Steady.{AreWritten, IsRewritten, is_renamed_by, regrown_entry}
+use Rattle.fc_image.specs.effects.Steady.{AreWritten, IsRewritten, is_renamed_by, regrown_entry}
 use Rattle.fc_image.specs.Layout.{Layout, dir_form, disc_sectors, is_among}
 use Rattle.fc_image.specs.Report.{holder_address}
 use Rattle.fc_image.specs.Sound.{AreSound}
@@ -34,13 +34,13 @@ use Rattle.fc_tree.proofs.MemberLemmas.{contains_cases, contains_here, contains_
 use Rattle.fc_tree.proofs.PlaceLemmas.{last_step}
 use Rattle.fc_tree.proofs.SoundLemmas.{children_stored, folds_alike}
 use Rattle.fc_tree.proofs.WalkedLemmas.{child_path, holder-push, listed_directory, same_some}
-use Rattle.fc_nodes.specs.Edits.{Nodes}
-use Rattle.fc_nodes.proofs.FitsLemmas.{kid_lower}
-use Rattle.fc_nodes.proofs.ListLemmas.{map_fixed}
-use Rattle.fc_agree.specs.Agreed.{AgreeOn, CanSay}
-use Rattle.fc_agree.proofs.BeforeLemmas.{on_disc, sound}
+use Rattle.fc_laws.specs.nodes.Edits.{Nodes}
+use Rattle.fc_laws.proofs.lemmas.nodes.FitsLemmas.{kid_lower}
+use Rattle.fc_laws.proofs.lemmas.nodes.ListLemmas.{map_fixed}
+use Rattle.fc_laws.specs.agree.Agreed.{AgreeOn, CanSay}
+use Rattle.fc_laws.proofs.lemmas.agree.BeforeLemmas.{on_disc, sound}
 use Rattle.fc_growths.specs.Grown.{NewPlace, at_place}
-use Rattle.fc_grownnodes.specs.Regrown.{AreAgain, regrown_object}
+use Rattle.fc_grownlaws.specs.nodes.Regrown.{AreAgain, regrown_object}
 use Rattle.fc_volume.specs.declared.changes.rewrite.Rewrite.{Rewrite}
 use Rattle.fc_volume.specs.Rewrites.{IsPrepared}
 use Rattle.fc_volume.proofs.PieceLemmas.{all_low}

@@ -18,8 +18,8 @@ use Rattle.fc_tree.proofs.MemberLemmas.{contains_cases, contains_here, contains_
 use Rattle.fc_tree.proofs.PlaceLemmas.{same_number}
 use Rattle.fc_tree.proofs.SoundLemmas.{folds_alike, root_or_child, same_by_folds, same_listing}
 use Rattle.fc_tree.proofs.WalkedLemmas.{child_path, directories_listed, holder-push, listed_directory, root, root_and_held, root_path}
-use Rattle.fc_nodes.specs.Edits.{Nodes}
-use Rattle.fc_nodes.proofs.OtherLemmas.{other_directory}
+use Rattle.fc_laws.specs.nodes.Edits.{Nodes}
+use Rattle.fc_laws.proofs.lemmas.nodes.OtherLemmas.{other_directory}
 
 -- ---- lists
 

@@ -19,9 +19,9 @@ use Rattle.fc_tree.specs.Parts.{AreOwners, owner_of}
 use Rattle.fc_tree.proofs.MemberLemmas.{in_filter, in_map}
 use Rattle.fc_changes.proofs.BasicLemmas.{any_in}
 use Rattle.std.proofs.Common.{eq-eqb}
-use Rattle.fc_nodes.specs.Edits.{Nodes, OwnersEdited, owner_with, owners_with}
-use Rattle.fc_nodes.proofs.OwnerLemmas.{owner_known}
-use Rattle.fc_nodes.proofs.OwningLemmas.{owning_law}
+use Rattle.fc_laws.specs.nodes.Edits.{Nodes, OwnersEdited, owner_with, owners_with}
+use Rattle.fc_laws.proofs.lemmas.nodes.OwnerLemmas.{owner_known}
+use Rattle.fc_laws.proofs.lemmas.nodes.OwningLemmas.{owning_law}
 use Rattle.fc_growths.specs.Grown.{NewPlace, at_place}
 use Rattle.fc_volume.specs.Owners.{entry_owner}
 

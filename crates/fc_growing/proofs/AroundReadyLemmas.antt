@@ -6,7 +6,7 @@ use Rattle.fc_names.specs.Names.{is_directory}
 use Rattle.fc_dirs.specs.declared.Entry.{Entry}
 use Rattle.fc_dirs.specs.Entries.{has_name}
 use Rattle.fc_image.specs.Layout.{Layout}
-use Rattle.fc_nodes.specs.Edits.{Nodes}
+use Rattle.fc_laws.specs.nodes.Edits.{Nodes}
 use Rattle.fc_volume.specs.declared.changes.rewrite.Rewrite.{Rewrite}
 use Rattle.fc_growing.specs.Around.{AreTurned, IsTurned, subdirectories}
 

@@ -13,8 +13,8 @@ use Rattle.fc_model.specs.Tree.{holder}
 use Rattle.fc_model.specs.Command.{Command}
 use Rattle.fc_alloc.specs.declared.owner.Owner.{Owner}
 use Rattle.fc_drafts.specs.Draft.{directory_in}
-use Rattle.fc_effects.specs.Short.{Growth, growth_in, has_room, is_alone, moved_growth}
-use Rattle.fc_effects.specs.Steady.{AreWritten, has_new_holder, holds_named, is_renamed_by, may_be_rewritten}
+use Rattle.fc_image.specs.effects.Short.{Growth, growth_in, has_room, is_alone, moved_growth}
+use Rattle.fc_image.specs.effects.Steady.{AreWritten, has_new_holder, holds_named, is_renamed_by, may_be_rewritten}
 use Rattle.fc_image.specs.Layout.{Layout, id_of}
 use Rattle.fc_image.specs.Objects.{objects_of}
 use Rattle.fc_image.specs.Opening.{Opened, boot_place, reserved_in}
@@ -29,17 +29,17 @@ use Rattle.fc_objects.specs.Extents.{sectors_in}
 use Rattle.fc_tree.specs.declared.node.Node.{Node}
 use Rattle.fc_tree.proofs.MemberLemmas.{contains_cases, contains_here, contains_later, no_element}
 use Rattle.fc_tree.proofs.WalkedLemmas.{child_path, holder-push, listed_directory}
-use Rattle.fc_nodes.specs.Edits.{Nodes}
-use Rattle.fc_agree.proofs.BeforeLemmas.{object_lies, some_zones}
-use Rattle.fc_agree.proofs.RoomLemmas.{dir_sector}
-use Rattle.fc_takeover.specs.Places.{MayBeWritten, OpensBy}
-use Rattle.fc_takeover.specs.Writes.{IsObjectStored}
-use Rattle.fc_takeover.proofs.ApartLemmas.{places_law}
-use Rattle.fc_takeover.proofs.SaidLemmas.{apart_front}
-use Rattle.fc_takeover.proofs.StoredLemmas.{stored_law}
+use Rattle.fc_laws.specs.nodes.Edits.{Nodes}
+use Rattle.fc_laws.proofs.lemmas.agree.BeforeLemmas.{object_lies, some_zones}
+use Rattle.fc_laws.proofs.lemmas.agree.RoomLemmas.{dir_sector}
+use Rattle.fc_laws.specs.takeover.Places.{MayBeWritten, OpensBy}
+use Rattle.fc_laws.specs.takeover.Writes.{IsObjectStored}
+use Rattle.fc_laws.proofs.lemmas.takeover.ApartLemmas.{places_law}
+use Rattle.fc_laws.proofs.lemmas.takeover.SaidLemmas.{apart_front}
+use Rattle.fc_laws.proofs.lemmas.takeover.StoredLemmas.{stored_law}
 use Rattle.fc_growths.specs.Grown.{GrowsElsewhere, IsGrownAt, NewPlace}
 use Rattle.fc_growths.proofs.NewSpaceLemmas.{new_id_unused}
-use Rattle.fc_growntakeover.specs.Steps.{AreAgainSteps, IsAgainStep}
+use Rattle.fc_grownlaws.specs.takeover.Steps.{AreAgainSteps, IsAgainStep}
 use Rattle.fc_volume.specs.declared.changes.rewrite.Rewrite.{Rewrite}
 use Rattle.fc_volume.specs.Relocating.{AreFilled}
 use Rattle.fc_growing.specs.declared.around.Regrowth.{Regrowth}

@@ -10,12 +10,12 @@ use Rattle.fc_drafts.specs.Entries.{regrown}
 use Rattle.fc_image.specs.Walk.{Object}
 use Rattle.fc_tree.specs.declared.node.Node.{Node}
 use Rattle.fc_tree.specs.Nodes.{body_in}
-use Rattle.fc_nodes.specs.Edits.{Nodes, with_body, with_entry}
-use Rattle.fc_nodes.proofs.ListLemmas.{map_append}
-use Rattle.fc_nodes.proofs.ShapeLemmas.{edited_here, held_by, some_mapped}
+use Rattle.fc_laws.specs.nodes.Edits.{Nodes, with_body, with_entry}
+use Rattle.fc_laws.proofs.lemmas.nodes.ListLemmas.{map_append}
+use Rattle.fc_laws.proofs.lemmas.nodes.ShapeLemmas.{edited_here, held_by, some_mapped}
 use Rattle.fc_growths.specs.Grown.{NewPlace}
-use Rattle.fc_grownnodes.specs.Regrown.{with_bodies, with_regrown}
-use Rattle.fc_grownnodes.proofs.BodiesLemmas.{bodies_held}
+use Rattle.fc_grownlaws.specs.nodes.Regrown.{with_bodies, with_regrown}
+use Rattle.fc_grownlaws.proofs.lemmas.nodes.BodiesLemmas.{bodies_held}
 use Rattle.fc_volume.specs.declared.changes.rewrite.Rewrite.{Rewrite}
 use Rattle.fc_volume.proofs.TakingLemmas.{some_stays}
 use Rattle.fc_growing.specs.declared.around.Regrowth.{Regrowth}

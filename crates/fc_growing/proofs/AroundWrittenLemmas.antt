@@ -13,7 +13,7 @@ use Rattle.fc_growths.proofs.BasicLemmas.{among_flat}
 use Rattle.fc_objects.specs.Bytes.{first_bytes}
 use Rattle.fc_objects.specs.Extents.{sectors_in}
 use Rattle.fc_objects.specs.Written.{AreApart, IsPartWritten}
-use Rattle.fc_takeover.proofs.WriteLemmas.{written_bytes_law}
+use Rattle.fc_laws.proofs.lemmas.takeover.WriteLemmas.{written_bytes_law}
 use Rattle.fc_volume.specs.declared.changes.rewrite.Rewrite.{Rewrite}
 use Rattle.fc_volume.specs.Relocating.{AreFilled}
 use Rattle.fc_growing.specs.Around.{AreAllFilled, sectors_around}

@@ -11,11 +11,11 @@ use Rattle.fc_image.specs.Layout.{Layout}
 use Rattle.fc_image.specs.Walk.{Listing, Object}
 use Rattle.fc_image.specs.Objects.{objects_of}
 use Rattle.fc_image.specs.Opening.{Opened}
-use Rattle.fc_effects.specs.Placed.{file_low}
-use Rattle.fc_effects.specs.Sharing.{slack, units}
-use Rattle.fc_effects.specs.Short.{object_units, slack_in}
+use Rattle.fc_image.specs.effects.Placed.{file_low}
+use Rattle.fc_image.specs.effects.Sharing.{slack, units}
+use Rattle.fc_image.specs.effects.Short.{object_units, slack_in}
 use Rattle.fc_changes.specs.Changed.{IsFileAt}
-use Rattle.fc_nodes.specs.Edits.{Nodes}
+use Rattle.fc_laws.specs.nodes.Edits.{Nodes}
 use Rattle.fc_objects.specs.Extents.{sectors_in}
 use Rattle.fc_plan.specs.declared.plan.Plan.{Plan}
 use Rattle.fc_plan.specs.Applied.{id_in, parts_in}

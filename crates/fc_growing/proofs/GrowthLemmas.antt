@@ -19,14 +19,14 @@ use Rattle.fc_image.specs.Edits.{IsAt}
 use Rattle.fc_image.proofs.EntriesLemmas.{from_filter}
 use Rattle.fc_image.proofs.HolesLemmas.{in_id}
 use Rattle.fc_image.proofs.OneZoneLemmas.{and_first}
-use Rattle.fc_effects.specs.Placed.{IsPlan, holes_left}
-use Rattle.fc_effects.specs.Sharing.{new_ids, units}
-use Rattle.fc_effects.specs.Short.{has_room, is_alone}
-use Rattle.fc_effects.specs.Steady.{is_given_back}
+use Rattle.fc_image.specs.effects.Placed.{IsPlan, holes_left}
+use Rattle.fc_image.specs.effects.Sharing.{new_ids, units}
+use Rattle.fc_image.specs.effects.Short.{has_room, is_alone}
+use Rattle.fc_image.specs.effects.Steady.{is_given_back}
 use Rattle.fc_changes.proofs.BasicLemmas.{and_false, any_in, clash, or_false}
 use Rattle.fc_changes.proofs.ChangeLemmas.{a_sector}
 use Rattle.fc_changes.proofs.SpaceLemmas.{owned_same}
-use Rattle.fc_nodes.specs.Edits.{Nodes}
+use Rattle.fc_laws.specs.nodes.Edits.{Nodes}
 use Rattle.fc_objects.specs.Extents.{sectors_in}
 use Rattle.fc_plan.specs.declared.plan.Plan.{Plan}
 use Rattle.fc_plan.specs.Applied.{CanTakePlan, IsOther, IsTakenIn, id_in, parts_in, unless_gone}
@@ -45,7 +45,7 @@ use Rattle.fc_growths.specs.Grown.{GrowsAlone, GrowsElsewhere, GrowsThere, IsGro
 use Rattle.fc_growths.specs.Maps.{HasParts}
 use Rattle.fc_growths.proofs.ObjectLemmas.{by_map}
 use Rattle.fc_growths.proofs.SpaceLemmas.{sectors_some}
-use Rattle.fc_grownnodes.specs.Space.{is_left}
+use Rattle.fc_grownlaws.specs.nodes.Space.{is_left}
 use Rattle.fc_growing.specs.declared.place.GrownPlace.{GrownPlace}
 use Rattle.fc_growing.specs.Place.{CanApply, GrowthLaw, HasGrowth, IsGrowthOf, IsIdFor, IsNewSpace, IsObjectSpace, AreGone, address_after, new_place, place_in}
 use Rattle.fc_growing.specs.Room.{has_room_by, is_alone_by}

@@ -15,8 +15,8 @@ use Rattle.fc_newmap.specs.RunsLaw.{IsGeometry}
 use Rattle.fc_newmap.specs.Walk.{IsInZone}
 use Rattle.fc_newmap.proofs.GeometryLemmas.{geometry_of_valid}
 use Rattle.fc_image.specs.Layout.{Layout, first_part, id_of, id_sectors, is_object_id, low_of, low_start, new_sectors, sectors_at}
-use Rattle.fc_effects.specs.Placed.{BeginsBefore, HasRunLength}
-use Rattle.fc_effects.specs.Sharing.{units}
+use Rattle.fc_image.specs.effects.Placed.{BeginsBefore, HasRunLength}
+use Rattle.fc_image.specs.effects.Sharing.{units}
 use Rattle.fc_plan.specs.declared.plan.Plan.{Plan}
 use Rattle.fc_plan.specs.Applied.{IsTakenIn, parts_in_order}
 use Rattle.fc_plan.specs.Parts.{fronts}

@@ -16,8 +16,8 @@ use Rattle.fc_image.specs.Layout.{Layout}
 use Rattle.fc_image.specs.Walk.{Object}
 use Rattle.fc_image.specs.Objects.{objects_of}
 use Rattle.fc_image.specs.Opening.{Opened}
-use Rattle.fc_effects.specs.Sharing.{new_ids, units}
-use Rattle.fc_effects.specs.Short.{Growth, has_room, is_alone, moved_growth, needed_bits, needed_ids, object_units, one_if, short, space_reasons}
+use Rattle.fc_image.specs.effects.Sharing.{new_ids, units}
+use Rattle.fc_image.specs.effects.Short.{Growth, has_room, is_alone, moved_growth, needed_bits, needed_ids, object_units, one_if, short, space_reasons}
 use Rattle.fc_plan.specs.Supply.{IsSurvey, marked, unused_from}
 use Rattle.fc_plan.proofs.Stock.{surveyed, unused_here, unused_in_map, unused_later, unused_none}
 use Rattle.fc_plan.proofs.Units.{units_some}

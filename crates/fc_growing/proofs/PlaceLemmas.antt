@@ -18,8 +18,8 @@ use Rattle.fc_newmap.proofs.PlaceLemmas.{held_in, holder_of, in_either, in_front
 use Rattle.fc_newmap.proofs.RunsLemmas.{sectors_add}
 use Rattle.fc_image.specs.Layout.{Layout, hole_sectors, is_among}
 use Rattle.fc_image.proofs.EntriesLemmas.{from_filter, in_mapped}
-use Rattle.fc_effects.specs.Placed.{HasRunLength, IsPlan, holes_left, left_behind, stands_at}
-use Rattle.fc_effects.specs.Sharing.{new_ids, units}
+use Rattle.fc_image.specs.effects.Placed.{HasRunLength, IsPlan, holes_left, left_behind, stands_at}
+use Rattle.fc_image.specs.effects.Sharing.{new_ids, units}
 use Rattle.fc_plan.specs.declared.plan.Part.{Part}
 use Rattle.fc_plan.specs.declared.plan.Plan.{Plan}
 use Rattle.fc_plan.specs.declared.supply.PlanError.{PlanError}

@@ -21,7 +21,7 @@ use Rattle.fc_image.specs.Objects.{has_sectors, is_owner_of, objects_of, owner_c
 use Rattle.fc_image.proofs.EntriesLemmas.{in_filter}
 use Rattle.fc_image.proofs.HolesLemmas.{Each-contains, Each-objects, Lies, in_id, walk_lies}
 use Rattle.fc_image.proofs.MoveLemmas.{one_id}
-use Rattle.fc_effects.specs.Short.{has_room, is_alone, sectors_of_others}
+use Rattle.fc_image.specs.effects.Short.{has_room, is_alone, sectors_of_others}
 use Rattle.fc_changes.proofs.BasicLemmas.{and_false, clash, first_in, next_in}
 use Rattle.fc_slack.specs.Slack.{leaves_free}
 use Rattle.fc_slack.proofs.Intervals.{apart-append, apart_by_places, apart_is, apart_none, meets_no}
@@ -32,7 +32,7 @@ use Rattle.fc_tree.proofs.WalkedLemmas.{same_some}
 use Rattle.fc_placing.proofs.CopyingLemmas.{dirs_same, shared_is}
 use Rattle.fc_placing.proofs.LeavingLemmas.{others_are}
 use Rattle.fc_placing.proofs.SlackLemmas.{list_all-IsPermutation, own_part}
-use Rattle.fc_nodes.specs.Edits.{Nodes}
+use Rattle.fc_laws.specs.nodes.Edits.{Nodes}
 use Rattle.fc_growing.specs.Room.{IsNodeOf, RoomLaw, has_room_by, is_alone_by, leaves_free_for, others_leave_free}
 
 -- ---- tests of lists

@@ -22,7 +22,7 @@ use Rattle.fc_copies.specs.Copies.{CommitEnds, HoldsCopies}
 use Rattle.fc_image.specs.Walk.{Object}
 use Rattle.fc_image.proofs.EntriesLemmas.{from_filter}
 use Rattle.fc_plan.specs.declared.plan.Plan.{Plan}
-use Rattle.fc_effects.specs.Placed.{holes_left}
+use Rattle.fc_image.specs.effects.Placed.{holes_left}
 use Rattle.fc_plan.specs.Applied.{CanTakePlan, IsTakenIn, is_changed, parts_in, parts_in_order, plan_in, unless_gone}
 use Rattle.fc_plan.specs.Giving.{has_run_of}
 use Rattle.fc_plan.specs.Parts.{KeepsZones, has_part}

@@ -8,12 +8,12 @@ use Rattle.fc_alloc.specs.declared.owner.Owner.{Owner}
 use Rattle.fc_image.specs.Layout.{Layout, dir_form}
 use Rattle.fc_image.specs.Walk.{Listing, Object, object_bytes, object_size}
 use Rattle.fc_image.specs.Edits.{IsAt}
-use Rattle.fc_effects.specs.Steady.{AreWritten}
+use Rattle.fc_image.specs.effects.Steady.{AreWritten}
 use Rattle.fc_changes.specs.Owed.{IsWritten}
-use Rattle.fc_nodes.specs.Edits.{Nodes}
+use Rattle.fc_laws.specs.nodes.Edits.{Nodes}
 use Rattle.fc_objects.specs.Extents.{sectors_in}
 use Rattle.fc_plan.specs.declared.plan.Plan.{Plan}
-use Rattle.fc_takeover.proofs.WriteLemmas.{written_bytes_law}
+use Rattle.fc_laws.proofs.lemmas.takeover.WriteLemmas.{written_bytes_law}
 use Rattle.fc_volume.specs.Storing.{AreStored}
 use Rattle.fc_growths.specs.Grown.{at_place}
 use Rattle.fc_growing.specs.declared.writing.Growth.{Growth}

@@ -6,7 +6,7 @@ use Rattle.fc_newmap.specs.Map.{Map, map_sectors}
 use Rattle.fc_copies.specs.Copies.{HoldsCopies}
 use Rattle.fc_image.specs.Layout.{is_apart}
 use Rattle.fc_objects.specs.Extents.{sectors_in}
-use Rattle.fc_takeover.proofs.WriteLemmas.{written_bytes_law}
+use Rattle.fc_laws.proofs.lemmas.takeover.WriteLemmas.{written_bytes_law}
 use Rattle.fc_volume.proofs.StoringLemmas.{copies_kept}
 use Rattle.fc_growing.specs.declared.writing.Growth.{Growth}
 use Rattle.fc_growing.specs.Writing.{AreStoredIf, IsLaid}

@@ -12,7 +12,7 @@ use Rattle.fc_drafts.specs.Entries.{regrown}
 use Rattle.fc_drafts.specs.Rewriting.{HasAmended, HasNewHolder}
 use Rattle.fc_image.specs.Layout.{Layout, dir_form, sectors_at}
 use Rattle.fc_image.specs.Walk.{object_size}
-use Rattle.fc_nodes.specs.Edits.{Nodes, with_edited}
+use Rattle.fc_laws.specs.nodes.Edits.{Nodes, with_edited}
 use Rattle.fc_objects.specs.Extents.{sectors_in}
 use Rattle.fc_tree.specs.declared.node.Node.{Node}
 use Rattle.fc_tree.specs.Counts.{address_in}

@@ -9,10 +9,10 @@ use Rattle.fc_image.specs.Layout.{Layout}
 use Rattle.fc_image.specs.Walk.{Listing, Object}
 use Rattle.fc_image.specs.Objects.{objects_of}
 use Rattle.fc_image.specs.Opening.{Opened}
-use Rattle.fc_effects.specs.Sharing.{units}
-use Rattle.fc_effects.specs.Short.{object_units}
+use Rattle.fc_image.specs.effects.Sharing.{units}
+use Rattle.fc_image.specs.effects.Short.{object_units}
 use Rattle.fc_changes.specs.Changed.{IsFileAt}
-use Rattle.fc_nodes.specs.Edits.{Nodes}
+use Rattle.fc_laws.specs.nodes.Edits.{Nodes}
 use Rattle.fc_plan.specs.declared.plan.Plan.{Plan}
 use Rattle.fc_plan.specs.Applied.{id_in, parts_in}
 use Rattle.fc_slack.specs.declared.share.Share.{Share}

@@ -12,8 +12,8 @@ use Rattle.fc_image.specs.Layout.{Layout}
 use Rattle.fc_image.specs.Walk.{Object}
 use Rattle.fc_image.specs.Objects.{objects_of}
 use Rattle.fc_image.specs.Opening.{Opened}
-use Rattle.fc_effects.specs.Sharing.{new_ids, units}
-use Rattle.fc_effects.specs.Short.{gain_in, growth_in, has_room, is_alone, is_full_with, object_units, one_if, short}
+use Rattle.fc_image.specs.effects.Sharing.{new_ids, units}
+use Rattle.fc_image.specs.effects.Short.{gain_in, growth_in, has_room, is_alone, is_full_with, object_units, one_if, short}
 
 -- the bits that the holes must have together, for an object and for a directory
 abbrev pub bits_for : Geometry → ℕ → ℕ → ℕ

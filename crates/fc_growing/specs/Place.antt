@@ -10,10 +10,10 @@ use Rattle.fc_image.specs.Layout.{Layout, dir_form, hole_sectors, id_of, is_amon
 use Rattle.fc_image.specs.Walk.{Listing, Object, is_directory_object}
 use Rattle.fc_image.specs.Objects.{objects_of}
 use Rattle.fc_image.specs.Edits.{IsAt}
-use Rattle.fc_effects.specs.Placed.{IsPlan, holes_left}
-use Rattle.fc_effects.specs.Sharing.{new_ids, units}
-use Rattle.fc_effects.specs.Steady.{is_given_back}
-use Rattle.fc_nodes.specs.Edits.{Nodes}
+use Rattle.fc_image.specs.effects.Placed.{IsPlan, holes_left}
+use Rattle.fc_image.specs.effects.Sharing.{new_ids, units}
+use Rattle.fc_image.specs.effects.Steady.{is_given_back}
+use Rattle.fc_laws.specs.nodes.Edits.{Nodes}
 use Rattle.fc_objects.specs.Extents.{sectors_in}
 use Rattle.fc_plan.specs.declared.plan.Plan.{Plan}
 use Rattle.fc_plan.specs.Applied.{CanTakePlan, IsOther, IsTakenIn, id_in, parts_in, unless_gone}
@@ -25,7 +25,7 @@ use Rattle.fc_placing.specs.Leaving.{LeavesIds, LeavesUsed}
 use Rattle.fc_placing.specs.Places.{IsOwnPlan}
 use Rattle.fc_growths.specs.Grown.{IsGrownAt, NewPlace, at_place}
 use Rattle.fc_growths.specs.Maps.{HasParts}
-use Rattle.fc_grownnodes.specs.Space.{is_left}
+use Rattle.fc_grownlaws.specs.nodes.Space.{is_left}
 use Rattle.fc_growing.specs.declared.place.GrownPlace.{GrownPlace}
 use Rattle.fc_growing.specs.Room.{IsNodeOf, has_room_by, is_alone_by}
 

@@ -9,8 +9,8 @@ use Rattle.fc_image.specs.Layout.{Layout, id_of, low_of, low_start, new_sectors}
 use Rattle.fc_image.specs.Walk.{Listing, Object}
 use Rattle.fc_image.specs.Objects.{has_sectors, objects_of}
 use Rattle.fc_image.specs.Sound.{AreSound}
-use Rattle.fc_effects.specs.Short.{has_room, is_alone}
-use Rattle.fc_nodes.specs.Edits.{Nodes}
+use Rattle.fc_image.specs.effects.Short.{has_room, is_alone}
+use Rattle.fc_laws.specs.nodes.Edits.{Nodes}
 use Rattle.fc_slack.specs.Slack.{leaves_free}
 use Rattle.fc_tree.specs.Nodes.{HoldObjects, number_of}
 use Rattle.fc_tree.specs.Parts.{AreOwners}

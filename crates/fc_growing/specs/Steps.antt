@@ -8,10 +8,10 @@ use Rattle.fc_alloc.specs.declared.owner.Owner.{Owner}
 use Rattle.fc_image.specs.Layout.{Layout}
 use Rattle.fc_image.specs.Walk.{Listing, Object, object_bytes}
 use Rattle.fc_image.specs.Objects.{objects_of}
-use Rattle.fc_effects.specs.Short.{has_room}
-use Rattle.fc_effects.specs.Steady.{AreWritten}
+use Rattle.fc_image.specs.effects.Short.{has_room}
+use Rattle.fc_image.specs.effects.Steady.{AreWritten}
 use Rattle.fc_changes.specs.Owed.{IsWritten}
-use Rattle.fc_nodes.specs.Edits.{Nodes}
+use Rattle.fc_laws.specs.nodes.Edits.{Nodes}
 use Rattle.fc_objects.specs.Extents.{sectors_in}
 use Rattle.fc_volume.specs.Compacting.{KeepsMap}
 use Rattle.fc_volume.specs.Storing.{AreStored}

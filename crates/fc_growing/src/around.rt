@@ -8,7 +8,7 @@ ghost use Rattle.fc_changes.specs.Owed.{IsWritten};
 ghost use Rattle.fc_device.specs.Calls.{FailsByFault, SameForm, StopsAndExitsLeave};
 ghost use Rattle.fc_dirs.specs.Directory.{Directory, entries_of};
 ghost use Rattle.fc_drafts.specs.Entries.{regrown};
-ghost use Rattle.fc_grownnodes.specs.Regrown.{with_bodies};
+ghost use Rattle.fc_grownlaws.specs.nodes.Regrown.{with_bodies};
 ghost use Rattle.fc_names.specs.Names.{is_directory};
 ghost use Rattle.fc_objects.specs.Bytes.{first_bytes};
 ghost use Rattle.fc_objects.specs.Extents.{sectors_in};

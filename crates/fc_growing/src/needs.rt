@@ -1,8 +1,8 @@
 // The space that a command needs of a new map if a directory grows by it.
 
 ghost use Rattle.std.specs.Prelude.{◌≡◌, ◌<◌, ◌≤◌, ◌^◌, length, IfOk};
-ghost use Rattle.fc_effects.specs.Sharing.{new_ids, units};
-ghost use Rattle.fc_effects.specs.Short.{one_if};
+ghost use Rattle.fc_image.specs.effects.Sharing.{new_ids, units};
+ghost use Rattle.fc_image.specs.effects.Short.{one_if};
 ghost use Rattle.fc_newmap.specs.Map.{all_runs, hole_runs};
 ghost use Rattle.fc_newmap.specs.NewMap.{IsOfRecord};
 ghost use Rattle.fc_placing.specs.Places.{AnswersShort};

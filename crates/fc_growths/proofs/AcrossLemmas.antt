@@ -25,7 +25,7 @@ use Rattle.fc_image.proofs.CommandLemmas.{other_path as not_there}
 use Rattle.fc_image.proofs.RenameLemmas.{child_stays, holder_first, moved_itself}
 use Rattle.fc_image.proofs.RewordLemmas.{other_long}
 use Rattle.fc_image.proofs.ShuffleLemmas.{filter-map}
-use Rattle.fc_effects.specs.Steady.{AreWritten, DirectorySteady, IsRewritten, edited, holds_named, is_renamed_by, named_entry, path_after, regrown_entry, replaced_entry, without_name}
+use Rattle.fc_image.specs.effects.Steady.{AreWritten, DirectorySteady, IsRewritten, edited, holds_named, is_renamed_by, named_entry, path_after, regrown_entry, replaced_entry, without_name}
 use Rattle.fc_changes.proofs.BasicLemmas.{cases_cons, clash, first_in, long_pushed, next_in, nothing_in, or_left, or_second, without_it}
 use Rattle.fc_changes.proofs.BeforeLemmas.{sound}
 use Rattle.fc_changes.proofs.ChangeLemmas.{opened}

@@ -13,7 +13,7 @@ use Rattle.fc_image.specs.Layout.{is_among, bytes_in}
 use Rattle.fc_image.specs.Walk.{Object}
 use Rattle.fc_image.proofs.EntriesLemmas.{in_filter, same_some}
 use Rattle.fc_image.proofs.ShuffleLemmas.{IsPermutation-filter, flipped}
-use Rattle.fc_effects.specs.Short.{Gain, Growth, growth_of, growth_with}
+use Rattle.fc_image.specs.effects.Short.{Gain, Growth, growth_of, growth_with}
 use Rattle.fc_changes.proofs.BasicLemmas.{cases_cons, first_in, next_in, nothing_in}
 
 -- ---- lists

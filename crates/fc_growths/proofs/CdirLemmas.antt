@@ -21,10 +21,10 @@ use Rattle.fc_image.specs.Edits.{AreChildren, IsListing}
 use Rattle.fc_image.proofs.CommandLemmas.{command_law}
 use Rattle.fc_image.proofs.EntriesLemmas.{entries_law}
 use Rattle.fc_plan.proofs.Units.{units_some}
-use Rattle.fc_effects.specs.Sharing.{units}
-use Rattle.fc_effects.specs.Short.{object_units, new_dir_size}
-use Rattle.fc_effects.specs.Placed.{NewObjectPlaced, file_low, holes_left, made_object, object_parts}
-use Rattle.fc_effects.specs.Steady.{EntrySteady, NewDirectory, edited, named_entry, replaced_entry, with_made, AreWritten, IsMadeDirectory, new_directory}
+use Rattle.fc_image.specs.effects.Sharing.{units}
+use Rattle.fc_image.specs.effects.Short.{object_units, new_dir_size}
+use Rattle.fc_image.specs.effects.Placed.{NewObjectPlaced, file_low, holes_left, made_object, object_parts}
+use Rattle.fc_image.specs.effects.Steady.{EntrySteady, NewDirectory, edited, named_entry, replaced_entry, with_made, AreWritten, IsMadeDirectory, new_directory}
 use Rattle.fc_changes.specs.Changed.{IsChanged}
 use Rattle.fc_changes.proofs.BasicLemmas.{first_in}
 use Rattle.fc_changes.proofs.BeforeLemmas.{opened_as, address_by}

@@ -35,11 +35,11 @@ use Rattle.fc_image.proofs.PathsLemmas.{itself}
 use Rattle.fc_image.proofs.RenameLemmas.{alone, child_path, last_pushed, moved_itself}
 use Rattle.fc_image.proofs.ShuffleLemmas.{flipped}
 use Rattle.fc_plan.proofs.Units.{units_some}
-use Rattle.fc_effects.specs.Effect.{copies_file}
-use Rattle.fc_effects.specs.Sharing.{units}
-use Rattle.fc_effects.specs.Short.{is_copied, is_sharing, new_length, object_units}
-use Rattle.fc_effects.specs.Placed.{NewObjectPlaced, StandsInNewSpace, file_low, holes_left, made_object, object_parts}
-use Rattle.fc_effects.specs.Steady.{EntrySteady, NamedStays, gets_parent, has_new_holder, is_moved_by}
+use Rattle.fc_image.specs.effects.Effect.{copies_file}
+use Rattle.fc_image.specs.effects.Sharing.{units}
+use Rattle.fc_image.specs.effects.Short.{is_copied, is_sharing, new_length, object_units}
+use Rattle.fc_image.specs.effects.Placed.{NewObjectPlaced, StandsInNewSpace, file_low, holes_left, made_object, object_parts}
+use Rattle.fc_image.specs.effects.Steady.{EntrySteady, NamedStays, gets_parent, has_new_holder, is_moved_by}
 use Rattle.fc_changes.specs.Changed.{IsChanged}
 use Rattle.fc_changes.proofs.BasicLemmas.{cases_cons, clash, first_in, long_pushed, next_in, nothing_in, without_it}
 use Rattle.fc_changes.proofs.BeforeLemmas.{opened_as, other_path}

@@ -25,10 +25,10 @@ use Rattle.fc_image.specs.TreeEdits.{IsObjectEdit}
 use Rattle.fc_image.proofs.CommandLemmas.{command_law}
 use Rattle.fc_image.proofs.EntriesLemmas.{entries_law}
 use Rattle.fc_plan.proofs.Units.{units_some}
-use Rattle.fc_effects.specs.Sharing.{slack, units}
-use Rattle.fc_effects.specs.Short.{new_length, object_units, slack_for}
-use Rattle.fc_effects.specs.Placed.{HasAddress, NewObjectPlaced, file_low, holes_left, made_object, object_parts}
-use Rattle.fc_effects.specs.Steady.{EntrySteady, edited, is_moved_by, named_entry, replaced_entry, source_object, with_made}
+use Rattle.fc_image.specs.effects.Sharing.{slack, units}
+use Rattle.fc_image.specs.effects.Short.{new_length, object_units, slack_for}
+use Rattle.fc_image.specs.effects.Placed.{HasAddress, NewObjectPlaced, file_low, holes_left, made_object, object_parts}
+use Rattle.fc_image.specs.effects.Steady.{EntrySteady, edited, is_moved_by, named_entry, replaced_entry, source_object, with_made}
 use Rattle.fc_changes.specs.Changed.{IsChanged, IsFileAt, IsInNewSpace}
 use Rattle.fc_changes.proofs.BeforeLemmas.{opened_as}
 use Rattle.fc_changes.proofs.ChangeLemmas.{opened}

@@ -31,7 +31,7 @@ use Rattle.fc_image.proofs.RelistLemmas.{relisting_law}
 use Rattle.fc_image.proofs.RenameLemmas.{child_path}
 use Rattle.fc_image.proofs.RewordLemmas.{same_long}
 use Rattle.fc_image.proofs.ShuffleLemmas.{IsPermutation-flat_map, flipped}
-use Rattle.fc_effects.specs.Steady.{has_new_holder}
+use Rattle.fc_image.specs.effects.Steady.{has_new_holder}
 use Rattle.fc_changes.proofs.BasicLemmas.{clash, first_in, next_in, nothing_in, or_left, unless}
 use Rattle.fc_changes.proofs.BeforeLemmas.{other_path}
 use Rattle.fc_changes.proofs.ChangeLemmas.{opened}

@@ -24,8 +24,8 @@ use Rattle.fc_newmap.proofs.RootLemmas.{root_back, root_front, root_long}
 use Rattle.fc_copies.specs.Copies.{CommitEnds, HoldsCopies}
 use Rattle.fc_copies.specs.Committing.{KeepsContents}
 use Rattle.fc_image.specs.Walk.{Object}
-use Rattle.fc_effects.specs.Placed.{holes_left}
-use Rattle.fc_effects.specs.Steady.{KeepsOrWritesLinks, ZoneSteady, has_id_that, holes_with, runs_that, zone_holes}
+use Rattle.fc_image.specs.effects.Placed.{holes_left}
+use Rattle.fc_image.specs.effects.Steady.{KeepsOrWritesLinks, ZoneSteady, has_id_that, holes_with, runs_that, zone_holes}
 use Rattle.fc_plan.specs.declared.plan.Plan.{Plan}
 use Rattle.fc_plan.specs.Applied.{IsOther, IsTakenIn, id_in, parts_in, unless_gone}
 use Rattle.fc_plan.specs.Giving.{is_one_of}

@@ -27,10 +27,10 @@ use Rattle.fc_plan.proofs.Two.{given_back}
 use Rattle.fc_plan.specs.Giving.{is_one_of}
 use Rattle.fc_plan.specs.Plan.{AreApart}
 use Rattle.fc_plan.specs.Taking.{as_runs, with_id}
-use Rattle.fc_effects.specs.Sharing.{units}
-use Rattle.fc_effects.specs.Short.{Growth, growth_in, is_alone, moved_growth, object_units}
-use Rattle.fc_effects.specs.Placed.{GrowthPlaced, GrowthPlacedIn, IsNewId, IsTaken, KeepsOrGetsId, holes_left, made_object, object_parts}
-use Rattle.fc_effects.specs.Steady.{MapOutside, NewMapSteady, SameSectors, ZoneSteady, back_runs, edited, entries_after, expected_zone, grown_object, grown_parts, holes_with, idle_sectors, is_given_back, is_left_by_growth, named_entry, regrown_entry, runs_that, zone0_after, zone_holes}
+use Rattle.fc_image.specs.effects.Sharing.{units}
+use Rattle.fc_image.specs.effects.Short.{Growth, growth_in, is_alone, moved_growth, object_units}
+use Rattle.fc_image.specs.effects.Placed.{GrowthPlaced, GrowthPlacedIn, IsNewId, IsTaken, KeepsOrGetsId, holes_left, made_object, object_parts}
+use Rattle.fc_image.specs.effects.Steady.{MapOutside, NewMapSteady, SameSectors, ZoneSteady, back_runs, edited, entries_after, expected_zone, grown_object, grown_parts, holes_with, idle_sectors, is_given_back, is_left_by_growth, named_entry, regrown_entry, runs_that, zone0_after, zone_holes}
 use Rattle.fc_changes.proofs.AfterLemmas.{behind_stays}
 use Rattle.fc_changes.proofs.BasicLemmas.{any_in, clash, first_in, unless}
 use Rattle.fc_changes.proofs.ChangeLemmas.{opened}

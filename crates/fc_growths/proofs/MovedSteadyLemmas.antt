@@ -23,10 +23,10 @@ use Rattle.fc_image.proofs.LookupLemmas.{lookup_law}
 use Rattle.fc_image.proofs.PathsLemmas.{itself}
 use Rattle.fc_image.proofs.RelistLemmas.{folded_long}
 use Rattle.fc_image.proofs.TreeLemmas.{folds_alike}
-use Rattle.fc_effects.specs.Effect.{copies_file}
-use Rattle.fc_effects.specs.Short.{new_length, object_units}
-use Rattle.fc_effects.specs.Placed.{NewObjectPlaced, holes_left, made_object, object_parts}
-use Rattle.fc_effects.specs.Steady.{AreWritten, DirectoriesSteady, DirectorySteady, EntrySteady, HasName, IsKept, IsRewritten, IsWrittenAnew, NamedStays, RenamedHead, edited, has_grown, has_new_holder, holds_named, is_moved_by, is_renamed_by, may_be_rewritten, named_entry, path_after, regrown_entry, with_made, without_name}
+use Rattle.fc_image.specs.effects.Effect.{copies_file}
+use Rattle.fc_image.specs.effects.Short.{new_length, object_units}
+use Rattle.fc_image.specs.effects.Placed.{NewObjectPlaced, holes_left, made_object, object_parts}
+use Rattle.fc_image.specs.effects.Steady.{AreWritten, DirectoriesSteady, DirectorySteady, EntrySteady, HasName, IsKept, IsRewritten, IsWrittenAnew, NamedStays, RenamedHead, edited, has_grown, has_new_holder, holds_named, is_moved_by, is_renamed_by, may_be_rewritten, named_entry, path_after, regrown_entry, with_made, without_name}
 use Rattle.fc_changes.specs.Changed.{IsChanged}
 use Rattle.fc_changes.proofs.BasicLemmas.{cases_cons, clash, first_in, next_in, nothing_in, unless}
 use Rattle.fc_changes.proofs.ChangeLemmas.{opened}

@@ -24,8 +24,8 @@ use Rattle.fc_image.proofs.PathsLemmas.{itself}
 use Rattle.fc_image.proofs.RelistLemmas.{prefix_step}
 use Rattle.fc_image.proofs.RenameLemmas.{child_path, child_stays}
 use Rattle.fc_image.proofs.TreeLemmas.{folds_alike}
-use Rattle.fc_effects.specs.Short.{Growth, is_alone}
-use Rattle.fc_effects.specs.Steady.{has_new_holder}
+use Rattle.fc_image.specs.effects.Short.{Growth, is_alone}
+use Rattle.fc_image.specs.effects.Steady.{has_new_holder}
 use Rattle.fc_changes.proofs.BasicLemmas.{clash, first_in, holder_pushed, next_in, or_cases, unless}
 use Rattle.fc_changes.proofs.BeforeLemmas.{held_by}
 use Rattle.fc_changes.proofs.ChangeLemmas.{opened}

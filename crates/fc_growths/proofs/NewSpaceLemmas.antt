@@ -21,8 +21,8 @@ use Rattle.fc_image.proofs.HolesLemmas.{apart_at}
 use Rattle.fc_image.proofs.MapEditLemmas.{places_law}
 use Rattle.fc_image.proofs.MoveLemmas.{not_true}
 use Rattle.fc_image.proofs.OneZoneLemmas.{and_first, and_second}
-use Rattle.fc_effects.specs.Sharing.{Holding, holding_of, holdings_in, is_shareable, is_spare, may_share_with, new_ids, shares, slack, slack_among, units}
-use Rattle.fc_effects.specs.Placed.{IsNewId, IsTaken, StandsInNewSpace, file_low, first_low, holes_left}
+use Rattle.fc_image.specs.effects.Sharing.{Holding, holding_of, holdings_in, is_shareable, is_spare, may_share_with, new_ids, shares, slack, slack_among, units}
+use Rattle.fc_image.specs.effects.Placed.{IsNewId, IsTaken, StandsInNewSpace, file_low, first_low, holes_left}
 use Rattle.fc_plan.specs.Taking.{as_runs, with_id}
 use Rattle.fc_plan.proofs.Composed.{left_in_order}
 use Rattle.fc_plan.proofs.Order.{rising_of}

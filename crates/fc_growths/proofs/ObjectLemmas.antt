@@ -35,8 +35,8 @@ use Rattle.fc_image.proofs.PathsLemmas.{itself}
 use Rattle.fc_image.proofs.RenameLemmas.{alone, child_path}
 use Rattle.fc_image.proofs.RewordLemmas.{other_long}
 use Rattle.fc_image.proofs.TreeLemmas.{folds_alike}
-use Rattle.fc_effects.specs.Short.{Growth, sectors_of_others}
-use Rattle.fc_effects.specs.Steady.{has_grown, regrown_entry}
+use Rattle.fc_image.specs.effects.Short.{Growth, sectors_of_others}
+use Rattle.fc_image.specs.effects.Steady.{has_grown, regrown_entry}
 use Rattle.fc_changes.proofs.BasicLemmas.{cases_cons, clash, first_in, long_pushed, map_same, next_in, unless}
 use Rattle.fc_changes.proofs.BeforeLemmas.{child_in, listed_in, sound}
 use Rattle.fc_changes.proofs.ChangeLemmas.{opened}

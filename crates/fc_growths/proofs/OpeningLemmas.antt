@@ -26,7 +26,7 @@ use Rattle.fc_image.proofs.MoveLemmas.{id_loose, loose_before}
 use Rattle.fc_image.proofs.OrderLemmas.{apart_shuffled}
 use Rattle.fc_image.proofs.OneZoneLemmas.{and_first, and_second}
 use Rattle.fc_image.proofs.RelistLemmas.{apart_behind, edited_apart_law}
-use Rattle.fc_effects.specs.Steady.{is_idle, is_given_back, is_left_by_growth}
+use Rattle.fc_image.specs.effects.Steady.{is_idle, is_given_back, is_left_by_growth}
 use Rattle.fc_changes.proofs.BasicLemmas.{any_in, cases_cons, clash, first_in, in_any, nothing_in, unless}
 use Rattle.fc_changes.proofs.ChangeLemmas.{opened}
 use Rattle.fc_changes.proofs.OutsideLemmas.{AreBusy, low_owned, owned_busy}

@@ -18,9 +18,9 @@ use Rattle.fc_image.proofs.LookupLemmas.{lookup_law}
 use Rattle.fc_image.proofs.MapEditLemmas.{file_stays}
 use Rattle.fc_image.proofs.PathsLemmas.{itself}
 use Rattle.fc_image.proofs.RewordLemmas.{other_long}
-use Rattle.fc_effects.specs.Short.{growth_in, object_units}
-use Rattle.fc_effects.specs.Placed.{GrowthPlacedIn, holes_left, made_object, object_parts}
-use Rattle.fc_effects.specs.Steady.{AreWritten, DirectoriesSteady, DirectorySteady, HasName, IsRewritten, MapOutside, NewMapSteady, edited, expected_zone, gets_parent, has_grown, has_new_holder, holds_named, idle_sectors, is_renamed_by, named_entry, path_after, regrown_entry}
+use Rattle.fc_image.specs.effects.Short.{growth_in, object_units}
+use Rattle.fc_image.specs.effects.Placed.{GrowthPlacedIn, holes_left, made_object, object_parts}
+use Rattle.fc_image.specs.effects.Steady.{AreWritten, DirectoriesSteady, DirectorySteady, HasName, IsRewritten, MapOutside, NewMapSteady, edited, expected_zone, gets_parent, has_grown, has_new_holder, holds_named, idle_sectors, is_renamed_by, named_entry, path_after, regrown_entry}
 use Rattle.fc_changes.proofs.BasicLemmas.{cases_cons, clash, long_pushed, or_left, unless}
 use Rattle.fc_changes.proofs.DirectoriesLemmas.{IsPlain}
 use Rattle.fc_changes.proofs.ReadsLemmas.{lies_in}

@@ -32,11 +32,11 @@ use Rattle.fc_image.proofs.PathsLemmas.{itself}
 use Rattle.fc_image.proofs.RelistLemmas.{children_moved, edited_apart_law}
 use Rattle.fc_image.proofs.RenameLemmas.{alone, child_path, child_stays, moved_itself, stay_all, stays as path_stays}
 use Rattle.fc_image.proofs.ShuffleLemmas.{IsPermutation-flat_map, flipped}
-use Rattle.fc_effects.specs.Effect.{copies_file}
-use Rattle.fc_effects.specs.Sharing.{units}
-use Rattle.fc_effects.specs.Short.{is_copied, new_length}
-use Rattle.fc_effects.specs.Placed.{NewObjectPlaced, holes_left, made_object, object_parts}
-use Rattle.fc_effects.specs.Steady.{AreWritten, EntrySteady, IsDirLength, IsKept, IsRewritten, IsWrittenAnew, NamedStays, gets_parent, has_new_holder, holds_named, is_moved_by, is_renamed_by}
+use Rattle.fc_image.specs.effects.Effect.{copies_file}
+use Rattle.fc_image.specs.effects.Sharing.{units}
+use Rattle.fc_image.specs.effects.Short.{is_copied, new_length}
+use Rattle.fc_image.specs.effects.Placed.{NewObjectPlaced, holes_left, made_object, object_parts}
+use Rattle.fc_image.specs.effects.Steady.{AreWritten, EntrySteady, IsDirLength, IsKept, IsRewritten, IsWrittenAnew, NamedStays, gets_parent, has_new_holder, holds_named, is_moved_by, is_renamed_by}
 use Rattle.fc_changes.specs.Changed.{IsChanged}
 use Rattle.fc_changes.proofs.BasicLemmas.{cases_cons, clash, first_in, holder_pushed, next_in, nothing_in, or_left, or_second, without_it}
 use Rattle.fc_changes.proofs.BeforeLemmas.{had, other_path}

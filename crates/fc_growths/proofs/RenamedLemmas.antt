@@ -22,7 +22,7 @@ use Rattle.fc_image.proofs.CommandLemmas.{same_by_folds}
 use Rattle.fc_image.proofs.PathsLemmas.{itself}
 use Rattle.fc_image.proofs.RenameLemmas.{child_path, holder_first, last_pushed}
 use Rattle.fc_image.proofs.TreeLemmas.{folds_alike}
-use Rattle.fc_effects.specs.Short.{is_copied, is_sharing}
+use Rattle.fc_image.specs.effects.Short.{is_copied, is_sharing}
 use Rattle.fc_changes.specs.Changed.{IsChanged}
 use Rattle.fc_changes.proofs.BasicLemmas.{first_in, without_it}
 use Rattle.fc_changes.proofs.BeforeLemmas.{had, opened_as}

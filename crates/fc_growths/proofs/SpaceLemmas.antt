@@ -31,8 +31,8 @@ use Rattle.fc_image.proofs.HolesLemmas.{Lies, OpenMap, in_id}
 use Rattle.fc_image.proofs.OneZoneLemmas.{and_first, and_second}
 use Rattle.fc_plan.proofs.Shorts.{are_new_ids}
 use Rattle.fc_plan.proofs.Units.{units_some}
-use Rattle.fc_effects.specs.Short.{Growth, gain_in, growth_in, has_room, is_alone, moved_growth}
-use Rattle.fc_effects.specs.Steady.{is_given_back, is_left_by_growth}
+use Rattle.fc_image.specs.effects.Short.{Growth, gain_in, growth_in, has_room, is_alone, moved_growth}
+use Rattle.fc_image.specs.effects.Steady.{is_given_back, is_left_by_growth}
 use Rattle.fc_plan.specs.Giving.{is_one_of}
 use Rattle.fc_changes.specs.Owed.{IsBefore}
 use Rattle.fc_changes.proofs.BasicLemmas.{any_in, cases_cons, clash, first_in, next_in, not_zero, nothing_in, or_second, unless}

@@ -21,7 +21,7 @@ use Rattle.fc_image.proofs.TreeLemmas.{folds_alike}
 use Rattle.fc_image.proofs.RelistLemmas.{relisting_law}
 use Rattle.fc_image.proofs.RenameLemmas.{child_stays, moved_itself}
 use Rattle.fc_image.proofs.RewordLemmas.{other_long}
-use Rattle.fc_effects.specs.Steady.{AreWritten, DirectorySteady, IsRewritten, edited, holds_named, is_renamed_by, path_after, regrown_entry, replaced_entry, with_made, without_name}
+use Rattle.fc_image.specs.effects.Steady.{AreWritten, DirectorySteady, IsRewritten, edited, holds_named, is_renamed_by, path_after, regrown_entry, replaced_entry, with_made, without_name}
 use Rattle.fc_changes.proofs.BasicLemmas.{cases_cons, first_in, long_pushed, next_in, nothing_in, or_left, without_it}
 use Rattle.fc_changes.proofs.BeforeLemmas.{sound}
 use Rattle.fc_changes.proofs.ChangeLemmas.{opened}

@@ -20,10 +20,10 @@ use Rattle.fc_image.specs.Walk.{Object, Listing, object_bytes}
 use Rattle.fc_image.specs.Objects.{objects_of, object_at}
 use Rattle.fc_image.specs.Opening.{Opened, agreement, difference}
 use Rattle.fc_image.specs.Edits.{IsAt}
-use Rattle.fc_effects.specs.Sharing.{new_ids, units}
-use Rattle.fc_effects.specs.Short.{growth_in, has_room, is_alone, new_dir_size}
-use Rattle.fc_effects.specs.Placed.{IsPlan, holes_left}
-use Rattle.fc_effects.specs.Steady.{AreWritten, IsRewritten, KeepsOrWritesLinks, ZoneSteady, has_new_holder, holes_with, is_given_back, is_left_by_growth, new_directory, regrown_entry, runs_that, zone_holes}
+use Rattle.fc_image.specs.effects.Sharing.{new_ids, units}
+use Rattle.fc_image.specs.effects.Short.{growth_in, has_room, is_alone, new_dir_size}
+use Rattle.fc_image.specs.effects.Placed.{IsPlan, holes_left}
+use Rattle.fc_image.specs.effects.Steady.{AreWritten, IsRewritten, KeepsOrWritesLinks, ZoneSteady, has_new_holder, holes_with, is_given_back, is_left_by_growth, new_directory, regrown_entry, runs_that, zone_holes}
 use Rattle.fc_plan.specs.Applied.{unless_gone}
 use Rattle.fc_plan.specs.Giving.{is_one_of}
 use Rattle.fc_plan.specs.Taking.{as_runs}

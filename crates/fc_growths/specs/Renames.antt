@@ -18,9 +18,9 @@ use Rattle.fc_image.specs.Opening.{Opened}
 use Rattle.fc_image.specs.Edits.{IsAt}
 use Rattle.fc_image.specs.EditedWalk.{AreListedBy, moved_object}
 use Rattle.fc_image.specs.InPlace.{says_now}
-use Rattle.fc_effects.specs.Placed.{file_low}
-use Rattle.fc_effects.specs.Short.{growth_in, is_copied}
-use Rattle.fc_effects.specs.Steady.{AreWritten, IsRewritten, has_new_holder, regrown_entry}
+use Rattle.fc_image.specs.effects.Placed.{file_low}
+use Rattle.fc_image.specs.effects.Short.{growth_in, is_copied}
+use Rattle.fc_image.specs.effects.Steady.{AreWritten, IsRewritten, has_new_holder, regrown_entry}
 use Rattle.fc_changes.specs.Owed.{IsBefore, IsWritten}
 use Rattle.fc_changes.specs.Changed.{IsChanged, IsInNewSpace}
 use Rattle.fc_growths.specs.Grown.{AreWrittenFor, GivesBackGrown, HasRoot, IsGrownAt, IsGrowthSpace, IsMapGrown, NewPlace, at_place, grown_says, holder_now}

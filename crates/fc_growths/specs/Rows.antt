@@ -5,7 +5,7 @@ use Rattle.fc_newmap.specs.Map.{Map}
 use Rattle.fc_newmap.specs.Rows.{run}
 use Rattle.fc_image.specs.Rows.{small_sector}
 use Rattle.fc_image.specs.Walk.{Object}
-use Rattle.fc_effects.specs.WrittenRows.{map_with, used}
+use Rattle.fc_image.specs.effects.WrittenRows.{map_with, used}
 use Rattle.fc_growths.specs.Grown.{IsGrowthSpace, NewPlace, at_place}
 
 -- a directory in identifier 3, of which `used` has 16 bits and beside it a hole of 16

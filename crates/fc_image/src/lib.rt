@@ -4,6 +4,9 @@
 //! Source: the RISC OS PRM, chapter FileCore.
 #![tactic(auto)]
 
+pub mod effects;
+pub mod safe;
+
 ghost use Rattle.fc_image.specs.Laws.{AcceptedLaw, LaterOpeningLaw, OpensLaw, WalkLaw};
 ghost use Rattle.fc_image.specs.Rows.{ImageRows};
 ghost use Rattle.fc_image.specs.Edits.{ApartLaw, EditLaw, PathsLaw, RoomLaw, StayLaw, WalkFormLaw};

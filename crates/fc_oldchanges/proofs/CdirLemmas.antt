@@ -30,9 +30,9 @@ use Rattle.fc_image.proofs.EntriesLemmas.{entries_law}
 use Rattle.fc_image.proofs.LookupLemmas.{lookup_law}
 use Rattle.fc_image.proofs.OldEditLemmas.{old_places_law}
 use Rattle.fc_image.proofs.RelistLemmas.{listed_itself}
-use Rattle.fc_effects.specs.Short.{Growth, holes_without, new_dir_size, old_need}
-use Rattle.fc_effects.specs.Placed.{GrowthPlacedIn, OldObjectPlaced}
-use Rattle.fc_effects.specs.Steady.{AreWritten, EntrySteady, IsMadeDirectory, NewDirectory, edited, named_entry, new_directory, replaced_entry, with_made}
+use Rattle.fc_image.specs.effects.Short.{Growth, holes_without, new_dir_size, old_need}
+use Rattle.fc_image.specs.effects.Placed.{GrowthPlacedIn, OldObjectPlaced}
+use Rattle.fc_image.specs.effects.Steady.{AreWritten, EntrySteady, IsMadeDirectory, NewDirectory, edited, named_entry, new_directory, replaced_entry, with_made}
 use Rattle.fc_changes.proofs.BasicLemmas.{cases_cons, first_in, nothing_in}
 use Rattle.fc_changes.proofs.BeforeLemmas.{address_by}
 use Rattle.fc_changes.proofs.DirectoriesLemmas.{plain_cdir}

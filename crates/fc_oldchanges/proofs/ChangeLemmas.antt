@@ -33,7 +33,7 @@ use Rattle.fc_image.proofs.MapEditLemmas.{is_file}
 use Rattle.fc_image.proofs.EntriesLemmas.{in_filter, in_mapped}
 use Rattle.fc_image.proofs.MoveLemmas.{all_filter, not_true}
 use Rattle.fc_image.proofs.OneZoneLemmas.{and_first, and_second}
-use Rattle.fc_effects.specs.Steady.{AreWritten, IsRewritten, OutsideSteady, SameSectors, lost_sectors}
+use Rattle.fc_image.specs.effects.Steady.{AreWritten, IsRewritten, OutsideSteady, SameSectors, lost_sectors}
 use Rattle.fc_changes.proofs.BasicLemmas.{clash, first_in, next_in, unless}
 use Rattle.fc_changes.proofs.OutsideLemmas.{same_behind}
 use Rattle.fc_changes.proofs.ReadsLemmas.{reads_back}

@@ -26,7 +26,7 @@ use Rattle.fc_image.proofs.EntriesLemmas.{entries_law}
 use Rattle.fc_image.proofs.LookupLemmas.{lookup_law}
 use Rattle.fc_image.proofs.RelistLemmas.{listed_itself}
 use Rattle.fc_image.proofs.RenameLemmas.{child_path}
-use Rattle.fc_effects.specs.Steady.{edited, without_name}
+use Rattle.fc_image.specs.effects.Steady.{edited, without_name}
 use Rattle.fc_changes.specs.Owed.{GoesAlone}
 use Rattle.fc_changes.proofs.BasicLemmas.{cases_cons, first_in, nothing_in, without_it}
 use Rattle.fc_changes.proofs.DirectoriesLemmas.{plain_delete}

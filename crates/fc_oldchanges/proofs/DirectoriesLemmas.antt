@@ -15,8 +15,8 @@ use Rattle.fc_image.specs.Opening.{Opened}
 use Rattle.fc_image.specs.Sound.{AreSound}
 use Rattle.fc_image.proofs.LookupLemmas.{lookup_law}
 use Rattle.fc_image.proofs.PathsLemmas.{itself}
-use Rattle.fc_effects.specs.Short.{growth_in}
-use Rattle.fc_effects.specs.Steady.{AreWritten, DirectoriesSteady, DirectorySteady, HasName, IsRewritten, edited, gets_parent, holds_named, is_gone, is_renamed_by, named_entry, path_after}
+use Rattle.fc_image.specs.effects.Short.{growth_in}
+use Rattle.fc_image.specs.effects.Steady.{AreWritten, DirectoriesSteady, DirectorySteady, HasName, IsRewritten, edited, gets_parent, holds_named, is_gone, is_renamed_by, named_entry, path_after}
 use Rattle.fc_changes.proofs.BasicLemmas.{cases_cons, clash, or_left}
 use Rattle.fc_changes.proofs.DirectoriesLemmas.{IsPlain, Lasts, entries_now, no_new_holder}
 

@@ -30,8 +30,8 @@ use Rattle.fc_image.proofs.RelistLemmas.{apart_behind, apart_mapped, edited_apar
 use Rattle.fc_image.proofs.RewordLemmas.{same_long}
 use Rattle.fc_image.proofs.ShuffleLemmas.{IsPermutation-flat_map, flat_map-append}
 use Rattle.fc_image.proofs.MapEditLemmas.{held_in}
-use Rattle.fc_effects.specs.Short.{growth_in}
-use Rattle.fc_effects.specs.Steady.{DirectoriesSteady, IsRewritten, edited, holds_named, is_gone, named_entry}
+use Rattle.fc_image.specs.effects.Short.{growth_in}
+use Rattle.fc_image.specs.effects.Steady.{DirectoriesSteady, IsRewritten, edited, holds_named, is_gone, named_entry}
 use Rattle.fc_changes.proofs.BasicLemmas.{cases_cons, clash, first_in, next_in, nothing_in, unless}
 use Rattle.fc_changes.proofs.DirectoriesLemmas.{IsPlain, Lasts}
 use Rattle.fc_changes.proofs.RewordedLemmas.{mapped, ok_same}

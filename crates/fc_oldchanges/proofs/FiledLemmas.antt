@@ -32,9 +32,9 @@ use Rattle.fc_image.proofs.LookupLemmas.{lookup_law}
 use Rattle.fc_image.proofs.MapEditLemmas.{child_at}
 use Rattle.fc_image.proofs.OldEditLemmas.{old_places_law}
 use Rattle.fc_image.proofs.RelistLemmas.{listed_itself}
-use Rattle.fc_effects.specs.Short.{Growth, holes_without, new_length, old_need, replaced_object, with_space_of}
-use Rattle.fc_effects.specs.Placed.{GrowthPlacedIn, HasAddress, OldObjectPlaced, is_written_empty, made_object}
-use Rattle.fc_effects.specs.Steady.{EntrySteady, NamedStays, NewDirectory, edited, holds_named, is_moved_by, named_entry, named_object, replaced_entry, source_object, with_made}
+use Rattle.fc_image.specs.effects.Short.{Growth, holes_without, new_length, old_need, replaced_object, with_space_of}
+use Rattle.fc_image.specs.effects.Placed.{GrowthPlacedIn, HasAddress, OldObjectPlaced, is_written_empty, made_object}
+use Rattle.fc_image.specs.effects.Steady.{EntrySteady, NamedStays, NewDirectory, edited, holds_named, is_moved_by, named_entry, named_object, replaced_entry, source_object, with_made}
 use Rattle.fc_changes.specs.Changed.{IsEntryMade, children_with}
 use Rattle.fc_changes.proofs.BasicLemmas.{cases_cons, clash, first_in, next_in, nothing_in, without_it}
 use Rattle.fc_changes.proofs.DirectoriesLemmas.{IsPlain, plain_create, plain_save}

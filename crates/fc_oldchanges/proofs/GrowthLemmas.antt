@@ -19,7 +19,7 @@ use Rattle.fc_image.specs.Walk.{Listing, Object, is_directory_object, object_byt
 use Rattle.fc_image.specs.Objects.{listing_at, object_at}
 use Rattle.fc_image.specs.Opening.{Opened}
 use Rattle.fc_image.specs.Stays.{OpensAs}
-use Rattle.fc_effects.specs.Short.{Gain, gain_at, gain_by_new_name, gain_by_rename, gain_of, growth_in, growth_of, growth_with, holes_without, is_copied, new_length, old_holes_after, old_need, replaced_object, with_space_of}
+use Rattle.fc_image.specs.effects.Short.{Gain, gain_at, gain_by_new_name, gain_by_rename, gain_of, growth_in, growth_of, growth_with, holes_without, is_copied, new_length, old_holes_after, old_need, replaced_object, with_space_of}
 use Rattle.fc_changes.proofs.PlacedLemmas.{found_in}
 use Rattle.fc_oldchanges.proofs.BeforeLemmas.{says_old}
 use Rattle.fc_oldchanges.proofs.ChangeLemmas.{opened}

@@ -15,7 +15,7 @@ use Rattle.fc_image.specs.Walk.{Listing, Object}
 use Rattle.fc_image.specs.Objects.{object_at}
 use Rattle.fc_image.specs.Stays.{OpensAs}
 use Rattle.fc_image.proofs.LookupLemmas.{lookup_law}
-use Rattle.fc_effects.specs.Short.{old_need}
+use Rattle.fc_image.specs.effects.Short.{old_need}
 use Rattle.fc_changes.proofs.BasicLemmas.{unless}
 use Rattle.fc_changes.proofs.PlacedLemmas.{found_in}
 use Rattle.fc_changes.proofs.ReadsLemmas.{object_of_entry, same_path_of}

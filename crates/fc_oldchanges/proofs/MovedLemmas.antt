@@ -27,9 +27,9 @@ use Rattle.fc_image.proofs.HolesLemmas.{Lies}
 use Rattle.fc_image.proofs.LookupLemmas.{lookup_law}
 use Rattle.fc_image.proofs.PathsLemmas.{itself}
 use Rattle.fc_image.proofs.RenameLemmas.{child_path}
-use Rattle.fc_effects.specs.Effect.{copies_file}
-use Rattle.fc_effects.specs.Placed.{made_object}
-use Rattle.fc_effects.specs.Steady.{AreWritten, DirectoriesSteady, EntrySteady, IsDirLength, IsRewritten, edited, holds_named, named_entry, with_made}
+use Rattle.fc_image.specs.effects.Effect.{copies_file}
+use Rattle.fc_image.specs.effects.Placed.{made_object}
+use Rattle.fc_image.specs.effects.Steady.{AreWritten, DirectoriesSteady, EntrySteady, IsDirLength, IsRewritten, edited, holds_named, named_entry, with_made}
 use Rattle.fc_image.proofs.ShuffleLemmas.{flipped}
 use Rattle.fc_oldchanges.specs.Changed.{IsChanged, IsMoveChange}
 use Rattle.fc_oldchanges.specs.Laws.{MovedLaw}
@@ -60,9 +60,9 @@ use Rattle.std.specs.Option.{option_map_or}
 use Rattle.std.proofs.lemmas.List.{length-take}
 use Rattle.std.proofs.lemmas.List.Elements.{Contains-append_left, Contains-append_right}
 use Rattle.std.proofs.lemmas.List.Sorted.{IsPermutation-insert}
-use Rattle.fc_effects.specs.Short.{Growth, is_copied}
-use Rattle.fc_effects.specs.Placed.{GrowthPlacedIn}
-use Rattle.fc_effects.specs.Steady.{is_moved_by, DirectorySteady, HasName, IsKept, IsWrittenAnew, NamedStays, RenamedHead, gets_parent, is_renamed_by, path_after, replaced_entry, without_name}
+use Rattle.fc_image.specs.effects.Short.{Growth, is_copied}
+use Rattle.fc_image.specs.effects.Placed.{GrowthPlacedIn}
+use Rattle.fc_image.specs.effects.Steady.{is_moved_by, DirectorySteady, HasName, IsKept, IsWrittenAnew, NamedStays, RenamedHead, gets_parent, is_renamed_by, path_after, replaced_entry, without_name}
 use Rattle.fc_changes.proofs.BasicLemmas.{clash, long_pushed, or_left, or_second, holder_pushed, unless}
 use Rattle.fc_changes.proofs.BeforeLemmas.{address_by}
 use Rattle.fc_oldchanges.proofs.BeforeLemmas.{held_by, opened_as}
@@ -81,7 +81,7 @@ use Rattle.fc_image.specs.TreeEdits.{IsMove}
 use Rattle.fc_image.specs.MapEdits.{OpensEdited}
 use Rattle.fc_image.proofs.CommandLemmas.{command_law}
 use Rattle.fc_image.proofs.FreeLemmas.{object_same}
-use Rattle.fc_effects.specs.Placed.{OldObjectPlaced}
+use Rattle.fc_image.specs.effects.Placed.{OldObjectPlaced}
 use Rattle.fc_oldchanges.specs.Owed.{IsDirectoryWritten}
 use Rattle.fc_oldchanges.proofs.BeforeLemmas.{tells as tells_of}
 use Rattle.fc_oldchanges.proofs.GrowthLemmas.{given_alone, no_growth, renames_copy_none, renames_take_none}

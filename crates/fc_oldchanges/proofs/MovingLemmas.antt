@@ -43,7 +43,7 @@ use Rattle.fc_image.proofs.RelistLemmas.{apart_mapped, relisting_law, root_name_
 use Rattle.fc_image.proofs.RenameLemmas.{alone, child_path, child_stays, holder_first, last_pushed, moved_itself, stay_all, stays}
 use Rattle.fc_image.proofs.RewordLemmas.{same_long}
 use Rattle.fc_image.proofs.ShuffleLemmas.{IsPermutation-flat_map, same_lists}
-use Rattle.fc_effects.specs.Steady.{OutsideSteady, SameSectors, lost_sectors}
+use Rattle.fc_image.specs.effects.Steady.{OutsideSteady, SameSectors, lost_sectors}
 use Rattle.fc_changes.proofs.BasicLemmas.{clash, first_in, long_pushed, next_in, unless}
 use Rattle.fc_changes.proofs.OutsideLemmas.{same_behind}
 use Rattle.fc_oldchanges.specs.Owed.{IsBefore, IsWritten, MapStays}

@@ -35,8 +35,8 @@ use Rattle.fc_image.proofs.PathsLemmas.{itself}
 use Rattle.fc_image.proofs.RenameLemmas.{alone, child_path}
 use Rattle.fc_image.proofs.RewordLemmas.{other_long, reword_law}
 use Rattle.fc_image.proofs.ShuffleLemmas.{IsPermutation-flat_map, flipped}
-use Rattle.fc_effects.specs.Short.{new_length, old_holes_after, replaced_object}
-use Rattle.fc_effects.specs.Steady.{DirectoriesSteady, EntrySteady, HasSameAddress, OutsideSteady, IsDirLength, edited, named_entry, with_made}
+use Rattle.fc_image.specs.effects.Short.{new_length, old_holes_after, replaced_object}
+use Rattle.fc_image.specs.effects.Steady.{DirectoriesSteady, EntrySteady, HasSameAddress, OutsideSteady, IsDirLength, edited, named_entry, with_made}
 use Rattle.fc_changes.proofs.BasicLemmas.{first_in, long_pushed, next_in, nothing_in, with_other, without_it}
 use Rattle.fc_changes.proofs.DirectoriesLemmas.{plain_mark, plain_set}
 use Rattle.fc_changes.proofs.RewordedLemmas.{NamesObject, entry_stays, same_address}

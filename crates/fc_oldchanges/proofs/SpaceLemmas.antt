@@ -22,7 +22,7 @@ use Rattle.fc_image.proofs.FreeLemmas.{among_here, range_bounds, among_range}
 use Rattle.fc_image.proofs.HolesLemmas.{Lies, apart_at}
 use Rattle.fc_image.proofs.OldMapLemmas.{old_map_law}
 use Rattle.fc_newmap.proofs.PlaceLemmas.{in_back, in_front}
-use Rattle.fc_effects.specs.Short.{holes_without, old_need, space_of, with_space_of}
+use Rattle.fc_image.specs.effects.Short.{holes_without, old_need, space_of, with_space_of}
 use Rattle.fc_changes.proofs.BasicLemmas.{cases_cons, clash, first_in, nothing_in, unless}
 use Rattle.fc_oldchanges.specs.Owed.{holding}
 use Rattle.fc_oldchanges.proofs.BeforeLemmas.{object_lies}

@@ -16,9 +16,9 @@ use Rattle.fc_image.specs.Walk.{Object, Listing, object_bytes, is_directory_obje
 use Rattle.fc_image.specs.Objects.{objects_of, object_at, tree_of}
 use Rattle.fc_image.specs.Opening.{Opened}
 use Rattle.fc_image.specs.Edits.{IsAt}
-use Rattle.fc_effects.specs.Effect.{Changes}
-use Rattle.fc_effects.specs.Short.{holes_without, new_dir_size, old_need, with_space_of}
-use Rattle.fc_effects.specs.Steady.{AreWritten, IsRewritten, new_directory}
+use Rattle.fc_image.specs.effects.Effect.{Changes}
+use Rattle.fc_image.specs.effects.Short.{holes_without, new_dir_size, old_need, with_space_of}
+use Rattle.fc_image.specs.effects.Steady.{AreWritten, IsRewritten, new_directory}
 use Rattle.fc_changes.specs.Owed.{GoesAlone}
 use Rattle.fc_changes.specs.Changed.{IsEntryMade, MakesFile}
 use Rattle.fc_oldchanges.specs.Owed.{IsBefore, IsDirectoryWritten, IsMapAfter, IsWritten, MapStays}

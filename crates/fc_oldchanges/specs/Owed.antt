@@ -14,7 +14,7 @@ use Rattle.fc_image.specs.Report.{holder_address}
 use Rattle.fc_image.specs.Walk.{Listing, object_bytes}
 use Rattle.fc_image.specs.Opening.{Opened}
 use Rattle.fc_image.specs.Stays.{HasSectorsOf, OpensAs}
-use Rattle.fc_effects.specs.Steady.{AreWritten, IsRewritten, OldMapOutside}
+use Rattle.fc_image.specs.effects.Steady.{AreWritten, IsRewritten, OldMapOutside}
 
 -- ---- the disc before
 

@@ -8,7 +8,7 @@ use Rattle.std.specs.FinMap.{get, insert as put, get-insert, same_map, nat_cmp-I
 use Rattle.std.proofs.lemmas.Bool.{cases_eq}
 use Rattle.fc_tree.specs.declared.node.Node.{Node}
 use Rattle.fc_tree.proofs.SlotLemmas.{other}
-use Rattle.fc_nodes.specs.Edits.{Nodes, with_edited}
+use Rattle.fc_laws.specs.nodes.Edits.{Nodes, with_edited}
 
 pub there_of : (o : Option Node) → IsSome o → (x : Node) × (o ≡ Some x)
 there_of None some = absurd (cc)

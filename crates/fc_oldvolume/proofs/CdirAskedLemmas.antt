@@ -22,8 +22,8 @@ use Rattle.fc_dirs.specs.declared.SmallForm.{SmallForm}
 use Rattle.fc_dirs.specs.Directory.{Directory}
 use Rattle.fc_drafts.specs.Draft.{CanAddress, CanBeCalled, CanName}
 use Rattle.fc_drafts.specs.Gains.{GetsName}
-use Rattle.fc_effects.specs.Short.{Gain, gain_in, gain_of, short}
-use Rattle.fc_effects.specs.Steady.{new_directory}
+use Rattle.fc_image.specs.effects.Short.{Gain, gain_in, gain_of, short}
+use Rattle.fc_image.specs.effects.Steady.{new_directory}
 use Rattle.fc_image.specs.Layout.{Layout, dir_form, disc_sectors}
 use Rattle.fc_image.specs.Objects.{has_sectors, listing_at, objects_of}
 use Rattle.fc_image.specs.Opening.{Opened}
@@ -31,7 +31,7 @@ use Rattle.fc_image.specs.Sound.{AreSound}
 use Rattle.fc_image.specs.Walk.{Listing, Object, object_size}
 use Rattle.fc_image.proofs.EntriesLemmas.{from_filter}
 use Rattle.fc_changes.proofs.BasicLemmas.{first_in, next_in}
-use Rattle.fc_nodes.specs.Edits.{Nodes}
+use Rattle.fc_laws.specs.nodes.Edits.{Nodes}
 use Rattle.fc_objects.specs.Extents.{sectors_in}
 use Rattle.fc_refusals.specs.Targets.{IsVacant}
 use Rattle.fc_space.specs.Space.{PlacesSuffice, layout_of}

@@ -19,8 +19,8 @@ use Rattle.fc_dirs.specs.Entries.{entry_place, has_name}
 use Rattle.fc_dirs.specs.Directory.{Directory, entries_of}
 use Rattle.fc_drafts.specs.Draft.{IsSayable, directory_in, size_of, with_head, with_new}
 use Rattle.fc_drafts.specs.Rewriting.{HasEntered}
-use Rattle.fc_effects.specs.Short.{new_dir_size, old_need}
-use Rattle.fc_effects.specs.Steady.{has_grown, has_new_holder, new_directory, replaced_entry}
+use Rattle.fc_image.specs.effects.Short.{new_dir_size, old_need}
+use Rattle.fc_image.specs.effects.Steady.{has_grown, has_new_holder, new_directory, replaced_entry}
 use Rattle.fc_image.specs.Layout.{Layout, dir_form, id_of, low_of, sector_bytes, sectors_at}
 use Rattle.fc_image.specs.Edits.{IsAt}
 use Rattle.fc_image.specs.InPlace.{says_now}
@@ -37,18 +37,18 @@ use Rattle.fc_tree.specs.Agree.{Agree, HasForm}
 use Rattle.fc_tree.specs.Counts.{address_in}
 use Rattle.fc_tree.specs.Nodes.{HoldObjects, body_in}
 use Rattle.fc_tree.specs.Parts.{AreOwners, Parts}
-use Rattle.fc_nodes.specs.Edits.{IsDirectoryAdded, Nodes, NodesFollow, OwnersEdited, OwnersFollow, owner_with, owners_with, with_body}
+use Rattle.fc_laws.specs.nodes.Edits.{IsDirectoryAdded, Nodes, NodesFollow, OwnersEdited, OwnersFollow, owner_with, owners_with, with_body}
 use Rattle.fc_changes.proofs.ReadsLemmas.{same_name_itself}
-use Rattle.fc_agree.specs.Agreed.{CanSay}
+use Rattle.fc_laws.specs.agree.Agreed.{CanSay}
 use Rattle.fc_refusals.specs.Targets.{IsVacant}
 use Rattle.fc_refusals.proofs.HolderLemmas.{named}
-use Rattle.fc_oldagree.specs.Laws.{AgreesNow}
+use Rattle.fc_oldlaws.specs.agree.Laws.{AgreesNow}
 use Rattle.fc_oldchanges.specs.Changed.{IsFirstFitted}
 use Rattle.fc_oldchanges.specs.Owed.{IsBefore, IsWritten, holding}
 use Rattle.fc_oldchanges.proofs.MadeLemmas.{ceil_some}
 use Rattle.fc_oldchanges.proofs.PlaceLemmas.{row_or_none}
-use Rattle.fc_oldtakeover.specs.Laws.{TakesOver}
-use Rattle.fc_oldtakeover.specs.Steps.{IsMadeInSteps}
+use Rattle.fc_oldlaws.specs.takeover.Laws.{TakesOver}
+use Rattle.fc_oldlaws.specs.takeover.Steps.{IsMadeInSteps}
 use Rattle.fc_volume.specs.Owners.{entry_owner, with_owner}
 use Rattle.fc_volume.proofs.RewriteLemmas.{says_it, size_of_form}
 use Rattle.fc_volume.proofs.TargetLemmas as target_of
@@ -415,7 +415,7 @@ module _ (laws : MakingLaws) (space : FreeSpace) (nodes : Nodes) (path : Path) (
         first = laws.writes.step space new_sectors r.bytes.items was w.stored taken.no_map w.object.part;
         bytes = laws.writes.directory space made_object (directory_in r.draft) r.bytes.items w.stored (record { long = new_long; reads_back = new_back }) is.ready.bytes;
         take = taken_step space many r.taken.map w.stored w.taken is.is_map taken.map w.map;
-        taken_is = taken_holes space many r.taken.map is.is_map taken.map ∙ ap (λ (x : Layout). Rattle.fc_oldtakeover.specs.Steps.holes_taken space (new_dir_size (dir_form x))) (sym at);
+        taken_is = taken_holes space many r.taken.map is.is_map taken.map ∙ ap (λ (x : Layout). Rattle.fc_oldlaws.specs.takeover.Steps.holes_taken space (new_dir_size (dir_form x))) (sym at);
         directory = rewrite.directory_step laws.writes space view (Command.Cdir path) k content r.directory.bytes.items sectors w.taken image holder_bytes;
       }
 

@@ -12,8 +12,8 @@ use Rattle.fc_image.specs.Stays.{OpensAs}
 use Rattle.fc_tree.specs.Parts.{ArePartsOf}
 use Rattle.fc_oldchanges.specs.Owed.{IsWritten}
 use Rattle.fc_objects.specs.Written.{IsPartWritten}
-use Rattle.fc_oldtakeover.specs.Places.{PlacesLaw}
-use Rattle.fc_oldtakeover.specs.Writes.{WrittenBytesLaw}
+use Rattle.fc_oldlaws.specs.takeover.Places.{PlacesLaw}
+use Rattle.fc_oldlaws.specs.takeover.Writes.{WrittenBytesLaw}
 use Rattle.fc_volume.specs.Volume.{Volume, parts_of}
 use Rattle.fc_oldvolume.specs.Changing.{IsOldLayout, WritesOnlyPlaces, WritesPlaces}
 

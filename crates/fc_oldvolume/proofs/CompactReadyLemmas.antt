@@ -9,17 +9,17 @@ use Rattle.fc_names.specs.declared.name.NameForm.TheVariants.{Seven, Ten, Long}
 use Rattle.fc_alloc.specs.declared.owner.Owner.{Owner}
 use Rattle.fc_dirs.specs.Big.{BigDir}
 use Rattle.fc_dirs.specs.Directory.{Directory}
-use Rattle.fc_effects.specs.declared.Owned.{Owned}
+use Rattle.fc_image.specs.declared.effects.Owned.{Owned}
 use Rattle.fc_image.specs.Layout.{Layout, dir_form}
 use Rattle.fc_image.specs.Objects.{listing_at}
 use Rattle.fc_image.specs.Walk.{Listing, Object}
-use Rattle.fc_nodes.specs.Edits.{Nodes}
-use Rattle.fc_oldagree.specs.Laws.{AgreeOn, parts_with}
-use Rattle.fc_oldagree.proofs.BeforeLemmas.{sound}
+use Rattle.fc_laws.specs.nodes.Edits.{Nodes}
+use Rattle.fc_oldlaws.specs.agree.Laws.{AgreeOn, parts_with}
+use Rattle.fc_oldlaws.proofs.lemmas.agree.BeforeLemmas.{sound}
 use Rattle.fc_oldmap.specs.OldMap.{FreeSpace, IsOldMap}
-use Rattle.fc_oldmoves.specs.Laws.{ReadyLaw}
-use Rattle.fc_oldmoves.specs.Nodes.{AreReady, sliding_below}
-use Rattle.fc_oldmoves.proofs.FormLemmas.{not_long}
+use Rattle.fc_oldlaws.specs.moves.Laws.{ReadyLaw}
+use Rattle.fc_oldlaws.specs.moves.Nodes.{AreReady, sliding_below}
+use Rattle.fc_oldlaws.proofs.lemmas.moves.FormLemmas.{not_long}
 use Rattle.fc_tree.specs.declared.node.Body.{Body}
 use Rattle.fc_tree.specs.declared.node.Body.TheVariants as bodies
 use Rattle.fc_tree.specs.declared.node.Node.{Node}

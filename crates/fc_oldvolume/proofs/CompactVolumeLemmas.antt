@@ -6,9 +6,9 @@ use Rattle.fc_alloc.specs.declared.owner.Owner.{Owner}
 use Rattle.fc_bytes.specs.Words.{bytes_at}
 use Rattle.fc_device.specs.declared.disk.Disk.{Ghosts}
 use Rattle.fc_device.specs.Calls.{SameForm}
-use Rattle.fc_effects.specs.declared.Owned.{Owned}
-use Rattle.fc_effects.specs.Effect.{Compacts}
-use Rattle.fc_effects.specs.Moves.{Squashed, SquashedBytes}
+use Rattle.fc_image.specs.declared.effects.Owned.{Owned}
+use Rattle.fc_image.specs.effects.Effect.{Compacts}
+use Rattle.fc_image.specs.effects.Moves.{Squashed, SquashedBytes}
 use Rattle.fc_image.specs.Layout.{Layout, disc_sectors, sector_bytes}
 use Rattle.fc_image.specs.Objects.{objects_of}
 use Rattle.fc_image.specs.Opening.{Opened}
@@ -16,15 +16,15 @@ use Rattle.fc_image.specs.Sound.{AreSound}
 use Rattle.fc_image.specs.Stays.{HasEqualCopies, OpensAs}
 use Rattle.fc_image.specs.Walk.{Listing}
 use Rattle.fc_record.specs.declared.Kind.{Kind}
-use Rattle.fc_nodes.specs.Edits.{Nodes}
-use Rattle.fc_oldagree.specs.Laws.{AgreeOn, parts_with}
-use Rattle.fc_oldagree.proofs.BeforeLemmas.{sound}
+use Rattle.fc_laws.specs.nodes.Edits.{Nodes}
+use Rattle.fc_oldlaws.specs.agree.Laws.{AgreeOn, parts_with}
+use Rattle.fc_oldlaws.proofs.lemmas.agree.BeforeLemmas.{sound}
 use Rattle.fc_oldchanges.specs.Owed.{IsBefore, IsMapAfter, IsWritten, holding}
 use Rattle.fc_oldmap.specs.OldMap.{FreeSpace, IsOldMap}
-use Rattle.fc_oldmoves.specs.After.{IsSlide, Slide, listings_after, space_after}
-use Rattle.fc_oldmoves.specs.Nodes.{AreMoved, AreReady, AreRemade, remade}
-use Rattle.fc_oldmoves.specs.Steps.{IsCompactedInSteps, opened_after}
-use Rattle.fc_oldmoves.specs.Writes.{AreDirectoriesPlaced, AreDirectoriesWritten}
+use Rattle.fc_oldlaws.specs.moves.After.{IsSlide, Slide, listings_after, space_after}
+use Rattle.fc_oldlaws.specs.moves.Nodes.{AreMoved, AreReady, AreRemade, remade}
+use Rattle.fc_oldlaws.specs.moves.Steps.{IsCompactedInSteps, opened_after}
+use Rattle.fc_oldlaws.specs.moves.Writes.{AreDirectoriesPlaced, AreDirectoriesWritten}
 use Rattle.fc_space.specs.Space.{layout_of}
 use Rattle.fc_squash.specs.Sliding.{TellsAsBefore}
 use Rattle.fc_squash.specs.Squashing.{KeepsBodies}
@@ -89,7 +89,7 @@ module _ (laws : MoveLaws) (kind : Kind) (space space' : FreeSpace) (nodes nodes
       let owners' = Rattle.std.specs.Prelude.map (remade space' nodes') owners in
       laws.directories kind space' nodes' owners' (agree_now owners' moved refl)
 
-  module _ (owners' : List Owner) (moved : AreMoved s nodes nodes') (made : AreRemade space' nodes' owners owners') (changed : ℕ → Bool) (marked : Rattle.fc_oldmoves.specs.Writes.MarkChanges s nodes changed)
+  module _ (owners' : List Owner) (moved : AreMoved s nodes nodes') (made : AreRemade space' nodes' owners owners') (changed : ℕ → Bool) (marked : Rattle.fc_oldlaws.specs.moves.Writes.MarkChanges s nodes changed)
       (bound : ℕ) (past : (n : ℕ) → bound ≤ n → get nodes n ≡ None) where
     pub over : (k : Kind) (view : Opened) (image slid mid image' : List ℕ) → OpensAs image k view → ArePartsOf (parts_with space nodes owners) view → SquashedBytes image slid space was now
         → AreDirectoriesWritten space' nodes' changed bound slid mid → IsMapWritten space' mid image'

@@ -14,11 +14,11 @@ use Rattle.fc_dirs.specs.declared.Entry.{Entry}
 use Rattle.fc_names.specs.Names.{is_directory}
 use Rattle.fc_dirs.specs.Directory.{directory_size}
 use Rattle.fc_image.specs.Walk.{object_size}
-use Rattle.fc_effects.specs.declared.Owned.{Owned}
-use Rattle.fc_effects.specs.Short.{old_need}
-use Rattle.fc_nodes.specs.Edits.{Nodes}
-use Rattle.fc_oldmoves.specs.After.{parent_after, start_after}
-use Rattle.fc_oldmoves.specs.Nodes.{sliding_at, sliding_below}
+use Rattle.fc_image.specs.declared.effects.Owned.{Owned}
+use Rattle.fc_image.specs.effects.Short.{old_need}
+use Rattle.fc_laws.specs.nodes.Edits.{Nodes}
+use Rattle.fc_oldlaws.specs.moves.After.{parent_after, start_after}
+use Rattle.fc_oldlaws.specs.moves.Nodes.{sliding_at, sliding_below}
 use Rattle.fc_oldvolume.specs.Compacting.{IsLow}
 
 -- ---- one more

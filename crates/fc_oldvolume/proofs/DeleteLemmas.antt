@@ -15,8 +15,8 @@ use Rattle.fc_dirs.specs.declared.Entry.{Entry}
 use Rattle.fc_dirs.specs.Directory.{Directory, entries_of}
 use Rattle.fc_drafts.specs.Draft.{directory_in, size_of}
 use Rattle.fc_drafts.specs.Rewriting.{HasLeft}
-use Rattle.fc_effects.specs.Short.{with_space_of}
-use Rattle.fc_effects.specs.Steady.{has_grown, has_new_holder}
+use Rattle.fc_image.specs.effects.Short.{with_space_of}
+use Rattle.fc_image.specs.effects.Steady.{has_grown, has_new_holder}
 use Rattle.fc_image.specs.Layout.{Layout, dir_form, sector_bytes}
 use Rattle.fc_image.specs.Edits.{IsAt}
 use Rattle.fc_image.specs.InPlace.{says_now}
@@ -31,12 +31,12 @@ use Rattle.fc_tree.specs.Agree.{Agree}
 use Rattle.fc_tree.specs.Counts.{address_in}
 use Rattle.fc_tree.specs.Nodes.{HoldObjects, body_in}
 use Rattle.fc_tree.specs.Parts.{AreOwners, Parts}
-use Rattle.fc_nodes.specs.Edits.{IsRemoved, Nodes, NodesFollow, OwnersFollow, owner_with, with_body}
+use Rattle.fc_laws.specs.nodes.Edits.{IsRemoved, Nodes, NodesFollow, OwnersFollow, owner_with, with_body}
 use Rattle.fc_changes.specs.Owed.{GoesAlone}
-use Rattle.fc_oldagree.specs.Laws.{AgreesNow}
+use Rattle.fc_oldlaws.specs.agree.Laws.{AgreesNow}
 use Rattle.fc_oldchanges.specs.Owed.{IsBefore, IsWritten, holding}
-use Rattle.fc_oldtakeover.specs.Laws.{TakesOver}
-use Rattle.fc_oldtakeover.specs.Writes.{IsMapStep}
+use Rattle.fc_oldlaws.specs.takeover.Laws.{TakesOver}
+use Rattle.fc_oldlaws.specs.takeover.Writes.{IsMapStep}
 use Rattle.fc_refusals.specs.declared.target.Target.{Target}
 use Rattle.fc_refusals.specs.Targets.{IsRemovable, IsTarget}
 use Rattle.fc_volume.proofs.DeleteLemmas.{entries_left, form_left, owners_left}

@@ -15,7 +15,7 @@ use Rattle.fc_image.specs.Objects.{tree_of}
 use Rattle.fc_image.specs.Opening.{Opened}
 use Rattle.fc_image.specs.Sound.{AreSound}
 use Rattle.fc_image.specs.Walk.{Listing}
-use Rattle.fc_effects.specs.Short.{short}
+use Rattle.fc_image.specs.effects.Short.{short}
 use Rattle.fc_objects.specs.Extents.{sectors_in}
 use Rattle.fc_refusals.specs.declared.target.Slot.{Slot}
 use Rattle.fc_refusals.specs.Slots.{IsSlot}

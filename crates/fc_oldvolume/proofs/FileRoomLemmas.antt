@@ -17,8 +17,8 @@ use Rattle.fc_dirs.specs.Directory.{Directory}
 use Rattle.fc_image.specs.Layout.{Layout}
 use Rattle.fc_image.specs.Opening.{Opened}
 use Rattle.fc_image.specs.Walk.{Object}
-use Rattle.fc_effects.specs.Short.{Gain, gain_in, holes_without, is_full_with, new_length, old_need, replaced_object, short, space_reasons, with_space_of}
-use Rattle.fc_oldagree.specs.Spaces.{SpaceLaw}
+use Rattle.fc_image.specs.effects.Short.{Gain, gain_in, holes_without, is_full_with, new_length, old_need, replaced_object, short, space_reasons, with_space_of}
+use Rattle.fc_oldlaws.specs.agree.Spaces.{SpaceLaw}
 use Rattle.fc_oldchanges.specs.Owed.{holding}
 use Rattle.fc_volume.specs.declared.lines.CommandError.{CommandError}
 use Rattle.fc_volume.specs.declared.lines.CommandError.TheVariants.{Refused, NoMemory, DiskFault}

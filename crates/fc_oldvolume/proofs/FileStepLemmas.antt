@@ -6,7 +6,7 @@ use Rattle.fc_dirs.specs.Entries.{entry_place}
 use Rattle.fc_dirs.specs.Directory.{Directory, entries_of}
 use Rattle.fc_drafts.specs.Draft.{with_head, with_new}
 use Rattle.fc_drafts.specs.Rewriting.{HasEntered}
-use Rattle.fc_effects.specs.Short.{holes_without, old_need}
+use Rattle.fc_image.specs.effects.Short.{holes_without, old_need}
 use Rattle.fc_image.specs.Edits.{IsAt}
 use Rattle.fc_image.specs.Layout.{Layout, dir_form, sector_bytes}
 use Rattle.fc_image.specs.Walk.{Object, object_bytes, object_size}
@@ -17,8 +17,8 @@ use Rattle.fc_oldchanges.specs.Owed.{holding}
 use Rattle.fc_oldmap.specs.declared.Hole.{Hole}
 use Rattle.fc_oldmap.specs.Holes.{hole_limit}
 use Rattle.fc_oldmap.specs.OldMap.{FreeSpace, IsOldMap}
-use Rattle.fc_oldtakeover.specs.Steps.{holes_taken}
-use Rattle.fc_oldtakeover.specs.Writes.{IsMapStep, IsObjectStep, WrittenBytesLaw}
+use Rattle.fc_oldlaws.specs.takeover.Steps.{holes_taken}
+use Rattle.fc_oldlaws.specs.takeover.Writes.{IsMapStep, IsObjectStep, WrittenBytesLaw}
 use Rattle.fc_tree.specs.Agree.{HasForm}
 use Rattle.fc_oldvolume.specs.declared.filing.Filing.{Filing}
 use Rattle.fc_oldvolume.specs.Deleting.{map_after}

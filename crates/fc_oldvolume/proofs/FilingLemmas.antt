@@ -6,16 +6,16 @@ use Rattle.std.proofs.lemmas.List.Folds.{list_any-append}
 use Rattle.fc_bytes.specs.Words.{bytes_at}
 use Rattle.fc_device.specs.Sectors.{sector_at}
 use Rattle.fc_dirs.specs.declared.Entry.{Entry}
-use Rattle.fc_effects.specs.Short.{with_space_of}
+use Rattle.fc_image.specs.effects.Short.{with_space_of}
 use Rattle.fc_image.specs.Edits.{IsAt}
 use Rattle.fc_image.specs.Layout.{Layout, is_among, sector_bytes}
 use Rattle.fc_image.specs.Walk.{Object}
-use Rattle.fc_oldagree.specs.Spaces.{SpaceLaw}
+use Rattle.fc_oldlaws.specs.agree.Spaces.{SpaceLaw}
 use Rattle.fc_oldchanges.specs.Owed.{IsWritten, holding}
 use Rattle.fc_oldmap.specs.declared.Hole.{Hole}
 use Rattle.fc_oldmap.specs.Holes.{after_give, hole_limit}
 use Rattle.fc_oldmap.specs.OldMap.{FreeSpace, IsOldMap}
-use Rattle.fc_oldtakeover.specs.Writes.{IsMapStep}
+use Rattle.fc_oldlaws.specs.takeover.Writes.{IsMapStep}
 use Rattle.fc_oldvolume.specs.Deleting.{IsMapDone, map_after}
 use Rattle.fc_oldvolume.specs.Spaces.{GivesBack, IsEditOf, space_at, units_of}
 use Rattle.fc_oldvolume.specs.Taking.{HasTaken}

@@ -15,13 +15,13 @@ use Rattle.fc_image.specs.Objects.{listing_at, object_at, objects_of}
 use Rattle.fc_image.specs.Opening.{Opened}
 use Rattle.fc_image.specs.Sound.{AreSound}
 use Rattle.fc_image.specs.Walk.{Listing, Object}
-use Rattle.fc_effects.specs.Short.{short}
+use Rattle.fc_image.specs.effects.Short.{short}
 use Rattle.fc_alloc.specs.declared.owner.Owner.{Owner}
 use Rattle.fc_tree.specs.declared.node.Node.{Node}
 use Rattle.fc_tree.specs.Agree.{Agree}
 use Rattle.fc_tree.specs.Nodes.{HasNode, HoldObjects, body_of}
 use Rattle.fc_tree.proofs.WalkedLemmas.{child_is_object, contained, same_some}
-use Rattle.fc_oldagree.specs.Spaces.{CanGive, SpaceLaw}
+use Rattle.fc_oldlaws.specs.agree.Spaces.{CanGive, SpaceLaw}
 use Rattle.fc_refusals.specs.declared.target.Target.{Target}
 use Rattle.fc_refusals.specs.Targets.{IsRemovable, IsTarget}
 use Rattle.fc_oldvolume.specs.Deleting.{CanFree}

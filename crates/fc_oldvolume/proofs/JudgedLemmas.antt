@@ -16,8 +16,8 @@ use Rattle.fc_image.specs.Edits.{IsAt}
 use Rattle.fc_image.specs.Opening.{Opened}
 use Rattle.fc_image.specs.Objects.{has_sectors, object_at, tree_of}
 use Rattle.fc_image.specs.Walk.{Object}
-use Rattle.fc_effects.specs.Short.{holes_without, new_length, old_need, replaced_object, short, space_of, space_reasons, with_space_of}
-use Rattle.fc_oldagree.specs.Spaces.{SpaceLaw}
+use Rattle.fc_image.specs.effects.Short.{holes_without, new_length, old_need, replaced_object, short, space_of, space_reasons, with_space_of}
+use Rattle.fc_oldlaws.specs.agree.Spaces.{SpaceLaw}
 use Rattle.fc_oldchanges.proofs.GrowthLemmas.{none_needed}
 use Rattle.fc_volume.specs.Changing.{refusal_in}
 use Rattle.fc_oldvolume.specs.Spaces.{GivesBack, IsTooFull, space_at, units_of}

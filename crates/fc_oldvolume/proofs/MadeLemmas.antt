@@ -5,7 +5,7 @@ use Rattle.fc_image.specs.Layout.{Layout, sector_bytes}
 use Rattle.fc_objects.specs.Written.{IsPartWritten}
 use Rattle.fc_oldchanges.specs.Owed.{IsWritten}
 use Rattle.fc_oldmap.specs.OldMap.{FreeSpace}
-use Rattle.fc_oldtakeover.specs.Writes.{WrittenBytesLaw}
+use Rattle.fc_oldlaws.specs.takeover.Writes.{WrittenBytesLaw}
 use Rattle.fc_oldvolume.proofs.ChangeLemmas.{part_written}
 
 module _ (writes : WrittenBytesLaw) (layout : Layout) (space : FreeSpace) (at : layout ≡ Layout.Old space) (xs ys bytes was image : List ℕ) where

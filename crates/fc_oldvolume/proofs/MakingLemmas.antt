@@ -17,8 +17,8 @@ use Rattle.fc_model.specs.Answer.{first_of, when}
 use Rattle.fc_model.specs.Command.{Command}
 use Rattle.fc_dirs.specs.Directory.{Directory}
 use Rattle.fc_drafts.specs.Draft.{size_of}
-use Rattle.fc_effects.specs.Short.{Gain, gain_in, holes_without, is_full_with, new_dir_size, old_need, short, space_reasons}
-use Rattle.fc_effects.specs.Steady.{new_directory}
+use Rattle.fc_image.specs.effects.Short.{Gain, gain_in, holes_without, is_full_with, new_dir_size, old_need, short, space_reasons}
+use Rattle.fc_image.specs.effects.Steady.{new_directory}
 use Rattle.fc_image.specs.Layout.{Layout, dir_form}
 use Rattle.fc_image.specs.Opening.{Opened}
 use Rattle.fc_tree.specs.declared.node.Node.{Node}

@@ -16,7 +16,7 @@ use Rattle.fc_dirs.specs.Directory.{Directory, entries_of}
 use Rattle.fc_dirs.specs.Small.{IsSmall, SmallDir}
 use Rattle.fc_drafts.specs.Draft.{CanAddress, CanHold}
 use Rattle.fc_drafts.proofs.SizeLemmas.{small_full}
-use Rattle.fc_effects.specs.Short.{Gain, gain_by_new_name, gain_by_rename, gain_of, is_full_with}
+use Rattle.fc_image.specs.effects.Short.{Gain, gain_by_new_name, gain_by_rename, gain_of, is_full_with}
 use Rattle.fc_image.specs.Layout.{Layout, dir_form}
 use Rattle.fc_image.specs.Objects.{listing_at, object_at}
 use Rattle.fc_image.specs.Opening.{Opened}

@@ -18,7 +18,7 @@ use Rattle.fc_dirs.specs.Directory.{Directory, entries_of}
 use Rattle.fc_drafts.specs.Draft.{directory_in, size_of, with_head, with_new}
 use Rattle.fc_drafts.specs.Entries.{renamed_entry}
 use Rattle.fc_drafts.specs.Rewriting.{HasEntered, HasLeft, HasMoved}
-use Rattle.fc_effects.specs.Steady.{AreWritten, IsRewritten, has_grown, has_new_holder}
+use Rattle.fc_image.specs.effects.Steady.{AreWritten, IsRewritten, has_grown, has_new_holder}
 use Rattle.fc_image.proofs.CommandLemmas.{is_prefix_of}
 use Rattle.fc_image.proofs.PathsLemmas.{unless}
 use Rattle.fc_image.specs.Layout.{Layout, dir_form, is_apart, map_place, sector_bytes}
@@ -40,12 +40,12 @@ use Rattle.fc_tree.specs.Parts.{AreOwners, Parts}
 use Rattle.fc_tree.proofs.MemberLemmas.{contains_later, found_passes}
 use Rattle.fc_tree.proofs.SoundLemmas.{folds_alike}
 use Rattle.fc_tree.proofs.WalkedLemmas.{child_is_object, child_path, contained, listed_directory, same_some}
-use Rattle.fc_nodes.specs.Edits.{IsTransferred, Nodes, NodesFollow, OwnersEdited, OwnersFollow, as_moved, owner_with, owners_with, relisted, with_body, with_entry, with_holder, with_own_body}
-use Rattle.fc_nodes.specs.Owning.{OwningLaw}
+use Rattle.fc_laws.specs.nodes.Edits.{IsTransferred, Nodes, NodesFollow, OwnersEdited, OwnersFollow, as_moved, owner_with, owners_with, relisted, with_body, with_entry, with_holder, with_own_body}
+use Rattle.fc_laws.specs.nodes.Owning.{OwningLaw}
 use Rattle.fc_oldchanges.specs.Owed.{IsBefore, IsWritten}
-use Rattle.fc_oldtakeover.specs.Laws.{TakesOver}
-use Rattle.fc_oldtakeover.specs.Places.{MayBeWritten}
-use Rattle.fc_oldtakeover.specs.Steps.{IsDirectoryStep}
+use Rattle.fc_oldlaws.specs.takeover.Laws.{TakesOver}
+use Rattle.fc_oldlaws.specs.takeover.Places.{MayBeWritten}
+use Rattle.fc_oldlaws.specs.takeover.Steps.{IsDirectoryStep}
 use Rattle.fc_refusals.specs.declared.target.Renaming.{Renaming}
 use Rattle.fc_refusals.specs.declared.target.Target.{Target}
 use Rattle.fc_refusals.specs.Slots.{IsDestination, IsRenaming}

@@ -12,7 +12,7 @@ use Rattle.fc_model.specs.Tree.{last_name}
 use Rattle.fc_dirs.specs.declared.Entry.{Entry}
 use Rattle.fc_dirs.specs.Directory.{Directory}
 use Rattle.fc_drafts.specs.Draft.{CanAddress}
-use Rattle.fc_effects.specs.Short.{gain_of, new_length, replaced_object, short}
+use Rattle.fc_image.specs.effects.Short.{gain_of, new_length, replaced_object, short}
 use Rattle.fc_image.specs.Layout.{Layout, dir_form, disc_sectors}
 use Rattle.fc_image.specs.Objects.{object_at}
 use Rattle.fc_image.specs.Opening.{Opened}

@@ -17,7 +17,7 @@ use Rattle.fc_dirs.specs.Entries.{entry_place, has_name}
 use Rattle.fc_dirs.specs.Directory.{Directory, directory_size, entries_of}
 use Rattle.fc_drafts.specs.Draft.{directory_in}
 use Rattle.fc_drafts.specs.Rewriting.{HasEntered}
-use Rattle.fc_effects.specs.Short.{holes_without, old_need}
+use Rattle.fc_image.specs.effects.Short.{holes_without, old_need}
 use Rattle.fc_image.specs.Layout.{Layout, dir_form, id_of, low_of, sector_bytes, sectors_at}
 use Rattle.fc_image.specs.Edits.{IsAt}
 use Rattle.fc_image.specs.InPlace.{says_now}
@@ -33,14 +33,14 @@ use Rattle.fc_tree.specs.Agree.{Agree, HasForm}
 use Rattle.fc_tree.specs.Counts.{address_in}
 use Rattle.fc_tree.specs.Nodes.{HoldObjects, body_in}
 use Rattle.fc_tree.specs.Parts.{AreOwners, Parts}
-use Rattle.fc_nodes.specs.Edits.{IsAdded, Nodes, NodesFollow, OwnersEdited, OwnersFollow, owner_with, owners_with, with_body}
+use Rattle.fc_laws.specs.nodes.Edits.{IsAdded, Nodes, NodesFollow, OwnersEdited, OwnersFollow, owner_with, owners_with, with_body}
 use Rattle.fc_changes.specs.Changed.{MakesFile}
-use Rattle.fc_oldagree.specs.Laws.{AgreesNow}
+use Rattle.fc_oldlaws.specs.agree.Laws.{AgreesNow}
 use Rattle.fc_oldchanges.specs.Changed.{IsFileAt}
 use Rattle.fc_oldchanges.specs.Owed.{IsBefore, IsWritten, holding}
-use Rattle.fc_oldtakeover.specs.Laws.{TakesOver}
-use Rattle.fc_oldtakeover.specs.Steps.{IsFiledInSteps, holes_taken}
-use Rattle.fc_oldtakeover.specs.Writes.{IsMapStep}
+use Rattle.fc_oldlaws.specs.takeover.Laws.{TakesOver}
+use Rattle.fc_oldlaws.specs.takeover.Steps.{IsFiledInSteps, holes_taken}
+use Rattle.fc_oldlaws.specs.takeover.Writes.{IsMapStep}
 use Rattle.fc_refusals.specs.Targets.{IsVacant}
 use Rattle.fc_volume.specs.declared.changes.putting.FileWords.{FileWords}
 use Rattle.fc_volume.specs.Owners.{entry_owner, with_owner}

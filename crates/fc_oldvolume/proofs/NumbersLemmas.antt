@@ -10,21 +10,21 @@ use Rattle.fc_alloc.specs.declared.owner.Owner.{Owner}
 use Rattle.fc_alloc.specs.Owners.{HaveOwnNodes, has_node, with_changed}
 use Rattle.fc_tree.specs.declared.node.Node.{Node}
 use Rattle.fc_tree.specs.Counts.{address_in}
-use Rattle.fc_nodes.specs.Edits.{Nodes, with_edited}
-use Rattle.fc_nodes.proofs.ShapeLemmas.{edited_here, edited_length, edited_other}
+use Rattle.fc_laws.specs.nodes.Edits.{Nodes, with_edited}
+use Rattle.fc_laws.proofs.lemmas.nodes.ShapeLemmas.{edited_here, edited_length, edited_other}
 use Rattle.fc_oldmap.specs.OldMap.{FreeSpace, IsOldMap}
 use Rattle.fc_image.specs.Layout.{Layout, dir_form}
 use Rattle.fc_volume.specs.Owners.{entry_owner}
 use Rattle.std.proofs.lemmas.Option.{slice_get_read}
-use Rattle.fc_effects.specs.declared.Owned.{Owned}
-use Rattle.fc_oldmoves.specs.After.{Slide, form_of, move_of, start_after}
-use Rattle.fc_oldmoves.proofs.SayableLemmas.{moved_low, other_low}
-use Rattle.fc_oldmoves.proofs.StartLemmas.{rises}
+use Rattle.fc_image.specs.declared.effects.Owned.{Owned}
+use Rattle.fc_oldlaws.specs.moves.After.{Slide, form_of, move_of, start_after}
+use Rattle.fc_oldlaws.proofs.lemmas.moves.SayableLemmas.{moved_low, other_low}
+use Rattle.fc_oldlaws.proofs.lemmas.moves.StartLemmas.{rises}
 use Rattle.fc_squash.specs.Squashing.{AreBodies}
 use Rattle.fc_tree.proofs.WalkedLemmas.{place_of}
 use Rattle.fc_oldvolume.specs.declared.compacting.moves.Moves.{Moves}
-use Rattle.fc_oldmoves.specs.Nodes.{AreMoved, body_after, node_after, node_owner, remade}
-use Rattle.fc_oldmoves.specs.Writes.{IsDirAt, MarkChanges}
+use Rattle.fc_oldlaws.specs.moves.Nodes.{AreMoved, body_after, node_after, node_owner, remade}
+use Rattle.fc_oldlaws.specs.moves.Writes.{IsDirAt, MarkChanges}
 use Rattle.fc_oldvolume.specs.Compacting.{AreAddressed, AreLeft, AreReaddressed, AreSpares, IsLow, IsRemade, addressed, changes_at, entries_at, first_changed, is_changed, marks, readdressed_node, slide_of}
 use Rattle.fc_oldvolume.specs.declared.compacting.directories.Spare.{Spare}
 

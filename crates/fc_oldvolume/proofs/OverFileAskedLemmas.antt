@@ -9,7 +9,7 @@ use Rattle.fc_oldmap.specs.OldMap.{FreeSpace, IsOldMap}
 use Rattle.fc_model.specs.Command.{Command}
 use Rattle.fc_dirs.specs.Directory.{Directory}
 use Rattle.fc_drafts.specs.Draft.{CanAddress}
-use Rattle.fc_effects.specs.Short.{holes_without, new_length, old_need, replaced_object, short}
+use Rattle.fc_image.specs.effects.Short.{holes_without, new_length, old_need, replaced_object, short}
 use Rattle.fc_image.specs.Layout.{Layout, disc_sectors, dir_form}
 use Rattle.fc_image.specs.Objects.{object_at}
 use Rattle.fc_image.specs.Opening.{Opened}
@@ -17,7 +17,7 @@ use Rattle.fc_image.specs.Sound.{AreSound}
 use Rattle.fc_image.specs.Walk.{Object, object_size}
 use Rattle.fc_changes.specs.Changed.{MakesFile}
 use Rattle.fc_objects.specs.Extents.{sectors_in}
-use Rattle.fc_oldagree.specs.Spaces.{CanGive}
+use Rattle.fc_oldlaws.specs.agree.Spaces.{CanGive}
 use Rattle.fc_space.specs.Space.{PlacesSuffice, layout_of}
 use Rattle.fc_tree.specs.declared.node.Node.{Node}
 use Rattle.fc_tree.specs.Agree.{Agree}

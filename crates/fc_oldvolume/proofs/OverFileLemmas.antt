@@ -16,7 +16,7 @@ use Rattle.fc_dirs.specs.Directory.{Directory, entries_of}
 use Rattle.fc_drafts.specs.Draft.{directory_in, size_of}
 use Rattle.fc_drafts.specs.Entries.{saved_entry}
 use Rattle.fc_drafts.specs.Rewriting.{HasReplaced}
-use Rattle.fc_effects.specs.Short.{holes_without, old_need, with_space_of}
+use Rattle.fc_image.specs.effects.Short.{holes_without, old_need, with_space_of}
 use Rattle.fc_image.specs.Layout.{Layout, dir_form, id_of, low_of, sector_bytes, sectors_at}
 use Rattle.fc_image.specs.Edits.{IsAt}
 use Rattle.fc_image.specs.InPlace.{says_now}
@@ -34,14 +34,14 @@ use Rattle.fc_tree.specs.Counts.{address_in}
 use Rattle.fc_tree.specs.Nodes.{HasNode, HoldObjects, body_in, body_of}
 use Rattle.fc_tree.specs.Parts.{AreOwners, Parts}
 use Rattle.fc_tree.proofs.WalkedLemmas.{child_is_object, contained, same_some}
-use Rattle.fc_nodes.specs.Edits.{IsReplaced, Nodes, NodesFollow, OwnersFollow, owner_with, with_body, with_entry}
-use Rattle.fc_agree.proofs.AddedLemmas.{file_size}
+use Rattle.fc_laws.specs.nodes.Edits.{IsReplaced, Nodes, NodesFollow, OwnersFollow, owner_with, with_body, with_entry}
+use Rattle.fc_laws.proofs.lemmas.agree.AddedLemmas.{file_size}
 use Rattle.fc_changes.specs.Changed.{MakesFile}
-use Rattle.fc_oldagree.specs.Laws.{AgreesNow}
+use Rattle.fc_oldlaws.specs.agree.Laws.{AgreesNow}
 use Rattle.fc_oldchanges.specs.Changed.{IsFileAt}
 use Rattle.fc_oldchanges.specs.Owed.{IsBefore, IsWritten, holding}
-use Rattle.fc_oldtakeover.specs.Laws.{TakesOver}
-use Rattle.fc_oldtakeover.specs.Steps.{IsFiledInSteps}
+use Rattle.fc_oldlaws.specs.takeover.Laws.{TakesOver}
+use Rattle.fc_oldlaws.specs.takeover.Steps.{IsFiledInSteps}
 use Rattle.fc_refusals.specs.declared.target.Target.{Target}
 use Rattle.fc_refusals.specs.Slots.{IsFile}
 use Rattle.fc_refusals.specs.Targets.{IsTarget}

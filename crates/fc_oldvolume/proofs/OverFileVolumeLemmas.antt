@@ -14,10 +14,10 @@ use Rattle.fc_image.specs.Opening.{Opened}
 use Rattle.fc_image.specs.Objects.{objects_of}
 use Rattle.fc_image.specs.Stays.{OpensAs}
 use Rattle.fc_changes.specs.Changed.{MakesFile}
-use Rattle.fc_nodes.specs.Edits.{Nodes, with_body, with_entry}
+use Rattle.fc_laws.specs.nodes.Edits.{Nodes, with_body, with_entry}
 use Rattle.fc_objects.specs.Extents.{sectors_in}
 use Rattle.fc_oldchanges.specs.Owed.{IsWritten, holding}
-use Rattle.fc_oldtakeover.specs.Laws.{TakesOver}
+use Rattle.fc_oldlaws.specs.takeover.Laws.{TakesOver}
 use Rattle.fc_refusals.specs.declared.target.Target.{Target}
 use Rattle.fc_space.specs.Space.{layout_of}
 use Rattle.fc_tree.specs.Agree.{Agree}

@@ -8,7 +8,7 @@ use Rattle.fc_dirs.specs.declared.Entry.{Entry}
 use Rattle.fc_dirs.specs.declared.SmallForm.{SmallForm}
 use Rattle.fc_dirs.specs.Small.{FitsSmall, IsSmall, SmallDir}
 use Rattle.fc_image.specs.Walk.{object_size}
-use Rattle.fc_oldmoves.specs.After.{address_after}
+use Rattle.fc_oldlaws.specs.moves.After.{address_after}
 use Rattle.fc_oldvolume.specs.Compacting.{IsLow, IsReaddressing}
 use Rattle.fc_oldvolume.specs.declared.compacting.directories.Spare.{Spare}
 

@@ -8,7 +8,7 @@ use Rattle.fc_image.specs.Layout.{Layout, sector_bytes}
 use Rattle.fc_objects.specs.Extents.{sectors_in}
 use Rattle.fc_objects.specs.Written.{IsPartWritten}
 use Rattle.fc_oldmap.specs.OldMap.{FreeSpace}
-use Rattle.fc_oldtakeover.specs.Writes.{WrittenBytesLaw}
+use Rattle.fc_oldlaws.specs.takeover.Writes.{WrittenBytesLaw}
 use Rattle.fc_volume.specs.declared.changes.relocate.Relocation.{Relocation}
 use Rattle.fc_volume.specs.Relocating.{more_sectors, sectors_of_relocation}
 use Rattle.fc_volume.proofs.RelocatingLemmas.{apart_from}

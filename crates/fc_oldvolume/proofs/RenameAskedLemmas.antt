@@ -19,7 +19,7 @@ use Rattle.fc_dirs.specs.Entries.{has_name, without_entry}
 use Rattle.fc_dirs.specs.Small.{IsSmall, SmallDir}
 use Rattle.fc_drafts.specs.Draft.{CanAddress, CanName}
 use Rattle.fc_drafts.proofs.SizeLemmas.{small_renamed_fits}
-use Rattle.fc_effects.specs.Short.{Gain, gain_at, gain_by_new_name, gain_by_rename, is_full_with}
+use Rattle.fc_image.specs.effects.Short.{Gain, gain_at, gain_by_new_name, gain_by_rename, is_full_with}
 use Rattle.fc_image.specs.Layout.{Layout, dir_form, disc_sectors, sectors_at}
 use Rattle.fc_image.specs.Objects.{listing_at, object_at, objects_of, tree_of}
 use Rattle.fc_image.specs.Opening.{Opened}

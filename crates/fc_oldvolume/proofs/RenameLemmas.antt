@@ -16,7 +16,7 @@ use Rattle.fc_dirs.specs.Directory.{Directory, entries_of}
 use Rattle.fc_drafts.specs.Draft.{directory_in}
 use Rattle.fc_drafts.specs.Entries.{renamed_entry}
 use Rattle.fc_drafts.specs.Rewriting.{HasMoved, HasRenamed}
-use Rattle.fc_effects.specs.Steady.{AreWritten, IsRewritten, has_grown, has_new_holder}
+use Rattle.fc_image.specs.effects.Steady.{AreWritten, IsRewritten, has_grown, has_new_holder}
 use Rattle.fc_image.specs.Layout.{Layout, dir_form, is_apart, map_place, sector_bytes}
 use Rattle.fc_image.specs.Edits.{IsAt}
 use Rattle.fc_image.specs.EditedWalk.{moved_object}
@@ -35,10 +35,10 @@ use Rattle.fc_tree.specs.Nodes.{HoldObjects, body_in}
 use Rattle.fc_tree.specs.Parts.{AreOwners, Parts}
 use Rattle.fc_tree.proofs.MemberLemmas.{contains_later}
 use Rattle.fc_tree.proofs.WalkedLemmas.{child_is_object, child_path, contained, holder-push, listed_directory, listing_found, same_some}
-use Rattle.fc_nodes.specs.Edits.{IsRenamed, Nodes, NodesFollow, OwnersFollow, as_moved, relisted, with_body, with_entry, with_own_body}
+use Rattle.fc_laws.specs.nodes.Edits.{IsRenamed, Nodes, NodesFollow, OwnersFollow, as_moved, relisted, with_body, with_entry, with_own_body}
 use Rattle.fc_oldchanges.specs.Owed.{IsBefore, IsWritten}
-use Rattle.fc_oldtakeover.specs.Laws.{TakesOver}
-use Rattle.fc_oldtakeover.specs.Places.{MayBeWritten}
+use Rattle.fc_oldlaws.specs.takeover.Laws.{TakesOver}
+use Rattle.fc_oldlaws.specs.takeover.Places.{MayBeWritten}
 use Rattle.fc_refusals.specs.declared.target.Renaming.{Renaming}
 use Rattle.fc_refusals.specs.declared.target.Target.{Target}
 use Rattle.fc_refusals.specs.Slots.{IsRenaming}

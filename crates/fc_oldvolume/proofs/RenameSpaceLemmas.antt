@@ -12,7 +12,7 @@ use Rattle.fc_image.specs.Layout.{Layout}
 use Rattle.fc_image.specs.Objects.{object_at, objects_of}
 use Rattle.fc_image.specs.Opening.{Opened}
 use Rattle.fc_image.specs.Walk.{Object, is_directory_object}
-use Rattle.fc_effects.specs.Short.{Gain, gain_in, is_copied, is_full_with, is_sharing, new_length, short, space_reasons}
+use Rattle.fc_image.specs.effects.Short.{Gain, gain_in, is_copied, is_full_with, is_sharing, new_length, short, space_reasons}
 use Rattle.fc_oldvolume.proofs.JudgedLemmas.{few_enough, no_space}
 
 -- no object of an old map shares its space

@@ -12,7 +12,7 @@ use Rattle.fc_image.specs.Layout.{Layout, sector_bytes}
 use Rattle.fc_image.specs.Objects.{objects_of}
 use Rattle.fc_image.specs.Opening.{Opened}
 use Rattle.fc_image.specs.Stays.{OpensAs}
-use Rattle.fc_oldtakeover.specs.Laws.{TakesOver}
+use Rattle.fc_oldlaws.specs.takeover.Laws.{TakesOver}
 use Rattle.fc_space.specs.Space.{layout_of}
 use Rattle.fc_tree.specs.Agree.{Agree}
 use Rattle.fc_tree.specs.Nodes.{nodes_of}

@@ -7,7 +7,7 @@ use Rattle.fc_oldmap.specs.OldMap.{FreeSpace, IsOldMap}
 use Rattle.fc_model.specs.Command.{Command}
 use Rattle.fc_dirs.specs.declared.Entry.{Entry}
 use Rattle.fc_dirs.specs.Directory.{Directory}
-use Rattle.fc_effects.specs.Steady.{AreWritten, IsRewritten}
+use Rattle.fc_image.specs.effects.Steady.{AreWritten, IsRewritten}
 use Rattle.fc_image.specs.Layout.{Layout, dir_form, is_apart, map_place, sector_bytes, sectors_at}
 use Rattle.fc_image.specs.Edits.{IsAt}
 use Rattle.fc_image.specs.Opening.{Opened}
@@ -20,8 +20,8 @@ use Rattle.fc_tree.specs.declared.node.Node.{Node}
 use Rattle.fc_tree.specs.Counts.{address_in}
 use Rattle.fc_tree.specs.Nodes.{HoldObjects, body_in, number_of}
 use Rattle.fc_tree.proofs.WalkedLemmas.{same_some}
-use Rattle.fc_oldtakeover.specs.Steps.{IsDirectoryStep}
-use Rattle.fc_oldtakeover.specs.Writes.{WrittenBytesLaw}
+use Rattle.fc_oldlaws.specs.takeover.Steps.{IsDirectoryStep}
+use Rattle.fc_oldlaws.specs.takeover.Writes.{WrittenBytesLaw}
 use Rattle.fc_volume.proofs.SettingLemmas.{one_content}
 use Rattle.fc_volume.proofs.TargetLemmas as target_of
 use Rattle.fc_oldvolume.specs.Setting.{AreStored}

@@ -24,8 +24,8 @@ use Rattle.fc_tree.specs.declared.node.Body.{Body}
 use Rattle.fc_tree.specs.declared.node.Body.TheVariants as bodies
 use Rattle.fc_tree.specs.declared.node.Node.{Node}
 use Rattle.fc_tree.proofs.WalkedLemmas.{same_some}
-use Rattle.fc_nodes.specs.Edits.{Nodes}
-use Rattle.fc_oldmoves.specs.Writes.{AreDirectoriesPlaced, AreDirectoriesWritten, IsDirAt, count_of, row_of}
+use Rattle.fc_laws.specs.nodes.Edits.{Nodes}
+use Rattle.fc_oldlaws.specs.moves.Writes.{AreDirectoriesPlaced, AreDirectoriesWritten, IsDirAt, count_of, row_of}
 use Rattle.fc_volume.proofs.PieceLemmas.{all_low}
 use Rattle.fc_oldvolume.specs.Compacting.{IsDirWritten, IsNumberWritten}
 

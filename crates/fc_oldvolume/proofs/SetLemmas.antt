@@ -11,7 +11,7 @@ use Rattle.fc_dirs.specs.Directory.{Directory, entries_of}
 use Rattle.fc_drafts.specs.Draft.{directory_in, size_of}
 use Rattle.fc_drafts.specs.Entries.{set_entry}
 use Rattle.fc_drafts.specs.Rewriting.{HasReplaced}
-use Rattle.fc_effects.specs.Steady.{has_grown, has_new_holder}
+use Rattle.fc_image.specs.effects.Steady.{has_grown, has_new_holder}
 use Rattle.fc_image.specs.Layout.{Layout, dir_form, sector_bytes}
 use Rattle.fc_image.specs.Commanded.{set_object}
 use Rattle.fc_image.specs.Edits.{IsAt}
@@ -29,9 +29,9 @@ use Rattle.fc_tree.specs.Counts.{address_in}
 use Rattle.fc_tree.specs.Nodes.{HoldObjects, body_in}
 use Rattle.fc_tree.specs.Parts.{AreOwners, Parts}
 use Rattle.fc_tree.proofs.WalkedLemmas.{same_some}
-use Rattle.fc_nodes.specs.Edits.{IsReworded, Nodes, NodesFollow, OwnersFollow, as_before, relisted, with_body, with_entry}
+use Rattle.fc_laws.specs.nodes.Edits.{IsReworded, Nodes, NodesFollow, OwnersFollow, as_before, relisted, with_body, with_entry}
 use Rattle.fc_oldchanges.specs.Owed.{IsBefore, IsWritten}
-use Rattle.fc_oldtakeover.specs.Laws.{TakesOver}
+use Rattle.fc_oldlaws.specs.takeover.Laws.{TakesOver}
 use Rattle.fc_refusals.specs.declared.target.Target.{Target}
 use Rattle.fc_refusals.specs.Targets.{IsTarget}
 use Rattle.fc_volume.specs.declared.changes.reword.Rewording.{Rewording}

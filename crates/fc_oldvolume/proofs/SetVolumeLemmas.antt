@@ -18,7 +18,7 @@ use Rattle.fc_image.specs.Walk.{Listing, object_size}
 use Rattle.fc_objects.specs.Extents.{sectors_in}
 use Rattle.fc_objects.specs.Written.{IsPartWritten}
 use Rattle.fc_oldchanges.specs.Owed.{IsWritten}
-use Rattle.fc_oldtakeover.specs.Laws.{TakesOver}
+use Rattle.fc_oldlaws.specs.takeover.Laws.{TakesOver}
 use Rattle.fc_refusals.specs.declared.target.Target.{Target}
 use Rattle.fc_refusals.specs.Targets.{IsTarget}
 use Rattle.fc_space.specs.Space.{PlacesSuffice, layout_of}

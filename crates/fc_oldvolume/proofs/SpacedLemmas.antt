@@ -9,9 +9,9 @@ use Rattle.fc_alloc.specs.declared.owner.Owner.{Owner}
 use Rattle.fc_image.specs.Layout.{Layout, disc_sectors, sector_bytes}
 use Rattle.fc_image.specs.Opening.{Opened}
 use Rattle.fc_image.specs.Stays.{HasEqualCopies, OpensAs}
-use Rattle.fc_nodes.specs.Edits.{Nodes}
+use Rattle.fc_laws.specs.nodes.Edits.{Nodes}
 use Rattle.fc_oldchanges.specs.Owed.{IsWritten, holding}
-use Rattle.fc_oldtakeover.specs.Laws.{TakesOver}
+use Rattle.fc_oldlaws.specs.takeover.Laws.{TakesOver}
 use Rattle.fc_space.specs.Space.{layout_of}
 use Rattle.fc_tree.specs.Agree.{Agree}
 use Rattle.fc_tree.specs.Nodes.{nodes_of}

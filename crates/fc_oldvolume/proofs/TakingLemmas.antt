@@ -20,16 +20,16 @@ use Rattle.fc_model.specs.Answer.{first_of, when}
 use Rattle.fc_image.specs.Layout.{Layout, hole_sectors, is_among, is_apart, map_place, sector_bytes, sectors_at}
 use Rattle.fc_image.proofs.FreeLemmas.{range_bounds}
 use Rattle.fc_image.proofs.HolesLemmas.{apart_from}
-use Rattle.fc_effects.specs.Short.{holes_without, old_need}
+use Rattle.fc_image.specs.effects.Short.{holes_without, old_need}
 use Rattle.fc_objects.specs.Extents.{sectors_in}
 use Rattle.fc_tree.proofs.WalkedLemmas.{same_some}
-use Rattle.fc_oldagree.specs.Spaces.{SpaceLaw}
+use Rattle.fc_oldlaws.specs.agree.Spaces.{SpaceLaw}
 use Rattle.fc_oldchanges.specs.Owed.{holding}
 use Rattle.fc_oldchanges.proofs.GrowthLemmas.{none_needed}
 use Rattle.fc_oldchanges.proofs.HoleLemmas.{above_floor, units_in}
 use Rattle.fc_oldchanges.proofs.MadeLemmas.{need_some}
 use Rattle.fc_oldchanges.proofs.SpaceLemmas.{none_over}
-use Rattle.fc_oldtakeover.specs.Writes.{IsMapStep}
+use Rattle.fc_oldlaws.specs.takeover.Writes.{IsMapStep}
 use Rattle.fc_oldvolume.specs.declared.taking.Taken.{Taken}
 use Rattle.fc_oldvolume.specs.Deleting.{IsMapDone, map_after}
 use Rattle.fc_oldvolume.specs.Spaces.{IsEditOf, LieBehind}

@@ -4,14 +4,14 @@ use Rattle.std.specs.Prelude.{if◌then◌else◌}
 use Rattle.fc_device.specs.Sectors.{sector_at}
 use Rattle.fc_dirs.specs.Directory.{Directory}
 use Rattle.fc_drafts.specs.Draft.{directory_in}
-use Rattle.fc_effects.specs.Steady.{AreWritten}
+use Rattle.fc_image.specs.effects.Steady.{AreWritten}
 use Rattle.fc_image.specs.Edits.{IsAt}
 use Rattle.fc_image.specs.Layout.{Layout, dir_form, is_apart, map_place, sector_bytes}
 use Rattle.fc_image.specs.Walk.{Listing, Object, is_directory_object, object_bytes, object_size}
 use Rattle.fc_objects.specs.Bytes.{first_bytes}
 use Rattle.fc_objects.specs.Written.{AreApart, IsPartWritten}
 use Rattle.fc_oldmap.specs.OldMap.{FreeSpace, IsOldMap}
-use Rattle.fc_oldtakeover.specs.Writes.{IsObjectStep, WrittenBytesLaw}
+use Rattle.fc_oldlaws.specs.takeover.Writes.{IsObjectStep, WrittenBytesLaw}
 use Rattle.fc_volume.specs.declared.changes.rewrite.Rewrite.{Rewrite}
 use Rattle.fc_volume.specs.Relocating.{more_sectors}
 use Rattle.fc_volume.proofs.RenameLemmas.{IsLongOwn}

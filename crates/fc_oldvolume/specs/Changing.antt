@@ -14,7 +14,7 @@ use Rattle.fc_image.specs.Opening.{Opened}
 use Rattle.fc_image.specs.Stays.{OpensAs}
 use Rattle.fc_tree.specs.Parts.{ArePartsOf, Parts}
 use Rattle.fc_oldchanges.specs.Owed.{IsWritten}
-use Rattle.fc_oldtakeover.specs.Places.{AreSpared, MayBeWritten}
+use Rattle.fc_oldlaws.specs.takeover.Places.{AreSpared, MayBeWritten}
 use Rattle.fc_volume.specs.declared.lines.CommandError.{CommandError}
 use Rattle.fc_volume.specs.declared.lines.CommandError.TheVariants.{DiskFault}
 use Rattle.fc_volume.specs.Compacting.{UnlessFault}

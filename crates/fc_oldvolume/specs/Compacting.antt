@@ -13,16 +13,16 @@ use Rattle.fc_device.specs.Sectors.{sector_at}
 use Rattle.fc_image.specs.Layout.{Layout, bytes_in, dir_form, is_among, sector_bytes}
 use Rattle.fc_image.specs.Walk.{object_size}
 use Rattle.std.specs.List.{range_with_len}
-use Rattle.fc_effects.specs.Settled.{has_same_places}
+use Rattle.fc_image.specs.effects.Settled.{has_same_places}
 use Rattle.fc_tree.specs.declared.node.Body.{Body}
 use Rattle.fc_tree.specs.declared.node.Body.TheVariants as bodies
 use Rattle.fc_tree.specs.declared.node.Node.{Node}
 use Rattle.fc_tree.specs.Counts.{address_in}
-use Rattle.fc_oldmoves.specs.After.{Slide, entry_after, readdressed}
+use Rattle.fc_oldlaws.specs.moves.After.{Slide, entry_after, readdressed}
 use Rattle.fc_oldmap.specs.OldMap.{FreeSpace}
 use Rattle.fc_alloc.specs.declared.owner.Owner.{Owner}
-use Rattle.fc_oldmoves.specs.Laws.{AgreedLaw, BehindLaw, DirectoriesLaw, ReadyLaw, RewrittenLaw, SlidingLaw, TakenOverLaw}
-use Rattle.fc_oldmoves.specs.Nodes.{AreMoved, AreRemade, body_after, remade, sliding_below}
+use Rattle.fc_oldlaws.specs.moves.Laws.{AgreedLaw, BehindLaw, DirectoriesLaw, ReadyLaw, RewrittenLaw, SlidingLaw, TakenOverLaw}
+use Rattle.fc_oldlaws.specs.moves.Nodes.{AreMoved, AreRemade, body_after, remade, sliding_below}
 use Rattle.std.specs.List.Sorted.{IsNonDecreasingBy}
 use Rattle.fc_space.specs.Space.{layout_of}
 use Rattle.fc_tree.specs.Nodes.{nodes_of}
@@ -31,9 +31,9 @@ use Rattle.fc_volume.specs.declared.copies.Copies.TheVariants.{Equal}
 use Rattle.fc_oldvolume.specs.declared.compacting.Ready.{Ready}
 use Rattle.fc_oldvolume.specs.declared.compacting.moves.Moves.{Moves}
 use Rattle.fc_oldvolume.specs.Writing.{IsMapWritten}
-use Rattle.fc_oldmoves.specs.Writes.{AreDirectoriesWritten, IsDirAt, MarkChanges, row_of}
-use Rattle.fc_effects.specs.declared.Owned.{Owned}
-use Rattle.fc_effects.specs.Moves.{Squashed, SquashedBytes}
+use Rattle.fc_oldlaws.specs.moves.Writes.{AreDirectoriesWritten, IsDirAt, MarkChanges, row_of}
+use Rattle.fc_image.specs.declared.effects.Owned.{Owned}
+use Rattle.fc_image.specs.effects.Moves.{Squashed, SquashedBytes}
 use Rattle.fc_squash.specs.Squashing.{KeepsBodies}
 use Rattle.fc_oldvolume.specs.declared.compacting.directories.Spare.{Spare}
 

@@ -8,10 +8,10 @@ use Rattle.fc_dirs.specs.Directory.{Directory}
 use Rattle.fc_drafts.specs.Draft.{directory_in}
 use Rattle.fc_drafts.specs.Rewriting.{HasLeft}
 use Rattle.fc_image.specs.Layout.{Layout, sector_bytes}
-use Rattle.fc_nodes.specs.Edits.{with_body}
+use Rattle.fc_laws.specs.nodes.Edits.{with_body}
 use Rattle.fc_objects.specs.Extents.{sectors_in}
 use Rattle.fc_oldmap.specs.OldMap.{FreeSpace}
-use Rattle.fc_oldagree.specs.Spaces.{CanGive}
+use Rattle.fc_oldlaws.specs.agree.Spaces.{CanGive}
 use Rattle.fc_names.specs.declared.refusal.Refusal.{Refusal}
 use Rattle.fc_refusals.specs.declared.target.Target.{Target}
 use Rattle.fc_tree.specs.declared.node.Node.{Node}

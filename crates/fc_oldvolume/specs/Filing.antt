@@ -7,11 +7,11 @@ use Rattle.fc_drafts.specs.Draft.{directory_in}
 use Rattle.fc_drafts.specs.Entries.{file_entry}
 use Rattle.fc_drafts.specs.Gains.{GetsName}
 use Rattle.fc_drafts.specs.Rewriting.{HasEntered}
-use Rattle.fc_effects.specs.Short.{Gain, gain_in, new_length, replaced_object}
+use Rattle.fc_image.specs.effects.Short.{Gain, gain_in, new_length, replaced_object}
 use Rattle.fc_image.specs.Layout.{Layout, sector_bytes}
 use Rattle.fc_image.specs.Opening.{Opened}
 use Rattle.fc_model.specs.Command.{Command}
-use Rattle.fc_nodes.specs.Edits.{with_body}
+use Rattle.fc_laws.specs.nodes.Edits.{with_body}
 use Rattle.fc_objects.specs.Extents.{sectors_in}
 use Rattle.fc_oldmap.specs.OldMap.{FreeSpace}
 use Rattle.fc_tree.specs.declared.node.Node.{Node}

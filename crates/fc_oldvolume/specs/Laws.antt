@@ -1,14 +1,14 @@
 -- The laws from which the commands have their clauses, in one record.
 use Rattle.fc_image.specs.Rewords.{RewordLaw}
 use Rattle.fc_tree.specs.Laws.{EntriesLaw, SoundLaw}
-use Rattle.fc_nodes.specs.Laws.{OwnerLaw, RemovedLaw, RewordedLaw}
-use Rattle.fc_agree.specs.Cuts.{CutLaw}
-use Rattle.fc_agree.specs.Laws.{AgreedLaw}
-use Rattle.fc_oldagree.specs.Laws.{RemovedLaw as RemovedAgree, RewordedLaw as RewordedAgree}
-use Rattle.fc_oldagree.specs.Spaces.{SpaceLaw}
-use Rattle.fc_oldtakeover.specs.Places.{ObjectsLaw, PlacesLaw}
-use Rattle.fc_oldtakeover.specs.Steps.{StepsLaw}
-use Rattle.fc_oldtakeover.specs.Writes.{WrittenBytesLaw}
+use Rattle.fc_laws.specs.nodes.Laws.{OwnerLaw, RemovedLaw, RewordedLaw}
+use Rattle.fc_laws.specs.agree.Cuts.{CutLaw}
+use Rattle.fc_laws.specs.agree.Laws.{AgreedLaw}
+use Rattle.fc_oldlaws.specs.agree.Laws.{RemovedLaw as RemovedAgree, RewordedLaw as RewordedAgree}
+use Rattle.fc_oldlaws.specs.agree.Spaces.{SpaceLaw}
+use Rattle.fc_oldlaws.specs.takeover.Places.{ObjectsLaw, PlacesLaw}
+use Rattle.fc_oldlaws.specs.takeover.Steps.{StepsLaw}
+use Rattle.fc_oldlaws.specs.takeover.Writes.{WrittenBytesLaw}
 
 pub record OldLaws : Type 0 where
   pub rewords : RewordLaw

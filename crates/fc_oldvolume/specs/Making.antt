@@ -8,11 +8,11 @@ use Rattle.fc_dirs.specs.Entries.{has_name}
 use Rattle.fc_drafts.specs.Draft.{CanAddress, CanBeCalled, CanName, IsSayable, directory_in, size_of}
 use Rattle.fc_drafts.specs.Entries.{directory_entry}
 use Rattle.fc_drafts.specs.Rewriting.{HasEntered}
-use Rattle.fc_effects.specs.Short.{new_dir_size}
-use Rattle.fc_effects.specs.Steady.{AreWritten, new_directory}
+use Rattle.fc_image.specs.effects.Short.{new_dir_size}
+use Rattle.fc_image.specs.effects.Steady.{AreWritten, new_directory}
 use Rattle.fc_image.specs.Layout.{Layout, dir_form, sector_bytes, sectors_at}
 use Rattle.fc_image.specs.Walk.{object_size}
-use Rattle.fc_nodes.specs.Edits.{with_body}
+use Rattle.fc_laws.specs.nodes.Edits.{with_body}
 use Rattle.fc_objects.specs.Extents.{sectors_in}
 use Rattle.fc_tree.specs.declared.node.Node.{Node}
 use Rattle.fc_tree.specs.Counts.{address_in}

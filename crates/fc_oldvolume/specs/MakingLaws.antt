@@ -1,14 +1,14 @@
 -- The laws from which `cdir` has its clauses, in one record.
 use Rattle.fc_tree.specs.Laws.{SoundLaw}
-use Rattle.fc_nodes.specs.Laws.{DirectoryAddedLaw}
-use Rattle.fc_agree.specs.Cuts.{CutLaw}
-use Rattle.fc_agree.specs.Laws.{AgreedLaw}
-use Rattle.fc_agree.specs.Sayable.{SayLaw}
-use Rattle.fc_oldagree.specs.Laws.{DirectoryAddedLaw as DirectoryAddedAgree}
-use Rattle.fc_oldagree.specs.Spaces.{SpaceLaw}
-use Rattle.fc_oldtakeover.specs.Places.{ObjectsLaw, PlacesLaw}
-use Rattle.fc_oldtakeover.specs.Steps.{StepsLaw}
-use Rattle.fc_oldtakeover.specs.Writes.{WrittenBytesLaw}
+use Rattle.fc_laws.specs.nodes.Laws.{DirectoryAddedLaw}
+use Rattle.fc_laws.specs.agree.Cuts.{CutLaw}
+use Rattle.fc_laws.specs.agree.Laws.{AgreedLaw}
+use Rattle.fc_laws.specs.agree.Sayable.{SayLaw}
+use Rattle.fc_oldlaws.specs.agree.Laws.{DirectoryAddedLaw as DirectoryAddedAgree}
+use Rattle.fc_oldlaws.specs.agree.Spaces.{SpaceLaw}
+use Rattle.fc_oldlaws.specs.takeover.Places.{ObjectsLaw, PlacesLaw}
+use Rattle.fc_oldlaws.specs.takeover.Steps.{StepsLaw}
+use Rattle.fc_oldlaws.specs.takeover.Writes.{WrittenBytesLaw}
 
 pub record MakingLaws : Type 0 where
   pub opened : SoundLaw

@@ -1,7 +1,7 @@
 -- The laws from which `rename` has its clauses, in one record.
-use Rattle.fc_nodes.specs.Laws.{RenamedLaw, TransferredLaw}
-use Rattle.fc_nodes.specs.Owning.{OwningLaw}
-use Rattle.fc_oldagree.specs.Laws.{RenamedLaw as RenamedAgree, TransferredLaw as TransferredAgree}
+use Rattle.fc_laws.specs.nodes.Laws.{RenamedLaw, TransferredLaw}
+use Rattle.fc_laws.specs.nodes.Owning.{OwningLaw}
+use Rattle.fc_oldlaws.specs.agree.Laws.{RenamedLaw as RenamedAgree, TransferredLaw as TransferredAgree}
 use Rattle.fc_oldvolume.specs.Laws.{OldLaws}
 
 pub record RenameLaws : Type 0 where

@@ -5,14 +5,14 @@ use Rattle.std.specs.FinMap.{FinMap, get}
 use Rattle.fc_alloc.specs.declared.owner.Owner.{Owner}
 use Rattle.fc_dirs.specs.declared.Entry.{Entry}
 use Rattle.fc_drafts.specs.Draft.{directory_in}
-use Rattle.fc_effects.specs.Short.{gain_in, holes_without, new_length, old_need, replaced_object}
+use Rattle.fc_image.specs.effects.Short.{gain_in, holes_without, new_length, old_need, replaced_object}
 use Rattle.fc_image.specs.Edits.{IsAt}
 use Rattle.fc_image.specs.Layout.{Layout}
 use Rattle.fc_image.specs.Opening.{Opened}
 use Rattle.fc_image.specs.Walk.{Object}
 use Rattle.fc_model.specs.Command.{Command}
-use Rattle.fc_nodes.specs.Edits.{with_body, with_entry}
-use Rattle.fc_oldagree.specs.Spaces.{CanGive}
+use Rattle.fc_laws.specs.nodes.Edits.{with_body, with_entry}
+use Rattle.fc_oldlaws.specs.agree.Spaces.{CanGive}
 use Rattle.fc_oldmap.specs.OldMap.{FreeSpace}
 use Rattle.fc_refusals.specs.declared.target.Target.{Target}
 use Rattle.fc_tree.specs.declared.node.Node.{Node}

@@ -6,7 +6,7 @@ use Rattle.fc_oldmap.specs.Holes.{AreHoles, after_give, hole, hole_limit}
 use Rattle.fc_oldmap.specs.OldMap.{FreeSpace, map_units}
 use Rattle.fc_image.specs.Layout.{Layout, dir_form}
 use Rattle.fc_image.specs.Walk.{object_size}
-use Rattle.fc_effects.specs.Short.{old_need}
+use Rattle.fc_image.specs.effects.Short.{old_need}
 use Rattle.fc_oldchanges.specs.Owed.{holding}
 use Rattle.fc_oldmap.specs.declared.Hole.{Hole}
 

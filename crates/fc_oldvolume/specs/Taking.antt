@@ -8,7 +8,7 @@ use Rattle.fc_oldmap.specs.Holes.{after_take, first_fit_place, hole_limit, hole_
 use Rattle.fc_oldmap.specs.OldMap.{FreeSpace}
 use Rattle.fc_model.specs.Answer.{first_of, when}
 use Rattle.fc_image.specs.Layout.{Layout, hole_sectors, is_among, is_apart, map_place, sectors_at}
-use Rattle.fc_effects.specs.Short.{old_need}
+use Rattle.fc_image.specs.effects.Short.{old_need}
 use Rattle.fc_objects.specs.Extents.{sectors_in}
 use Rattle.fc_oldchanges.specs.Owed.{holding}
 use Rattle.fc_oldvolume.specs.declared.taking.Taken.{Taken}

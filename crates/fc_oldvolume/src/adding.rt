@@ -3,7 +3,7 @@ ghost use Rattle.std.specs.Prelude.{◌≡◌, ◌<◌, IsFalse, IsSome, OnErr, 
 ghost use Rattle.std.specs.FinMap.{get, insert};
 ghost use Rattle.fc_alloc.specs.Owners.{has_node};
 ghost use Rattle.fc_drafts.specs.Draft.{directory_in};
-ghost use Rattle.fc_nodes.specs.Edits.{with_body};
+ghost use Rattle.fc_laws.specs.nodes.Edits.{with_body};
 ghost use Rattle.fc_tree.specs.Nodes.{body_in, next_number, nodes_of};
 ghost use Rattle.fc_volume.specs.Owners.{with_owner};
 ghost use Rattle.fc_oldvolume.specs.Adding.{IsAdmitted};

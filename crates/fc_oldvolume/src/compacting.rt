@@ -3,15 +3,15 @@ ghost use Rattle.std.specs.Prelude.{◌≡◌, ◌⊎◌, ◌↔◌, ◌<◌, �
 ghost use Rattle.std.specs.FinMap.{get};
 ghost use Rattle.std.specs.Option.{ForSome};
 ghost use Rattle.fc_device.specs.Calls.{FailsByFault, SameForm};
-ghost use Rattle.fc_effects.specs.Moves.{Squashed};
-ghost use Rattle.fc_effects.specs.declared.Owned.{Owned};
+ghost use Rattle.fc_image.specs.effects.Moves.{Squashed};
+ghost use Rattle.fc_image.specs.declared.effects.Owned.{Owned};
 ghost use Rattle.fc_image.specs.Layout.{Layout, dir_form, disc_sectors};
 ghost use Rattle.fc_names.specs.declared.refusal.Refusal.{Refusal};
-ghost use Rattle.fc_nodes.specs.Edits.{Nodes};
+ghost use Rattle.fc_laws.specs.nodes.Edits.{Nodes};
 ghost use Rattle.fc_oldmap.specs.OldMap.{FreeSpace};
-ghost use Rattle.fc_oldmoves.specs.After.{start_after};
-ghost use Rattle.fc_oldmoves.specs.Nodes.{AreMoved};
-ghost use Rattle.fc_oldmoves.specs.Writes.{AreDirectoriesPlaced, MarkChanges};
+ghost use Rattle.fc_oldlaws.specs.moves.After.{start_after};
+ghost use Rattle.fc_oldlaws.specs.moves.Nodes.{AreMoved};
+ghost use Rattle.fc_oldlaws.specs.moves.Writes.{AreDirectoriesPlaced, MarkChanges};
 ghost use Rattle.fc_space.specs.Space.{layout_of};
 ghost use Rattle.fc_squash.specs.Sliding.{TellsAsBefore, TimeGoesOn};
 ghost use Rattle.fc_squash.specs.Squashing.{AreBodies, KeepsBodies, SquashedBy};
@@ -157,13 +157,13 @@ fn write_compacted<D: Disk>(
 fn move_laws()
     ensures { MoveLaws }
 {
-    fc_oldmoves::sliding();
-    fc_oldmoves::ready();
-    fc_oldmoves::agreed();
-    fc_oldmoves::behind();
-    fc_oldmoves::directories();
-    fc_oldmoves::rewritten();
-    fc_oldmoves::taken_over();
+    fc_oldlaws::moves::sliding();
+    fc_oldlaws::moves::ready();
+    fc_oldlaws::moves::agreed();
+    fc_oldlaws::moves::behind();
+    fc_oldlaws::moves::directories();
+    fc_oldlaws::moves::rewritten();
+    fc_oldlaws::moves::taken_over();
 }
 
 // A copy of the volume's map.

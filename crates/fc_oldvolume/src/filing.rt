@@ -69,7 +69,7 @@ fn store_and_take<D: Disk>(
     ensures form { SameForm D.Disk disk.old disk.new }
     ensures cause { FailsByFault D.Disk disk.old disk.new result }
 {
-    fc_oldtakeover::writes();
+    fc_oldlaws::takeover::writes();
     write_bytes(disk, places, &f.taken, bytes)?;
     write_some(disk, &f.taken.map)
 }
@@ -88,7 +88,7 @@ fn name_and_give<D: Disk>(disk: &mut D, places: &Places, f: &Filing) -> Result<(
     ensures form { SameForm D.Disk disk.old disk.new }
     ensures cause { FailsByFault D.Disk disk.old disk.new result }
 {
-    fc_oldtakeover::writes();
+    fc_oldlaws::takeover::writes();
     write_directory(disk, places, &f.directory)?;
     write_some(disk, &f.given)
 }

@@ -17,18 +17,18 @@ pub fn old_laws()
     fc_image::rewords();
     fc_tree::opened();
     fc_tree::stored_entries();
-    fc_nodes::owners();
-    fc_nodes::reworded();
-    fc_nodes::removed();
-    fc_agree::agreed();
-    fc_agree::cuts();
-    fc_oldagree::reworded();
-    fc_oldagree::removed();
-    fc_oldagree::spaces();
-    fc_oldtakeover::writes();
-    fc_oldtakeover::objects();
-    fc_oldtakeover::places();
-    fc_oldtakeover::steps();
+    fc_laws::nodes::owners();
+    fc_laws::nodes::reworded();
+    fc_laws::nodes::removed();
+    fc_laws::agree::agreed();
+    fc_laws::agree::cuts();
+    fc_oldlaws::agree::reworded();
+    fc_oldlaws::agree::removed();
+    fc_oldlaws::agree::spaces();
+    fc_oldlaws::takeover::writes();
+    fc_oldlaws::takeover::objects();
+    fc_oldlaws::takeover::places();
+    fc_oldlaws::takeover::steps();
 }
 
 /// A law: an old map in memory is one.
@@ -48,16 +48,16 @@ pub fn making_laws()
     ensures { MakingLaws }
 {
     fc_tree::opened();
-    fc_nodes::directory_added();
-    fc_agree::agreed();
-    fc_agree::cuts();
-    fc_agree::sayable();
-    fc_oldagree::directory_added();
-    fc_oldagree::spaces();
-    fc_oldtakeover::writes();
-    fc_oldtakeover::objects();
-    fc_oldtakeover::places();
-    fc_oldtakeover::steps();
+    fc_laws::nodes::directory_added();
+    fc_laws::agree::agreed();
+    fc_laws::agree::cuts();
+    fc_laws::agree::sayable();
+    fc_oldlaws::agree::directory_added();
+    fc_oldlaws::agree::spaces();
+    fc_oldlaws::takeover::writes();
+    fc_oldlaws::takeover::objects();
+    fc_oldlaws::takeover::places();
+    fc_oldlaws::takeover::steps();
 }
 
 /// The laws of `rename`, in one record.
@@ -65,11 +65,11 @@ pub fn rename_laws()
     ensures { RenameLaws }
 {
     old_laws();
-    fc_nodes::renamed();
-    fc_nodes::transferred();
-    fc_nodes::owning();
-    fc_oldagree::renamed();
-    fc_oldagree::transferred();
+    fc_laws::nodes::renamed();
+    fc_laws::nodes::transferred();
+    fc_laws::nodes::owning();
+    fc_oldlaws::agree::renamed();
+    fc_oldlaws::agree::transferred();
 }
 
 /// The laws of the crates below for a file, new or in the place of another, in one record.
@@ -78,16 +78,16 @@ pub fn filing_laws()
 {
     fc_tree::opened();
     fc_tree::stored_entries();
-    fc_nodes::added();
-    fc_nodes::replaced();
-    fc_nodes::owning();
-    fc_agree::agreed();
-    fc_agree::cuts();
-    fc_oldagree::added();
-    fc_oldagree::replaced();
-    fc_oldagree::spaces();
-    fc_oldtakeover::writes();
-    fc_oldtakeover::objects();
-    fc_oldtakeover::places();
-    fc_oldtakeover::steps();
+    fc_laws::nodes::added();
+    fc_laws::nodes::replaced();
+    fc_laws::nodes::owning();
+    fc_laws::agree::agreed();
+    fc_laws::agree::cuts();
+    fc_oldlaws::agree::added();
+    fc_oldlaws::agree::replaced();
+    fc_oldlaws::agree::spaces();
+    fc_oldlaws::takeover::writes();
+    fc_oldlaws::takeover::objects();
+    fc_oldlaws::takeover::places();
+    fc_oldlaws::takeover::steps();
 }

@@ -65,7 +65,7 @@ fn write_making<D: Disk>(disk: &mut D, places: &Places, r: &Making) -> Result<()
     ensures form { SameForm D.Disk disk.old disk.new }
     ensures cause { FailsByFault D.Disk disk.old disk.new result }
 {
-    fc_oldtakeover::writes();
+    fc_oldlaws::takeover::writes();
     store_object(disk, places, r)?;
     write_some(disk, &r.taken.map)?;
     write_directory(disk, places, &r.directory)

@@ -4,7 +4,7 @@ ghost use Rattle.std.specs.Prelude.{◌≡◌, IfOk, Some, ◌<◌, length, IsFa
 ghost use Rattle.fc_dirs.specs.Directory.{Directory};
 ghost use Rattle.fc_drafts.specs.Draft.{directory_in};
 ghost use Rattle.fc_drafts.specs.Gains.{GetsName};
-ghost use Rattle.fc_effects.specs.Short.{Gain, gain_in, new_dir_size, short};
+ghost use Rattle.fc_image.specs.effects.Short.{Gain, gain_in, new_dir_size, short};
 ghost use Rattle.fc_image.specs.Layout.{Layout, dir_form};
 ghost use Rattle.fc_image.specs.Opening.{Opened};
 ghost use Rattle.fc_model.specs.Command.{Command};

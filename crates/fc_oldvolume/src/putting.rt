@@ -3,7 +3,7 @@ ghost use Rattle.std.specs.Prelude.{◌≡◌, ◌<◌, length, IfOk, Some};
 ghost use Rattle.std.specs.FinMap.{get};
 ghost use Rattle.fc_dirs.specs.Directory.{Directory};
 ghost use Rattle.fc_drafts.specs.Draft.{directory_in};
-ghost use Rattle.fc_effects.specs.Short.{short};
+ghost use Rattle.fc_image.specs.effects.Short.{short};
 ghost use Rattle.fc_image.specs.Layout.{Layout};
 ghost use Rattle.fc_image.specs.Opening.{Opened};
 ghost use Rattle.fc_model.specs.Command.{Command};

@@ -58,7 +58,7 @@ fn write_relocation<D: Disk>(
     ensures form { SameForm D.Disk disk.old disk.new }
     ensures cause { FailsByFault D.Disk disk.old disk.new result }
 {
-    fc_oldtakeover::writes();
+    fc_oldlaws::takeover::writes();
     write_directory(disk, places, &change.holder)?;
     write_more(disk, places, &change.own)?;
     write_more(disk, places, &change.source)

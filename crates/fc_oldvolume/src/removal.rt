@@ -6,7 +6,7 @@ ghost use Rattle.fc_device.specs.Calls.{FailsByFault, SameForm, StopsAndExitsLea
 ghost use Rattle.fc_device.specs.Faults.{Rose};
 ghost use Rattle.fc_drafts.specs.Draft.{directory_in};
 ghost use Rattle.fc_image.specs.Layout.{Layout, is_apart, map_place, sector_bytes};
-ghost use Rattle.fc_nodes.specs.Edits.{with_body};
+ghost use Rattle.fc_laws.specs.nodes.Edits.{with_body};
 ghost use Rattle.fc_objects.specs.Extents.{sectors_in};
 ghost use Rattle.fc_oldchanges.specs.Owed.{IsWritten};
 ghost use Rattle.fc_oldmap.specs.OldMap.{FreeSpace};
@@ -66,7 +66,7 @@ fn write_removal<D: Disk>(disk: &mut D, places: &Places, r: &Removal) -> Result<
     ensures form { SameForm D.Disk disk.old disk.new }
     ensures cause { FailsByFault D.Disk disk.old disk.new result }
 {
-    fc_oldtakeover::writes();
+    fc_oldlaws::takeover::writes();
     write_directory(disk, places, &r.directory)?;
     write_some(disk, &r.map)
 }

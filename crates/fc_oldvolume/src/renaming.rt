@@ -173,7 +173,7 @@ pub fn rename<D: Disk>(
     ensures keeps { ChangeKeeps D.Disk disk.old disk.new volume.old volume.new result }
     ensures form_stays { UnlessFault result (dir_form (parts_of volume.new).layout ≡ dir_form (parts_of volume.old).layout) }
 {
-    fc_oldtakeover::places();
+    fc_oldlaws::takeover::places();
     is_old_map(&volume.places);
     let renaming = match accept(volume, from, to) {
         Ok(renaming) => renaming,

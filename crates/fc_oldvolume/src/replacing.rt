@@ -1,7 +1,7 @@
 // Files in the place of others, ready in memory.
 ghost use Rattle.std.specs.Prelude.{◌≡◌, ◌<◌, ◌^◌, ℕ, Ok, Some, IfOk};
 ghost use Rattle.std.specs.FinMap.{get};
-ghost use Rattle.fc_effects.specs.Short.{short};
+ghost use Rattle.fc_image.specs.effects.Short.{short};
 ghost use Rattle.fc_image.specs.Layout.{Layout};
 ghost use Rattle.fc_image.specs.Opening.{Opened};
 ghost use Rattle.fc_model.specs.Command.{Command};
@@ -97,7 +97,7 @@ pub fn draft_replacing(
     ensures refused { (space : FreeSpace) (v : Opened) (c : Command) (object : Node) → layout_of places.now ≡ Layout.Old space → get (nodes_of tree.now) target.node ≡ Some object
         → WantsOver space words.len object.entry v c → AnswersSpace result (short v c) }
 {
-    fc_oldagree::spaces();
+    fc_oldlaws::agree::spaces();
     is_old_map(places);
     let taken = match take_place(alloc, places, u64::from(words.len)) {
         Ok(taken) => taken,

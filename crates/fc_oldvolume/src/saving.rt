@@ -134,7 +134,7 @@ fn write_whole<D: Disk>(
     ensures keeps { ChangeKeeps D.Disk disk.old disk.new volume.old volume.new result }
     ensures form_stays { UnlessFault result (dir_form (parts_of volume.new).layout ≡ dir_form (parts_of volume.old).layout) }
 {
-    fc_oldtakeover::places();
+    fc_oldlaws::takeover::places();
     is_old_map(&volume.places);
     match accept_file(volume, p) {
         Ok(Slot::New(dir)) => put_file(volume, alloc, disk, p, dir, words, bytes),

@@ -2,8 +2,8 @@
 ghost use Rattle.std.specs.Prelude.{◌≡◌, ◌<◌};
 ghost use Rattle.fc_image.specs.Layout.{Layout, dir_form};
 ghost use Rattle.fc_image.specs.Walk.{object_size};
-ghost use Rattle.fc_effects.specs.Short.{old_need};
-ghost use Rattle.fc_oldagree.specs.Spaces.{CanGive};
+ghost use Rattle.fc_image.specs.effects.Short.{old_need};
+ghost use Rattle.fc_oldlaws.specs.agree.Spaces.{CanGive};
 ghost use Rattle.fc_oldmap.specs.OldMap.{FreeSpace};
 ghost use Rattle.fc_space.specs.Space.{layout_of};
 ghost use Rattle.fc_oldvolume.specs.Changing.{IsOldLayout};

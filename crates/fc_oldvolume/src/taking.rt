@@ -1,7 +1,7 @@
 // Where the bytes of a new object go on a disc with an old map: the front of the first hole that is long enough. A volume's map is
 // never edited: a copy of it is.
 ghost use Rattle.std.specs.Prelude.{◌≡◌, ◌<◌, Ok, Err, IfErr, IfOk};
-ghost use Rattle.fc_effects.specs.Short.{old_need};
+ghost use Rattle.fc_image.specs.effects.Short.{old_need};
 ghost use Rattle.fc_image.specs.Layout.{Layout};
 ghost use Rattle.fc_oldchanges.specs.Owed.{holding};
 ghost use Rattle.fc_oldmap.specs.Holes.{after_take, take_answer};
@@ -70,7 +70,7 @@ fn take_some(
     ensures taken { IfOk result (IsTaken map.now bytes) }
     ensures refused { AnswersSpace result (taking_refusal map.now bytes) }
 {
-    fc_oldagree::spaces();
+    fc_oldlaws::agree::spaces();
     let _ = map.holes();
     let (address, now) = match take_from(map, bytes) {
         Ok(taken) => taken,

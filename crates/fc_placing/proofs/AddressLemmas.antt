@@ -14,8 +14,8 @@ use Rattle.fc_newmap.specs.Map.{Map}
 use Rattle.fc_newmap.specs.NewMap.{IsNewMap, IsOfRecord}
 use Rattle.fc_newmap.proofs.GeometryLemmas.{facts_of_valid}
 use Rattle.fc_image.proofs.EntriesLemmas.{from_map}
-use Rattle.fc_effects.specs.Placed.{has_spare_share}
-use Rattle.fc_effects.specs.Sharing.{holdings_in, is_shareable, is_spare, shares, slack_among}
+use Rattle.fc_image.specs.effects.Placed.{has_spare_share}
+use Rattle.fc_image.specs.effects.Sharing.{holdings_in, is_shareable, is_spare, shares, slack_among}
 use Rattle.fc_plan.specs.declared.plan.Plan.{Plan}
 use Rattle.fc_slack.specs.Slack.{holdings}
 use Rattle.fc_slack.proofs.Shares.{ids_few}

@@ -24,8 +24,8 @@ use Rattle.fc_image.proofs.OneZoneLemmas.{and_first}
 use Rattle.fc_image.proofs.PathsLemmas.{many}
 use Rattle.fc_image.proofs.RelistLemmas.{folded_long}
 use Rattle.fc_image.proofs.RenameLemmas.{many_shuffled}
-use Rattle.fc_effects.specs.Sharing.{units}
-use Rattle.fc_effects.specs.Short.{is_copied, is_sharing, new_length, object_units, slack_for}
+use Rattle.fc_image.specs.effects.Sharing.{units}
+use Rattle.fc_image.specs.effects.Short.{is_copied, is_sharing, new_length, object_units, slack_for}
 use Rattle.fc_changes.proofs.BasicLemmas.{unless}
 use Rattle.fc_changes.proofs.BesideLemmas.{counted, three}
 use Rattle.fc_changes.proofs.MovedLemmas.{holder_folds}

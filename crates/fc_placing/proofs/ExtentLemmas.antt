@@ -24,8 +24,8 @@ use Rattle.fc_newmap.proofs.GeometryLemmas.{geometry_of_valid}
 use Rattle.fc_newmap.proofs.RunsLemmas.{sectors_add}
 use Rattle.fc_image.specs.Layout.{Layout, first_part, id_of, id_sectors, is_object_id, low_of, low_start, new_sectors, sectors_at}
 use Rattle.fc_image.proofs.EntriesLemmas.{from_filter, in_mapped}
-use Rattle.fc_effects.specs.Placed.{BeginsBefore, HasRunLength}
-use Rattle.fc_effects.specs.Sharing.{units}
+use Rattle.fc_image.specs.effects.Placed.{BeginsBefore, HasRunLength}
+use Rattle.fc_image.specs.effects.Sharing.{units}
 use Rattle.fc_space.specs.Index.{is_met}
 use Rattle.fc_space.specs.Space.{HaveSectors}
 use Rattle.fc_plan.specs.declared.plan.Part.{Part}

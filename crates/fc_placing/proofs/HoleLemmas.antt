@@ -14,7 +14,7 @@ use Rattle.fc_newmap.proofs.HeldLemmas.{geometry_facts}
 use Rattle.fc_newmap.proofs.PlaceLemmas.{held_in, holder_of, in_either, in_front}
 use Rattle.fc_image.specs.Layout.{Layout, hole_sectors, is_among}
 use Rattle.fc_image.proofs.EntriesLemmas.{from_filter}
-use Rattle.fc_effects.specs.Placed.{IsFront}
+use Rattle.fc_image.specs.effects.Placed.{IsFront}
 use Rattle.fc_plan.specs.declared.plan.Plan.{Plan}
 use Rattle.fc_plan.specs.Parts.{fronts}
 use Rattle.fc_plan.proofs.Order.{same_place}

@@ -15,7 +15,7 @@ use Rattle.fc_image.specs.Walk.{Object, Listing}
 use Rattle.fc_image.specs.Objects.{has_sectors, is_owner_of, objects_of}
 use Rattle.fc_image.specs.Sound.{AreSound}
 use Rattle.fc_image.proofs.PathsLemmas.{is_at, itself, many}
-use Rattle.fc_effects.specs.Steady.{is_given_back}
+use Rattle.fc_image.specs.effects.Steady.{is_given_back}
 use Rattle.fc_plan.specs.Giving.{is_one_of}
 use Rattle.fc_changes.specs.Owed.{GivesBack}
 use Rattle.fc_changes.proofs.BasicLemmas.{clash, cases_cons, first_in, next_in}

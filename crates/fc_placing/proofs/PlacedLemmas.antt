@@ -14,9 +14,9 @@ use Rattle.fc_image.specs.Layout.{Layout, dir_form, first_part, id_of, low_of, s
 use Rattle.fc_image.specs.Walk.{Listing, Object}
 use Rattle.fc_image.specs.Objects.{has_sectors, is_owner_of, objects_of}
 use Rattle.fc_image.specs.Sound.{AreSound}
-use Rattle.fc_effects.specs.Placed.{file_low, has_spare_share}
-use Rattle.fc_effects.specs.Sharing.{slack}
-use Rattle.fc_effects.specs.Short.{new_dir_size}
+use Rattle.fc_image.specs.effects.Placed.{file_low, has_spare_share}
+use Rattle.fc_image.specs.effects.Sharing.{slack}
+use Rattle.fc_image.specs.effects.Short.{new_dir_size}
 use Rattle.fc_names.specs.declared.name.NameForm.TheVariants.{Ten, Long}
 use Rattle.fc_plan.specs.declared.plan.Plan.{Plan}
 use Rattle.fc_plan.specs.Parts.{fronts}

@@ -15,9 +15,9 @@ use Rattle.fc_image.specs.Layout.{Layout}
 use Rattle.fc_image.specs.Objects.{objects_of}
 use Rattle.fc_image.specs.Opening.{Opened}
 use Rattle.fc_image.specs.Sound.{AreSound}
-use Rattle.fc_effects.specs.Placed.{IsPlan}
-use Rattle.fc_effects.specs.Sharing.{new_ids, units}
-use Rattle.fc_effects.specs.Short.{growth_in, growth_units, moved_growth, needed_bits, needed_ids, new_length, object_units, one_if, short, slack_for, slack_in, space_reasons}
+use Rattle.fc_image.specs.effects.Placed.{IsPlan}
+use Rattle.fc_image.specs.effects.Sharing.{new_ids, units}
+use Rattle.fc_image.specs.effects.Short.{growth_in, growth_units, moved_growth, needed_bits, needed_ids, new_length, object_units, one_if, short, slack_for, slack_in, space_reasons}
 use Rattle.fc_plan.specs.declared.plan.Plan.{Plan}
 use Rattle.fc_plan.specs.declared.supply.PlanError.{PlanError}
 use Rattle.fc_plan.specs.declared.supply.PlanError.TheVariants as errors

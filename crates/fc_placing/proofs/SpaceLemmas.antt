@@ -23,8 +23,8 @@ use Rattle.fc_newmap.proofs.PlaceLemmas.{id_runs_by_zones}
 use Rattle.fc_copies.specs.Committing.{KeepsContents}
 use Rattle.fc_copies.specs.Copies.{HoldsCopies}
 use Rattle.fc_image.proofs.EntriesLemmas.{from_filter}
-use Rattle.fc_effects.specs.Placed.{holes_left, stands_at}
-use Rattle.fc_effects.specs.Steady.{ZoneSteady, holes_with, has_id_that, runs_that, zone_holes}
+use Rattle.fc_image.specs.effects.Placed.{holes_left, stands_at}
+use Rattle.fc_image.specs.effects.Steady.{ZoneSteady, holes_with, has_id_that, runs_that, zone_holes}
 use Rattle.fc_plan.specs.declared.plan.Plan.{Plan}
 use Rattle.fc_plan.specs.Applied.{is_changed, unless_gone}
 use Rattle.fc_plan.specs.Giving.{has_run_of, is_given, is_one_of, stays_given}

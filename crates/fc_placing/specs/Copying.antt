@@ -16,7 +16,7 @@ use Rattle.fc_image.specs.Objects.{objects_of}
 use Rattle.fc_image.specs.Opening.{Opened}
 use Rattle.fc_image.specs.Edits.{IsAt}
 use Rattle.fc_image.specs.Sound.{AreSound}
-use Rattle.fc_effects.specs.Short.{is_copied, new_length, short}
+use Rattle.fc_image.specs.effects.Short.{is_copied, new_length, short}
 use Rattle.fc_tree.specs.declared.node.Node.{Node}
 use Rattle.fc_tree.specs.Nodes.{number_of, HoldObjects}
 use Rattle.fc_tree.specs.Parts.{AreOwners}

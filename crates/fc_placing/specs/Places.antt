@@ -18,9 +18,9 @@ use Rattle.fc_image.specs.Sound.{AreSound}
 use Rattle.fc_tree.specs.declared.node.Node.{Node}
 use Rattle.fc_tree.specs.Nodes.{number_of, HoldObjects}
 use Rattle.fc_tree.specs.Parts.{AreOwners}
-use Rattle.fc_effects.specs.Placed.{IsPlan, file_low}
-use Rattle.fc_effects.specs.Sharing.{new_ids, slack, slack_among, units}
-use Rattle.fc_effects.specs.Short.{gain_in, growth_in, is_full_with, new_dir_size, new_length, short, slack_for, slack_in}
+use Rattle.fc_image.specs.effects.Placed.{IsPlan, file_low}
+use Rattle.fc_image.specs.effects.Sharing.{new_ids, slack, slack_among, units}
+use Rattle.fc_image.specs.effects.Short.{gain_in, growth_in, is_full_with, new_dir_size, new_length, short, slack_for, slack_in}
 use Rattle.fc_plan.specs.declared.plan.Plan.{Plan}
 use Rattle.fc_plan.specs.declared.supply.PlanError.{PlanError}
 use Rattle.fc_plan.specs.declared.supply.PlanError.TheVariants as errors

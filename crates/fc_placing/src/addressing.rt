@@ -3,7 +3,7 @@
 ghost use Rattle.std.specs.Prelude.{◌≡◌, ◌<◌, ◌^◌, ◌*◌, ◌+◌, ◌-◌, min};
 ghost use Rattle.fc_newmap.specs.Map.{bits_in};
 ghost use Rattle.fc_newmap.specs.NewMap.{IsOfRecord};
-ghost use Rattle.fc_effects.specs.Placed.{file_low, has_spare_share};
+ghost use Rattle.fc_image.specs.effects.Placed.{file_low, has_spare_share};
 ghost use Rattle.fc_plan.specs.Parts.{fronts};
 ghost use Rattle.fc_placing.specs.Places.{address_in, id_in};
 

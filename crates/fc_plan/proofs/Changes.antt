@@ -8,7 +8,7 @@ use Rattle.std.proofs.lemmas.List.Elements.{Contains-append_right}
 use Rattle.fc_zone.specs.declared.Run.{Run}
 use Rattle.fc_newmap.specs.Map.{ZoneRun}
 use Rattle.fc_newmap.specs.RunsLaw.{placed}
-use Rattle.fc_effects.specs.Steady.{has_id_that}
+use Rattle.fc_image.specs.effects.Steady.{has_id_that}
 use Rattle.fc_plan.specs.Giving.{has_run_of, is_one_of}
 use Rattle.fc_plan.proofs.MapLemmas.{either_test}
 

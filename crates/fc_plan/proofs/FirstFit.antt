@@ -8,9 +8,9 @@ use Rattle.std.proofs.lemmas.List.Elements.{All-contains, All-from_recursion, Co
 use Rattle.std.proofs.lemmas.List.Sums.{sum_by-cons}
 use Rattle.fc_record.specs.declared.Geometry.{Geometry}
 use Rattle.fc_newmap.specs.Map.{ZoneRun, bits_in}
-use Rattle.fc_effects.specs.Placed.{BeginsBefore, HasRunLength, IsFront, front_of, holes_left}
-use Rattle.fc_effects.specs.Sharing.{units}
-use Rattle.fc_safe.specs.FirstFit.{first_fit, gathered, in_one_or}
+use Rattle.fc_image.specs.effects.Placed.{BeginsBefore, HasRunLength, IsFront, front_of, holes_left}
+use Rattle.fc_image.specs.effects.Sharing.{units}
+use Rattle.fc_image.specs.safe.FirstFit.{first_fit, gathered, in_one_or}
 use Rattle.fc_plan.specs.Parts.{fronts, part_of}
 use Rattle.fc_plan.specs.declared.plan.Part.{Part}
 use Rattle.fc_plan.specs.Plan.{AreFreeRuns, AreInOrder, AreParts, EndsBefore, IsFreeRun, IsFrontOfOne, IsLast, left_of_both}

@@ -12,7 +12,7 @@ use Rattle.fc_record.specs.declared.Geometry.{Geometry}
 use Rattle.fc_zone.specs.declared.Run.{Run}
 use Rattle.fc_zone.specs.declared.RunKind.TheVariants.{Hole}
 use Rattle.fc_newmap.specs.Map.{ZoneRun, bits_in}
-use Rattle.fc_effects.specs.Placed.{BeginsBefore, HasRunLength, IsPlan, holes_left, left_behind, stands_at}
+use Rattle.fc_image.specs.effects.Placed.{BeginsBefore, HasRunLength, IsPlan, holes_left, left_behind, stands_at}
 use Rattle.fc_plan.specs.declared.plan.Part.{Part}
 use Rattle.fc_plan.specs.Parts.{begins_at, begins_before, front_at, fronts, has_part, part_of}
 use Rattle.fc_plan.specs.Plan.{IsFrontOfOne}

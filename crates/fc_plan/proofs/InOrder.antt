@@ -12,7 +12,7 @@ use Rattle.fc_newmap.specs.NewMap.{IsNewMap}
 use Rattle.fc_newmap.specs.RunsLaw.{placed}
 use Rattle.fc_newmap.proofs.HeldLemmas.{geometry_facts}
 use Rattle.fc_newmap.proofs.PlaceLemmas.{contains_here, contains_later, filter_in, id_run_in, in_back, in_filter, is_in, order_in}
-use Rattle.fc_effects.specs.Placed.{BeginsBefore, stands_at}
+use Rattle.fc_image.specs.effects.Placed.{BeginsBefore, stands_at}
 use Rattle.fc_plan.specs.Plan.{AreInOrder, AreParts, EndsBefore, IsFreeRun, IsFrontOfOne}
 use Rattle.fc_plan.specs.Taking.{as_runs, own_of, own_runs, part_taken, with_id}
 use Rattle.fc_plan.proofs.MapLemmas.{count_at, count_other, either_test}

@@ -12,7 +12,7 @@ use Rattle.fc_newmap.specs.NewMap.{IsNewMap, IsOfRecord}
 use Rattle.fc_newmap.specs.Walk.{IsInZone}
 use Rattle.fc_newmap.proofs.HeldLemmas as held
 use Rattle.fc_newmap.proofs.HeldLemmas.{end_within, geometry_facts, shape_fits}
-use Rattle.fc_effects.specs.Placed.{HasRunLength, holes_left, left_behind, stands_at}
+use Rattle.fc_image.specs.effects.Placed.{HasRunLength, holes_left, left_behind, stands_at}
 use Rattle.fc_plan.specs.Plan.{AreApart, AreParts, IsFrontOfOne}
 use Rattle.fc_plan.proofs.Taken.{find_is, mod-rest, stands_at-same, stands_at-self}
 use Rattle.fc_plan.proofs.MapLemmas.{count_at, count_at-cons, count_here, holes_apart, holes_placed}

@@ -14,7 +14,7 @@ use Rattle.fc_zone.specs.Zone.{Spells}
 use Rattle.fc_newmap.specs.Map.{Map, ZoneRun, all_runs, hole_runs, is_hole, runs_in, runs_of, sector_of, shape}
 use Rattle.fc_newmap.specs.NewMap.{IsNewMap}
 use Rattle.fc_newmap.specs.RunsLaw.{placed}
-use Rattle.fc_effects.specs.Placed.{BeginsBefore, HasRunLength, IsFront, holes_left, left_behind, stands_at}
+use Rattle.fc_image.specs.effects.Placed.{BeginsBefore, HasRunLength, IsFront, holes_left, left_behind, stands_at}
 use Rattle.fc_plan.specs.Plan.{AreApart, AreFreeRuns, AreInOrder, EndsBefore, IsFreeRun, IsFrontOfOne, first_at, left_of_both, rest_at}
 use Rattle.fc_plan.proofs.MapLemmas.{count_at, count_at-cons, count_here, count_other, either_test, holes_placed}
 use Rattle.fc_plan.proofs.Left.{count_at-positive, end_low, left_behind-long, rest_of, same_hole}

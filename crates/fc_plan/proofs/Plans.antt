@@ -10,7 +10,7 @@ use Rattle.fc_newmap.specs.NewMap.{IsOfRecord}
 use Rattle.fc_newmap.proofs.HeldLemmas.{geometry_facts, shape_fits}
 use Rattle.std.proofs.lemmas.List.{length-replicate}
 use Rattle.std.specs.Prelude.{replicate, ◌%◌}
-use Rattle.fc_effects.specs.Placed.{BeginsBefore, HasRunLength, IsPlan, IsTaken, holes_left, stands_at}
+use Rattle.fc_image.specs.effects.Placed.{BeginsBefore, HasRunLength, IsPlan, IsTaken, holes_left, stands_at}
 use Rattle.fc_plan.specs.Plan.{AreApart, AreFreeRuns, AreParts, IsChoice, IsFreeRun, IsFrontOfOne, left_of_both}
 use Rattle.fc_plan.proofs.MapLemmas.{count_at, count_here, count_other, either_test}
 use Rattle.fc_plan.proofs.Left.{count_at-positive}

@@ -15,8 +15,8 @@ use Rattle.fc_newmap.specs.Map.{Map, bits_in, hole_runs, is_used}
 use Rattle.fc_newmap.specs.NewMap.{IsNewMap}
 use Rattle.fc_image.specs.Layout.{Layout}
 use Rattle.fc_image.specs.Opening.{Opened}
-use Rattle.fc_effects.specs.Sharing.{new_ids}
-use Rattle.fc_effects.specs.Short.{gain_in, growth_units, is_full_with, needed_bits, needed_ids, object_units, short, space_reasons}
+use Rattle.fc_image.specs.effects.Sharing.{new_ids}
+use Rattle.fc_image.specs.effects.Short.{gain_in, growth_units, is_full_with, needed_bits, needed_ids, object_units, short, space_reasons}
 use Rattle.fc_plan.specs.Laws.{AreNewIds, Suffices}
 use Rattle.fc_plan.proofs.LeftBits.{second_in_map}
 use Rattle.fc_plan.proofs.Order.{filter_all, weaken_all}

@@ -13,7 +13,7 @@ use Rattle.fc_zone.specs.declared.RunKind.TheVariants.{Hole, Id}
 use Rattle.fc_newmap.specs.Map.{Map, ZoneRun, all_runs, has_id, is_hole, is_used}
 use Rattle.fc_newmap.specs.NewMap.{IsOfRecord}
 use Rattle.fc_newmap.proofs.GeometryLemmas.{facts_of_valid}
-use Rattle.fc_effects.specs.Sharing.{new_ids}
+use Rattle.fc_image.specs.effects.Sharing.{new_ids}
 use Rattle.fc_plan.specs.Supply.{IsSurvey, marked, unused_from}
 
 -- ---- the next unused identifier

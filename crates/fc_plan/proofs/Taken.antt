@@ -10,7 +10,7 @@ use Rattle.std.proofs.lemmas.List.Sums.{sum_by-cons, sum_by_push, sum_by_more, s
 use Rattle.std.proofs.lemmas.List.Sorted.{IsPermutation-sym, IsPermutation-remove, All-permutation, Contains-permutation, sum_by-IsPermutation}
 use Rattle.fc_record.specs.declared.Geometry.{Geometry}
 use Rattle.fc_newmap.specs.Map.{ZoneRun, bits_in}
-use Rattle.fc_effects.specs.Placed.{HasRunLength, IsFront, IsTaken, stands_at}
+use Rattle.fc_image.specs.effects.Placed.{HasRunLength, IsFront, IsTaken, stands_at}
 use Rattle.fc_plan.specs.Plan.{IsFrontOfOne, IsChoice, IsLast}
 use Rattle.fc_plan.proofs.Fewest.{NoFewer, flags_of_first, no_fewer_than_one, no_fewer_than_longest, IsLongestFirst, longer_before, shorter_after}
 

@@ -11,12 +11,12 @@ use Rattle.fc_zone.specs.declared.RunKind.TheVariants.{Hole, Id}
 use Rattle.fc_newmap.specs.Map.{Map, ZoneRun, all_runs, has_id, hole_runs, is_used}
 use Rattle.fc_model.specs.Command.{Command}
 use Rattle.fc_image.specs.Opening.{Opened}
-use Rattle.fc_effects.specs.Steady.{goes_back, has_id_that, runs_that}
+use Rattle.fc_image.specs.effects.Steady.{goes_back, has_id_that, runs_that}
 use Rattle.fc_plan.specs.Giving.{is_one_of}
 use Rattle.fc_plan.proofs.InOrder.{any_there}
 use Rattle.fc_newmap.specs.NewMap.{IsNewMap}
-use Rattle.fc_effects.specs.Placed.{IsFront, IsPlan, holes_left, left_behind, stands_at}
-use Rattle.fc_effects.specs.Sharing.{new_ids}
+use Rattle.fc_image.specs.effects.Placed.{IsFront, IsPlan, holes_left, left_behind, stands_at}
+use Rattle.fc_image.specs.effects.Sharing.{new_ids}
 use Rattle.fc_plan.specs.Applied.{CanTakePlan}
 use Rattle.fc_plan.specs.Laws.{AreDisjoint, AreTwo}
 use Rattle.fc_plan.specs.Parts.{fronts}

@@ -9,7 +9,7 @@ use Rattle.fc_newmap.specs.Map.{Map, sector_of}
 use Rattle.fc_record.specs.declared.Geometry.{Geometry}
 use Rattle.fc_newmap.specs.NewMap.{IsNewMap, IsOfRecord}
 use Rattle.fc_newmap.proofs.HeldLemmas.{geometry_facts, shape_fits}
-use Rattle.fc_effects.specs.Sharing.{units}
+use Rattle.fc_image.specs.effects.Sharing.{units}
 
 next_whole : (x q : ℕ) → 0 < q → next_multiple_of x q % q ≡ 0
 next_whole x q some =

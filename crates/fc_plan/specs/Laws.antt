@@ -9,10 +9,10 @@ use Rattle.fc_model.specs.Command.{Command}
 use Rattle.fc_image.specs.Layout.{Layout}
 use Rattle.fc_image.specs.Objects.{objects_of}
 use Rattle.fc_image.specs.Opening.{Opened}
-use Rattle.fc_effects.specs.Placed.{IsPlan, IsTaken, holes_left}
-use Rattle.fc_effects.specs.Sharing.{new_ids, units}
-use Rattle.fc_effects.specs.Short.{growth_units, is_alone, moved_growth, object_units, one_if, short}
-use Rattle.fc_effects.specs.Steady.{goes_back, runs_that}
+use Rattle.fc_image.specs.effects.Placed.{IsPlan, IsTaken, holes_left}
+use Rattle.fc_image.specs.effects.Sharing.{new_ids, units}
+use Rattle.fc_image.specs.effects.Short.{growth_units, is_alone, moved_growth, object_units, one_if, short}
+use Rattle.fc_image.specs.effects.Steady.{goes_back, runs_that}
 use Rattle.fc_plan.specs.Applied.{CanTakePlan}
 use Rattle.fc_plan.specs.Giving.{is_one_of}
 use Rattle.fc_plan.specs.Parts.{fronts}

@@ -3,7 +3,7 @@ use Rattle.std.specs.Prelude.{◌≡◌, ◌<◌, ◌≤◌, ◌⊎◌, ℕ, ◌
 use Rattle.std.specs.List.{count_by, AllByRecursion}
 use Rattle.fc_record.specs.declared.Geometry.{Geometry}
 use Rattle.fc_newmap.specs.Map.{ZoneRun, bits_in}
-use Rattle.fc_effects.specs.Placed.{HasRunLength, IsFront, IsTaken, left_behind, stands_at}
+use Rattle.fc_image.specs.effects.Placed.{HasRunLength, IsFront, IsTaken, left_behind, stands_at}
 
 -- at each place at most one begins
 abbrev pub AreApart : List ZoneRun → Type 0

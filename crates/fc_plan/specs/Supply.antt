@@ -6,7 +6,7 @@ use Rattle.fc_zone.specs.declared.RunKind.{RunKind}
 use Rattle.fc_zone.specs.declared.RunKind.TheVariants.{Hole, Id}
 use Rattle.fc_newmap.specs.Map.{Map, ZoneRun, has_id, hole_runs, is_hole}
 use Rattle.fc_newmap.specs.NewMap.{IsOfRecord}
-use Rattle.fc_effects.specs.Sharing.{new_ids}
+use Rattle.fc_image.specs.effects.Sharing.{new_ids}
 use Rattle.fc_plan.specs.Plan.{AreFreeRuns}
 
 -- holes, and identifiers that new objects may have

@@ -1,8 +1,8 @@
 // Which zones a command changes.
 
 ghost use Rattle.std.specs.Prelude.{◌≡◌, ◌<◌, ◌++◌, ◌∷◌, [], if◌then◌else◌, ℕ, List, AllPairs, Contains, OnErr, OnOk, false, filter};
-ghost use Rattle.fc_effects.specs.Placed.{BeginsBefore};
-ghost use Rattle.fc_effects.specs.Steady.{has_id_that};
+ghost use Rattle.fc_image.specs.effects.Placed.{BeginsBefore};
+ghost use Rattle.fc_image.specs.effects.Steady.{has_id_that};
 ghost use Rattle.fc_newmap.specs.Map.{runs_of, zone_numbers};
 ghost use Rattle.fc_plan.specs.Applied.{is_changed, parts_in, plan_in};
 ghost use Rattle.fc_plan.specs.Giving.{has_run_of, is_one_of};

@@ -3,8 +3,8 @@
 ghost use Rattle.std.specs.Prelude.{◌≡◌, ◌<◌, ◌≤◌, ◌%◌, All, IfOk, IfSome};
 ghost use Rattle.std.specs.Option.{option_map};
 ghost use Rattle.fc_newmap.specs.NewMap.{IsOfRecord};
-ghost use Rattle.fc_effects.specs.Placed.{HasRunLength, holes_left};
-ghost use Rattle.fc_safe.specs.FirstFit.{first_fit};
+ghost use Rattle.fc_image.specs.effects.Placed.{HasRunLength, holes_left};
+ghost use Rattle.fc_image.specs.safe.FirstFit.{first_fit};
 ghost use Rattle.fc_plan.specs.Plan.{AreFreeRuns};
 
 use crate::planning::{Taking, first_fit, front_of, holes_left, last_needed};

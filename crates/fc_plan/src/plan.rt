@@ -3,7 +3,7 @@
 ghost use Rattle.std.specs.Prelude.{◌≡◌, ℕ, AllPairs, is_none, map, not, IfOk};
 ghost use Rattle.std.specs.List.{find};
 ghost use Rattle.fc_zone.specs.declared.Run.{Run};
-ghost use Rattle.fc_effects.specs.Placed.{BeginsBefore, stands_at};
+ghost use Rattle.fc_image.specs.effects.Placed.{BeginsBefore, stands_at};
 ghost use Rattle.fc_plan.specs.Parts.{begins_at, begins_before, fronts, has_part, part_of};
 
 use fc_device::NoMemory;

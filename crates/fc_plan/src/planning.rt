@@ -6,7 +6,7 @@ ghost use Rattle.std.specs.Option.{option_to_list};
 ghost use Rattle.fc_record.specs.declared.Geometry.{Geometry};
 ghost use Rattle.fc_newmap.specs.Map.{bits_in};
 ghost use Rattle.fc_newmap.specs.NewMap.{IsOfRecord};
-ghost use Rattle.fc_effects.specs.Placed.{HasRunLength, IsFront, IsPlan, front_of, holes_left, left_behind, stands_at};
+ghost use Rattle.fc_image.specs.effects.Placed.{HasRunLength, IsFront, IsPlan, front_of, holes_left, left_behind, stands_at};
 ghost use Rattle.fc_plan.specs.Plan.{AreFreeRuns, IsChoice, IsLast, first_at, left_of_both, rest_at};
 
 use fc_device::NoMemory;

@@ -9,7 +9,7 @@ use Rattle.fc_model.specs.Command.{Command}
 use Rattle.fc_model.specs.Answer.{answer}
 use Rattle.fc_image.specs.Layout.{dir_form}
 use Rattle.fc_image.specs.Stays.{OpensAs}
-use Rattle.fc_effects.specs.Effect.{State, tree_in}
+use Rattle.fc_image.specs.effects.Effect.{State, tree_in}
 use Rattle.fc_script.specs.Lines.{command_of}
 use Rattle.fc_script.specs.Texts.{refusal_line}
 use Rattle.fc_runs.specs.Run.{Mode, ChangesBy, Effect, Serves, Answers, Takes, Steps, reply_of, shortage}

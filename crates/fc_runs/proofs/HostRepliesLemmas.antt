@@ -10,7 +10,7 @@ use Rattle.fc_model.specs.Command.{Command}
 use Rattle.fc_model.specs.Answer.{answer}
 use Rattle.fc_image.specs.Layout.{dir_form}
 use Rattle.fc_image.specs.Stays.{IsNewLayout}
-use Rattle.fc_effects.specs.Effect.{State, tree_in}
+use Rattle.fc_image.specs.effects.Effect.{State, tree_in}
 use Rattle.fc_script.specs.HostLines.{HostLine, host_line_of}
 use Rattle.fc_runs.specs.Replies.{bytes_of}
 use Rattle.fc_runs.specs.Run.{Mode}

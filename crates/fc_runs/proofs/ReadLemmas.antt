@@ -6,7 +6,7 @@ use Rattle.fc_model.specs.Tree.{Tree}
 use Rattle.fc_model.specs.Command.{Command}
 use Rattle.fc_model.specs.Answer.{answer}
 use Rattle.fc_image.specs.Layout.{dir_form}
-use Rattle.fc_effects.specs.Effect.{State, tree_in}
+use Rattle.fc_image.specs.effects.Effect.{State, tree_in}
 use Rattle.fc_runs.specs.Replies.{reply_to}
 use Rattle.fc_runs.specs.Run.{Mode, Effect, Serves, Answers, Takes, reply_of, shortage}
 use Rattle.fc_runs.specs.ReadLaw.{ReadLaw, is_reading, served_reply, answered_reply}

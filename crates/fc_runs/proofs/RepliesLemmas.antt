@@ -14,11 +14,11 @@ use Rattle.fc_image.specs.Layout.{Layout, dir_form}
 use Rattle.fc_image.specs.Walk.{Object}
 use Rattle.fc_image.specs.Opening.{Opened}
 use Rattle.fc_image.specs.Stays.{IsNewLayout}
-use Rattle.fc_effects.specs.Short.{short}
-use Rattle.fc_effects.specs.Steady.{OutsideSteady}
-use Rattle.fc_effects.specs.Effect.{State, tree_in}
-use Rattle.fc_safe.specs.SafeShort.{SafeRefusal, safe_refusal}
-use Rattle.fc_safe.specs.Reclaim.{ReclaimOutside}
+use Rattle.fc_image.specs.effects.Short.{short}
+use Rattle.fc_image.specs.effects.Steady.{OutsideSteady}
+use Rattle.fc_image.specs.effects.Effect.{State, tree_in}
+use Rattle.fc_image.specs.safe.SafeShort.{SafeRefusal, safe_refusal}
+use Rattle.fc_image.specs.safe.Reclaim.{ReclaimOutside}
 use Rattle.fc_script.specs.Lines.{command_of}
 use Rattle.fc_script.specs.Texts.{ok_line, refusal_line}
 use Rattle.fc_runs.specs.Run.{Mode, ChangesBy, Effect, Serves, Answers, Takes, Steps, shortage, safe_line, layout_reason, reply_of, keeps_tree}

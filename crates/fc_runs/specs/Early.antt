@@ -2,7 +2,7 @@
 use Rattle.std.specs.Prelude.{◌≡◌, ℕ, List, [], ◌++◌, length, take, slice_get, if◌then◌else◌, Option, Some, None, Result, Ok, Err}
 use Rattle.fc_names.specs.declared.refusal.Refusal.{Refusal}
 use Rattle.fc_model.specs.Command.{Command}
-use Rattle.fc_effects.specs.Effect.{State}
+use Rattle.fc_image.specs.effects.Effect.{State}
 use Rattle.fc_script.specs.Lines.{command_of}
 use Rattle.fc_script.specs.HostLines.{HostLine, host_line_of}
 use Rattle.fc_runs.specs.Run.{Mode, Steps, commands_in, script_for, text_of, demo_line}

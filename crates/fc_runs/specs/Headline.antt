@@ -10,8 +10,8 @@ use Rattle.fc_model.specs.Answer.{answer, first_of}
 use Rattle.fc_image.specs.Layout.{dir_form}
 use Rattle.fc_image.specs.Opening.{Opened}
 use Rattle.fc_image.specs.Stays.{OpensAs}
-use Rattle.fc_effects.specs.Short.{short}
-use Rattle.fc_effects.specs.Effect.{State, tree_in}
+use Rattle.fc_image.specs.effects.Short.{short}
+use Rattle.fc_image.specs.effects.Effect.{State, tree_in}
 use Rattle.fc_script.specs.Lines.{command_of}
 use Rattle.fc_script.specs.Texts.{cat_reply, digest_reply, load_reply, ok_line, refusal_line}
 use Rattle.fc_runs.specs.Replies.{bytes_of}

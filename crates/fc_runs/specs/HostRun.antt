@@ -10,8 +10,8 @@ use Rattle.fc_model.specs.Tree.{Tree, node_at}
 use Rattle.fc_model.specs.Command.{Command}
 use Rattle.fc_model.specs.Answer.{answer}
 use Rattle.fc_image.specs.Layout.{dir_form}
-use Rattle.fc_effects.specs.Effect.{State, tree_in}
-use Rattle.fc_safe.specs.SafeEffect.{HasTree, HasTreeBeforeOrAfter}
+use Rattle.fc_image.specs.effects.Effect.{State, tree_in}
+use Rattle.fc_image.specs.safe.SafeEffect.{HasTree, HasTreeBeforeOrAfter}
 use Rattle.fc_script.specs.HostLines.{HostLine, host_line_of}
 use Rattle.fc_script.specs.Texts.{refusal_line, ok_line}
 use Rattle.fc_runs.specs.Replies.{bytes_of}

@@ -3,7 +3,7 @@ use Rattle.std.specs.Prelude.{◌≡◌, ◌⊎◌, ℕ, Bool, true, false, List
 use Rattle.std.specs.List.{list_any}
 use Rattle.fc_device.specs.declared.disk.Disk.{Ghosts}
 use Rattle.fc_device.specs.Calls.{StopsAsBefore}
-use Rattle.fc_effects.specs.Effect.{State}
+use Rattle.fc_image.specs.effects.Effect.{State}
 use Rattle.fc_runs.specs.Run.{Mode, Run, commands_in, script_for, is_error, whole_replies}
 use Rattle.fc_runs.specs.Early.{EndsEarly, HostEndsEarly}
 use Rattle.fc_runs.specs.HostRun.{Files, HostRun}

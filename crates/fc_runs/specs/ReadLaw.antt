@@ -5,7 +5,7 @@ use Rattle.fc_model.specs.Tree.{Tree}
 use Rattle.fc_model.specs.Command.{Command}
 use Rattle.fc_model.specs.Answer.{answer}
 use Rattle.fc_image.specs.Layout.{dir_form}
-use Rattle.fc_effects.specs.Effect.{State, tree_in}
+use Rattle.fc_image.specs.effects.Effect.{State, tree_in}
 use Rattle.fc_script.specs.Lines.{command_of}
 use Rattle.fc_script.specs.Texts.{refusal_line}
 use Rattle.fc_runs.specs.Replies.{reply_to}

@@ -1,7 +1,7 @@
 -- Replies settle the tree: `HasTreeAfter` speaks of the trees of the run itself.
 use Rattle.std.specs.Prelude.{◌≡◌, List, ℕ}
 use Rattle.fc_image.specs.Stays.{IsNewLayout}
-use Rattle.fc_effects.specs.Effect.{State, tree_in}
+use Rattle.fc_image.specs.effects.Effect.{State, tree_in}
 use Rattle.fc_runs.specs.Run.{Mode, Steps}
 use Rattle.fc_runs.specs.HostRun.{Files, HostSteps}
 

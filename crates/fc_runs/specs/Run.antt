@@ -13,11 +13,11 @@ use Rattle.fc_model.specs.Command.{Command}
 use Rattle.fc_model.specs.Answer.{answer, first_of}
 use Rattle.fc_image.specs.Layout.{Layout, dir_form}
 use Rattle.fc_image.specs.Opening.{Opened}
-use Rattle.fc_effects.specs.Short.{short}
-use Rattle.fc_effects.specs.Effect.{State, tree_in, Changes, Compacts}
-use Rattle.fc_safe.specs.SafeShort.{SafeRefusal, safe_refusal}
-use Rattle.fc_safe.specs.SafeEffect.{SafeChanges, HasTree, HasTreeBeforeOrAfter}
-use Rattle.fc_safe.specs.Reclaim.{Reclaims, reclaimed_bytes}
+use Rattle.fc_image.specs.effects.Short.{short}
+use Rattle.fc_image.specs.effects.Effect.{State, tree_in, Changes, Compacts}
+use Rattle.fc_image.specs.safe.SafeShort.{SafeRefusal, safe_refusal}
+use Rattle.fc_image.specs.safe.SafeEffect.{SafeChanges, HasTree, HasTreeBeforeOrAfter}
+use Rattle.fc_image.specs.safe.Reclaim.{Reclaims, reclaimed_bytes}
 use Rattle.fc_script.specs.Lines.{lines_of, is_command_line, command_of}
 use Rattle.fc_script.specs.Texts.{refusal_line, error_line, reclaimed_line, line_of, ok_line}
 use Rattle.fc_runs.specs.Replies.{reply_to}

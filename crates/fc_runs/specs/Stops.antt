@@ -4,8 +4,8 @@ use Rattle.fc_device.specs.declared.disk.Disk.{Ghosts}
 use Rattle.fc_names.specs.declared.refusal.Refusal.{Refusal}
 use Rattle.fc_model.specs.Command.{Command}
 use Rattle.fc_image.specs.Stays.{KeepsTree, IsNewLayout}
-use Rattle.fc_effects.specs.Effect.{State, tree_in}
-use Rattle.fc_safe.specs.SafeEffect.{HasTree}
+use Rattle.fc_image.specs.effects.Effect.{State, tree_in}
+use Rattle.fc_image.specs.safe.SafeEffect.{HasTree}
 use Rattle.fc_script.specs.Lines.{command_of}
 use Rattle.fc_script.specs.HostLines.{HostLine, host_line_of}
 use Rattle.fc_runs.specs.ReadLaw.{is_reading}

@@ -1,6 +1,6 @@
 -- The tree after a line is determined, whatever the step chose.
 use Rattle.std.specs.Prelude.{◌≡◌, List, ℕ}
-use Rattle.fc_effects.specs.Effect.{State, tree_in}
+use Rattle.fc_image.specs.effects.Effect.{State, tree_in}
 use Rattle.fc_script.specs.Lines.{command_of}
 use Rattle.fc_script.specs.HostLines.{host_line_of}
 use Rattle.fc_runs.specs.Run.{Mode, Step, tree_after}

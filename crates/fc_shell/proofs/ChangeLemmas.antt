@@ -19,8 +19,8 @@ use Rattle.fc_image.specs.Objects.{tree_of}
 use Rattle.fc_image.specs.Opening.{Opened, reserved_in}
 use Rattle.fc_image.specs.Sound.{AreSound}
 use Rattle.fc_image.specs.Stays.{OpensAs}
-use Rattle.fc_effects.specs.Effect.{Changes, State, tree_in}
-use Rattle.fc_effects.specs.Short.{short}
+use Rattle.fc_image.specs.effects.Effect.{Changes, State, tree_in}
+use Rattle.fc_image.specs.effects.Short.{short}
 use Rattle.fc_script.specs.Lines.{command_of}
 use Rattle.fc_script.specs.Texts.{ok_line, refusal_line}
 use Rattle.fc_runs.specs.Early.{reply_begun}

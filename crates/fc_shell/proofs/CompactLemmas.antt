@@ -25,9 +25,9 @@ use Rattle.fc_image.specs.Moves.{with_map}
 use Rattle.fc_image.specs.Opening.{MapAndRoot, Opened, holes_or}
 use Rattle.fc_image.specs.Stays.{IsNewKind, OpensAs}
 use Rattle.fc_image.proofs.FreeLemmas.{parts_of as opened_parts}
-use Rattle.fc_effects.specs.Effect.{Compacts, State, tree_in}
-use Rattle.fc_effects.specs.Sharing.{new_ids}
-use Rattle.fc_effects.specs.Short.{needed_bits, needed_ids, old_need, short, space_reasons}
+use Rattle.fc_image.specs.effects.Effect.{Compacts, State, tree_in}
+use Rattle.fc_image.specs.effects.Sharing.{new_ids}
+use Rattle.fc_image.specs.effects.Short.{needed_bits, needed_ids, old_need, short, space_reasons}
 use Rattle.fc_script.specs.Lines.{command_of}
 use Rattle.fc_script.specs.Texts.{ok_line, refusal_line}
 use Rattle.fc_runs.specs.Early.{reply_begun}

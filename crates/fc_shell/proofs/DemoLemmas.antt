@@ -15,7 +15,7 @@ use Rattle.fc_device.specs.declared.streams.Sink.{Ghosts as Sinks}
 use Rattle.fc_device.specs.Calls.{OnlyReads}
 use Rattle.fc_device.specs.Faults.{Rose}
 use Rattle.fc_record.specs.declared.Kind.{Kind}
-use Rattle.fc_effects.specs.Effect.{State}
+use Rattle.fc_image.specs.effects.Effect.{State}
 use Rattle.fc_script.specs.Lines.{command_of}
 use Rattle.fc_script.specs.Texts.{line_of}
 use Rattle.fc_runs.specs.Demo.{demo_script}

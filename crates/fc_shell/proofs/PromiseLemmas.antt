@@ -13,7 +13,7 @@ use Rattle.fc_image.specs.Opening.{Opened, open_image}
 use Rattle.fc_image.specs.Layout.{Layout}
 use Rattle.fc_image.specs.Stays.{OpensAs}
 use Rattle.fc_record.specs.declared.Kind.{Kind}
-use Rattle.fc_effects.specs.Effect.{State}
+use Rattle.fc_image.specs.effects.Effect.{State}
 use Rattle.fc_runs.specs.Promises.{Cause, HasNoRun, HasRun, HasStopped, spares_disk}
 use Rattle.fc_runs.specs.Run.{Mode}
 use Rattle.fc_runs.specs.Stops.{MayHaveLeft, Stops}

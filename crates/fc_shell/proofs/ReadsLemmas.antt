@@ -4,7 +4,7 @@ use Rattle.std.specs.Prelude.{if◌then◌else◌, replicate}
 use Rattle.std.specs.List.{list_any}
 use Rattle.fc_names.specs.declared.refusal.Refusal.{Refusal}
 use Rattle.fc_model.specs.Command.{Command}
-use Rattle.fc_effects.specs.Effect.{State}
+use Rattle.fc_image.specs.effects.Effect.{State}
 use Rattle.fc_format.specs.Fresh.{format_size}
 use Rattle.fc_format.specs.Opens.{FreshLaw}
 use Rattle.fc_script.specs.Lines.{command_of}

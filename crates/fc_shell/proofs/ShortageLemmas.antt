@@ -22,8 +22,8 @@ use Rattle.fc_image.specs.Opening.{MapAndRoot, Opened, holes_or, map_and_root}
 use Rattle.fc_image.specs.Stays.{OpensAs}
 use Rattle.fc_image.proofs.FreeLemmas.{parts_of}
 use Rattle.fc_image.proofs.HolesLemmas.{found_map}
-use Rattle.fc_effects.specs.Sharing.{new_ids}
-use Rattle.fc_effects.specs.Short.{holes_without, needed_bits, needed_ids, old_need, short, space_reasons, with_space_of}
+use Rattle.fc_image.specs.effects.Sharing.{new_ids}
+use Rattle.fc_image.specs.effects.Short.{holes_without, needed_bits, needed_ids, old_need, short, space_reasons, with_space_of}
 use Rattle.fc_script.specs.Texts.{refusal_line}
 use Rattle.fc_runs.specs.ReadLaw.{is_reading}
 use Rattle.fc_runs.specs.Run.{layout_reason, shortage}

@@ -14,9 +14,9 @@ use Rattle.fc_model.specs.Answer.{answer, changed}
 use Rattle.fc_image.specs.Layout.{dir_form}
 use Rattle.fc_image.specs.Objects.{tree_of}
 use Rattle.fc_image.specs.Stays.{OpensAs}
-use Rattle.fc_effects.specs.Effect.{State, tree_in}
-use Rattle.fc_safe.specs.Reclaim.{reclaimed_bytes}
-use Rattle.fc_safe.specs.SafeEffect.{HasTree}
+use Rattle.fc_image.specs.effects.Effect.{State, tree_in}
+use Rattle.fc_image.specs.safe.Reclaim.{reclaimed_bytes}
+use Rattle.fc_image.specs.safe.SafeEffect.{HasTree}
 use Rattle.fc_script.specs.Lines.{command_of}
 use Rattle.fc_script.specs.Texts.{reclaimed_line, refusal_line}
 use Rattle.fc_runs.specs.Early.{reply_begun}

@@ -7,7 +7,7 @@ use Rattle.fc_device.specs.Faults.{Rose}
 use Rattle.fc_record.specs.declared.Kind.{Kind}
 use Rattle.fc_image.specs.Opening.{Opened}
 use Rattle.fc_image.specs.Stays.{OpensAs}
-use Rattle.fc_effects.specs.Effect.{State}
+use Rattle.fc_image.specs.effects.Effect.{State}
 use Rattle.fc_model.specs.Command.{Command}
 use Rattle.fc_runs.specs.ReadLaw.{reading_reply}
 use Rattle.fc_runs.specs.Run.{is_error}

@@ -1,7 +1,7 @@
 -- The headline of a run whose lines were all done.
 use Rattle.std.specs.Prelude.{◌≡◌, ℕ, List, Some, Ok}
 use Rattle.fc_device.specs.declared.disk.Disk.{Ghosts}
-use Rattle.fc_effects.specs.Effect.{State, tree_in}
+use Rattle.fc_image.specs.effects.Effect.{State, tree_in}
 use Rattle.fc_image.specs.Opening.{Opened, open_image}
 use Rattle.fc_runs.specs.Headline.{MapAnswers}
 use Rattle.fc_runs.specs.Run.{commands_in, script_for, text_for}

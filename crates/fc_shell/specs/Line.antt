@@ -7,8 +7,8 @@ use Rattle.fc_device.specs.Stops.{LeavesOnly}
 use Rattle.fc_record.specs.declared.Kind.{Kind}
 use Rattle.fc_model.specs.Command.{Command}
 use Rattle.fc_image.specs.Stays.{IsNewLayout, OpensAs}
-use Rattle.fc_effects.specs.Effect.{State, tree_in}
-use Rattle.fc_safe.specs.SafeEffect.{HasTree}
+use Rattle.fc_image.specs.effects.Effect.{State, tree_in}
+use Rattle.fc_image.specs.safe.SafeEffect.{HasTree}
 use Rattle.fc_script.specs.Lines.{command_of}
 use Rattle.fc_runs.specs.Early.{reply_begun}
 use Rattle.fc_runs.specs.Run.{Step, is_error, keeps_tree_or}

@@ -1,7 +1,7 @@
 -- What a run promises, by how it ends, if the contents of disk, source and sink are known. The script is that of the run, a demo's too.
 use Rattle.std.specs.Prelude.{◌≡◌, ◌⊎◌, ℕ, Bool, true, false, nat_lt, List, [], length, take, Option, Some, None, is_some, Result, Ok, Err}
 use Rattle.fc_device.specs.declared.disk.Disk.{Ghosts}
-use Rattle.fc_effects.specs.Effect.{State}
+use Rattle.fc_image.specs.effects.Effect.{State}
 use Rattle.fc_image.specs.declared.ImageFault.{ImageFault}
 use Rattle.fc_image.specs.Opening.{Opened, open_image}
 use Rattle.fc_runs.specs.Promises.{Cause, HasBrokenOff, HasNoRun, HasNotSuited, HasRun, IsUnmade}

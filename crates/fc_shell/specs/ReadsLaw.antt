@@ -1,6 +1,6 @@
 -- What a script of commands that read does.
 use Rattle.std.specs.Prelude.{◌≡◌, ◌⊎◌, ℕ, Bool, true, List, Some, None}
-use Rattle.fc_effects.specs.Effect.{State}
+use Rattle.fc_image.specs.effects.Effect.{State}
 use Rattle.fc_runs.specs.Run.{Mode, Run, text_of}
 use Rattle.fc_words.specs.declared.Format.{Format as Word}
 use Rattle.fc_shell.specs.declared.ending.End.TheVariants.{Done, Refused}

@@ -6,7 +6,7 @@ use Rattle.fc_names.specs.declared.refusal.Refusal.{Refusal}
 use Rattle.fc_model.specs.Command.{Command}
 use Rattle.fc_image.specs.declared.ImageFault.{ImageFault}
 use Rattle.fc_image.specs.Opening.{Opened, open_image}
-use Rattle.fc_effects.specs.Effect.{State}
+use Rattle.fc_image.specs.effects.Effect.{State}
 use Rattle.fc_format.specs.declared.Format.{Format}
 use Rattle.fc_format.specs.Fresh.{format_size, fresh_image}
 use Rattle.fc_script.specs.Lines.{command_of}

@@ -3,7 +3,7 @@ use Rattle.std.specs.Prelude.{◌≡◌, ℕ, Bool, true, false, List, ◌++◌,
 use Rattle.fc_device.specs.declared.disk.Disk.{Ghosts}
 use Rattle.fc_record.specs.declared.Kind.{Kind}
 use Rattle.fc_image.specs.Stays.{OpensAs}
-use Rattle.fc_effects.specs.Effect.{State}
+use Rattle.fc_image.specs.effects.Effect.{State}
 use Rattle.fc_runs.specs.Promises.{Cause, HasRun, HasStopped}
 use Rattle.fc_runs.specs.Run.{Steps, all_keep_tree, commands_in, text_of}
 use Rattle.fc_runs.specs.Stops.{MayHaveLeft, all_leave_image}

@@ -11,7 +11,7 @@ use Rattle.fc_oldmap.specs.OldMap.{FreeSpace}
 use Rattle.fc_bytes.specs.Words.{bytes_at}
 use Rattle.fc_device.specs.Sectors.{sector_at}
 use Rattle.fc_device.specs.declared.disk.Disk.{Ghosts}
-use Rattle.fc_effects.specs.declared.Owned.{Owned}
+use Rattle.fc_image.specs.declared.effects.Owned.{Owned}
 use Rattle.fc_squash.specs.Sliding.{IsSlid, IsSlidBy}
 use Rattle.fc_squash.specs.Squashing.{place, places, moved_to, no_object, with_start, covers}
 use Rattle.fc_squash.proofs.PlaceLemmas.{Every, every-both, IsBefore, IsBehind, CutAt, cut_at, covers_unit}

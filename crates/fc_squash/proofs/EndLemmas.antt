@@ -9,9 +9,9 @@ use Rattle.fc_oldmap.specs.Holes.{hole_end, IsHole, AreHoles, AreApart}
 use Rattle.fc_oldmap.specs.OldMap.{FreeSpace, IsOldMap}
 use Rattle.fc_device.specs.declared.disk.Disk.{Ghosts}
 use Rattle.fc_image.specs.Layout.{hole_sectors_in, is_among}
-use Rattle.fc_effects.specs.Settled.{are_apart}
-use Rattle.fc_effects.specs.Moves.{AreInOrder, SameBodies, SameButStarts, Squashed, SquashedBytes, is_in_body, is_in_hole}
-use Rattle.fc_effects.specs.declared.Owned.{Owned}
+use Rattle.fc_image.specs.effects.Settled.{are_apart}
+use Rattle.fc_image.specs.effects.Moves.{AreInOrder, SameBodies, SameButStarts, Squashed, SquashedBytes, is_in_body, is_in_hole}
+use Rattle.fc_image.specs.declared.effects.Owned.{Owned}
 use Rattle.fc_squash.specs.Squashing.{place, places, covers, AreBodies, IsSettled, SquashedBy}
 use Rattle.fc_squash.proofs.PlaceLemmas.{Every, every-map, Gapped, covers_unit}
 use Rattle.fc_squash.proofs.StepLemmas.{every_all, whole_len}

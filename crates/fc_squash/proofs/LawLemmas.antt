@@ -7,8 +7,8 @@ use Rattle.fc_oldmap.specs.declared.Hole.{Hole}
 use Rattle.fc_oldmap.specs.Holes.{hole_end}
 use Rattle.fc_image.specs.Walk.{Object}
 use Rattle.fc_image.specs.Objects.{has_sectors}
-use Rattle.fc_effects.specs.declared.Owned.{Owned}
-use Rattle.fc_effects.specs.Settled.{is_object_start}
+use Rattle.fc_image.specs.declared.effects.Owned.{Owned}
+use Rattle.fc_image.specs.effects.Settled.{is_object_start}
 use Rattle.fc_squash.specs.Laws.{SettledLaw}
 use Rattle.fc_squash.proofs.PlaceLemmas.{Every}
 

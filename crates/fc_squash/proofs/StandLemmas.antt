@@ -4,8 +4,8 @@ use Rattle.std.specs.Prelude.{◌||◌, All, slice_set}
 use Rattle.fc_oldmap.specs.declared.Hole.{Hole}
 use Rattle.fc_oldmap.specs.Holes.{hole, hole_end, hole_sum, tidied, IsHole, AreHoles, AreApart}
 use Rattle.fc_oldmap.specs.OldMap.{FreeSpace, IsOldMap}
-use Rattle.fc_effects.specs.declared.Owned.{Owned}
-use Rattle.fc_effects.specs.Moves.{SameButStarts}
+use Rattle.fc_image.specs.declared.effects.Owned.{Owned}
+use Rattle.fc_image.specs.effects.Moves.{SameButStarts}
 use Rattle.fc_squash.specs.Squashing.{place, places, moved_to, no_object, with_start, covers, AreBodies, IsPulled}
 use Rattle.fc_squash.proofs.PlaceLemmas.{Every, every-right, every-map, every-both, cut_at, Gapped, gapped-tidied, apart-tidied, covers-tidied, sum-tidied}
 use Rattle.fc_squash.proofs.StepLemmas.{every_from, every_all, rise-joined, length-joined, Stepped, pull_step}

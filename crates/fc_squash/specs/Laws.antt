@@ -3,9 +3,9 @@ use Rattle.std.specs.Prelude.{◌≡◌, true, List, length, Contains}
 use Rattle.fc_oldmap.specs.OldMap.{FreeSpace}
 use Rattle.fc_image.specs.Walk.{Object}
 use Rattle.fc_image.specs.Objects.{has_sectors}
-use Rattle.fc_effects.specs.declared.Owned.{Owned}
-use Rattle.fc_effects.specs.Moves.{Squashed}
-use Rattle.fc_effects.specs.Settled.{is_settled_space}
+use Rattle.fc_image.specs.declared.effects.Owned.{Owned}
+use Rattle.fc_image.specs.effects.Moves.{Squashed}
+use Rattle.fc_image.specs.effects.Settled.{is_settled_space}
 
 -- After `squash` nothing is left to do, if its objects are all objects with sectors but the root.
 abbrev pub SettledLaw : Type 0

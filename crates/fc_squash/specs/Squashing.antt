@@ -6,9 +6,9 @@ use Rattle.fc_device.specs.declared.disk.Disk.{Ghosts}
 use Rattle.fc_oldmap.specs.declared.Hole.{Hole}
 use Rattle.fc_oldmap.specs.Holes.{hole, hole_end, hole_sum, shifted, AreHoles, AreApart}
 use Rattle.fc_oldmap.specs.OldMap.{FreeSpace, IsOldMap}
-use Rattle.fc_effects.specs.Settled.{are_apart}
-use Rattle.fc_effects.specs.Moves.{SameButStarts, SquashedBytes}
-use Rattle.fc_effects.specs.declared.Owned.{Owned}
+use Rattle.fc_image.specs.effects.Settled.{are_apart}
+use Rattle.fc_image.specs.effects.Moves.{SameButStarts, SquashedBytes}
+use Rattle.fc_image.specs.declared.effects.Owned.{Owned}
 
 -- the units of an object, said as those of a hole
 abbrev pub place : Owned → Hole

@@ -7,7 +7,7 @@ mod pulling;
 mod sliding;
 mod squashing;
 
-pub use fc_effects::Owned;
+pub use fc_image::effects::Owned;
 pub use squashing::squash;
 
 /// A law: `squash` leaves nothing to do.

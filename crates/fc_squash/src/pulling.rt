@@ -8,7 +8,7 @@ ghost use Rattle.fc_squash.specs.Squashing.{place, IsPulled};
 
 use crate::sliding::slide_down;
 use fc_device::{Disk, DiskFault};
-use fc_effects::Owned;
+use fc_image::effects::Owned;
 use fc_oldmap::{Hole, OldMap};
 
 // The first hole that ends at a unit, and its index.

@@ -3,12 +3,12 @@ ghost use Rattle.std.specs.Prelude.{◌≡◌, ◌<◌, ◌≤◌, ◌*◌, ◌/
 ghost use Rattle.fc_device.specs.Calls.{FailsByFault, SameForm};
 ghost use Rattle.fc_oldmap.specs.OldMap.{IsOldMap};
 ghost use Rattle.fc_squash.specs.Sliding.{TellsAsBefore, TimeGoesOn};
-ghost use Rattle.fc_effects.specs.Moves.{Squashed};
+ghost use Rattle.fc_image.specs.effects.Moves.{Squashed};
 ghost use Rattle.fc_squash.specs.Squashing.{AreBodies, KeepsBodies, SquashedBy, with_start};
 
 use crate::pulling::pull;
 use fc_device::{Disk, DiskFault};
-use fc_effects::Owned;
+use fc_image::effects::Owned;
 use fc_oldmap::OldMap;
 
 /// The bytes of a unit.

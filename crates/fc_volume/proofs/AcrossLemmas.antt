@@ -16,8 +16,8 @@ use Rattle.fc_dirs.specs.Entries.{entry_place, with_entry as with_new_entry, wit
 use Rattle.fc_dirs.specs.Directory.{Directory, entries_of}
 use Rattle.fc_drafts.specs.Draft.{directory_in, size_of, with_head, with_less, with_new}
 use Rattle.fc_drafts.specs.Rewriting.{HasEntered, HasLeft}
-use Rattle.fc_effects.specs.Short.{growth_in}
-use Rattle.fc_effects.specs.Steady.{has_grown, has_new_holder}
+use Rattle.fc_image.specs.effects.Short.{growth_in}
+use Rattle.fc_image.specs.effects.Steady.{has_grown, has_new_holder}
 use Rattle.fc_image.proofs.CommandLemmas.{is_prefix_of}
 use Rattle.fc_image.proofs.PathsLemmas.{unless}
 use Rattle.fc_image.specs.Edits.{IsAt}
@@ -28,14 +28,14 @@ use Rattle.fc_image.specs.Report.{holder_address}
 use Rattle.fc_image.specs.Sound.{AreSound}
 use Rattle.fc_image.specs.Stays.{OpensAs}
 use Rattle.fc_image.specs.Walk.{Listing, Object, object_size}
-use Rattle.fc_nodes.specs.Edits.{Nodes}
+use Rattle.fc_laws.specs.nodes.Edits.{Nodes}
 use Rattle.fc_objects.specs.Extents.{sectors_in}
 use Rattle.fc_refusals.specs.declared.target.Renaming.{Renaming}
 use Rattle.fc_refusals.specs.declared.target.Target.{Target}
 use Rattle.fc_refusals.specs.Slots.{IsDestination, IsRenaming}
 use Rattle.fc_refusals.specs.Targets.{IsTarget}
-use Rattle.fc_takeover.specs.Places.{MayBeWritten, OpensBy}
-use Rattle.fc_takeover.specs.Steps.{IsDirectoryStep}
+use Rattle.fc_laws.specs.takeover.Places.{MayBeWritten, OpensBy}
+use Rattle.fc_laws.specs.takeover.Steps.{IsDirectoryStep}
 use Rattle.fc_tree.specs.declared.node.Node.{Node}
 use Rattle.fc_tree.specs.Agree.{HasForm}
 use Rattle.fc_tree.specs.Counts.{address_in}

@@ -20,8 +20,8 @@ use Rattle.fc_dirs.specs.Entries.{entry_place, with_entry as with_new_entry}
 use Rattle.fc_dirs.specs.Directory.{Directory, directory_size, entries_of}
 use Rattle.fc_drafts.specs.Draft.{directory_in}
 use Rattle.fc_drafts.specs.Entries.{renamed_entry}
-use Rattle.fc_effects.specs.Placed.{file_low}
-use Rattle.fc_effects.specs.Short.{is_copied, is_sharing, growth_in}
+use Rattle.fc_image.specs.effects.Placed.{file_low}
+use Rattle.fc_image.specs.effects.Short.{is_copied, is_sharing, growth_in}
 use Rattle.fc_changes.proofs.BasicLemmas.{any_in}
 use Rattle.fc_changes.specs.Changed.{IsInNewSpace}
 use Rattle.fc_changes.specs.Owed.{IsWritten}
@@ -33,17 +33,17 @@ use Rattle.fc_image.specs.Opening.{Opened}
 use Rattle.fc_image.specs.Sound.{AreSound}
 use Rattle.fc_image.specs.Stays.{OpensAs}
 use Rattle.fc_image.specs.Walk.{Listing, Object, is_directory_object, object_bytes, object_size}
-use Rattle.fc_nodes.specs.Copied.{IsCopied}
-use Rattle.fc_nodes.specs.Edits.{Nodes, NodesFollow, OwnersEdited, OwnersFollow, owner_with, owners_with, with_body, with_entry, with_holder}
+use Rattle.fc_laws.specs.nodes.Copied.{IsCopied}
+use Rattle.fc_laws.specs.nodes.Edits.{Nodes, NodesFollow, OwnersEdited, OwnersFollow, owner_with, owners_with, with_body, with_entry, with_holder}
 use Rattle.fc_objects.specs.Extents.{sectors_in}
 use Rattle.fc_plan.specs.Parts.{fronts}
 use Rattle.fc_placing.specs.Copying.{SaysCopied}
 use Rattle.fc_placing.specs.Places.{IsOwnPlan}
 use Rattle.fc_refusals.specs.declared.target.Renaming.{Renaming}
 use Rattle.fc_refusals.specs.Slots.{IsRenaming}
-use Rattle.fc_takeover.specs.Copied.{AreCopied, IsCopiedInSteps}
-use Rattle.fc_takeover.specs.Laws.{TakesOver}
-use Rattle.fc_takeover.specs.Places.{MayBeWritten}
+use Rattle.fc_laws.specs.takeover.Copied.{AreCopied, IsCopiedInSteps}
+use Rattle.fc_laws.specs.takeover.Laws.{TakesOver}
+use Rattle.fc_laws.specs.takeover.Places.{MayBeWritten}
 use Rattle.fc_tree.specs.declared.node.Node.{Node}
 use Rattle.fc_tree.specs.Agree.{Agree}
 use Rattle.fc_tree.specs.Nodes.{HoldObjects, body_in}

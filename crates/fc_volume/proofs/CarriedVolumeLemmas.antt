@@ -12,15 +12,15 @@ use Rattle.fc_newmap.specs.Map.{Map}
 use Rattle.fc_newmap.specs.NewMap.{IsNewMap}
 use Rattle.fc_alloc.specs.declared.owner.Owner.{Owner}
 use Rattle.fc_alloc.specs.Owners.{HaveOwnNodes, with_changed}
-use Rattle.fc_agree.specs.Agreed.{AgreeOn}
-use Rattle.fc_agree.proofs.BeforeLemmas.{no_hole}
+use Rattle.fc_laws.specs.agree.Agreed.{AgreeOn}
+use Rattle.fc_laws.proofs.lemmas.agree.BeforeLemmas.{no_hole}
 use Rattle.fc_changes.specs.Owed.{IsWritten}
 use Rattle.fc_model.specs.Command.{Command}
 use Rattle.fc_model.specs.Tree.{last_name}
 use Rattle.fc_dirs.specs.declared.Entry.{Entry}
 use Rattle.fc_dirs.specs.Directory.{Directory}
 use Rattle.fc_dirs.specs.Small.{SmallDir}
-use Rattle.fc_effects.specs.Short.{is_copied, short}
+use Rattle.fc_image.specs.effects.Short.{is_copied, short}
 use Rattle.fc_image.specs.Layout.{Layout, dir_form, disc_sectors, hole_sectors, is_apart, sectors_at}
 use Rattle.fc_image.specs.Objects.{listing_at, objects_of}
 use Rattle.fc_image.specs.Opening.{Opened}
@@ -34,13 +34,13 @@ use Rattle.fc_placing.specs.Places.{FitsDirectory, WantsOwnSpace}
 use Rattle.fc_refusals.specs.declared.target.Renaming.{Renaming}
 use Rattle.fc_refusals.specs.Slots.{IsRenaming}
 use Rattle.fc_space.specs.Space.{PlacesSuffice, layout_of}
-use Rattle.fc_takeover.specs.Laws.{TakesOver}
+use Rattle.fc_laws.specs.takeover.Laws.{TakesOver}
 use Rattle.fc_tree.specs.declared.node.Node.{Node}
 use Rattle.fc_tree.specs.Agree.{Agree}
 use Rattle.fc_tree.specs.Nodes.{body_of, nodes_of, body_in}
 use Rattle.fc_tree.specs.Parts.{AreOwners, ArePartsOf, Parts}
 use Rattle.fc_tree.proofs.WalkedLemmas.{child_is_object, contained, same_some}
-use Rattle.fc_nodes.specs.Edits.{Nodes}
+use Rattle.fc_laws.specs.nodes.Edits.{Nodes}
 use Rattle.fc_volume.specs.declared.changes.carrying.Carrying.{Carrying}
 use Rattle.fc_volume.specs.declared.changes.rewrite.Rewrite.{Rewrite}
 use Rattle.fc_volume.specs.declared.lines.CommandError.{CommandError}

@@ -21,7 +21,7 @@ use Rattle.fc_newmap.proofs.HeldLemmas.{geometry_facts}
 use Rattle.fc_newmap.proofs.PlaceLemmas.{contains_cases, contains_none, contains_here, contains_later, held_in, holder_of, id_run_in, in_back, in_filter, in_id_runs, in_range, is_in, range_in}
 use Rattle.fc_newmap.proofs.RunsLemmas.{runs_apart, sectors_add}
 use Rattle.fc_alloc.specs.declared.owner.Owner.{Owner}
-use Rattle.fc_effects.specs.Settled.{KeepsBits}
+use Rattle.fc_image.specs.effects.Settled.{KeepsBits}
 use Rattle.fc_compact.specs.Ready.{is_movable_by}
 use Rattle.fc_volume.specs.Compacting.{IsCompacted}
 use Rattle.fc_plan.proofs.MapLemmas.{all_placed}

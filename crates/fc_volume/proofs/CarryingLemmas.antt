@@ -16,7 +16,7 @@ use Rattle.fc_dirs.specs.declared.Entry.{Entry}
 use Rattle.fc_dirs.specs.Directory.{Directory}
 use Rattle.fc_drafts.specs.Draft.{CanHold, CanAddress}
 use Rattle.fc_drafts.specs.Entries.{renamed_entry}
-use Rattle.fc_effects.specs.Placed.{file_low, has_spare_share}
+use Rattle.fc_image.specs.effects.Placed.{file_low, has_spare_share}
 use Rattle.fc_image.specs.Layout.{Layout, dir_form, sectors_at}
 use Rattle.fc_image.specs.Walk.{object_size}
 use Rattle.fc_plan.specs.Parts.{fronts}

@@ -22,7 +22,7 @@ use Rattle.fc_tree.specs.declared.node.Node.{Node}
 use Rattle.fc_tree.specs.Agree.{Agree, HasForm}
 use Rattle.fc_tree.specs.Nodes.{HoldObjects, Numbers, nodes_of}
 use Rattle.fc_tree.specs.Parts.{ArePartsOf, Parts}
-use Rattle.fc_agree.specs.Agreed.{AgreeOn}
+use Rattle.fc_laws.specs.agree.Agreed.{AgreeOn}
 use Rattle.fc_refusals.specs.Targets.{IsVacant}
 use Rattle.fc_volume.specs.declared.changes.making.Making.{Making}
 use Rattle.fc_volume.specs.CdirLaws.{CdirLaws}
@@ -47,11 +47,11 @@ use Rattle.fc_model.specs.Answer.{reasons}
 use Rattle.fc_model.specs.Command.{Command}
 use Rattle.fc_model.specs.Tree.{holder}
 use Rattle.fc_drafts.specs.Gains.{GetsName}
-use Rattle.fc_effects.specs.Short.{Gain, gain_in, gain_of, growth_in, short}
+use Rattle.fc_image.specs.effects.Short.{Gain, gain_in, gain_of, growth_in, short}
 use Rattle.fc_image.specs.Objects.{listing_at, tree_of}
 use Rattle.fc_image.specs.Opening.{Opened}
 use Rattle.fc_image.specs.Walk.{Object}
-use Rattle.fc_nodes.specs.Edits.{Nodes}
+use Rattle.fc_laws.specs.nodes.Edits.{Nodes}
 use Rattle.fc_tree.specs.Nodes.{body_in}
 use Rattle.fc_tree.proofs.WalkedLemmas.{find_only, one_listing, place_of}
 use Rattle.fc_volume.specs.declared.lines.CommandError.{CommandError}

@@ -25,7 +25,7 @@ use Rattle.fc_dirs.specs.declared.SmallForm.{SmallForm}
 use Rattle.fc_dirs.specs.Directory.{Directory}
 use Rattle.fc_smalldir.specs.Fields.{names_of_form}
 use Rattle.fc_drafts.specs.Draft.{CanAddress, CanBeCalled, CanName}
-use Rattle.fc_effects.specs.Steady.{new_directory}
+use Rattle.fc_image.specs.effects.Steady.{new_directory}
 use Rattle.fc_image.specs.Layout.{Layout, dir_form, disc_sectors, hole_sectors, is_among, is_apart}
 use Rattle.fc_image.specs.Edits.{IsAt}
 use Rattle.fc_image.specs.Objects.{objects_of}
@@ -40,9 +40,9 @@ use Rattle.fc_tree.specs.Agree.{HasForm}
 use Rattle.fc_tree.specs.Counts.{address_in}
 use Rattle.fc_tree.specs.Nodes.{HoldObjects}
 use Rattle.fc_tree.proofs.WalkedLemmas.{listed_directory}
-use Rattle.fc_nodes.specs.Edits.{Nodes}
-use Rattle.fc_agree.specs.Agreed.{AgreeOn}
-use Rattle.fc_agree.proofs.BeforeLemmas.{new_facts, new_shape, tight}
+use Rattle.fc_laws.specs.nodes.Edits.{Nodes}
+use Rattle.fc_laws.specs.agree.Agreed.{AgreeOn}
+use Rattle.fc_laws.proofs.lemmas.agree.BeforeLemmas.{new_facts, new_shape, tight}
 use Rattle.fc_refusals.specs.Targets.{IsVacant}
 use Rattle.fc_volume.specs.Making.{CanGain, CanHoldNew, CanMakeIn}
 use Rattle.fc_volume.proofs.ReadingLemmas.{each_at}

@@ -21,8 +21,8 @@ use Rattle.fc_dirs.specs.Directory.{Directory, directory_size, entries_of}
 use Rattle.fc_drafts.specs.Draft.{IsSayable, directory_in, size_of, with_head, with_new}
 use Rattle.fc_drafts.specs.Entries.{directory_entry}
 use Rattle.fc_drafts.specs.Rewriting.{HasEntered}
-use Rattle.fc_effects.specs.Short.{Gain, gain_in, gain_of, growth_in, growth_of, growth_with, new_dir_size}
-use Rattle.fc_effects.specs.Steady.{new_directory}
+use Rattle.fc_image.specs.effects.Short.{Gain, gain_in, gain_of, growth_in, growth_of, growth_with, new_dir_size}
+use Rattle.fc_image.specs.effects.Steady.{new_directory}
 use Rattle.fc_image.specs.Layout.{Layout, dir_form, sectors_at}
 use Rattle.fc_image.specs.Edits.{IsAt}
 use Rattle.fc_image.specs.InPlace.{says_now}
@@ -39,7 +39,7 @@ use Rattle.fc_tree.specs.Counts.{address_in}
 use Rattle.fc_tree.specs.Nodes.{HoldObjects, body_in, nodes_of}
 use Rattle.fc_tree.specs.Parts.{AreOwners, Parts}
 use Rattle.fc_tree.proofs.WalkedLemmas.{find_only, one_listing, place_of, same_some}
-use Rattle.fc_nodes.specs.Edits.{IsDirectoryAdded, Nodes, NodesFollow, OwnersFollow, with_body}
+use Rattle.fc_laws.specs.nodes.Edits.{IsDirectoryAdded, Nodes, NodesFollow, OwnersFollow, with_body}
 use Rattle.fc_changes.proofs.ReadsLemmas.{same_name_itself}
 use Rattle.std.specs.Int.{div_ceil}
 use Rattle.std.proofs.lemmas.Bool.{lt-ltb}
@@ -52,19 +52,19 @@ use Rattle.fc_tree.specs.Parts.{first_in}
 use Rattle.fc_plan.specs.Parts.{fronts}
 use Rattle.fc_changes.specs.Changed.{IsInNewSpace}
 use Rattle.fc_changes.proofs.BasicLemmas.{next_in}
-use Rattle.fc_nodes.specs.Edits.{OwnersEdited, owner_with, owners_with}
-use Rattle.fc_agree.specs.Agreed.{CanSay}
+use Rattle.fc_laws.specs.nodes.Edits.{OwnersEdited, owner_with, owners_with}
+use Rattle.fc_laws.specs.agree.Agreed.{CanSay}
 use Rattle.fc_newmap.proofs.HeldLemmas.{geometry_facts}
 use Rattle.fc_volume.specs.Owners.{entry_owner}
 use Rattle.fc_volume.proofs.OwnersLemmas.{sectors_long}
 use Rattle.fc_changes.specs.Owed.{IsWritten}
-use Rattle.fc_effects.specs.Steady.{has_grown, has_new_holder}
+use Rattle.fc_image.specs.effects.Steady.{has_grown, has_new_holder}
 use Rattle.fc_image.specs.Stays.{OpensAs}
 use Rattle.fc_objects.specs.Bytes.{first_bytes}
 use Rattle.fc_objects.specs.Written.{AreApart, IsPartWritten}
-use Rattle.fc_takeover.specs.Laws.{TakesOver}
-use Rattle.fc_takeover.specs.Places.{OpensBy}
-use Rattle.fc_takeover.specs.Steps.{IsMadeInSteps}
+use Rattle.fc_laws.specs.takeover.Laws.{TakesOver}
+use Rattle.fc_laws.specs.takeover.Places.{OpensBy}
+use Rattle.fc_laws.specs.takeover.Steps.{IsMadeInSteps}
 use Rattle.fc_volume.specs.Changing.{WritesPlaces}
 use Rattle.fc_volume.specs.Storing.{IsObjectMade}
 use Rattle.fc_volume.proofs.MakingLemmas.{dir_bytes, new_size}

@@ -18,7 +18,7 @@ use Rattle.fc_space.specs.Space.{layout_of}
 use Rattle.fc_tree.specs.Agree.{Agree}
 use Rattle.fc_tree.specs.Nodes.{Numbers, next_number, nodes_of}
 use Rattle.fc_tree.specs.Parts.{AreOwners, ArePartsOf}
-use Rattle.fc_takeover.specs.Laws.{TakesOver}
+use Rattle.fc_laws.specs.takeover.Laws.{TakesOver}
 use Rattle.fc_volume.specs.declared.changes.making.Making.{Making}
 use Rattle.fc_volume.specs.CdirLaws.{CdirLaws}
 use Rattle.fc_volume.specs.Changing.{HasChanged, WritesPlaces}

@@ -12,7 +12,7 @@ use Rattle.fc_newmap.specs.Map.{Map}
 use Rattle.fc_changes.specs.Owed.{IsWritten}
 use Rattle.fc_model.specs.Command.{Command}
 use Rattle.fc_tree.specs.Parts.{ArePartsOf}
-use Rattle.fc_takeover.specs.Places.{PlacesLaw}
+use Rattle.fc_laws.specs.takeover.Places.{PlacesLaw}
 use Rattle.fc_volume.specs.declared.lines.CommandError.{CommandError}
 use Rattle.fc_volume.specs.declared.lines.CommandError.TheVariants.{Refused, NoMemory, DiskFault}
 use Rattle.fc_volume.specs.Changing.{WritesOnlyPlaces, WritesPlaces}

@@ -32,9 +32,9 @@ use Rattle.fc_image.proofs.FreeLemmas.{parts_of}
 use Rattle.fc_image.proofs.HolesLemmas.{OpenMap, loose_sectors as loose_objects, none_loose}
 use Rattle.fc_image.proofs.MoveLemmas.{all_filter, open_by, unless}
 use Rattle.fc_image.proofs.StepLemmas.{all_at, among_filter}
-use Rattle.fc_effects.specs.Effect.{Compacts}
-use Rattle.fc_effects.specs.Settled.{CompactedLayout, IdleStay, ObjectsStay}
-use Rattle.fc_effects.specs.Steady.{MapOutside, OutsideSteady, SameSectors, ZoneSteady, expected_zone, idle_sectors, is_idle}
+use Rattle.fc_image.specs.effects.Effect.{Compacts}
+use Rattle.fc_image.specs.effects.Settled.{CompactedLayout, IdleStay, ObjectsStay}
+use Rattle.fc_image.specs.effects.Steady.{MapOutside, OutsideSteady, SameSectors, ZoneSteady, expected_zone, idle_sectors, is_idle}
 use Rattle.fc_compact.specs.Ready.{AreOwnersOf, IsReady}
 use Rattle.fc_compact.specs.Compacting.{ByOwnersLaw, ChangesLoose, is_loose, loose_sectors}
 use Rattle.fc_volume.specs.Compacting.{IsCompacted}

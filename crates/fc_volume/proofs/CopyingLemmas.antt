@@ -21,7 +21,7 @@ use Rattle.fc_image.specs.Layout.{Layout, is_among, is_apart}
 use Rattle.fc_image.proofs.HolesLemmas.{apart_at}
 use Rattle.fc_objects.specs.Extents.{extent_sectors, sectors_in}
 use Rattle.fc_objects.specs.Written.{AreApart}
-use Rattle.fc_takeover.proofs.WriteLemmas.{written_bytes_law}
+use Rattle.fc_laws.proofs.lemmas.takeover.WriteLemmas.{written_bytes_law}
 use Rattle.fc_volume.specs.declared.copies.Copies.{Copies}
 use Rattle.fc_volume.specs.Compacting.{KeepsMap}
 use Rattle.fc_volume.specs.Copying.{AreCopiedFrom, AreFirstCopied, ChangesOnly, IsFirstCopied}

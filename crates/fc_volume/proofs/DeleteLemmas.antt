@@ -29,8 +29,8 @@ use Rattle.fc_tree.specs.Counts.{address_in}
 use Rattle.fc_tree.specs.Nodes.{HoldObjects, body_in}
 use Rattle.fc_tree.specs.Parts.{Parts}
 use Rattle.fc_tree.proofs.WalkedLemmas.{same_some}
-use Rattle.fc_nodes.specs.Edits.{IsRemoved, Nodes, NodesFollow, OwnersEdited, OwnersFollow, owner_with, with_body}
-use Rattle.fc_takeover.specs.Laws.{TakesOver}
+use Rattle.fc_laws.specs.nodes.Edits.{IsRemoved, Nodes, NodesFollow, OwnersEdited, OwnersFollow, owner_with, with_body}
+use Rattle.fc_laws.specs.takeover.Laws.{TakesOver}
 use Rattle.fc_changes.specs.Owed.{GivesBack, GoesAlone, IsWritten, IsSpaceEdit}
 use Rattle.fc_placing.specs.Space.{IsMapEdited}
 use Rattle.fc_placing.proofs.LeavingLemmas.{owner_is}
@@ -274,7 +274,7 @@ module _ (laws : ChangeLaws) (m : Map) (nodes : Nodes) (owners : List Owner) (pa
     writes_places image w =
         let tg = target view.listings view_sound hold in
         let may = laws.places.directory kind was view m (Command.Delete path) k (record { opens = opens; layout = at }) tg.listed
-        (ap (λ (b : Bool). b || false || Rattle.fc_effects.specs.Steady.has_grown view (Command.Delete path) k.object.path || Rattle.fc_effects.specs.Steady.has_new_holder view (Command.Delete path) k.object.path) tg.above) in
+        (ap (λ (b : Bool). b || false || Rattle.fc_image.specs.effects.Steady.has_grown view (Command.Delete path) k.object.path || Rattle.fc_image.specs.effects.Steady.has_new_holder view (Command.Delete path) k.object.path) tg.above) in
         let own = subst (λ (xs : List ℕ). IsWritten m xs was image) (sectors_are view.listings view_sound hold) w in
         record {
           length_stays = own.length_stays;

@@ -22,7 +22,7 @@ use Rattle.fc_space.specs.Space.{PlacesSuffice, layout_of}
 use Rattle.fc_tree.specs.Agree.{Agree}
 use Rattle.fc_tree.specs.Nodes.{nodes_of}
 use Rattle.fc_tree.specs.Parts.{AreOwners, ArePartsOf, Parts}
-use Rattle.fc_takeover.specs.Laws.{TakesOver}
+use Rattle.fc_laws.specs.takeover.Laws.{TakesOver}
 use Rattle.fc_refusals.specs.declared.target.Target.{Target}
 use Rattle.fc_volume.specs.declared.changes.removal.Removal.{Removal}
 use Rattle.fc_volume.specs.declared.copies.Copies.{Copies}

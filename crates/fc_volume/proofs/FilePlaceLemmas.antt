@@ -21,7 +21,7 @@ use Rattle.fc_image.specs.Opening.{boot_place, reserved_in}
 use Rattle.fc_image.specs.Sound.{AreSound}
 use Rattle.fc_image.specs.Walk.{Listing, Object, object_size}
 use Rattle.fc_image.proofs.HolesLemmas.{apart_at, apart_from}
-use Rattle.fc_effects.specs.Placed.{file_low, has_spare_share}
+use Rattle.fc_image.specs.effects.Placed.{file_low, has_spare_share}
 use Rattle.fc_plan.specs.declared.plan.Plan.{Plan}
 use Rattle.fc_plan.specs.Giving.{is_one_of}
 use Rattle.fc_plan.specs.Parts.{fronts}
@@ -35,11 +35,11 @@ use Rattle.fc_changes.specs.Owed.{GivesBack, IsSpaceEdit}
 use Rattle.fc_changes.proofs.BasicLemmas.{clash, or_second}
 use Rattle.fc_changes.proofs.PlacedLemmas.{IsShared, is_shared}
 use Rattle.fc_changes.proofs.SpaceLemmas.{no_runs, still_owned}
-use Rattle.fc_nodes.specs.Edits.{Nodes}
-use Rattle.fc_agree.specs.Agreed.{AgreeOn, IsMapChange}
-use Rattle.fc_agree.specs.Maps.{MapLaw}
-use Rattle.fc_agree.proofs.BeforeLemmas.{new_shape}
-use Rattle.fc_agree.proofs.NewPlaceLemmas.{file_place}
+use Rattle.fc_laws.specs.nodes.Edits.{Nodes}
+use Rattle.fc_laws.specs.agree.Agreed.{AgreeOn, IsMapChange}
+use Rattle.fc_laws.specs.agree.Maps.{MapLaw}
+use Rattle.fc_laws.proofs.lemmas.agree.BeforeLemmas.{new_shape}
+use Rattle.fc_laws.proofs.lemmas.agree.NewPlaceLemmas.{file_place}
 use Rattle.fc_placing.specs.declared.placing.Placing.{Placing}
 use Rattle.fc_placing.specs.declared.placing.Placing.TheVariants.{Nowhere, Shared, New}
 use Rattle.fc_placing.specs.Leaving.{OwnOnly}

@@ -10,7 +10,7 @@ use Rattle.fc_newmap.specs.Map.{Map, map_sectors}
 use Rattle.fc_copies.specs.Copies.{HoldsCopies}
 use Rattle.fc_changes.specs.Owed.{IsWritten}
 use Rattle.fc_image.specs.Layout.{Layout, is_apart, new_sectors, sectors_at}
-use Rattle.fc_takeover.proofs.WriteLemmas.{written_bytes_law}
+use Rattle.fc_laws.proofs.lemmas.takeover.WriteLemmas.{written_bytes_law}
 use Rattle.fc_objects.specs.Extents.{sectors_in}
 use Rattle.fc_plan.specs.declared.plan.Plan.{Plan}
 use Rattle.fc_plan.specs.Parts.{fronts}
@@ -21,13 +21,13 @@ use Rattle.fc_alloc.specs.declared.owner.Owner.{Owner}
 use Rattle.fc_model.specs.Answer.{first_of, when}
 use Rattle.fc_model.specs.Command.{Command}
 use Rattle.fc_dirs.specs.Directory.{Directory}
-use Rattle.fc_effects.specs.Short.{Gain, gain_in, is_full_with, short, space_reasons}
+use Rattle.fc_image.specs.effects.Short.{Gain, gain_in, is_full_with, short, space_reasons}
 use Rattle.fc_image.specs.Opening.{Opened}
 use Rattle.fc_placing.specs.Places.{FitsDirectory, address_in, slack_left}
 use Rattle.fc_placing.specs.declared.placing.Placing.{Placing}
 use Rattle.fc_placing.specs.declared.placing.Placing.TheVariants.{Nowhere, Shared, New}
 use Rattle.std.specs.List.{find, flat_map}
-use Rattle.fc_effects.specs.Sharing.{Holding, holdings_in, is_shareable, is_spare, shares, slack_among}
+use Rattle.fc_image.specs.effects.Sharing.{Holding, holdings_in, is_shareable, is_spare, shares, slack_among}
 use Rattle.fc_slack.specs.Slack.{holdings, place_in}
 use Rattle.fc_changes.proofs.PlacedLemmas.{found_in}
 use Rattle.fc_volume.specs.Filing.{HasPlanned, IsSomePlace, KeepsPlan, WantsFile, plan_in}

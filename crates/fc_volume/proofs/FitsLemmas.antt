@@ -11,14 +11,14 @@ use Rattle.fc_dirs.specs.declared.Entry.{Entry}
 use Rattle.fc_dirs.specs.Directory.{Directory, entries_of}
 use Rattle.fc_drafts.specs.Gains.{GetsName, HasRoom}
 use Rattle.fc_drafts.specs.declared.room.Room.TheVariants as rooms
-use Rattle.fc_effects.specs.Short.{Gain, gain_by_new_name, gain_by_rename, gain_in, gain_of, growth_in}
+use Rattle.fc_image.specs.effects.Short.{Gain, gain_by_new_name, gain_by_rename, gain_in, gain_of, growth_in}
 use Rattle.fc_image.proofs.PathsLemmas.{unless}
 use Rattle.fc_image.specs.Layout.{Layout}
 use Rattle.fc_image.specs.Objects.{listing_at, object_at}
 use Rattle.fc_image.specs.Opening.{Opened}
 use Rattle.fc_image.specs.Sound.{AreSound}
 use Rattle.fc_image.specs.Walk.{Listing, Object}
-use Rattle.fc_nodes.specs.Edits.{Nodes}
+use Rattle.fc_laws.specs.nodes.Edits.{Nodes}
 use Rattle.fc_refusals.specs.declared.target.Renaming.{Renaming}
 use Rattle.fc_refusals.specs.Slots.{IsRenaming}
 use Rattle.fc_refusals.specs.Targets.{IsVacant}

@@ -11,8 +11,8 @@ use Rattle.fc_model.specs.Answer.{first_of, reasons, when}
 use Rattle.fc_image.specs.Layout.{Layout, dir_form}
 use Rattle.fc_image.specs.Objects.{tree_of}
 use Rattle.fc_image.specs.Opening.{Opened}
-use Rattle.fc_effects.specs.Sharing.{new_ids}
-use Rattle.fc_effects.specs.Short.{needed_bits, needed_ids, short, space_reasons}
+use Rattle.fc_image.specs.effects.Sharing.{new_ids}
+use Rattle.fc_image.specs.effects.Short.{needed_bits, needed_ids, short, space_reasons}
 use Rattle.fc_volume.specs.declared.lines.CommandError.{CommandError}
 use Rattle.fc_volume.specs.declared.lines.CommandError.TheVariants.{Refused, NoMemory, DiskFault}
 use Rattle.fc_volume.specs.Changing.{AnswersBy, refusal_in}

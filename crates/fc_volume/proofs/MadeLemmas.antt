@@ -8,7 +8,7 @@ use Rattle.std.specs.FinMap.{FinMap, get, insert as put, get-insert, same_map, n
 use Rattle.std.proofs.lemmas.Bool.{cases_eq}
 use Rattle.fc_tree.specs.declared.node.Node.{Node}
 use Rattle.fc_tree.proofs.SlotLemmas.{level, other}
-use Rattle.fc_nodes.specs.Edits.{Nodes, with_edited}
+use Rattle.fc_laws.specs.nodes.Edits.{Nodes, with_edited}
 
 -- A node of a new number comes, and one that is there changes: in either order.
 module _ (nodes mid : Nodes) (dir n : ℕ) (x old : Node) (there : get nodes dir ≡ Some old) (free : get nodes n ≡ None) (added : mid ≡ put nodes n x) where

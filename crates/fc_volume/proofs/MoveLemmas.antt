@@ -23,18 +23,18 @@ use Rattle.fc_dirs.specs.Directory.{Directory, entries_of}
 use Rattle.fc_drafts.specs.Draft.{directory_in}
 use Rattle.fc_drafts.specs.Entries.{renamed_entry}
 use Rattle.fc_drafts.specs.Rewriting.{HasMoved}
-use Rattle.fc_effects.specs.Short.{is_copied, growth_in}
-use Rattle.fc_effects.specs.Steady.{AreWritten, IsRewritten, has_grown, has_new_holder}
+use Rattle.fc_image.specs.effects.Short.{is_copied, growth_in}
+use Rattle.fc_image.specs.effects.Steady.{AreWritten, IsRewritten, has_grown, has_new_holder}
 use Rattle.fc_image.specs.Layout.{Layout, dir_form}
 use Rattle.fc_image.specs.Opening.{Opened}
 use Rattle.fc_image.specs.Stays.{OpensAs}
 use Rattle.fc_objects.specs.Extents.{sectors_in}
 use Rattle.fc_placing.proofs.LeavingLemmas.{owner_is}
-use Rattle.fc_takeover.specs.Laws.{TakesOver}
-use Rattle.fc_takeover.specs.Places.{MayBeWritten, OpensBy}
-use Rattle.fc_takeover.specs.Steps.{IsMovedInSteps}
+use Rattle.fc_laws.specs.takeover.Laws.{TakesOver}
+use Rattle.fc_laws.specs.takeover.Places.{MayBeWritten, OpensBy}
+use Rattle.fc_laws.specs.takeover.Steps.{IsMovedInSteps}
 use Rattle.fc_tree.proofs.MemberLemmas.{contains_later}
-use Rattle.fc_nodes.specs.Owning.{OwningLaw}
+use Rattle.fc_laws.specs.nodes.Owning.{OwningLaw}
 use Rattle.fc_volume.specs.Changing.{WritesPlaces}
 use Rattle.fc_image.specs.EditedWalk.{moved_object}
 use Rattle.fc_image.specs.InPlace.{says_now}
@@ -47,7 +47,7 @@ use Rattle.fc_tree.specs.Parts.{AreOwners, Parts}
 use Rattle.fc_tree.specs.Counts.{address_in}
 use Rattle.fc_tree.specs.Nodes.{HoldObjects, body_in}
 use Rattle.fc_tree.proofs.WalkedLemmas.{listed_directory, same_some}
-use Rattle.fc_nodes.specs.Edits.{IsTransferred, Nodes, NodesFollow, OwnersEdited, OwnersFollow, owner_with, owners_with, as_moved, relisted, with_body, with_entry, with_holder, with_own_body}
+use Rattle.fc_laws.specs.nodes.Edits.{IsTransferred, Nodes, NodesFollow, OwnersEdited, OwnersFollow, owner_with, owners_with, as_moved, relisted, with_body, with_entry, with_holder, with_own_body}
 use Rattle.fc_refusals.specs.declared.target.Renaming.{Renaming}
 use Rattle.fc_refusals.specs.declared.target.Target.{Target}
 use Rattle.fc_refusals.specs.Slots.{IsDestination, IsRenaming}

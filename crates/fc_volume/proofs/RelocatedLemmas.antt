@@ -13,7 +13,7 @@ use Rattle.fc_space.specs.Space.{layout_of}
 use Rattle.fc_tree.specs.Agree.{Agree}
 use Rattle.fc_tree.specs.Nodes.{nodes_of}
 use Rattle.fc_tree.specs.Parts.{ArePartsOf, Parts}
-use Rattle.fc_takeover.specs.Laws.{TakesOver}
+use Rattle.fc_laws.specs.takeover.Laws.{TakesOver}
 use Rattle.fc_volume.specs.declared.changes.relocate.Relocation.{Relocation}
 use Rattle.fc_volume.specs.declared.copies.Copies.{Copies}
 use Rattle.fc_volume.specs.Changing.{HasChanged}

@@ -14,7 +14,7 @@ use Rattle.std.specs.FinMap.{get}
 use Rattle.fc_drafts.specs.Draft.{directory_in}
 use Rattle.fc_tree.specs.declared.node.Node.{Node}
 use Rattle.fc_tree.specs.Nodes.{body_in}
-use Rattle.fc_nodes.specs.Edits.{Nodes, with_holder}
+use Rattle.fc_laws.specs.nodes.Edits.{Nodes, with_holder}
 use Rattle.fc_tree.proofs.TakenLemmas.{among_append}
 use Rattle.fc_volume.specs.declared.changes.rewrite.Rewrite.{Rewrite}
 use Rattle.fc_volume.specs.declared.changes.relocate.Relocation.{Relocation}

@@ -21,8 +21,8 @@ use Rattle.fc_dirs.specs.Directory.{Directory, entries_of}
 use Rattle.fc_drafts.specs.Draft.{directory_in, size_of, with_head, with_renamed}
 use Rattle.fc_drafts.specs.Entries.{renamed_entry}
 use Rattle.fc_drafts.specs.Rewriting.{HasMoved, HasRenamed}
-use Rattle.fc_effects.specs.Steady.{AreWritten, IsRewritten, has_grown, has_new_holder}
-use Rattle.fc_effects.specs.Short.{growth_in}
+use Rattle.fc_image.specs.effects.Steady.{AreWritten, IsRewritten, has_grown, has_new_holder}
+use Rattle.fc_image.specs.effects.Short.{growth_in}
 use Rattle.fc_image.specs.Layout.{Layout, dir_form, sectors_at}
 use Rattle.fc_image.specs.Edits.{IsAt}
 use Rattle.fc_image.specs.EditedWalk.{moved_object}
@@ -43,10 +43,10 @@ use Rattle.fc_tree.specs.Parts.{AreOwners, Parts}
 use Rattle.fc_tree.proofs.SoundLemmas.{folds_alike, same_by_folds}
 use Rattle.fc_tree.proofs.MemberLemmas.{contains_later}
 use Rattle.fc_tree.proofs.WalkedLemmas.{child_is_object, child_path, contained, find_only, holder-push, listed_directory, listing_found, one_listing, one_object, place_of, same_some}
-use Rattle.fc_nodes.specs.Edits.{IsRenamed, Nodes, NodesFollow, OwnersFollow, as_moved, relisted, with_body, with_entry, with_own_body}
+use Rattle.fc_laws.specs.nodes.Edits.{IsRenamed, Nodes, NodesFollow, OwnersFollow, as_moved, relisted, with_body, with_entry, with_own_body}
 use Rattle.fc_changes.specs.Owed.{IsWritten}
-use Rattle.fc_takeover.specs.Laws.{TakesOver}
-use Rattle.fc_takeover.specs.Places.{MayBeWritten, OpensBy}
+use Rattle.fc_laws.specs.takeover.Laws.{TakesOver}
+use Rattle.fc_laws.specs.takeover.Places.{MayBeWritten, OpensBy}
 use Rattle.fc_refusals.specs.declared.target.Renaming.{Renaming}
 use Rattle.fc_refusals.specs.declared.target.Target.{Target}
 use Rattle.fc_refusals.specs.Slots.{IsRenaming}
@@ -153,7 +153,7 @@ pub without_source : (r : Relocation) (nodes : Nodes) → r.source ≡ None
 without_source r nodes none =
     ap (λ (s : Option Rewrite).
     let placed = with_entry r.node r.entry (with_body r.holder.node (body_in (directory_in r.holder.draft)) (with_more s nodes)) in
-    with_more r.own (if is_some s then Rattle.fc_nodes.specs.Edits.with_holder r.node r.holder.node placed else placed)) none
+    with_more r.own (if is_some s then Rattle.fc_laws.specs.nodes.Edits.with_holder r.node r.holder.node placed else placed)) none
 
 -- ---- the directory that is renamed
 

@@ -16,8 +16,8 @@ use Rattle.fc_image.specs.Layout.{Layout}
 use Rattle.fc_image.specs.Objects.{listing_at, object_at, objects_of}
 use Rattle.fc_image.specs.Opening.{Opened}
 use Rattle.fc_image.specs.Walk.{Listing, Object, is_directory_object}
-use Rattle.fc_effects.specs.Sharing.{new_ids, units}
-use Rattle.fc_effects.specs.Short.{Gain, Growth, gain_at, gain_by_new_name, gain_by_rename, gain_in, gain_of, growth_in, growth_of, growth_with, is_copied, is_full_with, is_sharing, moved_growth, needed_bits, needed_ids, new_length, short, space_reasons}
+use Rattle.fc_image.specs.effects.Sharing.{new_ids, units}
+use Rattle.fc_image.specs.effects.Short.{Gain, Growth, gain_at, gain_by_new_name, gain_by_rename, gain_in, gain_of, growth_in, growth_of, growth_with, is_copied, is_full_with, is_sharing, moved_growth, needed_bits, needed_ids, new_length, short, space_reasons}
 
 -- ---- no space
 
@@ -33,10 +33,10 @@ no_reasons v m from to still nothing at =
     (ap (nat_lt (length (new_ids m))) ids ∙ none_below (length (new_ids m))) (ap (nat_lt (bits_in (hole_runs m))) bits ∙ none_below (bits_in (hole_runs m)))
   where
     moved : moved_growth v (Command.Rename from to) ≡ None
-    moved = ap (λ (g : Option Growth). option_and_then (λ (growth : Growth). if Rattle.fc_effects.specs.Short.has_room v.layout (objects_of v.listings) growth then None else Some growth) g) still
+    moved = ap (λ (g : Option Growth). option_and_then (λ (growth : Growth). if Rattle.fc_image.specs.effects.Short.has_room v.layout (objects_of v.listings) growth then None else Some growth) g) still
 
     ids : needed_ids m v (Command.Rename from to) ≡ 0
-    ids = ap₂ (λ (n : ℕ) (g : Option Growth). Rattle.fc_effects.specs.Short.one_if (nat_lt 0 (units m.geometry n)) + option_map_or (λ (growth : Growth). Rattle.fc_effects.specs.Short.one_if (not (Rattle.fc_effects.specs.Short.is_alone (objects_of v.listings) growth.0))) g 0) nothing moved
+    ids = ap₂ (λ (n : ℕ) (g : Option Growth). Rattle.fc_image.specs.effects.Short.one_if (nat_lt 0 (units m.geometry n)) + option_map_or (λ (growth : Growth). Rattle.fc_image.specs.effects.Short.one_if (not (Rattle.fc_image.specs.effects.Short.is_alone (objects_of v.listings) growth.0))) g 0) nothing moved
 
     bits : needed_bits m v (Command.Rename from to) ≡ 0
     bits = ap₂ (λ (n : ℕ) (g : Option Growth).

@@ -42,11 +42,11 @@ use Rattle.fc_tree.specs.Counts.{address_in}
 use Rattle.fc_tree.specs.Nodes.{HoldObjects, body_in, body_of, nodes_of, number_of}
 use Rattle.fc_tree.specs.Parts.{AreOwners, ArePartsOf, Parts}
 use Rattle.fc_image.specs.Stays.{OpensAs}
-use Rattle.fc_takeover.specs.Laws.{TakesOver}
+use Rattle.fc_laws.specs.takeover.Laws.{TakesOver}
 use Rattle.fc_tree.proofs.FoundLemmas.{listing_of_body}
 use Rattle.fc_tree.proofs.WalkedLemmas.{child_is_object, contained, same_some}
-use Rattle.fc_agree.specs.Agreed.{AgreeOn}
-use Rattle.fc_nodes.specs.Edits.{Nodes}
+use Rattle.fc_laws.specs.agree.Agreed.{AgreeOn}
+use Rattle.fc_laws.specs.nodes.Edits.{Nodes}
 use Rattle.fc_refusals.specs.declared.target.Renaming.{Renaming}
 use Rattle.fc_refusals.specs.Slots.{IsDestination, IsRenaming}
 use Rattle.fc_refusals.specs.Targets.{IsTarget}
@@ -62,7 +62,7 @@ use Rattle.fc_volume.proofs.PieceLemmas.{all_low}
 use Rattle.fc_volume.proofs.ReadingLemmas.{each_at}
 use Rattle.fc_model.specs.Answer.{first_of, reasons, when}
 use Rattle.fc_drafts.proofs.SizeLemmas.{small_full, small_renamed_fits}
-use Rattle.fc_effects.specs.Short.{Gain, gain_at, gain_by_new_name, gain_by_rename, gain_in, gain_of, is_copied, is_full_with, short, space_reasons, growth_in, growth_with}
+use Rattle.fc_image.specs.effects.Short.{Gain, gain_at, gain_by_new_name, gain_by_rename, gain_in, gain_of, is_copied, is_full_with, short, space_reasons, growth_in, growth_with}
 use Rattle.fc_volume.specs.Changing.{refusal_in}
 use Rattle.fc_volume.proofs.CdirAskedLemmas.{first_none}
 use Rattle.fc_volume.proofs.FitsLemmas as goes

@@ -16,7 +16,7 @@ use Rattle.fc_model.specs.Tree.{holder}
 use Rattle.fc_dirs.specs.declared.Entry.{Entry}
 use Rattle.fc_dirs.specs.Directory.{Directory}
 use Rattle.fc_drafts.specs.Draft.{CanAddress}
-use Rattle.fc_effects.specs.Short.{short}
+use Rattle.fc_image.specs.effects.Short.{short}
 use Rattle.fc_image.specs.Layout.{Layout, dir_form, disc_sectors, is_among, is_apart, sectors_at}
 use Rattle.fc_image.specs.Edits.{IsAt}
 use Rattle.fc_image.specs.Objects.{objects_of, tree_of}
@@ -36,7 +36,7 @@ use Rattle.fc_tree.specs.Parts.{AreOwners, ArePartsOf, Parts}
 use Rattle.fc_tree.proofs.PlaceLemmas.{same_number}
 use Rattle.fc_tree.proofs.SoundLemmas.{folds_alike}
 use Rattle.fc_tree.proofs.WalkedLemmas.{same_some}
-use Rattle.fc_agree.specs.Agreed.{AgreeOn}
+use Rattle.fc_laws.specs.agree.Agreed.{AgreeOn}
 use Rattle.fc_placing.specs.declared.placing.Placing.{Placing}
 use Rattle.fc_placing.specs.declared.placing.Placing.TheVariants.{Nowhere, Shared, New}
 use Rattle.fc_placing.specs.Places.{IsFilePlace, address_in, id_in, parts_in}

@@ -23,10 +23,10 @@ use Rattle.fc_objects.specs.Written.{AreApart, IsPartWritten}
 use Rattle.fc_tree.specs.Nodes.{HoldObjects}
 use Rattle.fc_tree.specs.Parts.{AreOwners}
 use Rattle.fc_tree.proofs.WalkedLemmas.{contained}
-use Rattle.fc_nodes.specs.Edits.{Nodes}
-use Rattle.fc_takeover.specs.Laws.{TakesOver}
-use Rattle.fc_takeover.specs.Places.{MayBeWritten, OpensBy}
-use Rattle.fc_takeover.specs.Steps.{IsDirectoryStep, IsFiledInSteps}
+use Rattle.fc_laws.specs.nodes.Edits.{Nodes}
+use Rattle.fc_laws.specs.takeover.Laws.{TakesOver}
+use Rattle.fc_laws.specs.takeover.Places.{MayBeWritten, OpensBy}
+use Rattle.fc_laws.specs.takeover.Steps.{IsDirectoryStep, IsFiledInSteps}
 use Rattle.fc_changes.specs.Owed.{IsMapAfter, IsWritten}
 use Rattle.fc_changes.specs.Changed.{IsFileAt, MakesFile}
 use Rattle.fc_changes.proofs.BasicLemmas.{next_in}

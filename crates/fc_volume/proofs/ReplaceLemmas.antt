@@ -17,8 +17,8 @@ use Rattle.fc_dirs.specs.Directory.{Directory, entries_of}
 use Rattle.fc_drafts.specs.Draft.{directory_in, size_of}
 use Rattle.fc_drafts.specs.Entries.{saved_entry}
 use Rattle.fc_drafts.specs.Rewriting.{HasReplaced}
-use Rattle.fc_effects.specs.Short.{Gain, gain_at, gain_in, growth_in, growth_of, is_full_with, new_length, slack_for, slack_in}
-use Rattle.fc_effects.specs.Steady.{has_grown, has_new_holder, is_renamed_by, may_be_rewritten}
+use Rattle.fc_image.specs.effects.Short.{Gain, gain_at, gain_in, growth_in, growth_of, is_full_with, new_length, slack_for, slack_in}
+use Rattle.fc_image.specs.effects.Steady.{has_grown, has_new_holder, is_renamed_by, may_be_rewritten}
 use Rattle.fc_image.specs.Layout.{Layout, dir_form, id_of, low_of, sectors_at}
 use Rattle.fc_image.specs.Edits.{IsAt}
 use Rattle.fc_image.specs.InPlace.{says_now}
@@ -36,8 +36,8 @@ use Rattle.fc_tree.specs.Parts.{AreOwners, Parts, first_in}
 use Rattle.fc_tree.proofs.PlaceLemmas.{same_number}
 use Rattle.fc_tree.proofs.SoundLemmas.{folds_alike}
 use Rattle.fc_tree.proofs.WalkedLemmas.{child_is_object, contained, same_some}
-use Rattle.fc_nodes.specs.Edits.{IsReplaced, Nodes, NodesFollow, OwnersFollow, owner_with, with_body, with_entry}
-use Rattle.fc_agree.proofs.AddedLemmas.{file_size}
+use Rattle.fc_laws.specs.nodes.Edits.{IsReplaced, Nodes, NodesFollow, OwnersFollow, owner_with, with_body, with_entry}
+use Rattle.fc_laws.proofs.lemmas.agree.AddedLemmas.{file_size}
 use Rattle.fc_changes.specs.Owed.{GivesBack, IsSpaceEdit}
 use Rattle.fc_changes.specs.Changed.{IsFileAt, MakesFile}
 use Rattle.fc_placing.specs.declared.placing.Placing.{Placing}

@@ -6,8 +6,8 @@ use Rattle.std.proofs.lemmas.List.Sorted.{IsPermutation-append_comm, IsPermutati
 use Rattle.fc_alloc.specs.declared.owner.Owner.{Owner}
 use Rattle.fc_alloc.specs.Owners.{HaveOwnNodes, has_node, is_node, with_changed}
 use Rattle.fc_changes.proofs.BasicLemmas.{any_in}
-use Rattle.fc_nodes.specs.Edits.{OwnersEdited}
-use Rattle.fc_nodes.specs.Owning.{OwningLaw}
+use Rattle.fc_laws.specs.nodes.Edits.{OwnersEdited}
+use Rattle.fc_laws.specs.nodes.Owning.{OwningLaw}
 use Rattle.fc_volume.specs.Replacing.{HasOwnerNow, owners_with_room}
 
 -- none is of the node

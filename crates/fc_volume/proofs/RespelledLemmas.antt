@@ -25,7 +25,7 @@ use Rattle.fc_drafts.specs.Gains.{GetsNameFor}
 use Rattle.fc_drafts.specs.Rewriting.{HasEntered, HasRenamed}
 use Rattle.fc_drafts.proofs.HeadLemmas.{fitted_entries}
 use Rattle.fc_drafts.proofs.SizeLemmas.{small_renamed_fits}
-use Rattle.fc_effects.specs.Short.{Gain, Growth, gain_at, gain_by_new_name, gain_by_rename, growth_in, growth_of, growth_with, is_full_with}
+use Rattle.fc_image.specs.effects.Short.{Gain, Growth, gain_at, gain_by_new_name, gain_by_rename, growth_in, growth_of, growth_with, is_full_with}
 use Rattle.fc_image.specs.Layout.{Layout, dir_form}
 use Rattle.fc_image.specs.Objects.{listing_at, object_at}
 use Rattle.fc_image.specs.Opening.{Opened}

@@ -16,7 +16,7 @@ use Rattle.fc_dirs.specs.declared.SmallForm.{SmallForm}
 use Rattle.fc_dirs.specs.Small.{tail_of}
 use Rattle.fc_dirs.specs.Directory.{Directory, directory_size}
 use Rattle.fc_drafts.specs.Draft.{IsSayable, size_of}
-use Rattle.fc_effects.specs.Steady.{AreWritten, IsRewritten}
+use Rattle.fc_image.specs.effects.Steady.{AreWritten, IsRewritten}
 use Rattle.fc_image.specs.Layout.{Layout, dir_form, sectors_at}
 use Rattle.fc_image.specs.Edits.{IsAt}
 use Rattle.fc_image.specs.Objects.{objects_of}
@@ -32,8 +32,8 @@ use Rattle.fc_tree.specs.Agree.{HasForm, IsDirectory}
 use Rattle.fc_tree.specs.Counts.{address_in}
 use Rattle.fc_tree.specs.Nodes.{HoldObjects, body_in, number_of}
 use Rattle.fc_tree.proofs.WalkedLemmas.{same_some}
-use Rattle.fc_takeover.specs.Places.{OpensBy}
-use Rattle.fc_takeover.specs.Steps.{IsDirectoryStep}
+use Rattle.fc_laws.specs.takeover.Places.{OpensBy}
+use Rattle.fc_laws.specs.takeover.Steps.{IsDirectoryStep}
 use Rattle.fc_volume.specs.ChangeLaws.{ChangeLaws}
 use Rattle.fc_volume.specs.Rewrites.{IsRepairedAndWritten}
 use Rattle.fc_volume.proofs.SettingLemmas.{one_content}

@@ -14,8 +14,8 @@ use Rattle.fc_dirs.specs.Entries.{entry_place, has_name, with_entry}
 use Rattle.fc_drafts.specs.Draft.{CanAddress, size_of, with_head, with_new}
 use Rattle.fc_drafts.specs.Gains.{GetsName}
 use Rattle.fc_drafts.specs.Rewriting.{HasEntered}
-use Rattle.fc_effects.specs.Short.{Gain, Growth, gain_in, gain_of, growth_in, growth_of, growth_with}
-use Rattle.fc_effects.specs.Steady.{replaced_entry}
+use Rattle.fc_image.specs.effects.Short.{Gain, Growth, gain_in, gain_of, growth_in, growth_of, growth_with}
+use Rattle.fc_image.specs.effects.Steady.{replaced_entry}
 use Rattle.fc_image.specs.Layout.{Layout, dir_form}
 use Rattle.fc_image.specs.Opening.{Opened}
 use Rattle.fc_image.specs.Walk.{Listing, Object}

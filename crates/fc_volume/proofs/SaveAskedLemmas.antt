@@ -12,7 +12,7 @@ use Rattle.fc_model.specs.Command.{Command}
 use Rattle.fc_model.specs.Answer.{first_of, reasons}
 use Rattle.fc_model.specs.Tree.{holder, last_name}
 use Rattle.fc_dirs.specs.Directory.{Directory}
-use Rattle.fc_effects.specs.Short.{gain_of, growth_in, short}
+use Rattle.fc_image.specs.effects.Short.{gain_of, growth_in, short}
 use Rattle.fc_image.specs.Layout.{Layout, dir_form, disc_sectors, sectors_at}
 use Rattle.fc_image.specs.Objects.{objects_of, tree_of}
 use Rattle.fc_image.specs.Opening.{Opened}
@@ -27,7 +27,7 @@ use Rattle.fc_tree.specs.declared.node.Node.{Node}
 use Rattle.fc_tree.specs.Agree.{Agree, HasForm}
 use Rattle.fc_tree.specs.Nodes.{Numbers, body_in, nodes_of}
 use Rattle.fc_tree.specs.Parts.{AreOwners, ArePartsOf, Parts}
-use Rattle.fc_agree.specs.Agreed.{AgreeOn}
+use Rattle.fc_laws.specs.agree.Agreed.{AgreeOn}
 use Rattle.fc_refusals.specs.declared.target.Slot.{Slot}
 use Rattle.fc_refusals.specs.Targets.{IsVacant}
 use Rattle.fc_volume.specs.declared.changes.putting.FileWords.{FileWords}

@@ -4,7 +4,7 @@ use Rattle.std.specs.Prelude.{is_some, option_map}
 use Rattle.fc_names.specs.Names.{Path, is_same_path}
 use Rattle.fc_model.specs.Command.{Command}
 use Rattle.fc_model.specs.Tree.{holder, last_name}
-use Rattle.fc_effects.specs.Short.{gain_in, gain_of, growth_in, new_length, slack_for, slack_in}
+use Rattle.fc_image.specs.effects.Short.{gain_in, gain_of, growth_in, new_length, slack_for, slack_in}
 use Rattle.fc_image.specs.Layout.{Layout}
 use Rattle.fc_image.specs.Objects.{listing_at, objects_of}
 use Rattle.fc_image.specs.Opening.{Opened}
@@ -16,7 +16,7 @@ use Rattle.fc_tree.specs.Nodes.{number_of}
 use Rattle.fc_tree.proofs.PlaceLemmas.{same_number}
 use Rattle.fc_tree.proofs.SoundLemmas.{folds_alike}
 use Rattle.fc_tree.proofs.WalkedLemmas.{find_only, one_listing, place_of}
-use Rattle.fc_nodes.specs.Edits.{Nodes}
+use Rattle.fc_laws.specs.nodes.Edits.{Nodes}
 use Rattle.fc_refusals.specs.Targets.{IsVacant}
 use Rattle.fc_volume.proofs.RoomyLemmas.{HasRoomFor, room_kept}
 use Rattle.fc_volume.proofs.SavingLemmas.{of_both}

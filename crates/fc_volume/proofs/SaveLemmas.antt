@@ -21,7 +21,7 @@ use Rattle.fc_dirs.specs.Entries.{entry_place, has_name}
 use Rattle.fc_dirs.specs.Directory.{Directory, directory_size, entries_of}
 use Rattle.fc_drafts.specs.Draft.{IsSayable, directory_in}
 use Rattle.fc_drafts.specs.Rewriting.{HasEntered}
-use Rattle.fc_effects.specs.Steady.{has_grown, has_new_holder, is_renamed_by, may_be_rewritten}
+use Rattle.fc_image.specs.effects.Steady.{has_grown, has_new_holder, is_renamed_by, may_be_rewritten}
 use Rattle.fc_image.specs.Layout.{Layout, dir_form, id_of, is_apart, low_of, sectors_at}
 use Rattle.fc_image.specs.Edits.{IsAt}
 use Rattle.fc_image.specs.InPlace.{says_now}
@@ -40,9 +40,9 @@ use Rattle.fc_tree.specs.Counts.{address_in}
 use Rattle.fc_tree.specs.Nodes.{HoldObjects, body_in, number_of}
 use Rattle.fc_tree.specs.Parts.{AreOwners, Parts, first_in}
 use Rattle.fc_tree.proofs.WalkedLemmas.{same_some}
-use Rattle.fc_nodes.specs.Edits.{IsAdded, Nodes, NodesFollow, OwnersEdited, OwnersFollow, owner_with, owners_with, with_body}
-use Rattle.fc_agree.proofs.NewPlaceLemmas.{file_place}
-use Rattle.fc_agree.specs.Agreed.{AgreeOn}
+use Rattle.fc_laws.specs.nodes.Edits.{IsAdded, Nodes, NodesFollow, OwnersEdited, OwnersFollow, owner_with, owners_with, with_body}
+use Rattle.fc_laws.proofs.lemmas.agree.NewPlaceLemmas.{file_place}
+use Rattle.fc_laws.specs.agree.Agreed.{AgreeOn}
 use Rattle.fc_changes.specs.Changed.{IsFileAt, MakesFile}
 use Rattle.fc_changes.specs.Owed.{IsSpaceEdit, IsWritten}
 use Rattle.fc_changes.proofs.BasicLemmas.{next_in}
@@ -51,10 +51,10 @@ use Rattle.fc_placing.specs.Space.{zones_changed}
 use Rattle.fc_placing.specs.declared.placing.Placing.{Placing}
 use Rattle.fc_placing.specs.declared.placing.Placing.TheVariants.{Nowhere, Shared, New}
 use Rattle.fc_plan.specs.declared.plan.Plan.{Plan}
-use Rattle.fc_takeover.specs.Laws.{TakesOver}
-use Rattle.fc_takeover.specs.Places.{MayBeWritten, OpensBy}
-use Rattle.fc_takeover.specs.Steps.{IsFiledInSteps}
-use Rattle.fc_takeover.proofs.SaidLemmas.{apart_front}
+use Rattle.fc_laws.specs.takeover.Laws.{TakesOver}
+use Rattle.fc_laws.specs.takeover.Places.{MayBeWritten, OpensBy}
+use Rattle.fc_laws.specs.takeover.Steps.{IsFiledInSteps}
+use Rattle.fc_laws.proofs.lemmas.takeover.SaidLemmas.{apart_front}
 use Rattle.fc_refusals.specs.Targets.{IsVacant}
 use Rattle.fc_volume.specs.declared.changes.putting.FileWords.{FileWords}
 use Rattle.fc_volume.specs.declared.changes.putting.NewFile.{NewFile}

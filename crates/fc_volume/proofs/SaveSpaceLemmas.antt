@@ -16,9 +16,9 @@ use Rattle.fc_copies.specs.Copies.{HoldsCopies}
 use Rattle.fc_dirs.specs.Directory.{Directory}
 use Rattle.fc_drafts.specs.Draft.{CanAddress}
 use Rattle.fc_image.specs.Layout.{Layout, dir_form, id_of, sectors_at}
-use Rattle.fc_effects.specs.Placed.{file_low, has_spare_share}
-use Rattle.fc_effects.specs.Steady.{has_id_that}
-use Rattle.fc_effects.specs.Sharing.{holdings_in, is_shareable, is_spare, shares, slack_among}
+use Rattle.fc_image.specs.effects.Placed.{file_low, has_spare_share}
+use Rattle.fc_image.specs.effects.Steady.{has_id_that}
+use Rattle.fc_image.specs.effects.Sharing.{holdings_in, is_shareable, is_spare, shares, slack_among}
 use Rattle.fc_changes.specs.Owed.{IsMapAfter, IsSpaceEdit}
 use Rattle.fc_plan.specs.Applied.{is_changed}
 use Rattle.fc_plan.specs.Giving.{has_run_of, is_one_of}

@@ -31,8 +31,8 @@ use Rattle.fc_tree.specs.Counts.{address_in}
 use Rattle.fc_tree.specs.Nodes.{HoldObjects, body_in}
 use Rattle.fc_tree.specs.Parts.{ArePartsOf, Parts}
 use Rattle.fc_tree.proofs.WalkedLemmas.{same_some}
-use Rattle.fc_nodes.specs.Edits.{IsReworded, Nodes, NodesFollow, OwnersFollow, as_before, relisted, with_body, with_entry}
-use Rattle.fc_takeover.specs.Laws.{TakesOver}
+use Rattle.fc_laws.specs.nodes.Edits.{IsReworded, Nodes, NodesFollow, OwnersFollow, as_before, relisted, with_body, with_entry}
+use Rattle.fc_laws.specs.takeover.Laws.{TakesOver}
 use Rattle.fc_changes.specs.Owed.{IsWritten}
 use Rattle.fc_refusals.specs.declared.target.Target.{Target}
 use Rattle.fc_refusals.specs.Targets.{IsTarget}
@@ -248,7 +248,7 @@ module _ (laws : ChangeLaws) (m : Map) (nodes : Nodes) (path : Path) (load exec 
     writes_places image w =
         let tg = target view.listings view_sound hold in
         let may = laws.places.directory kind was view m (Command.Set path load exec access) k (record { opens = opens; layout = at }) tg.listed
-        (ap (λ (b : Bool). b || false || Rattle.fc_effects.specs.Steady.has_grown view (Command.Set path load exec access) k.object.path || Rattle.fc_effects.specs.Steady.has_new_holder view (Command.Set path load exec access) k.object.path) tg.above) in
+        (ap (λ (b : Bool). b || false || Rattle.fc_image.specs.effects.Steady.has_grown view (Command.Set path load exec access) k.object.path || Rattle.fc_image.specs.effects.Steady.has_new_holder view (Command.Set path load exec access) k.object.path) tg.above) in
         let own = subst (λ (xs : List ℕ). IsWritten m xs was image) (sectors_are view.listings view_sound hold) w in
         record {
           length_stays = own.length_stays;

@@ -21,7 +21,7 @@ use Rattle.fc_space.specs.Space.{PlacesSuffice, layout_of}
 use Rattle.fc_tree.specs.Agree.{Agree}
 use Rattle.fc_tree.specs.Nodes.{nodes_of}
 use Rattle.fc_tree.specs.Parts.{AreOwners, ArePartsOf, Parts}
-use Rattle.fc_takeover.specs.Laws.{TakesOver}
+use Rattle.fc_laws.specs.takeover.Laws.{TakesOver}
 use Rattle.fc_refusals.specs.declared.target.Target.{Target}
 use Rattle.fc_volume.specs.declared.changes.reword.Rewording.{Rewording}
 use Rattle.fc_volume.specs.declared.copies.Copies.{Copies}
@@ -35,7 +35,7 @@ use Rattle.fc_image.specs.Sound.{AreSound}
 use Rattle.fc_image.specs.Walk.{Listing}
 use Rattle.fc_tree.specs.Nodes.{HoldObjects}
 use Rattle.fc_tree.proofs.WalkedLemmas.{child_is_object, contained, same_some}
-use Rattle.fc_agree.specs.Agreed.{AgreeOn}
+use Rattle.fc_laws.specs.agree.Agreed.{AgreeOn}
 use Rattle.fc_refusals.specs.Targets.{IsTarget}
 use Rattle.fc_volume.specs.Rewrites.{HoldsEntry}
 use Rattle.fc_volume.specs.Setting.{IsSetReady}

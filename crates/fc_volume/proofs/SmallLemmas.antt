@@ -12,7 +12,7 @@ use Rattle.fc_model.specs.Command.{Command}
 use Rattle.fc_model.specs.Tree.{holder, last_name}
 use Rattle.fc_dirs.specs.Small.{SmallDir}
 use Rattle.fc_dirs.specs.Directory.{Directory}
-use Rattle.fc_effects.specs.Short.{Gain, gain_at, gain_by_new_name, gain_by_rename, gain_of, growth_in, growth_of, growth_with}
+use Rattle.fc_image.specs.effects.Short.{Gain, gain_at, gain_by_new_name, gain_by_rename, gain_of, growth_in, growth_of, growth_with}
 use Rattle.fc_image.specs.Layout.{Layout, dir_form}
 use Rattle.fc_image.specs.Objects.{listing_at, object_at}
 use Rattle.fc_image.specs.Opening.{Opened}
@@ -25,7 +25,7 @@ use Rattle.fc_tree.specs.Parts.{ArePartsOf, Parts}
 use Rattle.fc_tree.proofs.FindLemmas.{object_of_number}
 use Rattle.fc_tree.proofs.FoundLemmas.{listing_of_body}
 use Rattle.fc_tree.proofs.WalkedLemmas.{listed_directory, same_some}
-use Rattle.fc_agree.proofs.BeforeLemmas.{agreed_law}
+use Rattle.fc_laws.proofs.lemmas.agree.BeforeLemmas.{agreed_law}
 use Rattle.fc_tree.proofs.MemberLemmas.{found_passes}
 use Rattle.fc_volume.specs.Roomy.{IsRoomy}
 use Rattle.fc_volume.proofs.TargetLemmas as target_of

@@ -16,7 +16,7 @@ use Rattle.fc_image.specs.Opening.{Opened}
 use Rattle.fc_image.specs.Moves.{KeepsObjects, SameMapLaw, with_map}
 use Rattle.fc_image.specs.Stays.{HasEqualCopies, IsNewLayout, OpensAs}
 use Rattle.fc_image.proofs.MoveLemmas.{open_by}
-use Rattle.fc_effects.specs.Effect.{Compacts}
+use Rattle.fc_image.specs.effects.Effect.{Compacts}
 use Rattle.fc_compact.specs.Ready.{AreOwnersOf}
 use Rattle.fc_compact.specs.Compacting.{ByOwnersLaw, ChangesLoose}
 use Rattle.fc_space.specs.Space.{layout_of}

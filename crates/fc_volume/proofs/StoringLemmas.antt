@@ -11,7 +11,7 @@ use Rattle.fc_copies.specs.Copies.{HoldsCopies}
 use Rattle.fc_image.specs.Layout.{Layout, is_among, is_apart}
 use Rattle.fc_changes.specs.Owed.{IsMapAfter, IsWritten}
 use Rattle.fc_objects.specs.Extents.{sectors_in}
-use Rattle.fc_takeover.proofs.WriteLemmas.{written_bytes_law}
+use Rattle.fc_laws.proofs.lemmas.takeover.WriteLemmas.{written_bytes_law}
 use Rattle.fc_volume.specs.declared.copies.Copies.{Copies}
 use Rattle.fc_volume.specs.Compacting.{KeepsMap}
 use Rattle.fc_volume.specs.Storing.{AreStored, IsFirstStored, IsTakenAndNamed}

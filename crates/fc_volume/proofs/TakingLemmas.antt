@@ -7,7 +7,7 @@ use Rattle.std.specs.Cmp.{nat_cmp_total}
 use Rattle.std.specs.FinMap.{FinMap, get, insert as put, remove as without, get-insert, get-remove, same_map, nat_cmp-IsAntisymmetric}
 use Rattle.fc_tree.specs.declared.node.Node.{Node}
 use Rattle.fc_tree.proofs.SlotLemmas.{level}
-use Rattle.fc_nodes.specs.Edits.{with_edited}
+use Rattle.fc_laws.specs.nodes.Edits.{with_edited}
 
 twice : (b : Bool) (x y : Option Node) → cond b x (cond b None y) ≡ cond b x y
 twice true x y = refl

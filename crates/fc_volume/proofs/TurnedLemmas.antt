@@ -9,7 +9,7 @@ use Rattle.fc_dirs.specs.declared.Entry.{Entry}
 use Rattle.fc_dirs.specs.Directory.{Directory}
 use Rattle.fc_drafts.specs.Draft.{IsSayable, directory_in, size_of}
 use Rattle.fc_drafts.specs.Rewriting.{HasMoved}
-use Rattle.fc_effects.specs.Steady.{AreWritten}
+use Rattle.fc_image.specs.effects.Steady.{AreWritten}
 use Rattle.fc_image.specs.Layout.{Layout, dir_form, is_apart, sectors_at}
 use Rattle.fc_image.specs.Edits.{IsAt}
 use Rattle.fc_image.specs.Objects.{objects_of}
@@ -26,9 +26,9 @@ use Rattle.fc_tree.specs.Agree.{HasForm}
 use Rattle.fc_tree.specs.Nodes.{HoldObjects, body_in, number_of}
 use Rattle.fc_tree.proofs.FoundLemmas.{file_of_body, listing_of_body}
 use Rattle.fc_tree.proofs.WalkedLemmas.{listed_directory, same_some}
-use Rattle.fc_nodes.specs.Edits.{Nodes, with_body, with_own_body}
+use Rattle.fc_laws.specs.nodes.Edits.{Nodes, with_body, with_own_body}
 use Rattle.fc_changes.specs.Owed.{IsWritten}
-use Rattle.fc_takeover.specs.Writes.{WrittenBytesLaw}
+use Rattle.fc_laws.specs.takeover.Writes.{WrittenBytesLaw}
 use Rattle.fc_volume.specs.declared.changes.rewrite.Rewrite.{Rewrite}
 use Rattle.fc_volume.specs.Relocating.{AreFilled, more_sectors, with_more}
 use Rattle.fc_volume.specs.Renaming.{IsTurned}

@@ -6,7 +6,7 @@ use Rattle.std.specs.FinMap.{FinMap, get}
 use Rattle.fc_newmap.specs.Map.{Map, bits_in, hole_runs, map_sectors}
 use Rattle.fc_alloc.specs.Owners.{with_changed}
 use Rattle.fc_changes.specs.Owed.{IsMapAfter, IsWritten}
-use Rattle.fc_effects.specs.Placed.{file_low}
+use Rattle.fc_image.specs.effects.Placed.{file_low}
 use Rattle.fc_image.specs.Layout.{Layout, dir_form, is_apart, sectors_at}
 use Rattle.fc_image.specs.Walk.{object_size}
 use Rattle.fc_objects.specs.Extents.{sectors_in}
@@ -17,7 +17,7 @@ use Rattle.fc_placing.specs.Space.{zones_changed}
 use Rattle.fc_refusals.specs.declared.target.Target.{Target}
 use Rattle.fc_tree.specs.declared.node.Node.{Node}
 use Rattle.fc_tree.specs.Nodes.{nodes_of}
-use Rattle.fc_nodes.specs.Edits.{Nodes}
+use Rattle.fc_laws.specs.nodes.Edits.{Nodes}
 use Rattle.fc_volume.specs.declared.changes.carrying.Carrying.{Carrying}
 use Rattle.fc_volume.specs.declared.changes.carrying.CopySpace.{CopySpace}
 use Rattle.fc_volume.specs.declared.changes.moving.Leaving.{Leaving}

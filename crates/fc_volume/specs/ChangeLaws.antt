@@ -1,12 +1,12 @@
 -- The laws from which commands that change a volume have their clauses, in one record.
 use Rattle.fc_image.specs.Rewords.{RewordLaw}
 use Rattle.fc_tree.specs.Laws.{EntriesLaw, SoundLaw}
-use Rattle.fc_nodes.specs.Laws.{OwnerLaw, RemovedLaw, RewordedLaw}
-use Rattle.fc_agree.specs.Cuts.{CutLaw}
-use Rattle.fc_agree.specs.Laws.{AgreedLaw, RemovedLaw as RemovedAgree, RewordedLaw as RewordedAgree}
-use Rattle.fc_takeover.specs.Places.{ObjectsLaw, PlacesLaw}
-use Rattle.fc_takeover.specs.Steps.{StepsLaw}
-use Rattle.fc_takeover.specs.Writes.{WrittenBytesLaw}
+use Rattle.fc_laws.specs.nodes.Laws.{OwnerLaw, RemovedLaw, RewordedLaw}
+use Rattle.fc_laws.specs.agree.Cuts.{CutLaw}
+use Rattle.fc_laws.specs.agree.Laws.{AgreedLaw, RemovedLaw as RemovedAgree, RewordedLaw as RewordedAgree}
+use Rattle.fc_laws.specs.takeover.Places.{ObjectsLaw, PlacesLaw}
+use Rattle.fc_laws.specs.takeover.Steps.{StepsLaw}
+use Rattle.fc_laws.specs.takeover.Writes.{WrittenBytesLaw}
 
 pub record ChangeLaws : Type 0 where
   pub rewords : RewordLaw

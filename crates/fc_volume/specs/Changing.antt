@@ -17,9 +17,9 @@ use Rattle.fc_image.specs.Opening.{Opened, boot_place}
 use Rattle.fc_image.specs.Sound.{AreSound}
 use Rattle.fc_image.specs.Stays.{IsNewLayout, OpensAs}
 use Rattle.fc_image.specs.Written.{WritesOnly}
-use Rattle.fc_effects.specs.Effect.{Changes}
-use Rattle.fc_effects.specs.Short.{short}
-use Rattle.fc_effects.specs.Steady.{idle_sectors, may_be_rewritten}
+use Rattle.fc_image.specs.effects.Effect.{Changes}
+use Rattle.fc_image.specs.effects.Short.{short}
+use Rattle.fc_image.specs.effects.Steady.{idle_sectors, may_be_rewritten}
 use Rattle.fc_tree.specs.Parts.{ArePartsOf, Parts}
 use Rattle.fc_volume.specs.declared.lines.CommandError.{CommandError}
 use Rattle.fc_volume.specs.declared.lines.CommandError.TheVariants.{Refused, NoMemory, DiskFault}

@@ -5,7 +5,7 @@ use Rattle.fc_newmap.specs.Map.{Map}
 use Rattle.fc_copies.specs.Copies.{HoldsCopies}
 use Rattle.fc_image.specs.Layout.{is_among}
 use Rattle.fc_objects.specs.Written.{AreApart}
-use Rattle.fc_takeover.specs.Copied.{AreCopied}
+use Rattle.fc_laws.specs.takeover.Copied.{AreCopied}
 use Rattle.fc_volume.specs.Compacting.{KeepsMap}
 
 -- No sectors but these have changed.

@@ -13,7 +13,7 @@ use Rattle.fc_dirs.specs.Directory.{Directory, entries_of}
 use Rattle.fc_drafts.specs.Draft.{directory_in}
 use Rattle.fc_drafts.specs.Rewriting.{HasLeft}
 use Rattle.fc_image.specs.Layout.{Layout}
-use Rattle.fc_nodes.specs.Edits.{with_body}
+use Rattle.fc_laws.specs.nodes.Edits.{with_body}
 use Rattle.fc_objects.specs.Extents.{sectors_in}
 use Rattle.fc_placing.specs.Leaving.{LeavesIds}
 use Rattle.fc_placing.specs.Space.{IsMapEdited, zones_changed}

@@ -10,7 +10,7 @@ use Rattle.fc_alloc.specs.declared.owner.Owner.{Owner}
 use Rattle.fc_model.specs.Command.{Command}
 use Rattle.fc_dirs.specs.Directory.{Directory}
 use Rattle.fc_drafts.specs.Gains.{GetsName}
-use Rattle.fc_effects.specs.Short.{Gain, gain_in, growth_in}
+use Rattle.fc_image.specs.effects.Short.{Gain, gain_in, growth_in}
 use Rattle.fc_image.specs.Layout.{Layout, is_apart, sectors_at}
 use Rattle.fc_image.specs.Objects.{objects_of}
 use Rattle.fc_image.specs.Opening.{Opened}
@@ -18,7 +18,7 @@ use Rattle.fc_image.specs.Sound.{AreSound}
 use Rattle.fc_tree.specs.declared.node.Node.{Node}
 use Rattle.fc_tree.specs.Nodes.{HoldObjects, body_in, next_number, nodes_of, number_of}
 use Rattle.fc_tree.specs.declared.node.Body.TheVariants.{File}
-use Rattle.fc_nodes.specs.Edits.{with_body}
+use Rattle.fc_laws.specs.nodes.Edits.{with_body}
 use Rattle.fc_space.specs.Space.{layout_of}
 use Rattle.fc_volume.specs.Owners.{entry_owner, with_owner}
 use Rattle.fc_tree.specs.Counts.{address_in}

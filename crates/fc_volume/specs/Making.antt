@@ -9,8 +9,8 @@ use Rattle.fc_dirs.specs.Directory.{Directory, entries_of}
 use Rattle.fc_drafts.specs.Draft.{CanAddress, CanBeCalled, CanName, IsSayable, directory_in, size_of}
 use Rattle.fc_drafts.specs.Entries.{directory_entry}
 use Rattle.fc_drafts.specs.Rewriting.{HasEntered}
-use Rattle.fc_effects.specs.Short.{new_dir_size}
-use Rattle.fc_effects.specs.Steady.{AreWritten, new_directory}
+use Rattle.fc_image.specs.effects.Short.{new_dir_size}
+use Rattle.fc_image.specs.effects.Steady.{AreWritten, new_directory}
 use Rattle.fc_image.specs.Layout.{Layout, dir_form, sectors_at}
 use Rattle.fc_image.specs.Walk.{object_size}
 use Rattle.fc_placing.specs.Places.{IsOwnPlan}
@@ -18,7 +18,7 @@ use Rattle.fc_tree.specs.declared.node.Node.{Node}
 use Rattle.fc_tree.specs.Counts.{address_in}
 use Rattle.fc_tree.specs.Nodes.{body_in, next_number, nodes_of}
 use Rattle.fc_alloc.specs.declared.owner.Owner.{Owner}
-use Rattle.fc_nodes.specs.Edits.{with_body}
+use Rattle.fc_laws.specs.nodes.Edits.{with_body}
 use Rattle.fc_space.specs.Space.{layout_of}
 use Rattle.fc_volume.specs.declared.changes.making.Making.{Making}
 use Rattle.fc_volume.specs.declared.lines.CommandError.{CommandError}

@@ -10,7 +10,7 @@ use Rattle.fc_objects.specs.Bytes.{first_bytes}
 use Rattle.fc_objects.specs.Extents.{sectors_in}
 use Rattle.fc_objects.specs.Written.{AreApart, IsPartWritten}
 use Rattle.fc_tree.specs.Nodes.{body_in, nodes_of}
-use Rattle.fc_nodes.specs.Edits.{Nodes, with_body, with_entry, with_holder}
+use Rattle.fc_laws.specs.nodes.Edits.{Nodes, with_body, with_entry, with_holder}
 use Rattle.fc_volume.specs.declared.changes.rewrite.Rewrite.{Rewrite}
 use Rattle.fc_volume.specs.declared.changes.relocate.Relocation.{Relocation}
 use Rattle.fc_volume.specs.declared.copies.Copies.TheVariants.{Equal}

@@ -1,15 +1,15 @@
 -- The laws from which `save` and `create` over a file have their clauses, in one record.
 use Rattle.fc_tree.specs.Laws.{EntriesLaw, SoundLaw}
-use Rattle.fc_nodes.specs.Laws.{ReplacedLaw}
-use Rattle.fc_nodes.specs.Owning.{OwningLaw}
-use Rattle.fc_agree.specs.Cuts.{CutLaw}
-use Rattle.fc_agree.specs.Laws.{AgreedLaw, ReplacedLaw as ReplacedAgree}
-use Rattle.fc_agree.specs.Maps.{MapLaw}
+use Rattle.fc_laws.specs.nodes.Laws.{ReplacedLaw}
+use Rattle.fc_laws.specs.nodes.Owning.{OwningLaw}
+use Rattle.fc_laws.specs.agree.Cuts.{CutLaw}
+use Rattle.fc_laws.specs.agree.Laws.{AgreedLaw, ReplacedLaw as ReplacedAgree}
+use Rattle.fc_laws.specs.agree.Maps.{MapLaw}
 use Rattle.fc_placing.specs.Places.{PlaceLaw}
 use Rattle.fc_placing.specs.Space.{StepsLaw as SpaceSteps}
-use Rattle.fc_takeover.specs.Places.{ObjectsLaw, PlacesLaw}
-use Rattle.fc_takeover.specs.Steps.{StepsLaw}
-use Rattle.fc_takeover.specs.Writes.{WrittenBytesLaw}
+use Rattle.fc_laws.specs.takeover.Places.{ObjectsLaw, PlacesLaw}
+use Rattle.fc_laws.specs.takeover.Steps.{StepsLaw}
+use Rattle.fc_laws.specs.takeover.Writes.{WrittenBytesLaw}
 
 pub record ReplaceLaws : Type 0 where
   pub opened : SoundLaw

@@ -11,7 +11,7 @@ use Rattle.fc_drafts.specs.Draft.{CanAddress, directory_in}
 use Rattle.fc_drafts.specs.Entries.{saved_entry}
 use Rattle.fc_drafts.specs.Rewriting.{HasReplaced}
 use Rattle.fc_image.specs.Layout.{Layout}
-use Rattle.fc_nodes.specs.Edits.{with_body, with_entry}
+use Rattle.fc_laws.specs.nodes.Edits.{with_body, with_entry}
 use Rattle.fc_placing.specs.declared.placing.Placing.{Placing}
 use Rattle.fc_placing.specs.Leaving.{LeavesIds, LeavesUsed}
 use Rattle.fc_placing.specs.Places.{IsFilePlace, shared_id}

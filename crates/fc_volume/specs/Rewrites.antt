@@ -7,7 +7,7 @@ use Rattle.fc_copies.specs.Copies.{HoldsCopies}
 use Rattle.fc_dirs.specs.declared.Entry.{Entry}
 use Rattle.fc_dirs.specs.Directory.{Directory, entries_of}
 use Rattle.fc_drafts.specs.Draft.{CanAddress, IsSayable, directory_in, size_of}
-use Rattle.fc_effects.specs.Steady.{AreWritten}
+use Rattle.fc_image.specs.effects.Steady.{AreWritten}
 use Rattle.fc_image.specs.Layout.{Layout, dir_form, sectors_at}
 use Rattle.fc_image.specs.Walk.{object_size}
 use Rattle.fc_objects.specs.Bytes.{first_bytes}

@@ -1,7 +1,7 @@
 -- Commands by which no directory grows.
 use Rattle.std.specs.Prelude.{◌≡◌, ℕ, List, None}
 use Rattle.fc_changes.specs.Changed.{MakesFile}
-use Rattle.fc_effects.specs.Short.{growth_in}
+use Rattle.fc_image.specs.effects.Short.{growth_in}
 use Rattle.fc_image.specs.Opening.{Opened}
 use Rattle.fc_image.specs.Sound.{AreSound}
 use Rattle.fc_model.specs.Command.{Command}

@@ -1,14 +1,14 @@
 -- The laws from which `save` and `create` of a new file have their clauses, in one record.
 use Rattle.fc_tree.specs.Laws.{SoundLaw}
-use Rattle.fc_nodes.specs.Laws.{AddedLaw}
-use Rattle.fc_agree.specs.Cuts.{CutLaw}
-use Rattle.fc_agree.specs.Laws.{AddedLaw as AddedAgree, AgreedLaw}
-use Rattle.fc_agree.specs.Maps.{MapLaw}
+use Rattle.fc_laws.specs.nodes.Laws.{AddedLaw}
+use Rattle.fc_laws.specs.agree.Cuts.{CutLaw}
+use Rattle.fc_laws.specs.agree.Laws.{AddedLaw as AddedAgree, AgreedLaw}
+use Rattle.fc_laws.specs.agree.Maps.{MapLaw}
 use Rattle.fc_placing.specs.Places.{PlaceLaw}
 use Rattle.fc_placing.specs.Space.{StepsLaw as SpaceLaw}
-use Rattle.fc_takeover.specs.Places.{ObjectsLaw, PlacesLaw}
-use Rattle.fc_takeover.specs.Steps.{StepsLaw}
-use Rattle.fc_takeover.specs.Writes.{WrittenBytesLaw}
+use Rattle.fc_laws.specs.takeover.Places.{ObjectsLaw, PlacesLaw}
+use Rattle.fc_laws.specs.takeover.Steps.{StepsLaw}
+use Rattle.fc_laws.specs.takeover.Writes.{WrittenBytesLaw}
 
 pub record SaveLaws : Type 0 where
   pub opened : SoundLaw

@@ -12,7 +12,7 @@ use Rattle.fc_refusals.specs.declared.target.Target.{Target}
 use Rattle.fc_tree.specs.declared.node.Node.{Node}
 use Rattle.fc_tree.specs.Counts.{address_in}
 use Rattle.fc_tree.specs.Nodes.{body_in, nodes_of}
-use Rattle.fc_nodes.specs.Edits.{with_body, with_entry}
+use Rattle.fc_laws.specs.nodes.Edits.{with_body, with_entry}
 use Rattle.fc_volume.specs.declared.changes.reword.Rewording.{Rewording}
 use Rattle.fc_volume.specs.declared.copies.Copies.TheVariants.{Equal}
 use Rattle.fc_volume.specs.Rewrites.{IsPrepared}

@@ -10,12 +10,12 @@ use Rattle.fc_oldmap.specs.Holes.{after_give}
 use Rattle.fc_zone.specs.declared.RunKind.TheVariants.{Id}
 use Rattle.fc_newmap.specs.Rows.{run}
 use Rattle.fc_newmap.specs.Map.{Map, ZoneRun, has_id, hole_runs, home_zone, id_runs, runs_in}
-use Rattle.fc_effects.specs.Placed.{holes_left}
-use Rattle.fc_effects.specs.Steady.{holes_with, runs_that, zone_holes}
+use Rattle.fc_image.specs.effects.Placed.{holes_left}
+use Rattle.fc_image.specs.effects.Steady.{holes_with, runs_that, zone_holes}
 use Rattle.fc_plan.specs.Applied.{unless_gone}
 use Rattle.fc_plan.specs.Giving.{is_one_of}
 use Rattle.fc_changes.specs.Rows.{given_back}
-use Rattle.fc_effects.specs.WrittenRows.{used}
+use Rattle.fc_image.specs.effects.WrittenRows.{used}
 use Rattle.fc_changes.proofs.RewordedLemmas.{no_space_edit}
 use Rattle.fc_changes.proofs.rows.Goals as goal
 

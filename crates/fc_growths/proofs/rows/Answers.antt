@@ -12,12 +12,12 @@ use Rattle.fc_oldmap.specs.declared.Hole.{Hole}
 use Rattle.fc_zone.specs.declared.RunKind.TheVariants.{Id}
 use Rattle.fc_newmap.specs.Rows.{run}
 use Rattle.fc_newmap.specs.Map.{Map, ZoneRun, has_id, hole_runs, home_zone, id_runs, runs_in}
-use Rattle.fc_effects.specs.Placed.{holes_left}
-use Rattle.fc_effects.specs.Steady.{holes_with, runs_that, zone_holes}
+use Rattle.fc_image.specs.effects.Placed.{holes_left}
+use Rattle.fc_image.specs.effects.Steady.{holes_with, runs_that, zone_holes}
 use Rattle.fc_plan.specs.Applied.{unless_gone}
 use Rattle.fc_plan.specs.Giving.{is_one_of}
 use Rattle.fc_plan.specs.Taking.{as_runs}
-use Rattle.fc_effects.specs.WrittenRows.{used}
+use Rattle.fc_image.specs.effects.WrittenRows.{used}
 use Rattle.fc_growths.specs.Rows.{alone_place, moved}
 use Rattle.fc_growths.proofs.rows.Goals as goal
 

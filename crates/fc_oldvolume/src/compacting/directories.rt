@@ -3,11 +3,11 @@ ghost use Rattle.std.specs.Prelude.{◌≡◌, ℕ, false, Some, length, map, no
 ghost use Rattle.std.specs.FinMap.{get};
 ghost use Rattle.std.specs.Str.{bytes_eq};
 ghost use Rattle.fc_dirs.specs.declared.Entry.{Entry};
-ghost use Rattle.fc_effects.specs.Settled.{has_same_places};
+ghost use Rattle.fc_image.specs.effects.Settled.{has_same_places};
 ghost use Rattle.fc_image.specs.Layout.{dir_form};
-ghost use Rattle.fc_nodes.specs.Edits.{with_edited};
-ghost use Rattle.fc_oldmoves.specs.After.{address_after, dir_after, entry_after, parent_after, readdressed, start_after};
-ghost use Rattle.fc_oldmoves.specs.Nodes.{body_after};
+ghost use Rattle.fc_laws.specs.nodes.Edits.{with_edited};
+ghost use Rattle.fc_oldlaws.specs.moves.After.{address_after, dir_after, entry_after, parent_after, readdressed, start_after};
+ghost use Rattle.fc_oldlaws.specs.moves.Nodes.{body_after};
 ghost use Rattle.fc_space.specs.Space.{layout_of};
 ghost use Rattle.fc_tree.specs.Counts.{address_in};
 ghost use Rattle.fc_tree.specs.Nodes.{bound_of, nodes_of};

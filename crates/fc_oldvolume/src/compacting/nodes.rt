@@ -1,10 +1,10 @@
 // The nodes and the owners after the objects have slid, in memory.
 ghost use Rattle.std.specs.Prelude.{◌≡◌, ◌<◌, Some, length, slice_get};
 ghost use Rattle.fc_image.specs.Layout.{Layout, dir_form};
-ghost use Rattle.fc_nodes.specs.Edits.{with_edited};
+ghost use Rattle.fc_laws.specs.nodes.Edits.{with_edited};
 ghost use Rattle.fc_oldmap.specs.OldMap.{FreeSpace};
-ghost use Rattle.fc_oldmoves.specs.After.{start_after};
-ghost use Rattle.fc_oldmoves.specs.Nodes.{AreRemade};
+ghost use Rattle.fc_oldlaws.specs.moves.After.{start_after};
+ghost use Rattle.fc_oldlaws.specs.moves.Nodes.{AreRemade};
 ghost use Rattle.fc_space.specs.Space.{layout_of};
 ghost use Rattle.fc_tree.specs.Nodes.{bound_of, nodes_of};
 ghost use Rattle.fc_oldvolume.specs.Changing.{IsOldLayout};

@@ -4,7 +4,7 @@ ghost use Rattle.std.specs.Int.{div_ceil};
 ghost use Rattle.fc_device.specs.Calls.{FailsByFault, SameForm};
 ghost use Rattle.fc_dirs.specs.Small.{tail_of};
 ghost use Rattle.fc_image.specs.Layout.{Layout, disc_sectors};
-ghost use Rattle.fc_oldmoves.specs.Writes.{AreDirectoriesPlaced};
+ghost use Rattle.fc_oldlaws.specs.moves.Writes.{AreDirectoriesPlaced};
 ghost use Rattle.fc_squash.specs.Sliding.{TellsAsBefore, TimeGoesOn};
 ghost use Rattle.fc_tree.specs.Nodes.{nodes_of};
 ghost use Rattle.fc_oldvolume.specs.Compacting.{AreRowsWritten, DirectoriesWrittenBy, DirWrittenBy, marks};

@@ -3,8 +3,8 @@ ghost use Rattle.std.specs.Prelude.{◌≡◌, ◌<◌, ◌+◌, ◌*◌, ◌^�
 ghost use Rattle.std.specs.FinMap.{get};
 ghost use Rattle.fc_dirs.specs.Directory.{Directory};
 ghost use Rattle.fc_drafts.specs.Draft.{CanAddress};
-ghost use Rattle.fc_effects.specs.Placed.{file_low};
-ghost use Rattle.fc_effects.specs.Short.{short};
+ghost use Rattle.fc_image.specs.effects.Placed.{file_low};
+ghost use Rattle.fc_image.specs.effects.Short.{short};
 ghost use Rattle.fc_image.specs.Layout.{Layout, dir_form};
 ghost use Rattle.fc_image.specs.Opening.{Opened};
 ghost use Rattle.fc_image.specs.Stays.{IsNewLayout};

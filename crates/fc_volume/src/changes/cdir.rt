@@ -3,7 +3,7 @@ ghost use Rattle.std.specs.Prelude.{◌≡◌, ◌<◌, length, IfErr, IfOk, IsT
 ghost use Rattle.std.specs.FinMap.{get};
 ghost use Rattle.fc_dirs.specs.Directory.{Directory};
 ghost use Rattle.fc_drafts.specs.Gains.{GetsName};
-ghost use Rattle.fc_effects.specs.Short.{Gain, gain_in, growth_in, short};
+ghost use Rattle.fc_image.specs.effects.Short.{Gain, gain_in, growth_in, short};
 ghost use Rattle.fc_image.specs.Layout.{Layout, dir_form};
 ghost use Rattle.fc_image.specs.Opening.{Opened};
 ghost use Rattle.fc_image.specs.Stays.{IsNewLayout};

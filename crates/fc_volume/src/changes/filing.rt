@@ -137,7 +137,7 @@ fn name_and_give<D: Disk>(disk: &mut D, map: &mut NewMap, f: &Filing) -> Result<
     ensures form { SameForm D.Disk disk.old disk.new }
     ensures cause { FailsByFault D.Disk disk.old disk.new result }
 {
-    fc_takeover::writes();
+    fc_laws::takeover::writes();
     store(disk, map, &f.directory.place, &f.directory.bytes)?;
     give_space(disk, map, &f.gone, &f.back)
 }

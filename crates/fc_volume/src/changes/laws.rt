@@ -20,17 +20,17 @@ pub fn change_laws()
     fc_image::rewords();
     fc_tree::opened();
     fc_tree::stored_entries();
-    fc_nodes::owners();
-    fc_nodes::reworded();
-    fc_nodes::removed();
-    fc_agree::agreed();
-    fc_agree::cuts();
-    fc_agree::reworded();
-    fc_agree::removed();
-    fc_takeover::writes();
-    fc_takeover::objects();
-    fc_takeover::places();
-    fc_takeover::steps();
+    fc_laws::nodes::owners();
+    fc_laws::nodes::reworded();
+    fc_laws::nodes::removed();
+    fc_laws::agree::agreed();
+    fc_laws::agree::cuts();
+    fc_laws::agree::reworded();
+    fc_laws::agree::removed();
+    fc_laws::takeover::writes();
+    fc_laws::takeover::objects();
+    fc_laws::takeover::places();
+    fc_laws::takeover::steps();
 }
 
 /// The laws of the crates below for a new directory, in one record.
@@ -38,17 +38,17 @@ pub fn cdir_laws()
     ensures { CdirLaws }
 {
     fc_tree::opened();
-    fc_nodes::directory_added();
-    fc_agree::agreed();
-    fc_agree::cuts();
-    fc_agree::maps();
-    fc_agree::sayable();
-    fc_agree::directory_added();
+    fc_laws::nodes::directory_added();
+    fc_laws::agree::agreed();
+    fc_laws::agree::cuts();
+    fc_laws::agree::maps();
+    fc_laws::agree::sayable();
+    fc_laws::agree::directory_added();
     fc_placing::places();
-    fc_takeover::writes();
-    fc_takeover::objects();
-    fc_takeover::places();
-    fc_takeover::steps();
+    fc_laws::takeover::writes();
+    fc_laws::takeover::objects();
+    fc_laws::takeover::places();
+    fc_laws::takeover::steps();
 }
 
 /// The laws of the crates below for a new file, in one record.
@@ -56,17 +56,17 @@ pub fn save_laws()
     ensures { SaveLaws }
 {
     fc_tree::opened();
-    fc_nodes::added();
-    fc_agree::agreed();
-    fc_agree::cuts();
-    fc_agree::maps();
-    fc_agree::added();
+    fc_laws::nodes::added();
+    fc_laws::agree::agreed();
+    fc_laws::agree::cuts();
+    fc_laws::agree::maps();
+    fc_laws::agree::added();
     fc_placing::places();
     fc_placing::steps();
-    fc_takeover::writes();
-    fc_takeover::objects();
-    fc_takeover::places();
-    fc_takeover::steps();
+    fc_laws::takeover::writes();
+    fc_laws::takeover::objects();
+    fc_laws::takeover::places();
+    fc_laws::takeover::steps();
 }
 
 /// A law: a new map in memory is one.
@@ -84,11 +84,11 @@ pub fn rename_laws()
     ensures { RenameLaws }
 {
     change_laws();
-    fc_nodes::renamed();
-    fc_nodes::transferred();
-    fc_nodes::owning();
-    fc_agree::renamed();
-    fc_agree::transferred();
+    fc_laws::nodes::renamed();
+    fc_laws::nodes::transferred();
+    fc_laws::nodes::owning();
+    fc_laws::agree::renamed();
+    fc_laws::agree::transferred();
 }
 
 /// The laws of `rename` of a file that is copied, in one record.
@@ -96,12 +96,12 @@ pub fn carry_laws()
     ensures { CarryLaws }
 {
     rename_laws();
-    fc_nodes::copied();
-    fc_agree::copied();
+    fc_laws::nodes::copied();
+    fc_laws::agree::copied();
     fc_placing::places();
     fc_placing::copies();
-    fc_takeover::copied_bytes();
-    fc_takeover::copied_steps();
+    fc_laws::takeover::copied_bytes();
+    fc_laws::takeover::copied_steps();
 }
 
 /// The laws of `save` and `create` over a file, in one record.
@@ -110,16 +110,16 @@ pub fn replace_laws()
 {
     fc_tree::opened();
     fc_tree::stored_entries();
-    fc_nodes::replaced();
-    fc_nodes::owning();
-    fc_agree::agreed();
-    fc_agree::cuts();
-    fc_agree::maps();
-    fc_agree::replaced();
+    fc_laws::nodes::replaced();
+    fc_laws::nodes::owning();
+    fc_laws::agree::agreed();
+    fc_laws::agree::cuts();
+    fc_laws::agree::maps();
+    fc_laws::agree::replaced();
     fc_placing::places();
     fc_placing::steps();
-    fc_takeover::writes();
-    fc_takeover::objects();
-    fc_takeover::places();
-    fc_takeover::steps();
+    fc_laws::takeover::writes();
+    fc_laws::takeover::objects();
+    fc_laws::takeover::places();
+    fc_laws::takeover::steps();
 }

@@ -6,7 +6,7 @@ ghost use Rattle.fc_dirs.specs.Entries.{has_name};
 ghost use Rattle.fc_drafts.specs.Draft.{CanAddress, CanHold, CanName, directory_in};
 ghost use Rattle.fc_drafts.specs.Rewriting.{HasEntered};
 ghost use Rattle.fc_drafts.specs.Gains.{GetsName};
-ghost use Rattle.fc_effects.specs.Short.{Gain, gain_in, is_full_with, growth_in, short};
+ghost use Rattle.fc_image.specs.effects.Short.{Gain, gain_in, is_full_with, growth_in, short};
 ghost use Rattle.fc_image.specs.Layout.{Layout};
 ghost use Rattle.fc_image.specs.Opening.{Opened};
 ghost use Rattle.fc_model.specs.Command.{Command};

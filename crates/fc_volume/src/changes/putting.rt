@@ -2,7 +2,7 @@
 ghost use Rattle.std.specs.Prelude.{◌≡◌, ◌<◌, ◌^◌, None, Some, IfOk, IsSome};
 ghost use Rattle.std.specs.FinMap.{get};
 ghost use Rattle.fc_drafts.specs.Draft.{directory_in};
-ghost use Rattle.fc_effects.specs.Short.{short};
+ghost use Rattle.fc_image.specs.effects.Short.{short};
 ghost use Rattle.fc_image.specs.Layout.{Layout, sectors_at};
 ghost use Rattle.fc_newmap.specs.Map.{Map};
 ghost use Rattle.fc_tree.specs.declared.node.Node.{Node};

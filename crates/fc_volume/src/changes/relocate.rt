@@ -9,7 +9,7 @@ ghost use Rattle.fc_device.specs.Faults.{Rose};
 ghost use Rattle.fc_image.specs.Layout.{Layout, sector_bytes};
 ghost use Rattle.fc_image.specs.Stays.{IsNewLayout};
 ghost use Rattle.fc_newmap.specs.Map.{Map};
-ghost use Rattle.fc_nodes.specs.Edits.{with_holder};
+ghost use Rattle.fc_laws.specs.nodes.Edits.{with_holder};
 ghost use Rattle.fc_space.specs.Space.{layout_of};
 ghost use Rattle.fc_tree.specs.Nodes.{bound_of, nodes_of};
 ghost use Rattle.fc_volume.specs.Relocating.{AreMoreFilled, CanTakeOver, HasMore, HasOwner, HasRelocated, IsRelocationWritten, LieWithin, more_sectors, relocated, sectors_of_relocation, with_more, with_owner};

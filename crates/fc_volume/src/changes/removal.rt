@@ -9,7 +9,7 @@ ghost use Rattle.fc_drafts.specs.Draft.{directory_in};
 ghost use Rattle.fc_image.specs.Layout.{Layout, is_apart, map_place, sector_bytes};
 ghost use Rattle.fc_image.specs.Stays.{IsNewLayout};
 ghost use Rattle.fc_newmap.specs.Map.{Map, map_sectors};
-ghost use Rattle.fc_nodes.specs.Edits.{with_body};
+ghost use Rattle.fc_laws.specs.nodes.Edits.{with_body};
 ghost use Rattle.fc_objects.specs.Extents.{sectors_in};
 ghost use Rattle.fc_placing.specs.Space.{zones_changed};
 ghost use Rattle.fc_space.specs.Space.{layout_of};
@@ -59,7 +59,7 @@ fn write_removed<D: Disk>(
     ensures form { SameForm D.Disk disk.old disk.new }
     ensures cause { FailsByFault D.Disk disk.old disk.new result }
 {
-    fc_takeover::writes();
+    fc_laws::takeover::writes();
     write_directory(disk, map, copies, &r.directory)?;
     give_space(disk, map, &r.gone, &r.zones)
 }

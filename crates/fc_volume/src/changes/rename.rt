@@ -182,7 +182,7 @@ impl Volume {
         ensures keeps { ChangeKeeps D.Disk disk.old disk.new self.old self.new result }
         ensures form_stays { UnlessFault result (dir_form (parts_of self.new).layout ≡ dir_form (parts_of self.old).layout) }
     {
-        fc_takeover::places();
+        fc_laws::takeover::places();
         let renaming = match self.accept(from, to) {
             Ok(renaming) => renaming,
             Err(refusal) => return Err(CommandError::Refused(refusal)),

@@ -10,7 +10,7 @@ ghost use Rattle.fc_drafts.specs.Draft.{directory_in};
 ghost use Rattle.fc_image.specs.Layout.{Layout, sector_bytes};
 ghost use Rattle.fc_image.specs.Stays.{IsNewLayout};
 ghost use Rattle.fc_newmap.specs.Map.{Map};
-ghost use Rattle.fc_nodes.specs.Edits.{with_body, with_entry};
+ghost use Rattle.fc_laws.specs.nodes.Edits.{with_body, with_entry};
 ghost use Rattle.fc_objects.specs.Extents.{sectors_in};
 ghost use Rattle.fc_tree.specs.Nodes.{body_in, nodes_of};
 ghost use Rattle.fc_volume.specs.Filing.{CanFile, IsFileDone};

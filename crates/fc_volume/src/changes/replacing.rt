@@ -1,6 +1,6 @@
 // Files in the place of others, ready in memory.
 ghost use Rattle.std.specs.Prelude.{◌≡◌, IfOk};
-ghost use Rattle.fc_effects.specs.Short.{short};
+ghost use Rattle.fc_image.specs.effects.Short.{short};
 ghost use Rattle.fc_image.specs.Layout.{Layout};
 ghost use Rattle.fc_image.specs.Opening.{Opened};
 ghost use Rattle.fc_image.specs.Stays.{IsNewLayout};

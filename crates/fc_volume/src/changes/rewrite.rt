@@ -2,7 +2,7 @@
 ghost use Rattle.std.specs.Prelude.{◌≡◌, ◌≤◌, ◌*◌, ℕ, List, Some, IfOk, IsSome, length};
 ghost use Rattle.fc_dirs.specs.Directory.{Directory};
 ghost use Rattle.fc_drafts.specs.Draft.{directory_in, size_of};
-ghost use Rattle.fc_effects.specs.Steady.{AreWritten};
+ghost use Rattle.fc_image.specs.effects.Steady.{AreWritten};
 ghost use Rattle.fc_image.specs.Layout.{dir_form, sectors_at};
 ghost use Rattle.fc_image.specs.Walk.{object_size};
 ghost use Rattle.fc_objects.specs.Extents.{sectors_in};

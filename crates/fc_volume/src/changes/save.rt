@@ -3,7 +3,7 @@ ghost use Rattle.std.specs.Prelude.{◌≡◌, ◌<◌, ◌≤◌, ◌^◌, List
 ghost use Rattle.std.specs.FinMap.{get};
 ghost use Rattle.fc_changes.specs.Changed.{MakesFile};
 ghost use Rattle.fc_dirs.specs.Directory.{Directory};
-ghost use Rattle.fc_effects.specs.Short.{short};
+ghost use Rattle.fc_image.specs.effects.Short.{short};
 ghost use Rattle.fc_image.specs.Layout.{Layout, dir_form};
 ghost use Rattle.fc_image.specs.Opening.{Opened};
 ghost use Rattle.fc_image.specs.Sound.{AreSound};
@@ -165,7 +165,7 @@ impl Volume {
         ensures keeps { ChangeKeeps D.Disk disk.old disk.new self.old self.new result }
         ensures form_stays { UnlessFault result (dir_form (parts_of self.new).layout ≡ dir_form (parts_of self.old).layout) }
     {
-        fc_takeover::places();
+        fc_laws::takeover::places();
         match self.accept_file(p) {
             Ok(Slot::New(dir)) => self.put_file(alloc, disk, p, dir, words, bytes),
             Ok(Slot::Over(target)) => self.replace_file(alloc, disk, p, target, words, bytes),

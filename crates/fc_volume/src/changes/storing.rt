@@ -9,7 +9,7 @@ ghost use Rattle.fc_image.specs.Stays.{IsNewLayout};
 ghost use Rattle.fc_newmap.specs.Map.{Map};
 ghost use Rattle.fc_objects.specs.Extents.{sectors_in};
 ghost use Rattle.fc_objects.specs.Written.{IsPartWritten};
-ghost use Rattle.fc_effects.specs.Placed.{BeginsBefore};
+ghost use Rattle.fc_image.specs.effects.Placed.{BeginsBefore};
 ghost use Rattle.fc_placing.specs.Places.{IsOwnPlan};
 ghost use Rattle.fc_placing.specs.Space.{zones_changed};
 ghost use Rattle.fc_plan.specs.Parts.{fronts};

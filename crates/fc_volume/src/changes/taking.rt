@@ -2,7 +2,7 @@
 ghost use Rattle.std.specs.Prelude.{◌≡◌, IsSome};
 ghost use Rattle.std.specs.FinMap.{get};
 ghost use Rattle.fc_drafts.specs.Draft.{directory_in};
-ghost use Rattle.fc_nodes.specs.Edits.{with_body, with_entry};
+ghost use Rattle.fc_laws.specs.nodes.Edits.{with_body, with_entry};
 ghost use Rattle.fc_tree.specs.Nodes.{body_in, bound_of, nodes_of};
 
 use fc_dirs::Entry;

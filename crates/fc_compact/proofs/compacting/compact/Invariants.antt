@@ -1,7 +1,7 @@
 use Rattle.std.proofs.Common.{◌≡◌, ◌+◌, true, false}
 use Rattle.std.specs.Prelude.{Contains}
 use Rattle.fc_alloc.specs.declared.owner.Owner.{Owner}
-use Rattle.fc_effects.specs.Settled.{can_join}
+use Rattle.fc_image.specs.effects.Settled.{can_join}
 use Rattle.fc_compact.specs.Passing.{AreSettledZones, run_count}
 use Rattle.fc_compact.specs.Ready.{is_movable_by}
 use Rattle.fc_compact.specs.Settling.{one_if}

@@ -6,7 +6,7 @@ use Rattle.fc_device.proofs.StopLemmas.{keeps_start}
 use Rattle.fc_newmap.specs.Map.{bits_in, id_runs}
 use Rattle.fc_compact.specs.Ready.{is_movable_by}
 use Rattle.fc_compact.specs.Passing.{IsLongest}
-use Rattle.fc_effects.specs.Settled.{zones_with}
+use Rattle.fc_image.specs.effects.Settled.{zones_with}
 use Rattle.fc_compact.proofs.PassLemmas.{longest_of, both_true, no_hole, no_room, one_run, too_many, tries_joined, tries_none}
 use Rattle.fc_compact.proofs.PreservesLemmas.{preserves_same}
 use Rattle.fc_compact.proofs.compacting.join_one.Goals as goal

@@ -2,7 +2,7 @@ use Rattle.std.proofs.Common.{◌≡◌, ◌≤◌, ◌+◌, true, false, take}
 use Rattle.fc_compact.specs.Passing.{IsLongest, AreSettledZones, SeesFew, run_count}
 use Rattle.std.specs.Prelude.{Contains}
 use Rattle.fc_alloc.specs.declared.owner.Owner.{Owner}
-use Rattle.fc_effects.specs.Settled.{can_join}
+use Rattle.fc_image.specs.effects.Settled.{can_join}
 use Rattle.fc_compact.specs.Ready.{is_movable_by}
 use Rattle.fc_compact.specs.Settling.{one_if}
 use Rattle.fc_compact.proofs.GoneLemmas.{Gone}

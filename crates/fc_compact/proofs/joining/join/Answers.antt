@@ -10,8 +10,8 @@ use Rattle.fc_zone.specs.declared.Run.{Run}
 use Rattle.fc_zone.specs.declared.RunKind.TheVariants.{Id}
 use Rattle.fc_newmap.specs.Map.{ZoneRun, bits_in, id_runs, runs_of, sector_of, shape}
 use Rattle.fc_zone.specs.Zone.{HasRun}
-use Rattle.fc_effects.specs.Moves.{runs_joined}
-use Rattle.fc_effects.specs.Placed.{front_of}
+use Rattle.fc_image.specs.effects.Moves.{runs_joined}
+use Rattle.fc_image.specs.effects.Placed.{front_of}
 use Rattle.fc_compact.specs.Joining.{HasBetween, has_run_in, is_listed, join_zones}
 use Rattle.fc_compact.specs.Sliding.{IsPart, hole_at, run_at}
 use Rattle.fc_compact.proofs.FoundLemmas.{listed_passes, range_below, range_rises}

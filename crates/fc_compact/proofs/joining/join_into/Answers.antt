@@ -9,7 +9,7 @@ use Rattle.fc_newmap.proofs.ComposeLemmas.{edits_join, edits_then}
 use Rattle.fc_device.proofs.DiskLaws.{laws}
 use Rattle.fc_device.proofs.StopLemmas.{keeps_then, led}
 use Rattle.fc_copies.proofs.PassLemmas.{keeps_told}
-use Rattle.fc_effects.specs.Moves.{with_holes_joined}
+use Rattle.fc_image.specs.effects.Moves.{with_holes_joined}
 use Rattle.fc_image.specs.Layout.{Layout, hole_sectors, id_sectors, is_among}
 use Rattle.fc_compact.specs.Joining.{ArePut, all_freed, changed_runs, has_run_in, is_listed}
 use Rattle.fc_compact.specs.Sliding.{hole_at}

@@ -4,7 +4,7 @@ use Rattle.fc_zone.specs.declared.Run.{Run}
 use Rattle.fc_newmap.specs.Map.{ZoneRun, runs_of}
 use Rattle.fc_newmap.specs.RunsLaw.{placed}
 use Rattle.fc_newmap.specs.Walk.{StandsBefore}
-use Rattle.fc_effects.specs.Settled.{passes_adjacent}
+use Rattle.fc_image.specs.effects.Settled.{passes_adjacent}
 use Rattle.fc_compact.specs.Compacting.{is_done_by}
 use Rattle.fc_compact.proofs.AdjacentLemmas.{adjacent_fails, adjacent_more}
 use Rattle.fc_compact.proofs.ReleaseLemmas.{placed_first, placed_none}

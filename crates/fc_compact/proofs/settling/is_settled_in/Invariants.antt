@@ -3,7 +3,7 @@ use Rattle.fc_zone.specs.declared.Run.{Run}
 use Rattle.fc_newmap.specs.Map.{runs_of}
 use Rattle.fc_newmap.specs.RunsLaw.{placed}
 use Rattle.fc_newmap.specs.Walk.{StandsBefore, bits_left}
-use Rattle.fc_effects.specs.Settled.{passes_adjacent}
+use Rattle.fc_image.specs.effects.Settled.{passes_adjacent}
 use Rattle.fc_compact.specs.Compacting.{is_done_by}
 use Rattle.fc_compact.proofs.settling.is_settled_in.Given as goal
 

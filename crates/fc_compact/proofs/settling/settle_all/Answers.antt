@@ -3,7 +3,7 @@ use Rattle.std.proofs.lemmas.Bool.{cases_eq}
 use Rattle.fc_device.proofs.DiskLaws.{laws}
 use Rattle.fc_record.specs.declared.Geometry.{Geometry}
 use Rattle.fc_zone.specs.declared.Run.{Run}
-use Rattle.fc_effects.specs.Settled.{passes_adjacent}
+use Rattle.fc_image.specs.effects.Settled.{passes_adjacent}
 use Rattle.fc_compact.specs.Compacting.{is_done_by}
 use Rattle.fc_compact.specs.Settling.{IsSettledZone}
 use Rattle.fc_compact.proofs.GoneLemmas.{gone_disc, gone_keeps, gone_on_disk, gone_size, gone_start, gone_then, gone_zone}

@@ -1,7 +1,7 @@
 use Rattle.std.proofs.Common.{◌≡◌, ◌≤◌, ◌-◌, ◌+◌, ℕ, List, [], ◌∷◌, ◌++◌, true, false}
 use Rattle.fc_zone.specs.declared.Run.{Run}
 use Rattle.fc_newmap.specs.Map.{runs_of}
-use Rattle.fc_effects.specs.Settled.{passes_adjacent}
+use Rattle.fc_image.specs.effects.Settled.{passes_adjacent}
 use Rattle.fc_compact.specs.Compacting.{is_done_by}
 use Rattle.fc_compact.specs.Settling.{one_if, zone_weight}
 use Rattle.fc_compact.specs.Sliding.{HasRuns}

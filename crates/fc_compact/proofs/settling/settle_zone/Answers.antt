@@ -1,7 +1,7 @@
 use Rattle.std.proofs.Common.{◌≡◌, ◌<◌, ◌≤◌, ◌+◌, ℕ, Bool, true, false, refl, sym, subst, ◌∙◌, arith}
 use Rattle.fc_device.proofs.DiskLaws.{laws}
 use Rattle.fc_newmap.specs.Map.{Map, runs_of}
-use Rattle.fc_effects.specs.Settled.{passes_adjacent}
+use Rattle.fc_image.specs.effects.Settled.{passes_adjacent}
 use Rattle.fc_compact.specs.Compacting.{is_done_by}
 use Rattle.fc_compact.specs.Settling.{one_if, zone_weight}
 use Rattle.fc_compact.proofs.GoneLemmas.{gone_disc, gone_keeps, gone_on_disk, gone_size, gone_start, gone_then, gone_zone}

@@ -1,7 +1,7 @@
 use Rattle.std.proofs.Common.{◌<◌, ℕ, get_or, refl, sym, subst}
 use Rattle.std.proofs.lemmas.List.Elements.{All-get_or}
 use Rattle.fc_record.specs.declared.Geometry.{Geometry}
-use Rattle.fc_effects.specs.Moves.{with_holes_joined}
+use Rattle.fc_image.specs.effects.Moves.{with_holes_joined}
 use Rattle.fc_compact.proofs.ListedLemmas.{listed_edits, listed_more, listed_none}
 use Rattle.fc_compact.proofs.touching.join_holes.Goals as goal
 

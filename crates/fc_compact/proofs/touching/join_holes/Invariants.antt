@@ -1,6 +1,6 @@
 use Rattle.std.proofs.Common.{◌≡◌, ℕ, take}
 use Rattle.fc_newmap.specs.Map.{runs_of}
-use Rattle.fc_effects.specs.Moves.{with_holes_joined}
+use Rattle.fc_image.specs.effects.Moves.{with_holes_joined}
 use Rattle.fc_compact.specs.Joining.{EditsListed, changed_runs}
 use Rattle.fc_compact.proofs.touching.join_holes.Given as goal
 

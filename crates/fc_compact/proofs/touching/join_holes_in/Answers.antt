@@ -2,7 +2,7 @@ use Rattle.std.proofs.Common.{◌≡◌, ◌+◌, ◌∷◌, ◌++◌, [], ℕ, 
 use Rattle.fc_zone.specs.declared.Run.{Run}
 use Rattle.fc_newmap.specs.Map.{runs_of}
 use Rattle.fc_newmap.proofs.ComposeLemmas.{edit_none, edit_then, zone_cut}
-use Rattle.fc_effects.specs.Moves.{with_holes_joined}
+use Rattle.fc_image.specs.effects.Moves.{with_holes_joined}
 use Rattle.fc_compact.specs.Joining.{are_holes, hole_or_next}
 use Rattle.fc_compact.specs.Sliding.{HasRuns}
 use Rattle.fc_compact.proofs.HoldLemmas.{run_is_long, run_short, some_min}

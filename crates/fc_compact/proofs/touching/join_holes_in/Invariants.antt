@@ -2,7 +2,7 @@ use Rattle.std.proofs.Common.{◌≡◌, ◌-◌, ◌+◌, ◌++◌, ◌∷◌, 
 use Rattle.fc_zone.specs.declared.Run.{Run}
 use Rattle.fc_newmap.specs.Edits.{IsEdit}
 use Rattle.fc_newmap.specs.Map.{runs_of}
-use Rattle.fc_effects.specs.Moves.{with_holes_joined}
+use Rattle.fc_image.specs.effects.Moves.{with_holes_joined}
 use Rattle.fc_compact.specs.Sliding.{HasRuns}
 use Rattle.fc_compact.proofs.touching.join_holes_in.Given as goal
 

@@ -3,7 +3,7 @@ use Rattle.std.specs.Prelude.{Contains, IsSome}
 use Rattle.std.specs.FinMap.{get}
 use Rattle.std.specs.Vec.Iter.{into_iter_items}
 use Rattle.std.proofs.lemmas.List.Elements.{All-contains, Contains-append_right}
-use Rattle.fc_nodes.specs.Edits.{Nodes}
+use Rattle.fc_laws.specs.nodes.Edits.{Nodes}
 use Rattle.fc_tree.specs.Nodes.{nodes_of}
 use Rattle.fc_tree.proofs.MemberLemmas.{contains_here}
 use Rattle.fc_volume.specs.declared.changes.rewrite.Rewrite.{Rewrite}

@@ -1,6 +1,6 @@
 use Rattle.std.proofs.Common.{◌≡◌, ◌++◌, length}
 use Rattle.std.specs.Vec.Iter.{into_iter_items, into_iter_len}
-use Rattle.fc_grownnodes.specs.Regrown.{with_bodies}
+use Rattle.fc_grownlaws.specs.nodes.Regrown.{with_bodies}
 use Rattle.fc_tree.specs.Nodes.{nodes_of}
 use Rattle.fc_growing.specs.Around.{said_in}
 use Rattle.fc_growing.proofs.around.set_bodies.Given as goal

@@ -2,8 +2,8 @@ use Rattle.std.proofs.Common.{◌∙◌, Bool, false, ℕ, List, Some, ap, refl,
 use Rattle.fc_newmap.specs.Map.{hole_runs}
 use Rattle.fc_plan.specs.Applied.{parts_in}
 use Rattle.fc_plan.specs.Parts.{fronts}
-use Rattle.fc_effects.specs.Placed.{IsPlan, holes_left}
-use Rattle.fc_effects.specs.Sharing.{units}
+use Rattle.fc_image.specs.effects.Placed.{IsPlan, holes_left}
+use Rattle.fc_image.specs.effects.Sharing.{units}
 use Rattle.fc_placing.specs.Leaving.{LeavesIds, LeavesUsed}
 use Rattle.std.specs.Prelude.{None}
 use Rattle.fc_growing.specs.Place.{IsIdFor, IsIdFrom, address_after}

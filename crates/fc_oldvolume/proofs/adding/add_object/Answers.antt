@@ -2,7 +2,7 @@ use Rattle.std.proofs.Common.{◌≡◌, ℕ, ap, subst}
 use Rattle.std.specs.Prelude.{is_some}
 use Rattle.std.specs.FinMap.{get, insert as put}
 use Rattle.fc_drafts.specs.Draft.{directory_in}
-use Rattle.fc_nodes.specs.Edits.{with_body}
+use Rattle.fc_laws.specs.nodes.Edits.{with_body}
 use Rattle.fc_tree.specs.declared.node.Node.{Node}
 use Rattle.fc_tree.specs.Nodes.{body_in, nodes_of}
 use Rattle.fc_oldvolume.proofs.AddingLemmas.{added_nodes, still, there_of}

@@ -1,8 +1,8 @@
 use Rattle.std.proofs.Common.{◌≡◌, ◌∙◌, ℕ, Bool, List, sym, ap, subst}
-use Rattle.fc_effects.specs.declared.Owned.{Owned}
-use Rattle.fc_effects.specs.Moves.{Squashed}
-use Rattle.fc_oldmoves.specs.Nodes.{AreMoved}
-use Rattle.fc_oldmoves.specs.Writes.{MarkChanges}
+use Rattle.fc_image.specs.declared.effects.Owned.{Owned}
+use Rattle.fc_image.specs.effects.Moves.{Squashed}
+use Rattle.fc_oldlaws.specs.moves.Nodes.{AreMoved}
+use Rattle.fc_oldlaws.specs.moves.Writes.{MarkChanges}
 use Rattle.fc_squash.specs.Squashing.{KeepsBodies}
 use Rattle.fc_tree.specs.Nodes.{nodes_of}
 use Rattle.fc_oldvolume.specs.Compacting.{marks, slide_by}

@@ -2,7 +2,7 @@ use Rattle.std.proofs.Common.{◌≡◌, ℕ, sym, ap, subst, ◌∙◌}
 use Rattle.std.specs.Prelude.{not, IfOk}
 use Rattle.fc_oldmap.specs.OldMap.{FreeSpace}
 use Rattle.fc_drafts.specs.Draft.{directory_in}
-use Rattle.fc_effects.specs.Short.{new_dir_size}
+use Rattle.fc_image.specs.effects.Short.{new_dir_size}
 use Rattle.fc_image.specs.Layout.{Layout, dir_form}
 use Rattle.fc_space.specs.Space.{layout_of}
 use Rattle.fc_volume.specs.Making.{AnswersSpace}

@@ -8,7 +8,7 @@ use Rattle.fc_dirs.specs.Directory.{Directory, entries_of}
 use Rattle.fc_drafts.specs.Draft.{CanAddress, CanBeCalled, CanHold, CanName, directory_in}
 use Rattle.fc_drafts.specs.Entries.{directory_entry}
 use Rattle.fc_drafts.specs.Rewriting.{HasEntered}
-use Rattle.fc_effects.specs.Steady.{new_directory}
+use Rattle.fc_image.specs.effects.Steady.{new_directory}
 use Rattle.fc_space.specs.Space.{layout_of}
 use Rattle.fc_tree.specs.Counts.{address_in}
 use Rattle.fc_tree.specs.Nodes.{nodes_of}

@@ -7,7 +7,7 @@ use Rattle.fc_device.proofs.StopLemmas.{started, weaker}
 use Rattle.fc_image.specs.Layout.{Layout, dir_form, sector_bytes}
 use Rattle.fc_image.specs.Opening.{Opened}
 use Rattle.fc_model.specs.Command.{Command}
-use Rattle.fc_effects.specs.Short.{short}
+use Rattle.fc_image.specs.effects.Short.{short}
 use Rattle.fc_refusals.specs.declared.target.Slot.{Slot}
 use Rattle.fc_space.specs.declared.space.Space.{Space}
 use Rattle.fc_space.specs.Space.{layout_of}

@@ -1,5 +1,5 @@
 use Rattle.std.proofs.Common.{arith}
-use Rattle.fc_effects.specs.Short.{old_need}
+use Rattle.fc_image.specs.effects.Short.{old_need}
 use Rattle.fc_oldvolume.proofs.TakingLemmas.{never_so_many}
 use Rattle.fc_oldvolume.proofs.taking.take_from.Goals as goal
 

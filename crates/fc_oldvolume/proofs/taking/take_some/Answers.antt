@@ -1,5 +1,5 @@
 use Rattle.std.proofs.Common.{◌≡◌, Err, List, None, Option, Some, ℕ, refl, sym, ap, ◌∙◌}
-use Rattle.fc_effects.specs.Short.{old_need}
+use Rattle.fc_image.specs.effects.Short.{old_need}
 use Rattle.fc_image.specs.Layout.{Layout, sectors_at}
 use Rattle.fc_oldvolume.proofs.TakingLemmas.{fits_at, is_taken, no_lack}
 use Rattle.fc_oldvolume.proofs.taking.take_some.Goals as goal

@@ -1,7 +1,7 @@
 use Rattle.std.proofs.Common.{Option, ap, sym, ◌∙◌}
 use Rattle.fc_newmap.specs.Map.{hole_runs, runs_of}
 use Rattle.fc_newmap.proofs.ComposeLemmas.{edits_none}
-use Rattle.fc_effects.specs.Placed.{holes_left}
+use Rattle.fc_image.specs.effects.Placed.{holes_left}
 use Rattle.fc_plan.specs.Applied.{id_in, parts_in}
 use Rattle.fc_plan.specs.Taking.{runs_taken}
 use Rattle.fc_plan.specs.declared.plan.Plan.{Plan}

@@ -1,6 +1,6 @@
 use Rattle.std.proofs.Common.{◌≡◌, Some, Option, List, subst, sym, ◌∙◌}
 use Rattle.fc_newmap.specs.Map.{ZoneRun}
-use Rattle.fc_safe.specs.FirstFit.{first_fit}
+use Rattle.fc_image.specs.safe.FirstFit.{first_fit}
 use Rattle.fc_plan.specs.Plan.{AreFreeRuns}
 use Rattle.fc_plan.proofs.FirstFit.{Fits, first_fits, fit_leaves, fit_leaves_free, fit_low}
 use Rattle.fc_plan.proofs.Plans.{min_some, min_whole}

@@ -5,7 +5,7 @@ use Rattle.std.proofs.lemmas.List.Sorted.{IsPermutation-refl}
 use Rattle.std.specs.List.{find}
 use Rattle.std.specs.Option.{option_map}
 use Rattle.fc_newmap.specs.Map.{ZoneRun, bits_in}
-use Rattle.fc_effects.specs.Placed.{HasRunLength, front_of}
+use Rattle.fc_image.specs.effects.Placed.{HasRunLength, front_of}
 use Rattle.fc_plan.specs.Plan.{IsLast}
 use Rattle.fc_plan.proofs.FirstFit.{fit_one, fit_some, gathered_last, gathered_none}
 use Rattle.fc_plan.proofs.Taken.{fit, long_after, one_set, read_at}

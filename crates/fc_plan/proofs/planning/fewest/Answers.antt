@@ -1,6 +1,6 @@
 use Rattle.std.proofs.Common.{List, subst, sym, ◌∙◌}
 use Rattle.fc_newmap.specs.Map.{ZoneRun}
-use Rattle.fc_effects.specs.Placed.{IsPlan}
+use Rattle.fc_image.specs.effects.Placed.{IsPlan}
 use Rattle.fc_plan.specs.Plan.{AreFreeRuns}
 use Rattle.fc_plan.proofs.Plans.{left_is_free, left_of_plan, lens_low, min_some, min_whole}
 use Rattle.fc_plan.proofs.planning.fewest.Goals as goal

@@ -4,7 +4,7 @@ use Rattle.std.proofs.lemmas.List.Elements.{All-contains}
 use Rattle.std.proofs.lemmas.List.Sorted.{answers_always, All-permutation, sum_by-IsPermutation}
 use Rattle.std.specs.List.Sorted.{IsPermutation}
 use Rattle.fc_newmap.specs.Map.{ZoneRun, bits_in}
-use Rattle.fc_effects.specs.Placed.{HasRunLength, IsFront}
+use Rattle.fc_image.specs.effects.Placed.{HasRunLength, IsFront}
 use Rattle.fc_plan.specs.Plan.{IsLast}
 use Rattle.fc_plan.proofs.Fewest.{IsLongestFirst, longest_first}
 use Rattle.fc_plan.proofs.Taken.{fit, one_set, IsChoice-one, IsChoice-longest, missing_multiple, long_after, read_at}

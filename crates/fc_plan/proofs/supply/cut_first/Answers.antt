@@ -1,7 +1,7 @@
 use Rattle.std.proofs.Common.{◌≡◌, ◌%◌, ◌≤◌, ℕ, List, Option, Some, map, ap, subst, sym, ◌∙◌}
 use Rattle.std.specs.Option.{option_map}
 use Rattle.fc_newmap.specs.Map.{ZoneRun}
-use Rattle.fc_safe.specs.FirstFit.{first_fit}
+use Rattle.fc_image.specs.safe.FirstFit.{first_fit}
 use Rattle.fc_plan.specs.declared.plan.Part.{Part}
 use Rattle.fc_plan.specs.Parts.{part_of}
 use Rattle.fc_plan.proofs.Fronts.{left_of_fronts}

@@ -1,6 +1,6 @@
 use Rattle.std.proofs.Common.{◌%◌, ℕ, map, ap, subst, sym, ◌∙◌}
 use Rattle.fc_plan.specs.Parts.{fronts, part_of}
-use Rattle.fc_effects.specs.Placed.{IsPlan}
+use Rattle.fc_image.specs.effects.Placed.{IsPlan}
 use Rattle.fc_plan.proofs.Fronts.{left_of_fronts, plan_of_fronts}
 use Rattle.fc_plan.proofs.Plans.{cut_of_plan}
 use Rattle.fc_plan.proofs.Units.{units_whole_of}

@@ -1,6 +1,6 @@
 use Rattle.std.proofs.Common.{◌≡◌, true, Ok, ap, sym, subst, ◌∙◌}
 use Rattle.fc_device.proofs.DiskLaws.{laws}
-use Rattle.fc_effects.specs.Effect.{State}
+use Rattle.fc_image.specs.effects.Effect.{State}
 use Rattle.fc_runs.specs.ReadLaw.{is_reading}
 use Rattle.fc_script.specs.Reading.{command}
 use Rattle.fc_volume.specs.Volume.{StandsFor, parts_of}

@@ -1,7 +1,7 @@
 use Rattle.std.proofs.Common.{rules, Err, refl, sym, ap, subst, ◌∙◌}
 use Rattle.fc_device.proofs.DiskLaws.{laws}
 use Rattle.fc_device.proofs.StopLemmas.{reads_start}
-use Rattle.fc_effects.specs.Effect.{State}
+use Rattle.fc_image.specs.effects.Effect.{State}
 use Rattle.fc_names.specs.declared.refusal.Refusal.TheVariants as refusals
 use Rattle.fc_script.specs.declared.command.Command.{Command as Told}
 use Rattle.fc_script.specs.declared.command.LineError.{LineError}

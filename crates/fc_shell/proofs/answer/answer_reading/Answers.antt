@@ -2,7 +2,7 @@ use Rattle.std.proofs.Common.{sym, subst}
 use Rattle.fc_device.specs.Calls.{OnlyReads}
 use Rattle.fc_device.proofs.DiskLaws.{laws}
 use Rattle.fc_device.proofs.StopLemmas.{reads_start}
-use Rattle.fc_effects.specs.Effect.{State}
+use Rattle.fc_image.specs.effects.Effect.{State}
 use Rattle.fc_script.specs.Reading.{command}
 use Rattle.fc_shell.specs.Answered.{Answered, volume_reply}
 use Rattle.fc_shell.proofs.AnsweredLemmas.{caused_alone}

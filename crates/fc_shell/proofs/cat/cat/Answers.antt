@@ -1,5 +1,5 @@
 use Rattle.std.proofs.Common.{IfOk, refl, sym, subst, ◌∙◌}
-use Rattle.fc_effects.specs.Effect.{State, tree_in}
+use Rattle.fc_image.specs.effects.Effect.{State, tree_in}
 use Rattle.fc_image.specs.Layout.{dir_form}
 use Rattle.fc_model.specs.Answer.{answer}
 use Rattle.fc_model.specs.Command.{Command}

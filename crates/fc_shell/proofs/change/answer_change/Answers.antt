@@ -1,5 +1,5 @@
 use Rattle.fc_device.proofs.DiskLaws.{laws}
-use Rattle.fc_effects.specs.Effect.{State}
+use Rattle.fc_image.specs.effects.Effect.{State}
 use Rattle.fc_script.specs.Reading.{command}
 use Rattle.fc_shell.proofs.ChangeLemmas.{change_ends, change_keeps}
 use Rattle.fc_shell.proofs.change.answer_change.Goals as goal

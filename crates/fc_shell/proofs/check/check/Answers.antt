@@ -1,5 +1,5 @@
 use Rattle.std.proofs.Common.{◌++◌, IfOk, refl, subst, sym, ap, ◌∙◌}
-use Rattle.fc_effects.specs.Effect.{State, tree_in}
+use Rattle.fc_image.specs.effects.Effect.{State, tree_in}
 use Rattle.fc_image.specs.Layout.{dir_form}
 use Rattle.fc_model.specs.Command.{Command}
 use Rattle.fc_runs.specs.Replies.{counts_line}

@@ -1,6 +1,6 @@
 use Rattle.std.proofs.Common.{◌≡◌}
 use Rattle.fc_device.proofs.DiskLaws.{laws}
-use Rattle.fc_effects.specs.Effect.{State}
+use Rattle.fc_image.specs.effects.Effect.{State}
 use Rattle.fc_shell.proofs.CompactLemmas.{compact_ends, compact_keeps}
 use Rattle.fc_shell.proofs.compact.compact.Goals as goal
 

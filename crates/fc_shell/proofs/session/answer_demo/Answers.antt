@@ -1,5 +1,5 @@
 use Rattle.std.proofs.Common.{List, ℕ, [], Some, Ok, Err, inl, inr, refl, sym, ap, subst}
-use Rattle.fc_effects.specs.Effect.{State}
+use Rattle.fc_image.specs.effects.Effect.{State}
 use Rattle.fc_shell.specs.declared.answer.LineFault.{LineFault}
 use Rattle.fc_shell.specs.Serving.{ServesAs}
 use Rattle.fc_shell.proofs.DemoLemmas.{demo_ends, demo_fault, demo_memory}

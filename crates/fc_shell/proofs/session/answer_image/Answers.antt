@@ -1,7 +1,7 @@
 use Rattle.std.proofs.Common.{◌≡◌, Bool, false, Err, [], inl, refl, sym, ap, subst, ◌∙◌, arith}
 use Rattle.fc_device.proofs.DiskLaws.{laws}
 use Rattle.fc_device.proofs.StopLemmas.{goes_on, weaker}
-use Rattle.fc_effects.specs.Effect.{State}
+use Rattle.fc_image.specs.effects.Effect.{State}
 use Rattle.fc_image.specs.Opening.{open_image}
 use Rattle.fc_volume.specs.Answers.{IsFaultOf}
 use Rattle.fc_shell.specs.declared.ending.End.{End}

@@ -1,5 +1,5 @@
 use Rattle.std.proofs.Common.{◌≡◌, Option, ℕ, Bool, false, None, inl, sym, ap, subst, ◌∙◌}
-use Rattle.fc_effects.specs.Effect.{State}
+use Rattle.fc_image.specs.effects.Effect.{State}
 use Rattle.fc_runs.specs.Run.{script_for}
 use Rattle.fc_shell.specs.declared.ending.End.{End}
 use Rattle.fc_shell.specs.Ends.{end_of, is_late}

@@ -3,7 +3,7 @@ use Rattle.std.specs.List.{list_any}
 use Rattle.std.proofs.lemmas.Result.{err_from_is_err_and}
 use Rattle.fc_device.proofs.DiskLaws.{laws}
 use Rattle.fc_device.proofs.StopLemmas.{reads_start, reads_then}
-use Rattle.fc_effects.specs.Effect.{State}
+use Rattle.fc_image.specs.effects.Effect.{State}
 use Rattle.fc_volume.specs.Volume.{parts_of}
 use Rattle.fc_script.specs.Lines.{command_of}
 use Rattle.fc_shell.specs.declared.answer.LineFault.{LineFault}

@@ -2,7 +2,7 @@ use Rattle.std.proofs.Common.{◌≡◌, ◌<◌, ◌*◌, ◌+◌, ◌∙◌, l
 use Rattle.std.proofs.Math.ListN.{length-set}
 use Rattle.fc_device.proofs.DiskLaws.{laws, form_same, form_then}
 use Rattle.fc_device.proofs.StopLemmas.{started, goes_on}
-use Rattle.fc_effects.specs.declared.Owned.{Owned}
+use Rattle.fc_image.specs.declared.effects.Owned.{Owned}
 use Rattle.fc_squash.specs.Squashing.{no_object, moved_to, with_start}
 use Rattle.fc_squash.proofs.StandLemmas.{Standing, comes, stand_start, stand_more}
 use Rattle.fc_squash.proofs.CarryLemmas.{CarriedBy, carried_start, carried_by_more}

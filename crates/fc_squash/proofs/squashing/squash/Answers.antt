@@ -1,6 +1,6 @@
 use Rattle.std.proofs.Common.{◌≡◌, ◌∙◌, ◌++◌, List, length, take, drop, sym, subst, OnOk}
 use Rattle.std.proofs.lemmas.List.{take_at}
-use Rattle.fc_effects.specs.declared.Owned.{Owned}
+use Rattle.fc_image.specs.declared.effects.Owned.{Owned}
 use Rattle.fc_squash.specs.Squashing.{SquashedBy}
 use Rattle.fc_squash.proofs.squashing.squash.Goals as goal
 

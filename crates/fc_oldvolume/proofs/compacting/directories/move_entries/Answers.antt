@@ -2,7 +2,7 @@ use Rattle.std.proofs.Common.{◌≡◌, ◌<◌, ◌^◌, ℕ, List, length, re
 use Rattle.std.specs.Prelude.{vec_len}
 use Rattle.fc_dirs.specs.declared.Entry.{Entry}
 use Rattle.fc_image.specs.Layout.{dir_form}
-use Rattle.fc_oldmoves.specs.After.{entry_after, start_after}
+use Rattle.fc_oldlaws.specs.moves.After.{entry_after, start_after}
 use Rattle.fc_space.specs.Space.{layout_of}
 use Rattle.fc_oldvolume.specs.declared.compacting.directories.Spare.{Spare}
 use Rattle.fc_oldvolume.proofs.ReaddressLemmas.{address_low, copy_fits, kept, moved}

@@ -1,6 +1,6 @@
 use Rattle.std.proofs.Common.{length}
 use Rattle.fc_image.specs.Layout.{dir_form}
-use Rattle.fc_oldmoves.specs.After.{entry_after, start_after}
+use Rattle.fc_oldlaws.specs.moves.After.{entry_after, start_after}
 use Rattle.fc_space.specs.Space.{layout_of}
 use Rattle.fc_oldvolume.specs.Compacting.{IsReaddressing}
 use Rattle.fc_oldvolume.proofs.compacting.directories.move_entries.Given as goal

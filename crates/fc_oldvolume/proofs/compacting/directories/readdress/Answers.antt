@@ -1,6 +1,6 @@
 use Rattle.std.proofs.Common.{◌≡◌, ◌<◌, ◌^◌, ℕ, sym, subst, ap, ◌∙◌}
 use Rattle.fc_dirs.specs.Small.{SmallDir}
-use Rattle.fc_oldmoves.specs.After.{parent_after, start_after}
+use Rattle.fc_oldlaws.specs.moves.After.{parent_after, start_after}
 use Rattle.fc_oldvolume.proofs.CompactingLemmas.{parent_low}
 use Rattle.fc_oldvolume.proofs.compacting.directories.readdress.Goals as goal
 

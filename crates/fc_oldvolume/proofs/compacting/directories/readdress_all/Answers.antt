@@ -2,7 +2,7 @@ use Rattle.std.proofs.Common.{◌≡◌, ◌<◌, ◌≤◌, ◌∙◌, ap, sym,
 use Rattle.std.specs.Prelude.{slice_get, vec_len}
 use Rattle.std.proofs.lemmas.Option.{slice_get_read}
 use Rattle.fc_image.specs.Layout.{dir_form}
-use Rattle.fc_oldmoves.specs.After.{start_after}
+use Rattle.fc_oldlaws.specs.moves.After.{start_after}
 use Rattle.fc_space.specs.Space.{layout_of}
 use Rattle.fc_tree.specs.Nodes.{bound_of, nodes_of}
 use Rattle.fc_oldvolume.specs.Compacting.{AreReaddressed}

@@ -1,6 +1,6 @@
 use Rattle.std.proofs.Common.{◌≡◌}
 use Rattle.fc_image.specs.Layout.{dir_form}
-use Rattle.fc_oldmoves.specs.After.{start_after}
+use Rattle.fc_oldlaws.specs.moves.After.{start_after}
 use Rattle.fc_space.specs.Space.{layout_of}
 use Rattle.fc_tree.specs.Nodes.{bound_of, nodes_of}
 use Rattle.fc_oldvolume.specs.Compacting.{AreLeft, AreReaddressed}

@@ -1,7 +1,7 @@
 use Rattle.std.proofs.Common.{◌≡◌, ℕ, refl, sym, subst, ap, ap₂, ◌∙◌}
 use Rattle.fc_image.specs.Layout.{dir_form}
-use Rattle.fc_oldmoves.specs.After.{start_after}
-use Rattle.fc_oldmoves.specs.Nodes.{body_after}
+use Rattle.fc_oldlaws.specs.moves.After.{start_after}
+use Rattle.fc_oldlaws.specs.moves.Nodes.{body_after}
 use Rattle.fc_space.specs.Space.{layout_of}
 use Rattle.fc_tree.specs.Counts.{address_in}
 use Rattle.fc_tree.specs.Nodes.{nodes_of}

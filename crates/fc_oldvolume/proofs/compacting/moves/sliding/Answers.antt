@@ -1,7 +1,7 @@
 use Rattle.std.proofs.Common.{◌≡◌, ◌++◌, List, ap, ◌∙◌}
 use Rattle.std.specs.FinMap.{get}
-use Rattle.fc_effects.specs.declared.Owned.{Owned}
-use Rattle.fc_oldmoves.specs.Nodes.{sliding_at}
+use Rattle.fc_image.specs.declared.effects.Owned.{Owned}
+use Rattle.fc_oldlaws.specs.moves.Nodes.{sliding_at}
 use Rattle.fc_tree.specs.Nodes.{nodes_of}
 use Rattle.fc_oldvolume.proofs.CompactingLemmas.{one_more}
 use Rattle.fc_oldvolume.proofs.compacting.moves.sliding.Goals as goal

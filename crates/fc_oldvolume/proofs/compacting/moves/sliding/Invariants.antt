@@ -1,7 +1,7 @@
 use Rattle.std.proofs.Common.{◌≡◌}
 use Rattle.fc_image.specs.Layout.{Layout}
 use Rattle.fc_oldmap.specs.OldMap.{FreeSpace}
-use Rattle.fc_oldmoves.specs.Nodes.{sliding_below}
+use Rattle.fc_oldlaws.specs.moves.Nodes.{sliding_below}
 use Rattle.fc_space.specs.Space.{layout_of}
 use Rattle.fc_tree.specs.Nodes.{nodes_of}
 use Rattle.fc_oldvolume.proofs.compacting.moves.sliding.Given as goal

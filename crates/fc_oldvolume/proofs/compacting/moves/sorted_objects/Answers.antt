@@ -1,6 +1,6 @@
 use Rattle.std.proofs.Common.{rules}
 use Rattle.std.proofs.lemmas.List.Sorted.{IsNonDecreasingBy-from_sort_by_key}
-use Rattle.fc_effects.specs.declared.Owned.{Owned}
+use Rattle.fc_image.specs.declared.effects.Owned.{Owned}
 use Rattle.fc_oldvolume.proofs.compacting.moves.sorted_objects.Goals as goal
 
 pub returns-clause-sorted : goal.returns-clause-sorted

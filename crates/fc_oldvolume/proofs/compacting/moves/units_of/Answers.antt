@@ -1,6 +1,6 @@
 use Rattle.std.proofs.Common.{◌≡◌, ◌<◌, ◌^◌, ℕ, sym, subst, ap, ◌∙◌, arith}
 use Rattle.fc_image.specs.Layout.{dir_form}
-use Rattle.fc_effects.specs.Short.{old_need}
+use Rattle.fc_image.specs.effects.Short.{old_need}
 use Rattle.fc_space.specs.Space.{layout_of}
 use Rattle.fc_oldvolume.proofs.CompactingLemmas.{few_units}
 use Rattle.fc_oldvolume.proofs.compacting.moves.units_of.Goals as goal

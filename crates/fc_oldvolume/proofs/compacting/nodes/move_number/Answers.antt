@@ -2,7 +2,7 @@ use Rattle.std.proofs.Common.{◌≡◌, ℕ, sym, subst, ap, ◌∙◌}
 use Rattle.std.specs.FinMap.{insert}
 use Rattle.fc_image.specs.Layout.{dir_form}
 use Rattle.fc_dirs.specs.declared.Entry.{Entry}
-use Rattle.fc_oldmoves.specs.After.{start_after}
+use Rattle.fc_oldlaws.specs.moves.After.{start_after}
 use Rattle.fc_space.specs.Space.{layout_of}
 use Rattle.fc_tree.specs.Nodes.{nodes_of}
 use Rattle.fc_volume.proofs.TakingLemmas.{put_changed, taken_free}

@@ -1,7 +1,7 @@
 use Rattle.std.proofs.Common.{◌≡◌, length}
 use Rattle.fc_image.specs.Layout.{Layout}
 use Rattle.fc_oldmap.specs.OldMap.{FreeSpace}
-use Rattle.fc_oldmoves.specs.Nodes.{remade}
+use Rattle.fc_oldlaws.specs.moves.Nodes.{remade}
 use Rattle.fc_space.specs.Space.{layout_of}
 use Rattle.fc_tree.specs.Nodes.{nodes_of}
 use Rattle.fc_oldvolume.specs.Compacting.{first_changed}

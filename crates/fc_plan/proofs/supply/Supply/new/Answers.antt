@@ -3,7 +3,7 @@ use Rattle.fc_record.specs.declared.Geometry.{Geometry}
 use Rattle.fc_record.specs.Record.{id_limit}
 use Rattle.fc_newmap.specs.Map.{ZoneRun}
 use Rattle.fc_newmap.specs.NewMap.{IsOfRecord}
-use Rattle.fc_effects.specs.Sharing.{new_ids}
+use Rattle.fc_image.specs.effects.Sharing.{new_ids}
 use Rattle.fc_plan.specs.Plan.{AreFreeRuns}
 use Rattle.fc_plan.specs.Supply.{Stock, unused_from}
 use Rattle.fc_plan.proofs.Order.{map_holes-free}

@@ -1,6 +1,6 @@
 use Rattle.std.proofs.Common.{ℕ, ap, sym, subst, ◌∙◌}
 use Rattle.std.specs.Prelude.{Result, Err}
-use Rattle.fc_effects.specs.Short.{short}
+use Rattle.fc_image.specs.effects.Short.{short}
 use Rattle.fc_plan.specs.declared.plan.Plan.{Plan}
 use Rattle.fc_plan.specs.declared.supply.PlanError.{PlanError}
 use Rattle.fc_placing.specs.Places.{AnswersShort, WantsOwnSpace}

@@ -1,6 +1,6 @@
 use Rattle.std.proofs.Common.{ℕ, ap, sym, subst, ◌∙◌}
 use Rattle.std.specs.Option.{option_map}
-use Rattle.fc_effects.specs.Short.{short}
+use Rattle.fc_image.specs.effects.Short.{short}
 use Rattle.fc_image.specs.Layout.{dir_form}
 use Rattle.fc_placing.specs.Places.{WantsOwnSpace}
 use Rattle.fc_space.specs.Space.{layout_of}

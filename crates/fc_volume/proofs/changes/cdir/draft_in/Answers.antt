@@ -5,7 +5,7 @@ use Rattle.fc_drafts.specs.Draft.{directory_in}
 use Rattle.fc_drafts.specs.Gains.{GetsName}
 use Rattle.fc_model.specs.Tree.{last_name}
 use Rattle.fc_model.specs.Command.{Command}
-use Rattle.fc_effects.specs.Short.{short}
+use Rattle.fc_image.specs.effects.Short.{short}
 use Rattle.fc_plan.specs.declared.plan.Plan.{Plan}
 use Rattle.fc_volume.specs.declared.changes.making.Making.{Making}
 use Rattle.fc_volume.proofs.MakingLemmas.{other_value}

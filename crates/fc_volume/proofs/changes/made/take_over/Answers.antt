@@ -5,7 +5,7 @@ use Rattle.fc_drafts.specs.Draft.{directory_in}
 use Rattle.fc_tree.specs.Nodes.{body_in, nodes_of}
 use Rattle.fc_tree.specs.declared.node.Node.{Node}
 use Rattle.fc_tree.specs.declared.node.Body.{Body}
-use Rattle.fc_nodes.specs.Edits.{with_body}
+use Rattle.fc_laws.specs.nodes.Edits.{with_body}
 use Rattle.fc_volume.specs.Making.{nodes_made}
 use Rattle.fc_volume.proofs.MadeLemmas.{made_nodes, still, there_of}
 use Rattle.fc_volume.proofs.changes.made.take_over.Goals as goal

@@ -9,7 +9,7 @@ use Rattle.fc_dirs.specs.Directory.{Directory, entries_of}
 use Rattle.fc_drafts.specs.Draft.{CanAddress, CanHold, CanName, directory_in}
 use Rattle.fc_drafts.specs.Entries.{directory_entry}
 use Rattle.fc_drafts.specs.Rewriting.{HasEntered}
-use Rattle.fc_effects.specs.Steady.{AreWritten, new_directory}
+use Rattle.fc_image.specs.effects.Steady.{AreWritten, new_directory}
 use Rattle.fc_image.specs.Layout.{Layout, dir_form}
 use Rattle.fc_placing.specs.Places.{IsOwnPlan}
 use Rattle.fc_placing.proofs.AddressLemmas.{plan_id}
@@ -30,7 +30,7 @@ pub prepare-requires : goal.prepare-requires
 prepare-requires c =
     let bytes_are : length c.in_ok-bytes.bytes.items ≡ 2048 =
     c.in_ok-bytes.ensures.length ∙ ap Rattle.fc_drafts.specs.Draft.size_of c.in_ok-made.ensures ∙ new_size c.dir_form-form.result c.unwrap-node.result.now.entry.address c.args.name
-    ∙ ap Rattle.fc_effects.specs.Short.new_dir_size (c.dir_form-form.ensures ∙ ap dir_form c.requires.map) ∙ dir_bytes c.args.map.now in
+    ∙ ap Rattle.fc_image.specs.effects.Short.new_dir_size (c.dir_form-form.ensures ∙ ap dir_form c.requires.map) ∙ dir_bytes c.args.map.now in
     subst (λ (n : ℕ). IsOwnPlan c.args.map.now n c.args.plan) (sym bytes_are) c.requires.plan
 
 pub enter-requires-clause-named : goal.enter-requires-clause-named
@@ -62,9 +62,9 @@ pub returns : goal.returns
 returns c =
     let there = sym c.node.ensures ∙ ap (option_map (λ n. n.now)) c.unwrap-node.ensures in
     let form_is : c.dir_form-form.result ≡ dir_form (Layout.New c.args.map.now) = c.dir_form-form.ensures ∙ ap dir_form c.requires.map in
-    let bytes_are : length c.in_ok-bytes.bytes.items ≡ Rattle.fc_effects.specs.Short.new_dir_size (dir_form (Layout.New c.args.map.now)) =
+    let bytes_are : length c.in_ok-bytes.bytes.items ≡ Rattle.fc_image.specs.effects.Short.new_dir_size (dir_form (Layout.New c.args.map.now)) =
     c.in_ok-bytes.ensures.length ∙ ap Rattle.fc_drafts.specs.Draft.size_of c.in_ok-made.ensures ∙ new_size c.dir_form-form.result c.unwrap-node.result.now.entry.address c.args.name
-    ∙ ap Rattle.fc_effects.specs.Short.new_dir_size form_is in
+    ∙ ap Rattle.fc_image.specs.effects.Short.new_dir_size form_is in
     let same = c.in_ok-object.ensures.same in
     let entry_is : c.directory_entry-entry.result ≡ c.directory_entry.result =
     c.directory_entry-entry.ensures ∙ sym (c.directory_entry.ensures ∙ ap (λ (n : List ℕ). directory_entry c.dir_form-form.result n (256 * c.args.plan.id)) c.in_ok-own.ensures) in

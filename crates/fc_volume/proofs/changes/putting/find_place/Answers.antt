@@ -1,6 +1,6 @@
 use Rattle.std.proofs.Common.{ap, subst, ◌∙◌}
 use Rattle.std.specs.Prelude.{Result, Err}
-use Rattle.fc_effects.specs.Short.{short}
+use Rattle.fc_image.specs.effects.Short.{short}
 use Rattle.fc_plan.specs.declared.supply.PlanError.{PlanError}
 use Rattle.fc_placing.specs.declared.placing.Placing.{Placing}
 use Rattle.fc_placing.specs.Places.{AnswersShort}

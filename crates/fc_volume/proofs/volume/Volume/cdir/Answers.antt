@@ -13,8 +13,8 @@ use Rattle.fc_image.specs.Opening.{Opened}
 use Rattle.fc_image.specs.Stays.{IsNewLayout}
 use Rattle.fc_model.specs.Command.{Command}
 use Rattle.fc_model.specs.Tree.{last_name}
-use Rattle.fc_effects.specs.Short.{short}
-use Rattle.fc_nodes.specs.Edits.{Nodes}
+use Rattle.fc_image.specs.effects.Short.{short}
+use Rattle.fc_laws.specs.nodes.Edits.{Nodes}
 use Rattle.fc_space.specs.declared.space.Space.{Space}
 use Rattle.fc_volume.specs.declared.changes.making.Making.{Making}
 use Rattle.fc_volume.specs.declared.copies.Copies.{Copies}

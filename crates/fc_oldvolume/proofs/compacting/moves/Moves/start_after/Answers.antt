@@ -1,5 +1,5 @@
 use Rattle.std.proofs.Common.{◌≡◌, ◌<◌, ◌≤◌, ◌⊎◌, ℕ, length, sym, ap, ◌∙◌, inl, inr, arith, eq-eqb, ne_eqb}
-use Rattle.fc_effects.specs.declared.Owned.{Owned}
+use Rattle.fc_image.specs.declared.effects.Owned.{Owned}
 use Rattle.fc_oldvolume.proofs.CompactingLemmas.{either_past, start_found, start_later, start_none}
 use Rattle.fc_oldvolume.proofs.compacting.moves.Moves.start_after.Goals as goal
 

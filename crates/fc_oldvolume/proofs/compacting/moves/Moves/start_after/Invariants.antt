@@ -1,5 +1,5 @@
 use Rattle.std.proofs.Common.{◌≡◌, drop}
-use Rattle.fc_oldmoves.specs.After.{start_after}
+use Rattle.fc_oldlaws.specs.moves.After.{start_after}
 use Rattle.fc_oldvolume.proofs.compacting.moves.Moves.start_after.Given as goal
 
 -- none of the objects so far began there

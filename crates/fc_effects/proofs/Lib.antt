@@ -1,3 +1,0 @@
-mod LeftLemmas
-mod OneHoleLemmas
-mod CompactedLemmas

@@ -1,0 +1,3 @@
+pub mod nodes
+pub mod agree
+pub mod takeover

@@ -1,0 +1,306 @@
+-- Any edit of the objects of agreeing parts.
+use Rattle.std.proofs.Common.{◌≡◌, ◌≤◌, ℕ, ◌+◌, ◌*◌, ◌/◌, Bool, true, false, cond, List, [], ◌∷◌, ◌++◌, length, map, refl, sym, ap, subst, ◌∙◌, arith, Some, None, Option, eq-eqb}
+use Rattle.std.specs.Prelude.{Ok, Contains, IsPermutation, filter, nat_le, ◌==◌, ◌||◌, ◌&&◌}
+use Rattle.std.specs.FinMap.{get}
+use Rattle.std.proofs.lemmas.Bool.{eqb-true}
+use Rattle.std.proofs.lemmas.List.Sorted.{Contains-permutation, IsPermutation-sym, list_any-IsPermutation}
+use Rattle.fc_names.specs.declared.name.NameForm.{NameForm}
+use Rattle.fc_names.specs.declared.name.NameForm.TheVariants.{Long, Seven, Ten}
+use Rattle.fc_record.specs.declared.Geometry.{Geometry}
+use Rattle.fc_record.specs.declared.Kind.{Kind}
+use Rattle.fc_zone.specs.declared.RunKind.{RunKind}
+use Rattle.fc_zone.specs.declared.RunKind.TheVariants as kinds
+use Rattle.fc_newmap.specs.Map.{Map, ZoneRun, all_runs, has_id, id_runs, is_used, map_sectors, sectors_of}
+use Rattle.fc_newmap.specs.NewMap.{IsNewMap}
+use Rattle.fc_newmap.specs.RunsLaw.{HasZones, HoldsSector, IsGeometry}
+use Rattle.fc_newmap.proofs.CoverLemmas.{run_there}
+use Rattle.fc_newmap.proofs.PlaceLemmas.{filter_in, held_in, holder_of, id_run_in, in_filter, in_id_runs}
+use Rattle.fc_newmap.proofs.RunsLemmas.{runs_apart}
+use Rattle.fc_dirs.specs.Directory.{directory_size}
+use Rattle.fc_dirs.specs.declared.Entry.{Entry}
+use Rattle.fc_alloc.specs.declared.owner.Owner.{Owner}
+use Rattle.fc_image.specs.Layout.{Layout, dir_form, disc_sectors, is_among}
+use Rattle.fc_image.specs.Walk.{Listing, Object, Reader, root_entry, walk}
+use Rattle.fc_image.specs.Objects.{is_movable, is_owner_of, objects_of}
+use Rattle.fc_image.specs.Opening.{boot_place, is_hole_or_movable, least_of, misplaced_sector, reserved_in}
+use Rattle.fc_image.specs.Sound.{AreSound}
+use Rattle.fc_image.specs.Edits.{Apart, IsRoot, StayListed}
+use Rattle.fc_image.specs.Order.{held}
+use Rattle.fc_image.specs.EditedWalk.{IsRelisting, IsWalkEdit, IsWalkedAgain}
+use Rattle.fc_image.specs.MapEdits.{KeepsPlace}
+use Rattle.fc_image.proofs.HolesLemmas.{least_none, loose_sectors, none_loose}
+use Rattle.fc_image.proofs.MapEditLemmas.{places_law}
+use Rattle.fc_image.proofs.MoveLemmas.{tight_from, unless}
+use Rattle.fc_image.proofs.OrderLemmas.{order_law}
+use Rattle.fc_image.proofs.RelistLemmas.{edited_walk_law, root_once}
+use Rattle.fc_tree.specs.declared.node.Node.{Node}
+use Rattle.fc_tree.specs.Agree.{Agree, HasForm, IsDirectory, reader_of_nodes}
+use Rattle.fc_tree.specs.Nodes.{HasNode, HoldObjects, number_of}
+use Rattle.fc_tree.proofs.WalkedLemmas.{apart_names}
+use Rattle.fc_changes.proofs.BasicLemmas.{any_in, clash, first_in}
+use Rattle.fc_laws.specs.nodes.Edits.{Nodes}
+use Rattle.fc_laws.specs.agree.Agreed.{AgreeOn, PartsFollow, parts_with}
+use Rattle.fc_laws.proofs.lemmas.agree.BeforeLemmas.{Had, boot_apart, had, shape, some_zones, tight}
+use Rattle.fc_laws.proofs.lemmas.agree.RoomLemmas.{room}
+
+-- ---- loose sectors of two maps
+
+-- a run of an identifier that isn't movable is neither a hole nor movable
+not_loose : (objects : List Object) (id : ℕ) (k : RunKind) → has_id id k ≡ true → is_movable objects id ≡ false → is_hole_or_movable objects k ≡ false
+not_loose objects id kinds.Hole h e = absurd (cc)
+not_loose objects id (kinds.Id other) h e = subst (λ (n : ℕ). is_movable objects n ≡ false) (sym (eqb-true other id h)) e
+
+-- A used identifier that isn't movable keeps its runs, and doesn't become movable.
+abbrev pub AreFixed : Map → Map → List Object → List Object → Type 0
+AreFixed m m' objects objects' = (k : ℕ) → is_movable objects k ≡ false → is_used m k ≡ true → (id_runs m' k ≡ id_runs m k) × (is_movable objects' k ≡ false)
+
+-- a loose sector of the new map was loose in the old one
+pub loose_before : (m m' : Map) (objects objects' : List Object) → m'.geometry ≡ m.geometry → IsGeometry m.geometry → HasZones m → HasZones m' → 1 ≤ m.geometry.zones
+    → AreFixed m m' objects objects' → (s : ℕ) → is_among (loose_sectors m' objects') s ≡ true → is_among (loose_sectors m objects) s ≡ true
+loose_before m m' objects objects' e is has has' some fixed s h =
+    let test : ZoneRun → Bool = λ q. is_hole_or_movable objects' q.1.kind in
+    let p' = holder_of m'.geometry (filter test (all_runs m')) s h in
+    let f' = filter_in test (all_runs m') p'.0 p'.1.0 in
+    let holds' : HoldsSector m.geometry p'.0 s = subst (λ (g : Geometry). HoldsSector g p'.0 s) e p'.1.1 in
+    let p = run_there m m' e is has has' some p'.0 s f'.0 holds' in
+    by p'.0 p.0 f' p.1 holds' (is_hole_or_movable objects p.0.1.kind) refl
+  where
+    stuck : (k : RunKind) → is_hole_or_movable objects k ≡ false → (id : ℕ) × ((has_id id k ≡ true) × (is_movable objects id ≡ false))
+    stuck kinds.Hole h' = absurd (cc)
+    stuck (kinds.Id id) h' = (id, (eq-eqb id id refl, h'))
+
+    by : (p' p : ZoneRun) → Contains (all_runs m') p' × (is_hole_or_movable objects' p'.1.kind ≡ true) → Contains (all_runs m) p × HoldsSector m.geometry p s
+        → HoldsSector m.geometry p' s → (b : Bool) → is_hole_or_movable objects p.1.kind ≡ b → is_among (loose_sectors m objects) s ≡ true
+    by p' p f' c holds' true l =
+        held_in m.geometry (filter (λ q. is_hole_or_movable objects q.1.kind) (all_runs m)) p s (in_filter (λ q. is_hole_or_movable objects q.1.kind) (all_runs m) p c.0 l) c.1
+    by p' p f' c holds' false l =
+        absurd (
+        let id = stuck p.1.kind l in
+        let used : is_used m id.0 ≡ true = any_in (λ (q : ZoneRun). has_id id.0 q.1.kind) (all_runs m) p c.0 id.1.0 in
+        let stays = fixed id.0 id.1.1 used in
+        let there = subst (λ (ps : List ZoneRun). Contains ps p) (sym stays.0) (in_id_runs m id.0 p some c.0 id.1.0) in
+        let some' : 1 ≤ m'.geometry.zones = subst (λ (g : Geometry). 1 ≤ g.zones) (sym e) some in
+        let p_in = id_run_in m' id.0 p some' there in
+        let is' = subst IsGeometry (sym e) is in
+        let same = runs_apart m' is' has' p p' p_in.0 f'.0 s (subst (λ (g : Geometry). HoldsSector g p s) (sym e) c.1) (subst (λ (g : Geometry). HoldsSector g p' s) (sym e) holds') in
+        clash (is_hole_or_movable objects' p'.1.kind) f'.1
+        (subst (λ (q : ZoneRun). is_hole_or_movable objects' q.1.kind ≡ false) same (not_loose objects' id.0 p.1.kind id.1.0 stays.1)))
+
+pub movable_shuffled : (objects others : List Object) (k : ℕ) → IsPermutation objects others → is_movable objects k ≡ is_movable others k
+movable_shuffled objects others k s = ap (λ b. ((k == 2) || b) && nat_le 3 k) (list_any-IsPermutation (is_owner_of k) objects others s)
+
+loose_shuffled : (objects others : List Object) → IsPermutation objects others → (k : RunKind) → is_hole_or_movable objects k ≡ is_hole_or_movable others k
+loose_shuffled objects others s kinds.Hole = refl
+loose_shuffled objects others s (kinds.Id k) = movable_shuffled objects others k s
+
+-- it doesn't count in which order the objects stand
+pub misplaced_shuffled : (kind : Kind) (m : Map) (objects others : List Object) → IsPermutation objects others
+    → misplaced_sector kind (Layout.New m) objects ≡ misplaced_sector kind (Layout.New m) others
+misplaced_shuffled kind m objects others s =
+    ap (λ (t : RunKind → Bool). least_of (filter (is_among (sectors_of m.geometry (filter (λ p. t p.1.kind) (all_runs m)))) (reserved_in kind (Layout.New m))
+    ++ filter (is_among (map_sectors m.geometry)) (boot_place kind m.geometry.sector)))
+    (λ i k. loose_shuffled objects others s k i)
+
+-- ---- sizes
+
+twice : (form : NameForm) (n : ℕ) → directory_size form (directory_size form n) ≡ directory_size form n
+twice Seven n = refl
+twice Ten n = refl
+twice Long n = refl
+
+-- ---- the node of a root's object
+
+same_node : (n k : Node) → (let q : Option Node = Some n in q) ≡ Some k → n ≡ k
+same_node n k e = cc
+
+same_number : (n k : ℕ) → (let q : Option ℕ = Some n in q) ≡ Some k → n ≡ k
+same_number n k e = cc
+
+pub root_node : (nodes : Nodes) (listings : List Listing) (o : Object) → o.path ≡ [] → HasNode nodes listings o → (node : Node) × (get nodes 0 ≡ Some node) × (node.entry ≡ o.entry)
+root_node nodes listings o path h =
+    let zero' : 0 ≡ h.number = same_number 0 h.number (ap (number_of nodes) (sym path) ∙ h.at_path) in
+    (_, ap (get nodes) zero' ∙ h.is, refl)
+
+-- ---- the edit
+
+module _ (kind : Kind) (m m' : Map) (nodes nodes' : Nodes) (owners owners' : List Owner) (root : Node) (listings listings' : List Listing) (a : AgreeOn kind m nodes owners root listings)
+    (g : Object → Object) (gone come kept : List Object) where
+  abbrev before : Had kind m nodes owners root listings a
+  before = had kind m nodes owners root listings a
+
+  -- Objects go, come and change, and the nodes say so. The root lies where these numbers say.
+  pub record IsAnyEdit (address size : ℕ) : Type 0 where
+    pub is_map : IsNewMap m'
+    pub geometry : m'.geometry ≡ m.geometry
+    pub relisted : IsRelisting g listings listings' gone come kept
+    pub few : length listings' ≤ length listings + 1
+    pub say : StayListed (reader_of_nodes nodes') (Layout.New m') listings'
+    pub root_now : IsRoot (Layout.New m') address size (g before.top)
+    pub whole : directory_size (dir_form (Layout.New m')) size ≡ size
+    pub apart : Apart (reserved_in kind (Layout.New m)) (come ++ map g (before.top ∷ kept))
+    pub clear : misplaced_sector kind (Layout.New m') (come ++ map g (before.top ∷ kept)) ≡ None
+    pub forms : (l : Listing) → Contains listings' l → HasForm (dir_form (Layout.New m')) l.object.entry.len l.content
+    pub bodies : (l : Listing) → Contains listings' l → IsDirectory l.content
+    pub follow : PartsFollow nodes' owners' (Layout.New m') listings'
+
+  module _ (address size : ℕ) (e : IsAnyEdit address size) where
+    abbrev layout : Layout
+    layout = Layout.New m
+
+    abbrev layout' : Layout
+    layout' = Layout.New m'
+
+    abbrev held_back : List ℕ
+    held_back = reserved_in kind layout
+
+    abbrev read' : Reader
+    read' = reader_of_nodes nodes'
+
+    reserved_same : reserved_in kind layout' ≡ reserved_in kind layout
+    reserved_same = ap (λ (y : Geometry). map_sectors y ++ boot_place kind y.sector) e.geometry
+
+    disc_same : disc_sectors layout' ≡ disc_sectors layout
+    disc_same = ap (λ (y : Geometry). y.disc_bits * y.bit_bytes / y.sector) e.geometry
+
+    is : IsWalkEdit (reader_of_nodes nodes) read' layout layout' held_back held_back root.entry.address address root.entry.len size g listings listings' gone come kept
+    is = record {
+      walked = a.walked.walked;
+      relisted = e.relisted;
+      say = e.say;
+      root = λ p r. subst (λ (o : Object). IsRoot layout' address size (g o)) (root_once layout root.entry.address root.entry.len before.top p before.is_root r) e.root_now;
+      apart = λ p r. subst (λ (o : Object). Apart held_back (come ++ map g (o ∷ kept))) (root_once layout root.entry.address root.entry.len before.top p before.is_root r) e.apart;
+      room = (let few = e.few in let most = room kind m nodes owners root listings a in omega (arith, few, most, disc_same));
+    }
+
+    again : IsWalkedAgain read' layout layout' held_back root.entry.address address root.entry.len size g listings listings' gone come kept
+    again = edited_walk_law.again (reader_of_nodes nodes) read' layout layout' held_back held_back root.entry.address address root.entry.len size g listings listings' gone come kept is
+
+    abbrev found : List Listing
+    found = again.found
+
+    objects_now : IsPermutation (objects_of found) (come ++ map g (before.top ∷ kept))
+    objects_now =
+        subst (λ (o : Object). IsPermutation (objects_of found) (come ++ map g (o ∷ kept))) (root_once layout root.entry.address root.entry.len again.root before.top again.is_root before.is_root) again.after
+
+    listed_back : (l : Listing) → Contains found l → Contains listings' l
+    listed_back l at = Contains-permutation found listings' l (IsPermutation-sym listings' found again.order) at
+
+    walked_now : walk read' layout' (reserved_in kind layout') address size ≡ Ok found
+    walked_now = subst (λ (ss : List ℕ). walk read' layout' ss address size ≡ Ok found) (sym reserved_same) again.walked
+
+    sound_now : AreSound layout' found
+    sound_now = record {
+      read = read';
+      reserved = held_back;
+      address = address;
+      size = size;
+      walked = again.walked;
+      apart = λ l at. apart_names l.content (e.bodies l (listed_back l at));
+    }
+
+    held_now : HoldObjects nodes' found
+    held_now = e.follow.nodes_follow.hold layout' found sound_now again.order
+
+    root_after : (node : Node) × (get nodes' 0 ≡ Some node) × (node.entry.address ≡ address) × (node.entry.len ≡ size)
+    root_after =
+        let h = order_law.gives read' layout' held_back address size found again.walked in
+        let n = root_node nodes' found h.0 h.1.path (held_now.each h.0 (subst (λ (os : List Object). Contains os h.0) (sym h.4) (first_in h.0 (held found)))) in (
+          n.0,
+          n.1,
+          ap (λ (x : Entry). x.address) (n.2 ∙ h.1.entry),
+          ap (λ (x : Entry). x.len) (n.2 ∙ h.1.entry) ∙ e.whole,
+        )
+
+    -- These listings are found, in some order, and the parts agree on them.
+    pub agreed_on : (r : Node) × (found' : List Listing) × AgreeOn kind m' nodes' owners' r found' × IsPermutation listings' found'
+    agreed_on =
+        let r = root_after in (
+          r.0,
+          found,
+          record {
+            is_map = e.is_map;
+            root_is = r.1;
+            walked = record {
+              walked = subst (λ (n : ℕ). walk read' layout' (reserved_in kind layout') r.0.entry.address n ≡ Ok found) (sym r.3)
+                  (subst (λ (n : ℕ). walk read' layout' (reserved_in kind layout') n size ≡ Ok found) (sym r.2) walked_now);
+              held = held_now;
+              forms = λ l at. e.forms l (listed_back l at);
+              bodies = λ l at. e.bodies l (listed_back l at);
+            };
+            map_placed = misplaced_shuffled kind m' (objects_of found) (come ++ map g (before.top ∷ kept)) objects_now ∙ e.clear;
+            owned = e.follow.owners_follow found sound_now again.order;
+          },
+          again.order,
+        )
+
+    pub agreed_anyhow : Agree kind (parts_with m' nodes' owners')
+    agreed_anyhow =
+        let on = agreed_on in
+        record { root = on.0; root_is = on.2.root_is; listings = on.1; walked = on.2.walked; map_placed = on.2.map_placed; owned = on.2.owned }
+
+  -- nothing comes to be misplaced, if what isn't movable stays so with its runs
+  pub clear_of : IsNewMap m' → m'.geometry ≡ m.geometry → (objects' : List Object) → AreFixed m m' (objects_of listings) objects' → misplaced_sector kind (Layout.New m') objects' ≡ None
+  clear_of is_map geometry objects' fixed =
+      let layout' : Layout = Layout.New m' in
+      let reserved_same : reserved_in kind layout' ≡ reserved_in kind (Layout.New m) = ap (λ (y : Geometry). map_sectors y ++ boot_place kind y.sector) geometry in
+      let stuck = none_loose (loose_sectors m (objects_of listings)) (reserved_in kind (Layout.New m)) (tight kind m nodes owners root listings a) in
+      least_none (filter (is_among (loose_sectors m' objects')) (reserved_in kind layout')) (filter (is_among (map_sectors m'.geometry)) (boot_place kind m'.geometry.sector))
+      (tight_from (loose_sectors m' objects') (reserved_in kind layout')
+      (λ s i. unless (is_among (loose_sectors m' objects') s)
+      (λ h. clash (is_among (loose_sectors m (objects_of listings)) s)
+      (loose_before m m' (objects_of listings) objects' geometry (shape kind m nodes owners root listings a) a.is_map.right is_map.right (some_zones kind m nodes owners root listings a) fixed s h)
+      (stuck s (subst (λ (ss : List ℕ). is_among ss s ≡ true) reserved_same i)))))
+      (subst (λ (y : Geometry). least_of (filter (is_among (map_sectors y)) (boot_place kind y.sector)) ≡ None) (sym geometry) (boot_apart kind m nodes owners root listings a))
+
+  -- ---- the root stays
+
+  -- Objects go, come and change, and the nodes say so.
+  pub record IsPartsEdit : Type 0 where
+    pub is_map : IsNewMap m'
+    pub geometry : m'.geometry ≡ m.geometry
+    pub relisted : IsRelisting g listings listings' gone come kept
+    pub few : length listings' ≤ length listings + 1
+    pub say : StayListed (reader_of_nodes nodes') (Layout.New m') listings'
+    pub top_stays : g before.top ≡ before.top
+    pub top_placed : KeepsPlace m m' before.top
+    pub apart : Apart (reserved_in kind (Layout.New m)) (come ++ map g (before.top ∷ kept))
+    pub fixed : AreFixed m m' (objects_of listings) (come ++ map g (before.top ∷ kept))
+    pub forms : (l : Listing) → Contains listings' l → HasForm (dir_form (Layout.New m')) l.object.entry.len l.content
+    pub bodies : (l : Listing) → Contains listings' l → IsDirectory l.content
+    pub follow : PartsFollow nodes' owners' (Layout.New m') listings'
+
+  form_same : m'.geometry ≡ m.geometry → dir_form (Layout.New m') ≡ dir_form (Layout.New m)
+  form_same same = ap (λ (y : Geometry). let f : NameForm = cond (y.version == 0) Ten Long in f) same
+
+  -- the root's length is that of its object
+  pub root_size : directory_size (dir_form (Layout.New m)) root.entry.len ≡ root.entry.len
+  root_size =
+      let was = root_node nodes listings before.top before.is_root.path (a.walked.held.each before.top (subst (λ (os : List Object). Contains os before.top) (sym before.objects) (first_in before.top (held listings)))) in
+      let same : root ≡ was.0 = same_node root was.0 (sym a.root_is ∙ was.1) in
+      sym (ap (λ (n : Node). n.entry.len) same ∙ ap (λ (x : Entry). x.len) was.2 ∙ ap (λ (x : Entry). x.len) before.is_root.entry)
+
+  pub root_stays : m'.geometry ≡ m.geometry → KeepsPlace m m' before.top → IsRoot (Layout.New m') root.entry.address root.entry.len before.top
+  root_stays geometry placed = record {
+    path = before.is_root.path;
+    entry = before.is_root.entry ∙ ap (λ (f : NameForm). root_entry root.entry.address (directory_size f root.entry.len)) (sym (form_same geometry));
+    placed = places_law m m' before.top geometry placed before.is_root.placed;
+  }
+
+  pub any_edit : IsPartsEdit → IsAnyEdit root.entry.address root.entry.len
+  any_edit e = record {
+    is_map = e.is_map;
+    geometry = e.geometry;
+    relisted = e.relisted;
+    few = e.few;
+    say = e.say;
+    root_now = subst (IsRoot (Layout.New m') root.entry.address root.entry.len) (sym e.top_stays) (root_stays e.geometry e.top_placed);
+    whole = ap (λ (f : NameForm). directory_size f root.entry.len) (form_same e.geometry) ∙ root_size;
+    apart = e.apart;
+    clear = clear_of e.is_map e.geometry (come ++ map g (before.top ∷ kept)) e.fixed;
+    forms = e.forms;
+    bodies = e.bodies;
+    follow = e.follow;
+  }
+
+  pub agreed_after : IsPartsEdit → Agree kind (parts_with m' nodes' owners')
+  agreed_after e = agreed_anyhow root.entry.address root.entry.len (any_edit e)

@@ -1,0 +1,126 @@
+-- Edits in which no object comes or goes, and each keeps its place.
+use Rattle.std.proofs.Common.{◌≡◌, inr, ℕ, Bool, false, cond, List, [], ◌∷◌, ◌++◌, length, map, refl, sym, ap, ap₂, subst, ◌∙◌, arith, length-append}
+use Rattle.std.specs.Prelude.{Contains, IsPermutation, nat_le, nat_lt, ◌==◌, ◌||◌, ◌&&◌}
+use Rattle.std.specs.List.{list_any}
+use Rattle.std.proofs.lemmas.List.{length-map}
+use Rattle.std.proofs.lemmas.List.Sorted.{IsPermutation-cons, length_permutation, list_any-IsPermutation}
+use Rattle.fc_names.specs.Names.{is_same_path}
+use Rattle.fc_record.specs.declared.Kind.{Kind}
+use Rattle.fc_newmap.specs.Map.{Map}
+use Rattle.fc_dirs.specs.Directory.{Directory}
+use Rattle.fc_alloc.specs.declared.owner.Owner.{Owner}
+use Rattle.fc_image.specs.Layout.{Layout, id_of}
+use Rattle.fc_image.specs.Walk.{Listing, Object, Reader}
+use Rattle.fc_image.specs.Objects.{is_movable, is_owner_of, objects_of}
+use Rattle.fc_image.specs.Opening.{reserved_in}
+use Rattle.fc_image.specs.Sound.{AreSound}
+use Rattle.fc_image.specs.Edits.{IsListing, StayListed}
+use Rattle.fc_image.specs.Order.{held, listed}
+use Rattle.fc_image.specs.EditedWalk.{AreListedBy, IsRelisting}
+use Rattle.fc_image.proofs.EntriesLemmas.{from_map, here, later}
+use Rattle.fc_image.proofs.PathsLemmas.{is_at, itself, many}
+use Rattle.fc_image.proofs.MoveLemmas.{unless}
+use Rattle.fc_image.proofs.OrderLemmas.{apart_shuffled}
+use Rattle.fc_image.proofs.RelistLemmas.{all_before, apart_mapped}
+use Rattle.fc_image.proofs.RenameLemmas.{many_shuffled, passes}
+use Rattle.fc_image.proofs.TreeLemmas.{sound_few}
+use Rattle.fc_tree.specs.declared.node.Node.{Node}
+use Rattle.fc_tree.specs.Agree.{Agree, reader_of_nodes}
+use Rattle.fc_laws.specs.nodes.Edits.{Nodes, relisted}
+use Rattle.fc_laws.specs.agree.Agreed.{AgreeOn, CanSay, PartsFollow, parts_with}
+use Rattle.fc_laws.proofs.lemmas.agree.BeforeLemmas.{Had, had}
+use Rattle.fc_laws.proofs.lemmas.agree.EditLemmas.{agreed_after}
+
+-- ---- paths
+
+-- beside an object there is none of its path
+pub alone : (layout : Layout) (listings : List Listing) (o p : Object) (others : List Object) → AreSound layout listings → IsPermutation (objects_of listings) (o ∷ others) → Contains others p
+    → is_same_path o.path p.path ≡ false
+unfolding many
+alone layout listings o p others sound all at =
+    unless (is_same_path o.path p.path) (λ same.
+    let few = sound_few layout listings sound o.path in
+    let whole = many_shuffled (is_at o.path) (objects_of listings) (o ∷ others) all in
+    let first : ◌≡◌ {A = ℕ} (cond (is_at o.path o) 1 0) 1 = ap (λ (b : Bool). let n : ℕ = cond b 1 0 in n) (itself o.path) in
+    let second = passes (is_at o.path) others p at same in
+    omega (arith, few, whole, first, second))
+
+-- ---- directories and what they hold, each changed by g
+
+abbrev pub relisting : (Object → Object) → (Listing → Directory) → Listing → Listing
+relisting g f k = record { object = g k.object; content = f k; children = map g k.children }
+
+pub relisted_by : (g : Object → Object) (f : Listing → Directory) (rest : List Listing) → AreListedBy g rest (relisted g f rest)
+relisted_by g f [] = tt
+relisted_by g f (k ∷ rest) = (refl, refl, relisted_by g f rest)
+
+pub relisted_stay : (read' : Reader) (layout' : Layout) (g : Object → Object) (f : Listing → Directory) (rest : List Listing)
+    → ((k : Listing) → Contains rest k → IsListing read' layout' (relisting g f k)) → StayListed read' layout' (relisted g f rest)
+relisted_stay read' layout' g f [] says = tt
+relisted_stay read' layout' g f (k ∷ rest) says = (says k (here k rest), relisted_stay read' layout' g f rest (λ j at. says j (later k j rest at)))
+
+-- what holds of each such directory
+pub relisted_each : (P : Listing → Type 0) (g : Object → Object) (f : Listing → Directory) (rest : List Listing) → ((k : Listing) → Contains rest k → P (relisting g f k))
+    → (x : Listing) → Contains (relisted g f rest) x → P x
+relisted_each P g f rest each x at = let k = from_map (relisting g f) rest x at in subst P k.2 (each k.0 k.1)
+
+-- ---- owners
+
+pub owners_same : (g : Object → Object) → ((o : Object) → (g o).sectors ≡ o.sectors) → ((o : Object) → (g o).entry.address ≡ o.entry.address) → (k : ℕ) (objects : List Object)
+    → list_any (is_owner_of k) (map g objects) ≡ list_any (is_owner_of k) objects
+owners_same g sectors address k [] = refl
+owners_same g sectors address k (o ∷ objects) =
+    ap₂ (λ (a b : Bool). a || b)
+    (ap₂ (λ (ss : List ℕ) (a : ℕ). nat_lt 0 (length ss) && (id_of a == k)) (sectors o) (address o)) (owners_same g sectors address k objects)
+
+none_listed : (listings : List Listing) → listed listings ≡ [] → length listings ≡ 0
+none_listed [] e = refl
+none_listed (l ∷ listings) e = absurd (let long = ap (λ (os : List Object). length os) e in omega (arith, long))
+
+-- ---- the edit
+
+module _ (kind : Kind) (m : Map) (nodes nodes' : Nodes) (owners owners' : List Owner) (root : Node) (listings listings' : List Listing) (a : AgreeOn kind m nodes owners root listings)
+    (g : Object → Object) (kept : List Object) where
+  abbrev before : Had kind m nodes owners root listings a
+  before = had kind m nodes owners root listings a
+
+  -- Each object is changed by g and keeps its sectors, and the nodes say so.
+  pub record IsKeptEdit : Type 0 where
+    pub sectors : (o : Object) → (g o).sectors ≡ o.sectors
+    pub address : (o : Object) → (g o).entry.address ≡ o.entry.address
+    pub relisted : IsRelisting g listings listings' [] [] kept
+    pub say : StayListed (reader_of_nodes nodes') (Layout.New m) listings'
+    pub top_stays : g before.top ≡ before.top
+    pub can : (l : Listing) → Contains listings' l → CanSay (Layout.New m) l.object l.content
+    pub follow : PartsFollow nodes' owners' (Layout.New m) listings'
+
+  pub kept_agree : IsKeptEdit → Agree kind (parts_with m nodes' owners')
+  kept_agree e =
+      let reserved = reserved_in kind (Layout.New m) in
+      let all = all_before g listings listings' [] [] kept e.relisted in
+      let top_too : IsPermutation (before.top ∷ held listings) (before.top ∷ kept) = IsPermutation-cons before.top (held listings) kept all in
+      let whole : IsPermutation (objects_of listings) (before.top ∷ kept) = subst (λ (os : List Object). IsPermutation os (before.top ∷ kept)) (sym before.objects) top_too in
+      let owned : (n : ℕ) → is_movable (map g (before.top ∷ kept)) n ≡ is_movable (objects_of listings) n =
+      λ n. ap (λ b. ((n == 2) || b) && nat_le 3 n)
+      (owners_same g e.sectors e.address n (before.top ∷ kept) ∙ sym (list_any-IsPermutation (is_owner_of n) (objects_of listings) (before.top ∷ kept) whole)) in
+      let none = none_listed e.relisted.into e.relisted.into_come in
+      let was = length_permutation listings (e.relisted.out ++ e.relisted.stay) e.relisted.had in
+      let now = length_permutation listings' (e.relisted.into ++ e.relisted.stay') e.relisted.has in
+      let same : length e.relisted.stay' ≡ length e.relisted.stay =
+      sym (length-map e.relisted.stay' (λ (x : Listing). x.object)) ∙ ap (λ (os : List Object). length os) e.relisted.same
+      ∙ length-map (listed e.relisted.stay) g ∙ length-map e.relisted.stay (λ (x : Listing). x.object) in
+      agreed_after kind m m nodes nodes' owners owners' root listings listings' a g [] [] kept
+      (record {
+        is_map = a.is_map;
+        geometry = refl;
+        relisted = e.relisted;
+        few = omega (arith, was, now, none, same, length-append e.relisted.out e.relisted.stay, length-append e.relisted.into e.relisted.stay');
+        say = e.say;
+        top_stays = e.top_stays;
+        top_placed = inr refl;
+        apart = apart_mapped reserved g (before.top ∷ kept) e.sectors (apart_shuffled reserved (before.top ∷ held listings) (before.top ∷ kept) before.apart top_too);
+        fixed = λ k h u. (refl, owned k ∙ h);
+        forms = λ l at. (e.can l at).form;
+        bodies = λ l at. (e.can l at).body;
+        follow = e.follow;
+      })

@@ -1,0 +1,7 @@
+//! Laws of volumes in memory: what edits of objects make of nodes and owners, that the parts still agree, and what a changed
+//! volume promises.
+#![tactic(auto)]
+
+pub mod nodes;
+pub mod agree;
+pub mod takeover;

@@ -1,0 +1,3 @@
+pub mod agree
+pub mod takeover
+pub mod moves

@@ -1,0 +1,5 @@
+pub mod TakenLemmas
+pub mod WriteLemmas
+pub mod ApartLemmas
+pub mod AgainLemmas
+pub mod StepLemmas

@@ -1,0 +1,6 @@
+//! The same laws on discs with old maps.
+#![tactic(auto)]
+
+pub mod agree;
+pub mod takeover;
+pub mod moves;

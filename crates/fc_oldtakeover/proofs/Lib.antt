@@ -1,5 +1,0 @@
-pub mod TakenLemmas
-pub mod WriteLemmas
-pub mod ApartLemmas
-mod AgainLemmas
-pub mod StepLemmas
