@@ -1,6 +1,7 @@
 // Images whose kind is found, the kind that is tried last.
 use crate::timing::print_rate;
 use fc_device::{Disk, NoMemory, PlainDisk};
+use fc_record::Front;
 use fc_record::kinds::kind;
 use std::alloc::Global;
 use std::io::{self, ErrorKind, Print};
@@ -25,7 +26,7 @@ fn disc(alloc: Global) -> io::Result<PlainDisk> {
 
 fn is_found(disk: &mut PlainDisk) -> bool {
     match disk.attach("disc", None) {
-        Ok(true) => kind(disk).is_ok(),
+        Ok(true) => kind(disk, &mut Front::new()).is_ok(),
         _ => false,
     }
 }

@@ -1,5 +1,6 @@
 pub mod ExtentLemmas
 pub mod AheadLemmas
 pub mod BlockLemmas
+pub mod CallLemmas
 pub mod WriteLemmas
 pub mod PassLemmas

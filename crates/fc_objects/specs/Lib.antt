@@ -1,4 +1,5 @@
 pub mod Extents
 pub mod Ahead
 pub mod Bytes
+pub mod Calls
 pub mod Written

@@ -1,10 +1,12 @@
 // The bytes of an object, block by block.
 ghost use Rattle.std.specs.Prelude.{◌≡◌, ◌<◌, ◌≤◌, ◌+◌, ◌*◌, ◌++◌, [], ℕ, List, All, IfOk, IsTrue, Ok, OnErr, length, take};
+ghost use Rattle.std.specs.Int.{div_ceil};
 ghost use Rattle.std.specs.Option.{ForSome};
 ghost use Rattle.fc_device.specs.Calls.{FailsByFault, OnlyReads};
 ghost use Rattle.fc_objects.specs.Extents.{sectors_in};
 ghost use Rattle.fc_objects.specs.Ahead.{ahead};
 ghost use Rattle.fc_objects.specs.Bytes.{bytes_ahead, length_ahead};
+ghost use Rattle.fc_objects.specs.Calls.{sectors_left};
 
 use crate::sectors::Sectors;
 use fc_device::{Disk, DiskFault, Extent};
@@ -26,6 +28,7 @@ fn sectors_at_once(room: usize, size: usize, len: u64) -> u64
     requires len { 0 < len }
     ensures some { 0 < result }
     ensures fit { result * size ≤ room }
+    ensures needed { result ≤ div_ceil len size }
 {
     let fitting = (room / size) as u64;
     fitting.min(len.div_ceil(size as u64))
@@ -46,8 +49,9 @@ impl<'a> ObjectReader<'a> {
     }
 
     /// Puts the next bytes of the object at the front of `into`, which has room for a sector at least, and answers how many;
-    /// 0 exactly at the object's end. Sectors in a row are read by one call. It fails only where the disk's read fails; the
-    /// next call then begins at the same byte. What is in `into` after the bytes, or after a failure, may be anything.
+    /// 0 exactly at the object's end. It fails only where the disk's read fails; the next call then begins at the same byte.
+    /// What is in `into` after the bytes, or after a failure, may be anything. The read calls that were made and the sectors that are left don't become more: if none fails, the whole object
+    /// takes no more read calls than its bytes have sectors.
     pub fn read<D: Disk>(&mut self, disk: &mut D, into: &mut [u8]) -> Result<usize, DiskFault>
         requires attached { IsTrue (D.attached disk.old) }
         requires size { D.sector_size disk.old ≡ self.old.size }
@@ -61,6 +65,8 @@ impl<'a> ObjectReader<'a> {
         ensures size_stays { self.new.size ≡ self.old.size }
         ensures on_disk { All (λ n. n < D.sectors disk.new) (ahead self.new.sectors) }
         ensures reads { OnlyReads D.Disk disk.old disk.new }
+        ensures few { D.read_calls disk.new ≤ D.read_calls disk.old + sectors_left self.old }
+        ensures calls { IfOk result (λ _. D.read_calls disk.new + sectors_left self.new ≤ D.read_calls disk.old + sectors_left self.old) }
         ensures cause { FailsByFault D.Disk disk.old disk.new result }
     {
         if self.len == 0 {

@@ -58,7 +58,7 @@ old_found image map long len is =
 abbrev choice : Bool → Bool → Bool → DiscRecord → DiscRecord → DiscRecord → Option Kind → Option Kind
 choice boot first second a b c rest = cond boot (Some (Boot a)) (cond first (Some (OneZone b)) (cond second (Some (OneZone c)) rest))
 
-taken : (r a : DiscRecord) (fits : Bool) → Some r ≡ cond fits (Some a) None → (fits ≡ true) × (r ≡ a)
+pub taken : (r a : DiscRecord) (fits : Bool) → Some r ≡ cond fits (Some a) None → (fits ≡ true) × (r ≡ a)
 taken r a true e = (refl, cc)
 taken r a false e = absurd (cc)
 

@@ -1,17 +1,18 @@
 //! The kind of an image.
-ghost use Rattle.std.specs.Prelude.{◌≡◌, ◌+◌, ◌≤◌, ◌*◌, ◌^◌, length, Some, None, Err, if◌then◌else◌, IsTrue, IfOk, IfSome};
+ghost use Rattle.std.specs.Prelude.{◌≡◌, ◌+◌, ◌≤◌, ◌*◌, ◌^◌, length, Some, None, Err, OnOk, if◌then◌else◌, IsTrue, IfOk, IfSome};
 ghost use Rattle.std.specs.Option.{ForSome};
 ghost use Rattle.fc_bytes.specs.Words.{bytes_at};
 ghost use Rattle.fc_device.specs.Calls.{FailsByFault, SameForm, StopsAsBefore, OnlyReads};
 ghost use Rattle.fc_device.specs.Faults.{Rose};
 ghost use Rattle.fc_device.specs.Stops.{StillLeaves};
 ghost use Rattle.fc_checks.specs.Checks.{is_half_right};
+ghost use Rattle.fc_record.specs.Front.{HasMapOf};
 ghost use Rattle.fc_record.specs.Kinds.{is_boot, boot_record, is_old_map, kind_of, IsKind, Answers, FitsLength};
 ghost use Rattle.fc_record.specs.Parts.{record_in_boot, record_in_map, kind_in_old_map};
 ghost use Rattle.fc_record.specs.Record.{IsRecord};
 
 use crate::reads::fetch;
-use crate::{DiscRecord, Kind, KindError, read_record};
+use crate::{DiscRecord, Front, Kind, KindError, read_record};
 use fc_bytes::le24;
 use fc_checks::{boot_check, old_check, zone_check};
 use fc_device::{Disk, DiskFault};
@@ -24,6 +25,12 @@ const BOOT_SECTOR: u64 = 12;
 
 /// The sector of 256 bytes at which the second copy of a map of 1024 bytes begins.
 const COPY_SECTOR: u64 = 4;
+
+/// The bytes of a map of one zone.
+const MAP: u64 = 1024;
+
+/// The bytes of an old map.
+const OLD_MAP: usize = 512;
 
 // The record in a boot block whose check is right, where it is valid.
 fn record_in_boot(block: &[u8]) -> Option<DiscRecord>
@@ -93,84 +100,97 @@ fn boot_record<D: Disk>(disk: &mut D) -> Result<Option<DiscRecord>, DiskFault>
     Ok(record_in_boot(&block))
 }
 
-// The record in the 1024 bytes from sector `first` on, where they are the whole of a sound map.
-fn map_record<D: Disk>(disk: &mut D, first: u64) -> Result<Option<DiscRecord>, DiskFault>
+// The record in the 1024 bytes from sector `first` on, where they are the whole of a sound map. They are read into
+// `sector`, where the image has them.
+fn map_record<D: Disk>(
+    disk: &mut D,
+    first: u64,
+    sector: &mut [u8; 1024],
+) -> Result<Option<DiscRecord>, DiskFault>
     requires attached { IsTrue (D.attached disk.old) }
     requires size { D.sector_size disk.old ≡ 256 }
     requires fits { first ≤ 2 ^ 32 }
     ensures found { IfOk result (λ found. ForSome (D.bytes disk.old) (λ image. found ≡ record_in_map (bytes_at image (256 * first) 1024))) }
     ensures valid { IfOk result (λ found. IfSome found (λ r. IsKind (Kind.OneZone r))) }
+    ensures filled { OnOk result (ForSome (D.bytes disk.old) (λ image. 256 * first + 1024 ≤ length image → sector.new ≡ bytes_at image (256 * first) 1024)) }
     ensures reads { OnlyReads D.Disk disk.old disk.new }
     ensures few { D.read_calls disk.new ≤ D.read_calls disk.old + 4 }
     ensures cause { FailsByFault D.Disk disk.old disk.new result }
 {
-    let mut sector = [0u8; 1024];
-    if !fetch(disk, first, &mut sector)? {
+    if !fetch(disk, first, sector)? {
         return Ok(None);
     }
-    Ok(record_in_map(&sector))
+    Ok(record_in_map(sector))
 }
 
-// The kind of a disc with an old map, where the image has a right one.
-fn old_kind<D: Disk>(disk: &mut D) -> Result<Option<Kind>, DiskFault>
+// The kind of a disc with an old map, where an image that is too short for a map of one zone has a right one. The map is
+// read into `first`.
+fn old_kind<D: Disk>(disk: &mut D, first: &mut [u8; 1024]) -> Result<Option<Kind>, DiskFault>
     requires attached { IsTrue (D.attached disk.old) }
     requires size { D.sector_size disk.old ≡ 256 }
     ensures found { IfOk result (λ found. ForSome (D.bytes disk.old) (λ image. found ≡ kind_in_old_map image)) }
     ensures valid { IfOk result (λ found. IfSome found IsKind) }
+    ensures map { IfOk result (λ found. ForSome (D.bytes disk.old) (λ image. (kind : Kind) → found ≡ Some kind → bytes_at first.new 0 512 ≡ bytes_at image 0 512)) }
     ensures reads { OnlyReads D.Disk disk.old disk.new }
     ensures few { D.read_calls disk.new ≤ D.read_calls disk.old + 2 }
     ensures cause { FailsByFault D.Disk disk.old disk.new result }
 {
-    let mut map = [0u8; 512];
-    if !fetch(disk, 0, &mut map)? {
+    let map = &mut first[..OLD_MAP];
+    if !fetch(disk, 0, map)? {
         return Ok(None);
     }
-    Ok(kind_in_old_map(&map))
+    Ok(kind_in_old_map(map))
 }
 
 // The first kind that fits.
-fn first_kind<D: Disk>(disk: &mut D) -> Result<Option<Kind>, DiskFault>
+fn first_kind<D: Disk>(disk: &mut D, front: &mut Front) -> Result<Option<Kind>, DiskFault>
     requires attached { IsTrue (D.attached disk.old) }
     requires size { D.sector_size disk.old ≡ 256 }
     ensures found { IfOk result (λ found. ForSome (D.bytes disk.old) (λ image. found ≡ kind_of image)) }
     ensures valid { IfOk result (λ found. IfSome found IsKind) }
+    ensures map { IfOk result (λ found. ForSome (D.bytes disk.old) (λ image. (kind : Kind) → found ≡ Some kind → HasMapOf image kind front.new)) }
     ensures reads { OnlyReads D.Disk disk.old disk.new }
-    ensures few { D.read_calls disk.new ≤ D.read_calls disk.old + 12 }
+    ensures few { D.read_calls disk.new ≤ D.read_calls disk.old + 10 }
     ensures cause { FailsByFault D.Disk disk.old disk.new result }
 {
     if let Some(record) = boot_record(disk)? {
         return Ok(Some(Kind::Boot(record)));
     }
-    if let Some(record) = map_record(disk, 0)? {
+    if disk.length() < MAP {
+        return old_kind(disk, &mut front.first);
+    }
+    if let Some(record) = map_record(disk, 0, &mut front.first)? {
         return Ok(Some(Kind::OneZone(record)));
     }
-    if let Some(record) = map_record(disk, COPY_SECTOR)? {
+    if let Some(record) = map_record(disk, COPY_SECTOR, &mut front.second)? {
         return Ok(Some(Kind::OneZone(record)));
     }
-    old_kind(disk)
+    Ok(kind_in_old_map(&front.first[..OLD_MAP]))
 }
 
 /// The kind of an image: the first of four that fits (docs/FORMAT.md, "Kinds"). The disk is attached and has sectors
-/// of 256 bytes. Only the first 3584 bytes are read, with at most 12 read calls, and nothing is written.
+/// of 256 bytes. At most 10 read calls are made, and nothing is written. What was read
+/// of a map of one zone, or of an old map, stands in `front` afterwards, so that no one has to read it again.
 ///
 /// The answer is `NoKind` exactly where none fits, `Short` exactly where the image is shorter than the disc of the
 /// kind that fits, and `DiskFault` only where the disk's count of faults rose.
-pub fn kind<D: Disk>(disk: &mut D) -> Result<Kind, KindError>
+pub fn kind<D: Disk>(disk: &mut D, front: &mut Front) -> Result<Kind, KindError>
     requires attached { IsTrue (D.attached disk.old) }
     requires size { D.sector_size disk.old ≡ 256 }
     ensures answer { ForSome (D.bytes disk.old) (λ image. Answers image result) }
     ensures fits { FitsLength (D.image_length disk.old) result }
+    ensures map { IfOk result (λ kind. ForSome (D.bytes disk.old) (λ image. HasMapOf image kind front.new)) }
     ensures form { SameForm D.Disk disk.old disk.new }
     ensures bytes { D.bytes disk.new ≡ D.bytes disk.old }
     ensures pending { D.pending disk.new ≡ D.pending disk.old }
     ensures stops { StopsAsBefore D.Disk disk.old disk.new }
     ensures still { StillLeaves D.moment D.left_since disk.old disk.new }
-    ensures read_calls { (D.read_calls disk.old ≤ D.read_calls disk.new) × (D.read_calls disk.new ≤ D.read_calls disk.old + 12) }
+    ensures read_calls { (D.read_calls disk.old ≤ D.read_calls disk.new) × (D.read_calls disk.new ≤ D.read_calls disk.old + 10) }
     ensures later { D.faults disk.old ≤ D.faults disk.new }
     ensures cause { result ≡ Err KindError.DiskFault → Rose (D.faults disk.old) (D.faults disk.new) }
 {
     let have = disk.length();
-    let found = match first_kind(disk) {
+    let found = match first_kind(disk, front) {
         Ok(Some(kind)) => kind,
         Ok(None) => return Err(KindError::NoKind),
         Err(DiskFault) => return Err(KindError::DiskFault),

@@ -4,7 +4,7 @@ ghost use Rattle.fc_record.specs.Record.{IsRecord};
 
 use crate::kinds::kind;
 use crate::measures::geometry;
-use crate::{Kind, KindError, RecordFault, found_fits, read_record, rows, same_kind};
+use crate::{Front, Kind, KindError, RecordFault, found_fits, read_record, rows, same_kind};
 use fc_device::{Disk, Failing, MemoryDisk, PlainDisk};
 use std::alloc::Global;
 use std::test::Fail;
@@ -122,7 +122,7 @@ fn kind_in(disk: &mut PlainDisk) -> Result<&'static str, KindError> {
         Ok(true) => {}
         _ => return Err(KindError::DiskFault),
     }
-    match kind(disk)? {
+    match kind(disk, &mut Front::new())? {
         Kind::Boot(_) => Ok("Boot"),
         Kind::OneZone(_) => Ok("OneZone"),
         Kind::DiscD => Ok("D"),
@@ -179,7 +179,7 @@ fn kinds(rt: HostRuntime) -> Result<(), Fail> {
     let alloc = rt.alloc();
     let no_kind = Err(KindError::NoKind);
     let short = |need, have| Err(KindError::Short { need, have });
-    let rows: [(&[Part], &[Part], usize, Result<&str, KindError>); 38] = [
+    let rows: [(&[Part], &[Part], usize, Result<&str, KindError>); 40] = [
         (&E, &E_COPY, 819_200, Ok("OneZone")),
         (&E_PLUS, &[], 819_200, Ok("OneZone")),
         (&F, &[], 1_638_400, Ok("Boot")),
@@ -222,6 +222,8 @@ fn kinds(rt: HostRuntime) -> Result<(), Fail> {
         (&F, &[], 3583, no_kind),
         (&E, &[], 1024, short(819_200, 1024)),
         (&E_COPY, &[], 2047, no_kind),
+        (&L, &[], 512, short(655_360, 512)),
+        (&L, &[], 511, no_kind),
     ];
     for (i, (parts, more, length, want)) in rows.iter().enumerate() {
         let mut image = vec![in alloc; 0u8; *length]?;
@@ -246,7 +248,7 @@ fn fails_at(alloc: Global, call: u64) -> Result<bool, Fail> {
     let name = String::from_str(alloc, "disc")?;
     let mut disk = MemoryDisk::new(alloc, name, image, failing, 1, 0)?;
     if disk.attach("disc", None)? {
-        return Ok(kind(&mut disk) == Err(KindError::DiskFault));
+        return Ok(kind(&mut disk, &mut Front::new()) == Err(KindError::DiskFault));
     }
     Ok(false)
 }
@@ -256,7 +258,7 @@ fn reads_that_fail(rt: HostRuntime) -> Result<(), Fail> {
     let alloc = rt.alloc();
     for call in 0..14 {
         let fails = fails_at(alloc, call)?;
-        assert!(rt; fails == (call >= 1 && call <= 12), "at call {call}");
+        assert!(rt; fails == (call >= 1 && call <= 10), "at call {call}");
     }
     Ok(())
 }

@@ -26,4 +26,5 @@ pub mod PlaceInLists
 pub mod WalkingLemmas
 pub mod StepLemmas
 pub mod EndLemmas
+pub mod CallLemmas
 pub mod LoadedLemmas

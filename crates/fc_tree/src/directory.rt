@@ -1,5 +1,5 @@
 // One directory of a walk: its bytes, what they say, and the nodes of the objects that it holds.
-ghost use Rattle.std.specs.Prelude.{◌≡◌, ◌≤◌, Err, IfErr, IfOk, IsTrue, List, ℕ, Ok, OnOk, length, reverse};
+ghost use Rattle.std.specs.Prelude.{◌≡◌, ◌≤◌, ◌+◌, Err, IfErr, IfOk, IsTrue, List, ℕ, Ok, OnOk, Some, length, reverse, slice_get};
 ghost use Rattle.std.specs.Option.{ForSome};
 ghost use Rattle.fc_device.specs.Faults.{Rose};
 ghost use Rattle.fc_device.specs.Calls.{OnlyReads};
@@ -9,6 +9,8 @@ ghost use Rattle.fc_image.specs.Layout.{dir_form, disc_sectors, sector_bytes};
 ghost use Rattle.fc_image.specs.Walk.{Object, at_path, is_directory_object, reader_of};
 ghost use Rattle.fc_space.specs.Space.{layout_of};
 ghost use Rattle.fc_tree.specs.Agree.{HasForm, IsDirectory};
+ghost use Rattle.fc_tree.specs.Calls.{entry_sectors};
+ghost use Rattle.fc_tree.specs.declared.node.Node.{Node};
 ghost use Rattle.fc_tree.specs.Nodes.{body_in};
 ghost use Rattle.fc_tree.specs.Reading.{may_have_size};
 ghost use Rattle.fc_tree.specs.Taken.{AreTaken};
@@ -94,6 +96,7 @@ fn read_directory<D: Disk>(
     ensures err { IfErr result (λ e. (o : Object) → StandsFor (layout_of places.now) nodes.now at o
         → ForSome (D.bytes disk.old) (λ image. FailsAs (at_path o.path (reader_of image (layout_of places.now) o)) e)) }
     ensures reads { OnlyReads D.Disk disk.old disk.new }
+    ensures few { (n : Node) → slice_get nodes.now at ≡ Some n → D.read_calls disk.new ≤ D.read_calls disk.old + entry_sectors (layout_of places.now) n.entry }
     ensures cause { result ≡ Err TreeError.DiskFault → Rose (D.faults disk.old) (D.faults disk.new) }
 {
     let Some(node) = nodes.get(at) else {
@@ -118,7 +121,7 @@ fn read_directory<D: Disk>(
 }
 
 /// Reads the directory of a node, gives it to the node, and adds the nodes of the objects that it holds. `bytes` is a
-/// buffer.
+/// buffer. It takes at most a read call for each sector of the directory.
 pub fn visit<D: Disk>(
     alloc: Global,
     disk: &mut D,
@@ -139,6 +142,7 @@ pub fn visit<D: Disk>(
     ensures err { IfErr result (λ e. (o : Object) (before : List ℕ) → StandsFor (layout_of places.now) nodes.old.items at o → AreTaken taken.old before
         → ForSome (D.bytes disk.old) (λ image. FailsAs (said_children (layout_of places.now) before o.path (reader_of image (layout_of places.now) o)) e)) }
     ensures reads { OnlyReads D.Disk disk.old disk.new }
+    ensures few { (n : Node) → slice_get nodes.old.items at ≡ Some n → D.read_calls disk.new ≤ D.read_calls disk.old + entry_sectors (layout_of places.now) n.entry }
     ensures cause { result ≡ Err TreeError.DiskFault → Rose (D.faults disk.old) (D.faults disk.new) }
 {
     let body = read_directory(alloc, disk, places, nodes, at, bytes)?;

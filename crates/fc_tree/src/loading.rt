@@ -1,5 +1,5 @@
 // The walk over the directories of a disk.
-ghost use Rattle.std.specs.Prelude.{◌≡◌, ◌≤◌, Err, IfErr, IfOk, IsTrue};
+ghost use Rattle.std.specs.Prelude.{◌≡◌, ◌≤◌, ◌+◌, Err, IfErr, IfOk, IsTrue};
 ghost use Rattle.std.specs.Option.{ForSome};
 ghost use Rattle.fc_device.specs.Faults.{Rose};
 ghost use Rattle.fc_device.specs.Calls.{OnlyReads};
@@ -7,6 +7,7 @@ ghost use Rattle.fc_objects.specs.Extents.{sectors_in};
 ghost use Rattle.fc_image.specs.Layout.{disc_sectors, sector_bytes};
 ghost use Rattle.fc_image.specs.Walk.{reader_of, walk};
 ghost use Rattle.fc_space.specs.Space.{layout_of};
+ghost use Rattle.fc_tree.specs.Calls.{all_directory_sectors};
 ghost use Rattle.fc_tree.specs.Nodes.{nodes_of};
 ghost use Rattle.fc_tree.specs.Loaded.{IsFaultOf, IsLoaded, not_free};
 
@@ -20,7 +21,8 @@ use std::alloc::Global;
 /// Walks the directories of a disk, the root first and the others in the order in which they are found, and numbers their
 /// objects in that order. `root` is the root's address, and `root_size` its size in bytes, which counts for big
 /// directories alone. `reserved` has the sectors of the map and of a boot block; no object may take them, nor a hole of
-/// an old map. The disk is attached, has the map's sectors, and is at least as long as its disc.
+/// an old map. The disk is attached, has the map's sectors, and is at least as long as its disc. Each directory is read
+/// once: if the walk meets no fault, it takes at most a read call for each sector of a directory.
 ///
 /// The answer is `Image` exactly where the walk meets a fault, with the first, and `DiskFault` only where the disk's count
 /// of faults rose.
@@ -39,6 +41,7 @@ pub fn load<D: Disk>(
     ensures fault { ForSome (D.bytes disk.old) (λ image. IfErr result
         (IsFaultOf (walk (reader_of image (layout_of places.now)) (layout_of places.now) (not_free (layout_of places.now) (sectors_in reserved.now)) root root_size))) }
     ensures reads { OnlyReads D.Disk disk.old disk.new }
+    ensures few { IfOk result (λ tree. D.read_calls disk.new ≤ D.read_calls disk.old + all_directory_sectors (layout_of places.now) (nodes_of tree)) }
     ensures cause { result ≡ Err TreeError.DiskFault → Rose (D.faults disk.old) (D.faults disk.new) }
 {
     let nodes = walk_disk(alloc, disk, places, root, root_size, reserved)?;

@@ -3,12 +3,14 @@ ghost use Rattle.std.specs.Prelude.{◌≡◌, ◌<◌, ◌≤◌, ◌+◌, ◌*
 ghost use Rattle.std.specs.Option.{ForSome};
 ghost use Rattle.fc_device.specs.Faults.{Rose};
 ghost use Rattle.fc_device.specs.Calls.{OnlyReads};
+ghost use Rattle.std.specs.Int.{div_ceil};
 ghost use Rattle.fc_objects.specs.Bytes.{first_bytes};
 ghost use Rattle.fc_objects.specs.Extents.{sectors_in};
 ghost use Rattle.fc_image.specs.Edits.{IsAt};
 ghost use Rattle.fc_image.specs.Layout.{dir_form, disc_sectors, sector_bytes, sectors_at};
 ghost use Rattle.fc_image.specs.Walk.{Object, object_bytes, object_size};
 ghost use Rattle.fc_space.specs.Space.{layout_of};
+ghost use Rattle.fc_tree.specs.Calls.{entry_sectors};
 
 use crate::claim::object_size;
 use fc_device::{Disk, Extent};
@@ -41,6 +43,7 @@ fn append_bytes<D: Disk>(
     ensures bytes { OnOk result (ForSome (D.bytes disk.old) (λ image. into.new.items ≡ into.old.items ++ first_bytes size image (sectors_in place.now) len)) }
     ensures long { OnOk result (length into.new.items ≡ length into.old.items + min len (length (sectors_in place.now) * size)) }
     ensures reads { OnlyReads D.Disk disk.old disk.new }
+    ensures few { D.read_calls disk.new ≤ D.read_calls disk.old + div_ceil len size }
     ensures cause { result ≡ Err ReadError.DiskFault → Rose (D.faults disk.old) (D.faults disk.new) }
 {
     let mut reader = ObjectReader::new(place, size, len);
@@ -58,7 +61,8 @@ fn append_bytes<D: Disk>(
     }
 }
 
-/// Reads the bytes of an object of this entry, which has a place on the disc.
+/// Reads the bytes of an object of this entry, which has a place on the disc, with at most a read call for each sector
+/// that they take.
 pub fn read_object<D: Disk>(
     alloc: Global,
     disk: &mut D,
@@ -74,6 +78,7 @@ pub fn read_object<D: Disk>(
     ensures bytes { OnOk result (ForSome (D.bytes disk.old) (λ image. (o : Object) → o.entry ≡ entry.now → IsAt (layout_of places.now) o
         → into.new.items ≡ object_bytes image (layout_of places.now) o)) }
     ensures reads { OnlyReads D.Disk disk.old disk.new }
+    ensures few { D.read_calls disk.new ≤ D.read_calls disk.old + entry_sectors (layout_of places.now) entry.now }
     ensures cause { result ≡ Err ReadError.DiskFault → Rose (D.faults disk.old) (D.faults disk.new) }
 {
     let len = u64::from(object_size(places.dir_form(), entry));

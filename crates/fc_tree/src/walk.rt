@@ -1,5 +1,6 @@
 // The walk over all directories of a disk.
-ghost use Rattle.std.specs.Prelude.{◌≡◌, ◌<◌, ◌≤◌, ◌++◌, [], Err, IfErr, IfOk, IfSome, IsTrue, List, ℕ, None, Ok, OnOk, length, reverse};
+ghost use Rattle.std.specs.Prelude.{◌≡◌, ◌<◌, ◌≤◌, ◌+◌, ◌++◌, [], Err, IfErr, IfOk, IfSome, IsTrue, List, ℕ, None, Ok, OnOk, length, reverse};
+ghost use Rattle.std.specs.List.{sum_by};
 ghost use Rattle.std.specs.Option.{ForSome};
 ghost use Rattle.fc_device.specs.Faults.{Rose};
 ghost use Rattle.fc_device.specs.Calls.{OnlyReads};
@@ -9,6 +10,7 @@ ghost use Rattle.fc_objects.specs.Extents.{sectors_in};
 ghost use Rattle.fc_image.specs.Layout.{Layout, disc_sectors, hole_sectors, sector_bytes};
 ghost use Rattle.fc_image.specs.Walk.{Object, object_of, reader_of, root_entry, walk};
 ghost use Rattle.fc_space.specs.Space.{layout_of};
+ghost use Rattle.fc_tree.specs.Calls.{directory_sectors};
 ghost use Rattle.fc_tree.specs.declared.node.Body.TheVariants as bodies;
 ghost use Rattle.fc_tree.specs.Loaded.{not_free};
 ghost use Rattle.fc_tree.specs.Taken.{AreTaken};
@@ -123,7 +125,8 @@ fn overlap_at(alloc: Global, nodes: &[Node], at: usize) -> TreeError
     }
 }
 
-/// The nodes of the objects of a disk, in the order in which the walk over its directories finds them.
+/// The nodes of the objects of a disk, in the order in which the walk over its directories finds them. It takes at most
+/// a read call for each sector of a directory, so no directory is read twice.
 pub fn walk_disk<D: Disk>(
     alloc: Global,
     disk: &mut D,
@@ -139,6 +142,7 @@ pub fn walk_disk<D: Disk>(
     ensures err { IfErr result (λ e. ForSome (D.bytes disk.old) (λ image.
         FailsAs (walk (reader_of image (layout_of places.now)) (layout_of places.now) (not_free (layout_of places.now) (sectors_in reserved.now)) root root_size) e)) }
     ensures reads { OnlyReads D.Disk disk.old disk.new }
+    ensures few { IfOk result (λ nodes. D.read_calls disk.new ≤ D.read_calls disk.old + sum_by (directory_sectors (layout_of places.now)) nodes.items) }
     ensures cause { result ≡ Err TreeError.DiskFault → Rose (D.faults disk.old) (D.faults disk.new) }
 {
     let space = places.space();

@@ -1,4 +1,5 @@
 mod MapsLemmas
+mod OneZoneLemmas
 mod MapsOldLemmas
 mod MisplacedLemmas
 pub mod OwnersLemmas

@@ -2,16 +2,14 @@
 use Rattle.std.proofs.Common.{◌≡◌, ◌<◌, ◌≤◌, ◌∷◌, ◌+◌, ◌-◌, ◌*◌, ◌/◌, ◌%◌, ◌⊎◌, inl, inr, ℕ, zero, suc, Bool, true, false, cond, List, [], length, take, drop, refl, sym, ap, ap₂, subst, ◌∙◌, arith}
 use Rattle.std.specs.Prelude.{nat_le, Option, Some, None, Result, Ok, Err, if◌then◌else◌, ◌==◌, ◌&&◌, ◌++◌}
 use Rattle.byteorder.specs.Endian.{little_number}
-use Rattle.std.proofs.lemmas.List.{get_or-take, drop-take, take-take, length-append, length-take-le}
+use Rattle.std.proofs.lemmas.List.{get_or-take, drop-take, take-take, length-take-le}
 use Rattle.std.proofs.lemmas.List.FromFn.{map-range_with_len_more}
 use Rattle.std.proofs.lemmas.Bool.{and_from, leb-true}
-use Rattle.std.proofs.Math.Seq.{take-add, take-append_seam}
-use Rattle.std.proofs.lemmas.Slice.{take-put_mid}
-use borrow.Rule.Slice.PartMut.{put_mid}
 use Rattle.fc_bytes.specs.Words.{bytes_at, u24_at}
 use Rattle.fc_checks.specs.Checks.{is_half_right}
-use Rattle.fc_device.specs.Sectors.{sector_at}
-use Rattle.fc_record.specs.Kinds.{is_old_map, old_units}
+use Rattle.std.specs.Int.{is_in_range}
+use Rattle.fc_record.specs.declared.Kind.TheVariants.{DiscL}
+use Rattle.fc_record.specs.Kinds.{fits_kind, is_old_map, old_units}
 use Rattle.fc_oldmap.specs.declared.Hole.{Hole}
 use Rattle.fc_oldmap.specs.declared.OldMapFault.TheVariants.{Check, Bad}
 use Rattle.fc_oldmap.specs.OldMap.{FreeSpace, free_end, free_space, hole_fault, holes_of, is_free_end, map_units, old_map, stored_hole, stored_holes, wrong_hole}
@@ -86,24 +84,6 @@ module _ (bytes : List ℕ) (units : ℕ) where
       by false h = absurd (cc)
 
 -- ---- the front of an image
-
-pub front_wide : (size : ℕ) (image into : List ℕ) → size ≡ 1024 → into ≡ sector_at size image 0 → take 512 into ≡ take 512 image
-unfolding sector_at
-front_wide size image into wide is =
-    let none : 0 * size ≡ 0 = omega arith in
-    ap (take 512) (is ∙ ap (λ n. take size (drop n image)) none ∙ ap (λ n. take n image) wide) ∙ take-take 512 1024 image (omega arith)
-
-pub front_narrow : (size : ℕ) (image first second rest : List ℕ) → size ≡ 256 → first ≡ sector_at size image 0 → second ≡ sector_at size image 1 → length first ≡ 256 → length second ≡ 256
-    → take 512 (put_mid 256 256 (first ++ rest) second) ≡ take 512 image
-unfolding sector_at
-front_narrow size image first second rest narrow one two long_one long_two =
-    let none : 0 * size ≡ 0 = omega arith in
-    let whole : 1 * size ≡ 256 = omega arith in
-    let a : first ≡ take 256 image = one ∙ ap (λ n. take size (drop n image)) none ∙ ap (λ n. take n image) narrow in
-    let b : second ≡ take 256 (drop 256 image) = two ∙ ap (λ n. take size (drop n image)) whole ∙ ap (λ n. take n (drop 256 image)) narrow in
-    let front : take 256 (first ++ rest) ≡ first = ap (λ n. take n (first ++ rest)) (sym long_one) ∙ take-append_seam first rest in
-    take-put_mid 256 256 (first ++ rest) second 512 (omega arith) (omega (arith, length-append first rest))
-    ∙ ap₂ (λ xs ys. xs ++ ys) (front ∙ a) b ∙ sym (take-add 256 256 image)
 
 little_front : (k : ℕ) (l : List ℕ) → 3 ≤ k → little_number 3 (take k l) ≡ little_number 3 l
 little_front k l high =
@@ -198,6 +178,12 @@ module _ (image front : List ℕ) (units root : ℕ) (same : front ≡ take 512 
       let two : bytes_at (take 512 image) 256 256 ≡ bytes_at image 256 256 = ap (take 256) (drop-take 256 256 image) ∙ take-take 256 256 (drop 256 image) (omega arith) in
       ap (λ bs. is_old_map bs && (old_units bs == disc)) same
       ∙ and_from _ _ (and_from _ _ (and_from _ _ (ap (nat_le 512) long) (ap is_half_right one ∙ first.1)) (ap is_half_right two ∙ halves.1)) (ap (λ n. n == disc) (u24_front image 252 (omega arith)) ∙ parts.1)
+
+-- the image of a disc of so many units in small sectors has an old map with these units
+pub old_fits : (image : List ℕ) (units : ℕ) → fits_kind image (DiscL units) ≡ true → (is_old_map image && (old_units image == units)) ≡ true
+old_fits image units fits =
+    let parts = and_parts (is_old_map image && is_in_range 7 2560 units) (old_units image == units) fits in
+    and_from (is_old_map image) (old_units image == units) (and_parts (is_old_map image) (is_in_range 7 2560 units) parts.0).0 parts.1
 
 pub old_room : (disc units long size sectors : ℕ) → (units ≡ 1) ⊎ (units ≡ 4) → size ≡ 256 * units → sectors ≡ long / size → 256 * disc ≤ long → disc / units ≤ sectors
 old_room disc units long size sectors (inl one) wide whole fits =

@@ -1,5 +1,6 @@
 pub mod Volume
 pub mod Answers
+pub mod Calls
 pub mod Maps
 pub mod Misplaced
 pub mod Owners

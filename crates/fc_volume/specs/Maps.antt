@@ -1,9 +1,10 @@
 -- Maps of images, as they are read.
-use Rattle.std.specs.Prelude.{◌≡◌, ℕ, List, [], slice_index_or, Result, Ok, Err}
+use Rattle.std.specs.Prelude.{◌≡◌, ◌&&◌, ◌==◌, ℕ, IsTrue, List, [], slice_index_or, Result, Ok, Err}
 use Rattle.std.specs.List.{zip}
+use Rattle.fc_bytes.specs.Words.{bytes_at}
 use Rattle.fc_record.specs.declared.DiscRecord.{DiscRecord}
 use Rattle.fc_record.specs.Record.{geometry}
-use Rattle.fc_record.specs.Kinds.{map_record}
+use Rattle.fc_record.specs.Kinds.{is_old_map, map_record, old_units}
 use Rattle.fc_newmap.specs.declared.MapError.{MapError}
 use Rattle.fc_newmap.specs.declared.MapError.TheVariants.{Zone}
 use Rattle.fc_newmap.specs.Map.{first_fault, zone_numbers}
@@ -18,6 +19,10 @@ use Rattle.fc_volume.specs.declared.maps.MapFound.{MapFound}
 -- what was found
 abbrev pub found_of : MapFound → MapAndRoot
 found_of f = (layout_of f.space, f.root, f.root_size)
+
+-- The image has an old map and so many units, and these bytes begin as it does.
+abbrev pub HasOldMap : List ℕ → ℕ → List ℕ → Type 0
+HasOldMap image units bytes = IsTrue (is_old_map image && (old_units image == units)) × (bytes_at bytes 0 512 ≡ bytes_at image 0 512)
 
 -- what the zones of the copy that counts give
 abbrev pub zones_layout : DiscRecord → List (List ℕ) → Result MapAndRoot ImageFault

@@ -3,7 +3,7 @@
 mod carry;
 mod carrying;
 mod cdir;
-mod copying;
+pub mod copying;
 mod delete;
 pub mod filing;
 mod laws;

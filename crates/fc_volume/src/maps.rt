@@ -1,31 +1,37 @@
 // The map of a disk, and where its root is.
-ghost use Rattle.std.specs.Prelude.{◌≡◌, ◌≤◌, ◌<◌, ◌+◌, ◌*◌, ◌/◌, ◌⊎◌, ◌&&◌, ◌==◌, ℕ, Ok, Err, Some, None, length, take, IsTrue, IfOk, IfErr, OnOk, MatchResult};
+ghost use Rattle.std.specs.Prelude.{◌≡◌, ◌≤◌, ◌<◌, ◌+◌, ◌*◌, ◌/◌, ◌⊎◌, ◌&&◌, ◌==◌, ℕ, List, Ok, Err, Some, None, length, take, slice_index, IsTrue, IfOk, IfErr, OnOk, MatchResult};
 ghost use Rattle.std.specs.Option.{ForSome};
 ghost use Rattle.fc_device.specs.Faults.{Rose};
 ghost use Rattle.fc_record.specs.Record.{IsRecord, geometry};
 ghost use Rattle.fc_device.specs.Calls.{FailsByFault, OnlyReads};
+ghost use Rattle.fc_record.specs.declared.DiscRecord.{DiscRecord};
+ghost use Rattle.fc_record.specs.Front.{HasMapOf};
 ghost use Rattle.fc_oldmap.specs.Holes.{AreHoles};
 ghost use Rattle.fc_oldmap.specs.OldMap.{free_space, hole_fault, map_units};
 ghost use Rattle.fc_record.specs.Kinds.{IsKind, disc_size, fits_kind, is_old_map, map_record, old_units, sector_size};
 ghost use Rattle.fc_newmap.specs.Map.{zones_in};
 ghost use Rattle.fc_newmap.specs.NewMap.{IsOfRecord};
-ghost use Rattle.fc_copies.specs.Copies.{chosen, copy_of};
+ghost use Rattle.fc_copies.specs.Copies.{chosen, copy_of, is_check_right};
 ghost use Rattle.fc_newmap.specs.NewMap.{map_in as held_map};
 ghost use Rattle.fc_image.specs.Layout.{Layout, disc_sectors, sector_bytes};
 ghost use Rattle.fc_image.specs.Opening.{agreement, byte_compared, copy_or, difference, map_and_root, new_layout, old_layout};
 ghost use Rattle.fc_space.specs.Space.{layout_of};
 ghost use Rattle.fc_volume.specs.Answers.{IsFaultOf};
-ghost use Rattle.fc_volume.specs.Maps.{Finds, found_of, zone_fault, zones_layout};
+ghost use Rattle.fc_volume.specs.Calls.{copy_reads, layout_reads, map_reads};
+ghost use Rattle.fc_volume.specs.Maps.{Finds, HasOldMap, found_of, zone_fault, zones_layout};
 ghost use Rattle.fc_volume.specs.Volume.{HasCopies, HoldsMap};
 
 use crate::{Copies, MountError};
+use fc_checks::zone_check;
 use fc_copies::{CopyError, Which, fetch};
-use fc_device::{Disk, DiskFault};
+use fc_device::{Disk, DiskFault, NoMemory};
 use fc_image::ImageFault;
 use fc_newmap::{MapError, NewMap};
 use fc_oldmap::{OldMap, OldMapFault};
 use fc_record::measures::geometry;
-use fc_record::{DiscRecord, Geometry, Kind, is_root_right, is_root_size_right, parse_record};
+use fc_record::{
+    DiscRecord, Front, Geometry, Kind, is_root_right, is_root_size_right, parse_record,
+};
 use fc_space::Space;
 use std::alloc::Global;
 
@@ -133,6 +139,7 @@ fn read_copy<D: Disk>(alloc: Global, disk: &mut D, g: &Geometry) -> Result<CopyR
     ensures copy { IfOk result (λ copy. ForSome (D.bytes disk.old) (λ image. (chosen g.now image ≡ Ok copy.which) × (zones_in g.now copy.zones.items ≡ copy_of g.now copy.which image))) }
     ensures fault { IfErr result (λ e. ForSome (D.bytes disk.old) (λ image. IsFaultOf (copy_or (chosen g.now image)) e)) }
     ensures reads { OnlyReads D.Disk disk.old disk.new }
+    ensures few { IfOk result (λ copy. D.read_calls disk.new ≤ D.read_calls disk.old + copy_reads copy.which g.now.zones) }
     ensures cause { result ≡ Err MountError.DiskFault → Rose (D.faults disk.old) (D.faults disk.new) }
 {
     let Ok(mut zones) = vec![in alloc; 0u8; usize::from(g.zones) * g.sector as usize] else {
@@ -160,6 +167,7 @@ fn read_new<D: Disk>(alloc: Global, disk: &mut D, r: &DiscRecord) -> Result<MapF
     ensures map_room { IfOk result (λ found. HoldsMap (layout_of found.space) (D.sectors disk.old)) }
     ensures fault { IfErr result (λ e. ForSome (D.bytes disk.old) (λ image. IsFaultOf (new_layout image r.now) e)) }
     ensures reads { OnlyReads D.Disk disk.old disk.new }
+    ensures few { IfOk result (λ found. D.read_calls disk.new ≤ D.read_calls disk.old + layout_reads (layout_of found.space) found.copies) }
     ensures cause { result ≡ Err MountError.DiskFault → Rose (D.faults disk.old) (D.faults disk.new) }
 {
     let g = geometry(r);
@@ -173,27 +181,53 @@ fn read_new<D: Disk>(alloc: Global, disk: &mut D, r: &DiscRecord) -> Result<MapF
     }
 }
 
-// Reads the 512 bytes of an old map, in the one sector or in the first two.
-fn read_front<D: Disk>(
-    disk: &mut D,
-    sector_units: u32,
-    into: &mut [u8; 1024],
-) -> Result<(), DiskFault>
-    requires attached { IsTrue (D.attached disk.old) }
-    requires size { D.sector_size disk.old ≡ 256 * sector_units }
-    requires units { (sector_units ≡ 1) ⊎ (sector_units ≡ 4) }
-    requires on_disk { 2 ≤ D.sectors disk.old }
-    ensures filled { OnOk result (ForSome (D.bytes disk.old) (λ image. take 512 into.new ≡ take 512 image)) }
-    ensures reads { OnlyReads D.Disk disk.old disk.new }
-    ensures cause { FailsByFault D.Disk disk.old disk.new result }
+// Whether a sector is a sound copy of a map of one zone.
+fn is_sound(sector: &[u8; 1024]) -> bool
+    ensures { result ≡ (is_check_right sector.now && (slice_index sector.now 3 == 255)) }
 {
-    if sector_units == 4 {
-        disk.read(0, into)?;
-        return Ok(());
+    sector[0] == zone_check(sector) && sector[3] == 255
+}
+
+// A sector as the copy of a map of one zone.
+fn copied(alloc: Global, which: Which, sector: &[u8; 1024]) -> Result<CopyRead, NoMemory>
+    ensures which { IfOk result (λ copy. copy.which ≡ which) }
+    ensures zones { IfOk result (λ copy. copy.zones.items ≡ sector.now) }
+    ensures whole { IfOk result (λ copy. length copy.zones.items ≡ 1024) }
+{
+    let zones = sector.to_vec(alloc)?;
+    Ok(CopyRead { which, zones })
+}
+
+// The copy of a map of one zone that counts, from what was read to find its kind.
+fn held_copy(alloc: Global, front: &Front) -> Result<CopyRead, NoMemory>
+    ensures whole { IfOk result (λ copy. length copy.zones.items ≡ 1024) }
+    ensures copy { IfOk result (λ copy. (r : DiscRecord) (image : List ℕ) → IsKind (Kind.OneZone r) → HasMapOf image (Kind.OneZone r) front.now
+        → (chosen (geometry r) image ≡ Ok copy.which) × (zones_in (geometry r) copy.zones.items ≡ copy_of (geometry r) copy.which image)) }
+{
+    if is_sound(&front.first) {
+        return copied(alloc, Which::One, &front.first);
     }
-    disk.read(0, &mut into[..256])?;
-    disk.read(1, &mut into[256..512])?;
-    Ok(())
+    copied(alloc, Which::Two, &front.second)
+}
+
+// The map of a disc of one zone, from what was read to find its kind: no sector is read again.
+fn map_of_one(alloc: Global, r: &DiscRecord, front: &Front) -> Result<MapFound, MountError>
+    requires { IsKind (Kind.OneZone r.now) }
+    ensures found { IfOk result (λ found. (image : List ℕ) → HasMapOf image (Kind.OneZone r.now) front.now → new_layout image r.now ≡ Ok (found_of found)) }
+    ensures copies { IfOk result (λ found. (image : List ℕ) → HasMapOf image (Kind.OneZone r.now) front.now → HasCopies found.copies (layout_of found.space) image) }
+    ensures size { IfOk result (λ found. sector_bytes (layout_of found.space) ≡ (geometry r.now).sector) }
+    ensures room { IfOk result (λ found. disc_sectors (layout_of found.space) ≡ (geometry r.now).disc_bits * (geometry r.now).bit_bytes / (geometry r.now).sector) }
+    ensures map_room { IfOk result (λ found. (sectors : ℕ) → (geometry r.now).map_sector + 2 * (geometry r.now).zones ≤ sectors → HoldsMap (layout_of found.space) sectors) }
+    ensures fault { IfErr result (λ e. (image : List ℕ) → HasMapOf image (Kind.OneZone r.now) front.now → IsFaultOf (new_layout image r.now) e) }
+    ensures no_fault { result ≡ Err MountError.DiskFault → ⊥ }
+{
+    let Ok(copy) = held_copy(alloc, front) else {
+        return Err(MountError::NoMemory);
+    };
+    match map_in(copy, r) {
+        Ok(found) => Ok(found),
+        Err(fault) => Err(MountError::Image(fault)),
+    }
 }
 
 // The old map at the front of a disc of so many units. Its checks, and its units, gave the kind.
@@ -217,33 +251,24 @@ fn old_map_in(front: &[u8], units: u32, sector_units: u32) -> Result<OldMap, Ima
     }
 }
 
-// The map of a disc with an old map, of so many units, whose root is at a fixed address.
-fn read_old<D: Disk>(
-    disk: &mut D,
+// The map of a disc with an old map, of so many units, whose root is at a fixed address, from what was read to find its
+// kind: no sector is read again.
+fn map_of_old(
+    front: &Front,
     units: u32,
     sector_units: u32,
     root: u32,
 ) -> Result<MapFound, MountError>
-    requires attached { IsTrue (D.attached disk.old) }
-    requires size { D.sector_size disk.old ≡ 256 * sector_units }
-    requires units { (sector_units ≡ 1) ⊎ (sector_units ≡ 4) }
-    requires two { 2 * sector_units ≤ units }
-    requires long { 256 * units ≤ D.image_length disk.old }
-    requires fits { ForSome (D.bytes disk.old) (λ image. IsTrue (is_old_map image && (old_units image == units))) }
-    ensures found { IfOk result (λ found. ForSome (D.bytes disk.old) (λ image. old_layout image sector_units root ≡ Ok (found_of found))) }
-    ensures copies { IfOk result (λ found. ForSome (D.bytes disk.old) (HasCopies found.copies (layout_of found.space))) }
-    ensures size { IfOk result (λ found. sector_bytes (layout_of found.space) ≡ D.sector_size disk.old) }
-    ensures room { IfOk result (λ found. disc_sectors (layout_of found.space) ≤ D.sectors disk.old) }
-    ensures map_room { IfOk result (λ found. HoldsMap (layout_of found.space) (D.sectors disk.old)) }
-    ensures fault { IfErr result (λ e. ForSome (D.bytes disk.old) (λ image. IsFaultOf (old_layout image sector_units root) e)) }
-    ensures reads { OnlyReads D.Disk disk.old disk.new }
-    ensures cause { result ≡ Err MountError.DiskFault → Rose (D.faults disk.old) (D.faults disk.new) }
+    requires { (sector_units ≡ 1) ⊎ (sector_units ≡ 4) }
+    ensures found { IfOk result (λ found. (image : List ℕ) → HasOldMap image units front.now.first → old_layout image sector_units root ≡ Ok (found_of found)) }
+    ensures copies { IfOk result (λ found. (image : List ℕ) → HasCopies found.copies (layout_of found.space) image) }
+    ensures size { IfOk result (λ found. sector_bytes (layout_of found.space) ≡ 256 * sector_units) }
+    ensures room { IfOk result (λ found. disc_sectors (layout_of found.space) ≡ units / sector_units) }
+    ensures map_room { IfOk result (λ found. (sectors : ℕ) → 2 ≤ sectors → HoldsMap (layout_of found.space) sectors) }
+    ensures fault { IfErr result (λ e. (image : List ℕ) → HasOldMap image units front.now.first → IsFaultOf (old_layout image sector_units root) e) }
+    ensures no_fault { result ≡ Err MountError.DiskFault → ⊥ }
 {
-    let mut front = [0u8; 1024];
-    let Ok(()) = read_front(disk, sector_units, &mut front) else {
-        return Err(MountError::DiskFault);
-    };
-    match old_map_in(&front, units, sector_units) {
+    match old_map_in(&front.first, units, sector_units) {
         Ok(map) => Ok(MapFound {
             space: Space::OldMapped(map),
             copies: Copies::Equal,
@@ -255,16 +280,24 @@ fn read_old<D: Disk>(
 }
 
 /// The map of a disk and where its root is, as a disc of a kind whose test the image passes. The disk is attached, has
-/// the kind's sectors and is as long as the disc.
+/// the kind's sectors and is as long as the disc; `front` has what was read of a map of one zone, or of an old map, to find
+/// the kind, so that none of it is read again. Of other maps each sector of a copy is read once, and copy 2 only if copy 1
+/// isn't sound.
 ///
 /// The answer is `Image` exactly where the copies of a new map, its record or its zones are wrong, or a hole of an
 /// old map, with the first fault; and `DiskFault` only where the disk's count of faults rose.
-pub fn read_map<D: Disk>(alloc: Global, disk: &mut D, kind: &Kind) -> Result<MapFound, MountError>
+pub fn read_map<D: Disk>(
+    alloc: Global,
+    disk: &mut D,
+    kind: &Kind,
+    front: &Front,
+) -> Result<MapFound, MountError>
     requires attached { IsTrue (D.attached disk.old) }
     requires kind { IsKind kind.now }
     requires size { D.sector_size disk.old ≡ sector_size kind.now }
     requires long { disc_size kind.now ≤ D.image_length disk.old }
     requires fits { ForSome (D.bytes disk.old) (λ image. IsTrue (fits_kind image kind.now)) }
+    requires held { ForSome (D.bytes disk.old) (λ image. HasMapOf image kind.now front.now) }
     ensures found { IfOk result (λ found. ForSome (D.bytes disk.old) (λ image. map_and_root image kind.now ≡ Ok (found_of found))) }
     ensures copies { IfOk result (λ found. ForSome (D.bytes disk.old) (HasCopies found.copies (layout_of found.space))) }
     ensures size { IfOk result (λ found. sector_bytes (layout_of found.space) ≡ D.sector_size disk.old) }
@@ -272,12 +305,13 @@ pub fn read_map<D: Disk>(alloc: Global, disk: &mut D, kind: &Kind) -> Result<Map
     ensures map_room { IfOk result (λ found. HoldsMap (layout_of found.space) (D.sectors disk.old)) }
     ensures fault { IfErr result (λ e. ForSome (D.bytes disk.old) (λ image. IsFaultOf (map_and_root image kind.now) e)) }
     ensures reads { OnlyReads D.Disk disk.old disk.new }
+    ensures few { IfOk result (λ found. D.read_calls disk.new ≤ D.read_calls disk.old + map_reads kind.now (layout_of found.space) found.copies) }
     ensures cause { result ≡ Err MountError.DiskFault → Rose (D.faults disk.old) (D.faults disk.new) }
 {
     match kind {
         Kind::Boot(r) => read_new(alloc, disk, r),
-        Kind::OneZone(r) => read_new(alloc, disk, r),
-        Kind::DiscD => read_old(disk, 3200, 4, 4),
-        Kind::DiscL { units } => read_old(disk, *units, 1, 2),
+        Kind::OneZone(r) => map_of_one(alloc, r, front),
+        Kind::DiscD => map_of_old(front, 3200, 4, 4),
+        Kind::DiscL { units } => map_of_old(front, *units, 1, 2),
     }
 }

@@ -1,17 +1,18 @@
 // Opening the image of a disk.
-#[cfg(test)]
-mod tests;
-
-ghost use Rattle.std.specs.Prelude.{◌≡◌, ◌≤◌, ◌^◌, true, Ok, Err, Some, List, length, ℕ, IsTrue, IsFalse, IfOk, IfErr};
+ghost use Rattle.std.specs.Prelude.{◌≡◌, ◌≤◌, ◌+◌, ◌^◌, true, Ok, Err, Some, List, length, ℕ, IsTrue, IsFalse, IfOk, IfErr};
 ghost use Rattle.std.specs.Option.{ForSome};
 ghost use Rattle.fc_device.specs.Faults.{Rose};
+ghost use Rattle.fc_record.specs.declared.Kind.{Kind};
+ghost use Rattle.fc_record.specs.Front.{HasMapOf};
 ghost use Rattle.fc_record.specs.Kinds.{IsKind, disc_size, fits_kind, kind_of, sector_size};
 ghost use Rattle.fc_device.specs.Calls.{OnlyReads};
 ghost use Rattle.fc_image.specs.Layout.{disc_sectors, sector_bytes};
 ghost use Rattle.fc_image.specs.Opening.{Opened, open_image};
 ghost use Rattle.fc_space.specs.Space.{layout_of};
+ghost use Rattle.fc_tree.specs.Calls.{all_directory_sectors};
 ghost use Rattle.fc_tree.specs.Parts.{ArePartsOf};
 ghost use Rattle.fc_volume.specs.Answers.{IsFaultOf};
+ghost use Rattle.fc_volume.specs.Calls.{map_reads};
 ghost use Rattle.fc_volume.specs.Maps.{found_of};
 ghost use Rattle.fc_volume.specs.Mounting.{AreMounted, mount_error, opened_with};
 ghost use Rattle.fc_volume.specs.Volume.{OnlyShapes, StandsFor, parts_of};
@@ -23,25 +24,27 @@ use crate::{MountError, Volume};
 use fc_device::{Disk, NoMemory};
 use fc_image::ImageFault;
 use fc_record::kinds::kind;
-use fc_record::{Kind, KindError};
+use fc_record::{Front, Kind, KindError};
 use fc_space::{Places, Space};
 use fc_tree::{TreeError, load};
 use std::alloc::Global;
 
-// The kind of the disk's image.
-fn find_kind<D: Disk>(disk: &mut D) -> Result<Kind, MountError>
+// The kind of the disk's image, and what was read of its map on the way.
+fn find_kind<D: Disk>(disk: &mut D, front: &mut Front) -> Result<Kind, MountError>
     requires attached { IsTrue (D.attached disk.old) }
     requires size { D.sector_size disk.old ≡ 256 }
     ensures kind { IfOk result IsKind }
     ensures long { IfOk result (λ kind. disc_size kind ≤ D.image_length disk.old) }
     ensures found { IfOk result (λ kind. ForSome (D.bytes disk.old) (λ image. (kind_of image ≡ Some kind) × (disc_size kind ≤ length image))) }
     ensures fits { IfOk result (λ kind. ForSome (D.bytes disk.old) (λ image. IsTrue (fits_kind image kind))) }
+    ensures map { IfOk result (λ kind. ForSome (D.bytes disk.old) (λ image. HasMapOf image kind front.new)) }
     ensures fault { IfErr result (λ e. ForSome (D.bytes disk.old) (λ image. IsFaultOf (open_image image) e)) }
     ensures reads { OnlyReads D.Disk disk.old disk.new }
+    ensures few { D.read_calls disk.new ≤ D.read_calls disk.old + 10 }
     ensures cause { result ≡ Err MountError.DiskFault → Rose (D.faults disk.old) (D.faults disk.new) }
 {
     fc_record::found_fits();
-    match kind(disk) {
+    match kind(disk, front) {
         Ok(kind) => Ok(kind),
         Err(KindError::NoKind) => Err(MountError::Image(ImageFault::NoKind)),
         Err(KindError::Short { need, have }) => {
@@ -103,6 +106,7 @@ fn volume_of<D: Disk>(
     ensures ready { IfOk result (λ v. (v.fit ≡ true) × (v.read_only ≡ read_only)) }
     ensures fault { IfErr result (λ e. ForSome (D.bytes disk.old) (λ image. IsFaultOf (opened_with image kind.now (found_of found)) e)) }
     ensures reads { OnlyReads D.Disk disk.old disk.new }
+    ensures few { IfOk result (λ v. D.read_calls disk.new ≤ D.read_calls disk.old + all_directory_sectors (parts_of v).layout (parts_of v).nodes) }
     ensures cause { result ≡ Err MountError.DiskFault → Rose (D.faults disk.old) (D.faults disk.new) }
 {
     fc_image::walking();
@@ -134,7 +138,8 @@ fn volume_of<D: Disk>(
 impl Volume {
     /// Opens the image of a disk that has sectors of 256 bytes and nothing pending; afterwards the disk has the volume's
     /// sectors. Nothing is written. `Image` exactly where the image isn't accepted, with its first fault; `DiskFault` only
-    /// where the disk's count of faults rose.
+    /// where the disk's count of faults rose. A disc that opens takes at most 10 read calls for its kind, then one for each
+    /// sector of the map, none if it has one zone or is an old one, and one for each sector of a directory.
     pub fn mount<D: Disk>(
         alloc: Global,
         disk: &mut D,
@@ -148,15 +153,18 @@ impl Volume {
         ensures ready { IfOk result (λ v. (v.fit ≡ true) × (v.read_only ≡ read_only)) }
         ensures fault { ForSome (D.bytes disk.old) (λ image. IfErr result (IsFaultOf (open_image image))) }
         ensures shapes { OnlyShapes D.Disk disk.old disk.new }
+        ensures few { IfOk result (λ v. (kind : Kind) × ForSome (D.bytes disk.old) (λ image. kind_of image ≡ Some kind)
+            × (D.read_calls disk.new ≤ D.read_calls disk.old + (10 + map_reads kind (parts_of v).layout v.copies + all_directory_sectors (parts_of v).layout (parts_of v).nodes))) }
         ensures cause { result ≡ Err MountError.DiskFault → Rose (D.faults disk.old) (D.faults disk.new) }
     {
         fc_image::opens();
-        let kind = match find_kind(disk) {
+        let mut front = Front::new();
+        let kind = match find_kind(disk, &mut front) {
             Ok(kind) => kind,
             Err(error) => return Err(error),
         };
         disk.shape(log2_sector(&kind));
-        let found = match read_map(alloc, disk, &kind) {
+        let found = match read_map(alloc, disk, &kind, &front) {
             Ok(found) => found,
             Err(error) => return Err(error),
         };

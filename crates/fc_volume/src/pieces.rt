@@ -15,9 +15,6 @@ use fc_record::MAX_SECTOR;
 use fc_space::PlaceError;
 use std::alloc::Global;
 
-#[cfg(test)]
-mod tests;
-
 // How many bytes of a file one call gives from a place on.
 fn piece_length(sector: u64, len: u64, at: u64, most: usize) -> usize
     requires { 0 < sector }
@@ -41,6 +38,7 @@ fn read_part<D: Disk>(
     requires part { from + length into.old ≤ size }
     ensures filled { OnOk result (ForSome (D.bytes disk.old) (λ image. into.new ≡ take (length into.old) (drop from (sector_at size image sector)))) }
     ensures reads { OnlyReads D.Disk disk.old disk.new }
+    ensures few { D.read_calls disk.new ≤ D.read_calls disk.old + 1 }
     ensures cause { FailsByFault D.Disk disk.old disk.new result }
 {
     let mut bytes = [0; MAX_SECTOR];
@@ -69,7 +67,8 @@ impl Volume {
     }
 
     /// A file's bytes from a place on: at most to the end of a sector, and at most as many as the buffer has. Answers how
-    /// many; 0 exactly at or past the file's end, and for an empty buffer. The rest of the buffer stays. No memory is taken.
+    /// many; 0 exactly at or past the file's end, and for an empty buffer. The rest of the buffer stays. No memory is taken,
+    /// and at most one read call is made.
     pub fn piece<D: Disk>(
         &self,
         disk: &mut D,
@@ -85,6 +84,7 @@ impl Volume {
         ensures filled { ForSome (D.bytes disk.old) (λ image. IfOk result (λ n. take n into.new ≡ take n (drop at (ref_bytes image self.now f.now)))) }
         ensures rest { IfOk result (λ n. drop n into.new ≡ drop n into.old) }
         ensures reads { OnlyReads D.Disk disk.old disk.new }
+        ensures few { D.read_calls disk.new ≤ D.read_calls disk.old + 1 }
         ensures cause { FailsByFault D.Disk disk.old disk.new result }
     {
         let size = self.places.sector_bytes();

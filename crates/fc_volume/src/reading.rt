@@ -31,9 +31,6 @@ use fc_space::Space;
 use fc_tree::{Body, Found, Tree};
 use std::alloc::Global;
 
-#[cfg(test)]
-mod tests;
-
 // Whether attributes are those of a directory.
 fn is_directory(attrs: u32) -> bool
     ensures { result ≡ is_directory attrs }

@@ -1,4 +1,5 @@
 use Rattle.std.proofs.Common.{◌≡◌, ◌∙◌, ◌+◌, ◌-◌, ◌++◌, ◌∷◌, [], ap, sym, subst, refl, arith, List}
+use Rattle.std.proofs.lemmas.List.Sums.{sum_by-take-le}
 use Rattle.std.proofs.lemmas.Result.{err_from_is_err_and}
 use Rattle.fc_device.proofs.DiskLaws.{laws}
 use Rattle.fc_device.proofs.StopLemmas.{reads_start, reads_then}
@@ -10,7 +11,9 @@ use Rattle.fc_space.specs.Space.{layout_of}
 use Rattle.fc_tree.specs.declared.node.Body.TheVariants as bodies
 use Rattle.fc_tree.specs.declared.node.Node.{Node}
 use Rattle.fc_tree.specs.Loaded.{not_free}
-use Rattle.fc_tree.specs.Walking.{FailsAs, IsFileAt, IsVisited, Leads}
+use Rattle.fc_tree.specs.Walking.{FailsAs, IsDirectoryAt, IsFileAt, IsVisited, Leads}
+use Rattle.fc_tree.specs.Calls.{directory_sectors}
+use Rattle.fc_tree.proofs.CallLemmas.{visited_upto}
 use Rattle.fc_tree.proofs.WalkingLemmas.{root_fails}
 use Rattle.fc_tree.proofs.StepLemmas.{come_to, no_disk_fault, on_failed, on_too_many, on_visited, there_is, walk_starts}
 use Rattle.fc_tree.proofs.EndLemmas.{walk_ends}
@@ -36,6 +39,7 @@ loop-at-init g c =
     let nodes : c.push_node.new.nodes.items ≡ c.in-Ok-root_node.node ∷ [] = c.in_ok-push_node.ensures.ok ∙ ap (λ (ns : List Node). ns ++ c.in-Ok-root_node.node ∷ []) c.new-nodes.ensures.items in
     record {
       reads = reads_start (laws g.met.D.Disk) c.args.disk.now;
+      few = omega arith;
       sectors = c.claim_root.ensures.sectors ∙ (rw same at c.in-Ok.ensures.sectors);
       walking = walk_starts layout reserved c.args.root c.args.root_size (g.D.Disk.bytes c.args.disk.now) c.push_node.new.nodes.items c.in-Ok-root_node.node (c.disc_sectors-left.result + 1) c.claim_root.new.taken nodes node
           (ap (λ n. n + 1) (rw same at c.disc_sectors-left.ensures.value))
@@ -84,12 +88,22 @@ loop-at-preserved g c =
     let layout = layout_of c.args.places.now in
     record {
       reads = reads_then (laws g.met.D.Disk) c.loop-at.invariant.reads c.visit.ensures.reads;
+      few = (let come = come_to layout _ _ _ _ c.loop-at.nodes.items c.deref.result.now c.loop-at.from c.in-Some.at c.loop-at.left c.loop-at.taken c.loop-at.invariant.walking c.deref.ensures.value
+          c.in-Some.ensures.some c.in-Some.ensures.first in
+          visited_upto layout _ c.loop-at.nodes.items c.visit.new.nodes.items c.loop-at.from c.in-Some.at (c.in-Some.at + 1) come.1.object come.0.taken c.visit.new.taken _ _ _
+          (c.in_ok-visit.ensures.ok come.1.object come.0.taken come.1.stands come.0.marked)
+          (subst (λ ns. IsDirectoryAt ns c.in-Some.at) c.deref.ensures.value c.in-Some.ensures.some.2) c.in-Some.ensures.some.0 refl c.loop-at.invariant.few c.visit.ensures.few);
       sectors = c.visit.ensures.sectors ∙ c.loop-at.invariant.sectors;
       walking = on_visited layout _ _ _ (g.D.Disk.bytes c.args.disk.now) c.loop-at.nodes.items c.deref.result.now c.loop-at.from c.in-Some.at c.loop-at.left c.loop-at.taken c.loop-at.invariant.walking c.deref.ensures.value
           c.in-Some.ensures.some c.in-Some.ensures.first c.visit.new.nodes.items c.visit.new.taken (c.loop-at.left - 1) (c.in-Some.at + 1) (omega (arith, c.if-left-eq0.false)) refl
           (λ o before stands taken. subst (λ told. IsVisited layout told c.loop-at.nodes.items c.visit.new.nodes.items c.in-Some.at o before c.visit.new.taken) c.loop-at.invariant.reads.bytes
           (c.in_ok-visit.ensures.ok o before stands taken));
     }
+
+pub returns-clause-few : goal.returns-clause-few
+returns-clause-few g c =
+    let all = sum_by-take-le (directory_sectors (layout_of c.args.places.now)) c.loop-at.nodes.items c.loop-at.from in
+    omega (arith, c.loop-at.invariant.few, all)
 
 pub returns-clause-ok : goal.returns-clause-ok
 returns-clause-ok g c =

@@ -1,21 +1,84 @@
-use Rattle.std.specs.Prelude.{◌&&◌, ◌==◌}
-use Rattle.std.specs.Int.{is_in_range}
-use Rattle.std.proofs.lemmas.Bool.{and_from}
-use Rattle.fc_record.specs.Kinds.{is_old_map, old_units}
-use Rattle.fc_volume.proofs.MapsOldLemmas.{and_parts}
+use Rattle.std.proofs.Common.{inl, inr, refl, sym, ◌∙◌, arith}
+use Rattle.std.proofs.lemmas.Result.{IfOk-weaker}
+use Rattle.fc_volume.proofs.MapsLemmas.{new_room}
+use Rattle.fc_volume.proofs.MapsOldLemmas.{old_fits, old_room, two_sectors}
+use Rattle.fc_volume.proofs.OneZoneLemmas.{err_weaker}
 use Rattle.fc_volume.proofs.maps.read_map.Goals as goal
-
-pub read_old-requires-clause-fits : goal.read_old-requires-clause-fits
-read_old-requires-clause-fits g c = λ image told. rw c.in-DiscD.is at (c.requires.fits image told)
-
-pub read_old-requires-in-DiscL-clause-fits : goal.read_old-requires-in-DiscL-clause-fits
-read_old-requires-in-DiscL-clause-fits g c = λ image told.
-    let fits = rw c.in-DiscL.is at (c.requires.fits image told) in
-    let parts = and_parts (is_old_map image && is_in_range 7 2560 c.in-DiscL.units) (old_units image == c.in-DiscL.units) fits in
-    and_from (is_old_map image) (old_units image == c.in-DiscL.units) (and_parts (is_old_map image) (is_in_range 7 2560 c.in-DiscL.units) parts.0).0 parts.1
 
 pub returns-in-Boot-clause-found : goal.returns-in-Boot-clause-found
 returns-in-Boot-clause-found g c = rw c.in-Boot.is c.read_new.ensures.found
 
 pub returns-in-OneZone-clause-found : goal.returns-in-OneZone-clause-found
-returns-in-OneZone-clause-found g c = rw c.in-OneZone.is c.read_new-in-OneZone.ensures.found
+returns-in-OneZone-clause-found g c =
+    rw c.in-OneZone.is (IfOk-weaker c.map_of_one.result _ _ (λ found here image told. here image (rw c.in-OneZone.is at (c.requires.held image told))) c.map_of_one.ensures.found)
+
+pub returns-in-OneZone-clause-copies : goal.returns-in-OneZone-clause-copies
+returns-in-OneZone-clause-copies g c =
+    IfOk-weaker c.map_of_one.result _ _ (λ found here image told. here image (rw c.in-OneZone.is at (c.requires.held image told))) c.map_of_one.ensures.copies
+
+pub returns-in-OneZone-clause-size : goal.returns-in-OneZone-clause-size
+returns-in-OneZone-clause-size g c = IfOk-weaker c.map_of_one.result _ _ (λ found here. here ∙ sym (rw c.in-OneZone.is at c.requires.size)) c.map_of_one.ensures.size
+
+pub returns-in-OneZone-clause-room : goal.returns-in-OneZone-clause-room
+returns-in-OneZone-clause-room g c =
+    let is = rw c.in-OneZone.is at c.requires.kind in
+    let room = new_room c.in-OneZone.r _ _ _ is.0 (rw c.in-OneZone.is at c.requires.size) (g.met.D.Disk.whole_sectors c.args.disk.now) (rw c.in-OneZone.is at c.requires.long) in
+    IfOk-weaker c.map_of_one.result _ _ (λ found here. omega (arith, here, room.1)) c.map_of_one.ensures.room
+
+pub returns-in-OneZone-clause-map_room : goal.returns-in-OneZone-clause-map_room
+returns-in-OneZone-clause-map_room g c =
+    let is = rw c.in-OneZone.is at c.requires.kind in
+    let room = new_room c.in-OneZone.r _ _ _ is.0 (rw c.in-OneZone.is at c.requires.size) (g.met.D.Disk.whole_sectors c.args.disk.now) (rw c.in-OneZone.is at c.requires.long) in
+    IfOk-weaker c.map_of_one.result _ _ (λ found here. here (g.D.Disk.sectors c.args.disk.now) room.0) c.map_of_one.ensures.map_room
+
+pub returns-in-OneZone-clause-fault : goal.returns-in-OneZone-clause-fault
+returns-in-OneZone-clause-fault g c =
+    rw c.in-OneZone.is (err_weaker c.map_of_one.result _ _ (λ e here image told. here image (rw c.in-OneZone.is at (c.requires.held image told))) c.map_of_one.ensures.fault)
+
+pub returns-in-DiscD-clause-found : goal.returns-in-DiscD-clause-found
+returns-in-DiscD-clause-found g c =
+    rw c.in-DiscD.is (IfOk-weaker c.map_of_old.result _ _ (λ found here image told. here image (rw c.in-DiscD.is at (c.requires.fits image told), rw c.in-DiscD.is at (c.requires.held image told))) c.map_of_old.ensures.found)
+
+pub returns-in-DiscD-clause-copies : goal.returns-in-DiscD-clause-copies
+returns-in-DiscD-clause-copies g c = IfOk-weaker c.map_of_old.result _ _ (λ found here image told. here image) c.map_of_old.ensures.copies
+
+pub returns-in-DiscD-clause-size : goal.returns-in-DiscD-clause-size
+returns-in-DiscD-clause-size g c = IfOk-weaker c.map_of_old.result _ _ (λ found here. here ∙ sym (rw c.in-DiscD.is at c.requires.size)) c.map_of_old.ensures.size
+
+pub returns-in-DiscD-clause-room : goal.returns-in-DiscD-clause-room
+returns-in-DiscD-clause-room g c =
+    let room = old_room 3200 4 _ _ _ (inr refl) (rw c.in-DiscD.is at c.requires.size) (g.met.D.Disk.whole_sectors c.args.disk.now) (rw c.in-DiscD.is at c.requires.long) in
+    IfOk-weaker c.map_of_old.result _ _ (λ found here. omega (arith, here, room)) c.map_of_old.ensures.room
+
+pub returns-in-DiscD-clause-map_room : goal.returns-in-DiscD-clause-map_room
+returns-in-DiscD-clause-map_room g c =
+    let room = old_room 3200 4 _ _ _ (inr refl) (rw c.in-DiscD.is at c.requires.size) (g.met.D.Disk.whole_sectors c.args.disk.now) (rw c.in-DiscD.is at c.requires.long) in
+    IfOk-weaker c.map_of_old.result _ _ (λ found here. here (g.D.Disk.sectors c.args.disk.now) (two_sectors 3200 4 _ (inr refl) (omega arith) room)) c.map_of_old.ensures.map_room
+
+pub returns-in-DiscD-clause-fault : goal.returns-in-DiscD-clause-fault
+returns-in-DiscD-clause-fault g c =
+    rw c.in-DiscD.is (err_weaker c.map_of_old.result _ _ (λ e here image told. here image (rw c.in-DiscD.is at (c.requires.fits image told), rw c.in-DiscD.is at (c.requires.held image told))) c.map_of_old.ensures.fault)
+
+pub returns-in-DiscL-clause-found : goal.returns-in-DiscL-clause-found
+returns-in-DiscL-clause-found g c =
+    rw c.in-DiscL.is (IfOk-weaker c.map_of_old-in-DiscL.result _ _ (λ found here image told. here image (old_fits image c.in-DiscL.units (rw c.in-DiscL.is at (c.requires.fits image told)), rw c.in-DiscL.is at (c.requires.held image told))) c.map_of_old-in-DiscL.ensures.found)
+
+pub returns-in-DiscL-clause-copies : goal.returns-in-DiscL-clause-copies
+returns-in-DiscL-clause-copies g c = IfOk-weaker c.map_of_old-in-DiscL.result _ _ (λ found here image told. here image) c.map_of_old-in-DiscL.ensures.copies
+
+pub returns-in-DiscL-clause-size : goal.returns-in-DiscL-clause-size
+returns-in-DiscL-clause-size g c = IfOk-weaker c.map_of_old-in-DiscL.result _ _ (λ found here. here ∙ sym (rw c.in-DiscL.is at c.requires.size)) c.map_of_old-in-DiscL.ensures.size
+
+pub returns-in-DiscL-clause-room : goal.returns-in-DiscL-clause-room
+returns-in-DiscL-clause-room g c =
+    let room = old_room c.in-DiscL.units 1 _ _ _ (inl refl) (rw c.in-DiscL.is at c.requires.size) (g.met.D.Disk.whole_sectors c.args.disk.now) (rw c.in-DiscL.is at c.requires.long) in
+    IfOk-weaker c.map_of_old-in-DiscL.result _ _ (λ found here. omega (arith, here, room)) c.map_of_old-in-DiscL.ensures.room
+
+pub returns-in-DiscL-clause-map_room : goal.returns-in-DiscL-clause-map_room
+returns-in-DiscL-clause-map_room g c =
+    let room = old_room c.in-DiscL.units 1 _ _ _ (inl refl) (rw c.in-DiscL.is at c.requires.size) (g.met.D.Disk.whole_sectors c.args.disk.now) (rw c.in-DiscL.is at c.requires.long) in
+    IfOk-weaker c.map_of_old-in-DiscL.result _ _ (λ found here. here (g.D.Disk.sectors c.args.disk.now) (two_sectors c.in-DiscL.units 1 _ (inl refl) (omega (arith, (rw c.in-DiscL.is at c.requires.kind).0)) room)) c.map_of_old-in-DiscL.ensures.map_room
+
+pub returns-in-DiscL-clause-fault : goal.returns-in-DiscL-clause-fault
+returns-in-DiscL-clause-fault g c =
+    rw c.in-DiscL.is (err_weaker c.map_of_old-in-DiscL.result _ _ (λ e here image told. here image (old_fits image c.in-DiscL.units (rw c.in-DiscL.is at (c.requires.fits image told)), rw c.in-DiscL.is at (c.requires.held image told))) c.map_of_old-in-DiscL.ensures.fault)

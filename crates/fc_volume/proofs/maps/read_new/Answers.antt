@@ -1,8 +1,10 @@
-use Rattle.std.proofs.Common.{subst, sym, ◌∙◌, arith}
+use Rattle.std.proofs.Common.{◌≡◌, ap, ap₂, subst, sym, ◌∙◌, arith}
 use Rattle.fc_image.specs.Layout.{Layout}
+use Rattle.fc_record.specs.declared.Geometry.{Geometry}
 use Rattle.fc_record.specs.Record.{geometry}
 use Rattle.fc_newmap.specs.Map.{zones_in}
 use Rattle.fc_space.specs.Space.{layout_of}
+use Rattle.fc_volume.specs.Calls.{copy_reads, layout_reads}
 use Rattle.fc_volume.specs.Volume.{HoldsMap}
 use Rattle.fc_volume.proofs.MapsLemmas.{counted, new_room, new_is, no_copy}
 use Rattle.fc_volume.proofs.maps.read_new.Goals as goal
@@ -35,6 +37,13 @@ pub returns-in-Ok-map_in-clause-map_room : goal.returns-in-Ok-map_in-clause-map_
 returns-in-Ok-map_in-clause-map_room g c =
     let room = new_room c.args.r.now _ _ _ c.requires.«record» c.requires.size (g.met.D.Disk.whole_sectors c.args.disk.now) c.requires.long in
     subst (λ (l : Layout). HoldsMap l (g.D.Disk.sectors c.args.disk.now)) (sym c.in-Ok-map_in.ensures.map) room.0
+
+pub returns-in-Ok-map_in-clause-few : goal.returns-in-Ok-map_in-clause-few
+returns-in-Ok-map_in-clause-few g c =
+    let zones : c.geometry-g.result.zones ≡ (geometry c.args.r.now).zones = ap (λ (x : Geometry). x.zones) c.geometry-g.ensures in
+    let reads : layout_reads (layout_of c.in-Ok-map_in.found.space) c.in-Ok-map_in.found.copies ≡ copy_reads c.in-Ok.copy.which (geometry c.args.r.now).zones =
+    ap₂ layout_reads c.in-Ok-map_in.ensures.map c.in-Ok-map_in.ensures.copies in
+    omega (arith, c.in-Ok.ensures.few, ap (copy_reads c.in-Ok.copy.which) zones, reads)
 
 pub returns-in-Err-map_in-clause-fault : goal.returns-in-Err-map_in-clause-fault
 returns-in-Err-map_in-clause-fault g c = λ image told.
