@@ -2,5 +2,5 @@
 #![tactic(auto)]
 
 pub mod agree;
-pub mod takeover;
 pub mod moves;
+pub mod takeover;

@@ -12,7 +12,7 @@ use Rattle.fc_dirs.specs.Directory.{Directory}
 use Rattle.fc_image.specs.declared.effects.Owned.{Owned}
 use Rattle.fc_image.specs.Layout.{Layout, dir_form}
 use Rattle.fc_image.specs.Objects.{listing_at}
-use Rattle.fc_image.specs.Walk.{Listing, Object}
+use Rattle.fc_image.specs.Walk.{Listing}
 use Rattle.fc_laws.specs.nodes.Edits.{Nodes}
 use Rattle.fc_oldlaws.specs.agree.Laws.{AgreeOn, parts_with}
 use Rattle.fc_oldlaws.proofs.lemmas.agree.BeforeLemmas.{sound}

@@ -1,9 +1,9 @@
 -- `compact` of a volume with an old map: what it promises, and what the volume stands for afterwards.
-use Rattle.std.proofs.Common.{◌≡◌, ◌<◌, ◌≤◌, inl, inr, ℕ, ◌-◌, ◌*◌, Bool, List, [], length, sym, ap, subst, ◌∙◌, Some, None, refl}
+use Rattle.std.proofs.Common.{◌≡◌, ◌≤◌, inr, ℕ, Bool, List, sym, ap, subst, ◌∙◌, Some, None, refl}
+use Rattle.std.specs.Prelude.{Ok}
 use Rattle.std.specs.FinMap.{get}
 use Rattle.std.specs.Option.{ForSome}
 use Rattle.fc_alloc.specs.declared.owner.Owner.{Owner}
-use Rattle.fc_bytes.specs.Words.{bytes_at}
 use Rattle.fc_device.specs.declared.disk.Disk.{Ghosts}
 use Rattle.fc_device.specs.Calls.{SameForm}
 use Rattle.fc_image.specs.declared.effects.Owned.{Owned}
@@ -11,24 +11,26 @@ use Rattle.fc_image.specs.effects.Effect.{Compacts}
 use Rattle.fc_image.specs.effects.Moves.{Squashed, SquashedBytes}
 use Rattle.fc_image.specs.Layout.{Layout, disc_sectors, sector_bytes}
 use Rattle.fc_image.specs.Objects.{objects_of}
-use Rattle.fc_image.specs.Opening.{Opened}
+use Rattle.fc_image.specs.Opening.{Opened, reserved_in}
 use Rattle.fc_image.specs.Sound.{AreSound}
 use Rattle.fc_image.specs.Stays.{HasEqualCopies, OpensAs}
-use Rattle.fc_image.specs.Walk.{Listing}
+use Rattle.fc_image.specs.Walk.{Listing, Reader, reader_of, walk}
+use Rattle.fc_image.proofs.PathsLemmas.{opened_walk}
 use Rattle.fc_record.specs.declared.Kind.{Kind}
 use Rattle.fc_laws.specs.nodes.Edits.{Nodes}
 use Rattle.fc_oldlaws.specs.agree.Laws.{AgreeOn, parts_with}
 use Rattle.fc_oldlaws.proofs.lemmas.agree.BeforeLemmas.{sound}
-use Rattle.fc_oldchanges.specs.Owed.{IsBefore, IsMapAfter, IsWritten, holding}
+use Rattle.fc_oldchanges.specs.Owed.{IsWritten, holding}
 use Rattle.fc_oldmap.specs.OldMap.{FreeSpace, IsOldMap}
-use Rattle.fc_oldlaws.specs.moves.After.{IsSlide, Slide, listings_after, space_after}
+use Rattle.fc_oldlaws.specs.moves.After.{IsSlide, Slide, space_after}
 use Rattle.fc_oldlaws.specs.moves.Nodes.{AreMoved, AreReady, AreRemade, remade}
-use Rattle.fc_oldlaws.specs.moves.Steps.{IsCompactedInSteps, opened_after}
+use Rattle.fc_oldlaws.specs.moves.Steps.{opened_after}
 use Rattle.fc_oldlaws.specs.moves.Writes.{AreDirectoriesPlaced, AreDirectoriesWritten}
 use Rattle.fc_space.specs.Space.{layout_of}
+use Rattle.fc_squash.specs.Places.{Leaves}
 use Rattle.fc_squash.specs.Sliding.{TellsAsBefore}
 use Rattle.fc_squash.specs.Squashing.{KeepsBodies}
-use Rattle.fc_tree.specs.Agree.{Agree}
+use Rattle.fc_tree.specs.Agree.{Agree, reader_of_nodes}
 use Rattle.fc_tree.specs.declared.node.Node.{Node}
 use Rattle.fc_tree.specs.Nodes.{HoldObjects, Numbers, bound_of, nodes_of}
 use Rattle.fc_tree.specs.Parts.{ArePartsOf, Parts}
@@ -38,13 +40,14 @@ use Rattle.fc_volume.specs.declared.copies.Copies.TheVariants.{Equal}
 use Rattle.fc_volume.specs.Compacting.{CompactsParts}
 use Rattle.fc_volume.specs.Volume.{HasCopies, HoldsMap, StandsFor, Volume, parts_of}
 use Rattle.fc_oldvolume.specs.Changing.{IsOldLayout}
-use Rattle.fc_oldvolume.specs.Compacting.{HasSlidInMemory, HasSlidOnDisk, IsNotBig, IsReadyToCompact, MoveLaws, slide_by}
+use Rattle.fc_oldvolume.specs.Compacting.{CompactsOnlyRoom, HasSlidInMemory, HasSlidOnDisk, IsNotBig, IsReadyToCompact, IsRoom, MoveLaws, WritesOnlyRoom, room_of, slide_by}
 use Rattle.fc_oldvolume.specs.Spaces.{LieBehind}
 use Rattle.fc_oldvolume.specs.Writing.{IsMapWritten}
 use Rattle.fc_oldvolume.specs.declared.compacting.Ready.{Ready}
 use Rattle.fc_oldvolume.specs.declared.compacting.moves.Moves.{Moves}
 use Rattle.fc_oldvolume.proofs.ChangeLemmas.{old_layout}
 use Rattle.fc_oldvolume.proofs.CompactReadyLemmas.{all_small, is_ready}
+use Rattle.fc_oldvolume.proofs.RoomLemmas.{is_room, only_room}
 use Rattle.fc_oldvolume.proofs.SetVolumeLemmas.{HasMap, lie_behind}
 
 -- the map that was squashed is of the same disc
@@ -205,6 +208,41 @@ module _ {D : Type 0} (d : Ghosts D) (laws : MoveLaws) (w v : Volume) (same : w 
       → AreMoved (slide_by space space' ready.moves.before.items now) (nodes_of w.tree) nodes → AreDirectoriesPlaced space' nodes
   placed space' now nodes kept squashed moved =
       placed_now laws here.agree.0 space space' (nodes_of w.tree) nodes w.owners ready.moves.before.items now (maps space layout) behind agreed_here are_ready kept squashed moved
+
+  -- each view whose parts these are has room for what is written
+  room_by : (kind : Kind) (view : Opened) (read : Reader) (address size : ℕ) → walk read (Layout.Old space) (reserved_in kind (Layout.Old space)) address size ≡ Ok view.listings
+      → AreSound (Layout.Old space) view.listings → HoldObjects (nodes_of w.tree) view.listings → IsRoom space (nodes_of w.tree) ready.moves.before.items (room_of view space)
+  room_by kind view read address size walked are held =
+      let was = ready.moves.before.items in
+      let units = (maps space layout).units in
+      is_room space (nodes_of w.tree) was view kind read address size walked are held units (laws.sliding space (nodes_of w.tree) view.listings was units are held are_ready.sliding)
+      (λ space' now kept squashed. slides laws here.agree.0 space space' (nodes_of w.tree) (nodes_of w.tree) w.owners was now (maps space layout) behind agreed_here are_ready kept squashed view.listings are held)
+      (λ space' now kept. squashed_map space space' was now kept)
+
+  one_map : {m n : FreeSpace} → Layout.Old m ≡ Layout.Old n → m ≡ n
+  one_map e = cc
+
+  one_list : {x y : List ℕ} → Some x ≡ Some y → x ≡ y
+  one_list e = cc
+
+  pub only_places : (new : D) → ((sectors : List ℕ) → IsRoom space (nodes_of w.tree) ready.moves.before.items sectors → Leaves d old new (IsWritten space sectors)) → CompactsOnlyRoom d (parts_of v) old new
+  only_places new leaves = λ image told.
+      let a = agreed_here in
+      let any : Opened = record { kind = here.agree.0; layout = Layout.Old space; listings = a.listings } in
+      let first = leaves (room_of any space) (room_by here.agree.0 any (reader_of_nodes (nodes_of w.tree)) a.root.entry.address a.root.entry.len a.walked.walked
+      (sound here.agree.0 space (nodes_of w.tree) w.owners a.root a.listings (record { is_map = maps space layout; holes = behind; root_is = a.root_is; walked = a.walked; owned = a.owned })) a.walked.held) image told in (
+        first.0,
+        first.1,
+        λ kind view map opens parts at.
+            (let layout_is : view.layout ≡ Layout.Old space = sym (sym layout ∙ ap (λ (x : Volume). layout_of x.space) same ∙ parts.layout) in
+            let walk_of = opened_walk image kind view opens in
+            let second = leaves (room_of view space) (room_by kind view (reader_of image view.layout) walk_of.address walk_of.size
+            (subst (λ (l : Layout). walk (reader_of image view.layout) l (reserved_in kind l) walk_of.address walk_of.size ≡ Ok view.listings) layout_is walk_of.walked)
+            (subst (λ (l : Layout). AreSound l view.listings) layout_is (sound_law image kind view opens))
+            (subst (λ (x : Volume). HoldObjects (nodes_of x.tree) view.listings) (sym same) parts.nodes)) image told in
+            subst (λ (m : FreeSpace). WritesOnlyRoom view m image first.0) (one_map (sym layout_is ∙ at))
+            (only_room view space image first.0 (subst (IsWritten space (room_of view space) image) (one_list (sym second.1 ∙ first.1)) second.2))),
+      )
 
   module _ (v' : Volume) (new : D) (space' : FreeSpace) (layout' : layout_of v'.space ≡ Layout.Old space') (tree : Numbers) (tree_is : v'.tree ≡ tree) (moves : Moves) (changed : ℕ → Bool)
       (mem : HasSlidInMemory space space' ready.moves.before.items moves (nodes_of w.tree) (nodes_of tree) changed)

@@ -1,10 +1,11 @@
 -- Lists of objects that slide, and addresses afterwards.
-use Rattle.std.proofs.Common.{◌≡◌, ◌<◌, ◌≤◌, ◌⊎◌, inl, inr, ⊎_elim, ℕ, zero, suc, ◌+◌, ◌*◌, ◌/◌, ◌%◌, ◌^◌, Bool, true, false, cond, List, [], ◌∷◌, ◌++◌, length, drop, refl, sym, ap, subst, ◌∙◌, arith, get_or, min}
-use Rattle.std.specs.Prelude.{◌==◌}
+use Rattle.std.proofs.Common.{◌≡◌, ◌<◌, ◌≤◌, ◌⊎◌, inl, inr, ⊎_elim, ℕ, zero, suc, ◌+◌, ◌*◌, ◌^◌, Bool, true, false, cond, List, [], ◌∷◌, ◌++◌, length, drop, refl, sym, ap, subst, ◌∙◌, arith, get_or, min, ne_eqb}
+use Rattle.std.specs.Prelude.{◌==◌, nat_lt}
 use Rattle.std.specs.Int.{div_ceil}
 use Rattle.std.specs.List.{flat_map, range_with_len}
 use Rattle.std.specs.FinMap.{get}
-use Rattle.std.proofs.lemmas.Bool.{cases_lt}
+use Rattle.std.specs.List.Sorted.{IsPartitionPoint}
+use Rattle.std.proofs.lemmas.Bool.{cases_lt, ltb-false, ltb-true}
 use Rattle.std.proofs.lemmas.List.{append-nil}
 use Rattle.std.proofs.lemmas.List.Concat.{flat_map-append}
 use Rattle.fc_oldmap.specs.OldMap.{FreeSpace}
@@ -19,7 +20,7 @@ use Rattle.fc_image.specs.effects.Short.{old_need}
 use Rattle.fc_laws.specs.nodes.Edits.{Nodes}
 use Rattle.fc_oldlaws.specs.moves.After.{parent_after, start_after}
 use Rattle.fc_oldlaws.specs.moves.Nodes.{sliding_at, sliding_below}
-use Rattle.fc_oldvolume.specs.Compacting.{IsLow}
+use Rattle.fc_oldvolume.specs.Compacting.{AreSorted, IsLow}
 
 -- ---- one more
 
@@ -45,16 +46,6 @@ start_found (o ∷ was) [] n d x address low high e = absurd (omega (arith, high
 start_found (o ∷ was) (p ∷ now) zero d x address low high e = ap (λ (b : Bool). cond b p.start (start_after was now address)) e
 start_found (o ∷ was) (p ∷ now) (suc n) d x address low high e = start_found was now n d x address (omega (arith, low)) (omega (arith, high)) e
 
-pub start_later : (was now : List Owned) (n : ℕ) (d : Owned) (address : ℕ) → n < length was → n < length now → ((get_or was n d).start == address) ≡ false
-    → start_after (drop (n + 1) was) (drop (n + 1) now) address ≡ start_after (drop n was) (drop n now) address
-unfolding start_after
-start_later [] now n d address low high e = absurd (omega (arith, low))
-start_later (o ∷ was) [] n d address low high e = absurd (omega (arith, high))
-start_later (o ∷ was) (p ∷ now) zero d address low high e = sym (ap (λ (b : Bool). cond b p.start (start_after was now address)) e)
-start_later (o ∷ was) (p ∷ now) (suc n) d address low high e =
-    let next : suc n + 1 ≡ suc (n + 1) = omega arith in
-    ap (λ (k : ℕ). start_after (drop k (o ∷ was)) (drop k (p ∷ now)) address) next ∙ start_later was now n d address (omega (arith, low)) (omega (arith, high)) e
-
 pub start_none : (was now : List Owned) (n address : ℕ) → (length was ≤ n) ⊎ (length now ≤ n) → start_after (drop n was) (drop n now) address ≡ address
 unfolding start_after
 start_none [] now zero address past = refl
@@ -69,6 +60,67 @@ start_none (o ∷ was) (p ∷ now) zero address (inl past) = absurd (omega (arit
 start_none (o ∷ was) (p ∷ now) zero address (inr past) = absurd (omega (arith, past))
 start_none (o ∷ was) (p ∷ now) (suc n) address (inl past) = start_none was now n address (inl (omega (arith, past)))
 start_none (o ∷ was) (p ∷ now) (suc n) address (inr past) = start_none was now n address (inr (omega (arith, past)))
+
+-- none of the objects before one began there
+skipped : (was now : List Owned) (k address : ℕ) → k ≤ length was → ((i : ℕ) (d : Owned) → i < k → (get_or was i d).start < address) → start_after (drop k was) (drop k now) address ≡ start_after was now address
+unfolding start_after
+skipped was now zero address few low = refl
+skipped [] now (suc k) address few low = absurd (omega (arith, few))
+skipped (o ∷ was) [] (suc k) address few low = by (drop k was)
+  where
+    by : (xs : List Owned) → start_after xs [] address ≡ address
+    by [] = refl
+    by (x ∷ xs) = refl
+skipped (o ∷ was) (p ∷ now) (suc k) address few low =
+    let here : o.start < address = low 0 o (omega arith) in
+    let other : (o.start == address) ≡ false = ne_eqb o.start address (λ e. omega (arith, here, e)) in
+    skipped was now k address (omega (arith, few)) (λ i d lt. low (suc i) d (omega (arith, lt)))
+    ∙ sym (ap (λ (b : Bool). cond b p.start (start_after was now address)) other)
+
+-- all from one on began behind it
+past : (was now : List Owned) (k address : ℕ) → ((i : ℕ) (d : Owned) → k ≤ i → i < length was → address < (get_or was i d).start) → start_after (drop k was) (drop k now) address ≡ address
+unfolding start_after
+past [] now zero address high = refl
+past [] now (suc k) address high = refl
+past (o ∷ was) [] zero address high = refl
+past (o ∷ was) [] (suc k) address high = by (drop k was)
+  where
+    by : (xs : List Owned) → start_after xs [] address ≡ address
+    by [] = refl
+    by (x ∷ xs) = refl
+past (o ∷ was) (p ∷ now) zero address high =
+    let here : address < o.start = high 0 o (omega arith) (omega arith) in
+    let other : (o.start == address) ≡ false = ne_eqb o.start address (λ e. omega (arith, here, e)) in
+    ap (λ (b : Bool). cond b p.start (start_after was now address)) other ∙ past was now 0 address (λ i d le lt. high (suc i) d (omega arith) (omega (arith, lt)))
+past (o ∷ was) (p ∷ now) (suc k) address high = past was now k address (λ i d le lt. high (suc i) d (omega (arith, le)) (omega (arith, lt)))
+
+-- What a search by halves finds: k is the first that began there or behind.
+module _ (was now : List Owned) (k address : ℕ) (few : k ≤ length was) (cut : IsPartitionPoint (λ (o : Owned). nat_lt o.start address ≡ true) (λ (o : Owned). nat_lt o.start address ≡ false) was k) where
+  same : start_after (drop k was) (drop k now) address ≡ start_after was now address
+  same = skipped was now k address few (λ i d lt. ltb-true _ _ (cut.0 i d (omega arith) lt))
+
+  pub start_first : (d x : Owned) → k < length was → k < length now → ((get_or was k d).start == address) ≡ true → (get_or now k x).start ≡ start_after was now address
+  start_first d x low high e = sym (start_found was now k d x address low high e) ∙ same
+
+  pub start_nowhere : (length was ≤ k) ⊎ (length now ≤ k) → address ≡ start_after was now address
+  start_nowhere over = sym (start_none was now k address over) ∙ same
+
+  pub start_behind : (d : Owned) → AreSorted was → k < length was → ((get_or was k d).start ≡ address → ⊥) → address ≡ start_after was now address
+  start_behind d sorted low other =
+      sym (past was now k address (λ i e le lt. (
+      let here : address ≤ (get_or was k e).start = ltb-false _ _ (cut.1 k e (omega arith) low) in
+      let rise : (get_or was k e).start ≤ (get_or was i e).start = sorted k i e le lt in
+      let apart : (get_or was k e).start ≡ address → ⊥ = λ same. other (ap (λ (o : Owned). o.start) (in_range was k d e low) ∙ same) in
+      strict here rise apart)))
+      ∙ same
+    where
+      strict : {a b c : ℕ} → a ≤ b → b ≤ c → (b ≡ a → ⊥) → a < c
+      strict here rise apart = grind (arith, here, rise, apart)
+
+      in_range : (xs : List Owned) (i : ℕ) (d e : Owned) → i < length xs → get_or xs i d ≡ get_or xs i e
+      in_range [] i d e lt = absurd (omega (arith, lt))
+      in_range (x ∷ xs) zero d e lt = refl
+      in_range (x ∷ xs) (suc i) d e lt = in_range xs i d e (omega (arith, lt))
 
 -- ---- units
 

@@ -1,12 +1,15 @@
 -- `delete` on a disc with an old map: from what is ready in memory and written, to what it promises.
-use Rattle.std.proofs.Common.{◌≡◌, ◌≤◌, ◌-◌, ◌||◌, inl, inr, ℕ, Bool, false, cond, List, ◌∷◌, length, remove, ◌++◌, Some, None, refl, sym, ap, subst, ◌∙◌}
+use Rattle.std.proofs.Common.{◌≡◌, ◌≤◌, ◌-◌, ◌||◌, inl, inr, ℕ, Bool, false, cond, List, ◌∷◌, length, remove, ◌++◌, Some, None, refl, sym, ap, subst, ◌∙◌, ◌*◌, true, arith}
 use Rattle.std.specs.Prelude.{Contains, IsPermutation, Option, Ok}
 use Rattle.std.specs.FinMap.{remove as take}
+use Rattle.std.proofs.lemmas.Bool.{ltb-false}
+use Rattle.fc_image.proofs.LookupLemmas.{lookup_law}
+use Rattle.fc_tree.proofs.WalkedLemmas.{contained, same_some}
 use Rattle.fc_bytes.specs.Words.{bytes_at}
 use Rattle.fc_device.specs.Sectors.{sector_at}
 use Rattle.fc_alloc.specs.declared.owner.Owner.{Owner}
 use Rattle.fc_alloc.specs.Owners.{has_node}
-use Rattle.fc_names.specs.Names.{Path}
+use Rattle.fc_names.specs.Names.{Path, is_same_path}
 use Rattle.fc_record.specs.declared.Kind.{Kind}
 use Rattle.fc_oldmap.specs.Holes.{hole_limit}
 use Rattle.fc_oldmap.specs.OldMap.{FreeSpace, IsOldMap}
@@ -17,7 +20,7 @@ use Rattle.fc_drafts.specs.Draft.{directory_in, size_of}
 use Rattle.fc_drafts.specs.Rewriting.{HasLeft}
 use Rattle.fc_image.specs.effects.Short.{with_space_of}
 use Rattle.fc_image.specs.effects.Steady.{has_grown, has_new_holder}
-use Rattle.fc_image.specs.Layout.{Layout, dir_form, sector_bytes}
+use Rattle.fc_image.specs.Layout.{Layout, dir_form, is_apart, map_place, sector_bytes}
 use Rattle.fc_image.specs.Edits.{IsAt}
 use Rattle.fc_image.specs.InPlace.{says_now}
 use Rattle.fc_image.specs.Objects.{has_sectors, objects_of}
@@ -46,7 +49,7 @@ use Rattle.fc_oldvolume.specs.declared.removal.Removal.{Removal}
 use Rattle.fc_oldvolume.specs.Changing.{WritesPlaces}
 use Rattle.fc_oldvolume.specs.Deleting.{IsDeleteReady, IsMapDone, IsWrittenWithout, map_after}
 use Rattle.fc_oldvolume.specs.Laws.{OldLaws}
-use Rattle.fc_oldvolume.specs.Spaces.{GivesBack, LieBehind}
+use Rattle.fc_oldvolume.specs.Spaces.{GivesBack, LieBehind, units_of}
 use Rattle.fc_oldvolume.specs.Writing.{IsMapWritten}
 use Rattle.fc_oldvolume.proofs.GoingLemmas.{MayGoIn}
 use Rattle.fc_oldvolume.proofs.GoingLemmas as going
@@ -136,7 +139,7 @@ module _ (laws : OldLaws) (space : FreeSpace) (nodes : Nodes) (path : Path) (t :
     abbrev among_o : Contains (objects_of listings) o
     among_o = going.among nodes path t is.targets (Layout.Old space) listings sound held
 
-    abbrev placed_o : IsAt (Layout.Old space) o
+    abbrev pub placed_o : IsAt (Layout.Old space) o
     placed_o = going.placed nodes path t is.targets (Layout.Old space) listings sound held
 
     -- the entry of the object's node
@@ -295,6 +298,29 @@ module _ (laws : OldLaws) (space : FreeSpace) (nodes : Nodes) (path : Path) (t :
           nodes_follow = nodes_follow view.listings view_sound hold;
           owners_follow = subst (λ (x : FreeSpace). OwnersFollow owners' nodes' (Layout.Old x) (listings' view.listings view_sound hold)) same (owners_follow view.listings view_sound hold owners owners' owned go);
         }))
+
+    -- the directory lies apart from the map
+    pub off_map : is_apart sectors (map_place (Layout.Old space)) ≡ true
+    off_map = subst (λ (xs : List ℕ). is_apart xs (map_place (Layout.Old space)) ≡ true) (sym (sectors_are view.listings view_sound hold))
+        (laws.objects.no_map kind was view space d.object before (among view.listings view_sound hold))
+
+    none_given : (map : Option FreeSpace) (e : Entry) → GivesBack space e (Ok map) → units_of space e ≡ 0 → map ≡ None
+    none_given None e g z = refl
+    none_given (Some now) e g z = let some = g.0 in absurd (omega (arith, some, z))
+
+    -- no space goes back if the object has none
+    pub spares : (q : Object) → Contains (objects_of view.listings) q → is_same_path path q.path ≡ true → has_sectors q ≡ false → r.map ≡ None
+    spares q at_q same none =
+        let tg = target view.listings view_sound hold in
+        let p = o view.listings view_sound hold in
+        let child = laws.objects.child kind was view space d p before tg.listed (contained d.children t.at p tg.at) in
+        let one : q ≡ p = same_some q p
+        (sym (lookup_law.object (Layout.Old space) view.listings path q view_sound at_q same) ∙ lookup_law.object (Layout.Old space) view.listings path p view_sound child tg.path_is) in
+        let few : length q.sectors ≤ 0 = ltb-false 0 (length q.sectors) none in
+        let zero : length p.sectors ≡ 0 = subst (λ (x : Object). length x.sectors ≡ 0) one (omega (arith, few)) in
+        let size = laws.spaces.size space p (placed_o view.listings view_sound hold) in
+        let product : 0 * space.sector_units ≡ 0 = omega arith in
+        none_given r.map p.entry (gives view.listings view_sound hold) (sym size ∙ ap (λ (n : ℕ). n * space.sector_units) zero ∙ product)
 
     -- which sectors may be written
     pub writes_places : (image : List ℕ) → IsWritten space sectors was image → WritesPlaces view space (Command.Delete path) was image

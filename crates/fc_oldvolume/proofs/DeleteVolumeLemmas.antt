@@ -1,5 +1,5 @@
 -- `delete` of a volume with an old map: what it changes, and what the volume stands for afterwards.
-use Rattle.std.proofs.Common.{◌≡◌, ◌<◌, ◌≤◌, ℕ, List, sym, ap, subst, ◌∙◌, Some, None, arith}
+use Rattle.std.proofs.Common.{◌≡◌, ◌<◌, ◌≤◌, ℕ, List, refl, sym, ap, subst, ◌∙◌, Some, None, arith}
 use Rattle.std.specs.Prelude.{All, Err, Ok, Option, false}
 use Rattle.std.specs.Option.{ForSome}
 use Rattle.fc_alloc.specs.Owners.{has_node}
@@ -16,7 +16,11 @@ use Rattle.fc_image.specs.Sound.{AreSound}
 use Rattle.fc_image.specs.Stays.{HasEqualCopies, OpensAs}
 use Rattle.fc_image.specs.Walk.{object_size}
 use Rattle.fc_objects.specs.Extents.{sectors_in}
-use Rattle.fc_oldchanges.specs.Owed.{IsWritten, holding}
+use Rattle.fc_objects.specs.Written.{IsPartWritten}
+use Rattle.fc_oldchanges.specs.Owed.{IsWritten, MapStays, holding}
+use Rattle.fc_squash.specs.Places.{Leaves}
+use Rattle.fc_oldvolume.specs.Sparing.{SparesMap}
+use Rattle.fc_oldvolume.proofs.ChangeLemmas.{one_space}
 use Rattle.fc_oldlaws.specs.takeover.Laws.{TakesOver}
 use Rattle.fc_refusals.specs.declared.target.Target.{Target}
 use Rattle.fc_space.specs.Space.{PlacesSuffice, layout_of}
@@ -132,6 +136,20 @@ module _ {D : Type 0} (d : Ghosts D) (laws : OldLaws) (space : FreeSpace) (v v' 
       → WritesPlaces view space (Command.Delete path) was image
   places_of kind view was image opens held w = deleted.writes_places laws space (nodes_of v.tree) path t r is kind was view opens (sym held.layout ∙ layout) held.nodes image w
 
+  pub spares_map : (r.map ≡ None → Leaves d old new (IsPartWritten (sector_bytes (layout_of v.space)) sectors r.directory.bytes.items)) → SparesMap d path (parts_of v) old new
+  spares_map leaves image told other now kind view map q opens held at among same none =
+      let at_space = sym held.layout ∙ layout in
+      let gone = deleted.spares laws space (nodes_of v.tree) path t r is kind image view opens at_space held.nodes q among same none in
+      let w = leaves gone image told in
+      let part = subst (λ (l : Layout). IsPartWritten (sector_bytes l) sectors r.directory.bytes.items image w.0) layout w.2 in
+      let off = deleted.off_map laws space (nodes_of v.tree) path t r is kind image view opens at_space held.nodes in
+      let stays = (laws.writes.step space sectors r.directory.bytes.items image w.0 off part).map_stays in
+      subst (λ (m : FreeSpace). MapStays m image other) (one_space view.layout space map at_space at)
+      (subst (MapStays space image) (one_image (sym w.1 ∙ now)) stays)
+    where
+      one_image : {x y : List ℕ} → Some x ≡ Some y → x ≡ y
+      one_image e = cc
+
   module _ (has : HasRemoved v v' r) (done : ForSome (d.bytes old) (λ was. ForSome (d.bytes new) (IsWrittenWithout (layout_of v.space) r was)))
       (exits : StopsAndExitsLeave d old new (IsWritten space sectors)) where
     go : OwnersGo v.owners v'.owners t.node
@@ -196,3 +214,11 @@ module _ {D : Type 0} (d : Ghosts D) (laws : OldLaws) (space : FreeSpace) (v v' 
 pub edit_of : (space : FreeSpace) (e : Entry) (map : Option FreeSpace) → GivesBack space e (Ok map) → IsEditOf space map
 edit_of space e None none = tt
 edit_of space e (Some other) gives = gives.1 ∙ ap (λ (m : FreeSpace). holding space m.holes) (sym gives.1)
+
+-- if nothing is written
+pub spares_same : {D : Type 0} (d : Ghosts D) (path : Path) (was : Parts) (disk : D) → SparesMap d path was disk disk
+spares_same d path was disk image told other now kind view map q opens held at among same none =
+    subst (MapStays map image) (one_image (sym told ∙ now)) (λ s within. refl)
+  where
+    one_image : {x y : List ℕ} → Some x ≡ Some y → x ≡ y
+    one_image e = cc

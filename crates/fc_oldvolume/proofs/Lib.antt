@@ -43,5 +43,6 @@ pub mod CompactingLemmas
 pub mod ReaddressLemmas
 pub mod NumbersLemmas
 pub mod RowsLemmas
+mod RoomLemmas
 pub mod CompactReadyLemmas
 pub mod CompactVolumeLemmas

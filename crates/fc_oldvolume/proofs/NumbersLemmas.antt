@@ -1,9 +1,10 @@
 -- Nodes and owners that are changed one number after another.
-use Rattle.std.proofs.Common.{◌≡◌, ◌<◌, ◌≤◌, inl, inr, ⊎_elim, ℕ, zero, suc, ◌+◌, ◌^◌, Bool, true, false, cond, List, [], ◌∷◌, length, map, refl, sym, ap, subst, ◌∙◌, arith, Option, Some, None, eq-eqb, ne_eqb, get_or}
+use Rattle.std.proofs.Common.{◌≡◌, ◌<◌, ◌≤◌, inl, inr, ℕ, zero, suc, ◌+◌, ◌^◌, Bool, true, false, cond, List, [], ◌∷◌, length, map, refl, sym, ap, subst, ◌∙◌, arith, Option, Some, None, eq-eqb, ne_eqb, get_or}
 use Rattle.std.specs.Prelude.{◌==◌, ◌||◌, Contains, nat_eq, slice_get, slice_set}
 use Rattle.std.specs.List.{AllByRecursion, IsDistinct}
 use Rattle.std.specs.Option.{option_map, option_map_or}
-use Rattle.std.specs.FinMap.{get, len}
+use Rattle.std.specs.FinMap.{get, len, same_map, nat_cmp-IsAntisymmetric}
+use Rattle.std.specs.Cmp.{nat_cmp_total}
 use Rattle.std.proofs.lemmas.Bool.{cases_eq, cases_lt}
 use Rattle.fc_names.specs.declared.name.NameForm.{NameForm}
 use Rattle.fc_alloc.specs.declared.owner.Owner.{Owner}
@@ -24,9 +25,19 @@ use Rattle.fc_squash.specs.Squashing.{AreBodies}
 use Rattle.fc_tree.proofs.WalkedLemmas.{place_of}
 use Rattle.fc_oldvolume.specs.declared.compacting.moves.Moves.{Moves}
 use Rattle.fc_oldlaws.specs.moves.Nodes.{AreMoved, body_after, node_after, node_owner, remade}
-use Rattle.fc_oldlaws.specs.moves.Writes.{IsDirAt, MarkChanges}
+use Rattle.fc_oldlaws.specs.moves.Writes.{MarkChanges}
 use Rattle.fc_oldvolume.specs.Compacting.{AreAddressed, AreLeft, AreReaddressed, AreSpares, IsLow, IsRemade, addressed, changes_at, entries_at, first_changed, is_changed, marks, readdressed_node, slide_of}
 use Rattle.fc_oldvolume.specs.declared.compacting.directories.Spare.{Spare}
+
+-- ---- nodes that stay
+
+-- a node that is what it would become
+pub unchanged : (nodes : Nodes) (n : ℕ) (node : Node) (f : Node → Node) → Some node ≡ get nodes n → f node ≡ node → nodes ≡ with_edited n f nodes
+unchanged nodes n node f there same = same_map nat_cmp_total nat_cmp-IsAntisymmetric nodes (with_edited n f nodes) (λ m. elim (cases_eq m n) [
+  | inl here ↦ subst (λ (k : ℕ). get nodes k ≡ get (with_edited n f nodes) k) (sym here)
+      (sym there ∙ ap (λ (x : Node). Some x) (sym same) ∙ ap (option_map f) there ∙ sym (edited_here nodes n f))
+  | inr other ↦ sym (edited_other nodes n f m other)
+])
 
 -- ---- lists
 

@@ -21,7 +21,7 @@ use Rattle.fc_volume.specs.Changing.{HasChanged}
 use Rattle.fc_volume.specs.Relocating.{HasRelocated, relocated, with_owner}
 use Rattle.fc_volume.specs.Volume.{HasCopies, HoldsMap, StandsFor, Volume, parts_of}
 use Rattle.fc_oldvolume.specs.Relocating.{LieOffMap, WritesRelocation}
-use Rattle.fc_oldvolume.specs.Renaming.{WritesNoMap}
+use Rattle.fc_oldvolume.specs.Changing.{WritesNoMap}
 use Rattle.fc_oldvolume.proofs.ChangeLemmas.{one_space}
 use Rattle.fc_oldvolume.proofs.WritingLemmas.{kept_to}
 

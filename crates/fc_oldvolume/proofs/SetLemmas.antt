@@ -12,7 +12,7 @@ use Rattle.fc_drafts.specs.Draft.{directory_in, size_of}
 use Rattle.fc_drafts.specs.Entries.{set_entry}
 use Rattle.fc_drafts.specs.Rewriting.{HasReplaced}
 use Rattle.fc_image.specs.effects.Steady.{has_grown, has_new_holder}
-use Rattle.fc_image.specs.Layout.{Layout, dir_form, sector_bytes}
+use Rattle.fc_image.specs.Layout.{Layout, dir_form, is_apart, map_place, sector_bytes}
 use Rattle.fc_image.specs.Commanded.{set_object}
 use Rattle.fc_image.specs.Edits.{IsAt}
 use Rattle.fc_image.specs.InPlace.{says_now}
@@ -220,6 +220,11 @@ module _ (laws : OldLaws) (space : FreeSpace) (nodes : Nodes) (path : Path) (loa
         })
         (edit view.listings view_sound hold)
         (record { nodes_follow = nodes_follow view.listings view_sound hold; owners_follow = owners_follow view.listings view_sound hold owners owned })
+
+    -- the directory lies apart from the map
+    pub off_map : is_apart sectors (map_place (Layout.Old space)) ≡ true
+    off_map = subst (λ (xs : List ℕ). is_apart xs (map_place (Layout.Old space)) ≡ true) (sym (sectors_are view.listings view_sound hold))
+        (laws.objects.no_map kind was view space d.object before (among view.listings view_sound hold))
 
     -- which sectors may be written
     pub writes_places : (image : List ℕ) → IsWritten space sectors was image → WritesPlaces view space (Command.Set path load exec access) was image

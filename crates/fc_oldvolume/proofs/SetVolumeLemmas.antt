@@ -17,7 +17,7 @@ use Rattle.fc_image.specs.Stays.{HasEqualCopies, OpensAs}
 use Rattle.fc_image.specs.Walk.{Listing, object_size}
 use Rattle.fc_objects.specs.Extents.{sectors_in}
 use Rattle.fc_objects.specs.Written.{IsPartWritten}
-use Rattle.fc_oldchanges.specs.Owed.{IsWritten}
+use Rattle.fc_oldchanges.specs.Owed.{IsWritten, MapStays}
 use Rattle.fc_oldlaws.specs.takeover.Laws.{TakesOver}
 use Rattle.fc_refusals.specs.declared.target.Target.{Target}
 use Rattle.fc_refusals.specs.Targets.{IsTarget}
@@ -33,10 +33,12 @@ use Rattle.fc_volume.specs.Rewrites.{HoldsEntry}
 use Rattle.fc_volume.specs.Setting.{HasReworded, IsSetReady}
 use Rattle.fc_volume.specs.Volume.{HasCopies, HoldsMap, StandsFor, Volume, parts_of}
 use Rattle.fc_volume.proofs.PieceLemmas.{all_low}
-use Rattle.fc_oldvolume.specs.Changing.{WritesPlaces}
+use Rattle.fc_oldvolume.specs.Changing.{WritesNoMap, WritesPlaces}
 use Rattle.fc_oldvolume.specs.Laws.{OldLaws}
 use Rattle.fc_oldvolume.specs.Setting.{AreStored}
 use Rattle.fc_oldvolume.specs.Spaces.{LieBehind}
+use Rattle.fc_oldvolume.proofs.ChangeLemmas.{one_space}
+use Rattle.fc_oldvolume.proofs.WritingLemmas.{kept_to}
 use Rattle.fc_oldvolume.proofs.SetLemmas.{IsReady}
 use Rattle.fc_oldvolume.proofs.SetLemmas as set
 use Rattle.fc_oldvolume.proofs.TargetLemmas.{holds_entry}
@@ -73,6 +75,14 @@ module _ {D : Type 0} (d : Ghosts D) (laws : OldLaws) (space : FreeSpace) (v v' 
   pub places_of : (kind : Kind) (view : Opened) (was image : List ℕ) → OpensAs was kind view → ArePartsOf (parts_of v) view → IsWritten space sectors was image
       → WritesPlaces view space (Command.Set path load exec access) was image
   places_of kind view was image opens held w = set.writes_places laws space (nodes_of v.tree) path load exec access t r is kind was view opens (sym held.layout ∙ layout) held.nodes image w
+
+  pub map_unwritten : StopsAndExitsLeave d old new (IsPartWritten (sector_bytes (layout_of v.space)) sectors bytes) → WritesNoMap d (parts_of v) old new
+  map_unwritten exits was told image now other at =
+      let s = stands.image was told in
+      let part = subst (λ (l : Layout). IsPartWritten (sector_bytes l) sectors bytes was image) layout (kept_to d exits was image told now) in
+      subst (λ (x : FreeSpace). MapStays x was image) (one_space (layout_of v.space) space other layout at)
+      (laws.writes.step space sectors bytes was image
+      (set.off_map laws space (nodes_of v.tree) path load exec access t r is s.0 was s.1 s.2 (sym s.3.layout ∙ layout) s.3.nodes) part).map_stays
 
   module _ (has : HasReworded v v' r) (stored : ForSome (d.bytes old) (λ was. ForSome (d.bytes new) (AreStored (sector_bytes (layout_of v.space)) sectors bytes was)))
       (exits : StopsAndExitsLeave d old new (IsPartWritten (sector_bytes (layout_of v.space)) sectors bytes)) where

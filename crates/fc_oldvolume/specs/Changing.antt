@@ -13,7 +13,7 @@ use Rattle.fc_image.specs.Layout.{Layout}
 use Rattle.fc_image.specs.Opening.{Opened}
 use Rattle.fc_image.specs.Stays.{OpensAs}
 use Rattle.fc_tree.specs.Parts.{ArePartsOf, Parts}
-use Rattle.fc_oldchanges.specs.Owed.{IsWritten}
+use Rattle.fc_oldchanges.specs.Owed.{IsWritten, MapStays}
 use Rattle.fc_oldlaws.specs.takeover.Places.{AreSpared, MayBeWritten}
 use Rattle.fc_volume.specs.declared.lines.CommandError.{CommandError}
 use Rattle.fc_volume.specs.declared.lines.CommandError.TheVariants.{DiskFault}
@@ -39,6 +39,10 @@ pub record WritesPlaces (view : Opened) (space : FreeSpace) (c : Command) (image
 abbrev pub WritesOnlyPlaces : {D : Type 0} → Ghosts D → Command → Parts → D → D → Type 0
 WritesOnlyPlaces d c was old new = ForSome (d.bytes old) (λ image. (other : List ℕ) × (d.bytes new ≡ Some other)
     × ((kind : Kind) (view : Opened) (space : FreeSpace) → OpensAs image kind view → ArePartsOf was view → view.layout ≡ Layout.Old space → WritesPlaces view space c image other))
+
+-- No sector of the map is another than before, if the disk tells its bytes.
+abbrev pub WritesNoMap : {D : Type 0} → Ghosts D → Parts → D → D → Type 0
+WritesNoMap d was old new = ForSome (d.bytes old) (λ image. ForSome (d.bytes new) (λ other. (space : FreeSpace) → was.layout ≡ Layout.Old space → MapStays space image other))
 
 -- ---- what stays, whatever is known of the disk's bytes
 

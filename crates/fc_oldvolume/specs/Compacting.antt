@@ -1,5 +1,5 @@
 -- What compaction of a volume with an old map makes ready and leaves, in memory and on the disk.
-use Rattle.std.specs.Prelude.{◌≡◌, ◌<◌, ◌≤◌, ◌++◌, ◌∷◌, ◌^◌, ◌==◌, ℕ, Bool, false, not, List, [], zero, suc, length, map, Option, Some, None, slice_get, slice_set, IsPermutation}
+use Rattle.std.specs.Prelude.{◌≡◌, ◌<◌, ◌≤◌, ◌++◌, ◌∷◌, ◌^◌, ◌==◌, ℕ, Bool, true, false, not, List, [], zero, suc, length, map, Option, Some, slice_get, slice_set, IsPermutation}
 use Rattle.std.specs.Ordering.{nat_cmp}
 use Rattle.std.specs.FinMap.{FinMap, get, len}
 use Rattle.std.specs.Option.{ForSome, option_map, option_map_or}
@@ -10,16 +10,23 @@ use Rattle.fc_dirs.specs.Small.{SmallDir, tail_of}
 use Rattle.fc_dirs.specs.SmallBytes.{IsWrittenSmall}
 use Rattle.fc_device.specs.declared.disk.Disk.{Ghosts}
 use Rattle.fc_device.specs.Sectors.{sector_at}
-use Rattle.fc_image.specs.Layout.{Layout, bytes_in, dir_form, is_among, sector_bytes}
-use Rattle.fc_image.specs.Walk.{object_size}
-use Rattle.std.specs.List.{range_with_len}
+use Rattle.fc_image.specs.Layout.{Layout, bytes_in, dir_form, hole_sectors, is_among, sector_bytes}
+use Rattle.fc_image.specs.Objects.{objects_of}
+use Rattle.fc_image.specs.Opening.{Opened}
+use Rattle.fc_image.specs.Stays.{HasSectorsOf, OpensAs}
+use Rattle.fc_image.specs.Walk.{Object, object_size}
+use Rattle.std.specs.List.{flat_map, range_with_len}
 use Rattle.fc_image.specs.effects.Settled.{has_same_places}
+use Rattle.fc_image.specs.effects.Steady.{lost_sectors}
 use Rattle.fc_tree.specs.declared.node.Body.{Body}
 use Rattle.fc_tree.specs.declared.node.Body.TheVariants as bodies
 use Rattle.fc_tree.specs.declared.node.Node.{Node}
 use Rattle.fc_tree.specs.Counts.{address_in}
 use Rattle.fc_oldlaws.specs.moves.After.{Slide, entry_after, readdressed}
 use Rattle.fc_oldmap.specs.OldMap.{FreeSpace}
+use Rattle.fc_oldchanges.specs.Owed.{IsWritten}
+use Rattle.fc_record.specs.declared.Kind.{Kind}
+use Rattle.fc_tree.specs.Parts.{ArePartsOf, Parts}
 use Rattle.fc_alloc.specs.declared.owner.Owner.{Owner}
 use Rattle.fc_oldlaws.specs.moves.Laws.{AgreedLaw, BehindLaw, DirectoriesLaw, ReadyLaw, RewrittenLaw, SlidingLaw, TakenOverLaw}
 use Rattle.fc_oldlaws.specs.moves.Nodes.{AreMoved, AreRemade, body_after, remade, sliding_below}
@@ -33,7 +40,7 @@ use Rattle.fc_oldvolume.specs.declared.compacting.moves.Moves.{Moves}
 use Rattle.fc_oldvolume.specs.Writing.{IsMapWritten}
 use Rattle.fc_oldlaws.specs.moves.Writes.{AreDirectoriesWritten, IsDirAt, MarkChanges, row_of}
 use Rattle.fc_image.specs.declared.effects.Owned.{Owned}
-use Rattle.fc_image.specs.effects.Moves.{Squashed, SquashedBytes}
+use Rattle.fc_image.specs.effects.Moves.{Squashed, SquashedBytes, is_in_body, is_in_hole}
 use Rattle.fc_squash.specs.Squashing.{KeepsBodies}
 use Rattle.fc_oldvolume.specs.declared.compacting.directories.Spare.{Spare}
 
@@ -43,6 +50,10 @@ use Rattle.fc_oldvolume.specs.declared.compacting.directories.Spare.{Spare}
 pub record IsLow (move : ℕ → ℕ) : Type 0 where
   pub stays : (a : ℕ) → a < 2 ^ 24 → move a < 2 ^ 24
   pub moved : (a : ℕ) → (a == move a) ≡ false → move a < 2 ^ 24
+
+-- The objects are sorted by where they begin.
+abbrev pub AreSorted : List Owned → Type 0
+AreSorted owned = IsNonDecreasingBy (λ o. o.start) owned
 
 -- ---- copies of entries
 
@@ -164,11 +175,38 @@ abbrev pub DirectoriesWrittenBy : {D : Type 0} → Ghosts D → D → D → Free
 DirectoriesWrittenBy d old new space nodes changed bound =
     ForSome (d.bytes old) (λ was. (image : List ℕ) × (d.bytes new ≡ Some image) × AreDirectoriesWritten space nodes changed bound was image)
 
--- ---- all of it
+-- ---- which sectors are written
 
 -- the slide of a volume, by its map before and after and by the objects
 abbrev pub slide_by : FreeSpace → FreeSpace → List Owned → List Owned → Slide
 slide_by space space' was now = record { space = space; holes = space'.holes; was = was; now = now }
+
+-- These sectors have the directories of the nodes.
+abbrev pub HaveDirectories : FreeSpace → FinMap nat_cmp Node → List ℕ → Type 0
+HaveDirectories space nodes sectors = (n : ℕ) (node : Node) (dir : SmallDir) → IsDirAt nodes n node dir → (t : ℕ) → is_among (row_of space node.entry) t ≡ true → is_among sectors t ≡ true
+
+-- They have all holes, the objects that slide, and the directories wherever those slide to.
+pub record IsRoom (space : FreeSpace) (nodes : FinMap nat_cmp Node) (was : List Owned) (sectors : List ℕ) : Type 0 where
+  pub holes : (t : ℕ) → is_in_hole space.sector_units space.holes t ≡ true → is_among sectors t ≡ true
+  pub objects : (t : ℕ) → is_in_body space.sector_units was t ≡ true → is_among sectors t ≡ true
+  pub directories : (space' : FreeSpace) (now : List Owned) (nodes' : FinMap nat_cmp Node) → KeepsBodies space space' was now → Squashed space space' was now
+      → AreMoved (slide_by space space' was now) nodes nodes' → HaveDirectories space' nodes' sectors
+
+-- the sectors of all holes and of all objects
+abbrev pub room_of : Opened → FreeSpace → List ℕ
+room_of view space = hole_sectors (Layout.Old space) ++ flat_map (λ (o : Object). o.sectors) (objects_of view.listings)
+
+-- At every exit, also after an I/O error: no sectors are written but those of the map, of holes and of objects. So lost space stays.
+pub record WritesOnlyRoom (view : Opened) (space : FreeSpace) (image other : List ℕ) : Type 0 where
+  pub written : IsWritten space (room_of view space) image other
+  pub lost : HasSectorsOf (sector_bytes (Layout.Old space)) (lost_sectors space (objects_of view.listings)) image other
+
+-- It is so if the disk tells its bytes.
+abbrev pub CompactsOnlyRoom : {D : Type 0} → Ghosts D → Parts → D → D → Type 0
+CompactsOnlyRoom d was old new = ForSome (d.bytes old) (λ image. (other : List ℕ) × (d.bytes new ≡ Some other)
+    × ((kind : Kind) (view : Opened) (space : FreeSpace) → OpensAs image kind view → ArePartsOf was view → view.layout ≡ Layout.Old space → WritesOnlyRoom view space image other))
+
+-- ---- all of it
 
 abbrev pub slide_of : FreeSpace → FreeSpace → Moves → Slide
 slide_of space space' moves = slide_by space space' moves.before.items moves.after.items
@@ -190,7 +228,7 @@ HasSlidOnDisk d old new space space' moves nodes changed bound =
 -- All memory is there, and the objects are sorted by where they begin.
 pub record IsReadyToCompact (layout : Layout) (nodes : FinMap nat_cmp Node) (bound : ℕ) (r : Ready) : Type 0 where
   pub all : (space : FreeSpace) → layout ≡ Layout.Old space → IsPermutation (sliding_below space nodes bound) r.moves.before.items
-  pub sorted : IsNonDecreasingBy (λ o. o.start) r.moves.before.items
+  pub sorted : AreSorted r.moves.before.items
   pub resting : r.moves.after.items ≡ r.moves.before.items
   pub spares : AreSpares nodes bound r.spares.items
 

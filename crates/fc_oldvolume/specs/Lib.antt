@@ -16,3 +16,4 @@ pub mod FilingLaws
 pub mod Replacing
 pub mod Saving
 pub mod Compacting
+pub mod Sparing

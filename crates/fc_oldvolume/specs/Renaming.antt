@@ -2,8 +2,6 @@
 use Rattle.std.specs.Prelude.{◌≡◌, ℕ, Bool, IsTrue, List, None, Some}
 use Rattle.std.specs.Ordering.{nat_cmp}
 use Rattle.std.specs.FinMap.{FinMap, get}
-use Rattle.std.specs.Option.{ForSome}
-use Rattle.fc_device.specs.declared.disk.Disk.{Ghosts}
 use Rattle.fc_dirs.specs.Directory.{Directory}
 use Rattle.fc_dirs.specs.Small.{SmallDir, is_full_small}
 use Rattle.fc_image.specs.Layout.{Layout, dir_form}
@@ -14,14 +12,11 @@ use Rattle.fc_model.specs.Answer.{first_of, reasons}
 use Rattle.fc_model.specs.Command.{Command}
 use Rattle.fc_model.specs.Tree.{last_name}
 use Rattle.fc_names.specs.Names.{Path, is_writable}
-use Rattle.fc_oldchanges.specs.Owed.{MapStays}
-use Rattle.fc_oldmap.specs.OldMap.{FreeSpace}
 use Rattle.fc_refusals.specs.declared.target.Renaming.{Renaming}
 use Rattle.fc_refusals.specs.Slots.{IsRenaming}
 use Rattle.fc_space.specs.Space.{layout_of}
 use Rattle.fc_tree.specs.declared.node.Node.{Node}
 use Rattle.fc_tree.specs.Nodes.{HoldObjects, body_in, nodes_of}
-use Rattle.fc_tree.specs.Parts.{Parts}
 use Rattle.fc_volume.specs.Volume.{Volume}
 
 -- What is renamed is right for each walk whose objects the nodes of a volume hold, and the model refuses nothing. The name may be
@@ -35,7 +30,3 @@ pub record IsAccepted (v : Volume) (from to : Path) (r : Renaming) : Type 0 wher
 -- It says whether the small directory of the node has as many entries as it can hold.
 abbrev pub SaysFull : FinMap nat_cmp Node → ℕ → Bool → Type 0
 SaysFull nodes n full = (node : Node) (dir : SmallDir) → get nodes n ≡ Some node → node.body ≡ body_in (Directory.Small dir) → full ≡ is_full_small dir
-
--- No sector of the map is another than before, if the disk tells its bytes.
-abbrev pub WritesNoMap : {D : Type 0} → Ghosts D → Parts → D → D → Type 0
-WritesNoMap d was old new = ForSome (d.bytes old) (λ image. ForSome (d.bytes new) (λ other. (space : FreeSpace) → was.layout ≡ Layout.Old space → MapStays space image other))

@@ -13,6 +13,8 @@ ghost use Rattle.fc_oldlaws.specs.moves.After.{start_after};
 ghost use Rattle.fc_oldlaws.specs.moves.Nodes.{AreMoved};
 ghost use Rattle.fc_oldlaws.specs.moves.Writes.{AreDirectoriesPlaced, MarkChanges};
 ghost use Rattle.fc_space.specs.Space.{layout_of};
+ghost use Rattle.fc_oldchanges.specs.Owed.{IsWritten};
+ghost use Rattle.fc_squash.specs.Places.{ChangesRoom, Leaves};
 ghost use Rattle.fc_squash.specs.Sliding.{TellsAsBefore, TimeGoesOn};
 ghost use Rattle.fc_squash.specs.Squashing.{AreBodies, KeepsBodies, SquashedBy};
 ghost use Rattle.fc_tree.specs.Nodes.{bound_of, nodes_of};
@@ -20,7 +22,7 @@ ghost use Rattle.fc_tree.specs.declared.node.Node.{Node};
 ghost use Rattle.fc_volume.specs.Compacting.{CompactsParts, UnlessFault};
 ghost use Rattle.fc_volume.specs.Volume.{StandsFor, parts_of};
 ghost use Rattle.fc_oldvolume.specs.Changing.{ChangeKeeps, IsOldLayout};
-ghost use Rattle.fc_oldvolume.specs.Compacting.{AreSpares, HasSlidInMemory, HasSlidOnDisk, HasSquashed, IsLow, IsNotBig, IsReadyToCompact, IsRewrittenBy, MoveLaws, marks, slide_by, slide_of};
+ghost use Rattle.fc_oldvolume.specs.Compacting.{AreSorted, AreSpares, CompactsOnlyRoom, HasSlidInMemory, HasSlidOnDisk, HasSquashed, HaveDirectories, IsLow, IsNotBig, IsReadyToCompact, IsRoom, IsRewrittenBy, MoveLaws, marks, slide_by, slide_of};
 ghost use Rattle.fc_oldvolume.specs.Spaces.{LieBehind};
 
 mod directories;
@@ -72,6 +74,7 @@ fn slide<D: Disk>(disk: &mut D, map: &mut OldMap, moves: &mut Moves) -> Result<(
     ensures kept { KeepsBodies map.old map.new moves.old.after.items moves.new.after.items }
     ensures squashed { OnOk result (Squashed map.old map.new moves.old.after.items moves.new.after.items) }
     ensures bytes { OnOk result (SquashedBy D.Disk disk.old disk.new map.old moves.old.after.items moves.new.after.items) }
+    ensures places { Leaves D.Disk disk.old disk.new (ChangesRoom map.old moves.old.after.items) }
     ensures durable { OnOk result (IsFalse (D.pending disk.new)) }
     ensures form { SameForm D.Disk disk.old disk.new }
     ensures stops { TimeGoesOn D.Disk disk.old disk.new }
@@ -99,6 +102,7 @@ fn rewrite<D: Disk>(
     requires two { 2 ≤ D.sectors disk.old }
     requires old_map { IsOldLayout (layout_of space.now) }
     requires spares { AreSpares (nodes_of tree.old) (bound_of tree.old) ready.old.spares.items }
+    requires sorted { AreSorted ready.old.moves.before.items }
     requires low { IsLow (start_after ready.old.moves.before.items ready.old.moves.after.items) }
     requires small { (n : ℕ) (node : Node) → get (nodes_of tree.old) n ≡ Some node → IsNotBig node.body }
     requires placed { (disc : FreeSpace) (nodes : Nodes) → layout_of space.now ≡ Layout.Old disc
@@ -108,6 +112,7 @@ fn rewrite<D: Disk>(
     ensures moves { ready.new.moves ≡ ready.old.moves }
     ensures bound { bound_of tree.new ≡ bound_of tree.old }
     ensures written { OnOk result (IsRewrittenBy D.Disk disk.old disk.new map.now (nodes_of tree.new) (marks ready.new.spares.items) (bound_of tree.old)) }
+    ensures places { (sectors : List ℕ) → HaveDirectories map.now (nodes_of tree.new) sectors → Leaves D.Disk disk.old disk.new (IsWritten map.now sectors) }
     ensures durable { OnOk result (IsFalse (D.pending disk.new)) }
     ensures form { SameForm D.Disk disk.old disk.new }
     ensures stops { TimeGoesOn D.Disk disk.old disk.new }
@@ -142,6 +147,7 @@ fn write_compacted<D: Disk>(
         → AreMoved (slide_by map.old holes ready.old.moves.before.items now) (nodes_of tree.old) nodes → AreDirectoriesPlaced holes nodes }
     ensures done { OnOk result (HasSlidInMemory map.old map.new ready.old.moves.before.items ready.new.moves (nodes_of tree.old) (nodes_of tree.new) (marks ready.new.spares.items)) }
     ensures bytes { OnOk result (HasSlidOnDisk D.Disk disk.old disk.new map.old map.new ready.new.moves (nodes_of tree.new) (marks ready.new.spares.items) (bound_of tree.old)) }
+    ensures places { (sectors : List ℕ) → IsRoom map.old (nodes_of tree.old) ready.old.moves.before.items sectors → Leaves D.Disk disk.old disk.new (IsWritten map.old sectors) }
     ensures durable { OnOk result (IsFalse (D.pending disk.new)) }
     ensures form { SameForm D.Disk disk.old disk.new }
     ensures stops { TimeGoesOn D.Disk disk.old disk.new }
@@ -189,7 +195,7 @@ fn take_over(volume: &mut Volume, map: OldMap)
 
 /// Compacts a disc with an old map, of which nothing is pending: each object slides down into the hole before it, so that no
 /// hole is directly followed by an object; then the directories in which an address changes are written, and then the map.
-/// A crash in between may harm the disc.
+/// A crash in between may harm the disc. Whatever happens, nothing is written in lost space.
 ///
 /// The only refusal is `ReadOnly`, exactly if the volume may not be changed. All memory is taken before the first write:
 /// `NoMemory` leaves all as it was. `DiskFault` only if the disk's count of faults rose; the volume is unfit afterwards.
@@ -206,6 +212,7 @@ pub fn compact<D: Disk>(
     ensures refused { (result ≡ Err (CommandError.Refused Refusal.ReadOnly)) ↔ (volume.old.read_only ≡ true) }
     ensures errors { IfErr result (λ error. (error ≡ CommandError.Refused Refusal.ReadOnly) ⊎ ((error ≡ CommandError.NoMemory) ⊎ (error ≡ CommandError.DiskFault))) }
     ensures compacted { OnOk result (ForSome (D.bytes disk.old) (λ image. (other : List ℕ) × (D.bytes disk.new ≡ Some other) × CompactsParts (parts_of volume.old) (parts_of volume.new) image other)) }
+    ensures places { CompactsOnlyRoom D.Disk (parts_of volume.old) disk.old disk.new }
     ensures keeps { ChangeKeeps D.Disk disk.old disk.new volume.old volume.new result }
     ensures form_stays { UnlessFault result (dir_form (parts_of volume.new).layout ≡ dir_form (parts_of volume.old).layout) }
 {

@@ -1,8 +1,7 @@
 // `delete`: a file, or an empty directory, goes.
 ghost use Rattle.std.specs.Prelude.{◌≡◌, ◌<◌, IfErr, IfOk, IsFalse, IsTrue, OnOk};
-ghost use Rattle.fc_image.specs.Layout.{Layout, dir_form};
+ghost use Rattle.fc_image.specs.Layout.{dir_form};
 ghost use Rattle.fc_model.specs.Command.{Command};
-ghost use Rattle.fc_oldmap.specs.OldMap.{FreeSpace};
 ghost use Rattle.fc_space.specs.Space.{layout_of};
 ghost use Rattle.fc_tree.specs.Nodes.{nodes_of};
 ghost use Rattle.fc_volume.specs.Compacting.{UnlessFault};
@@ -11,6 +10,7 @@ ghost use Rattle.fc_volume.specs.Rewrites.{HoldsEntry};
 ghost use Rattle.fc_volume.specs.Volume.{StandsFor, parts_of};
 ghost use Rattle.fc_oldvolume.specs.Changing.{ChangeKeeps, IsOldLayout, WritesOnlyPlaces};
 ghost use Rattle.fc_oldvolume.specs.Deleting.{CanFree, IsDeleteReady, LeavesOut, RefusesFull};
+ghost use Rattle.fc_oldvolume.specs.Sparing.{SparesMap};
 
 use crate::laws::{is_old_map, old_laws};
 use crate::removal::{Removal, remove};
@@ -69,7 +69,7 @@ fn prepare_delete(
 }
 
 /// Takes a file or an empty directory away. The disc has an old map, and nothing is pending. The directory that held it is written,
-/// and then the map with its space. So a crash before the map is written leaves lost space at worst.
+/// and then the map with its space, if it has any: in this order lost space is the worst that a crash between them would leave.
 ///
 /// Refused with the first reason that applies, and then nothing has changed: `MapFull` if the map would have more than 82 holes.
 /// `NoMemory` leaves all as it was, too. `DiskFault` only if the disk's count of faults rose; the volume is unfit afterwards.
@@ -87,6 +87,7 @@ pub fn delete<D: Disk>(
     ensures refused { AnswersOver volume.old (Command.Delete p.now) result }
     ensures changed { OnOk result (HasChanged D.Disk (Command.Delete p.now) (parts_of volume.old) (parts_of volume.new) disk.old disk.new) }
     ensures places { WritesOnlyPlaces D.Disk (Command.Delete p.now) (parts_of volume.old) disk.old disk.new }
+    ensures map { SparesMap D.Disk p.now (parts_of volume.old) disk.old disk.new }
     ensures keeps { ChangeKeeps D.Disk disk.old disk.new volume.old volume.new result }
     ensures form_stays { UnlessFault result (dir_form (parts_of volume.new).layout ≡ dir_form (parts_of volume.old).layout) }
 {

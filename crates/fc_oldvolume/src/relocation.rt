@@ -1,5 +1,5 @@
 // An object that gets another name, or another directory: the directories are written, and then the volume has it so.
-ghost use Rattle.std.specs.Prelude.{◌≡◌, ◌<◌, ◌≤◌, ◌*◌, false, All, Err, IfErr, IsTrue, IsFalse, OnOk};
+ghost use Rattle.std.specs.Prelude.{◌≡◌, ◌<◌, ◌≤◌, false, All, Err, IfErr, IsTrue, IsFalse, OnOk};
 ghost use Rattle.std.specs.Option.{ForSome};
 ghost use Rattle.fc_device.specs.Calls.{FailsByFault, SameForm, StopsAndExitsLeave};
 ghost use Rattle.fc_device.specs.Faults.{Rose};

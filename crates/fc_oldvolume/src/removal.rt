@@ -1,15 +1,17 @@
 // An object that goes: its directory is written, then the map with its space, and then the volume is without it.
-ghost use Rattle.std.specs.Prelude.{◌≡◌, ◌<◌, ◌≤◌, ◌*◌, [], Some, false, All, Err, IfErr, IsSome, IsTrue, IsFalse, OnOk};
+ghost use Rattle.std.specs.Prelude.{◌≡◌, ◌<◌, ◌≤◌, ◌*◌, [], None, Some, false, All, Err, IfErr, IsSome, IsTrue, IsFalse, OnOk};
 ghost use Rattle.std.specs.FinMap.{get, remove};
 ghost use Rattle.std.specs.Option.{ForSome};
 ghost use Rattle.fc_device.specs.Calls.{FailsByFault, SameForm, StopsAndExitsLeave};
 ghost use Rattle.fc_device.specs.Faults.{Rose};
 ghost use Rattle.fc_drafts.specs.Draft.{directory_in};
-ghost use Rattle.fc_image.specs.Layout.{Layout, is_apart, map_place, sector_bytes};
+ghost use Rattle.fc_image.specs.Layout.{Layout, sector_bytes};
 ghost use Rattle.fc_laws.specs.nodes.Edits.{with_body};
 ghost use Rattle.fc_objects.specs.Extents.{sectors_in};
+ghost use Rattle.fc_objects.specs.Written.{IsPartWritten};
 ghost use Rattle.fc_oldchanges.specs.Owed.{IsWritten};
 ghost use Rattle.fc_oldmap.specs.OldMap.{FreeSpace};
+ghost use Rattle.fc_squash.specs.Places.{Leaves};
 ghost use Rattle.fc_space.specs.Space.{layout_of};
 ghost use Rattle.fc_tree.specs.Nodes.{body_in, nodes_of};
 ghost use Rattle.fc_volume.specs.Volume.{StandsFor, parts_of};
@@ -41,6 +43,7 @@ pub fn write_some<D: Disk>(disk: &mut D, map: &Option<OldMap>) -> Result<(), Dis
     requires settled { IsFalse (D.pending disk.old) }
     requires map { (space : FreeSpace) → map.now ≡ Some space → (D.sector_size disk.old ≡ 256 * space.sector_units) × (2 ≤ D.sectors disk.old) }
     ensures keeps { (space : FreeSpace) → IsEditOf space map.now → StopsAndExitsLeave D.Disk disk.old disk.new (IsWritten space []) }
+    ensures none { map.now ≡ None → D.bytes disk.new ≡ D.bytes disk.old }
     ensures done { OnOk result (ForSome (D.bytes disk.old) (λ was. ForSome (D.bytes disk.new) (IsMapDone map.now was))) }
     ensures durable { OnOk result (IsFalse (D.pending disk.new)) }
     ensures form { SameForm D.Disk disk.old disk.new }
@@ -61,6 +64,7 @@ fn write_removal<D: Disk>(disk: &mut D, places: &Places, r: &Removal) -> Result<
     requires on_disk { All (λ n. n < D.sectors disk.old) (sectors_in r.now.directory.place.items) }
     requires map { (space : FreeSpace) × (layout_of places.now ≡ Layout.Old space) × IsEditOf space r.now.map }
     ensures exits { (space : FreeSpace) → layout_of places.now ≡ Layout.Old space → StopsAndExitsLeave D.Disk disk.old disk.new (IsWritten space (sectors_in r.now.directory.place.items)) }
+    ensures spares { r.now.map ≡ None → Leaves D.Disk disk.old disk.new (IsPartWritten (sector_bytes (layout_of places.now)) (sectors_in r.now.directory.place.items) r.now.directory.bytes.items) }
     ensures done { OnOk result (ForSome (D.bytes disk.old) (λ was. ForSome (D.bytes disk.new) (IsWrittenWithout (layout_of places.now) r.now was))) }
     ensures durable { OnOk result (IsFalse (D.pending disk.new)) }
     ensures form { SameForm D.Disk disk.old disk.new }
@@ -130,6 +134,7 @@ pub fn remove<D: Disk>(
     ensures volume { OnOk result (HasRemoved volume.old volume.new change) }
     ensures done { OnOk result (ForSome (D.bytes disk.old) (λ was. ForSome (D.bytes disk.new) (IsWrittenWithout (parts_of volume.old).layout change was))) }
     ensures exits { (space : FreeSpace) → (parts_of volume.old).layout ≡ Layout.Old space → StopsAndExitsLeave D.Disk disk.old disk.new (IsWritten space (sectors_in change.directory.place.items)) }
+    ensures spares { change.map ≡ None → Leaves D.Disk disk.old disk.new (IsPartWritten (sector_bytes (parts_of volume.old).layout) (sectors_in change.directory.place.items) change.directory.bytes.items) }
     ensures durable { OnOk result (IsFalse (D.pending disk.new)) }
     ensures error { IfErr result (λ error. error ≡ CommandError.DiskFault) }
     ensures unfit { result ≡ Err CommandError.DiskFault → volume.new.fit ≡ false }

@@ -10,8 +10,8 @@ ghost use Rattle.fc_tree.specs.Parts.{ArePartsOf};
 ghost use Rattle.fc_volume.specs.Compacting.{UnlessFault};
 ghost use Rattle.fc_volume.specs.Changing.{AnswersOver, HasChanged, refusal_in};
 ghost use Rattle.fc_volume.specs.Volume.{StandsFor, parts_of};
-ghost use Rattle.fc_oldvolume.specs.Changing.{ChangeKeeps, IsOldLayout, WritesOnlyPlaces};
-ghost use Rattle.fc_oldvolume.specs.Renaming.{IsAccepted, SaysFull, WritesNoMap};
+ghost use Rattle.fc_oldvolume.specs.Changing.{ChangeKeeps, IsOldLayout, WritesNoMap, WritesOnlyPlaces};
+ghost use Rattle.fc_oldvolume.specs.Renaming.{IsAccepted, SaysFull};
 
 use crate::laws::{is_old_map, rename_laws};
 use crate::relocation::relocate;

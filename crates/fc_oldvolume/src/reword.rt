@@ -1,5 +1,5 @@
 // An object that gets another entry: its directory is written, and then the volume has the entry.
-ghost use Rattle.std.specs.Prelude.{◌≡◌, ◌<◌, ◌≤◌, ◌*◌, false, All, Err, IfErr, IsSome, IsTrue, IsFalse, OnOk};
+ghost use Rattle.std.specs.Prelude.{◌≡◌, ◌<◌, ◌≤◌, false, All, Err, IfErr, IsSome, IsTrue, IsFalse, OnOk};
 ghost use Rattle.std.specs.FinMap.{get};
 ghost use Rattle.std.specs.Option.{ForSome};
 ghost use Rattle.fc_device.specs.Calls.{FailsByFault, SameForm, StopsAndExitsLeave};

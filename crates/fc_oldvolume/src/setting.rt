@@ -5,7 +5,7 @@ ghost use Rattle.fc_model.specs.Command.{Command};
 ghost use Rattle.fc_volume.specs.Compacting.{UnlessFault};
 ghost use Rattle.fc_volume.specs.Changing.{AnswersOver, HasChanged};
 ghost use Rattle.fc_volume.specs.Volume.{StandsFor, parts_of};
-ghost use Rattle.fc_oldvolume.specs.Changing.{ChangeKeeps, IsOldLayout, WritesOnlyPlaces};
+ghost use Rattle.fc_oldvolume.specs.Changing.{ChangeKeeps, IsOldLayout, WritesNoMap, WritesOnlyPlaces};
 
 use crate::laws::{is_old_map, old_laws};
 use crate::reword::reword;
@@ -39,6 +39,7 @@ pub fn set<D: Disk>(
     ensures refused { AnswersOver volume.old (Command.Set p.now load exec access) result }
     ensures changed { OnOk result (HasChanged D.Disk (Command.Set p.now load exec access) (parts_of volume.old) (parts_of volume.new) disk.old disk.new) }
     ensures places { WritesOnlyPlaces D.Disk (Command.Set p.now load exec access) (parts_of volume.old) disk.old disk.new }
+    ensures map { WritesNoMap D.Disk (parts_of volume.old) disk.old disk.new }
     ensures keeps { ChangeKeeps D.Disk disk.old disk.new volume.old volume.new result }
     ensures form_stays { UnlessFault result (dir_form (parts_of volume.new).layout ≡ dir_form (parts_of volume.old).layout) }
 {

@@ -82,7 +82,7 @@ outside n h off = elim (cases_lt n h.start) [
 middle_false : (a b c : Bool) → (a || (b || c)) ≡ false → b ≡ false
 middle_false a b c e = grind arith
 
-left_false : (a b c d : Bool) → (a || b) ≡ (c || d) → c ≡ false → d ≡ false → a ≡ false
+pub left_false : (a b c d : Bool) → (a || b) ≡ (c || d) → c ≡ false → d ≡ false → a ≡ false
 left_false a b c d e f g = grind arith
 
 module _ (d u : ℕ) (units : (u ≡ 1) ⊎ (u ≡ 4)) (front rest : List Owned) (o : Owned) (start : ℕ)

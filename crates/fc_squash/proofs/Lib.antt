@@ -7,3 +7,4 @@ pub mod CarryLemmas
 pub mod EndLemmas
 pub mod LawLemmas
 mod ToldLemmas
+pub mod RoomLemmas

@@ -125,7 +125,7 @@ comes old space was now k stand lt =
       apart = every_all (AreApart (place o)) space.holes (every-right (λ b. Every (AreApart b) space.holes) (places at.front) (place o ∷ places at.rest) apart).0;
     }
 
-same_disc : (d u d' u' : ℕ) (xs : List Hole) → d' ≡ d → u' ≡ u → AreHoles d u 0 xs → AreHoles d' u' 0 xs
+pub same_disc : (d u d' u' : ℕ) (xs : List Hole) → d' ≡ d → u' ≡ u → AreHoles d u 0 xs → AreHoles d' u' 0 xs
 same_disc d u d' u' xs disc units rise = subst (λ n. AreHoles n u' 0 xs) (sym disc) (subst (λ n. AreHoles d n 0 xs) (sym units) rise)
 
 -- one object more

@@ -1,8 +1,9 @@
 // One object that slides into the hole before it.
-ghost use Rattle.std.specs.Prelude.{◌≡◌, ◌≢◌, ◌<◌, ◌≤◌, ◌+◌, ◌*◌, ◌/◌, ◌^◌, All, length, slice_get, Some, IsTrue, IfOk, IfSome, IfNone, OnErr};
+ghost use Rattle.std.specs.Prelude.{◌≡◌, ◌≢◌, ◌<◌, ◌≤◌, ◌*◌, ◌/◌, ◌^◌, ◌∷◌, [], All, length, slice_get, Some, IsTrue, IfOk, IfSome, IfNone, OnErr};
 ghost use Rattle.fc_device.specs.Calls.{FailsByFault, SameForm};
 ghost use Rattle.fc_oldmap.specs.Holes.{hole_end, hole_limit, AreApart, IsHole};
 ghost use Rattle.fc_oldmap.specs.OldMap.{IsOldMap};
+ghost use Rattle.fc_squash.specs.Places.{ChangesRoom, Leaves};
 ghost use Rattle.fc_squash.specs.Sliding.{IsSlidBy, TellsAsBefore, TimeGoesOn};
 ghost use Rattle.fc_squash.specs.Squashing.{place, IsPulled};
 
@@ -43,6 +44,7 @@ pub fn pull<D: Disk>(
     requires apart { All (AreApart (place object)) map.old.holes }
     ensures pulled { IfOk result (λ start. IsPulled map.old.holes map.new.holes (place object) start) }
     ensures slid { IfOk result (λ start. IsSlidBy D.Disk disk.old disk.new (object.start / map.old.sector_units) (start / map.old.sector_units) (object.len / map.old.sector_units)) }
+    ensures places { Leaves D.Disk disk.old disk.new (ChangesRoom map.old (object ∷ [])) }
     ensures disc { map.new.disc_units ≡ map.old.disc_units }
     ensures units { map.new.sector_units ≡ map.old.sector_units }
     ensures map { IsOldMap map.old }

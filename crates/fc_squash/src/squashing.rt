@@ -4,6 +4,7 @@ ghost use Rattle.fc_device.specs.Calls.{FailsByFault, SameForm};
 ghost use Rattle.fc_oldmap.specs.OldMap.{IsOldMap};
 ghost use Rattle.fc_squash.specs.Sliding.{TellsAsBefore, TimeGoesOn};
 ghost use Rattle.fc_image.specs.effects.Moves.{Squashed};
+ghost use Rattle.fc_squash.specs.Places.{ChangesRoom, Leaves};
 ghost use Rattle.fc_squash.specs.Squashing.{AreBodies, KeepsBodies, SquashedBy, with_start};
 
 use crate::pulling::pull;
@@ -41,6 +42,7 @@ fn pull_all<D: Disk>(
     ensures bodies { KeepsBodies map.old map.new owned.old owned.new }
     ensures squashed { OnOk result (Squashed map.old map.new owned.old owned.new) }
     ensures bytes { OnOk result (SquashedBy D.Disk disk.old disk.new map.old owned.old owned.new) }
+    ensures places { Leaves D.Disk disk.old disk.new (ChangesRoom map.old owned.old) }
     ensures form { SameForm D.Disk disk.old disk.new }
     ensures stops { TimeGoesOn D.Disk disk.old disk.new }
     ensures told { TellsAsBefore D.Disk disk.old disk.new }
@@ -58,7 +60,8 @@ fn pull_all<D: Disk>(
 /// hole is then directly followed by an object or another hole. The objects are all but the root, rising by their
 /// starts, each some whole sectors of the disc and apart from all others and all holes. Entries and parent fields that
 /// name the old starts are the caller's to rewrite, and the map to write. It fails only where a call of the disk fails;
-/// map and list then speak of the objects that slid before, and one object may have been copied in part. Takes no memory.
+/// map and list then speak of the objects that slid before, and holes and objects that were to slide may have any bytes.
+/// Takes no memory.
 pub fn squash<D: Disk>(
     disk: &mut D,
     map: &mut OldMap,
@@ -71,6 +74,7 @@ pub fn squash<D: Disk>(
     ensures bodies { KeepsBodies map.old map.new owned.old.items owned.new.items }
     ensures squashed { OnOk result (Squashed map.old map.new owned.old.items owned.new.items) }
     ensures bytes { OnOk result (SquashedBy D.Disk disk.old disk.new map.old owned.old.items owned.new.items) }
+    ensures places { Leaves D.Disk disk.old disk.new (ChangesRoom map.old owned.old.items) }
     ensures form { SameForm D.Disk disk.old disk.new }
     ensures stops { TimeGoesOn D.Disk disk.old disk.new }
     ensures told { TellsAsBefore D.Disk disk.old disk.new }

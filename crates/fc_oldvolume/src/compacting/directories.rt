@@ -9,10 +9,9 @@ ghost use Rattle.fc_laws.specs.nodes.Edits.{with_edited};
 ghost use Rattle.fc_oldlaws.specs.moves.After.{address_after, dir_after, entry_after, parent_after, readdressed, start_after};
 ghost use Rattle.fc_oldlaws.specs.moves.Nodes.{body_after};
 ghost use Rattle.fc_space.specs.Space.{layout_of};
-ghost use Rattle.fc_tree.specs.Counts.{address_in};
 ghost use Rattle.fc_tree.specs.Nodes.{bound_of, nodes_of};
 ghost use Rattle.fc_tree.specs.declared.node.Node.{Node};
-ghost use Rattle.fc_oldvolume.specs.Compacting.{AreReaddressed, AreSpares, HasSpare, IsLow, IsNotBig, changes_at, entries_at, is_changed, readdressed_node, said_again};
+ghost use Rattle.fc_oldvolume.specs.Compacting.{AreReaddressed, AreSorted, AreSpares, HasSpare, IsLow, IsNotBig, changes_at, entries_at, is_changed, readdressed_node, said_again};
 
 use super::moves::Moves;
 use fc_device::NoMemory;
@@ -72,6 +71,7 @@ pub fn spares_of(alloc: Global, tree: &Tree) -> Result<Vec<Spare>, NoMemory>
 
 /// The address in an entry afterwards.
 pub fn address_after(space: &Space, moves: &Moves, e: &Entry) -> u32
+    requires { AreSorted moves.now.before.items }
     ensures { result ≡ address_after (dir_form (layout_of space.now)) (start_after moves.now.before.items moves.now.after.items) e.now }
 {
     if object_bytes(space, e) == 0 {
@@ -84,6 +84,7 @@ pub fn address_after(space: &Space, moves: &Moves, e: &Entry) -> u32
 // The entries of a directory get their addresses. Whether one has changed is told.
 fn move_entries(dir: &mut SmallDir, spare: &mut Spare, space: &Space, moves: &Moves)
     requires copies { spare.old.entries.items ≡ dir.old.entries }
+    requires sorted { AreSorted moves.now.before.items }
     requires low { IsLow (start_after moves.now.before.items moves.now.after.items) }
     ensures dir { dir.new ≡ record dir.old { entries = map (entry_after (dir_form (layout_of space.now)) (start_after moves.now.before.items moves.now.after.items)) dir.old.entries } }
     ensures changed { spare.new.changed ≡ not (bytes_eq (map (λ (e : Entry). e.address) dir.new.entries) (map (λ (e : Entry). e.address) dir.old.entries)) }
@@ -102,6 +103,7 @@ fn move_entries(dir: &mut SmallDir, spare: &mut Spare, space: &Space, moves: &Mo
 
 // The parent field of a directory afterwards, where its holder had this address.
 fn parent_after(moves: &Moves, holder: u32, parent: u32) -> u32
+    requires { AreSorted moves.now.before.items }
     ensures { result ≡ parent_after (start_after moves.now.before.items moves.now.after.items) holder parent }
 {
     let now = moves.start_after(holder);
@@ -111,6 +113,7 @@ fn parent_after(moves: &Moves, holder: u32, parent: u32) -> u32
 // A directory whose holder had this address says what it says afterwards, and whether something has changed is told.
 fn readdress(dir: &mut SmallDir, spare: &mut Spare, space: &Space, moves: &Moves, holder: u32)
     requires copies { spare.old.entries.items ≡ dir.old.entries }
+    requires sorted { AreSorted moves.now.before.items }
     requires low { IsLow (start_after moves.now.before.items moves.now.after.items) }
     ensures dir { dir.new ≡ dir_after (dir_form (layout_of space.now)) (start_after moves.now.before.items moves.now.after.items) holder dir.old }
     ensures changed { spare.new.changed ≡ not (has_same_places dir.old (readdressed (dir_form (layout_of space.now)) (start_after moves.now.before.items moves.now.after.items) holder dir.old)) }
@@ -130,6 +133,7 @@ fn readdress(dir: &mut SmallDir, spare: &mut Spare, space: &Space, moves: &Moves
 // A node says what it says afterwards. Its entry stays.
 fn readdress_body(body: &mut Body, spare: &mut Spare, space: &Space, moves: &Moves, holder: u32)
     requires copies { spare.old.entries.items ≡ said_again body.old }
+    requires sorted { AreSorted moves.now.before.items }
     requires low { IsLow (start_after moves.now.before.items moves.now.after.items) }
     requires small { IsNotBig body.old }
     requires idle { spare.old.changed ≡ false }
@@ -141,9 +145,10 @@ fn readdress_body(body: &mut Body, spare: &mut Spare, space: &Space, moves: &Mov
     }
 }
 
-// The node of a number, if it has one, says what it says afterwards.
+// The node of a number, if it has one, says what it says afterwards. A file says nothing, and isn't taken out of the tree's index.
 fn readdress_number(tree: &mut Tree, n: u64, spare: &mut Spare, space: &Space, moves: &Moves)
     requires copies { spare.old.entries.items ≡ entries_at (get (nodes_of tree.old) n) }
+    requires sorted { AreSorted moves.now.before.items }
     requires low { IsLow (start_after moves.now.before.items moves.now.after.items) }
     requires small { (node : Node) → get (nodes_of tree.old) n ≡ Some node → IsNotBig node.body }
     requires idle { spare.old.changed ≡ false }
@@ -155,6 +160,9 @@ fn readdress_number(tree: &mut Tree, n: u64, spare: &mut Spare, space: &Space, m
     let Some(node) = tree.node(n) else {
         return;
     };
+    if let Body::File = node.body {
+        return;
+    }
     let holder = holder_address(tree, node);
     let mut node = tree.take_out(n);
     readdress_body(&mut node.body, spare, space, moves, holder);
@@ -165,6 +173,7 @@ fn readdress_number(tree: &mut Tree, n: u64, spare: &mut Spare, space: &Space, m
 /// entries of the nodes stay.
 pub fn readdress_all(tree: &mut Tree, spares: &mut Vec<Spare>, space: &Space, moves: &Moves)
     requires spares { AreSpares (nodes_of tree.old) (bound_of tree.old) spares.old.items }
+    requires sorted { AreSorted moves.now.before.items }
     requires low { IsLow (start_after moves.now.before.items moves.now.after.items) }
     requires small { (n : ℕ) (node : Node) → get (nodes_of tree.old) n ≡ Some node → IsNotBig node.body }
     ensures nodes { AreReaddressed (dir_form (layout_of space.now)) (start_after moves.now.before.items moves.now.after.items) (nodes_of tree.old) (nodes_of tree.new) spares.new.items (bound_of tree.old) }

@@ -1,7 +1,6 @@
 // The objects of a disc with an old map that slide down.
 ghost use Rattle.std.specs.Prelude.{◌≡◌, ◌<◌, ◌^◌, ◌++◌, IfOk, IsPermutation, OnOk};
 ghost use Rattle.std.specs.FinMap.{get};
-ghost use Rattle.std.specs.List.Sorted.{IsNonDecreasingBy};
 ghost use Rattle.fc_image.specs.Layout.{Layout};
 ghost use Rattle.fc_oldmap.specs.OldMap.{FreeSpace};
 ghost use Rattle.fc_oldlaws.specs.moves.After.{start_after};
@@ -9,6 +8,7 @@ ghost use Rattle.fc_oldlaws.specs.moves.Nodes.{sliding_at, sliding_below, units_
 ghost use Rattle.fc_space.specs.Space.{layout_of};
 ghost use Rattle.fc_tree.specs.Nodes.{bound_of, nodes_of};
 ghost use Rattle.fc_oldvolume.specs.Changing.{IsOldLayout};
+ghost use Rattle.fc_oldvolume.specs.Compacting.{AreSorted};
 
 use crate::spaces::units_for;
 use fc_device::NoMemory;
@@ -39,17 +39,19 @@ impl Moves {
         })
     }
 
-    /// Where an object that began at an address begins afterwards.
+    /// Where an object that began at an address begins afterwards. The objects are sorted by where they began.
     pub fn start_after(&self, address: u32) -> u32
+        requires { AreSorted self.now.before.items }
         ensures { result ≡ start_after self.now.before.items self.now.after.items address }
     {
-        let count = self.before.len().min(self.after.len());
-        for k in 0..count {
-            if self.before[k].start == address {
-                return self.after[k].start;
-            }
+        let k = self.before.partition_point(|o| o.start < address);
+        if k >= self.before.len().min(self.after.len()) {
+            return address;
         }
-        address
+        if self.before[k].start != address {
+            return address;
+        }
+        self.after[k].start
     }
 }
 
@@ -117,7 +119,7 @@ fn sliding(alloc: Global, tree: &Tree, space: &Space) -> Result<Vec<Owned>, NoMe
 pub fn sorted_objects(alloc: Global, tree: &Tree, space: &Space) -> Result<Vec<Owned>, NoMemory>
     requires { IsOldLayout (layout_of space.now) }
     ensures all { IfOk result (λ owned. (disc : FreeSpace) → layout_of space.now ≡ Layout.Old disc → IsPermutation (sliding_below disc (nodes_of tree.now) (bound_of tree.now)) owned.items) }
-    ensures sorted { IfOk result (λ owned. IsNonDecreasingBy (λ o. o.start) owned.items) }
+    ensures sorted { IfOk result (λ owned. AreSorted owned.items) }
 {
     let mut owned = sliding(alloc, tree, space)?;
     owned.sort_unstable_by_key(|o| o.start);

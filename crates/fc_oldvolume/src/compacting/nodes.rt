@@ -8,7 +8,7 @@ ghost use Rattle.fc_oldlaws.specs.moves.Nodes.{AreRemade};
 ghost use Rattle.fc_space.specs.Space.{layout_of};
 ghost use Rattle.fc_tree.specs.Nodes.{bound_of, nodes_of};
 ghost use Rattle.fc_oldvolume.specs.Changing.{IsOldLayout};
-ghost use Rattle.fc_oldvolume.specs.Compacting.{AreAddressed, IsRemade, addressed};
+ghost use Rattle.fc_oldvolume.specs.Compacting.{AreAddressed, AreSorted, IsRemade, addressed};
 
 use super::directories::address_after;
 use super::moves::Moves;
@@ -17,22 +17,28 @@ use fc_space::Space;
 use fc_tree::Tree;
 use fc_volume::owners::entry_owner;
 
-// The node of a number, if it has one, has its new address.
+// The node of a number, if it has one, has its new address. A node whose address stays isn't taken out of the tree's index.
 fn move_number(tree: &mut Tree, n: u64, space: &Space, moves: &Moves)
+    requires { AreSorted moves.now.before.items }
     ensures nodes { nodes_of tree.new ≡ with_edited n (addressed (dir_form (layout_of space.now)) (start_after moves.now.before.items moves.now.after.items)) (nodes_of tree.old) }
     ensures bound { bound_of tree.new ≡ bound_of tree.old }
 {
     let _ = tree.bound();
-    if tree.node(n).is_none() {
+    let Some(node) = tree.node(n) else {
+        return;
+    };
+    let address = address_after(space, moves, &node.entry);
+    if address == node.entry.address {
         return;
     }
     let mut node = tree.take_out(n);
-    node.entry.address = address_after(space, moves, &node.entry);
+    node.entry.address = address;
     tree.put_back(n, node);
 }
 
 /// Each node has its new address.
 pub fn move_nodes(tree: &mut Tree, space: &Space, moves: &Moves)
+    requires { AreSorted moves.now.before.items }
     ensures nodes { AreAddressed (dir_form (layout_of space.now)) (start_after moves.now.before.items moves.now.after.items) (nodes_of tree.old) (nodes_of tree.new) (bound_of tree.old) }
     ensures bound { bound_of tree.new ≡ bound_of tree.old }
 {

@@ -1,13 +1,15 @@
 // What compaction writes of directories.
-ghost use Rattle.std.specs.Prelude.{◌≡◌, ◌≤◌, ◌+◌, ◌*◌, ◌/◌, IsFalse, IsTrue, OnOk, length};
+ghost use Rattle.std.specs.Prelude.{◌≡◌, ◌≤◌, ◌+◌, ◌*◌, ◌/◌, ℕ, List, IsFalse, IsTrue, OnOk, length};
 ghost use Rattle.std.specs.Int.{div_ceil};
 ghost use Rattle.fc_device.specs.Calls.{FailsByFault, SameForm};
 ghost use Rattle.fc_dirs.specs.Small.{tail_of};
 ghost use Rattle.fc_image.specs.Layout.{Layout, disc_sectors};
 ghost use Rattle.fc_oldlaws.specs.moves.Writes.{AreDirectoriesPlaced};
+ghost use Rattle.fc_oldchanges.specs.Owed.{IsWritten};
+ghost use Rattle.fc_squash.specs.Places.{ChangesRow, Leaves};
 ghost use Rattle.fc_squash.specs.Sliding.{TellsAsBefore, TimeGoesOn};
 ghost use Rattle.fc_tree.specs.Nodes.{nodes_of};
-ghost use Rattle.fc_oldvolume.specs.Compacting.{AreRowsWritten, DirectoriesWrittenBy, DirWrittenBy, marks};
+ghost use Rattle.fc_oldvolume.specs.Compacting.{AreRowsWritten, DirectoriesWrittenBy, DirWrittenBy, HaveDirectories, marks};
 
 use super::directories::Spare;
 use crate::writing::store;
@@ -42,6 +44,7 @@ fn write_directory<D: Disk>(
     requires room { (tail_of dir.now.form).size ≤ row.sectors * size }
     requires whole { length buffer.old ≡ (tail_of dir.now.form).size }
     ensures written { OnOk result (DirWrittenBy D.Disk disk.old disk.new row.first row.sectors dir.now) }
+    ensures places { Leaves D.Disk disk.old disk.new (ChangesRow size row.first row.sectors) }
     ensures durable { OnOk result (IsFalse (D.pending disk.new)) }
     ensures form { SameForm D.Disk disk.old disk.new }
     ensures stops { TimeGoesOn D.Disk disk.old disk.new }
@@ -74,6 +77,7 @@ fn write_number<D: Disk>(disk: &mut D, map: &OldMap, tree: &Tree, n: u64) -> Res
     requires on_disk { disc_sectors (Layout.Old map.now) ≤ D.sectors disk.old }
     requires placed { AreDirectoriesPlaced map.now (nodes_of tree.now) }
     ensures written { OnOk result (AreRowsWritten D.Disk disk.old disk.new map.now (nodes_of tree.now) n) }
+    ensures places { (sectors : List ℕ) → HaveDirectories map.now (nodes_of tree.now) sectors → Leaves D.Disk disk.old disk.new (IsWritten map.now sectors) }
     ensures durable { OnOk result (IsFalse (D.pending disk.new)) }
     ensures form { SameForm D.Disk disk.old disk.new }
     ensures stops { TimeGoesOn D.Disk disk.old disk.new }
@@ -106,6 +110,7 @@ pub fn write_directories<D: Disk>(
     requires on_disk { disc_sectors (Layout.Old map.now) ≤ D.sectors disk.old }
     requires placed { AreDirectoriesPlaced map.now (nodes_of tree.now) }
     ensures written { OnOk result (DirectoriesWrittenBy D.Disk disk.old disk.new map.now (nodes_of tree.now) (marks spares.now) (length spares.now)) }
+    ensures places { (sectors : List ℕ) → HaveDirectories map.now (nodes_of tree.now) sectors → Leaves D.Disk disk.old disk.new (IsWritten map.now sectors) }
     ensures durable { OnOk result (IsFalse (D.pending disk.new)) }
     ensures form { SameForm D.Disk disk.old disk.new }
     ensures stops { TimeGoesOn D.Disk disk.old disk.new }

@@ -1,11 +1,11 @@
-use Rattle.std.proofs.Common.{◌≡◌, ◌∙◌, ap, subst}
+use Rattle.std.proofs.Common.{◌∙◌, ap, subst}
 use Rattle.fc_space.specs.declared.space.Space.{Space}
 use Rattle.fc_space.specs.Space.{layout_of}
 use Rattle.fc_tree.specs.Nodes.{bound_of, nodes_of}
 use Rattle.fc_volume.specs.Volume.{Volume, parts_of}
 use Rattle.fc_oldvolume.specs.Compacting.{IsReadyToCompact, marks}
 use Rattle.fc_oldvolume.proofs.ChangeLemmas.{is_old}
-use Rattle.fc_oldvolume.proofs.CompactVolumeLemmas.{are_ready, has_compacted, map_is, no_big, placed, stands_after}
+use Rattle.fc_oldvolume.proofs.CompactVolumeLemmas.{are_ready, has_compacted, map_is, no_big, only_places, placed, stands_after}
 use Rattle.fc_oldvolume.proofs.compacting.compact.Goals as goal
 
 pub write_compacted-requires-clause-bodies : goal.write_compacted-requires-clause-bodies
@@ -57,3 +57,17 @@ returns-in-Ok-write_compacted-clause-keeps g c =
       faults = c.write_compacted.ensures.cause.later;
       cause = λ failed. absurd (cc);
     }
+
+pub returns-in-Ok-write_compacted-clause-places : goal.returns-in-Ok-write_compacted-clause-places
+returns-in-Ok-write_compacted-clause-places g c =
+    let layout = map_is _ c.args.volume.now c.volume.view_is c.requires.old_map c.map_of-map.result c.map_of-map.ensures in
+    let prepared = subst (λ (s : Space). IsReadyToCompact (layout_of s) (nodes_of c.volume.inside.tree) (bound_of c.volume.inside.tree) c.in-Ok.ready) c.space.ensures c.in-Ok.ensures in
+    only_places g.D.Disk c.move_laws.ensures _ c.args.volume.now c.volume.view_is c.args.disk.now c.requires.stands c.map_of-map.result layout c.is_old_map.ensures c.in-Ok.ready prepared c.bound.ensures.above
+    c.write_compacted.new.disk c.write_compacted.ensures.places
+
+pub returns-clause-places : goal.returns-clause-places
+returns-clause-places g c =
+    let layout = map_is _ c.args.volume.now c.volume.view_is c.requires.old_map c.map_of-map.result c.map_of-map.ensures in
+    let prepared = subst (λ (s : Space). IsReadyToCompact (layout_of s) (nodes_of c.volume.inside.tree) (bound_of c.volume.inside.tree) c.in-Ok.ready) c.space.ensures c.in-Ok.ensures in
+    only_places g.D.Disk c.move_laws.ensures _ c.args.volume.now c.volume.view_is c.args.disk.now c.requires.stands c.map_of-map.result layout c.is_old_map.ensures c.in-Ok.ready prepared c.bound.ensures.above
+    c.write_compacted.new.disk c.write_compacted.ensures.places

@@ -1,7 +1,9 @@
-use Rattle.std.proofs.Common.{◌≡◌, ◌∙◌, sym, ap, refl, subst}
+use Rattle.std.proofs.Common.{[]}
 use Rattle.fc_space.specs.Space.{layout_of}
 use Rattle.fc_tree.specs.Nodes.{bound_of, nodes_of}
-use Rattle.fc_oldvolume.proofs.ChangeLemmas.{old_layout}
+use Rattle.fc_oldchanges.specs.Owed.{IsWritten}
+use Rattle.fc_squash.proofs.RoomLemmas.{leaves_then}
+use Rattle.fc_oldvolume.proofs.ChangeLemmas.{old_layout, written_more, written_then}
 use Rattle.fc_oldvolume.proofs.NumbersLemmas.{all_marked, all_moved}
 use Rattle.fc_oldvolume.proofs.compacting.rewrite.Goals as goal
 
@@ -42,3 +44,13 @@ pub returns-clause-marked : goal.returns-clause-marked
 returns-clause-marked g c = λ disc is.
     all_marked (layout_of c.args.space.now) disc c.args.map.now c.args.ready.now.moves (nodes_of c.args.tree.now) (nodes_of c.readdress_all.new.tree) (nodes_of c.move_nodes.new.tree) c.readdress_all.new.spares.items
     (bound_of c.args.tree.now) is c.bound.ensures.above c.readdress_all.ensures.nodes c.readdress_all.ensures.long
+
+pub returns-in_err-write_map-clause-places : goal.returns-in_err-write_map-clause-places
+returns-in_err-write_map-clause-places g c = λ sectors have.
+    leaves_then g.D.Disk (IsWritten c.args.map.now sectors) (IsWritten c.args.map.now [])
+    (λ a b e first map. written_then c.args.map.now sectors a b e first (written_more c.args.map.now sectors b e map)) (c.write_directories.ensures.places sectors have) c.write_map.ensures.keeps.exit
+
+pub returns-clause-places : goal.returns-clause-places
+returns-clause-places g c = λ sectors have.
+    leaves_then g.D.Disk (IsWritten c.args.map.now sectors) (IsWritten c.args.map.now [])
+    (λ a b e first map. written_then c.args.map.now sectors a b e first (written_more c.args.map.now sectors b e map)) (c.write_directories.ensures.places sectors have) c.write_map.ensures.keeps.exit

@@ -1,5 +1,5 @@
-use Rattle.std.proofs.Common.{◌≡◌, ◌∙◌, sym}
-use Rattle.fc_device.proofs.DiskLaws.{laws, form_then}
+use Rattle.std.proofs.Common.{◌∙◌, sym}
+use Rattle.fc_device.proofs.DiskLaws.{laws}
 use Rattle.fc_device.proofs.StopLemmas.{goes_on}
 use Rattle.fc_oldvolume.proofs.compacting.slide.Goals as goal
 
@@ -19,3 +19,13 @@ returns-clause-told g c = λ image told. c.squash.ensures.told image (sym c.sync
 
 pub returns-in_err-sync-clause-told : goal.returns-in_err-sync-clause-told
 returns-in_err-sync-clause-told g c = λ image told. c.squash.ensures.told image (sym c.sync.ensures.bytes ∙ told)
+
+pub returns-clause-places : goal.returns-clause-places
+returns-clause-places g c = λ was told.
+    let s = c.squash.ensures.places was told in
+    (s.0, c.sync.ensures.bytes ∙ s.1, s.2)
+
+pub returns-in_err-sync-clause-places : goal.returns-in_err-sync-clause-places
+returns-in_err-sync-clause-places g c = λ was told.
+    let s = c.squash.ensures.places was told in
+    (s.0, c.sync.ensures.bytes ∙ s.1, s.2)

@@ -14,7 +14,7 @@ use Rattle.fc_volume.proofs.JudgedLemmas.{done_by, refused_by}
 use Rattle.fc_oldvolume.proofs.ChangeLemmas.{is_old, old_layout, places_written, still_old, writes_nothing}
 use Rattle.fc_oldvolume.proofs.JudgedLemmas.{judged_first, judged_last}
 use Rattle.fc_oldvolume.proofs.SetVolumeLemmas.{held_ready, lie_behind, object_there}
-use Rattle.fc_oldvolume.proofs.DeleteVolumeLemmas.{accepted, can_free, edit_of, has_changed, made_going, on_disk, places_of, refused, same_form, space_is, stands_now}
+use Rattle.fc_oldvolume.proofs.DeleteVolumeLemmas.{accepted, can_free, edit_of, has_changed, made_going, on_disk, places_of, refused, same_form, space_is, spares_map, spares_same, stands_now}
 use Rattle.fc_oldvolume.proofs.deleting.delete.Goals as goal
 
 pub returns-in-Err-clause-refused : goal.returns-in-Err-clause-refused
@@ -120,6 +120,20 @@ returns-in-Ok-prepare_delete-clause-places g c =
     (λ kind view was image opens held written.
     places_of g.D.Disk c.old_laws.ensures map.0 c.args.volume.now c.args.volume.now c.args.disk.now c.args.disk.now c.args.p.now c.in-Ok.target c.in-Ok-prepare_delete.change map.1 ready c.requires.stands
     kind view was image opens held written)
+
+pub returns-in-Ok-prepare_delete-clause-map : goal.returns-in-Ok-prepare_delete-clause-map
+returns-in-Ok-prepare_delete-clause-map g c =
+    let map = old_layout (parts_of c.args.volume.now).layout c.requires.old_map in
+    let ready = made_going _ c.args.volume.now c.volume.view_is map.0 map.1 c.is_old_map.ensures (lie_behind g.D.Disk c.args.volume.now c.args.disk.now map.0 map.1 c.requires.stands) c.args.p.now
+    c.in-Ok.target c.in-Ok.ensures.target c.in-Ok-prepare_delete.change c.in-Ok-prepare_delete.ensures.ready in
+    spares_map g.D.Disk c.old_laws.ensures map.0 c.args.volume.now c.args.volume.now c.args.disk.now c.remove.new.disk c.args.p.now c.in-Ok.target c.in-Ok-prepare_delete.change map.1 ready c.requires.stands
+    c.remove.ensures.spares
+
+pub returns-in-Err-clause-map : goal.returns-in-Err-clause-map
+returns-in-Err-clause-map g c = spares_same g.D.Disk c.args.p.now (parts_of c.args.volume.now) c.args.disk.now
+
+pub returns-in-Err-prepare_delete-clause-map : goal.returns-in-Err-prepare_delete-clause-map
+returns-in-Err-prepare_delete-clause-map g c = spares_same g.D.Disk c.args.p.now (parts_of c.args.volume.now) c.args.disk.now
 
 pub returns-in-Ok-prepare_delete-clause-keeps : goal.returns-in-Ok-prepare_delete-clause-keeps
 returns-in-Ok-prepare_delete-clause-keeps g c =

@@ -1,4 +1,4 @@
-use Rattle.std.proofs.Common.{subst}
+use Rattle.std.proofs.Common.{◌∙◌, subst}
 use Rattle.fc_device.proofs.DiskLaws.{laws}
 use Rattle.fc_device.proofs.StopLemmas.{keeps_then, keeps_weaker, led}
 use Rattle.fc_objects.specs.Extents.{sectors_in}
@@ -32,3 +32,9 @@ returns-clause-done g c =
     (let mid = led (laws g.met.D.Disk) (c.write_some.ensures.keeps own.0 own.2) image now in
     record { mid = mid.0; directory = c.in_ok-write_directory.ensures.stored was told mid.0 mid.1; map = map mid.0 mid.1 image now }))
     c.write_some.ensures.done
+
+pub returns-clause-spares : goal.returns-clause-spares
+returns-clause-spares g c = λ none was told. let w = c.write_directory.ensures.keeps.exit was told in (w.0, c.write_some.ensures.none none ∙ w.1, w.2)
+
+pub returns-in_err-write_directory-clause-spares : goal.returns-in_err-write_directory-clause-spares
+returns-in_err-write_directory-clause-spares g c = λ none. c.write_directory.ensures.keeps.exit

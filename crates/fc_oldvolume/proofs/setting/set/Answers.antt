@@ -14,7 +14,8 @@ use Rattle.fc_volume.proofs.JudgedLemmas.{done_by, judged, refused_by}
 use Rattle.fc_oldvolume.specs.Changing.{IsOldLayout}
 use Rattle.fc_oldvolume.proofs.ChangeLemmas.{old_layout, part_written, places_written, writes_nothing}
 use Rattle.fc_oldvolume.proofs.JudgedLemmas.{judged_first, set_takes_none}
-use Rattle.fc_oldvolume.proofs.SetVolumeLemmas.{has_changed, held_ready, is_map, lie_behind, made_ready, object_there, on_disk, places_of, stands_now}
+use Rattle.fc_oldvolume.proofs.SetVolumeLemmas.{has_changed, held_ready, is_map, lie_behind, made_ready, map_unwritten, object_there, on_disk, places_of, stands_now}
+use Rattle.fc_oldvolume.proofs.RelocatedLemmas.{map_same}
 use Rattle.fc_oldvolume.proofs.setting.set.Goals as goal
 
 pub returns-in-Err-clause-refused : goal.returns-in-Err-clause-refused
@@ -88,6 +89,21 @@ returns-in-Ok-prepare_set-clause-places g c =
     (made_ready _ c.args.volume.now c.volume.view_is map.0 map.1 c.is_old_map.ensures c.args.p.now c.in-Ok.target c.in-Ok.ensures.target c.args.load c.args.exec c.args.access
     c.in-Ok-prepare_set.change (lie_behind g.D.Disk c.args.volume.now c.args.disk.now map.0 map.1 c.requires.stands) c.requires.access c.in-Ok-prepare_set.ensures)
     c.requires.stands kind view was image opens held written)
+
+pub returns-in-Ok-prepare_set-clause-map : goal.returns-in-Ok-prepare_set-clause-map
+returns-in-Ok-prepare_set-clause-map g c =
+    let map = old_layout (parts_of c.args.volume.now).layout c.requires.old_map in
+    map_unwritten g.D.Disk c.old_laws.ensures map.0 c.args.volume.now c.args.volume.now c.args.disk.now c.reword.new.disk c.args.p.now c.args.load c.args.exec c.args.access c.in-Ok.target
+    c.in-Ok-prepare_set.change map.1
+    (made_ready _ c.args.volume.now c.volume.view_is map.0 map.1 c.is_old_map.ensures c.args.p.now c.in-Ok.target c.in-Ok.ensures.target c.args.load c.args.exec c.args.access
+    c.in-Ok-prepare_set.change (lie_behind g.D.Disk c.args.volume.now c.args.disk.now map.0 map.1 c.requires.stands) c.requires.access c.in-Ok-prepare_set.ensures)
+    c.requires.stands c.reword.ensures.exits
+
+pub returns-in-Err-clause-map : goal.returns-in-Err-clause-map
+returns-in-Err-clause-map g c = map_same g.D.Disk c.args.volume.now c.args.disk.now
+
+pub returns-in-Err-prepare_set-clause-map : goal.returns-in-Err-prepare_set-clause-map
+returns-in-Err-prepare_set-clause-map g c = map_same g.D.Disk c.args.volume.now c.args.disk.now
 
 pub returns-in-Ok-prepare_set-clause-keeps : goal.returns-in-Ok-prepare_set-clause-keeps
 returns-in-Ok-prepare_set-clause-keeps g c =

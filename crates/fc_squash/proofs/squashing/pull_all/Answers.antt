@@ -3,10 +3,13 @@ use Rattle.std.proofs.Math.ListN.{length-set}
 use Rattle.fc_device.proofs.DiskLaws.{laws, form_same, form_then}
 use Rattle.fc_device.proofs.StopLemmas.{started, goes_on}
 use Rattle.fc_image.specs.declared.effects.Owned.{Owned}
-use Rattle.fc_squash.specs.Squashing.{no_object, moved_to, with_start}
+use Rattle.fc_oldmap.specs.OldMap.{FreeSpace}
+use Rattle.fc_squash.specs.Places.{ChangesRoom}
+use Rattle.fc_squash.specs.Squashing.{no_object, moved_to, place, with_start}
 use Rattle.fc_squash.proofs.StandLemmas.{Standing, comes, stand_start, stand_more}
 use Rattle.fc_squash.proofs.CarryLemmas.{CarriedBy, carried_start, carried_by_more}
 use Rattle.fc_squash.proofs.EndLemmas.{squashed, squashed_by}
+use Rattle.fc_squash.proofs.RoomLemmas.{Above, above-pulled, above-tidied, leaves_same, room_by_more, room_same}
 use Rattle.fc_squash.proofs.ToldLemmas.{told_start, told_then}
 use Rattle.fc_squash.proofs.squashing.pull_all.Goals as goal
 
@@ -15,6 +18,8 @@ loop-k-init g c = record {
   form = form_same g.D.Disk c.args.disk.now;
   stand = stand_start c.args.map.now c.tidy.new.self c.args.owned.now c.requires.map c.requires.bodies c.tidy.ensures.holes;
   carried = carried_start g.D.Disk c.args.disk.now c.args.map.now.sector_units c.args.map.now c.args.owned.now;
+  room = leaves_same g.D.Disk (ChangesRoom c.args.map.now c.args.owned.now) (room_same c.args.map.now c.args.owned.now) c.args.disk.now;
+  above = λ n all. subst (Above n) (sym (ap (λ (m : FreeSpace). m.holes) c.tidy.ensures.holes)) (above-tidied n c.args.map.now.holes all);
   stops = started (laws g.met.D.Disk) c.args.disk.now (λ image. Unit {0}) (λ image left. tt);
   told = told_start g.D.Disk c.args.disk.now;
   faults = omega arith;
@@ -37,6 +42,12 @@ returns-in_err-start-clause-stops g c = goes_on (laws g.met.D.Disk) c.loop-k.inv
 pub returns-in_err-start-clause-told : goal.returns-in_err-start-clause-told
 returns-in_err-start-clause-told g c = told_then g.D.Disk c.loop-k.invariant.told c.pull.ensures.told
 
+pub returns-in_err-start-clause-places : goal.returns-in_err-start-clause-places
+returns-in_err-start-clause-places g c =
+    let was = c.loop-k.invariant in
+    let there : c.loop-k.k < length c.loop-k.owned = omega (arith, c.loop-k-test.true, was.long) in
+    room_by_more g.D.Disk c.args.disk.now c.loop-k.disk c.pull.new.disk c.args.map.now c.loop-k.map c.args.owned.now c.loop-k.owned c.loop-k.k c.requires.map c.requires.bodies was.stand there was.above was.room c.pull.ensures.places
+
 pub loop-k-preserved : goal.loop-k-preserved
 loop-k-preserved g c =
     let law = laws g.met.D.Disk in
@@ -57,6 +68,8 @@ loop-k-preserved g c =
       form = form_then d was.form c.pull.ensures.form;
       stand = subst (λ l. Standing old c.pull.new.map list l (k + 1)) (sym set) stand;
       carried = subst (λ l. CarriedBy d c.args.disk.now c.pull.new.disk old.sector_units old list l) (sym set) carried;
+      room = room_by_more d c.args.disk.now c.loop-k.disk c.pull.new.disk old c.loop-k.map list now k c.requires.map c.requires.bodies was.stand there was.above was.room c.pull.ensures.places;
+      above = λ n all. above-pulled n c.loop-k.map.holes c.pull.new.map.holes (place (get_or now k no_object)) start c.in_ok-start.ensures.pulled (was.above n all);
       stops = goes_on law was.stops c.pull.ensures.stops (λ image left. tt);
       told = told_then d was.told c.pull.ensures.told;
       faults = omega (arith, was.faults, c.pull.ensures.cause.later);

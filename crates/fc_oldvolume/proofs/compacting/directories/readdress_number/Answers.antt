@@ -1,4 +1,4 @@
-use Rattle.std.proofs.Common.{◌≡◌, ℕ, refl, sym, subst, ap, ap₂, ◌∙◌}
+use Rattle.std.proofs.Common.{◌≡◌, ℕ, sym, ap, ◌∙◌}
 use Rattle.fc_image.specs.Layout.{dir_form}
 use Rattle.fc_oldlaws.specs.moves.After.{start_after}
 use Rattle.fc_oldlaws.specs.moves.Nodes.{body_after}
@@ -10,10 +10,20 @@ use Rattle.fc_tree.specs.declared.node.Node.{Node}
 use Rattle.fc_tree.proofs.WalkedLemmas.{same_some}
 use Rattle.fc_volume.proofs.TakingLemmas.{put_changed, taken_free}
 use Rattle.fc_oldvolume.specs.Compacting.{readdressed_node}
+use Rattle.fc_oldvolume.proofs.NumbersLemmas.{unchanged}
 use Rattle.fc_oldvolume.proofs.compacting.directories.readdress_number.Goals as goal
 
 pub put_back-requires-clause-free : goal.put_back-requires-clause-free
 put_back-requires-clause-free c = taken_free (nodes_of c.args.tree.now) (nodes_of c.take_out-node.new.self) c.args.n c.take_out-node.ensures.nodes
+
+pub returns-in-File-clause-nodes : goal.returns-in-File-clause-nodes
+returns-in-File-clause-nodes c =
+    let form = dir_form (layout_of c.args.space.now) in
+    let move = start_after c.args.moves.now.before.items c.args.moves.now.after.items in
+    let nodes = nodes_of c.args.tree.now in
+    let node : Node = c.in-Some.node.now in
+    unchanged nodes c.args.n node (readdressed_node form move nodes) c.in-Some.ensures
+    (ap (λ (b : Body). record node { body = body_after form move (address_in nodes node.holder) b }) c.in-File.is ∙ ap (λ (b : Body). record node { body = b }) (sym c.in-File.is))
 
 pub returns-clause-nodes : goal.returns-clause-nodes
 returns-clause-nodes c =

@@ -1,4 +1,4 @@
-use Rattle.std.proofs.Common.{◌≡◌, ◌++◌, List, ap, ◌∙◌}
+use Rattle.std.proofs.Common.{◌++◌, List, ap, ◌∙◌}
 use Rattle.std.specs.FinMap.{get}
 use Rattle.fc_image.specs.declared.effects.Owned.{Owned}
 use Rattle.fc_oldlaws.specs.moves.Nodes.{sliding_at}

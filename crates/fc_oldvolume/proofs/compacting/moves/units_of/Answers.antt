@@ -1,4 +1,4 @@
-use Rattle.std.proofs.Common.{◌≡◌, ◌<◌, ◌^◌, ℕ, sym, subst, ap, ◌∙◌, arith}
+use Rattle.std.proofs.Common.{◌<◌, ◌^◌, ℕ, sym, subst, ap, ◌∙◌, arith}
 use Rattle.fc_image.specs.Layout.{dir_form}
 use Rattle.fc_image.specs.effects.Short.{old_need}
 use Rattle.fc_space.specs.Space.{layout_of}

@@ -2,7 +2,7 @@ use Rattle.fc_image.specs.Layout.{dir_form}
 use Rattle.fc_oldlaws.specs.moves.After.{start_after}
 use Rattle.fc_space.specs.Space.{layout_of}
 use Rattle.fc_tree.specs.Nodes.{nodes_of}
-use Rattle.std.proofs.Common.{◌≡◌, ◌∙◌}
+use Rattle.std.proofs.Common.{◌∙◌}
 use Rattle.fc_oldvolume.proofs.NumbersLemmas.{addressed_next}
 use Rattle.fc_oldvolume.proofs.compacting.nodes.move_nodes.Goals as goal
 

@@ -1,6 +1,4 @@
-use Rattle.std.proofs.Common.{◌≡◌, ◌∙◌, ap, sym, refl, length}
-use Rattle.std.specs.Prelude.{Some}
-use Rattle.std.specs.FinMap.{get}
+use Rattle.std.proofs.Common.{◌∙◌, ap, sym}
 use Rattle.fc_alloc.specs.declared.owner.Owner.{Owner}
 use Rattle.fc_alloc.specs.Owners.{with_changed}
 use Rattle.fc_space.specs.Space.{layout_of}

@@ -1,5 +1,4 @@
 use Rattle.std.proofs.Common.{◌≡◌, ◌<◌, ◌∙◌, sym, ap, subst, refl, ℕ, arith, length}
-use Rattle.fc_alloc.specs.declared.owner.Owner.{Owner}
 use Rattle.fc_oldlaws.specs.moves.Nodes.{remade}
 use Rattle.fc_tree.specs.Nodes.{nodes_of}
 use Rattle.fc_oldvolume.proofs.NumbersLemmas.{first_all, first_none, remade_next}

@@ -1,9 +1,9 @@
-use Rattle.std.proofs.Common.{◌≡◌, ◌≤◌, ◌*◌, ◌∙◌, ℕ, List, length, sym, ap, subst, refl}
+use Rattle.std.proofs.Common.{◌≡◌, ◌≤◌, ◌*◌, ◌∙◌, ℕ, length, sym, subst}
 use Rattle.fc_device.proofs.DiskLaws.{laws}
 use Rattle.fc_device.proofs.StopLemmas.{weaker}
-use Rattle.fc_objects.specs.Extents.{sectors_in}
 use Rattle.fc_dirs.specs.Small.{tail_of}
 use Rattle.fc_oldvolume.specs.Compacting.{IsDirWritten}
+use Rattle.fc_oldvolume.proofs.RoomLemmas.{row_part}
 use Rattle.fc_oldvolume.proofs.RowsLemmas.{dir_written, one_row_apart, one_row_low, one_row_room}
 use Rattle.fc_oldvolume.proofs.compacting.writing.write_directory.Goals as goal
 
@@ -34,3 +34,9 @@ returns-clause-told g c = c.store.ensures.keeps.told
 
 pub returns-in_err-store-clause-told : goal.returns-in_err-store-clause-told
 returns-in_err-store-clause-told g c = c.store.ensures.keeps.told
+
+pub returns-clause-places : goal.returns-clause-places
+returns-clause-places g c = λ was told. let w = c.store.ensures.keeps.exit was told in (w.0, w.1, row_part c.args.size c.args.row c.write.new.b was w.0 w.2)
+
+pub returns-in_err-store-clause-places : goal.returns-in_err-store-clause-places
+returns-in_err-store-clause-places g c = λ was told. let w = c.store.ensures.keeps.exit was told in (w.0, w.1, row_part c.args.size c.args.row c.write.new.b was w.0 w.2)
