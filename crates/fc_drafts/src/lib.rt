@@ -3,7 +3,7 @@
 //! byte. So a refusal or a lack of memory leaves the volume as it was, since the volume's own directories are not touched.
 //!
 //! A `Draft` is one face of small and big directories. Its rewritings (`enter`, `replace`, `leave`, `rename`,
-//! `rename_head`, `set_holder`) each say what fc_effects asks of a rewritten directory.
+//! `rename_head`, `set_holder`) each say what fc_image::effects asks of a rewritten directory.
 #![tactic(auto)]
 
 mod draft;

@@ -19,7 +19,7 @@ impl Draft {
     /// A new entry comes, in its place by name. Its name may be written in the directory and folds to none that is there, and
     /// the directory can hold its numbers. After an error the draft is as before.
     ///
-    /// `DirFull` comes exactly if fc_effects' `is_full_with` says so of the directory with the name.
+    /// `DirFull` comes exactly if fc_image::effects' `is_full_with` says so of the directory with the name.
     pub fn enter(&mut self, parent: u32, e: Entry) -> Result<(), InsertError>
         requires named { CanName (directory_in self.old) e.name }
         requires held { CanHold (directory_in self.old) e }
@@ -62,7 +62,7 @@ impl Draft {
     /// The entry at a place becomes another within the directory, in the place of a new one by its name, which may be written
     /// in the directory and folds to no other that is there. After an error the draft is as before.
     ///
-    /// `DirFull` comes exactly if the name is spelled otherwise than before and fc_effects' `is_full_with` says so.
+    /// `DirFull` comes exactly if the name is spelled otherwise than before and fc_image::effects' `is_full_with` says so.
     pub fn rename(&mut self, parent: u32, at: usize, e: Entry) -> Result<(), InsertError>
         requires present { at < length (entries_of (directory_in self.old)) }
         requires named { CanName (directory_in self.old) e.name }

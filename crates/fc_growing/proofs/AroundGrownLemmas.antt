@@ -1,5 +1,5 @@
--- All that commands ask of the directories around a grown one, from what the calls of this crate ensure. The steps of fc_growntakeover
--- and the edits of fc_grownnodes take it as it is.
+-- All that commands ask of the directories around a grown one, from what the calls of this crate ensure. The steps of
+-- fc_grownlaws::takeover and the edits of fc_grownlaws::nodes take it as it is.
 use Rattle.std.proofs.Common.{◌≡◌, ◌≤◌, ◌==◌, ◌||◌, ℕ, true, false, List, [], ◌∷◌, ◌++◌, Some, refl, sym, ap, ◌∙◌}
 use Rattle.std.specs.Prelude.{All, Contains, IsSome, IsTrue, None, insert, is_some}
 use Rattle.std.specs.List.{flat_map}

@@ -131,7 +131,7 @@ module _ (m : Map) (nodes : Nodes) (owners : List Owner) (listings : List Listin
   o_at : IsAt (Layout.New m) o
   o_at = placed m nodes owners listings o dir grows.node o grows.node.there
 
-  size_is : (len : ℕ) → object_size (dir_form (Layout.New m)) (record o.entry { len = len }) ≡ len
+  pub size_is : (len : ℕ) → object_size (dir_form (Layout.New m)) (record o.entry { len = len }) ≡ len
   size_is len = ap₂ (λ (b : Bool) (f : NameForm). cond b (directory_size f len) len) grows.directory grows.form
 
   o_sectors : new_sectors m o.entry.address o.entry.len ≡ Some o.sectors
@@ -140,7 +140,7 @@ module _ (m : Map) (nodes : Nodes) (owners : List Owner) (listings : List Listin
   o_sector : (s : ℕ) × (is_among o.sectors s ≡ true)
   o_sector = a_sector m o.entry.address o.entry.len o.sectors grows.some some_size (subst (λ (n : ℕ). sectors_at (Layout.New m) o.entry.address n ≡ Some o.sectors) (size_is o.entry.len) o_at)
 
-  o_some : has_sectors o ≡ true
+  pub o_some : has_sectors o ≡ true
   o_some = sectors_some o.sectors o_sector.0 o_sector.1
 
   need_some : 0 < div_ceil p.len m.geometry.sector
@@ -149,10 +149,10 @@ module _ (m : Map) (nodes : Nodes) (owners : List Owner) (listings : List Listin
   own_object_id : is_object_id m own_id ≡ true
   own_object_id = (row_of m o.entry.address o.entry.len o.sectors (some_sectors m o.entry.len is (λ e. let some = grows.some in omega (arith, e, some))) o_sectors).object
 
-  own_id_low : 2 ≤ own_id
+  pub own_id_low : 2 ≤ own_id
   own_id_low = leb-true 2 own_id (and_first (nat_le 2 own_id) (nat_lt own_id (id_limit m.geometry)) own_object_id)
 
-  own_id_high : own_id < id_limit m.geometry
+  pub own_id_high : own_id < id_limit m.geometry
   own_id_high = ltb-true own_id (id_limit m.geometry) (second (nat_le 2 own_id) (nat_lt own_id (id_limit m.geometry)) own_object_id)
     where
       second : (a b : Bool) → (a && b) ≡ true → b ≡ true
@@ -169,10 +169,10 @@ module _ (m : Map) (nodes : Nodes) (owners : List Owner) (listings : List Listin
   pub room_same : has_room (Layout.New m) objects (o, p.len) ≡ has_room_by m owners dir o.entry.address p.len
   room_same = room_is m nodes owners listings o dir grows.node p.len grows.longer
 
-  alone_same : is_alone objects o ≡ alone
+  pub alone_same : is_alone objects o ≡ alone
   alone_same = alone_is m nodes owners listings o dir grows.node o_some
 
-  own_if_object : IfSome p.object (IsOwnPlan m bytes)
+  pub own_if_object : IfSome p.object (IsOwnPlan m bytes)
   own_if_object = own_if m bytes p.object (sectors_in p.object_place.items) grows.planned.object
 
   -- ---- where it lies
@@ -250,13 +250,13 @@ module _ (m : Map) (nodes : Nodes) (owners : List Owner) (listings : List Listin
 
   -- where it lies
   module _ (dir_is : p.dir ≡ None) (there : (has_room_by m owners dir o.entry.address p.len ≡ true) × (new_sectors m o.entry.address p.len ≡ Some (sectors_in p.place.items))) where
-    address_stays : p.address ≡ o.entry.address
+    pub address_stays : p.address ≡ o.entry.address
     address_stays = grows.planned.address ∙ ap (address_after alone o.entry.address) dir_is
 
-    lies_there : Lies
+    pub lies_there : Lies
     lies_there = inl (record { room = room_same ∙ there.0; address = address_stays; nothing = ap parts_in dir_is })
 
-    gone_none : p.gone.items ≡ []
+    pub gone_none : p.gone.items ≡ []
     gone_none = subst (λ (q : Option Plan). AreGone owners dir q p.gone.items) dir_is grows.planned.gone
 
     -- its own identifier isn't the object's
@@ -264,7 +264,7 @@ module _ (m : Map) (nodes : Nodes) (owners : List Owner) (listings : List Listin
     not_object None own = tt
     not_object (Some plan) own = λ same. clash (is_used m own_id) own_used (ap (is_used m) same ∙ own.unused)
 
-    from_map : sectors_at (Layout.New m) o.entry.address p.len ≡ new_sectors m o.entry.address p.len
+    pub from_map : sectors_at (Layout.New m) o.entry.address p.len ≡ new_sectors m o.entry.address p.len
     unfolding sectors_at
     from_map = ap (λ (b : Bool). cond b (Some []) (new_sectors m o.entry.address p.len)) (ne_eqb p.len 0 (λ e. let longer = grows.longer in omega (arith, e, longer)))
 
@@ -343,6 +343,17 @@ module _ (m : Map) (nodes : Nodes) (owners : List Owner) (listings : List Listin
   grown_size_is m' has =
       ap (λ (g : Geometry). object_size (cond (g.version == 0) Rattle.fc_names.specs.declared.name.NameForm.TheVariants.Ten Rattle.fc_names.specs.declared.name.NameForm.TheVariants.Long) grown.entry) has.geometry ∙ size_is p.len
 
+  -- with its old address it owns what it owned
+  pub owned_there : has_sectors grown ≡ true → p.address ≡ o.entry.address → (k : ℕ) → is_given_back objects (grown ∷ stay) k ≡ false
+  owned_there some address k =
+      ap₂ (λ (a b : Bool). a && not b) (owned_same objects (o ∷ stay) k grows.others)
+      (ap₂ (λ (b : Bool) (a : ℕ). (k == 2) || ((b && (id_of a == k)) || list_any (is_owner_of k) stay)) (some ∙ sym o_some) address)
+      ∙ never (is_owned (o ∷ stay) k)
+    where
+      never : (b : Bool) → (b && not b) ≡ false
+      never true = refl
+      never false = refl
+
   -- the grown directory has sectors
   module _ (m' : Map) (has : HasGrowth m m' p) where
     grown_size : 0 < m'.geometry.sector
@@ -354,14 +365,7 @@ module _ (m : Map) (nodes : Nodes) (owners : List Owner) (listings : List Listin
 
     -- with its old address it owns what it owned
     same_owned : p.address ≡ o.entry.address → (k : ℕ) → is_given_back objects (grown ∷ stay) k ≡ false
-    same_owned address k =
-        ap₂ (λ (a b : Bool). a && not b) (owned_same objects (o ∷ stay) k grows.others)
-        (ap₂ (λ (b : Bool) (a : ℕ). (k == 2) || ((b && (id_of a == k)) || list_any (is_owner_of k) stay)) (grown_some ∙ sym o_some) address)
-        ∙ never (is_owned (o ∷ stay) k)
-      where
-        never : (b : Bool) → (b && not b) ≡ false
-        never true = refl
-        never false = refl
+    same_owned address k = owned_there grown_some address k
 
     pub gives : (k : ℕ) → is_used m k ≡ true → is_one_of p.gone.items k ≡ (is_given_back objects (grown ∷ stay) k || is_left m objects o place k)
     gives k used = by p.dir refl grows.planned.dir

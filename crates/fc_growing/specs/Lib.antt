@@ -6,3 +6,11 @@ pub mod Writing
 pub mod Steps
 pub mod File
 pub mod Around
+pub mod Finding
+pub mod Saving
+pub mod Growing
+pub mod Making
+pub mod Renaming
+pub mod Leaving
+pub mod Naming
+pub mod Carried

@@ -30,8 +30,8 @@ pub record IsReadyFor (m' : Map) (g : Growth) (content : Directory) : Type 0 whe
 abbrev pub stays_there : Map → List Listing → Object → Growth → Bool
 stays_there m listings o g = has_room (Layout.New m) (objects_of listings) (o, g.place.len)
 
--- Each write by itself, as a command's steps ask for it (fc_growntakeover, `IsGrowingInSteps`). `image` is the image after the repair of
--- the copies, and `named` the one before the directories around are written.
+-- Each write by itself, as a command's steps ask for it (fc_grownlaws::takeover, `IsGrowingInSteps`). `image` is the image after
+-- the repair of the copies, and `named` the one before the directories around are written.
 pub record IsGrownInSteps (m m' : Map) (listings : List Listing) (o : Object) (content : Directory) (g : Growth) (new_bytes was named : List ℕ) : Type 0 where
   pub image : List ℕ
   pub stored : List ℕ

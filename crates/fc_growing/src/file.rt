@@ -65,7 +65,7 @@ fn plan_of(placing: Placing) -> Option<Plan>
 }
 
 // The file's address, and its plan again, if it isn't in slack.
-fn address_with(
+pub(crate) fn address_with(
     map: &NewMap,
     share: Option<Share>,
     object: Option<Plan>,

@@ -1,6 +1,6 @@
 //! The same laws if a directory grows.
 #![tactic(auto)]
 
-pub mod nodes;
 pub mod agree;
+pub mod nodes;
 pub mod takeover;

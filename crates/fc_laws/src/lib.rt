@@ -2,6 +2,6 @@
 //! volume promises.
 #![tactic(auto)]
 
-pub mod nodes;
 pub mod agree;
+pub mod nodes;
 pub mod takeover;

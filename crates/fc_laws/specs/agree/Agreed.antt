@@ -35,7 +35,7 @@ pub record CanSay (layout : Layout) (o : Object) (content : Directory) : Type 0 
   pub form : HasForm (dir_form layout) o.entry.len content
   pub body : IsDirectory content
 
--- The nodes and owners are those of these listings. (Crate fc_nodes has both for each of its edits.)
+-- The nodes and owners are those of these listings. (`nodes` has both for each of its edits.)
 pub record PartsFollow (nodes : Nodes) (owners : List Owner) (layout : Layout) (listings : List Listing) : Type 0 where
   pub nodes_follow : NodesFollow nodes listings
   pub owners_follow : OwnersFollow owners nodes layout listings

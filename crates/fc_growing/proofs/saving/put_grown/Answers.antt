@@ -1,0 +1,232 @@
+use Rattle.std.proofs.Common.{◌≡◌, ◌<◌, ℕ, None, inl, refl, sym, ap, subst, ◌∙◌, arith}
+use Rattle.std.specs.Prelude.{Err, Ok}
+use Rattle.std.specs.FinMap.{get}
+use Rattle.fc_alloc.specs.Owners.{HaveOwnNodes}
+use Rattle.fc_device.proofs.DiskLaws.{form_same, laws}
+use Rattle.fc_device.proofs.StopLemmas.{started, weaker}
+use Rattle.fc_record.specs.declared.Geometry.{Geometry}
+use Rattle.fc_model.specs.Command.{Command}
+use Rattle.fc_image.specs.Layout.{Layout, dir_form, sector_bytes}
+use Rattle.fc_image.specs.Opening.{Opened}
+use Rattle.fc_image.specs.Stays.{IsNewLayout}
+use Rattle.fc_image.specs.effects.Short.{short}
+use Rattle.fc_laws.proofs.lemmas.agree.BeforeLemmas.{agreed_law}
+use Rattle.fc_laws.proofs.lemmas.takeover.ApartLemmas.{places_law}
+use Rattle.fc_space.specs.declared.space.Space.{Space}
+use Rattle.fc_space.specs.Space.{layout_of}
+use Rattle.fc_tree.specs.Nodes.{Numbers, next_number, nodes_of}
+use Rattle.fc_volume.specs.declared.copies.Copies.{Copies}
+use Rattle.fc_volume.specs.Changing.{refusal_in}
+use Rattle.fc_volume.specs.Saving.{filled}
+use Rattle.fc_volume.specs.Volume.{HasCopies, HoldsMap, StandsFor, Volume, parts_of}
+use Rattle.fc_volume.proofs.ChangeLemmas.{ok_both, ok_then, only_faults, places_written, unless_fault, writes_nothing}
+use Rattle.fc_volume.proofs.FilledLemmas.{length-filled}
+use Rattle.fc_volume.proofs.JudgedLemmas.{done_by}
+use Rattle.fc_volume.proofs.StandsLemmas.{new_layout}
+use Rattle.fc_growing.specs.declared.filing.GrownFile.{GrownFile}
+use Rattle.fc_growing.proofs.AskedLemmas.{kept_as_it_was, no_fault, no_memory, space_answer, unless_any}
+use Rattle.fc_growing.proofs.CdirLemmas.{kept_from}
+use Rattle.fc_growing.proofs.SavingMemoryLemmas.{admitted_from}
+use Rattle.fc_growing.proofs.SavingReadyLemmas as asked_of
+use Rattle.fc_growing.proofs.SavingVolumeLemmas as volume_of
+use Rattle.fc_growing.proofs.SavingVolumeLemmas.{done_filled, ready_in}
+use Rattle.fc_growing.proofs.saving.put_grown.Goals as goal
+
+pub draft_file-drafted-requires-clause-can : goal.draft_file-drafted-requires-clause-can
+draft_file-drafted-requires-clause-can g c = λ m at.
+    let here = ap (λ (x : Volume). layout_of x.space) (sym c.volume.view_is) ∙ at in
+    asked_of.asked _ c.args.volume.now c.volume.view_is m here (c.is_new_map.ensures m at) c.args.p.now c.args.outgrown c.requires.found c.requires.stands.agree c.args.words.len
+
+pub returns-in-Err-clause-refused : goal.returns-in-Err-clause-refused
+returns-in-Err-clause-refused g c = λ k makes v image sound parts.
+    let map = new_layout (parts_of c.args.volume.now).layout c.requires.new_map in
+    let inner = ap (λ (x : Volume). layout_of x.space) c.volume.view_is ∙ map.1 in
+    space_answer GrownFile (Unit {0}) _ (short v k) c.in-Err.error (asked_of.by_space _ c.args.volume.now c.volume.view_is map.0 map.1 (c.is_new_map.ensures map.0 inner) c.args.p.now c.args.outgrown c.requires.found c.requires.stands.agree k c.args.words.load c.args.words.exec _ makes c.args.words.len (length-filled c.args.words.len c.args.bytes.now c.requires.long) v sound parts image)
+    (asked_of.answered _ c.args.volume.now c.volume.view_is map.0 map.1 (c.is_new_map.ensures map.0 inner) c.args.p.now c.args.outgrown c.requires.found c.requires.stands.agree k c.args.words.load c.args.words.exec _ makes c.args.words.len (length-filled c.args.words.len c.args.bytes.now c.requires.long) v sound parts {T = GrownFile} (Err c.in-Err.error) c.in-Err.ensures.refused)
+
+pub returns-in-Err-clause-places : goal.returns-in-Err-clause-places
+returns-in-Err-clause-places g c = λ k makes was told. (was, told, λ kind view m opens parts at. writes_nothing places_law kind view m k was)
+
+pub returns-in-Err-clause-keeps : goal.returns-in-Err-clause-keeps
+returns-in-Err-clause-keeps g c =
+    let map = new_layout (parts_of c.args.volume.now).layout c.requires.new_map in
+    let inner = ap (λ (x : Volume). layout_of x.space) c.volume.view_is ∙ map.1 in
+    let agree = c.requires.stands.agree in
+    let view : Opened = record { kind = agree.0; layout = (parts_of c.args.volume.now).layout; listings = agree.1.listings } in
+    let k = Command.Save c.args.p.now c.args.words.load c.args.words.exec (filled c.args.words.len c.args.bytes.now) in
+    kept_as_it_was g.D.Disk (laws g.met.D.Disk) c.args.disk.now c.args.volume.now c.in-Err.error
+    (no_fault GrownFile c.in-Err.error (short view k)
+    (asked_of.answered _ c.args.volume.now c.volume.view_is map.0 map.1 (c.is_new_map.ensures map.0 inner) c.args.p.now c.args.outgrown c.requires.found c.requires.stands.agree k c.args.words.load c.args.words.exec (filled c.args.words.len c.args.bytes.now) (inl refl) c.args.words.len (length-filled c.args.words.len c.args.bytes.now c.requires.long) view
+    (agreed_law.sound_by agree.0 (parts_of c.args.volume.now) agree.1) (agreed_law.viewed agree.0 (parts_of c.args.volume.now) agree.1) {T = GrownFile} (Err c.in-Err.error) c.in-Err.ensures.refused))
+    c.requires.stands c.requires.settled c.requires.fit c.requires.new_map
+
+pub returns-in-Err-clause-form_stays : goal.returns-in-Err-clause-form_stays
+returns-in-Err-clause-form_stays g c =
+    unless_any c.in-Err.error _ refl
+
+pub admit_file-requires : goal.admit_file-requires
+admit_file-requires g c =
+    let map = new_layout (parts_of c.args.volume.now).layout c.requires.new_map in
+    let inner = ap (λ (x : Volume). layout_of x.space) c.volume.view_is ∙ map.1 in
+    let free = subst (λ (x : Volume). get (nodes_of x.tree) c.next_number-n.result ≡ None) c.volume.view_is c.next_number-n.ensures.free in
+    asked_of.no_owner _ c.args.volume.now c.volume.view_is map.0 map.1 (c.is_new_map.ensures map.0 inner) c.args.p.now c.args.outgrown c.requires.found c.requires.stands.agree c.next_number-n.result free
+
+pub put_new-requires-clause-size : goal.put_new-requires-clause-size
+put_new-requires-clause-size g c =
+    let number = c.next_number-n.ensures.number ∙ ap (λ (x : Volume). next_number x.tree) c.volume.view_is in
+    let adm = admitted_from _ c.args.volume.now c.admit_file.new.volume c.next_number-n.new.self c.next_number-n.result (next_number c.args.volume.now.tree) c.args.outgrown.dir c.in-Ok.change.entry c.next_number-n.ensures.same c.volume.view_is number c.in-Ok-admit_file.ensures.ok in
+    c.requires.stands.size ∙ ap (λ (x : Space). sector_bytes (layout_of x)) (sym adm.space)
+
+pub put_new-requires-clause-map_room : goal.put_new-requires-clause-map_room
+put_new-requires-clause-map_room g c =
+    let number = c.next_number-n.ensures.number ∙ ap (λ (x : Volume). next_number x.tree) c.volume.view_is in
+    let adm = admitted_from _ c.args.volume.now c.admit_file.new.volume c.next_number-n.new.self c.next_number-n.result (next_number c.args.volume.now.tree) c.args.outgrown.dir c.in-Ok.change.entry c.next_number-n.ensures.same c.volume.view_is number c.in-Ok-admit_file.ensures.ok in
+    subst (λ (x : Space). HoldsMap (layout_of x) (g.D.Disk.sectors c.args.disk.now)) (sym adm.space) c.requires.stands.map_room
+
+pub put_new-requires-clause-known : goal.put_new-requires-clause-known
+put_new-requires-clause-known g c =
+    let number = c.next_number-n.ensures.number ∙ ap (λ (x : Volume). next_number x.tree) c.volume.view_is in
+    let adm = admitted_from _ c.args.volume.now c.admit_file.new.volume c.next_number-n.new.self c.next_number-n.result (next_number c.args.volume.now.tree) c.args.outgrown.dir c.in-Ok.change.entry c.next_number-n.ensures.same c.volume.view_is number c.in-Ok-admit_file.ensures.ok in
+    λ x told.
+    subst (λ (k : Copies). HasCopies k (layout_of c.admit_file.new.volume.space) x) (sym adm.copies)
+    (subst (λ (y : Space). HasCopies c.args.volume.now.copies (layout_of y) x) (sym adm.space) (c.requires.stands.copies x told))
+
+pub put_new-requires-clause-new_map : goal.put_new-requires-clause-new_map
+put_new-requires-clause-new_map g c =
+    let number = c.next_number-n.ensures.number ∙ ap (λ (x : Volume). next_number x.tree) c.volume.view_is in
+    let adm = admitted_from _ c.args.volume.now c.admit_file.new.volume c.next_number-n.new.self c.next_number-n.result (next_number c.args.volume.now.tree) c.args.outgrown.dir c.in-Ok.change.entry c.next_number-n.ensures.same c.volume.view_is number c.in-Ok-admit_file.ensures.ok in
+    subst (λ (x : Space). IsNewLayout (layout_of x)) (sym adm.space) c.requires.new_map
+
+pub put_new-requires-clause-can : goal.put_new-requires-clause-can
+put_new-requires-clause-can g c = λ m at.
+    let number = c.next_number-n.ensures.number ∙ ap (λ (x : Volume). next_number x.tree) c.volume.view_is in
+    let adm = admitted_from _ c.args.volume.now c.admit_file.new.volume c.next_number-n.new.self c.next_number-n.result (next_number c.args.volume.now.tree) c.args.outgrown.dir c.in-Ok.change.entry c.next_number-n.ensures.same c.volume.view_is number c.in-Ok-admit_file.ensures.ok in
+    let free = subst (λ (k : ℕ). get (nodes_of c.args.volume.now.tree) k ≡ None) number (subst (λ (x : Volume). get (nodes_of x.tree) c.next_number-n.result ≡ None) c.volume.view_is c.next_number-n.ensures.free) in
+    let here = ap layout_of (sym adm.space) ∙ at in
+    let inner = ap (λ (x : Volume). layout_of x.space) c.volume.view_is ∙ here in
+    let is = ready_in _ c.args.volume.now c.volume.view_is m (c.is_new_map.ensures m inner) c.args.p.now c.args.outgrown c.requires.found c.args.words c.in-Ok.change (c.in-Ok.ensures.ready m inner) (next_number c.args.volume.now.tree) free in
+    volume_of.can_write g.D.Disk m c.args.volume.now c.args.disk.now c.args.p.now c.args.outgrown.dir c.args.outgrown.len c.args.words c.in-Ok.change here is c.requires.stands
+
+pub put_new-requires-clause-on_disk : goal.put_new-requires-clause-on_disk
+put_new-requires-clause-on_disk g c =
+    let map = new_layout (parts_of c.args.volume.now).layout c.requires.new_map in
+    let inner = ap (λ (x : Volume). layout_of x.space) c.volume.view_is ∙ map.1 in
+    let number = c.next_number-n.ensures.number ∙ ap (λ (x : Volume). next_number x.tree) c.volume.view_is in
+    let free = subst (λ (k : ℕ). get (nodes_of c.args.volume.now.tree) k ≡ None) number (subst (λ (x : Volume). get (nodes_of x.tree) c.next_number-n.result ≡ None) c.volume.view_is c.next_number-n.ensures.free) in
+    let is = ready_in _ c.args.volume.now c.volume.view_is map.0 (c.is_new_map.ensures map.0 inner) c.args.p.now c.args.outgrown c.requires.found c.args.words c.in-Ok.change (c.in-Ok.ensures.ready map.0 inner) (next_number c.args.volume.now.tree) free in
+    volume_of.lies_on g.D.Disk map.0 c.args.volume.now c.args.disk.now c.args.p.now c.args.outgrown.dir c.args.outgrown.len c.args.words c.in-Ok.change map.1 is c.requires.stands
+
+pub put_new-requires-clause-over : goal.put_new-requires-clause-over
+put_new-requires-clause-over g c =
+    let map = new_layout (parts_of c.args.volume.now).layout c.requires.new_map in
+    let inner = ap (λ (x : Volume). layout_of x.space) c.volume.view_is ∙ map.1 in
+    let number = c.next_number-n.ensures.number ∙ ap (λ (x : Volume). next_number x.tree) c.volume.view_is in
+    let free = subst (λ (k : ℕ). get (nodes_of c.args.volume.now.tree) k ≡ None) number (subst (λ (x : Volume). get (nodes_of x.tree) c.next_number-n.result ≡ None) c.volume.view_is c.next_number-n.ensures.free) in
+    let adm = admitted_from _ c.args.volume.now c.admit_file.new.volume c.next_number-n.new.self c.next_number-n.result (next_number c.args.volume.now.tree) c.args.outgrown.dir c.in-Ok.change.entry c.next_number-n.ensures.same c.volume.view_is number c.in-Ok-admit_file.ensures.ok in
+    let is = ready_in _ c.args.volume.now c.volume.view_is map.0 (c.is_new_map.ensures map.0 inner) c.args.p.now c.args.outgrown c.requires.found c.args.words c.in-Ok.change (c.in-Ok.ensures.ready map.0 inner) (next_number c.args.volume.now.tree) free in
+    volume_of.can_take_over g.D.Disk map.0 c.args.volume.now c.args.disk.now c.args.p.now c.args.outgrown.dir c.args.outgrown.len c.args.words c.in-Ok.change map.1 is c.requires.stands c.admit_file.new.volume (next_number c.args.volume.now.tree) adm
+
+pub put_new-requires-clause-room : goal.put_new-requires-clause-room
+put_new-requires-clause-room g c =
+    let number = c.next_number-n.ensures.number ∙ ap (λ (x : Volume). next_number x.tree) c.volume.view_is in
+    let adm = admitted_from _ c.args.volume.now c.admit_file.new.volume c.next_number-n.new.self c.next_number-n.result (next_number c.args.volume.now.tree) c.args.outgrown.dir c.in-Ok.change.entry c.next_number-n.ensures.same c.volume.view_is number c.in-Ok-admit_file.ensures.ok in
+    subst (λ (t : Numbers). 0 < t.room) (sym adm.tree) (omega arith)
+
+pub returns-in-Ok-admit_file-clause-refused : goal.returns-in-Ok-admit_file-clause-refused
+returns-in-Ok-admit_file-clause-refused g c = λ k makes v image sound parts.
+    let map = new_layout (parts_of c.args.volume.now).layout c.requires.new_map in
+    let inner = ap (λ (x : Volume). layout_of x.space) c.volume.view_is ∙ map.1 in
+    done_by _ c.put_new.result
+    (asked_of.by_space _ c.args.volume.now c.volume.view_is map.0 map.1 (c.is_new_map.ensures map.0 inner) c.args.p.now c.args.outgrown c.requires.found c.requires.stands.agree k c.args.words.load c.args.words.exec _ makes c.args.words.len (length-filled c.args.words.len c.args.bytes.now c.requires.long) v sound parts image
+    ∙ asked_of.answered _ c.args.volume.now c.volume.view_is map.0 map.1 (c.is_new_map.ensures map.0 inner) c.args.p.now c.args.outgrown c.requires.found c.requires.stands.agree k c.args.words.load c.args.words.exec _ makes c.args.words.len (length-filled c.args.words.len c.args.bytes.now c.requires.long) v sound parts {T = GrownFile} (Ok c.in-Ok.change) c.in-Ok.ensures.refused) c.put_new.ensures.error
+
+pub returns-in-Ok-admit_file-clause-changed : goal.returns-in-Ok-admit_file-clause-changed
+returns-in-Ok-admit_file-clause-changed g c =
+    let map = new_layout (parts_of c.args.volume.now).layout c.requires.new_map in
+    let inner = ap (λ (x : Volume). layout_of x.space) c.volume.view_is ∙ map.1 in
+    let number = c.next_number-n.ensures.number ∙ ap (λ (x : Volume). next_number x.tree) c.volume.view_is in
+    let free = subst (λ (k : ℕ). get (nodes_of c.args.volume.now.tree) k ≡ None) number (subst (λ (x : Volume). get (nodes_of x.tree) c.next_number-n.result ≡ None) c.volume.view_is c.next_number-n.ensures.free) in
+    let adm = admitted_from _ c.args.volume.now c.admit_file.new.volume c.next_number-n.new.self c.next_number-n.result (next_number c.args.volume.now.tree) c.args.outgrown.dir c.in-Ok.change.entry c.next_number-n.ensures.same c.volume.view_is number c.in-Ok-admit_file.ensures.ok in
+    let is = ready_in _ c.args.volume.now c.volume.view_is map.0 (c.is_new_map.ensures map.0 inner) c.args.p.now c.args.outgrown c.requires.found c.args.words c.in-Ok.change (c.in-Ok.ensures.ready map.0 inner) (next_number c.args.volume.now.tree) free in
+    let mid = ap layout_of adm.space ∙ map.1 in
+    ok_then c.put_new.result _ _ (λ both k makes. volume_of.has_changed g.D.Disk map.0 c.args.volume.now c.args.disk.now c.args.p.now c.args.outgrown.dir c.args.outgrown.len c.args.words c.in-Ok.change map.1 is c.requires.stands (subst (λ (x : Volume). HaveOwnNodes x.owners) c.volume.view_is c.list.ensures.nodes) c.admit_file.new.volume c.put_new.new.volume c.put_new.new.disk (both.1 map.0 mid).0 adm both.0 (both.1 map.0 mid).1 (filled c.args.words.len c.args.bytes.now) (length-filled c.args.words.len c.args.bytes.now c.requires.long) (done_filled g.D.Disk map.0 (both.1 map.0 mid).0 c.in-Ok.change.growing c.args.words.len c.args.bytes.now c.args.disk.now c.put_new.new.disk (both.1 map.0 mid).2) (c.put_new.ensures.exits map.0 mid) k makes)
+    (ok_both c.put_new.result _ _ c.put_new.ensures.volume c.put_new.ensures.done)
+
+pub returns-in-Ok-admit_file-clause-places : goal.returns-in-Ok-admit_file-clause-places
+returns-in-Ok-admit_file-clause-places g c = λ k makes.
+    let map = new_layout (parts_of c.args.volume.now).layout c.requires.new_map in
+    let inner = ap (λ (x : Volume). layout_of x.space) c.volume.view_is ∙ map.1 in
+    let number = c.next_number-n.ensures.number ∙ ap (λ (x : Volume). next_number x.tree) c.volume.view_is in
+    let free = subst (λ (k : ℕ). get (nodes_of c.args.volume.now.tree) k ≡ None) number (subst (λ (x : Volume). get (nodes_of x.tree) c.next_number-n.result ≡ None) c.volume.view_is c.next_number-n.ensures.free) in
+    let adm = admitted_from _ c.args.volume.now c.admit_file.new.volume c.next_number-n.new.self c.next_number-n.result (next_number c.args.volume.now.tree) c.args.outgrown.dir c.in-Ok.change.entry c.next_number-n.ensures.same c.volume.view_is number c.in-Ok-admit_file.ensures.ok in
+    places_written g.D.Disk k c.args.volume.now c.args.disk.now c.put_new.new.disk _ (λ m at. c.put_new.ensures.exits m (ap layout_of adm.space ∙ at)) c.requires.new_map
+    (λ kind view m was image opens held here written.
+    let within = ap (λ (x : Volume). layout_of x.space) c.volume.view_is ∙ here in
+    let is = ready_in _ c.args.volume.now c.volume.view_is m (c.is_new_map.ensures m within) c.args.p.now c.args.outgrown c.requires.found c.args.words c.in-Ok.change (c.in-Ok.ensures.ready m within) (next_number c.args.volume.now.tree) free in
+    volume_of.places_of g.D.Disk m c.args.volume.now c.args.disk.now c.args.p.now c.args.outgrown.dir c.args.outgrown.len c.args.words c.in-Ok.change here is c.requires.stands kind view was opens held k
+    c.args.words.load c.args.words.exec _ makes image written)
+    map.0 map.1
+
+pub returns-in-Ok-admit_file-clause-keeps : goal.returns-in-Ok-admit_file-clause-keeps
+returns-in-Ok-admit_file-clause-keeps g c =
+    let map = new_layout (parts_of c.args.volume.now).layout c.requires.new_map in
+    let inner = ap (λ (x : Volume). layout_of x.space) c.volume.view_is ∙ map.1 in
+    let number = c.next_number-n.ensures.number ∙ ap (λ (x : Volume). next_number x.tree) c.volume.view_is in
+    let free = subst (λ (k : ℕ). get (nodes_of c.args.volume.now.tree) k ≡ None) number (subst (λ (x : Volume). get (nodes_of x.tree) c.next_number-n.result ≡ None) c.volume.view_is c.next_number-n.ensures.free) in
+    let adm = admitted_from _ c.args.volume.now c.admit_file.new.volume c.next_number-n.new.self c.next_number-n.result (next_number c.args.volume.now.tree) c.args.outgrown.dir c.in-Ok.change.entry c.next_number-n.ensures.same c.volume.view_is number c.in-Ok-admit_file.ensures.ok in
+    let is = ready_in _ c.args.volume.now c.volume.view_is map.0 (c.is_new_map.ensures map.0 inner) c.args.p.now c.args.outgrown c.requires.found c.args.words c.in-Ok.change (c.in-Ok.ensures.ready map.0 inner) (next_number c.args.volume.now.tree) free in
+    let mid = ap layout_of adm.space ∙ map.1 in
+    record {
+      unchanged = only_faults c.put_new.result _ c.put_new.ensures.error;
+      stands = unless_fault c.put_new.result _ (ok_then c.put_new.result _ _ (λ both. volume_of.stands_now g.D.Disk map.0 c.args.volume.now c.args.disk.now c.args.p.now c.args.outgrown.dir c.args.outgrown.len c.args.words c.in-Ok.change map.1 is c.requires.stands (subst (λ (x : Volume). HaveOwnNodes x.owners) c.volume.view_is c.list.ensures.nodes) c.admit_file.new.volume c.put_new.new.volume c.put_new.new.disk (both.1 map.0 mid).0 adm both.0 (both.1 map.0 mid).1 (filled c.args.words.len c.args.bytes.now) (length-filled c.args.words.len c.args.bytes.now c.requires.long) (done_filled g.D.Disk map.0 (both.1 map.0 mid).0 c.in-Ok.change.growing c.args.words.len c.args.bytes.now c.args.disk.now c.put_new.new.disk (both.1 map.0 mid).2) (c.put_new.ensures.exits map.0 mid) c.put_new.ensures.form)
+          (ok_both c.put_new.result _ _ c.put_new.ensures.volume c.put_new.ensures.done)) c.put_new.ensures.error;
+      settled = unless_fault c.put_new.result _ c.put_new.ensures.durable c.put_new.ensures.error;
+      fit = unless_fault c.put_new.result _ (ok_then c.put_new.result _ _ (λ has. has.fit ∙ adm.fit ∙ c.requires.fit) c.put_new.ensures.volume) c.put_new.ensures.error;
+      unfit = c.put_new.ensures.unfit;
+      new_map = c.put_new.ensures.new_map;
+      rights = c.put_new.ensures.rights ∙ adm.rights;
+      form = c.put_new.ensures.form;
+      goes = weaker (laws g.met.D.Disk) _ (c.put_new.ensures.exits map.0 mid).stops (λ image left. tt);
+      faults = c.put_new.ensures.faults;
+      cause = c.put_new.ensures.cause;
+    }
+
+pub returns-in-Ok-admit_file-clause-form_stays : goal.returns-in-Ok-admit_file-clause-form_stays
+returns-in-Ok-admit_file-clause-form_stays g c =
+    let map = new_layout (parts_of c.args.volume.now).layout c.requires.new_map in
+    let inner = ap (λ (x : Volume). layout_of x.space) c.volume.view_is ∙ map.1 in
+    let number = c.next_number-n.ensures.number ∙ ap (λ (x : Volume). next_number x.tree) c.volume.view_is in
+    let adm = admitted_from _ c.args.volume.now c.admit_file.new.volume c.next_number-n.new.self c.next_number-n.result (next_number c.args.volume.now.tree) c.args.outgrown.dir c.in-Ok.change.entry c.next_number-n.ensures.same c.volume.view_is number c.in-Ok-admit_file.ensures.ok in
+    let mid = ap layout_of adm.space ∙ map.1 in
+    unless_fault c.put_new.result _
+    (ok_then c.put_new.result _ _
+    (λ done. (let t = done map.0 mid in ap dir_form t.1 ∙ ap (λ (h : Geometry). dir_form (Layout.New (record map.0 { geometry = h }))) t.2.grown.growth.geometry ∙ sym (ap dir_form map.1))) c.put_new.ensures.done)
+    c.put_new.ensures.error
+
+pub returns-in-Err-admit_file-clause-refused : goal.returns-in-Err-admit_file-clause-refused
+returns-in-Err-admit_file-clause-refused g c = λ k makes v image sound parts. no_memory (Unit {0}) (refusal_in v image _ k)
+
+pub returns-in-Err-admit_file-clause-places : goal.returns-in-Err-admit_file-clause-places
+returns-in-Err-admit_file-clause-places g c = λ k makes was told. (was, told, λ kind view m opens parts at. writes_nothing places_law kind view m k was)
+
+pub returns-in-Err-admit_file-clause-keeps : goal.returns-in-Err-admit_file-clause-keeps
+returns-in-Err-admit_file-clause-keeps g c =
+    let same = kept_from _ c.args.volume.now c.admit_file.new.volume c.next_number-n.new.self c.next_number-n.ensures.same c.volume.view_is c.in-Err-admit_file.ensures.err in
+    record {
+      unchanged = λ other. (same, refl);
+      stands = subst (λ (x : Volume). StandsFor g.D.Disk x c.args.disk.now) (sym same) c.requires.stands;
+      settled = c.requires.settled;
+      fit = ap (λ (x : Volume). x.fit) same ∙ c.requires.fit;
+      unfit = λ e. absurd (cc);
+      new_map = subst (λ (x : Volume). IsNewLayout (parts_of x).layout) (sym same) c.requires.new_map;
+      rights = ap (λ (x : Volume). x.read_only) same;
+      form = form_same g.D.Disk c.args.disk.now;
+      goes = started (laws g.met.D.Disk) c.args.disk.now (λ image. Unit {0}) (λ image left. tt);
+      faults = omega arith;
+      cause = λ e. absurd (cc);
+    }
+
+pub returns-in-Err-admit_file-clause-form_stays : goal.returns-in-Err-admit_file-clause-form_stays
+returns-in-Err-admit_file-clause-form_stays g c =
+    let same = kept_from _ c.args.volume.now c.admit_file.new.volume c.next_number-n.new.self c.next_number-n.ensures.same c.volume.view_is c.in-Err-admit_file.ensures.err in
+    ap (λ (x : Volume). dir_form (parts_of x).layout) same
