@@ -9,7 +9,7 @@ use Rattle.fc_image.specs.Stays.{IsNewLayout}
 use Rattle.fc_runs.specs.ReadLaw.{is_reading}
 use Rattle.fc_runs.specs.Run.{commands_in, keeps_tree}
 use Rattle.fc_script.specs.Lines.{command_of}
-use Rattle.fc_shell.specs.Built.{any_changing, any_lacking, are_big, has_changing, has_lacking, is_adding, is_changing, lacks, lacks_command}
+use Rattle.fc_shell.specs.Built.{any_changing, any_lacking, are_big, has_changing, has_lacking, is_renaming, is_changing, lacks, lacks_command}
 use Rattle.fc_shell.specs.Changing.{AreAlike}
 use Rattle.fc_shell.proofs.ServingLemmas.{first_of_any, rest_of_any}
 
@@ -53,9 +53,9 @@ none_lacking layout none (line ∷ lines) = by (command_of line) refl (none_lack
 -- A command that a disc lacks changes it.
 lacking_changes : (layout : Layout) (c : Command) → lacks layout c ≡ true → not (is_reading c) ≡ true
 lacking_changes (Layout.Old space) c is = absurd (cc)
-lacking_changes (Layout.New m) (Command.Save path load exec bytes) is = refl
-lacking_changes (Layout.New m) (Command.Create path load exec len) is = refl
-lacking_changes (Layout.New m) (Command.Cdir path) is = refl
+lacking_changes (Layout.New m) (Command.Save path load exec bytes) is = absurd (cc)
+lacking_changes (Layout.New m) (Command.Create path load exec len) is = absurd (cc)
+lacking_changes (Layout.New m) (Command.Cdir path) is = absurd (cc)
 lacking_changes (Layout.New m) (Command.Rename from to) is = refl
 lacking_changes (Layout.New m) (Command.Cat path) is = absurd (cc)
 lacking_changes (Layout.New m) (Command.Load path) is = absurd (cc)
@@ -87,8 +87,8 @@ lacking_script layout script is = lines_change layout (commands_in script) is
 
 -- ---- what it says of the disc
 
--- On new maps a command that adds an entry is built only for small directories.
-pub adding_small : (layout : Layout) (c : Command) → IsNewLayout layout → is_adding c ≡ true → lacks layout c ≡ false → dir_form layout ≡ NameForm.Ten
+-- On new maps `rename` is built only for small directories.
+pub adding_small : (layout : Layout) (c : Command) → IsNewLayout layout → is_renaming c ≡ true → lacks layout c ≡ false → dir_form layout ≡ NameForm.Ten
 adding_small (Layout.Old space) c new adds none = absurd new
 adding_small (Layout.New m) c new adds none = by (m.geometry.version == 0) refl (sym (ap (λ (b : Bool). b && are_big (dir_form (Layout.New m))) adds) ∙ none)
   where
@@ -100,7 +100,7 @@ adding_small (Layout.New m) c new adds none = by (m.geometry.version == 0) refl 
 
 -- A map of the same kind with directories of the same form lacks no more.
 pub lacks_as_before : (was now : Layout) → AreAlike was now → dir_form now ≡ dir_form was → (c : Command) → lacks was c ≡ false → lacks now c ≡ false
-lacks_as_before (Layout.New m) (Layout.New n) alike same c none = ap (λ (f : NameForm). is_adding c && are_big f) same ∙ none
+lacks_as_before (Layout.New m) (Layout.New n) alike same c none = ap (λ (f : NameForm). is_renaming c && are_big f) same ∙ none
 lacks_as_before (Layout.New m) (Layout.Old space) alike same c none = absurd alike
 lacks_as_before (Layout.Old space) (Layout.New m) alike same c none = absurd alike
 lacks_as_before (Layout.Old space) (Layout.Old other) alike same c none = none

@@ -45,13 +45,10 @@ has_changing script = any_changing (commands_in script)
 
 -- ---- what is built for which discs
 
--- The command gives a directory a new entry, or may.
-abbrev pub is_adding : Command → Bool
-is_adding (Command.Save path load exec bytes) = true
-is_adding (Command.Create path load exec len) = true
-is_adding (Command.Cdir path) = true
-is_adding (Command.Rename from to) = true
-is_adding c = false
+-- The command renames an object.
+abbrev pub is_renaming : Command → Bool
+is_renaming (Command.Rename from to) = true
+is_renaming c = false
 
 -- Directories of this form are big ones, which grow.
 abbrev pub are_big : NameForm → Bool
@@ -59,10 +56,10 @@ are_big Seven = false
 are_big Ten = false
 are_big Long = true
 
--- A disc of this layout lacks the command: one with big directories those that add an entry.
+-- A disc of this layout lacks the command: one with big directories `rename`.
 abbrev pub lacks : Layout → Command → Bool
 lacks (Layout.Old space) c = false
-lacks (Layout.New m) c = is_adding c && are_big (dir_form (Layout.New m))
+lacks (Layout.New m) c = is_renaming c && are_big (dir_form (Layout.New m))
 
 -- It lacks the command that the line spells.
 abbrev pub lacks_command : Layout → Result Command Refusal → Bool

@@ -5,7 +5,7 @@ ghost use Rattle.fc_space.specs.Space.{layout_of};
 ghost use Rattle.fc_runs.specs.ReadLaw.{is_reading};
 ghost use Rattle.fc_script.specs.Lines.{command_of};
 ghost use Rattle.fc_script.specs.Reading.{command};
-ghost use Rattle.fc_shell.specs.Built.{are_big, has_lacking, has_unbuilt, is_adding, is_built, is_unbuilt_command, lacks, lacks_command};
+ghost use Rattle.fc_shell.specs.Built.{are_big, has_lacking, has_unbuilt, is_renaming, is_built, is_unbuilt_command, lacks, lacks_command};
 
 use crate::lines::CommandLines;
 use fc_device::NoMemory;
@@ -56,20 +56,20 @@ fn lacks_command(asked: &Command) -> bool
     }
 }
 
-// Whether a command gives a directory a new entry.
-fn is_adding(asked: &Command) -> bool
-    ensures { result ≡ is_adding (command asked.now) }
+// Whether a command renames an object.
+fn is_renaming(asked: &Command) -> bool
+    ensures { result ≡ is_renaming (command asked.now) }
 {
     match asked {
-        Command::Cdir { .. }
-        | Command::Save { .. }
-        | Command::Create { .. }
-        | Command::Rename { .. } => true,
+        Command::Rename { .. } => true,
         Command::Cat { .. }
         | Command::Load { .. }
         | Command::Digest { .. }
         | Command::Free
         | Command::Check
+        | Command::Cdir { .. }
+        | Command::Save { .. }
+        | Command::Create { .. }
         | Command::Delete { .. }
         | Command::Set { .. }
         | Command::Compact
@@ -93,7 +93,7 @@ fn lacks(space: &Space, asked: &Command) -> bool
 {
     match space {
         Space::OldMapped(_) => false,
-        Space::NewMapped(_) => is_adding(asked) && are_big(space.dir_form()),
+        Space::NewMapped(_) => is_renaming(asked) && are_big(space.dir_form()),
     }
 }
 

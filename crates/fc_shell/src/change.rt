@@ -85,7 +85,7 @@ fn change_new<D: Disk>(
     ensures { IsAsked D.Disk (command asked.now) volume.old volume.new disk.old disk.new result }
 {
     match asked {
-        Command::Cdir { path } => volume.cdir(alloc, disk, path),
+        Command::Cdir { path } => fc_growing::cdir(volume, alloc, disk, path),
         Command::Delete { path } => volume.delete(alloc, disk, path),
         Command::Set {
             path,
@@ -98,13 +98,13 @@ fn change_new<D: Disk>(
             load,
             exec,
             bytes,
-        } => volume.save(alloc, disk, path, *load, *exec, bytes.list()),
+        } => fc_growing::save(volume, alloc, disk, path, *load, *exec, bytes.list()),
         Command::Create {
             path,
             load,
             exec,
             len,
-        } => volume.create(alloc, disk, path, *load, *exec, *len),
+        } => fc_growing::create(volume, alloc, disk, path, *load, *exec, *len),
         Command::Rename { from, to } => volume.rename(alloc, disk, from, to),
         _ => unreachable!(),
     }

@@ -1,7 +1,7 @@
 //! The top of the filing system: a run of a script over an image.
 //!
-//! All commands are served, over images of every kind and over fresh volumes, but for `reclaim`, and for those that add an entry
-//! where directories are big ones. What needs more is answered by `End::NotBuilt`.
+//! All commands are served, over images of every kind and over fresh volumes, but for `reclaim`, and for `rename` where directories
+//! are big ones. What needs more is answered by `End::NotBuilt`.
 #![tactic(auto)]
 
 mod answer;
@@ -253,6 +253,3 @@ pub fn reads()
     fc_runs::reading();
     fc_format::opens();
 }
-
-#[cfg(test)]
-mod tests;

@@ -76,4 +76,8 @@ fn main(rt: HostRuntime) -> ExitCode {
 }
 
 #[cfg(test)]
+mod mounts;
+#[cfg(test)]
+mod runs;
+#[cfg(test)]
 mod tests;

@@ -17,18 +17,11 @@ set-requires-clause-access g c =
     let line = c.requires.spelled in
     access_fits line.0 _ _ _ _ (line.1 ∙ ap (λ a. Ok (command a)) c.in-Set.is)
 
-pub cdir-requires-clause-roomy : goal.cdir-requires-clause-roomy
-cdir-requires-clause-roomy g c =
-    let agree = c.requires.stands.agree in
-    small_is_roomy agree.0 (parts_of c.args.volume.now) agree.1
-    (adding_small (parts_of c.args.volume.now).layout _ c.requires.new_map refl (ap (λ a. lacks (parts_of c.args.volume.now).layout (command a)) (sym c.in-Cdir.is) ∙ c.requires.built_for))
-    (Model.Cdir c.in-Cdir.path)
-
 pub returns-in-Cdir : goal.returns-in-Cdir
 returns-in-Cdir g c =
     let e = c.cdir.ensures in
-    subst (λ a. IsAsked g.D.Disk (command a) c.args.volume.now c.cdir.new.self c.args.disk.now c.cdir.new.disk c.cdir.result) (sym c.in-Cdir.is)
-    (asked_new g.D.Disk (Model.Cdir c.in-Cdir.path) c.args.volume.now c.cdir.new.self c.args.disk.now c.cdir.new.disk c.cdir.result c.requires.new_map e.refused e.changed e.keeps e.form_stays)
+    subst (λ a. IsAsked g.D.Disk (command a) c.args.volume.now c.cdir.new.volume c.args.disk.now c.cdir.new.disk c.cdir.result) (sym c.in-Cdir.is)
+    (asked_new g.D.Disk (Model.Cdir c.in-Cdir.path) c.args.volume.now c.cdir.new.volume c.args.disk.now c.cdir.new.disk c.cdir.result c.requires.new_map e.refused e.changed e.keeps e.form_stays)
 
 pub returns-in-Delete : goal.returns-in-Delete
 returns-in-Delete g c =
@@ -42,33 +35,19 @@ returns-in-Set g c =
     subst (λ a. IsAsked g.D.Disk (command a) c.args.volume.now c.set.new.self c.args.disk.now c.set.new.disk c.set.result) (sym c.in-Set.is)
     (asked_new g.D.Disk (Model.Set c.in-Set.path c.in-Set.load c.in-Set.exec c.in-Set.access) c.args.volume.now c.set.new.self c.args.disk.now c.set.new.disk c.set.result c.requires.new_map e.refused e.changed e.keeps e.form_stays)
 
-pub save-requires-clause-roomy : goal.save-requires-clause-roomy
-save-requires-clause-roomy g c =
-    let agree = c.requires.stands.agree in
-    small_is_roomy agree.0 (parts_of c.args.volume.now) agree.1
-    (adding_small (parts_of c.args.volume.now).layout _ c.requires.new_map refl (ap (λ a. lacks (parts_of c.args.volume.now).layout (command a)) (sym c.in-Save.is) ∙ c.requires.built_for))
-    (Model.Save c.in-Save.path c.in-Save.load c.in-Save.exec c.list.result.now)
-
 pub returns-in-Save : goal.returns-in-Save
 returns-in-Save g c =
     let v = c.args.volume.now in
     let e = c.save.ensures in
-    let done = subst (λ (bytes : List ℕ). IsAsked g.D.Disk (Model.Save c.in-Save.path c.in-Save.load c.in-Save.exec bytes) v c.save.new.self c.args.disk.now c.save.new.disk c.save.result) c.list.ensures
-    (asked_new g.D.Disk (Model.Save c.in-Save.path c.in-Save.load c.in-Save.exec c.list.result.now) v c.save.new.self c.args.disk.now c.save.new.disk c.save.result c.requires.new_map e.refused e.changed e.keeps e.form_stays) in
-    subst (λ a. IsAsked g.D.Disk (command a) v c.save.new.self c.args.disk.now c.save.new.disk c.save.result) (sym c.in-Save.is) done
-
-pub create-requires-clause-roomy : goal.create-requires-clause-roomy
-create-requires-clause-roomy g c =
-    let agree = c.requires.stands.agree in
-    small_is_roomy agree.0 (parts_of c.args.volume.now) agree.1
-    (adding_small (parts_of c.args.volume.now).layout _ c.requires.new_map refl (ap (λ a. lacks (parts_of c.args.volume.now).layout (command a)) (sym c.in-Create.is) ∙ c.requires.built_for))
-    (Model.Create c.in-Create.path c.in-Create.load c.in-Create.exec c.in-Create.len)
+    let done = subst (λ (bytes : List ℕ). IsAsked g.D.Disk (Model.Save c.in-Save.path c.in-Save.load c.in-Save.exec bytes) v c.save.new.volume c.args.disk.now c.save.new.disk c.save.result) c.list.ensures
+    (asked_new g.D.Disk (Model.Save c.in-Save.path c.in-Save.load c.in-Save.exec c.list.result.now) v c.save.new.volume c.args.disk.now c.save.new.disk c.save.result c.requires.new_map e.refused e.changed e.keeps e.form_stays) in
+    subst (λ a. IsAsked g.D.Disk (command a) v c.save.new.volume c.args.disk.now c.save.new.disk c.save.result) (sym c.in-Save.is) done
 
 pub returns-in-Create : goal.returns-in-Create
 returns-in-Create g c =
     let e = c.create.ensures in
-    subst (λ a. IsAsked g.D.Disk (command a) c.args.volume.now c.create.new.self c.args.disk.now c.create.new.disk c.create.result) (sym c.in-Create.is)
-    (asked_new g.D.Disk (Model.Create c.in-Create.path c.in-Create.load c.in-Create.exec c.in-Create.len) c.args.volume.now c.create.new.self c.args.disk.now c.create.new.disk c.create.result c.requires.new_map e.refused e.changed e.keeps e.form_stays)
+    subst (λ a. IsAsked g.D.Disk (command a) c.args.volume.now c.create.new.volume c.args.disk.now c.create.new.disk c.create.result) (sym c.in-Create.is)
+    (asked_new g.D.Disk (Model.Create c.in-Create.path c.in-Create.load c.in-Create.exec c.in-Create.len) c.args.volume.now c.create.new.volume c.args.disk.now c.create.new.disk c.create.result c.requires.new_map e.refused e.changed e.keeps e.form_stays)
 
 pub rename-requires-clause-roomy : goal.rename-requires-clause-roomy
 rename-requires-clause-roomy g c =

@@ -1,20 +1,9 @@
 // Crashes and failing calls inside `compact`, over a disk in memory that tells what they may leave. The images were worked out by
 // another program.
-use super::{copied, one, outcome, texts};
-use crate::run;
-use fc_device::{Failing, ListSink, ListSource, MemoryDisk, PlainDisk};
+use super::{Disc, Faults, NONE, Part, copied, faulty, image_of, outcome, part_of};
+use fc_device::MemoryDisk;
 use std::alloc::Global;
 use std::test::Fail;
-
-type Part = (usize, &'static [u8]);
-
-// An image: its bytes, where the two copies of its map begin, the bytes of a copy, and what isn't 0 outside the second one.
-struct Disc {
-    length: usize,
-    map: usize,
-    copy: usize,
-    parts: &'static [&'static [Part]],
-}
 
 // What all discs of format E have that are made here: record, end of the zone, and root.
 const ROOT_E: &[Part] = &[
@@ -32,6 +21,7 @@ const ROOT_E: &[Part] = &[
 
 // Files `A` and `B` of 2048 bytes and `C` of 4096, one behind the other.
 const THREE_FILES: Disc = Disc {
+    format: "",
     length: 819_200,
     map: 0,
     copy: 1024,
@@ -58,6 +48,7 @@ const THREE_FILES: Disc = Disc {
 
 // Files `A` of 2048 bytes and `B` of 4096.
 const TWO_FILES: Disc = Disc {
+    format: "",
     length: 819_200,
     map: 0,
     copy: 1024,
@@ -103,6 +94,7 @@ const TWO_ZONES: &[Part] = &[
 
 // The file's run has 40 bits.
 const LONG_RUN: Disc = Disc {
+    format: "",
     length: 113_664,
     map: 49_152,
     copy: 512,
@@ -121,6 +113,7 @@ const LONG_RUN: Disc = Disc {
 
 // The file's run has 24 bits.
 const SHORT_RUN: Disc = Disc {
+    format: "",
     length: 113_664,
     map: 49_152,
     copy: 512,
@@ -175,6 +168,7 @@ const TEN_ZONES: &[Part] = &[
 ];
 
 const EIGHT_RUNS: Disc = Disc {
+    format: "",
     length: 629_760,
     map: 307_200,
     copy: 2560,
@@ -195,6 +189,7 @@ const EIGHT_RUNS: Disc = Disc {
 
 // A ninth run, in zone 8.
 const NINE_RUNS: Disc = Disc {
+    format: "",
     length: 629_760,
     map: 307_200,
     copy: 2560,
@@ -218,30 +213,9 @@ const NINE_RUNS: Disc = Disc {
     ],
 };
 
-// The image of a disc.
-fn image_of(alloc: Global, disc: &Disc) -> Result<Vec<u8>, Fail> {
-    let mut image = vec![in alloc; 0; disc.length]?;
-    for parts in disc.parts {
-        for (at, bytes) in *parts {
-            for (place, byte) in image.iter_mut().skip(*at).zip(*bytes) {
-                *place = *byte;
-            }
-        }
-    }
-    let map = copy_of(alloc, disc, &image)?;
-    for (place, byte) in image.iter_mut().skip(disc.map).skip(disc.copy).zip(&map) {
-        *place = *byte;
-    }
-    Ok(image)
-}
-
 // The first copy of the map of a disc on an image.
 fn copy_of(alloc: Global, disc: &Disc, image: &[u8]) -> Result<Vec<u8>, Fail> {
-    let mut map = Vec::new(alloc);
-    for byte in image.iter().skip(disc.map).take(disc.copy) {
-        map.push(*byte)?;
-    }
-    Ok(map)
+    part_of(alloc, image, disc.map, disc.copy)
 }
 
 // What is asked to see the tree: the files, and the bytes of each.
@@ -249,17 +223,8 @@ const TREE: &[u8] = b"cat $\ndigest $.A\ndigest $.B\ndigest $.C\n";
 
 // What an image answers to that.
 fn tree_of(alloc: Global, image: Vec<u8>) -> Result<Vec<u8>, Fail> {
-    let mut disk = PlainDisk::new(String::from_str(alloc, "disc")?, image, 0)?;
-    let mut source = ListSource::new(copied(alloc, TREE)?, Vec::new(alloc), 50);
-    let mut sink = ListSink::new(alloc, Vec::new(alloc), 400)?;
-    run(
-        alloc,
-        &texts(alloc, &["disc"])?,
-        &mut disk,
-        &mut source,
-        &mut sink,
-    );
-    Ok(copied(alloc, sink.bytes())?)
+    let (_, text, _) = outcome(alloc, &["disc"], image, TREE)?;
+    Ok(text)
 }
 
 // The disk after a run of `compact`, in which at most one write and one sync fail, and the status.
@@ -269,18 +234,13 @@ fn compacted(
     write: u64,
     sync: u64,
 ) -> Result<(MemoryDisk, u8), Fail> {
-    let failing = Failing {
-        reads: Vec::new(alloc),
-        writes: one(alloc, write)?,
-        syncs: one(alloc, sync)?,
+    let faults = Faults {
+        write,
+        sync,
+        ..NONE
     };
-    let name = String::from_str(alloc, "disc")?;
-    let mut disk = MemoryDisk::new(alloc, name, image, failing, ALL_CALLS, 0)?;
-    let mut source = ListSource::new(copied(alloc, b"compact\n")?, Vec::new(alloc), 5);
-    let mut sink = ListSink::new(alloc, Vec::new(alloc), 100)?;
-    let words = texts(alloc, &["disc"])?;
-    let end = run(alloc, &words, &mut disk, &mut source, &mut sink);
-    Ok((disk, end.status()))
+    let (disk, status, _) = faulty(alloc, &["disc"], &image, b"compact\n", faults)?;
+    Ok((disk, status))
 }
 
 // As many calls as a run here may make.

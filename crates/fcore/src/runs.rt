@@ -1,42 +1,137 @@
 // Whole runs over disks in memory: what is seen from outside, and that calls succeed. Images were worked out by other
-// programs.
+// programs, and answers by hand.
+mod big_directories;
 mod changes;
 mod crashes;
+mod failing;
 mod old_maps;
 
-use crate::run;
 use fc_device::{Failing, ListSink, ListSource, MemoryDisk, PlainDisk};
+use fc_shell::run;
 use std::alloc::Global;
 use std::test::Fail;
 
 // The bytes in the longest disc that is made here.
 const FRESH: usize = 1_638_400;
 
-// What lies on a disc of format E whose only file is `Hello`, of five bytes. Every other byte is 0, also in the second
-// copy of the map.
-const HELLO: [(usize, &[u8]); 7] = [
-    (
-        0,
-        b"\xa1\x28\x82\xff\x0a\x05\x02\x02\x0f\x07\x01\0\0\x01\x20\x05\x03\x02\0\0\0\x80\x0c",
-    ),
-    (64, b"\x02\0\0\x80\x03\x80"),
-    (863, b"\x80"),
-    (2049, b"NickHello\r"),
-    (2071, b"\x05\0\0\0\0\x03\0\x03"),
-    (4058, b"\x03\x02\0$\r"),
-    (4080, b"$\r\0\0\0\0\0\0\0\0\0Nick\xf2Hello"),
-];
+type Part = (usize, &'static [u8]);
+
+// A disc: a fresh volume of a format, or so many bytes 0 if there is none, with parts put over it. The copies of its map, of so
+// many bytes, lie one after the other; an image has the first alone among its parts. There is none on a disc with an old map.
+struct Disc {
+    format: &'static str,
+    length: usize,
+    map: usize,
+    copy: usize,
+    parts: &'static [&'static [Part]],
+}
+
+const FRESH_E: Disc = Disc {
+    format: "E",
+    length: 0,
+    map: 0,
+    copy: 1024,
+    parts: &[],
+};
+
+const FRESH_F: Disc = Disc {
+    format: "F",
+    length: 0,
+    map: 813_056,
+    copy: 4096,
+    parts: &[],
+};
+
+const FRESH_E_PLUS: Disc = Disc {
+    format: "E+",
+    ..FRESH_E
+};
+
+const FRESH_F_PLUS: Disc = Disc {
+    format: "F+",
+    ..FRESH_F
+};
+
+const FRESH_D: Disc = Disc {
+    format: "D",
+    length: 0,
+    map: 0,
+    copy: 0,
+    parts: &[],
+};
+
+const FRESH_L: Disc = Disc {
+    format: "L",
+    ..FRESH_D
+};
+
+// A disc of format E whose only file is `Hello`, of five bytes. The second copy of its map is 0, and doesn't count.
+const HELLO: Disc = Disc {
+    format: "",
+    length: 819_200,
+    map: 0,
+    copy: 0,
+    parts: &[&[
+        (
+            0,
+            b"\xa1\x28\x82\xff\x0a\x05\x02\x02\x0f\x07\x01\0\0\x01\x20\x05\x03\x02\0\0\0\x80\x0c",
+        ),
+        (64, b"\x02\0\0\x80\x03\x80"),
+        (863, b"\x80"),
+        (2049, b"NickHello\r"),
+        (2071, b"\x05\0\0\0\0\x03\0\x03"),
+        (4058, b"\x03\x02\0$\r"),
+        (4080, b"$\r\0\0\0\0\0\0\0\0\0Nick\xf2Hello"),
+    ]],
+};
+
+// A fresh volume.
+fn fresh(alloc: Global, format: &str) -> Result<Vec<u8>, Fail> {
+    let words = ["--new", format, "disc"];
+    let (_, _, image) = outcome(alloc, words.as_slice(), Vec::new(alloc), b"")?;
+    Ok(image)
+}
+
+fn put(image: &mut Vec<u8>, at: usize, bytes: &[u8]) {
+    for (place, byte) in image.iter_mut().skip(at).zip(bytes) {
+        *place = *byte;
+    }
+}
+
+// So many bytes of an image from a place on.
+fn part_of(alloc: Global, image: &[u8], at: usize, length: usize) -> Result<Vec<u8>, Fail> {
+    let mut part = Vec::new(alloc);
+    for byte in image.iter().skip(at).take(length) {
+        part.push(*byte)?;
+    }
+    Ok(part)
+}
+
+// The image of a disc.
+fn image_of(alloc: Global, disc: &Disc) -> Result<Vec<u8>, Fail> {
+    let is_fresh = !disc.format.is_empty();
+    let mut image = if is_fresh {
+        fresh(alloc, disc.format)?
+    } else {
+        vec![in alloc; 0; disc.length]?
+    };
+    for parts in disc.parts {
+        for (at, bytes) in *parts {
+            put(&mut image, *at, bytes);
+        }
+    }
+    if !is_fresh {
+        let map = part_of(alloc, &image, disc.map, disc.copy)?;
+        put(&mut image, disc.map.saturating_add(disc.copy), &map);
+    }
+    Ok(image)
+}
 
 // The image with `Hello`, where some of its bytes are others.
 fn hello(alloc: Global, others: &[(usize, u8)]) -> Result<Vec<u8>, Fail> {
-    let mut bytes = Vec::new(alloc);
-    for (at, part) in HELLO {
-        bytes.resize(at, 0)?;
-        bytes.extend_from_slice(part)?;
-    }
-    bytes.resize(819_200, 0)?;
-    change(&mut bytes, others);
-    Ok(bytes)
+    let mut image = image_of(alloc, &HELLO)?;
+    change(&mut image, others);
+    Ok(image)
 }
 
 fn change(bytes: &mut Vec<u8>, others: &[(usize, u8)]) {
@@ -69,8 +164,8 @@ fn outcome(
     script: &[u8],
 ) -> Result<(u8, Vec<u8>, Vec<u8>), Fail> {
     let mut disk = PlainDisk::new(String::from_str(alloc, "disc")?, image, FRESH)?;
-    let mut source = ListSource::new(copied(alloc, script)?, Vec::new(alloc), 5);
-    let mut sink = ListSink::new(alloc, Vec::new(alloc), 1000)?;
+    let mut source = ListSource::new(copied(alloc, script)?, Vec::new(alloc), 1000);
+    let mut sink = ListSink::new(alloc, Vec::new(alloc), 5000)?;
     let words = texts(alloc, words)?;
     let end = run(alloc, &words, &mut disk, &mut source, &mut sink);
     Ok((
@@ -196,9 +291,10 @@ fn an_image_with_one_file(rt: HostRuntime) -> Result<(), Fail> {
         ),
         (
             &["--read-only", "disc"],
-            b"delete $.None\ndelete $.Hello\nset $.Hello 00000000 00000000 L\ncdir $.Hello\ncdir $.D\n",
+            b"delete $.None\ndelete $.Hello\nset $.Hello 00000000 00000000 L\ncdir $.Hello\ncdir $.D\ncompact\n",
             1,
-            b"error 3 NotFound\nerror 11 ReadOnly\nerror 11 ReadOnly\nerror 6 Exists\nerror 11 ReadOnly\n",
+            b"error 3 NotFound\nerror 11 ReadOnly\nerror 11 ReadOnly\nerror 6 Exists\nerror 11 ReadOnly\n\
+                error 11 ReadOnly\n",
         ),
         (
             &["--read-only", "disc"],
@@ -236,9 +332,10 @@ const OTHER_IMAGES: &[OtherImage] = &[
     ),
     (
         &[(2055, 0x20), (4095, 0x90)],
-        b"cat $\nload $.HE%20LO\nload $.He%20lo.C\n",
+        b"cat $\nload $.HE%20LO\nsave $.He%20lo 00000000 00000000 01\nlod $\nload $\nload $.He%20lo.C\n",
         1,
-        b"He%20lo 00000003 00000000 00000000 5\nok\n48656c6c6f\nok\nerror 4 NotDirectory\n",
+        b"He%20lo 00000003 00000000 00000000 5\nok\n48656c6c6f\nok\nerror 2 BadName\nerror 1 BadCommand\n\
+            error 5 IsDirectory\nerror 4 NotDirectory\n",
     ),
     (&[(0, 0xa2)], b"free\n", 3, b"bad-image NoKind\n"),
     (
@@ -310,8 +407,7 @@ fn damaged(
     others: &[(usize, u8)],
     length: usize,
 ) -> Result<Vec<u8>, Fail> {
-    let words = ["--new", format, "disc"];
-    let (_, _, mut image) = outcome(alloc, words.as_slice(), Vec::new(alloc), b"")?;
+    let mut image = fresh(alloc, format)?;
     change(&mut image, others);
     image.truncate(length);
     Ok(image)
@@ -352,13 +448,23 @@ fn fresh_volumes_damaged(rt: HostRuntime) -> Result<(), Fail> {
     Ok(())
 }
 
-// The calls that fail: at most one read of the disk, one of the script, and one write.
+// The calls that fail: at most one read, one write and one sync of the disk, one read of the script, and one write of the output.
 #[derive(Clone, Copy)]
 struct Faults {
-    disk: u64,
-    script: u64,
-    out: u64,
+    read: u64,
+    write: u64,
+    sync: u64,
+    source: u64,
+    sink: u64,
 }
+
+const NONE: Faults = Faults {
+    read: 0,
+    write: 0,
+    sync: 0,
+    source: 0,
+    sink: 0,
+};
 
 fn one(alloc: Global, number: u64) -> Result<Vec<u64>, Fail> {
     let mut numbers = Vec::new(alloc);
@@ -366,84 +472,113 @@ fn one(alloc: Global, number: u64) -> Result<Vec<u64>, Fail> {
     Ok(numbers)
 }
 
-// The status and the text of a run over the image, where calls fail.
-fn faulty(alloc: Global, script: &[u8], faults: Faults) -> Result<(u8, Vec<u8>), Fail> {
+// The most calls that a run here makes of its disk: to make a disc of 819,200 bytes in sectors of 256.
+const CALLS: usize = 3300;
+
+// The disk after a run in which calls fail, and its status and text.
+fn faulty(
+    alloc: Global,
+    words: &[&str],
+    image: &[u8],
+    script: &[u8],
+    faults: Faults,
+) -> Result<(MemoryDisk, u8, Vec<u8>), Fail> {
     let failing = Failing {
-        reads: one(alloc, faults.disk)?,
-        writes: Vec::new(alloc),
-        syncs: Vec::new(alloc),
+        reads: one(alloc, faults.read)?,
+        writes: one(alloc, faults.write)?,
+        syncs: one(alloc, faults.sync)?,
     };
     let name = String::from_str(alloc, "disc")?;
-    let mut disk = MemoryDisk::new(alloc, name, hello(alloc, &[])?, failing, 10, 0)?;
-    let mut source = ListSource::new(copied(alloc, script)?, one(alloc, faults.script)?, 5);
-    let mut sink = ListSink::new(alloc, one(alloc, faults.out)?, 1000)?;
-    let words = texts(alloc, &["disc"])?;
+    let mut disk = MemoryDisk::new(alloc, name, copied(alloc, image)?, failing, CALLS, FRESH)?;
+    let mut source = ListSource::new(copied(alloc, script)?, one(alloc, faults.source)?, 5);
+    let mut sink = ListSink::new(alloc, one(alloc, faults.sink)?, 5000)?;
+    let words = texts(alloc, words)?;
     let end = run(alloc, &words, &mut disk, &mut source, &mut sink);
-    Ok((end.status(), copied(alloc, sink.bytes())?))
+    let text = copied(alloc, sink.bytes())?;
+    Ok((disk, end.status(), text))
 }
 
+// A script that is too long isn't run, and no disc is sought.
 #[test]
-fn calls_that_fail(rt: HostRuntime) -> Result<(), Fail> {
+fn the_longest_script(rt: HostRuntime) -> Result<(), Fail> {
     let alloc = rt.alloc();
-    let script = b"cat $\nload $.hello\ndigest $.hello\nfree\n".as_slice();
-    let none = Faults {
-        disk: 0,
-        script: 0,
-        out: 0,
-    };
-    let (status, whole) = faulty(alloc, script, none)?;
-    assert!(rt; status == 0);
-    for number in 1..40 {
-        let disk = Faults {
-            disk: number,
-            script: 0,
-            out: 0,
-        };
-        let (status, part) = faulty(alloc, script, disk)?;
-        assert!(rt; status == 4 || (number > 5 && status == 0));
-        assert!(rt; whole.starts_with(&part));
-    }
-    let source = Faults {
-        disk: 0,
-        script: 2,
-        out: 0,
-    };
-    let (status, part) = faulty(alloc, script, source)?;
-    assert!(rt; status == 5);
-    assert!(rt; part.is_empty());
-    let sink = Faults {
-        disk: 0,
-        script: 0,
-        out: 2,
-    };
-    let (status, part) = faulty(alloc, script, sink)?;
-    assert!(rt; status == 6);
-    assert!(rt; whole.starts_with(&part));
-    Ok(())
-}
-
-// The status of a run that makes a fresh E, of 3,200 sectors of 256 bytes, where a write or a sync fails.
-fn fresh_status(alloc: Global, write: u64, sync: u64) -> Result<u8, Fail> {
-    let failing = Failing {
-        reads: Vec::new(alloc),
-        writes: one(alloc, write)?,
-        syncs: one(alloc, sync)?,
-    };
-    let name = String::from_str(alloc, "disc")?;
-    let mut disk = MemoryDisk::new(alloc, name, Vec::new(alloc), failing, 4000, 819_200)?;
-    let mut source = ListSource::new(copied(alloc, b"free\n")?, Vec::new(alloc), 5);
-    let mut sink = ListSink::new(alloc, Vec::new(alloc), 100)?;
-    let words = texts(alloc, &["--new", "E", "disc"])?;
-    let end = run(alloc, &words, &mut disk, &mut source, &mut sink);
-    Ok(end.status())
-}
-
-#[test]
-fn fresh_volumes_that_are_not_written(rt: HostRuntime) -> Result<(), Fail> {
-    let alloc = rt.alloc();
-    for (write, sync, wanted) in [(0, 0, 0), (1, 0, 4), (3200, 0, 4), (3201, 0, 0), (0, 1, 4)] {
-        let status = fresh_status(alloc, write, sync)?;
-        assert!(rt; status == wanted);
+    for (length, wanted) in [(16_777_216, 12), (16_777_217, 8)] {
+        let script = vec![in alloc; 10; length]?;
+        let (status, text, _) = outcome(alloc, &["other"], Vec::new(alloc), &script)?;
+        assert!(rt; status == wanted && text.is_empty());
     }
     Ok(())
+}
+
+// A script over a disc, and what it answers. Before it, so many files of 0 bytes are made in a directory, and listed.
+struct Row {
+    disc: &'static Disc,
+    files: (&'static str, u32),
+    script: &'static [u8],
+    status: u8,
+    text: &'static [u8],
+    // What `check` answers over the disc that is left, and what lies on it.
+    left: &'static [u8],
+    parts: &'static [Part],
+}
+
+const PLAIN: Row = Row {
+    disc: &FRESH_E,
+    files: ("$", 0),
+    script: b"",
+    status: 0,
+    text: b"",
+    left: b"",
+    parts: &[],
+};
+
+// The lines that make so many files in a directory and list them, and what they answer.
+fn filled(alloc: Global, directory: &str, files: u32) -> Result<(String, String), Fail> {
+    let mut script = String::new(alloc);
+    let mut text = String::new(alloc);
+    let mut list = String::new(alloc);
+    for number in 0..files {
+        let line = format!(in alloc; "create {directory}.N{number:02} fffffd00 00000000 0\n")?;
+        script.push_str(&line)?;
+        text.push_str("ok\n")?;
+        let entry = format!(in alloc; "N{number:02} 00000003 fffffd00 00000000 0\n")?;
+        list.push_str(&entry)?;
+    }
+    if files > 0 {
+        let line = format!(in alloc; "cat {directory}\n")?;
+        script.push_str(&line)?;
+        text.push_str(&list)?;
+        text.push_str("ok\n")?;
+    }
+    Ok((script, text))
+}
+
+// Whether a row holds, over both disks in memory.
+fn holds(alloc: Global, row: &Row) -> Result<bool, Fail> {
+    let (directory, files) = row.files;
+    let (lines, replies) = filled(alloc, directory, files)?;
+    let mut script = copied(alloc, lines.as_bytes())?;
+    script.extend_from_slice(row.script)?;
+    let mut wanted = copied(alloc, replies.as_bytes())?;
+    wanted.extend_from_slice(row.text)?;
+    let image = image_of(alloc, row.disc)?;
+    let (disk, other_status, other_text) = faulty(alloc, &["disc"], &image, &script, NONE)?;
+    let (status, text, left) = outcome(alloc, &["disc"], image, &script)?;
+    let is_answered = status == row.status && text == wanted;
+    let is_same = other_status == status && other_text == text && disk.bytes() == left.as_slice();
+    Ok(is_answered && is_same && is_left(alloc, row, &left)?)
+}
+
+// Whether an image is what a row leaves: it opens again, and both copies of its map are equal.
+fn is_left(alloc: Global, row: &Row, image: &[u8]) -> Result<bool, Fail> {
+    for (at, bytes) in row.parts {
+        if part_of(alloc, image, *at, bytes.len())?.as_slice() != *bytes {
+            return Ok(false);
+        }
+    }
+    let Disc { map, copy, .. } = row.disc;
+    let second = part_of(alloc, image, map.saturating_add(*copy), *copy)?;
+    let are_equal = part_of(alloc, image, *map, *copy)? == second;
+    let (_, counts, _) = outcome(alloc, &["disc"], copied(alloc, image)?, b"check\n")?;
+    Ok(are_equal && counts.as_slice() == row.left)
 }
