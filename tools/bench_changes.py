@@ -1,12 +1,13 @@
 #!/usr/bin/env python3
 """Times the commands that change a volume, over discs of 512 MB and more.
 
-usage: tools/bench_changes.py PROGRAM [FILES [OBJECTS]]    10,000 files, and 50,000 objects on the second disc
+usage: tools/bench_changes.py PROGRAM [FILES [OBJECTS]]    10,000 files, and 50,000 objects on the other discs
 
 Files of 100 bytes are saved in one script into 100 directories of a disc with big directories. At a tenth of the files and at all of
-them, and then over a disc of 1,000 directories and 50,000 files (tools/large_image.py), each command is run LINES times in one
-script: the time beside that of an empty script, and the calls of the system beside its calls, by strace or, without it, by the
-recorder of tools/check_outside.c, both a command. Commands that aren't built are left out.
+them, and then over discs of 1,000 directories and 50,000 files (tools/large_image.py), with small directories and with big ones,
+each command is run LINES times in one script: the time beside that of an empty script, and the calls of the system beside its calls,
+by strace or, without it, by the recorder of tools/check_outside.c, both a command. Between them files are made in one directory,
+which grows. Commands that aren't built are left out.
 """
 import os
 import shutil
@@ -109,30 +110,56 @@ def empty_disc(path):
     write(volume, path)
 
 
+def many_files(bench, image, files):
+    """Files of 100 bytes in 100 directories."""
+    empty_disc(image)
+    done = 0
+    for count in (files // 10, files):
+        taken = bench.seconds(image, script_of(saving(done, count)))
+        print("%d files saved in one script: %s" % (count - done, "not built" if taken is None else "%.2f s" % taken), flush=True)
+        if taken is None:
+            return
+        done = count
+        step = max(1, count // LINES)
+        paths = ["$.D%d.File%d" % (at % DIRECTORIES, at) for at in range(0, count, step)][:LINES]
+        fresh = ["$.D%d.New%d" % (at % DIRECTORIES, at) for at in range(LINES)]
+        others = ["$.D%d.File%d" % ((at + 1) % DIRECTORIES, at) for at in range(0, count, step)][:LINES]
+        bench.table(image, "%d files" % count, commands(paths, fresh, others))
+
+
+def one_directory(bench, image, files):
+    """Files of 0 bytes in one directory, which grows at every fiftieth."""
+    empty_disc(image)
+    for first, last in ((0, files // 20), (files // 20, files // 5)):
+        lines = ["create $.D0.File%d %s 0" % (at, WORDS) for at in range(first, last)]
+        taken = bench.seconds(image, script_of(lines))
+        text = "not built" if taken is None else "%.0f microseconds a command" % (taken / len(lines) * 1e6)
+        print("%d files of 0 bytes made in one directory that has %d: %s" % (last - first, first, text), flush=True)
+
+
+def many_objects(bench, image, objects, big):
+    """The commands over a disc that is full of objects."""
+    directories = objects // 50
+    write(with_directories(directories, big=big), image)
+    places = range(0, directories, max(1, directories // DIRECTORIES))
+    chosen = [("$." + path, number) for path, number in directory_paths(directories, places)]
+    paths = ["%s.F%02d" % (path, at) for at in range(5) for path, number in chosen][:LINES]
+    fresh = ["%s.New%d" % (path, at) for at in range(5) for path, number in chosen][:LINES]
+    others = ["%s.Moved%d" % (chosen[(at + 1) % len(chosen)][0], at // len(chosen)) for at in range(len(paths))]
+    bench.table(image, "%d objects%s" % (51 * directories, ", big directories" * big), commands(paths, fresh, others))
+
+
+def script_of(lines):
+    return "".join(line + "\n" for line in lines).encode()
+
+
 def main(program, files=10000, objects=50000):
     with tempfile.TemporaryDirectory(dir=os.getcwd()) as folder:
         image, bench = os.path.join(folder, "image"), Bench(program, folder)
-        empty_disc(image)
-        done = 0
-        for count in (files // 10, files):
-            taken = bench.seconds(image, "".join(line + "\n" for line in saving(done, count)).encode())
-            print("%d files saved in one script: %s" % (count - done, "not built" if taken is None else "%.2f s" % taken), flush=True)
-            if taken is None:
-                return
-            done = count
-            step = max(1, count // LINES)
-            paths = ["$.D%d.File%d" % (at % DIRECTORIES, at) for at in range(0, count, step)][:LINES]
-            fresh = ["$.D%d.New%d" % (at % DIRECTORIES, at) for at in range(LINES)]
-            others = ["$.D%d.File%d" % ((at + 1) % DIRECTORIES, at) for at in range(0, count, step)][:LINES]
-            bench.table(image, "%d files" % count, commands(paths, fresh, others))
-        directories = objects // 50
-        write(with_directories(directories), image)
-        places = range(0, directories, max(1, directories // DIRECTORIES))
-        chosen = [("$." + path, number) for path, number in directory_paths(directories, places)]
-        paths = ["%s.F%02d" % (path, at) for at in range(5) for path, number in chosen][:LINES]
-        fresh = ["%s.New%d" % (path, at) for at in range(5) for path, number in chosen][:LINES]
-        others = ["%s.Moved%d" % (chosen[(at + 1) % len(chosen)][0], at // len(chosen)) for at in range(len(paths))]
-        bench.table(image, "%d objects" % (51 * directories), commands(paths, fresh, others))
+        many_files(bench, image, files)
+        one_directory(bench, image, files)
+        for big in (False, True):
+            many_objects(bench, image, objects, big)
 
 
 def directory_paths(count, places):

@@ -36,7 +36,7 @@ from change_answer import CHANGING, WORDS, Command, owed_refusal, refusal_of, tr
 from change_batch import TreeState, batch_differences
 from change_effects import differences
 from change_state import State
-from filecore import spelled_path
+from filecore import NOT_OVER_BIG, spelled_path
 from images import VOLUMES
 
 TOOLS = os.path.dirname(os.path.realpath(__file__))
@@ -156,6 +156,8 @@ def step(actor, state, line, read_only, counts):
     number, needs = owed_refusal(state, c, read_only)
     changes = c.word in CHANGING + ("compact",) and not number
     counts[c.word, WORDS[number]] += 1
+    if number and needs and needs.growth:
+        counts["event", "a directory would grow, " + WORDS[number]] += 1
     first = refusal_text(number) if number else "ok\n" if changes else reading_reply(state, line, read_only)
     if not text.startswith(first):
         raise Difference("the reply is %s instead of %s" % (short([text.split("\n")[0]]), short([first])))
@@ -285,8 +287,27 @@ def rows_differ(actor, options):
             if text.replace("\n", " / ") != wanted + " / ":
                 parts = script.replace("\n", ", ")[-200:], wanted[-200:], text.replace("\n", " / ")[-200:]
                 wrong.append("%s\n  wanted %s\n  got    %s" % parts)
+            elif end != image:
+                wrong += ["%s\n  %s" % (script.replace("\n", ", ")[-200:], one) for one in left_differences(image, end)]
     print("\n".join(wrong + ["%d rows of the standard, %d differ" % (count, len(wrong))]), flush=True)
     return bool(wrong)
+
+
+def left_differences(image, end):
+    """What no row may change: an image opens, and the copies of a new map are equal and have the bits after their zones that were there."""
+    try:
+        before, after = opened(image), opened(end)
+    except Difference as found:
+        return [str(found)]
+    if not after.is_new:
+        return []
+    found = [] if after.copies()[0] == after.copies()[1] else ["the two copies of the map differ"]
+    return found + (["bits after a zone have changed"] if after_zones(before) != after_zones(after) else [])
+
+
+def after_zones(state):
+    """The bits after the last bit of each zone, in the copy of the map that counts."""
+    return [int.from_bytes(sector, "little") >> state.map.shape.end(zone) for zone, sector in enumerate(state.map.chosen_copy(state.data))]
 
 
 # ---- which commands are built
@@ -329,7 +350,7 @@ def check_program(options):
         built = built_commands(program, "d-files" if options.old else "hello")
         big = built_commands(program, "e-plus-files")
         options.built = options.only.split(",") if options.only else built
-        options.built_big = [word for word in options.built if word in big]
+        options.built_big = [word for word in options.built if word in big or word not in NOT_OVER_BIG]
         if not set(options.built) & set(CHANGING):
             print("no command that changes %s maps is built" % ("old" if options.old else "new"))
             return True
@@ -344,10 +365,10 @@ def found_after(fault, words, options):
     """Over how many commands a fault was found, and what was found first; None if it wasn't."""
     options.old = "old" in words.split()
     options.built, options.built_big = list(CHANGING) + ["compact"] * options.old, None
-    start, counts, number = time.time(), collections.Counter(), 0
+    start, counts, number = time.process_time(), collections.Counter(), 0  # not the wall clock: the machine may be busy
     names = list(change_images.OLD if options.old else change_images.NEW)
     chosen = [at for at, name in enumerate(names) if all(word in name for word in words.split() if word != "old")]
-    while time.time() < start + SELF_TEST_SECONDS:
+    while time.process_time() < start + SELF_TEST_SECONDS:
         run = Run(Stand(fault), options, chosen[number % len(chosen)] + number // len(chosen) * len(names), counts)
         run.report = str
         found = run.go(at_once=False)

@@ -12,7 +12,7 @@ import tempfile
 
 COUNTS = (1, 2, 63, 64, 65, 1000, 10000)
 SERVED = ("E", "F", "D", "L")  # the discs for which every command of a demo is implemented
-LACKING = ("E+", "F+")
+LACKING = ("E+", "F+")  # `rename` isn't, of which the demo of 1 has none
 
 
 def draws(seed):
@@ -108,7 +108,7 @@ class Demos:
 
     def lacking(self, form):
         self.run(["--new", form, "plain.adf"])
-        self.expect("--demo over %s" % form, (9, ""), self.run(["--new", form, "--demo", "1", "one.adf"]))
+        self.expect("--demo over %s" % form, (9, ""), self.run(["--new", form, "--demo", "3", "one.adf"]))
         self.expect("--demo over %s: the image" % form, self.image("plain.adf"), self.image("one.adf"))
         os.remove("plain.adf")
         os.remove("one.adf")
@@ -134,6 +134,7 @@ def main():
             for count in COUNTS:
                 demos.served(form, count)
         for form in LACKING:
+            demos.served(form, 1)
             demos.lacking(form)
         demos.others()
         os.chdir("/")

@@ -1,8 +1,8 @@
 #!/usr/bin/env bash
 # Runs the built program over the images of tools/images.py, and compares output and status with that table; then the examples
-# of README.md. No image may be changed. Then demos, the program where the system fails it, fcdisc over the program, what `make install`
-# puts there, and the man pages. The page of the format is tried first: the reader that was written from it has to say the same as
-# the other reader.
+# of README.md. No image may be changed. Then demos, the program where the system fails it, commands that change, fcdisc over the
+# program, what `make install` puts there, and the man pages. The page of the format is tried first: the reader that was written
+# from it has to say the same as the other reader.
 #
 # usage: tools/check_program.sh PROGRAM
 set -u
@@ -126,6 +126,7 @@ python3 "$tools/check_outside.py" "$program" || failed=$((failed + 1))
 python3 "$tools/check_crash.py" "$program" || failed=$((failed + 1))
 python3 "$tools/check_changes.py" --program "$program" --images 16 --commands 20 || failed=$((failed + 1))
 python3 "$tools/check_changes.py" --program "$program" --images 14 --commands 20 --old || failed=$((failed + 1))
+python3 "$tools/check_runs.py" --program "$program" || failed=$((failed + 1))
 python3 "$tools/check_fcdisc.py" "$tools/../scripts/fcdisc" "$program" || failed=$((failed + 1))
 install_is_right
 expect 'make install and make uninstall' 0 $?

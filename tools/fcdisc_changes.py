@@ -14,7 +14,6 @@ import fcdisc_cases
 import images
 from change_state import State
 from filecore import NOT_SPELLED, spelled_path
-from volumes import OldVolume
 
 STAND_IN = os.path.join(os.path.dirname(os.path.realpath(__file__)), "stand_in.py")
 SETTABLE = 15
@@ -374,11 +373,6 @@ def own_format(data, volume):
     return {819200: "E", 1638400: "F", 655360: "L"}.get(len(data), "F") + big
 
 
-def built_format(data, volume):
-    """One that holds this disc, of those to which files can be added: its directories don't grow."""
-    return volume.form if isinstance(volume, OldVolume) else "E" if len(data) <= 819200 else "F"
-
-
 def round_trip(c, name, data, forms):
     """`extract`, and `add` to fresh discs; and `convert`."""
     tree, checks = tree_of(data), c.checks
@@ -456,4 +450,4 @@ def run_all(checks, mounts):
         if tree and (len(data), tree) not in seen:  # many discs differ in their maps alone
             seen.append((len(data), tree))
             round_trip(c, name, data, (own_format(data, volume), "F+"))
-            round_trip(real, name, data, (built_format(data, volume), "F"))
+            round_trip(real, name, data, (own_format(data, volume), "F+"))

@@ -23,9 +23,11 @@ class SparseFile:
         self.file.write(content)
 
 
-def with_directories(count, files=FILES):
+def with_directories(count, files=FILES, big=False):
     size = (ZONES * ZONE_BITS - 480) * BIT_BYTES
-    volume = NewVolume(record_bytes(10, 15, 10, ZONES, 32, 0x300, size), True)
+    others = dict(version=1, root_size=4096) if big else {}
+    volume = NewVolume(record_bytes(10, 15, 10, ZONES, 32, 0x300, size, **others), True)
+    volume.root.size = 4096 if big else 2048
     volume.take(2, ZONES // 2, 2 * ZONES)
     volume.take(2, 0, 16)
     volume.take(volume.new_identifier(), 0, 16)
@@ -34,7 +36,7 @@ def with_directories(count, files=FILES):
         zone = at % ZONES
         if len(holders[0].entries) == 70:
             del holders[0]
-        made = volume.directory(holders[0], b"D%d" % at, pieces=[(zone, 16)])
+        made = volume.directory(holders[0], b"D%d" % at, pieces=[(zone, 16)], size=4096 if big else 2048)
         holders[0].entries.append(made)
         holders.append(made)
         fill(volume, made, zone, files)

@@ -10,10 +10,10 @@ import re
 import sys
 from collections import deque
 
-from filecore import (AGREED, BAD_COMMAND, BAD_NAME, BIG_LIMIT, BOOT_BLOCK, BOOT_SIZE, EXISTS, INTO_ITSELF, IS_DIRECTORY, LOCKED, NOT_DIRECTORY, NOT_EMPTY,
-                      NOT_FOUND, NOT_SPELLED, READ_ONLY, RECORD_SIZE, ROOT_REFUSED, SMALL_SIZE, UNIT, Geometry, Record,
-                      big_directory_check, boot_check, entry_line, folded, number, old_map_check, small_directory_check,
-                      spelled_path, zone_check)
+from filecore import (AGREED, BAD_COMMAND, BAD_NAME, BIG_LIMIT, BOOT_BLOCK, BOOT_SIZE, EXISTS, INTO_ITSELF,
+                      IS_DIRECTORY, LOCKED, NOT_DIRECTORY, NOT_EMPTY, NOT_FOUND, NOT_OVER_BIG, NOT_SPELLED, READ_ONLY, RECORD_SIZE, ROOT_REFUSED,
+                      SMALL_SIZE, UNIT, Geometry, Record, big_directory_check, boot_check, entry_line, folded, number,
+                      old_map_check, small_directory_check, spelled_path, zone_check)
 
 SCRIPT_LIMIT = 1 << 24
 
@@ -495,8 +495,9 @@ def change_reply(word, path, entry, read_only):
 
 def adding_reply(disc, word, paths, read_only):
     """The refusal, or `ok`: of a disc whose directories don't grow, with room for what is added."""
-    to = paths[-1]
-    if to and (len(to[-1]) > 10 or any(byte < 33 or byte == 127 or byte in NOT_SPELLED or byte > 127 and disc.map.form == "L" for byte in to[-1])):
+    to, form = paths[-1], disc.map.form
+    most = 255 if form == "big" else 10
+    if to and (len(to[-1]) > most or any(byte < 33 or byte == 127 or byte in NOT_SPELLED or byte > 127 and form == "L" for byte in to[-1])):
         return BAD_NAME
     entry, refused = disc.find(paths[0])
     if word == "rename" and refused:
@@ -552,7 +553,7 @@ def answer(data, script, read_only=False):
         disc = Disc(data)
     except Fault as fault:
         return 3, str(fault)
-    if disc.map.form == "big" and any(word in ADDING for word, paths in commands):
+    if disc.map.form == "big" and any(word in NOT_OVER_BIG for word, paths in commands):
         return 9, ""
     replies = [reply(disc, word, paths, read_only) if word else paths for word, paths in commands]
     refused = any(re.fullmatch(r"error [0-9]+ [A-Za-z]+\n", one) for one in replies)

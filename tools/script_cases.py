@@ -75,10 +75,7 @@ def long_scripts():
 
 # ---- what isn't built yet: status 9 before anything is attached
 
-ADDING = [
-    f"save $.A {ZEROS} -", f"save $.A {ZEROS} 4142", f"save $.A%20B fffff000 FFFFF000 aA", f"create $.A {ZEROS} 0",
-    f"create $.A {ZEROS} 4294967295", "cdir $.D", "rename $.Hello $.B", "rename $ $",
-]
+RENAMING = ["rename $.Hello $.B", "rename $ $"]
 
 
 def compaction():
@@ -107,15 +104,17 @@ def refused_changes():
         (f"set $ {ZEROS} RL", ROOT_REFUSED), (f"set $.Hello FFFFF000 {ZEROS[:8]} WL", READ_ONLY),
         (f"save $.A {ZEROS} 01", READ_ONLY), (f"create $.Hello {ZEROS} 4294967295", READ_ONLY), ("cdir $.D", READ_ONLY),
         ("cdir $.Hello", EXISTS), ("rename $.Hello $.B", READ_ONLY), ("rename $.hello $.HELLO", READ_ONLY)], ["--read-only"])
-    for image in ("e-files.adf", "d-files.adf", "l-files.adf"):
+    for image in ("e-files.adf", "d-files.adf", "l-files.adf", "e-plus-files.adf"):
         yield lines_case("refused-additions-" + image[:-4], image, [
-            (f"save $.Lengths.L1 {ZEROS} -", LOCKED), (f"create $.Lengths {ZEROS} 1", IS_DIRECTORY), ("cdir $.lengths", EXISTS),
+            (f"save $.Lengths.L1 {ZEROS} -", LOCKED), (f"create $.Lengths {ZEROS} 1", IS_DIRECTORY), ("cdir $.lengths", EXISTS)])
+    for image in ("e-files.adf", "d-files.adf", "l-files.adf"):
+        yield lines_case("refused-renames-" + image[:-4], image, [
             ("rename $.Lengths.L1 $.L", LOCKED), ("rename $.Outer $.Outer.Inner.X", INTO_ITSELF), ("rename $.Outer $.Lengths", EXISTS)])
     yield lines_case("names-of-an-l-disc", "l-files.adf", [  # they have no byte above 127
         (f"create $.%E9 {ZEROS} 0", BAD_NAME), ("cdir $.Caf%E9", BAD_NAME), ("rename $.Outer $.%FF", BAD_NAME), ("rename $ $.A", ROOT_REFUSED)])
-    for image in ("d-files.adf", "l-files.adf"):
+    for image in ("d-files.adf", "l-files.adf", "e-plus-files.adf"):
         yield lines_case("refused-changes-read-only-" + image[:-4], image, [
-            ("delete $.None", NOT_FOUND), (f"save $.A {ZEROS} 01", READ_ONLY), ("cdir $.A", READ_ONLY), ("rename $.Outer $.B", READ_ONLY),
+            ("delete $.None", NOT_FOUND), (f"save $.A {ZEROS} 01", READ_ONLY), ("cdir $.A", READ_ONLY),
             (f"set $.Outer {ZEROS} -", READ_ONLY), (f"create $.Outer.Inner {ZEROS} 4294967295", IS_DIRECTORY)], ["--read-only"])
     for image in ("e-files.adf", "e-plus-files.adf", "d-files.adf", "l-files.adf"):
         yield lines_case("locked-and-not-empty-" + image[:-4], image, [
@@ -131,9 +130,7 @@ def refused_changes():
 
 def unbuilt():
     yield Case("reclaim", ["hello.adf"], "load $.hello\nreclaim\n", 9)
-    for at, line in enumerate(ADDING):
-        yield Case("add-big-directory-%d" % at, ["e-plus-files.adf"], "free\n" + line + "\n", 9)
-    yield Case("add-fresh-big-directory", ["--new", "F+", "unadded.adf"], "free\ncdir $.D\n", 9, made=("unadded.adf", "fresh-F+.adf"))
+    yield from unbuilt_over_big_directories()
     yield Case("change-without-end", ["hello.adf"], "lod\nreclaim", 9)
     yield Case("change-no-image", ["nothing.adf"], "cdir $.A\n", 12)
     yield Case("reclaim-no-image", ["nothing.adf"], "reclaim\n", 9)
@@ -147,6 +144,12 @@ def unbuilt():
         yield Case("option-%d-no-image" % at, ["nothing.adf", *words], "", 9)
     yield Case("new-and-change", ["--new", "E", "unmade.adf"], "free\nreclaim\n", 9, absent="unmade.adf")
     yield Case("new-and-safe", ["--new", "E+", "--safe", "unmade.adf"], "free\n", 9, absent="unmade.adf")
+
+
+def unbuilt_over_big_directories():
+    for at, line in enumerate(RENAMING):
+        yield Case("rename-big-directory-%d" % at, ["e-plus-files.adf"], "free\n" + line + "\n", 9)
+    yield Case("rename-fresh-big-directory", ["--new", "F+", "unrenamed.adf"], "free\nrename $.A $.B\n", 9, made=("unrenamed.adf", "fresh-F+.adf"))
     yield Case("demo-big-directory", ["--demo=10000", "--read-only", "e-plus-files.adf"], "free\n", 9)
     yield Case("new-and-demo", ["--new", "F+", "--demo", "3", "undemoed.adf"], "", 9, made=("undemoed.adf", "fresh-F+.adf"))
 
