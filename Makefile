@@ -33,10 +33,12 @@ demo:
 	@head -n 20 demo/*
 	cd crates/fcore && rt try --data hello.adf=data/hello.adf --cases ../../demo
 
-# The gate: every proof, must-fail edit, test and program; then the built program over real files.
+# The gate: every proof, must-fail edit, test and program; then the program that it built, over real files. As many checks run at once
+# as there are processors, and 4 GB of memory for each. (Left alone, rt plans with 12 GB for fc_volume, whose checks take 3.)
+LANES = $(shell awk -v most=$$(nproc) '/MemAvailable/ {n = int($$2 / 4000000); print n < 1 ? 1 : n < most ? n : most}' /proc/meminfo)
+
 test:
-	rt ci
-	$(MAKE) build
+	RT_JOBS=$(LANES) rt ci
 	tools/check_program.sh $(PROGRAM)
 
 # The rates of all layers and the time of compact, or of those that are named, as by make bench BENCHES=checks
