@@ -6,7 +6,7 @@ use Rattle.fc_newmap.specs.Map.{Map, ZoneRun, map_sectors}
 use Rattle.fc_newmap.specs.NewMap.{IsNewMap}
 use Rattle.fc_model.specs.Tree.{holder}
 use Rattle.fc_model.specs.Command.{Command}
-use Rattle.fc_image.specs.Layout.{Layout, dir_form, hole_sectors, is_among, is_apart}
+use Rattle.fc_image.specs.Layout.{Layout, dir_form, disc_sectors, hole_sectors, is_among, is_apart}
 use Rattle.fc_image.specs.Walk.{Listing, Object, is_directory_object, object_size, reader_of}
 use Rattle.fc_image.specs.Objects.{objects_of}
 use Rattle.fc_image.specs.Opening.{Opened, boot_place}
@@ -43,12 +43,14 @@ pub record ObjectsLaw : Type 0 where
 
 -- ---- what may be written
 
--- Sectors of no object other than a directory that the command may rewrite, not of the boot block, and not of lost space.
+-- These sectors lie on the disc. They are none of an object other than a directory that the command may rewrite, none of the boot
+-- block, and none of lost space.
 pub record MayBeWritten (kind : Kind) (view : Opened) (m : Map) (c : Command) (sectors : List ℕ) : Type 0 where
   pub files : (o : Object) → Contains (objects_of view.listings) o → is_directory_object o ≡ false → is_apart o.sectors sectors ≡ true
   pub dirs : (o : Object) → Contains (objects_of view.listings) o → may_be_rewritten view c o.path ≡ false → is_apart o.sectors sectors ≡ true
   pub boot : is_apart (boot_place kind m.geometry.sector) sectors ≡ true
   pub idle : is_apart (idle_sectors view m) sectors ≡ true
+  pub inside : (s : ℕ) → is_among sectors s ≡ true → s < disc_sectors (Layout.New m)
 
 -- a new object of n bytes, by the map m'
 pub record IsNewObject (view : Opened) (m m' : Map) (n id : ℕ) (parts : List ZoneRun) (gone : List ℕ) (o : Object) (stay : List Object) : Type 0 where

@@ -1,17 +1,20 @@
 -- The places of objects, and sectors that are no other's.
-use Rattle.std.proofs.Common.{◌≡◌, ◌<◌, ◌⊎◌, inl, inr, ℕ, Bool, true, false, cond, List, [], ◌∷◌, ◌++◌, refl, sym, ap, subst, ◌∙◌}
+use Rattle.std.proofs.Common.{◌≡◌, ◌<◌, ◌⊎◌, inl, inr, ℕ, ◌-◌, Bool, true, false, cond, List, [], ◌∷◌, ◌++◌, refl, sym, ap, subst, ◌∙◌}
 use Rattle.std.specs.Prelude.{Ok, Err, Contains, IsPermutation, filter, not, ◌==◌, ◌||◌}
 use Rattle.std.proofs.lemmas.List.Sorted.{Contains-permutation, IsPermutation-append_left, IsPermutation-cons, IsPermutation-filter_both, IsPermutation-map, IsPermutation-sym, IsPermutation-trans}
 use Rattle.fc_names.specs.Names.{Path, is_directory, is_same_path}
 use Rattle.fc_record.specs.declared.DiscRecord.{DiscRecord}
+use Rattle.fc_record.specs.declared.Geometry.{Geometry}
 use Rattle.fc_record.specs.declared.Kind.{Kind}
+use Rattle.fc_record.specs.Record.{base}
 use Rattle.fc_newmap.specs.Map.{Map, ZoneRun, all_runs, map_sectors, sectors_of}
+use Rattle.fc_newmap.proofs.CoverLemmas.{run_on_disc}
 use Rattle.fc_newmap.proofs.PlaceLemmas.{filter_in, holder_of, in_back, in_either}
 use Rattle.fc_newmap.proofs.RunsLemmas.{runs_apart}
 use Rattle.fc_dirs.specs.declared.Entry.{Entry}
 use Rattle.fc_dirs.specs.Directory.{entries_of}
 use Rattle.fc_model.specs.Command.{Command}
-use Rattle.fc_image.specs.Layout.{Layout, hole_sectors, is_among, is_apart, map_place}
+use Rattle.fc_image.specs.Layout.{Layout, disc_sectors, hole_sectors, is_among, is_apart, map_place}
 use Rattle.fc_image.specs.Walk.{Listing, Object, is_directory_object, reader_of}
 use Rattle.fc_image.specs.Objects.{objects_of}
 use Rattle.fc_image.specs.Opening.{Opened, boot_place, reserved_in}
@@ -61,7 +64,7 @@ among_unfiltered t (x ∷ xs) s h = by (t x) h (among_unfiltered t xs s)
         kept false f later = later f
     by false g more = in_back (x ∷ []) xs s (more g)
 
--- ---- busy sectors are not idle
+-- ---- busy sectors are not idle, and lie on the disc
 
 pub idle_apart : (m : Map) (view : Opened) (image : List ℕ) (kind : Kind) (r : DiscRecord) (sectors : List ℕ) → IsNewKind kind r
     → OpensAs image kind (record { kind = kind; layout = Layout.New m; listings = view.listings }) → AreBusy m (objects_of view.listings) sectors → is_apart (idle_sectors view m) sectors ≡ true
@@ -76,12 +79,22 @@ idle_apart m view image kind r sectors new opens busy =
     let same = runs_apart m o.shape o.zones q.0 b.0 in_map.0 b.1 s q.1.1 b.2 in
     clash (is_idle (objects_of view.listings) b.0.1.kind) (subst (λ (p : ZoneRun). is_idle (objects_of view.listings) p.1.kind ≡ true) same in_map.1) b.3)
 
+pub busy_on_disc : (m : Map) (view : Opened) (image : List ℕ) (kind : Kind) (r : DiscRecord) (sectors : List ℕ) → IsNewKind kind r
+    → OpensAs image kind (record { kind = kind; layout = Layout.New m; listings = view.listings }) → AreBusy m (objects_of view.listings) sectors
+    → (s : ℕ) → is_among sectors s ≡ true → s < disc_sectors (Layout.New m)
+busy_on_disc m view image kind r sectors new opens busy s i =
+    let o = parts kind r image m view.listings new opens in
+    let begun : base m.geometry (m.geometry.zones - 1) < m.geometry.disc_bits = subst (λ (g : Geometry). base g (g.zones - 1) < g.disc_bits) (sym o.geometry_is) o.facts.begun in
+    let b = busy s i in
+    run_on_disc m o.shape o.zones o.some begun b.0 s b.1 b.2
+
 none_written : (kind : Kind) (view : Opened) (m : Map) (c : Command) → MayBeWritten kind view m c []
 none_written kind view m c = record {
   files = λ o at file. no_sectors o.sectors;
   dirs = λ o at kept. no_sectors o.sectors;
   boot = no_sectors (boot_place kind m.geometry.sector);
   idle = no_sectors (idle_sectors view m);
+  inside = λ s h. absurd (cc);
 }
 
 -- ---- an opened image
@@ -165,6 +178,7 @@ module _ (kind : Kind) (image : List ℕ) (view : Opened) (m : Map) (e : OpensBy
       dirs = λ o at kept. apart o at;
       boot = turned sectors (boot_place kind m.geometry.sector) (apart_back sectors (map_place (Layout.New m)) (boot_place kind m.geometry.sector) free);
       idle = idle_apart m view image kind r sectors new opens busy;
+      inside = busy_on_disc m view image kind r sectors new opens busy;
     }
 
     pub directory' : (l : Listing) → Contains ls l → may_be_rewritten view c l.object.path ≡ true → MayBeWritten kind view m c l.object.sectors
@@ -179,9 +193,12 @@ module _ (kind : Kind) (image : List ℕ) (view : Opened) (m : Map) (e : OpensBy
       ]);
       boot = turned l.object.sectors (boot_place kind m.geometry.sector)
           (apart_back l.object.sectors (map_place (Layout.New m)) (boot_place kind m.geometry.sector) (lies_apart l.object (listed' l at)));
-      idle = idle_apart m view image kind r l.object.sectors new opens
-          (object_busy m (objects_of ls) (parts kind r image m ls new opens).some l.object _ (listed' l at) (object_lies kind r image m ls new opens l.object (listed' l at)).placed);
+      idle = idle_apart m view image kind r l.object.sectors new opens busy;
+      inside = busy_on_disc m view image kind r l.object.sectors new opens busy;
     }
+      where
+        busy : AreBusy m (objects_of ls) l.object.sectors
+        busy = object_busy m (objects_of ls) (parts kind r image m ls new opens).some l.object _ (listed' l at) (object_lies kind r image m ls new opens l.object (listed' l at)).placed
 
     pub own' : (o : Object) → Contains (objects_of ls) o → may_be_rewritten view c o.path ≡ true → MayBeWritten kind view m c (cond (is_directory_object o) o.sectors [])
     own' o at may = by (is_directory_object o) refl
@@ -241,12 +258,17 @@ places_law = record {
     dirs = λ o at kept. apart_both o.sectors xs ys (a.dirs o at kept) (b.dirs o at kept);
     boot = apart_both (boot_place kind m.geometry.sector) xs ys a.boot b.boot;
     idle = apart_both (idle_sectors view m) xs ys a.idle b.idle;
+    inside = λ s h. elim (in_either xs ys s h) [
+      | Ok first ↦ a.inside s first
+      | Err second ↦ b.inside s second
+    ];
   };
   within = λ kind view m c xs ys less a. record {
     files = λ o at file. apart_within o.sectors xs ys less (a.files o at file);
     dirs = λ o at kept. apart_within o.sectors xs ys less (a.dirs o at kept);
     boot = apart_within (boot_place kind m.geometry.sector) xs ys less a.boot;
     idle = apart_within (idle_sectors view m) xs ys less a.idle;
+    inside = λ s h. a.inside s (less s h);
   };
   directory = λ kind image view m c l e at may. directory' kind image view m e c l at may;
   own = λ kind image view m c o e at may. own' kind image view m e c o at may;
