@@ -28,7 +28,7 @@ use Rattle.fc_changes.proofs.BeforeLemmas.{object_lies, opened_as, parts, sound}
 use Rattle.fc_changes.proofs.MadeLemmas.{turned}
 use Rattle.fc_changes.proofs.OutsideLemmas.{AreBusy, owned_busy}
 use Rattle.fc_laws.specs.takeover.Places.{MayBeWritten}
-use Rattle.fc_laws.proofs.lemmas.takeover.ApartLemmas.{apart_back, idle_apart, objects_law}
+use Rattle.fc_laws.proofs.lemmas.takeover.ApartLemmas.{apart_back, busy_on_disc, idle_apart, objects_law}
 use Rattle.fc_laws.proofs.lemmas.takeover.KindLemmas.{new_kind}
 use Rattle.fc_growths.specs.Grown.{NewPlace, at_place}
 use Rattle.fc_growths.proofs.BasicLemmas.{read_some}
@@ -104,6 +104,7 @@ module _ (kind : Kind) (image : List ℕ) (view : Opened) (m m' : Map) (c : Comm
     dirs = λ o at kept. apart o (stays o at (not_kept o kept));
     boot = turned sectors (boot_place kind m.geometry.sector) (apart_back sectors (map_place (Layout.New m)) (boot_place kind m.geometry.sector) free);
     idle = idle_apart m view image kind r sectors new opens (busy_of m objects sectors loose);
+    inside = busy_on_disc m view image kind r sectors new opens (busy_of m objects sectors loose);
   }
 
   pub grown_place : MayBeWritten kind view m c place.sectors
