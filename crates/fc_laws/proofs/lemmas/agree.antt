@@ -1,5 +1,7 @@
+pub mod WalkedLemmas
 pub mod BeforeLemmas
 pub mod RoomLemmas
+pub mod WalkEditLemmas
 pub mod EditLemmas
 pub mod KeptLemmas
 pub mod RewordedLemmas

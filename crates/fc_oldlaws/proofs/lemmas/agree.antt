@@ -2,10 +2,6 @@ pub mod BeforeLemmas
 pub mod RoomLemmas
 pub mod EditLemmas
 pub mod KeptLemmas
-pub mod RewordedLemmas
-pub mod MovedLemmas
-pub mod RenamedLemmas
-pub mod TransferredLemmas
 pub mod DirectoryLemmas
 pub mod AddedLemmas
 pub mod GivenLemmas

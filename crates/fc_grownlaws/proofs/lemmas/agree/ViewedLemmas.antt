@@ -36,7 +36,7 @@ use Rattle.fc_changes.proofs.BasicLemmas.{first_in}
 use Rattle.fc_laws.specs.nodes.Edits.{Nodes}
 use Rattle.fc_laws.specs.agree.Agreed.{AgreeOn, CanSay, parts_with}
 use Rattle.fc_laws.proofs.lemmas.agree.BeforeLemmas.{sound}
-use Rattle.fc_laws.proofs.lemmas.agree.EditLemmas.{root_node}
+use Rattle.fc_laws.proofs.lemmas.agree.WalkedLemmas.{root_node}
 use Rattle.fc_laws.proofs.lemmas.takeover.KindLemmas.{new_kind}
 use Rattle.fc_grownlaws.specs.agree.Viewed.{ViewedLaw}
 

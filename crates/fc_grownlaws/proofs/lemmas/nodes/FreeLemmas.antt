@@ -30,10 +30,7 @@ use Rattle.fc_growths.proofs.ObjectLemmas.{by_map}
 use Rattle.fc_growths.proofs.SpaceLemmas.{owned_by, owner_id, owns, some_sector}
 use Rattle.fc_laws.proofs.lemmas.agree.EditLemmas.{loose_before}
 use Rattle.fc_grownlaws.proofs.lemmas.nodes.SpaceLemmas.{AreNew, Growth, after, fixed, form_stays, its_elsewhere, its_high, l_in, l_owns, l_used, new_unused, one_of_both, owner_used, shape, some_zones, stay_at, stay_in, stay_runs, zones_now}
-
-none_at : (layout : Layout) (address : ℕ) (sectors : List ℕ) → sectors_at layout address 0 ≡ Some sectors → sectors ≡ []
-unfolding sectors_at
-none_at layout address sectors h = sym (same_some [] sectors h)
+use Rattle.fc_laws.proofs.lemmas.agree.NewPlaceLemmas.{none_at}
 
 -- a new object beside the directory: what it owns was free, or owned and may be shared; and its sectors are nobody's
 pub record IsBeside (kind : Kind) (m m' : Map) (objects stay : List Object) (id : ℕ) (parts : List ZoneRun) (l : Object) (place : NewPlace) (gone : List ℕ)

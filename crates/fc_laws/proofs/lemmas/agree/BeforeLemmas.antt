@@ -11,21 +11,20 @@ use Rattle.fc_newmap.proofs.CoverLemmas.{run_on_disc}
 use Rattle.fc_newmap.proofs.PlaceLemmas.{holder_of, id_run_in}
 use Rattle.fc_alloc.specs.declared.owner.Owner.{Owner}
 use Rattle.fc_image.specs.Layout.{Layout, disc_sectors, hole_sectors, id_of, is_among, is_apart}
-use Rattle.fc_image.specs.Walk.{Listing, Object, Reader}
+use Rattle.fc_image.specs.Walk.{Listing, Object}
 use Rattle.fc_image.specs.Objects.{objects_of}
 use Rattle.fc_image.specs.Opening.{boot_place, least_of, misplaced_sector, reserved_in}
 use Rattle.fc_image.specs.Sound.{AreSound}
-use Rattle.fc_image.specs.Edits.{Apart, IsAt, IsListing, IsRoot}
-use Rattle.fc_image.specs.Order.{AreListings, held}
-use Rattle.fc_image.proofs.HolesLemmas.{Each-contains, Each-objects, Lies, apart_from, id_no_hole, in_id, loose_sectors, walk_lies}
-use Rattle.fc_image.proofs.OrderLemmas.{order_law}
+use Rattle.fc_image.specs.Edits.{IsAt, IsListing}
+use Rattle.fc_image.proofs.HolesLemmas.{Lies, apart_from, id_no_hole, in_id, loose_sectors}
 use Rattle.fc_tree.specs.declared.node.Node.{Node}
 use Rattle.fc_tree.specs.Agree.{Agree, AreWalked, reader_of_nodes}
 use Rattle.fc_tree.specs.Parts.{AreOwners, Parts}
-use Rattle.fc_tree.proofs.WalkedLemmas.{apart_names, follows_each, given, place_of, root as root_of}
+use Rattle.fc_tree.proofs.WalkedLemmas.{apart_names}
 use Rattle.fc_laws.specs.nodes.Edits.{Nodes}
 use Rattle.fc_laws.specs.agree.Agreed.{AgreeOn, parts_with}
 use Rattle.fc_laws.specs.agree.Laws.{AgreedLaw}
+use Rattle.fc_laws.proofs.lemmas.agree.WalkedLemmas as on_any
 
 -- ---- a map in memory
 
@@ -47,16 +46,13 @@ some_least : (n : ℕ) (ns : List ℕ) → least_of (n ∷ ns) ≡ None → ⊥
 some_least n ns e = cc
 
 -- Two lists that have no least number have none together.
-none_least : (xs ys : List ℕ) → least_of (xs ++ ys) ≡ None → (least_of xs ≡ None) × (least_of ys ≡ None)
+pub none_least : (xs ys : List ℕ) → least_of (xs ++ ys) ≡ None → (least_of xs ≡ None) × (least_of ys ≡ None)
 none_least [] ys e = (refl, e)
 none_least (x ∷ xs) ys e = absurd (some_least x (xs ++ ys) e)
 
 -- ---- parts that agree
 
 module _ (kind : Kind) (m : Map) (nodes : Nodes) (owners : List Owner) (root : Node) (listings : List Listing) (a : AgreeOn kind m nodes owners root listings) where
-  abbrev pub read : Reader
-  read = reader_of_nodes nodes
-
   abbrev pub reserved : List ℕ
   reserved = reserved_in kind (Layout.New m)
 
@@ -67,33 +63,17 @@ module _ (kind : Kind) (m : Map) (nodes : Nodes) (owners : List Owner) (root : N
   shape = new_shape m a.is_map
 
   pub sound : AreSound (Layout.New m) listings
-  sound = record {
-    read = read;
-    reserved = reserved;
-    address = root.entry.address;
-    size = root.entry.len;
-    walked = a.walked.walked;
-    apart = λ l at. apart_names l.content (a.walked.bodies l at);
-  }
+  sound = on_any.sound kind (Layout.New m) nodes root listings a.walked
 
-  -- the root's object, and what the directories say
-  pub record Had : Type 0 where
-    pub top : Object
-    pub is_root : IsRoot (Layout.New m) root.entry.address root.entry.len top
-    pub all : AreListings read (Layout.New m) top listings
-    pub apart : Apart reserved (top ∷ held listings)
-    pub objects : objects_of listings ≡ top ∷ held listings
+  abbrev pub Had : Type 0
+  Had = on_any.Had kind (Layout.New m) nodes root listings a.walked
 
-  pub had : Had
-  had =
-      let h = order_law.gives read (Layout.New m) reserved root.entry.address root.entry.len listings a.walked.walked in
-      record { top = h.0; is_root = h.1; all = h.2; apart = h.3; objects = h.4 }
+  abbrev pub had : Had
+  had = on_any.had kind (Layout.New m) nodes root listings a.walked
 
   -- the place of an object
   pub object_lies : (o : Object) → Contains (objects_of listings) o → Lies (Layout.New m) reserved o
-  object_lies o at =
-      Each-contains (Lies (Layout.New m) reserved) (objects_of listings) o
-      (Each-objects (Lies (Layout.New m) reserved) listings (walk_lies read (Layout.New m) reserved root.entry.address root.entry.len listings a.walked.walked)) at
+  object_lies o at = on_any.object_lies kind (Layout.New m) nodes root listings a.walked o at
 
   -- in no hole
   pub no_hole : (o : Object) → Contains (objects_of listings) o → is_apart o.sectors (hole_sectors (Layout.New m)) ≡ true
@@ -113,11 +93,8 @@ module _ (kind : Kind) (m : Map) (nodes : Nodes) (owners : List Owner) (root : N
   boot_apart = (none_least (filter (is_among (loose_sectors m (objects_of listings))) reserved) (filter (is_among (map_sectors m.geometry)) (boot_place kind m.geometry.sector)) a.map_placed).1
 
   -- what a directory says and holds
-  pub says : (l : Listing) → Contains listings l → IsListing read (Layout.New m) l
-  unfolding sound
-  says l at =
-      let place = place_of listings l at in
-      follows_each read (Layout.New m) (root_of (Layout.New m) listings sound ∷ []) listings (given (Layout.New m) listings sound).2 place.0 l place.1
+  pub says : (l : Listing) → Contains listings l → IsListing (reader_of_nodes nodes) (Layout.New m) l
+  says l at = on_any.says kind (Layout.New m) nodes root listings a.walked l at
 
 -- ---- the law
 

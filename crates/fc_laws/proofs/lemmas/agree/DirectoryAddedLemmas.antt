@@ -28,7 +28,7 @@ use Rattle.fc_laws.proofs.lemmas.agree.AddedLemmas.{apart_from_all, one_new}
 use Rattle.fc_laws.proofs.lemmas.agree.DirectoryLemmas.{IsCut, IsOneEdited, kid_placed, l_in, one_agree, said}
 use Rattle.fc_laws.proofs.lemmas.agree.NewPlaceLemmas.{IsFreePlace, new_place}
 
-size_of_new : (form : NameForm) → directory_size form (new_dir_size form) ≡ new_dir_size form
+pub size_of_new : (form : NameForm) → directory_size form (new_dir_size form) ≡ new_dir_size form
 size_of_new Seven = refl
 size_of_new Ten = refl
 size_of_new Long = refl

@@ -1,11 +1,10 @@
 -- Any edit of the objects of agreeing parts.
-use Rattle.std.proofs.Common.{◌≡◌, ◌≤◌, ℕ, ◌+◌, ◌*◌, ◌/◌, Bool, true, false, cond, List, [], ◌∷◌, ◌++◌, length, map, refl, sym, ap, subst, ◌∙◌, arith, Some, None, Option, eq-eqb}
-use Rattle.std.specs.Prelude.{Ok, Contains, IsPermutation, filter, nat_le, ◌==◌, ◌||◌, ◌&&◌}
-use Rattle.std.specs.FinMap.{get}
+use Rattle.std.proofs.Common.{◌≡◌, ◌≤◌, ℕ, ◌+◌, ◌*◌, ◌/◌, Bool, true, false, cond, List, ◌∷◌, ◌++◌, length, map, refl, sym, ap, subst, ◌∙◌, arith, None, eq-eqb}
+use Rattle.std.specs.Prelude.{Contains, IsPermutation, filter, nat_le, ◌==◌, ◌||◌, ◌&&◌}
 use Rattle.std.proofs.lemmas.Bool.{eqb-true}
-use Rattle.std.proofs.lemmas.List.Sorted.{Contains-permutation, IsPermutation-sym, list_any-IsPermutation}
+use Rattle.std.proofs.lemmas.List.Sorted.{list_any-IsPermutation}
 use Rattle.fc_names.specs.declared.name.NameForm.{NameForm}
-use Rattle.fc_names.specs.declared.name.NameForm.TheVariants.{Long, Seven, Ten}
+use Rattle.fc_names.specs.declared.name.NameForm.TheVariants.{Long, Ten}
 use Rattle.fc_record.specs.declared.Geometry.{Geometry}
 use Rattle.fc_record.specs.declared.Kind.{Kind}
 use Rattle.fc_zone.specs.declared.RunKind.{RunKind}
@@ -17,31 +16,26 @@ use Rattle.fc_newmap.proofs.CoverLemmas.{run_there}
 use Rattle.fc_newmap.proofs.PlaceLemmas.{filter_in, held_in, holder_of, id_run_in, in_filter, in_id_runs}
 use Rattle.fc_newmap.proofs.RunsLemmas.{runs_apart}
 use Rattle.fc_dirs.specs.Directory.{directory_size}
-use Rattle.fc_dirs.specs.declared.Entry.{Entry}
 use Rattle.fc_alloc.specs.declared.owner.Owner.{Owner}
 use Rattle.fc_image.specs.Layout.{Layout, dir_form, disc_sectors, is_among}
-use Rattle.fc_image.specs.Walk.{Listing, Object, Reader, root_entry, walk}
+use Rattle.fc_image.specs.Walk.{Listing, Object, root_entry}
 use Rattle.fc_image.specs.Objects.{is_movable, is_owner_of, objects_of}
 use Rattle.fc_image.specs.Opening.{boot_place, is_hole_or_movable, least_of, misplaced_sector, reserved_in}
-use Rattle.fc_image.specs.Sound.{AreSound}
 use Rattle.fc_image.specs.Edits.{Apart, IsRoot, StayListed}
-use Rattle.fc_image.specs.Order.{held}
-use Rattle.fc_image.specs.EditedWalk.{IsRelisting, IsWalkEdit, IsWalkedAgain}
+use Rattle.fc_image.specs.EditedWalk.{IsRelisting}
 use Rattle.fc_image.specs.MapEdits.{KeepsPlace}
 use Rattle.fc_image.proofs.HolesLemmas.{least_none, loose_sectors, none_loose}
 use Rattle.fc_image.proofs.MapEditLemmas.{places_law}
 use Rattle.fc_image.proofs.MoveLemmas.{tight_from, unless}
-use Rattle.fc_image.proofs.OrderLemmas.{order_law}
-use Rattle.fc_image.proofs.RelistLemmas.{edited_walk_law, root_once}
 use Rattle.fc_tree.specs.declared.node.Node.{Node}
 use Rattle.fc_tree.specs.Agree.{Agree, HasForm, IsDirectory, reader_of_nodes}
-use Rattle.fc_tree.specs.Nodes.{HasNode, HoldObjects, number_of}
-use Rattle.fc_tree.proofs.WalkedLemmas.{apart_names}
-use Rattle.fc_changes.proofs.BasicLemmas.{any_in, clash, first_in}
+use Rattle.fc_changes.proofs.BasicLemmas.{any_in, clash}
 use Rattle.fc_laws.specs.nodes.Edits.{Nodes}
 use Rattle.fc_laws.specs.agree.Agreed.{AgreeOn, PartsFollow, parts_with}
 use Rattle.fc_laws.proofs.lemmas.agree.BeforeLemmas.{Had, boot_apart, had, shape, some_zones, tight}
 use Rattle.fc_laws.proofs.lemmas.agree.RoomLemmas.{room}
+use Rattle.fc_laws.proofs.lemmas.agree.WalkEditLemmas.{walked_after}
+use Rattle.fc_laws.proofs.lemmas.agree.WalkedLemmas as on_any
 
 -- ---- loose sectors of two maps
 
@@ -101,26 +95,6 @@ misplaced_shuffled kind m objects others s =
     ++ filter (is_among (map_sectors m.geometry)) (boot_place kind m.geometry.sector)))
     (λ i k. loose_shuffled objects others s k i)
 
--- ---- sizes
-
-twice : (form : NameForm) (n : ℕ) → directory_size form (directory_size form n) ≡ directory_size form n
-twice Seven n = refl
-twice Ten n = refl
-twice Long n = refl
-
--- ---- the node of a root's object
-
-same_node : (n k : Node) → (let q : Option Node = Some n in q) ≡ Some k → n ≡ k
-same_node n k e = cc
-
-same_number : (n k : ℕ) → (let q : Option ℕ = Some n in q) ≡ Some k → n ≡ k
-same_number n k e = cc
-
-pub root_node : (nodes : Nodes) (listings : List Listing) (o : Object) → o.path ≡ [] → HasNode nodes listings o → (node : Node) × (get nodes 0 ≡ Some node) × (node.entry ≡ o.entry)
-root_node nodes listings o path h =
-    let zero' : 0 ≡ h.number = same_number 0 h.number (ap (number_of nodes) (sym path) ∙ h.at_path) in
-    (_, ap (get nodes) zero' ∙ h.is, refl)
-
 -- ---- the edit
 
 module _ (kind : Kind) (m m' : Map) (nodes nodes' : Nodes) (owners owners' : List Owner) (root : Node) (listings listings' : List Listing) (a : AgreeOn kind m nodes owners root listings)
@@ -144,93 +118,34 @@ module _ (kind : Kind) (m m' : Map) (nodes nodes' : Nodes) (owners owners' : Lis
     pub follow : PartsFollow nodes' owners' (Layout.New m') listings'
 
   module _ (address size : ℕ) (e : IsAnyEdit address size) where
-    abbrev layout : Layout
-    layout = Layout.New m
-
-    abbrev layout' : Layout
-    layout' = Layout.New m'
-
-    abbrev held_back : List ℕ
-    held_back = reserved_in kind layout
-
-    abbrev read' : Reader
-    read' = reader_of_nodes nodes'
-
-    reserved_same : reserved_in kind layout' ≡ reserved_in kind layout
-    reserved_same = ap (λ (y : Geometry). map_sectors y ++ boot_place kind y.sector) e.geometry
-
-    disc_same : disc_sectors layout' ≡ disc_sectors layout
-    disc_same = ap (λ (y : Geometry). y.disc_bits * y.bit_bytes / y.sector) e.geometry
-
-    is : IsWalkEdit (reader_of_nodes nodes) read' layout layout' held_back held_back root.entry.address address root.entry.len size g listings listings' gone come kept
-    is = record {
-      walked = a.walked.walked;
-      relisted = e.relisted;
-      say = e.say;
-      root = λ p r. subst (λ (o : Object). IsRoot layout' address size (g o)) (root_once layout root.entry.address root.entry.len before.top p before.is_root r) e.root_now;
-      apart = λ p r. subst (λ (o : Object). Apart held_back (come ++ map g (o ∷ kept))) (root_once layout root.entry.address root.entry.len before.top p before.is_root r) e.apart;
-      room = (let few = e.few in let most = room kind m nodes owners root listings a in omega (arith, few, most, disc_same));
-    }
-
-    again : IsWalkedAgain read' layout layout' held_back root.entry.address address root.entry.len size g listings listings' gone come kept
-    again = edited_walk_law.again (reader_of_nodes nodes) read' layout layout' held_back held_back root.entry.address address root.entry.len size g listings listings' gone come kept is
-
-    abbrev found : List Listing
-    found = again.found
-
-    objects_now : IsPermutation (objects_of found) (come ++ map g (before.top ∷ kept))
-    objects_now =
-        subst (λ (o : Object). IsPermutation (objects_of found) (come ++ map g (o ∷ kept))) (root_once layout root.entry.address root.entry.len again.root before.top again.is_root before.is_root) again.after
-
-    listed_back : (l : Listing) → Contains found l → Contains listings' l
-    listed_back l at = Contains-permutation found listings' l (IsPermutation-sym listings' found again.order) at
-
-    walked_now : walk read' layout' (reserved_in kind layout') address size ≡ Ok found
-    walked_now = subst (λ (ss : List ℕ). walk read' layout' ss address size ≡ Ok found) (sym reserved_same) again.walked
-
-    sound_now : AreSound layout' found
-    sound_now = record {
-      read = read';
-      reserved = held_back;
-      address = address;
-      size = size;
-      walked = again.walked;
-      apart = λ l at. apart_names l.content (e.bodies l (listed_back l at));
-    }
-
-    held_now : HoldObjects nodes' found
-    held_now = e.follow.nodes_follow.hold layout' found sound_now again.order
-
-    root_after : (node : Node) × (get nodes' 0 ≡ Some node) × (node.entry.address ≡ address) × (node.entry.len ≡ size)
-    root_after =
-        let h = order_law.gives read' layout' held_back address size found again.walked in
-        let n = root_node nodes' found h.0 h.1.path (held_now.each h.0 (subst (λ (os : List Object). Contains os h.0) (sym h.4) (first_in h.0 (held found)))) in (
-          n.0,
-          n.1,
-          ap (λ (x : Entry). x.address) (n.2 ∙ h.1.entry),
-          ap (λ (x : Entry). x.len) (n.2 ∙ h.1.entry) ∙ e.whole,
-        )
-
     -- These listings are found, in some order, and the parts agree on them.
-    pub agreed_on : (r : Node) × (found' : List Listing) × AgreeOn kind m' nodes' owners' r found' × IsPermutation listings' found'
+    pub agreed_on : (r : Node) × (found : List Listing) × AgreeOn kind m' nodes' owners' r found × IsPermutation listings' found
     agreed_on =
-        let r = root_after in (
-          r.0,
-          found,
+        let disc_same : disc_sectors (Layout.New m') ≡ disc_sectors (Layout.New m) = ap (λ (y : Geometry). y.disc_bits * y.bit_bytes / y.sector) e.geometry in
+        let reserved_same : reserved_in kind (Layout.New m') ≡ reserved_in kind (Layout.New m) = ap (λ (y : Geometry). map_sectors y ++ boot_place kind y.sector) e.geometry in
+        let now =
+        walked_after kind (Layout.New m) (Layout.New m') nodes nodes' owners' root listings listings' a.walked g gone come kept address size
+        (record {
+          relisted = e.relisted;
+          room = (let few = e.few in let most = room kind m nodes owners root listings a in omega (arith, few, most, disc_same));
+          say = e.say;
+          root_now = e.root_now;
+          whole = e.whole;
+          apart = subst (λ (ss : List ℕ). Apart ss (come ++ map g (before.top ∷ kept))) (sym reserved_same) e.apart;
+          forms = e.forms;
+          bodies = e.bodies;
+          follow = e.follow;
+        }) in (
+          now.node,
+          now.found,
           record {
             is_map = e.is_map;
-            root_is = r.1;
-            walked = record {
-              walked = subst (λ (n : ℕ). walk read' layout' (reserved_in kind layout') r.0.entry.address n ≡ Ok found) (sym r.3)
-                  (subst (λ (n : ℕ). walk read' layout' (reserved_in kind layout') n size ≡ Ok found) (sym r.2) walked_now);
-              held = held_now;
-              forms = λ l at. e.forms l (listed_back l at);
-              bodies = λ l at. e.bodies l (listed_back l at);
-            };
-            map_placed = misplaced_shuffled kind m' (objects_of found) (come ++ map g (before.top ∷ kept)) objects_now ∙ e.clear;
-            owned = e.follow.owners_follow found sound_now again.order;
+            root_is = now.root_is;
+            walked = now.walked;
+            map_placed = misplaced_shuffled kind m' (objects_of now.found) (come ++ map g (before.top ∷ kept)) now.objects ∙ e.clear;
+            owned = now.owned;
           },
-          again.order,
+          now.order,
         )
 
     pub agreed_anyhow : Agree kind (parts_with m' nodes' owners')
@@ -274,10 +189,7 @@ module _ (kind : Kind) (m m' : Map) (nodes nodes' : Nodes) (owners owners' : Lis
 
   -- the root's length is that of its object
   pub root_size : directory_size (dir_form (Layout.New m)) root.entry.len ≡ root.entry.len
-  root_size =
-      let was = root_node nodes listings before.top before.is_root.path (a.walked.held.each before.top (subst (λ (os : List Object). Contains os before.top) (sym before.objects) (first_in before.top (held listings)))) in
-      let same : root ≡ was.0 = same_node root was.0 (sym a.root_is ∙ was.1) in
-      sym (ap (λ (n : Node). n.entry.len) same ∙ ap (λ (x : Entry). x.len) was.2 ∙ ap (λ (x : Entry). x.len) before.is_root.entry)
+  root_size = on_any.root_size kind (Layout.New m) nodes root listings a.walked a.root_is
 
   pub root_stays : m'.geometry ≡ m.geometry → KeepsPlace m m' before.top → IsRoot (Layout.New m') root.entry.address root.entry.len before.top
   root_stays geometry placed = record {

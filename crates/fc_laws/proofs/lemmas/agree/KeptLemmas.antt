@@ -1,5 +1,5 @@
 -- Edits in which no object comes or goes, and each keeps its place.
-use Rattle.std.proofs.Common.{◌≡◌, inr, ℕ, Bool, false, cond, List, [], ◌∷◌, ◌++◌, length, map, refl, sym, ap, ap₂, subst, ◌∙◌, arith, length-append}
+use Rattle.std.proofs.Common.{◌≡◌, ◌≤◌, ◌+◌, inr, ℕ, Bool, false, cond, List, [], ◌∷◌, ◌++◌, length, map, refl, sym, ap, ap₂, subst, ◌∙◌, arith, length-append}
 use Rattle.std.specs.Prelude.{Contains, IsPermutation, nat_le, nat_lt, ◌==◌, ◌||◌, ◌&&◌}
 use Rattle.std.specs.List.{list_any}
 use Rattle.std.proofs.lemmas.List.{length-map}
@@ -14,7 +14,7 @@ use Rattle.fc_image.specs.Walk.{Listing, Object, Reader}
 use Rattle.fc_image.specs.Objects.{is_movable, is_owner_of, objects_of}
 use Rattle.fc_image.specs.Opening.{reserved_in}
 use Rattle.fc_image.specs.Sound.{AreSound}
-use Rattle.fc_image.specs.Edits.{IsListing, StayListed}
+use Rattle.fc_image.specs.Edits.{Apart, IsListing, StayListed}
 use Rattle.fc_image.specs.Order.{held, listed}
 use Rattle.fc_image.specs.EditedWalk.{AreListedBy, IsRelisting}
 use Rattle.fc_image.proofs.EntriesLemmas.{from_map, here, later}
@@ -25,11 +25,12 @@ use Rattle.fc_image.proofs.RelistLemmas.{all_before, apart_mapped}
 use Rattle.fc_image.proofs.RenameLemmas.{many_shuffled, passes}
 use Rattle.fc_image.proofs.TreeLemmas.{sound_few}
 use Rattle.fc_tree.specs.declared.node.Node.{Node}
-use Rattle.fc_tree.specs.Agree.{Agree, reader_of_nodes}
+use Rattle.fc_tree.specs.Agree.{Agree, AreWalked, reader_of_nodes}
 use Rattle.fc_laws.specs.nodes.Edits.{Nodes, relisted}
 use Rattle.fc_laws.specs.agree.Agreed.{AgreeOn, CanSay, PartsFollow, parts_with}
-use Rattle.fc_laws.proofs.lemmas.agree.BeforeLemmas.{Had, had}
+use Rattle.fc_laws.proofs.lemmas.agree.BeforeLemmas.{had}
 use Rattle.fc_laws.proofs.lemmas.agree.EditLemmas.{agreed_after}
+use Rattle.fc_laws.proofs.lemmas.agree.WalkedLemmas as on_any
 
 -- ---- paths
 
@@ -79,48 +80,68 @@ none_listed (l ∷ listings) e = absurd (let long = ap (λ (os : List Object). l
 
 -- ---- the edit
 
-module _ (kind : Kind) (m : Map) (nodes nodes' : Nodes) (owners owners' : List Owner) (root : Node) (listings listings' : List Listing) (a : AgreeOn kind m nodes owners root listings)
-    (g : Object → Object) (kept : List Object) where
-  abbrev before : Had kind m nodes owners root listings a
-  before = had kind m nodes owners root listings a
+module _ (kind : Kind) (layout : Layout) (nodes nodes' : Nodes) (owners' : List Owner) (root : Node) (listings : List Listing)
+    (a : AreWalked nodes layout (reserved_in kind layout) root.entry.address root.entry.len listings) where
+  abbrev before : on_any.Had kind layout nodes root listings a
+  before = on_any.had kind layout nodes root listings a
 
   -- Each object is changed by g and keeps its sectors, and the nodes say so.
-  pub record IsKeptEdit : Type 0 where
+  pub record IsKeptEdit (listings' : List Listing) (g : Object → Object) (kept : List Object) : Type 0 where
     pub sectors : (o : Object) → (g o).sectors ≡ o.sectors
     pub address : (o : Object) → (g o).entry.address ≡ o.entry.address
     pub relisted : IsRelisting g listings listings' [] [] kept
-    pub say : StayListed (reader_of_nodes nodes') (Layout.New m) listings'
+    pub say : StayListed (reader_of_nodes nodes') layout listings'
     pub top_stays : g before.top ≡ before.top
-    pub can : (l : Listing) → Contains listings' l → CanSay (Layout.New m) l.object l.content
-    pub follow : PartsFollow nodes' owners' (Layout.New m) listings'
+    pub can : (l : Listing) → Contains listings' l → CanSay layout l.object l.content
+    pub follow : PartsFollow nodes' owners' layout listings'
 
-  pub kept_agree : IsKeptEdit → Agree kind (parts_with m nodes' owners')
+  abbrev pub KeptEdit : Type 0
+  KeptEdit = (listings' : List Listing) × (g : Object → Object) × (kept : List Object) × IsKeptEdit listings' g kept
+
+  pub top_too : (e : KeptEdit) → IsPermutation (before.top ∷ held listings) (before.top ∷ e.2)
+  top_too e = IsPermutation-cons before.top (held listings) e.2 (all_before e.1 listings e.0 [] [] e.2 e.3.relisted)
+
+  pub kept_apart : (e : KeptEdit) → Apart (reserved_in kind layout) (map e.1 (before.top ∷ e.2))
+  kept_apart e =
+      apart_mapped (reserved_in kind layout) e.1 (before.top ∷ e.2) e.3.sectors (apart_shuffled (reserved_in kind layout) (before.top ∷ held listings) (before.top ∷ e.2) before.apart (top_too e))
+
+  pub kept_few : (e : KeptEdit) → length e.0 ≤ length listings + 1
+  kept_few e =
+      let r = e.3.relisted in
+      let none = none_listed r.into r.into_come in
+      let was = length_permutation listings (r.out ++ r.stay) r.had in
+      let now = length_permutation e.0 (r.into ++ r.stay') r.has in
+      let same : length r.stay' ≡ length r.stay =
+      sym (length-map r.stay' (λ (x : Listing). x.object)) ∙ ap (λ (os : List Object). length os) r.same
+      ∙ length-map (listed r.stay) e.1 ∙ length-map r.stay (λ (x : Listing). x.object) in
+      omega (arith, was, now, none, same, length-append r.out r.stay, length-append r.into r.stay')
+
+-- ---- the same on a new map
+
+module _ (kind : Kind) (m : Map) (nodes nodes' : Nodes) (owners owners' : List Owner) (root : Node) (listings : List Listing) (a : AgreeOn kind m nodes owners root listings) where
+  abbrev top : Object
+  top = (on_any.had kind (Layout.New m) nodes root listings a.walked).top
+
+  pub kept_agree : KeptEdit kind (Layout.New m) nodes nodes' owners' root listings a.walked → Agree kind (parts_with m nodes' owners')
   kept_agree e =
-      let reserved = reserved_in kind (Layout.New m) in
-      let all = all_before g listings listings' [] [] kept e.relisted in
-      let top_too : IsPermutation (before.top ∷ held listings) (before.top ∷ kept) = IsPermutation-cons before.top (held listings) kept all in
-      let whole : IsPermutation (objects_of listings) (before.top ∷ kept) = subst (λ (os : List Object). IsPermutation os (before.top ∷ kept)) (sym before.objects) top_too in
-      let owned : (n : ℕ) → is_movable (map g (before.top ∷ kept)) n ≡ is_movable (objects_of listings) n =
+      let whole : IsPermutation (objects_of listings) (top ∷ e.2) =
+      subst (λ (os : List Object). IsPermutation os (top ∷ e.2)) (sym (had kind m nodes owners root listings a).objects)
+      (top_too kind (Layout.New m) nodes nodes' owners' root listings a.walked e) in
+      let owned : (n : ℕ) → is_movable (map e.1 (top ∷ e.2)) n ≡ is_movable (objects_of listings) n =
       λ n. ap (λ b. ((n == 2) || b) && nat_le 3 n)
-      (owners_same g e.sectors e.address n (before.top ∷ kept) ∙ sym (list_any-IsPermutation (is_owner_of n) (objects_of listings) (before.top ∷ kept) whole)) in
-      let none = none_listed e.relisted.into e.relisted.into_come in
-      let was = length_permutation listings (e.relisted.out ++ e.relisted.stay) e.relisted.had in
-      let now = length_permutation listings' (e.relisted.into ++ e.relisted.stay') e.relisted.has in
-      let same : length e.relisted.stay' ≡ length e.relisted.stay =
-      sym (length-map e.relisted.stay' (λ (x : Listing). x.object)) ∙ ap (λ (os : List Object). length os) e.relisted.same
-      ∙ length-map (listed e.relisted.stay) g ∙ length-map e.relisted.stay (λ (x : Listing). x.object) in
-      agreed_after kind m m nodes nodes' owners owners' root listings listings' a g [] [] kept
+      (owners_same e.1 e.3.sectors e.3.address n (top ∷ e.2) ∙ sym (list_any-IsPermutation (is_owner_of n) (objects_of listings) (top ∷ e.2) whole)) in
+      agreed_after kind m m nodes nodes' owners owners' root listings e.0 a e.1 [] [] e.2
       (record {
         is_map = a.is_map;
         geometry = refl;
-        relisted = e.relisted;
-        few = omega (arith, was, now, none, same, length-append e.relisted.out e.relisted.stay, length-append e.relisted.into e.relisted.stay');
-        say = e.say;
-        top_stays = e.top_stays;
+        relisted = e.3.relisted;
+        few = kept_few kind (Layout.New m) nodes nodes' owners' root listings a.walked e;
+        say = e.3.say;
+        top_stays = e.3.top_stays;
         top_placed = inr refl;
-        apart = apart_mapped reserved g (before.top ∷ kept) e.sectors (apart_shuffled reserved (before.top ∷ held listings) (before.top ∷ kept) before.apart top_too);
+        apart = kept_apart kind (Layout.New m) nodes nodes' owners' root listings a.walked e;
         fixed = λ k h u. (refl, owned k ∙ h);
-        forms = λ l at. (e.can l at).form;
-        bodies = λ l at. (e.can l at).body;
-        follow = e.follow;
+        forms = λ l at. (e.3.can l at).form;
+        bodies = λ l at. (e.3.can l at).body;
+        follow = e.3.follow;
       })

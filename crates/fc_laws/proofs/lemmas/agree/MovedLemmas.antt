@@ -3,13 +3,12 @@ use Rattle.std.proofs.Common.{◌≡◌, ◌<◌, Bool, true, false, cond, List,
 use Rattle.std.specs.Prelude.{Ok, Contains}
 use Rattle.fc_names.specs.Names.{Path, folded_path, is_same_path}
 use Rattle.fc_record.specs.declared.Kind.{Kind}
-use Rattle.fc_newmap.specs.Map.{Map}
 use Rattle.fc_model.specs.Tree.{is_prefix}
 use Rattle.fc_dirs.specs.Directory.{Directory, entries_of}
-use Rattle.fc_alloc.specs.declared.owner.Owner.{Owner}
 use Rattle.fc_image.specs.Layout.{Layout}
 use Rattle.fc_image.specs.Walk.{Listing, Object, is_directory_object}
 use Rattle.fc_image.specs.Objects.{objects_of}
+use Rattle.fc_image.specs.Opening.{reserved_in}
 use Rattle.fc_image.specs.Edits.{IsListing}
 use Rattle.fc_image.specs.EditedWalk.{moved_object}
 use Rattle.fc_image.proofs.MapEditLemmas.{child_at}
@@ -18,12 +17,12 @@ use Rattle.fc_image.proofs.PathsLemmas.{itself}
 use Rattle.fc_image.proofs.RelistLemmas.{prefix_long, relisting_law}
 use Rattle.fc_image.proofs.RenameLemmas.{stays}
 use Rattle.fc_tree.specs.declared.node.Node.{Node}
-use Rattle.fc_tree.specs.Agree.{reader_of_nodes}
+use Rattle.fc_tree.specs.Agree.{AreWalked, reader_of_nodes}
 use Rattle.fc_tree.proofs.SoundLemmas.{same_object}
 use Rattle.fc_tree.proofs.WalkedLemmas.{listed_directory}
 use Rattle.fc_laws.specs.nodes.Edits.{Nodes, as_moved}
-use Rattle.fc_laws.specs.agree.Agreed.{AgreeOn, CanSay}
-use Rattle.fc_laws.proofs.lemmas.agree.BeforeLemmas.{says, sound}
+use Rattle.fc_laws.specs.agree.Agreed.{CanSay}
+use Rattle.fc_laws.proofs.lemmas.agree.WalkedLemmas.{says, sound}
 use Rattle.fc_laws.proofs.lemmas.agree.KeptLemmas.{relisting}
 
 -- the root doesn't move with another object
@@ -33,23 +32,20 @@ root_stays from to top some path =
     let low = prefix_long from top.path h in let none = ap (λ (p : Path). length p) path in omega (arith, low, none, some)))
 
 -- what is known of the directories `rest`: the nodes say what they said, or `now` of the object o that moves, and o is in none of them
-pub record AreBeside (m : Map) (nodes' : Nodes) (listings rest : List Listing) (o : Object) (to : Path) (now : Directory) : Type 0 where
+pub record AreBeside (layout : Layout) (nodes' : Nodes) (listings rest : List Listing) (o : Object) (to : Path) (now : Directory) : Type 0 where
   pub listed : (k : Listing) → Contains rest k → Contains listings k
   pub object : Contains (objects_of listings) o
   pub same : (d : Listing) → Contains listings d → d.object ≡ o → entries_of now ≡ entries_of d.content
-  pub can : is_directory_object o ≡ true → CanSay (Layout.New m) o now
+  pub can : is_directory_object o ≡ true → CanSay layout o now
   pub others : (k : Listing) → Contains rest k → (p : Object) → Contains k.children p → is_same_path o.path p.path ≡ false
   pub say : (k : Listing) → Contains rest k → reader_of_nodes nodes' (moved_object o.path to k.object) ≡ Ok (as_moved o now k)
 
-module _ (kind : Kind) (m : Map) (nodes nodes' : Nodes) (owners : List Owner) (root : Node) (listings rest : List Listing) (o : Object) (to : Path) (now : Directory)
-    (a : AgreeOn kind m nodes owners root listings) (e : AreBeside m nodes' listings rest o to now) where
-  abbrev layout : Layout
-  layout = Layout.New m
-
+module _ (kind : Kind) (layout : Layout) (nodes nodes' : Nodes) (root : Node) (listings rest : List Listing) (o : Object) (to : Path) (now : Directory)
+    (a : AreWalked nodes layout (reserved_in kind layout) root.entry.address root.entry.len listings) (e : AreBeside layout nodes' listings rest o to now) where
   -- a directory at the path of the object is the object
   is_moving : (k : Listing) → Contains listings k → is_same_path k.object.path o.path ≡ true → k.object ≡ o
   is_moving k at same =
-      same_object layout listings (sound kind m nodes owners root listings a) k.object.path k.object o (listed_directory layout listings (sound kind m nodes owners root listings a) k at).0 e.object
+      same_object layout listings (sound kind layout nodes root listings a) k.object.path k.object o (listed_directory layout listings (sound kind layout nodes root listings a) k at).0 e.object
       (itself k.object.path) same
 
   entries_stay : (k : Listing) → Contains listings k → entries_of (as_moved o now k) ≡ entries_of k.content
@@ -61,7 +57,7 @@ module _ (kind : Kind) (m : Map) (nodes nodes' : Nodes) (owners : List Owner) (r
 
   pub moved_says : (k : Listing) → Contains rest k → IsListing (reader_of_nodes nodes') layout (relisting (moved_object o.path to) (as_moved o now) k)
   moved_says k at =
-      let old = says kind m nodes owners root listings a k (e.listed k at) in
+      let old = says kind layout nodes root listings a k (e.listed k at) in
       relisting_law.says o.path to (reader_of_nodes nodes) (reader_of_nodes nodes') layout layout k (as_moved o now k) old (e.say k at) (entries_stay k (e.listed k at))
       (λ p child. child_at layout k.object.path (entries_of k.content) k.children p old.1 child) (e.others k at)
 
@@ -74,5 +70,5 @@ module _ (kind : Kind) (m : Map) (nodes nodes' : Nodes) (owners : List Owner) (r
       by : (b : Bool) → is_same_path k.object.path o.path ≡ b → CanSay layout (moved_object o.path to k.object) (cond b now k.content)
       by true h =
           let is = is_moving k (e.listed k at) h in
-          as_it (e.can (ap is_directory_object (sym is) ∙ (listed_directory layout listings (sound kind m nodes owners root listings a) k (e.listed k at)).1)) is
-      by false h = record { form = a.walked.forms k (e.listed k at); body = a.walked.bodies k (e.listed k at) }
+          as_it (e.can (ap is_directory_object (sym is) ∙ (listed_directory layout listings (sound kind layout nodes root listings a) k (e.listed k at)).1)) is
+      by false h = record { form = a.forms k (e.listed k at); body = a.bodies k (e.listed k at) }

@@ -54,7 +54,7 @@ some_of : (sectors : List ℕ) → nat_lt 0 (length sectors) ≡ true → (s : �
 some_of [] h = absurd (let low = ltb-true 0 0 h in omega arith)
 some_of (x ∷ sectors) h = (x, ap (λ b. b || is_among sectors x) (eq-eqb x x refl))
 
-some_there : (xs : List ℕ) (t : ℕ) → is_among xs t ≡ true → nat_lt 0 (length xs) ≡ true
+pub some_there : (xs : List ℕ) (t : ℕ) → is_among xs t ≡ true → nat_lt 0 (length xs) ≡ true
 some_there [] t h = absurd (cc)
 some_there (x ∷ xs) t h = lt-ltb 0 (length (x ∷ xs)) (omega arith)
 
@@ -67,7 +67,7 @@ by_new m address n sectors some h = by (n == 0) refl h
     by true e g = absurd (let none = eqb-true n 0 e in omega (arith, none, some))
     by false e g = g
 
-none_at : (layout : Layout) (address : ℕ) (sectors : List ℕ) → sectors_at layout address 0 ≡ Some sectors → sectors ≡ []
+pub none_at : (layout : Layout) (address : ℕ) (sectors : List ℕ) → sectors_at layout address 0 ≡ Some sectors → sectors ≡ []
 unfolding sectors_at
 none_at layout address sectors h = sym (same_some [] sectors h)
 

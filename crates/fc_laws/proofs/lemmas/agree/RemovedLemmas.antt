@@ -23,12 +23,12 @@ use Rattle.fc_laws.specs.agree.Agreed.{AgreeOn, CanSay, IsMapChange, PartsFollow
 use Rattle.fc_laws.specs.agree.Laws.{RemovedLaw}
 use Rattle.fc_laws.proofs.lemmas.agree.DirectoryLemmas.{IsCut, IsOneEdited, kid_placed, l_in, one_agree, one_on, said}
 
-gone_held : (out : List Listing) (o : Object) → GoesAlone out o → held out ≡ []
+pub gone_held : (out : List Listing) (o : Object) → GoesAlone out o → held out ≡ []
 gone_held [] o alone = refl
 gone_held (d ∷ []) o alone = ap (λ (os : List Object). os ++ []) alone.2
 gone_held (d ∷ e ∷ out) o alone = absurd alone
 
-gone_listed : (out : List Listing) (o : Object) → GoesAlone out o → listed out ≡ directories (o ∷ [])
+pub gone_listed : (out : List Listing) (o : Object) → GoesAlone out o → listed out ≡ directories (o ∷ [])
 gone_listed [] o alone = ap (λ (b : Bool). cond b (o ∷ []) []) (sym alone)
 gone_listed (d ∷ []) o alone = ap (λ (x : Object). x ∷ []) alone.0 ∙ ap (λ (b : Bool). cond b (o ∷ []) []) (sym alone.1)
 gone_listed (d ∷ e ∷ out) o alone = absurd alone

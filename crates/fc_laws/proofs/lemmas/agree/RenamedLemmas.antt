@@ -6,7 +6,6 @@ use Rattle.std.proofs.lemmas.List.Elements.{Contains-append_left, Contains-appen
 use Rattle.std.proofs.lemmas.List.Sorted.{Contains-permutation, IsPermutation-append_left, IsPermutation-cons, IsPermutation-map, IsPermutation-refl, IsPermutation-sym, IsPermutation-trans}
 use Rattle.fc_names.specs.Names.{Path, folded_path, is_same_path}
 use Rattle.fc_record.specs.declared.Kind.{Kind}
-use Rattle.fc_newmap.specs.Map.{Map}
 use Rattle.fc_model.specs.Tree.{is_prefix, last_name}
 use Rattle.fc_dirs.specs.declared.Entry.{Entry}
 use Rattle.fc_dirs.specs.Directory.{Directory, entries_of}
@@ -14,6 +13,7 @@ use Rattle.fc_alloc.specs.declared.owner.Owner.{Owner}
 use Rattle.fc_image.specs.Layout.{Layout}
 use Rattle.fc_image.specs.Walk.{Listing, Object, is_directory_object}
 use Rattle.fc_image.specs.Objects.{objects_of}
+use Rattle.fc_image.specs.Opening.{reserved_in}
 use Rattle.fc_image.specs.Edits.{AreChildren, IsListing}
 use Rattle.fc_image.specs.Order.{held}
 use Rattle.fc_image.specs.EditedWalk.{IsRelisting, moved_object}
@@ -25,14 +25,14 @@ use Rattle.fc_image.proofs.RelistLemmas.{relisting_law}
 use Rattle.fc_image.proofs.RenameLemmas.{child_path, child_stays, holder_first, last_pushed, moved_itself, stay_all, stays}
 use Rattle.fc_image.proofs.ShuffleLemmas.{IsPermutation-flat_map, flipped}
 use Rattle.fc_tree.specs.declared.node.Node.{Node}
-use Rattle.fc_tree.specs.Agree.{Agree, reader_of_nodes}
+use Rattle.fc_tree.specs.Agree.{AreWalked, reader_of_nodes}
 use Rattle.fc_tree.proofs.WalkedLemmas.{child_is_object}
 use Rattle.fc_changes.proofs.BasicLemmas.{cases_cons}
 use Rattle.fc_laws.specs.nodes.Edits.{IsRenamed, Nodes, as_moved, relisted}
-use Rattle.fc_laws.specs.agree.Agreed.{AgreeOn, CanSay, PartsFollow, parts_with}
+use Rattle.fc_laws.specs.agree.Agreed.{CanSay, PartsFollow}
 use Rattle.fc_laws.specs.agree.Laws.{RenamedLaw}
-use Rattle.fc_laws.proofs.lemmas.agree.BeforeLemmas.{Had, had, says, sound}
-use Rattle.fc_laws.proofs.lemmas.agree.KeptLemmas.{alone, kept_agree, relisted_by, relisted_each, relisted_stay, relisting}
+use Rattle.fc_laws.proofs.lemmas.agree.WalkedLemmas.{Had, had, says, sound}
+use Rattle.fc_laws.proofs.lemmas.agree.KeptLemmas.{KeptEdit, alone, kept_agree, relisted_by, relisted_each, relisted_stay, relisting}
 use Rattle.fc_laws.proofs.lemmas.agree.MovedLemmas.{AreBeside, moved_can, moved_says, root_stays}
 
 -- an object's entry and path after its move
@@ -46,15 +46,12 @@ pub moved_there : (path : Path) (name : List ℕ) (o : Object)
 moved_there path name o =
     moved_itself o.path (path ++ name ∷ []) o.path refl ∙ ap (λ (x : Entry). path ++ x.name ∷ []) (sym (moved_entry path name o))
 
-module _ (kind : Kind) (m : Map) (nodes nodes' : Nodes) (owners owners' : List Owner) (root : Node) (listings listings' rest : List Listing) (l : Listing) (content : Directory)
-    (i j : ℕ) (o : Object) (dir number : ℕ) (name : List ℕ) (now : Directory) (a : AgreeOn kind m nodes owners root listings)
-    (e : IsRenamed nodes nodes' listings listings' rest l content i j o dir number name now) (can : CanSay (Layout.New m) l.object content)
-    (can_now : is_directory_object o ≡ true → CanSay (Layout.New m) o now) (f : PartsFollow nodes' owners' (Layout.New m) listings') where
-  abbrev layout : Layout
-  layout = Layout.New m
-
-  abbrev before : Had kind m nodes owners root listings a
-  before = had kind m nodes owners root listings a
+module _ (kind : Kind) (layout : Layout) (nodes nodes' : Nodes) (owners' : List Owner) (root : Node) (listings listings' rest : List Listing) (l : Listing) (content : Directory)
+    (i j : ℕ) (o : Object) (dir number : ℕ) (name : List ℕ) (now : Directory) (a : AreWalked nodes layout (reserved_in kind layout) root.entry.address root.entry.len listings)
+    (e : IsRenamed nodes nodes' listings listings' rest l content i j o dir number name now) (can : CanSay layout l.object content)
+    (can_now : is_directory_object o ≡ true → CanSay layout o now) (f : PartsFollow nodes' owners' layout listings') where
+  abbrev before : Had kind layout nodes root listings a
+  before = had kind layout nodes root listings a
 
   abbrev from : Path
   from = o.path
@@ -77,8 +74,8 @@ module _ (kind : Kind) (m : Map) (nodes nodes' : Nodes) (owners owners' : List O
   abbrev rest' : List Listing
   rest' = relisted g (as_moved o now) rest
 
-  follow : PartsFollow nodes' owners' (Layout.New m) (l' ∷ rest')
-  follow = subst (PartsFollow nodes' owners' (Layout.New m)) e.listings_are f
+  follow : PartsFollow nodes' owners' layout (l' ∷ rest')
+  follow = subst (PartsFollow nodes' owners' layout) e.listings_are f
 
   back : IsPermutation (l ∷ rest) listings
   back = IsPermutation-sym listings (l ∷ rest) e.found
@@ -90,7 +87,7 @@ module _ (kind : Kind) (m : Map) (nodes nodes' : Nodes) (owners owners' : List O
   rest_in k at = Contains-permutation (l ∷ rest) listings k back (later l k rest at)
 
   old : AreChildren layout l.object.path (entries_of l.content) l.children
-  old = (says kind m nodes owners root listings a l l_in).1
+  old = (says kind layout nodes root listings a l l_in).1
 
   removed : AreChildren layout l.object.path (remove (entries_of l.content) i) kids × IsPermutation l.children (o ∷ kids)
   removed = entries_law.removed layout l.object.path (entries_of l.content) l.children i o old e.child.at
@@ -117,7 +114,7 @@ module _ (kind : Kind) (m : Map) (nodes nodes' : Nodes) (owners owners' : List O
       (IsPermutation-cons before.top (held listings) (o ∷ others) (IsPermutation-trans (held listings) (l.children ++ held rest) (o ∷ others) all cut)) (flipped before.top o others))
 
   other : (p : Object) → Contains others p → is_same_path from p.path ≡ false
-  other p at = alone layout listings o p (before.top ∷ others) (sound kind m nodes owners root listings a) beside (later before.top p others at)
+  other p at = alone layout listings o p (before.top ∷ others) (sound kind layout nodes root listings a) beside (later before.top p others at)
 
   above : is_prefix (folded_path from) (folded_path l.object.path) ≡ false
   above = ap (λ (p : Path). is_prefix (folded_path p) (folded_path l.object.path)) o_path ∙ holder_first l.object.path o.entry.name
@@ -137,10 +134,10 @@ module _ (kind : Kind) (m : Map) (nodes nodes' : Nodes) (owners owners' : List O
         (ap (λ (x : Entry). insert (remove (entries_of l.content) i) j x) (moved_entry l.object.path name o) ∙ sym e.entries) added.0,
   )
 
-  rest_are : AreBeside m nodes' listings rest o to now
+  rest_are : AreBeside layout nodes' listings rest o to now
   rest_are = record {
     listed = rest_in;
-    object = child_is_object layout listings (sound kind m nodes owners root listings a) l o l_in o_in;
+    object = child_is_object layout listings (sound kind layout nodes root listings a) l o l_in o_in;
     same = e.same;
     can = can_now;
     others = λ k at p child. other p (Contains-append_right kids (held rest) p (held_in rest k p at child));
@@ -159,22 +156,25 @@ module _ (kind : Kind) (m : Map) (nodes nodes' : Nodes) (owners owners' : List O
   can_say x at = elim (cases_cons l' rest' x at) [
     | inl is ↦ subst (λ (y : Listing). CanSay layout y.object y.content) is (record { form = can.form; body = can.body })
     | inr more ↦ relisted_each (λ (y : Listing). CanSay layout y.object y.content) g (as_moved o now) rest
-        (moved_can kind m nodes nodes' owners root listings rest o to now a rest_are) x more
+        (moved_can kind layout nodes nodes' root listings rest o to now a rest_are) x more
   ]
 
-  renamed_at : Agree kind (parts_with m nodes' owners')
-  renamed_at =
-      kept_agree kind m nodes nodes' owners owners' root listings (l' ∷ rest') a g (l.children ++ held rest)
-      (record {
-        sectors = λ p. refl;
-        address = λ p. refl;
-        relisted = relisted_now;
-        say = (l_says, relisted_stay (reader_of_nodes nodes') layout g (as_moved o now) rest (moved_says kind m nodes nodes' owners root listings rest o to now a rest_are));
-        top_stays = root_stays from to before.top no_root before.is_root.path;
-        can = can_say;
-        follow = follow;
-      })
+  pub renamed_edit : KeptEdit kind layout nodes nodes' owners' root listings a
+  renamed_edit = (
+    l' ∷ rest',
+    g,
+    (l.children ++ held rest),
+    record {
+      sectors = λ p. refl;
+      address = λ p. refl;
+      relisted = relisted_now;
+      say = (l_says, relisted_stay (reader_of_nodes nodes') layout g (as_moved o now) rest (moved_says kind layout nodes nodes' root listings rest o to now a rest_are));
+      top_stays = root_stays from to before.top no_root before.is_root.path;
+      can = can_say;
+      follow = follow;
+    },
+  )
 
 pub renamed_law : RenamedLaw
 renamed_law kind m nodes nodes' owners owners' root listings listings' rest l content i j o dir number name now a e can can_now f =
-    renamed_at kind m nodes nodes' owners owners' root listings listings' rest l content i j o dir number name now a e can can_now f
+    kept_agree kind m nodes nodes' owners owners' root listings a (renamed_edit kind (Layout.New m) nodes nodes' owners' root listings listings' rest l content i j o dir number name now a.walked e can can_now f)

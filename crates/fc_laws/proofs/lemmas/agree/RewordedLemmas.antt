@@ -6,13 +6,13 @@ use Rattle.std.proofs.lemmas.List.Elements.{Contains-append_left, Contains-appen
 use Rattle.std.proofs.lemmas.List.Sorted.{Contains-permutation, IsPermutation-append_left, IsPermutation-cons, IsPermutation-map, IsPermutation-refl, IsPermutation-sym, IsPermutation-trans}
 use Rattle.fc_names.specs.Names.{Path, is_same_path}
 use Rattle.fc_record.specs.declared.Kind.{Kind}
-use Rattle.fc_newmap.specs.Map.{Map}
 use Rattle.fc_dirs.specs.declared.Entry.{Entry}
 use Rattle.fc_dirs.specs.Directory.{Directory, directory_size, entries_of}
 use Rattle.fc_alloc.specs.declared.owner.Owner.{Owner}
 use Rattle.fc_image.specs.Layout.{Layout, dir_form, sectors_at}
 use Rattle.fc_image.specs.Walk.{Listing, Object}
 use Rattle.fc_image.specs.Objects.{objects_of}
+use Rattle.fc_image.specs.Opening.{reserved_in}
 use Rattle.fc_image.specs.Edits.{AreChildren, IsAt, IsListing}
 use Rattle.fc_image.specs.Order.{held}
 use Rattle.fc_image.specs.EditedWalk.{IsRelisting}
@@ -25,13 +25,13 @@ use Rattle.fc_image.proofs.RenameLemmas.{child_path}
 use Rattle.fc_image.proofs.RewordLemmas.{other_long}
 use Rattle.fc_image.proofs.ShuffleLemmas.{IsPermutation-flat_map, flipped}
 use Rattle.fc_tree.specs.declared.node.Node.{Node}
-use Rattle.fc_tree.specs.Agree.{Agree, HasForm, reader_of_nodes}
+use Rattle.fc_tree.specs.Agree.{AreWalked, HasForm, reader_of_nodes}
 use Rattle.fc_changes.proofs.BasicLemmas.{cases_cons}
 use Rattle.fc_laws.specs.nodes.Edits.{IsReworded, Nodes, as_before, relisted}
-use Rattle.fc_laws.specs.agree.Agreed.{AgreeOn, CanSay, PartsFollow, parts_with}
+use Rattle.fc_laws.specs.agree.Agreed.{CanSay, PartsFollow}
 use Rattle.fc_laws.specs.agree.Laws.{RewordedLaw}
-use Rattle.fc_laws.proofs.lemmas.agree.BeforeLemmas.{Had, had, says, sound}
-use Rattle.fc_laws.proofs.lemmas.agree.KeptLemmas.{alone, kept_agree, relisted_by, relisted_each, relisted_stay, relisting}
+use Rattle.fc_laws.proofs.lemmas.agree.WalkedLemmas.{Had, had, says, sound}
+use Rattle.fc_laws.proofs.lemmas.agree.KeptLemmas.{KeptEdit, alone, kept_agree, relisted_by, relisted_each, relisted_stay, relisting}
 
 at_same : (layout : Layout) (path : Path) (g : Object → Object) → IsRewording path g → (o : Object) → IsAt layout o → IsAt layout (g o)
 at_same layout path g is o at =
@@ -43,14 +43,11 @@ stay_all path g is [] other = refl
 stay_all path g is (p ∷ objects) other =
     ap₂ (λ (q : Object) (qs : List Object). q ∷ qs) (is.others p (other p (here p objects))) (stay_all path g is objects (λ q at. other q (later p q objects at)))
 
-module _ (kind : Kind) (m : Map) (nodes nodes' : Nodes) (owners owners' : List Owner) (root : Node) (listings listings' rest : List Listing) (l : Listing) (content : Directory)
-    (i : ℕ) (o : Object) (dir number : ℕ) (g : Object → Object) (a : AgreeOn kind m nodes owners root listings)
-    (e : IsReworded nodes nodes' listings listings' rest l content i o dir number g) (can : CanSay (Layout.New m) l.object content) (f : PartsFollow nodes' owners' (Layout.New m) listings') where
-  abbrev layout : Layout
-  layout = Layout.New m
-
-  abbrev before : Had kind m nodes owners root listings a
-  before = had kind m nodes owners root listings a
+module _ (kind : Kind) (layout : Layout) (nodes nodes' : Nodes) (owners' : List Owner) (root : Node) (listings listings' rest : List Listing) (l : Listing) (content : Directory)
+    (i : ℕ) (o : Object) (dir number : ℕ) (g : Object → Object) (a : AreWalked nodes layout (reserved_in kind layout) root.entry.address root.entry.len listings)
+    (e : IsReworded nodes nodes' listings listings' rest l content i o dir number g) (can : CanSay layout l.object content) (f : PartsFollow nodes' owners' layout listings') where
+  abbrev before : Had kind layout nodes root listings a
+  before = had kind layout nodes root listings a
 
   abbrev l' : Listing
   l' = says_now l content (slice_set l.children i (g o))
@@ -58,8 +55,8 @@ module _ (kind : Kind) (m : Map) (nodes nodes' : Nodes) (owners owners' : List O
   abbrev rest' : List Listing
   rest' = relisted g as_before rest
 
-  follow : PartsFollow nodes' owners' (Layout.New m) (l' ∷ rest')
-  follow = subst (PartsFollow nodes' owners' (Layout.New m)) e.listings_are f
+  follow : PartsFollow nodes' owners' layout (l' ∷ rest')
+  follow = subst (PartsFollow nodes' owners' layout) e.listings_are f
 
   back : IsPermutation (l ∷ rest) listings
   back = IsPermutation-sym listings (l ∷ rest) e.found
@@ -71,7 +68,7 @@ module _ (kind : Kind) (m : Map) (nodes nodes' : Nodes) (owners owners' : List O
   rest_in k at = Contains-permutation (l ∷ rest) listings k back (later l k rest at)
 
   old : (k : Listing) → Contains listings k → IsListing (reader_of_nodes nodes) layout k
-  old k at = says kind m nodes owners root listings a k at
+  old k at = says kind layout nodes root listings a k at
 
   abbrev kids : List Object
   kids = remove l.children i
@@ -104,7 +101,7 @@ module _ (kind : Kind) (m : Map) (nodes nodes' : Nodes) (owners owners' : List O
       (IsPermutation-cons before.top (held listings) (o ∷ others) (IsPermutation-trans (held listings) kept (o ∷ others) all cut)) (flipped before.top o others))
 
   other : (p : Object) → Contains (before.top ∷ others) p → is_same_path o.path p.path ≡ false
-  other p at = alone layout listings o p (before.top ∷ others) (sound kind m nodes owners root listings a) beside at
+  other p at = alone layout listings o p (before.top ∷ others) (sound kind layout nodes root listings a) beside at
 
   l_stays : g l.object ≡ l.object
   l_stays =
@@ -149,25 +146,28 @@ module _ (kind : Kind) (m : Map) (nodes nodes' : Nodes) (owners owners' : List O
     | inl is ↦ subst (λ (y : Listing). CanSay layout y.object y.content) is (record { form = can.form; body = can.body })
     | inr more ↦ relisted_each (λ (y : Listing). CanSay layout y.object y.content) g as_before rest
         (λ k there. record {
-          form = subst (λ (n : ℕ). HasForm (dir_form layout) n k.content) (sym (e.rewording.len k.object)) (a.walked.forms k (rest_in k there));
-          body = a.walked.bodies k (rest_in k there);
+          form = subst (λ (n : ℕ). HasForm (dir_form layout) n k.content) (sym (e.rewording.len k.object)) (a.forms k (rest_in k there));
+          body = a.bodies k (rest_in k there);
         })
         x more
   ]
 
-  reworded_at : Agree kind (parts_with m nodes' owners')
-  reworded_at =
-      kept_agree kind m nodes nodes' owners owners' root listings (l' ∷ rest') a g kept
-      (record {
-        sectors = e.rewording.sectors;
-        address = e.rewording.address;
-        relisted = relisted_now;
-        say = (l_says, relisted_stay (reader_of_nodes nodes') layout g as_before rest rest_says);
-        top_stays = e.rewording.others before.top (other before.top (here before.top others));
-        can = can_say;
-        follow = follow;
-      })
+  pub reworded_edit : KeptEdit kind layout nodes nodes' owners' root listings a
+  reworded_edit = (
+    l' ∷ rest',
+    g,
+    kept,
+    record {
+      sectors = e.rewording.sectors;
+      address = e.rewording.address;
+      relisted = relisted_now;
+      say = (l_says, relisted_stay (reader_of_nodes nodes') layout g as_before rest rest_says);
+      top_stays = e.rewording.others before.top (other before.top (here before.top others));
+      can = can_say;
+      follow = follow;
+    },
+  )
 
 pub reworded_law : RewordedLaw
 reworded_law kind m nodes nodes' owners owners' root listings listings' rest l content i o dir number g a e can f =
-    reworded_at kind m nodes nodes' owners owners' root listings listings' rest l content i o dir number g a e can f
+    kept_agree kind m nodes nodes' owners owners' root listings a (reworded_edit kind (Layout.New m) nodes nodes' owners' root listings listings' rest l content i o dir number g a.walked e can f)

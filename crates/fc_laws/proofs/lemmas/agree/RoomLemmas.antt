@@ -1,5 +1,5 @@
 -- A walk over nodes finds no more directories than there are sectors.
-use Rattle.std.proofs.Common.{◌≡◌, ◌<◌, ◌≤◌, ℕ, Bool, true, false, cond, List, [], ◌∷◌, ◌++◌, length, take, eqb, refl, sym, ap, subst, ◌∙◌, arith, eq-eqb, length-append}
+use Rattle.std.proofs.Common.{◌≡◌, ◌<◌, ◌≤◌, ℕ, Bool, true, false, cond, List, [], ◌∷◌, ◌++◌, length, take, eqb, refl, sym, ap, subst, ◌∙◌, arith, eq-eqb, length-append, Some}
 use Rattle.std.specs.Prelude.{Ok, Err, Contains, ◌==◌, ◌||◌}
 use Rattle.std.specs.List.{AllByRecursion, IsDistinct, flat_map, list_any}
 use Rattle.std.proofs.lemmas.Bool.{eqb-false, eqb-true, ne_eqb}
@@ -14,8 +14,10 @@ use Rattle.fc_newmap.proofs.CoverLemmas.{Distinct, Distinct-append}
 use Rattle.fc_newmap.proofs.PlaceLemmas.{in_back, in_either, in_front}
 use Rattle.fc_dirs.specs.Directory.{Directory, directory_size}
 use Rattle.fc_alloc.specs.declared.owner.Owner.{Owner}
-use Rattle.fc_image.specs.Layout.{Layout, dir_form, disc_sectors, is_among}
+use Rattle.fc_image.specs.Layout.{Layout, dir_form, disc_sectors, is_among, sectors_at}
 use Rattle.fc_image.specs.Walk.{Listing, Object, is_directory_object, object_size}
+use Rattle.fc_image.specs.Objects.{objects_of}
+use Rattle.fc_image.specs.Opening.{reserved_in}
 use Rattle.fc_image.specs.Edits.{Apart}
 use Rattle.fc_image.specs.Order.{directories, held, listed}
 use Rattle.fc_image.proofs.EditLemmas.{apart_law}
@@ -23,13 +25,14 @@ use Rattle.fc_image.proofs.EntriesLemmas.{from_map}
 use Rattle.fc_image.proofs.HolesLemmas.{apart_at}
 use Rattle.fc_image.proofs.OrderLemmas.{apart_shuffled}
 use Rattle.fc_tree.specs.declared.node.Node.{Node}
-use Rattle.fc_tree.specs.Agree.{HasForm, IsDirectory}
+use Rattle.fc_tree.specs.Agree.{AreWalked, HasForm, IsDirectory}
 use Rattle.fc_tree.proofs.WalkedLemmas.{listed_directory}
 use Rattle.fc_changes.proofs.BasicLemmas.{clash, first_in, next_in, unless}
 use Rattle.fc_changes.proofs.ChangeLemmas.{a_sector}
 use Rattle.fc_laws.specs.nodes.Edits.{Nodes}
 use Rattle.fc_laws.specs.agree.Agreed.{AgreeOn}
-use Rattle.fc_laws.proofs.lemmas.agree.BeforeLemmas.{had, object_lies, on_disc, reserved, shape, sound}
+use Rattle.fc_laws.proofs.lemmas.agree.BeforeLemmas.{on_disc, shape}
+use Rattle.fc_laws.proofs.lemmas.agree.WalkedLemmas.{had, object_lies, sound}
 
 -- ---- the first sector of each object that has one
 
@@ -119,41 +122,55 @@ some_bytes Ten len (Directory.Big dir) h d = absurd h
 some_bytes Long len (Directory.Small dir) h d = absurd h
 some_bytes Long len (Directory.Big dir) h d = (let big = d.fits in omega (arith, h, big))
 
-module _ (kind : Kind) (m : Map) (nodes : Nodes) (owners : List Owner) (root : Node) (listings : List Listing) (a : AgreeOn kind m nodes owners root listings) where
-  pub dir_sector : (l : Listing) → Contains listings l → (s : ℕ) × (is_among l.object.sectors s ≡ true)
-  dir_sector l at =
-      let dir = listed_directory (Layout.New m) listings (sound kind m nodes owners root listings a) l at in
-      let size : object_size (dir_form (Layout.New m)) l.object.entry ≡ directory_size (dir_form (Layout.New m)) l.object.entry.len =
-      ap (λ (b : Bool). cond b (directory_size (dir_form (Layout.New m)) l.object.entry.len) l.object.entry.len) dir.1 in
-      let some = some_bytes (dir_form (Layout.New m)) l.object.entry.len l.content (a.walked.forms l at) (a.walked.bodies l at) in
-      a_sector m l.object.entry.address (object_size (dir_form (Layout.New m)) l.object.entry) l.object.sectors (omega (arith, size, some)) (shape kind m nodes owners root listings a).some
-      (object_lies kind m nodes owners root listings a l.object dir.0).placed
+module _ (kind : Kind) (layout : Layout) (nodes : Nodes) (root : Node) (listings : List Listing) (a : AreWalked nodes layout (reserved_in kind layout) root.entry.address root.entry.len listings)
+    -- what lies at its address lies on the disc, and some bytes have a sector
+    (on_disc : (o : Object) → Contains (objects_of listings) o → (s : ℕ) → is_among o.sectors s ≡ true → s < disc_sectors layout)
+    (a_sector : (address bytes : ℕ) (sectors : List ℕ) → 0 < bytes → sectors_at layout address bytes ≡ Some sectors → (s : ℕ) × (is_among sectors s ≡ true)) where
+  pub dir_sector_of : (l : Listing) → Contains listings l → (s : ℕ) × (is_among l.object.sectors s ≡ true)
+  dir_sector_of l at =
+      let dir = listed_directory layout listings (sound kind layout nodes root listings a) l at in
+      let size : object_size (dir_form layout) l.object.entry ≡ directory_size (dir_form layout) l.object.entry.len =
+      ap (λ (b : Bool). cond b (directory_size (dir_form layout) l.object.entry.len) l.object.entry.len) dir.1 in
+      let some = some_bytes (dir_form layout) l.object.entry.len l.content (a.forms l at) (a.bodies l at) in
+      a_sector l.object.entry.address (object_size (dir_form layout) l.object.entry) l.object.sectors (omega (arith, size, some)) (object_lies kind layout nodes root listings a l.object dir.0).placed
 
   -- which directory it is
   of_listed : (o : Object) → Contains (listed listings) o → (l : Listing) × Contains listings l × (l.object ≡ o)
   of_listed o at = from_map (λ (l : Listing). l.object) listings o at
 
   listed_sector : (o : Object) → Contains (listed listings) o → (s : ℕ) × (is_among o.sectors s ≡ true)
-  listed_sector o at = let l = of_listed o at in subst (λ (p : Object). (s : ℕ) × (is_among p.sectors s ≡ true)) l.2 (dir_sector l.0 l.1)
+  listed_sector o at = let l = of_listed o at in subst (λ (p : Object). (s : ℕ) × (is_among p.sectors s ≡ true)) l.2 (dir_sector_of l.0 l.1)
 
-  listed_low : (s : ℕ) → is_among (firsts (listed listings)) s ≡ true → s < disc_sectors (Layout.New m)
+  listed_low : (s : ℕ) → is_among (firsts (listed listings)) s ≡ true → s < disc_sectors layout
   listed_low s e =
       let o = firsts_from (listed listings) s e in
       let l = of_listed o.0 o.1 in
-      on_disc kind m nodes owners root listings a l.0.object (listed_directory (Layout.New m) listings (sound kind m nodes owners root listings a) l.0 l.1).0 s
+      on_disc l.0.object (listed_directory layout listings (sound kind layout nodes root listings a) l.0 l.1).0 s
       (subst (λ (p : Object). is_among p.sectors s ≡ true) (sym l.2) o.2)
 
-  listed_apart : Apart (reserved kind m nodes owners root listings a) (listed listings)
+  listed_apart : Apart (reserved_in kind layout) (listed listings)
   listed_apart =
-      let h = had kind m nodes owners root listings a in
-      apart_shuffled (reserved kind m nodes owners root listings a) (h.top ∷ directories (held listings)) (listed listings)
-      (h.apart.0, apart_directories (h.top.sectors ++ reserved kind m nodes owners root listings a) (held listings) h.apart.1)
+      let h = had kind layout nodes root listings a in
+      apart_shuffled (reserved_in kind layout) (h.top ∷ directories (held listings)) (listed listings)
+      (h.apart.0, apart_directories (h.top.sectors ++ reserved_in kind layout) (held listings) h.apart.1)
       (IsPermutation-sym (listed listings) (h.top ∷ directories (held listings)) h.all.all)
 
-  pub room : length listings ≤ disc_sectors (Layout.New m)
-  room =
-      let once = firsts_once (reserved kind m nodes owners root listings a) (listed listings) listed_apart in
+  pub room_of : length listings ≤ disc_sectors layout
+  room_of =
+      let once = firsts_once (reserved_in kind layout) (listed listings) listed_apart in
       let count = firsts_count (listed listings) listed_sector in
-      let most = length-le_from_distinct_below (firsts (listed listings)) (disc_sectors (Layout.New m)) (as_distinct (firsts (listed listings)) once)
+      let most = length-le_from_distinct_below (firsts (listed listings)) (disc_sectors layout) (as_distinct (firsts (listed listings)) once)
       (λ q e. listed_low q (as_among q (firsts (listed listings)) e)) in
-      subst (λ (n : ℕ). n ≤ disc_sectors (Layout.New m)) (count ∙ length-map listings (λ (l : Listing). l.object)) most
+      subst (λ (n : ℕ). n ≤ disc_sectors layout) (count ∙ length-map listings (λ (l : Listing). l.object)) most
+
+-- ---- the same on a new map
+
+module _ (kind : Kind) (m : Map) (nodes : Nodes) (owners : List Owner) (root : Node) (listings : List Listing) (a : AgreeOn kind m nodes owners root listings) where
+  sector_here : (address bytes : ℕ) (sectors : List ℕ) → 0 < bytes → sectors_at (Layout.New m) address bytes ≡ Some sectors → (s : ℕ) × (is_among sectors s ≡ true)
+  sector_here address bytes sectors some at = a_sector m address bytes sectors some (shape kind m nodes owners root listings a).some at
+
+  pub dir_sector : (l : Listing) → Contains listings l → (s : ℕ) × (is_among l.object.sectors s ≡ true)
+  dir_sector l at = dir_sector_of kind (Layout.New m) nodes root listings a.walked (on_disc kind m nodes owners root listings a) sector_here l at
+
+  pub room : length listings ≤ disc_sectors (Layout.New m)
+  room = room_of kind (Layout.New m) nodes root listings a.walked (on_disc kind m nodes owners root listings a) sector_here

@@ -6,7 +6,6 @@ use Rattle.std.proofs.lemmas.List.Elements.{Contains-append_left, Contains-appen
 use Rattle.std.proofs.lemmas.List.Sorted.{Contains-permutation, IsPermutation-append_left, IsPermutation-cons, IsPermutation-sym, IsPermutation-trans}
 use Rattle.fc_names.specs.Names.{Path, folded_path, is_same_path}
 use Rattle.fc_record.specs.declared.Kind.{Kind}
-use Rattle.fc_newmap.specs.Map.{Map}
 use Rattle.fc_model.specs.Tree.{is_prefix}
 use Rattle.fc_dirs.specs.declared.Entry.{Entry}
 use Rattle.fc_dirs.specs.Directory.{Directory, entries_of}
@@ -14,6 +13,7 @@ use Rattle.fc_alloc.specs.declared.owner.Owner.{Owner}
 use Rattle.fc_image.specs.Layout.{Layout}
 use Rattle.fc_image.specs.Walk.{Listing, Object, is_directory_object}
 use Rattle.fc_image.specs.Objects.{objects_of}
+use Rattle.fc_image.specs.Opening.{reserved_in}
 use Rattle.fc_image.specs.Edits.{AreChildren, IsListing}
 use Rattle.fc_image.specs.Order.{held}
 use Rattle.fc_image.specs.EditedWalk.{IsRelisting, moved_object}
@@ -24,27 +24,24 @@ use Rattle.fc_image.proofs.RelistLemmas.{relisting_law}
 use Rattle.fc_image.proofs.RenameLemmas.{child_path, child_stays, holder_first, stay_all, stays}
 use Rattle.fc_image.proofs.ShuffleLemmas.{IsPermutation-flat_map, flipped, same_lists}
 use Rattle.fc_tree.specs.declared.node.Node.{Node}
-use Rattle.fc_tree.specs.Agree.{Agree, reader_of_nodes}
+use Rattle.fc_tree.specs.Agree.{AreWalked, reader_of_nodes}
 use Rattle.fc_tree.proofs.WalkedLemmas.{child_is_object}
 use Rattle.fc_changes.proofs.BasicLemmas.{cases_cons}
 use Rattle.fc_laws.specs.nodes.Edits.{IsTransferred, Nodes, as_moved, relisted}
-use Rattle.fc_laws.specs.agree.Agreed.{AgreeOn, CanSay, PartsFollow, parts_with}
+use Rattle.fc_laws.specs.agree.Agreed.{CanSay, PartsFollow}
 use Rattle.fc_laws.specs.agree.Laws.{TransferredLaw}
-use Rattle.fc_laws.proofs.lemmas.agree.BeforeLemmas.{Had, had, says, sound}
-use Rattle.fc_laws.proofs.lemmas.agree.KeptLemmas.{alone, kept_agree, relisted_by, relisted_each, relisted_stay, relisting}
+use Rattle.fc_laws.proofs.lemmas.agree.WalkedLemmas.{Had, had, says, sound}
+use Rattle.fc_laws.proofs.lemmas.agree.KeptLemmas.{KeptEdit, alone, kept_agree, relisted_by, relisted_each, relisted_stay, relisting}
 use Rattle.fc_laws.proofs.lemmas.agree.MovedLemmas.{AreBeside, moved_can, moved_says, root_stays}
 use Rattle.fc_laws.proofs.lemmas.agree.RenamedLemmas.{moved_entry, moved_there}
 
-module _ (kind : Kind) (m : Map) (nodes nodes' : Nodes) (owners owners' : List Owner) (root : Node) (listings listings' rest : List Listing) (k l : Listing)
-    (k_content l_content : Directory) (i j : ℕ) (o : Object) (from_dir dir number : ℕ) (name : List ℕ) (now : Directory) (a : AgreeOn kind m nodes owners root listings)
+module _ (kind : Kind) (layout : Layout) (nodes nodes' : Nodes) (owners' : List Owner) (root : Node) (listings listings' rest : List Listing) (k l : Listing)
+    (k_content l_content : Directory) (i j : ℕ) (o : Object) (from_dir dir number : ℕ) (name : List ℕ) (now : Directory) (a : AreWalked nodes layout (reserved_in kind layout) root.entry.address root.entry.len listings)
     (e : IsTransferred nodes nodes' listings listings' rest k l k_content l_content i j o from_dir dir number name now)
-    (can_k : CanSay (Layout.New m) k.object k_content) (can_l : CanSay (Layout.New m) l.object l_content)
-    (can_now : is_directory_object o ≡ true → CanSay (Layout.New m) o now) (f : PartsFollow nodes' owners' (Layout.New m) listings') where
-  abbrev layout : Layout
-  layout = Layout.New m
-
-  abbrev before : Had kind m nodes owners root listings a
-  before = had kind m nodes owners root listings a
+    (can_k : CanSay layout k.object k_content) (can_l : CanSay layout l.object l_content)
+    (can_now : is_directory_object o ≡ true → CanSay layout o now) (f : PartsFollow nodes' owners' layout listings') where
+  abbrev before : Had kind layout nodes root listings a
+  before = had kind layout nodes root listings a
 
   abbrev from : Path
   from = o.path
@@ -70,8 +67,8 @@ module _ (kind : Kind) (m : Map) (nodes nodes' : Nodes) (owners owners' : List O
   abbrev rest' : List Listing
   rest' = relisted g (as_moved o now) rest
 
-  follow : PartsFollow nodes' owners' (Layout.New m) (k' ∷ l' ∷ rest')
-  follow = subst (PartsFollow nodes' owners' (Layout.New m)) e.listings_are f
+  follow : PartsFollow nodes' owners' layout (k' ∷ l' ∷ rest')
+  follow = subst (PartsFollow nodes' owners' layout) e.listings_are f
 
   back : IsPermutation (k ∷ l ∷ rest) listings
   back = IsPermutation-sym listings (k ∷ l ∷ rest) e.found
@@ -86,10 +83,10 @@ module _ (kind : Kind) (m : Map) (nodes nodes' : Nodes) (owners owners' : List O
   rest_in d at = Contains-permutation (k ∷ l ∷ rest) listings d back (later k d (l ∷ rest) (later l d rest at))
 
   k_old : AreChildren layout k.object.path (entries_of k.content) k.children
-  k_old = (says kind m nodes owners root listings a k k_in).1
+  k_old = (says kind layout nodes root listings a k k_in).1
 
   l_old : AreChildren layout l.object.path (entries_of l.content) l.children
-  l_old = (says kind m nodes owners root listings a l l_in).1
+  l_old = (says kind layout nodes root listings a l l_in).1
 
   removed : AreChildren layout k.object.path (remove (entries_of k.content) i) kids × IsPermutation k.children (o ∷ kids)
   removed = entries_law.removed layout k.object.path (entries_of k.content) k.children i o k_old e.child.at
@@ -117,7 +114,7 @@ module _ (kind : Kind) (m : Map) (nodes nodes' : Nodes) (owners owners' : List O
       (IsPermutation-cons before.top (held listings) (o ∷ others) all) (flipped before.top o others))
 
   other : (p : Object) → Contains others p → is_same_path from p.path ≡ false
-  other p at = alone layout listings o p (before.top ∷ others) (sound kind m nodes owners root listings a) beside (later before.top p others at)
+  other p at = alone layout listings o p (before.top ∷ others) (sound kind layout nodes root listings a) beside (later before.top p others at)
 
   above : is_prefix (folded_path from) (folded_path k.object.path) ≡ false
   above = ap (λ (p : Path). is_prefix (folded_path p) (folded_path k.object.path)) o_path ∙ holder_first k.object.path o.entry.name
@@ -145,10 +142,10 @@ module _ (kind : Kind) (m : Map) (nodes nodes' : Nodes) (owners owners' : List O
         (ap (λ (x : Entry). insert (entries_of l.content) j x) (moved_entry l.object.path name o) ∙ sym e.l_entries) added.0,
   )
 
-  rest_are : AreBeside m nodes' listings rest o to now
+  rest_are : AreBeside layout nodes' listings rest o to now
   rest_are = record {
     listed = rest_in;
-    object = child_is_object layout listings (sound kind m nodes owners root listings a) k o k_in o_in;
+    object = child_is_object layout listings (sound kind layout nodes root listings a) k o k_in o_in;
     same = e.same;
     can = can_now;
     others = λ d at p child. other p (Contains-append_right kids (l.children ++ held rest) p (Contains-append_right l.children (held rest) p (held_in rest d p at child)));
@@ -168,23 +165,26 @@ module _ (kind : Kind) (m : Map) (nodes nodes' : Nodes) (owners owners' : List O
     | inr more ↦ elim (cases_cons l' rest' x more) [
       | inl is ↦ subst (λ (y : Listing). CanSay layout y.object y.content) is (record { form = can_l.form; body = can_l.body })
       | inr last ↦ relisted_each (λ (y : Listing). CanSay layout y.object y.content) g (as_moved o now) rest
-          (moved_can kind m nodes nodes' owners root listings rest o to now a rest_are) x last
+          (moved_can kind layout nodes nodes' root listings rest o to now a rest_are) x last
     ]
   ]
 
-  transferred_at : Agree kind (parts_with m nodes' owners')
-  transferred_at =
-      kept_agree kind m nodes nodes' owners owners' root listings (k' ∷ l' ∷ rest') a g ((o ∷ kids) ++ (l.children ++ held rest))
-      (record {
-        sectors = λ p. refl;
-        address = λ p. refl;
-        relisted = relisted_now;
-        say = (k_says, (l_says, relisted_stay (reader_of_nodes nodes') layout g (as_moved o now) rest (moved_says kind m nodes nodes' owners root listings rest o to now a rest_are)));
-        top_stays = root_stays from to before.top no_root before.is_root.path;
-        can = can_say;
-        follow = follow;
-      })
+  pub transferred_edit : KeptEdit kind layout nodes nodes' owners' root listings a
+  transferred_edit = (
+    k' ∷ l' ∷ rest',
+    g,
+    (o ∷ kids) ++ (l.children ++ held rest),
+    record {
+      sectors = λ p. refl;
+      address = λ p. refl;
+      relisted = relisted_now;
+      say = (k_says, (l_says, relisted_stay (reader_of_nodes nodes') layout g (as_moved o now) rest (moved_says kind layout nodes nodes' root listings rest o to now a rest_are)));
+      top_stays = root_stays from to before.top no_root before.is_root.path;
+      can = can_say;
+      follow = follow;
+    },
+  )
 
 pub transferred_law : TransferredLaw
 transferred_law kind m nodes nodes' owners owners' root listings listings' rest k l k_content l_content i j o from_dir dir number name now a e can_k can_l can_now f =
-    transferred_at kind m nodes nodes' owners owners' root listings listings' rest k l k_content l_content i j o from_dir dir number name now a e can_k can_l can_now f
+    kept_agree kind m nodes nodes' owners owners' root listings a (transferred_edit kind (Layout.New m) nodes nodes' owners' root listings listings' rest k l k_content l_content i j o from_dir dir number name now a.walked e can_k can_l can_now f)

@@ -22,7 +22,7 @@ use Rattle.fc_changes.proofs.BasicLemmas.{clash}
 
 -- ---- the kind
 
-old_never : (space : FreeSpace) (address size : ℕ) (fault : Option ℕ) (found : MapAndRoot) (m : Map) → holes_or (Layout.Old space, address, size) fault ≡ Ok found → found.0 ≡ Layout.New m → ⊥
+pub old_never : (space : FreeSpace) (address size : ℕ) (fault : Option ℕ) (found : MapAndRoot) (m : Map) → holes_or (Layout.Old space, address, size) fault ≡ Ok found → found.0 ≡ Layout.New m → ⊥
 old_never space address size None found m e new =
     let is : Layout.Old space ≡ found.0 = first (Layout.Old space, address, size) found e in
     let both : Layout.Old space ≡ Layout.New m = is ∙ new in

@@ -1,18 +1,17 @@
 -- Rename, within a directory and to another.
 use Rattle.std.proofs.Common.{◌≡◌, ℕ, Bool, true, false, cond, List, [], ◌∷◌, ◌++◌, refl, sym, ap, ap₂, subst, ◌∙◌}
-use Rattle.std.specs.Prelude.{Ok, Err, Some, Contains, IsPermutation, insert, remove, slice_get}
+use Rattle.std.specs.Prelude.{Ok, Some, Contains, IsPermutation, insert, remove, slice_get}
 use Rattle.std.proofs.lemmas.List.Sorted.{Contains-permutation, IsPermutation-sym, IsPermutation-trans}
 use Rattle.fc_record.specs.declared.DiscRecord.{DiscRecord}
 use Rattle.fc_record.specs.declared.Kind.{Kind}
 use Rattle.fc_newmap.specs.Map.{Map}
-use Rattle.fc_newmap.proofs.PlaceLemmas.{in_either}
 use Rattle.fc_names.specs.Names.{Path, is_same_path}
 use Rattle.fc_model.specs.Tree.{last_name}
 use Rattle.fc_model.specs.Command.{Command}
 use Rattle.fc_dirs.specs.Entries.{entry_place}
 use Rattle.fc_dirs.specs.Directory.{Directory, directory_of, entries_of}
 use Rattle.fc_alloc.specs.declared.owner.Owner.{Owner}
-use Rattle.fc_image.specs.Layout.{Layout, dir_form, is_among, is_apart}
+use Rattle.fc_image.specs.Layout.{Layout, dir_form}
 use Rattle.fc_image.specs.Walk.{Listing, Object, is_directory_object, object_bytes, reader_of}
 use Rattle.fc_image.specs.Objects.{objects_of}
 use Rattle.fc_image.specs.Opening.{Opened}
@@ -21,26 +20,19 @@ use Rattle.fc_image.specs.EditedWalk.{moved_object}
 use Rattle.fc_image.specs.InPlace.{says_now}
 use Rattle.fc_image.specs.Order.{held}
 use Rattle.fc_image.proofs.EntriesLemmas.{entries_law}
-use Rattle.fc_image.proofs.HolesLemmas.{apart_at, apart_from}
 use Rattle.fc_image.proofs.MapEditLemmas.{held_in}
 use Rattle.fc_image.proofs.ShuffleLemmas.{flipped}
 use Rattle.fc_laws.specs.nodes.Edits.{IsRenamed, IsTransferred, Nodes, as_moved}
 use Rattle.fc_changes.specs.Changed.{IsMoveChange, IsRenameChange}
 use Rattle.fc_changes.proofs.BasicLemmas.{clash, first_in, next_in, unless, without_it}
 use Rattle.fc_changes.proofs.BeforeLemmas.{child_in, opened_as}
-use Rattle.fc_changes.proofs.MovedLemmas.{moved_law}
+use Rattle.fc_changes.proofs.MovedLemmas.{both_apart, moved_law}
 use Rattle.fc_changes.proofs.ReadsLemmas.{reads_back}
 use Rattle.fc_changes.proofs.RenamedLemmas.{renamed_law, same_turned}
 use Rattle.fc_laws.specs.takeover.Laws.{MovedTakesOver, PartsFollow, RenamedTakesOver, TakesOver}
 use Rattle.fc_laws.proofs.lemmas.takeover.PlainLemmas.{says_before}
 use Rattle.fc_laws.proofs.lemmas.takeover.TakenLemmas.{children_long, inserted_same, listed_same, taken}
 use Rattle.fc_laws.proofs.lemmas.takeover.SaidLemmas.{dir_stays, found_says, others_apart, own_apart, says, the_one}
-
-both_apart : (xs ys zs : List ℕ) → is_apart xs ys ≡ true → is_apart xs zs ≡ true → is_apart xs (ys ++ zs) ≡ true
-both_apart xs ys zs a b = apart_from xs (ys ++ zs) (λ s i j. elim (in_either ys zs s j) [
-  | Ok first ↦ clash (is_among ys s) first (apart_at xs ys s a i)
-  | Err second ↦ clash (is_among zs s) second (apart_at xs zs s b i)
-])
 
 -- a child by its number is one of the children
 pub child_of : (objects : List Object) (i : ℕ) (o : Object) → slice_get objects i ≡ Some o → Contains objects o

@@ -1,4 +1,4 @@
-use Rattle.fc_oldlaws.proofs.lemmas.agree.RenamedLemmas.{renamed_law}
+use Rattle.fc_oldlaws.proofs.lemmas.agree.KeptLemmas.{renamed_law}
 use Rattle.fc_oldlaws.proofs.agree.renamed.Goals as goal
 
 pub returns : goal.returns

@@ -1,4 +1,4 @@
-use Rattle.fc_oldlaws.proofs.lemmas.agree.RewordedLemmas.{reworded_law}
+use Rattle.fc_oldlaws.proofs.lemmas.agree.KeptLemmas.{reworded_law}
 use Rattle.fc_oldlaws.proofs.agree.reworded.Goals as goal
 
 pub returns : goal.returns

@@ -1,4 +1,4 @@
-use Rattle.fc_oldlaws.proofs.lemmas.agree.TransferredLemmas.{transferred_law}
+use Rattle.fc_oldlaws.proofs.lemmas.agree.KeptLemmas.{transferred_law}
 use Rattle.fc_oldlaws.proofs.agree.transferred.Goals as goal
 
 pub returns : goal.returns

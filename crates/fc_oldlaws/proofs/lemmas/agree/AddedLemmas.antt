@@ -4,8 +4,6 @@ use Rattle.std.specs.Prelude.{Contains, IsPermutation, insert, remove, slice_set
 use Rattle.std.specs.Option.{option_to_list}
 use Rattle.std.specs.Int.{div_ceil}
 use Rattle.std.proofs.lemmas.List.Sorted.{Contains-permutation, IsPermutation-refl, IsPermutation-sym}
-use Rattle.fc_names.specs.declared.name.NameForm.{NameForm}
-use Rattle.fc_names.specs.declared.name.NameForm.TheVariants.{Long, Seven, Ten}
 use Rattle.fc_record.specs.declared.Kind.{Kind}
 use Rattle.fc_oldmap.specs.declared.Hole.{Hole}
 use Rattle.fc_oldmap.specs.Holes.{after_take}
@@ -34,11 +32,7 @@ use Rattle.fc_oldchanges.proofs.PlaceLemmas.{row_or_none}
 use Rattle.fc_oldchanges.proofs.SpaceLemmas.{AreGiven, AreSpaced, IsNewPlace, given, new_place, not_given, nowhere, taken}
 use Rattle.fc_oldlaws.specs.agree.Laws.{AddedLaw, AgreeOn, DirectoryAddedLaw, ReplacedLaw}
 use Rattle.fc_oldlaws.proofs.lemmas.agree.DirectoryLemmas.{Cut, child_object, dir_placed, one_agrees, spaced_parts}
-
-size_of_new : (form : NameForm) → directory_size form (new_dir_size form) ≡ new_dir_size form
-size_of_new Seven = refl
-size_of_new Ten = refl
-size_of_new Long = refl
+use Rattle.fc_laws.proofs.lemmas.agree.DirectoryAddedLemmas.{size_of_new}
 
 no_directory : (o : Object) → is_directory_object o ≡ false → [] ≡ directories (o ∷ [])
 no_directory o file = ap (λ (b : Bool). cond b (o ∷ []) []) (sym file)

@@ -1,5 +1,5 @@
 -- Edits of one directory on an old map: objects leave it and come into it, and the map gets other holes.
-use Rattle.std.proofs.Common.{◌≡◌, ◌≤◌, ◌⊎◌, inl, inr, ⊎_elim, ℕ, Bool, true, false, cond, List, [], ◌∷◌, ◌++◌, length, refl, sym, ap, subst, ◌∙◌, arith, length-append, Some, Option}
+use Rattle.std.proofs.Common.{◌≡◌, ◌≤◌, ◌⊎◌, inl, inr, ⊎_elim, ℕ, true, false, List, [], ◌∷◌, ◌++◌, length, refl, sym, ap, subst, ◌∙◌, arith, length-append, Some, Option}
 use Rattle.std.specs.Prelude.{Ok, Err, Contains, IsPermutation, remove, slice_get}
 use Rattle.std.proofs.lemmas.List.{append_assoc}
 use Rattle.std.proofs.lemmas.List.Elements.{Contains-append_cases, Contains-append_left, Contains-append_right}
@@ -27,7 +27,6 @@ use Rattle.fc_image.proofs.RelistLemmas.{apart_behind, edited_apart_law, listed_
 use Rattle.fc_image.proofs.ShuffleLemmas.{IsPermutation-flat_map, flat_map-append}
 use Rattle.fc_tree.specs.declared.node.Node.{Node}
 use Rattle.fc_tree.specs.Agree.{Agree, reader_of_nodes}
-use Rattle.fc_changes.specs.Owed.{GoesAlone}
 use Rattle.fc_changes.proofs.BasicLemmas.{cases_cons, clash, first_in, next_in, nothing_in, without_it}
 use Rattle.fc_laws.specs.nodes.Edits.{Nodes}
 use Rattle.fc_laws.specs.agree.Agreed.{CanSay, PartsFollow}
@@ -35,11 +34,12 @@ use Rattle.fc_oldchanges.specs.Owed.{holding}
 use Rattle.fc_oldchanges.proofs.PlaceLemmas.{apart_again, each_apart}
 use Rattle.fc_oldchanges.proofs.SpaceLemmas.{AreGiven, AreSpaced, given, right_before}
 use Rattle.fc_oldlaws.specs.agree.Laws.{AgreeOn, RemovedLaw, parts_with}
-use Rattle.fc_oldlaws.proofs.lemmas.agree.BeforeLemmas.{Had, had, object_lies, says}
+use Rattle.fc_laws.proofs.lemmas.agree.WalkedLemmas.{Had, had, object_lies, says}
 use Rattle.fc_oldlaws.proofs.lemmas.agree.EditLemmas.{agreed_after}
+use Rattle.fc_laws.proofs.lemmas.agree.RemovedLemmas.{gone_held, gone_listed}
 
 pub spaced_parts : (kind : Kind) (space : FreeSpace) (nodes : Nodes) (owners : List Owner) (root : Node) (listings : List Listing) → AgreeOn kind space nodes owners root listings → AreSpaced kind space (objects_of listings)
-spaced_parts kind space nodes owners root listings a = record { units = a.is_map.units; holes = a.holes; lies = object_lies kind space nodes owners root listings a }
+spaced_parts kind space nodes owners root listings a = record { units = a.is_map.units; holes = a.holes; lies = object_lies kind (Layout.Old space) nodes root listings a.walked }
 
 -- The objects `gone` leave directory l and `come` enter it; what holes there are now were holes or are of `gone`.
 pub record Cut : Type 0 where
@@ -75,8 +75,8 @@ module _ (e : Cut) where
   abbrev y' : Layout
   y' = Layout.Old (holding e.space e.holes)
 
-  abbrev before : Had e.kind e.space e.nodes e.owners e.root e.listings e.agree
-  before = had e.kind e.space e.nodes e.owners e.root e.listings e.agree
+  abbrev before : Had e.kind (Layout.Old e.space) e.nodes e.root e.listings e.agree.walked
+  before = had e.kind (Layout.Old e.space) e.nodes e.root e.listings e.agree.walked
 
   l_in : Contains e.listings e.l
   l_in = Contains-permutation (e.out ++ e.l ∷ e.rest) e.listings e.l (IsPermutation-sym e.listings (e.out ++ e.l ∷ e.rest) e.found) (Contains-append_right e.out (e.l ∷ e.rest) e.l (first_in e.l e.rest))
@@ -87,7 +87,7 @@ module _ (e : Cut) where
   -- what a directory held lies where it lay
   pub still_placed : (k : Listing) → Contains e.listings k → AreChildren y' k.object.path (entries_of k.content) k.children
   still_placed k at =
-      let old = (says e.kind e.space e.nodes e.owners e.root e.listings e.agree k at).1 in
+      let old = (says e.kind (Layout.Old e.space) e.nodes e.root e.listings e.agree.walked k at).1 in
       entries_law.placed y y' k.object.path (entries_of k.content) k.children old
       (λ o child. old_places_law e.space (holding e.space e.holes) o refl refl (child_at y k.object.path (entries_of k.content) k.children o old child))
 
@@ -118,7 +118,7 @@ module _ (e : Cut) where
   apart_before = order_law.apart (reserved_in e.kind y) (before.top ∷ held e.listings) (e.gone ++ remain) before.apart objects_cut
 
   not_reserved : (o : Object) → Contains remain o → (x : ℕ) → is_among o.sectors x ≡ true → is_among (reserved_in e.kind y) x ≡ false
-  not_reserved o at x h = apart_at o.sectors (reserved_in e.kind y) x (object_lies e.kind e.space e.nodes e.owners e.root e.listings e.agree o (remain_in o at)).apart h
+  not_reserved o at x h = apart_at o.sectors (reserved_in e.kind y) x (object_lies e.kind (Layout.Old e.space) e.nodes e.root e.listings e.agree.walked o (remain_in o at)).apart h
 
   from_gone : (taken' : List ℕ) (leave stay : List Object) (p q : Object) (x : ℕ) → Apart taken' (leave ++ stay) → Contains leave p → Contains stay q → is_among p.sectors x ≡ true → is_among q.sectors x ≡ true → ⊥
   from_gone taken' [] stay p q x a at there i j = nothing_in p at
@@ -209,24 +209,14 @@ module _ (e : Cut) where
 
 -- ---- delete
 
-gone_held : (out : List Listing) (o : Object) → GoesAlone out o → held out ≡ []
-gone_held [] o alone = refl
-gone_held (d ∷ []) o alone = ap (λ (os : List Object). os ++ []) alone.2
-gone_held (d ∷ e ∷ out) o alone = absurd alone
-
-gone_listed : (out : List Listing) (o : Object) → GoesAlone out o → listed out ≡ directories (o ∷ [])
-gone_listed [] o alone = ap (λ (b : Bool). cond b (o ∷ []) []) (sym alone)
-gone_listed (d ∷ []) o alone = ap (λ (x : Object). x ∷ []) alone.0 ∙ ap (λ (b : Bool). cond b (o ∷ []) []) (sym alone.1)
-gone_listed (d ∷ e ∷ out) o alone = absurd alone
-
 some_object : (a b : Object) → (let q : Option Object = Some a in q) ≡ Some b → a ≡ b
 some_object a b h = cc
 
 pub child_object : (kind : Kind) (space : FreeSpace) (nodes : Nodes) (owners : List Owner) (root : Node) (listings : List Listing) → AgreeOn kind space nodes owners root listings
     → (l : Listing) (i : ℕ) (o : Object) → Contains listings l → slice_get l.children i ≡ Some o → Contains (objects_of listings) o
 child_object kind space nodes owners root listings a l i o at child =
-    subst (λ (os : List Object). Contains os o) (sym (had kind space nodes owners root listings a).objects)
-    (next_in (had kind space nodes owners root listings a).top o (held listings)
+    subst (λ (os : List Object). Contains os o) (sym (had kind (Layout.Old space) nodes root listings a.walked).objects)
+    (next_in (had kind (Layout.Old space) nodes root listings a.walked).top o (held listings)
     (held_in listings l o at (Contains-permutation (o ∷ remove l.children i) l.children o (IsPermutation-sym l.children (o ∷ remove l.children i) (without_it l.children i o child)) (first_in o (remove l.children i)))))
 
 pub removed_law : RemovedLaw

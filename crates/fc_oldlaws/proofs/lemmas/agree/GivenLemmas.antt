@@ -1,17 +1,17 @@
 -- The space of objects of a volume with an old map whose parts agree: what may be given back, and what is taken.
-use Rattle.std.proofs.Common.{◌≡◌, ◌<◌, ◌≤◌, ◌⊎◌, inl, inr, ⊎_elim, ℕ, zero, suc, ◌+◌, ◌-◌, ◌*◌, ◌/◌, ◌%◌, ◌^◌, Bool, true, false, cond, List, [], ◌∷◌, ◌++◌, length, refl, sym, ap, subst, ◌∙◌, arith, Some, None, Option}
-use Rattle.std.specs.Prelude.{All, Contains, nat_le, ◌==◌, ◌&&◌}
+use Rattle.std.proofs.Common.{◌≡◌, ◌<◌, ◌≤◌, ◌⊎◌, inl, inr, ⊎_elim, ℕ, zero, suc, ◌+◌, ◌-◌, ◌*◌, ◌/◌, ◌%◌, Bool, true, false, cond, List, [], ◌∷◌, ◌++◌, length, refl, sym, ap, subst, ◌∙◌, arith, Some}
+use Rattle.std.specs.Prelude.{All, Contains, nat_le, ◌==◌}
 use Rattle.std.specs.Int.{div_ceil}
 use Rattle.std.specs.List.{range_with_len}
 use Rattle.std.proofs.lemmas.Bool.{eqb-true, leb-true, eq-eqb, le-leb}
 use Rattle.std.proofs.lemmas.Grind.{div_ceil_times}
-use Rattle.std.proofs.lemmas.List.Elements.{All-cons, All-head, All-nil, All-tail}
+use Rattle.std.proofs.lemmas.List.Elements.{All-cons, All-head, All-tail}
 use Rattle.fc_record.specs.declared.Kind.{Kind}
 use Rattle.fc_oldmap.specs.declared.Hole.{Hole}
 use Rattle.fc_oldmap.specs.Holes.{AreApart, AreHoles, after_take, first_fit_place, hole, hole_end, rest_after_take}
 use Rattle.fc_oldmap.specs.OldMap.{FreeSpace, IsOldMap, map_units}
 use Rattle.fc_alloc.specs.declared.owner.Owner.{Owner}
-use Rattle.fc_image.specs.Layout.{Layout, dir_form, hole_sectors, is_among, map_place, old_sectors, sectors_at}
+use Rattle.fc_image.specs.Layout.{Layout, dir_form, hole_sectors, is_among, map_place, sectors_at}
 use Rattle.fc_image.specs.Edits.{IsAt}
 use Rattle.fc_image.specs.Objects.{has_sectors, objects_of}
 use Rattle.fc_image.specs.Opening.{reserved_in}
@@ -25,12 +25,12 @@ use Rattle.fc_tree.specs.declared.node.Node.{Node}
 use Rattle.fc_tree.specs.Agree.{Agree, AreWalked}
 use Rattle.fc_tree.specs.Parts.{AreOwners, Parts}
 use Rattle.fc_changes.proofs.BasicLemmas.{clash}
-use Rattle.fc_oldchanges.proofs.HoleLemmas.{below_end, in_units, taken_in}
+use Rattle.fc_oldchanges.proofs.HoleLemmas.{in_units, taken_in}
 use Rattle.fc_oldchanges.proofs.PlaceLemmas.{row_or_none}
 use Rattle.fc_oldchanges.proofs.SpaceLemmas.{all_apart, space_is}
 use Rattle.fc_oldlaws.specs.agree.Laws.{AgreeOn}
 use Rattle.fc_oldlaws.specs.agree.Spaces.{CanGive, IsFitted, SpaceLaw}
-use Rattle.fc_oldlaws.proofs.lemmas.agree.BeforeLemmas.{object_lies}
+use Rattle.fc_laws.proofs.lemmas.agree.WalkedLemmas.{object_lies}
 use Rattle.fc_oldlaws.proofs.lemmas.agree.DirectoryLemmas.{spaced_parts}
 
 -- ---- the parts
@@ -103,7 +103,7 @@ given' kind space nodes owners root listings o n a at has =
           (all_apart space.sector_units facts.units space.disc_units (map_units space.sector_units) (map_units space.sector_units) (space_of space o) space.holes x.is_hole facts.holes
           (λ s i j.
           clash (is_among (reserved_in kind y) s) (in_back (map_place y) (hole_sectors y) s j)
-          (apart_at o.sectors (reserved_in kind y) s (object_lies kind space nodes owners root listings a o at).apart (ap (λ (xs : List ℕ). is_among xs s) (sym x.sectors) ∙ i))));
+          (apart_at o.sectors (reserved_in kind y) s (object_lies kind (Layout.Old space) nodes root listings a.walked o at).apart (ap (λ (xs : List ℕ). is_among xs s) (sym x.sectors) ∙ i))));
     }
 
 -- ---- taking

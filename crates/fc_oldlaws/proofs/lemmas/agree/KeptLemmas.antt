@@ -1,67 +1,46 @@
--- Edits in which no object comes or goes, and each keeps its place.
-use Rattle.std.proofs.Common.{◌≡◌, List, [], ◌∷◌, ◌++◌, length, refl, sym, ap, ◌∙◌, arith, length-append}
-use Rattle.std.specs.Prelude.{Contains, IsPermutation}
-use Rattle.std.proofs.lemmas.List.{length-map}
-use Rattle.std.proofs.lemmas.List.Sorted.{IsPermutation-cons, length_permutation}
+-- Edits in which no object comes or goes, and each keeps its place, on an old map.
+use Rattle.std.proofs.Common.{List, []}
 use Rattle.fc_record.specs.declared.Kind.{Kind}
+use Rattle.fc_oldmap.specs.OldMap.{FreeSpace}
 use Rattle.fc_alloc.specs.declared.owner.Owner.{Owner}
 use Rattle.fc_image.specs.Layout.{Layout}
-use Rattle.fc_image.specs.Walk.{Listing, Object}
-use Rattle.fc_image.specs.Opening.{reserved_in}
-use Rattle.fc_image.specs.Edits.{StayListed}
-use Rattle.fc_image.specs.Order.{held, listed}
-use Rattle.fc_image.specs.EditedWalk.{IsRelisting}
-use Rattle.fc_image.proofs.OrderLemmas.{apart_shuffled}
-use Rattle.fc_image.proofs.RelistLemmas.{all_before, apart_mapped}
+use Rattle.fc_image.specs.Walk.{Listing}
 use Rattle.fc_tree.specs.declared.node.Node.{Node}
-use Rattle.fc_tree.specs.Agree.{Agree, reader_of_nodes}
+use Rattle.fc_tree.specs.Agree.{Agree}
 use Rattle.fc_laws.specs.nodes.Edits.{Nodes}
-use Rattle.fc_oldlaws.specs.agree.Laws.{AgreeOn, parts_with}
-use Rattle.fc_laws.specs.agree.Agreed.{CanSay, PartsFollow}
-use Rattle.fc_oldlaws.proofs.lemmas.agree.BeforeLemmas.{Had, had}
+use Rattle.fc_laws.proofs.lemmas.agree.KeptLemmas.{KeptEdit, kept_apart, kept_few}
+use Rattle.fc_laws.proofs.lemmas.agree.RenamedLemmas.{renamed_edit}
+use Rattle.fc_laws.proofs.lemmas.agree.RewordedLemmas.{reworded_edit}
+use Rattle.fc_laws.proofs.lemmas.agree.TransferredLemmas.{transferred_edit}
+use Rattle.fc_oldlaws.specs.agree.Laws.{AgreeOn, RenamedLaw, RewordedLaw, TransferredLaw, parts_with}
 use Rattle.fc_oldlaws.proofs.lemmas.agree.EditLemmas.{agreed_after}
-use Rattle.fc_oldmap.specs.OldMap.{FreeSpace}
 
-none_listed : (listings : List Listing) → listed listings ≡ [] → length listings ≡ 0
-none_listed [] e = refl
-none_listed (l ∷ listings) e = absurd (let long = ap (λ (os : List Object). length os) e in omega (arith, long))
+kept_agree : (kind : Kind) (space : FreeSpace) (nodes nodes' : Nodes) (owners owners' : List Owner) (root : Node) (listings : List Listing) (a : AgreeOn kind space nodes owners root listings)
+    → KeptEdit kind (Layout.Old space) nodes nodes' owners' root listings a.walked → Agree kind (parts_with space nodes' owners')
+kept_agree kind space nodes nodes' owners owners' root listings a e =
+    agreed_after kind space space.holes nodes nodes' owners owners' root listings e.0 a e.1 [] [] e.2
+    (record {
+      relisted = e.3.relisted;
+      few = kept_few kind (Layout.Old space) nodes nodes' owners' root listings a.walked e;
+      say = e.3.say;
+      top_stays = e.3.top_stays;
+      apart = kept_apart kind (Layout.Old space) nodes nodes' owners' root listings a.walked e;
+      forms = λ l at. (e.3.can l at).form;
+      bodies = λ l at. (e.3.can l at).body;
+      follow = e.3.follow;
+    })
 
--- ---- the edit
+pub reworded_law : RewordedLaw
+reworded_law kind space nodes nodes' owners owners' root listings listings' rest l content i o dir number g a e can f =
+    kept_agree kind space nodes nodes' owners owners' root listings a
+    (reworded_edit kind (Layout.Old space) nodes nodes' owners' root listings listings' rest l content i o dir number g a.walked e can f)
 
-module _ (kind : Kind) (space : FreeSpace) (nodes nodes' : Nodes) (owners owners' : List Owner) (root : Node) (listings listings' : List Listing) (a : AgreeOn kind space nodes owners root listings)
-    (g : Object → Object) (kept : List Object) where
-  abbrev before : Had kind space nodes owners root listings a
-  before = had kind space nodes owners root listings a
+pub renamed_law : RenamedLaw
+renamed_law kind space nodes nodes' owners owners' root listings listings' rest l content i j o dir number name now a e can can_now f =
+    kept_agree kind space nodes nodes' owners owners' root listings a
+    (renamed_edit kind (Layout.Old space) nodes nodes' owners' root listings listings' rest l content i j o dir number name now a.walked e can can_now f)
 
-  -- Each object is changed by g and keeps its sectors, and the nodes say so.
-  pub record IsKeptEdit : Type 0 where
-    pub sectors : (o : Object) → (g o).sectors ≡ o.sectors
-    pub address : (o : Object) → (g o).entry.address ≡ o.entry.address
-    pub relisted : IsRelisting g listings listings' [] [] kept
-    pub say : StayListed (reader_of_nodes nodes') (Layout.Old space) listings'
-    pub top_stays : g before.top ≡ before.top
-    pub can : (l : Listing) → Contains listings' l → CanSay (Layout.Old space) l.object l.content
-    pub follow : PartsFollow nodes' owners' (Layout.Old space) listings'
-
-  pub kept_agree : IsKeptEdit → Agree kind (parts_with space nodes' owners')
-  kept_agree e =
-      let reserved = reserved_in kind (Layout.Old space) in
-      let all = all_before g listings listings' [] [] kept e.relisted in
-      let top_too : IsPermutation (before.top ∷ held listings) (before.top ∷ kept) = IsPermutation-cons before.top (held listings) kept all in
-      let none = none_listed e.relisted.into e.relisted.into_come in
-      let was = length_permutation listings (e.relisted.out ++ e.relisted.stay) e.relisted.had in
-      let now = length_permutation listings' (e.relisted.into ++ e.relisted.stay') e.relisted.has in
-      let same : length e.relisted.stay' ≡ length e.relisted.stay =
-      sym (length-map e.relisted.stay' (λ (x : Listing). x.object)) ∙ ap (λ (os : List Object). length os) e.relisted.same
-      ∙ length-map (listed e.relisted.stay) g ∙ length-map e.relisted.stay (λ (x : Listing). x.object) in
-      agreed_after kind space space.holes nodes nodes' owners owners' root listings listings' a g [] [] kept
-      (record {
-        relisted = e.relisted;
-        few = omega (arith, was, now, none, same, length-append e.relisted.out e.relisted.stay, length-append e.relisted.into e.relisted.stay');
-        say = e.say;
-        top_stays = e.top_stays;
-        apart = apart_mapped reserved g (before.top ∷ kept) e.sectors (apart_shuffled reserved (before.top ∷ held listings) (before.top ∷ kept) before.apart top_too);
-        forms = λ l at. (e.can l at).form;
-        bodies = λ l at. (e.can l at).body;
-        follow = e.follow;
-      })
+pub transferred_law : TransferredLaw
+transferred_law kind space nodes nodes' owners owners' root listings listings' rest k l k_content l_content i j o from_dir dir number name now a e can_k can_l can_now f =
+    kept_agree kind space nodes nodes' owners owners' root listings a
+    (transferred_edit kind (Layout.Old space) nodes nodes' owners' root listings listings' rest k l k_content l_content i j o from_dir dir number name now a.walked e can_k can_l can_now f)

@@ -1,40 +1,21 @@
--- A walk over nodes finds no more directories than there are sectors.
-use Rattle.std.proofs.Common.{◌≡◌, ◌<◌, ◌≤◌, ℕ, Bool, true, false, cond, List, [], ◌∷◌, ◌++◌, length, take, eqb, refl, sym, ap, subst, ◌∙◌, arith, eq-eqb, length-append}
-use Rattle.std.specs.Prelude.{Ok, Err, Contains, ◌==◌, ◌||◌}
-use Rattle.std.specs.List.{AllByRecursion, IsDistinct, flat_map, list_any}
-use Rattle.std.proofs.lemmas.Bool.{eqb-false, eqb-true, ne_eqb}
-use Rattle.std.proofs.lemmas.List.{length-map}
-use Rattle.std.proofs.lemmas.List.Sorted.{IsPermutation-sym}
-use Rattle.std.proofs.lemmas.Map.Steps.{length-le_from_distinct_below}
-use Rattle.fc_names.specs.declared.name.NameForm.{NameForm}
-use Rattle.fc_names.specs.declared.name.NameForm.TheVariants.{Long, Seven, Ten}
-use Rattle.fc_record.specs.declared.Kind.{Kind}
-use Rattle.fc_newmap.proofs.CoverLemmas.{Distinct, Distinct-append}
-use Rattle.fc_newmap.proofs.PlaceLemmas.{in_back, in_either, in_front}
-use Rattle.fc_dirs.specs.Directory.{Directory, directory_size}
-use Rattle.fc_alloc.specs.declared.owner.Owner.{Owner}
-use Rattle.fc_image.specs.Layout.{Layout, dir_form, disc_sectors, is_among}
-use Rattle.fc_image.specs.Walk.{Listing, Object, is_directory_object, object_size}
-use Rattle.fc_image.specs.Edits.{Apart}
-use Rattle.fc_image.specs.Order.{directories, held, listed}
-use Rattle.fc_image.proofs.EditLemmas.{apart_law}
-use Rattle.fc_image.proofs.EntriesLemmas.{from_map}
-use Rattle.fc_image.proofs.HolesLemmas.{apart_at}
-use Rattle.fc_image.proofs.OrderLemmas.{apart_shuffled}
-use Rattle.fc_tree.specs.declared.node.Node.{Node}
-use Rattle.fc_tree.specs.Agree.{HasForm, IsDirectory}
-use Rattle.fc_tree.proofs.WalkedLemmas.{listed_directory}
-use Rattle.fc_changes.proofs.BasicLemmas.{clash, first_in, next_in, unless}
-use Rattle.fc_laws.specs.nodes.Edits.{Nodes}
-use Rattle.fc_oldlaws.specs.agree.Laws.{AgreeOn}
-use Rattle.fc_oldlaws.proofs.lemmas.agree.BeforeLemmas.{had, object_lies, on_disc, reserved, sound}
-use Rattle.fc_oldmap.specs.OldMap.{FreeSpace}
-use Rattle.fc_oldchanges.proofs.PlaceLemmas.{row_or_none}
-use Rattle.fc_oldchanges.proofs.MadeLemmas.{ceil_some}
-use Rattle.fc_image.proofs.FreeLemmas.{among_range}
-use Rattle.fc_image.specs.Layout.{sectors_at}
-use Rattle.std.proofs.Common.{◌⊎◌, inl, inr, ⊎_elim, Some, ◌*◌, ◌/◌}
+-- A walk over nodes finds no more directories than there are sectors, on an old map.
+use Rattle.std.proofs.Common.{◌≡◌, ◌<◌, ◌≤◌, ◌⊎◌, inl, inr, ⊎_elim, ℕ, ◌*◌, ◌/◌, true, List, length, ap, ◌∙◌, arith, Some}
+use Rattle.std.specs.Prelude.{Contains}
 use Rattle.std.specs.Int.{div_ceil}
+use Rattle.fc_record.specs.declared.Kind.{Kind}
+use Rattle.fc_oldmap.specs.OldMap.{FreeSpace}
+use Rattle.fc_alloc.specs.declared.owner.Owner.{Owner}
+use Rattle.fc_image.specs.Layout.{Layout, disc_sectors, is_among, sectors_at}
+use Rattle.fc_image.specs.Walk.{Listing, Object}
+use Rattle.fc_image.specs.Objects.{objects_of}
+use Rattle.fc_image.proofs.FreeLemmas.{among_range}
+use Rattle.fc_tree.specs.declared.node.Node.{Node}
+use Rattle.fc_laws.specs.nodes.Edits.{Nodes}
+use Rattle.fc_laws.proofs.lemmas.agree.RoomLemmas.{room_of}
+use Rattle.fc_laws.proofs.lemmas.agree.WalkedLemmas.{object_lies}
+use Rattle.fc_oldchanges.proofs.MadeLemmas.{ceil_some}
+use Rattle.fc_oldchanges.proofs.PlaceLemmas.{in_disc, row_or_none}
+use Rattle.fc_oldlaws.specs.agree.Laws.{AgreeOn}
 
 -- some bytes have a sector
 a_sector : (space : FreeSpace) (address bytes : ℕ) (sectors : List ℕ) → 0 < bytes → (space.sector_units ≡ 1) ⊎ (space.sector_units ≡ 4) → sectors_at (Layout.Old space) address bytes ≡ Some sectors
@@ -51,129 +32,11 @@ a_sector space address bytes sectors some units e = ⊎_elim
     size_some (inl one) = omega (arith, one)
     size_some (inr four) = omega (arith, four)
 
--- ---- the first sector of each object that has one
-
-abbrev firsts : List Object → List ℕ
-firsts objects = flat_map (λ o. take 1 o.sectors) objects
-
-among_first : (xs : List ℕ) (s : ℕ) → is_among (take 1 xs) s ≡ true → is_among xs s ≡ true
-among_first [] s e = e
-among_first (x ∷ xs) s e = in_front (x ∷ []) xs s e
-
-one_first : (xs : List ℕ) → Distinct (take 1 xs)
-one_first [] = tt
-one_first (x ∷ xs) = (refl, tt)
-
--- it was not taken before
-firsts_free : (taken : List ℕ) (objects : List Object) → Apart taken objects → (s : ℕ) → is_among (firsts objects) s ≡ true → is_among taken s ≡ false
-firsts_free taken [] a s e = absurd (cc)
-firsts_free taken (o ∷ objects) a s e = elim (in_either (take 1 o.sectors) (firsts objects) s e) [
-  | Ok here ↦ apart_at o.sectors taken s a.0 (among_first o.sectors s here)
-  | Err later ↦ unless (is_among taken s) (λ i. clash (is_among (o.sectors ++ taken) s) (in_back o.sectors taken s i) (firsts_free (o.sectors ++ taken) objects a.1 s later))
-]
-
--- so the first sectors are different
-firsts_once : (taken : List ℕ) (objects : List Object) → Apart taken objects → Distinct (firsts objects)
-firsts_once taken [] a = tt
-firsts_once taken (o ∷ objects) a =
-    Distinct-append (take 1 o.sectors) (firsts objects) (one_first o.sectors) (firsts_once (o.sectors ++ taken) objects a.1)
-    (λ s i j. clash (is_among (o.sectors ++ taken) s) (in_front o.sectors taken s (among_first o.sectors s i)) (firsts_free (o.sectors ++ taken) objects a.1 s j))
-
-firsts_from : (objects : List Object) (s : ℕ) → is_among (firsts objects) s ≡ true → (o : Object) × Contains objects o × (is_among o.sectors s ≡ true)
-firsts_from [] s e = absurd (cc)
-firsts_from (o ∷ objects) s e = elim (in_either (take 1 o.sectors) (firsts objects) s e) [
-  | Ok here ↦ (o, first_in o objects, among_first o.sectors s here)
-  | Err later ↦ (let r = firsts_from objects s later in (r.0, next_in o r.0 objects r.1, r.2))
-]
-
-firsts_count : (objects : List Object) → ((o : Object) → Contains objects o → (s : ℕ) × (is_among o.sectors s ≡ true)) → length (firsts objects) ≡ length objects
-firsts_count [] some = refl
-firsts_count (o ∷ objects) some =
-    let here = one (o.sectors) (some o (first_in o objects)).0 (some o (first_in o objects)).1 in
-    let rest = firsts_count objects (λ p at. some p (next_in o p objects at)) in
-    omega (arith, here, rest, length-append (take 1 o.sectors) (firsts objects))
-  where
-    one : (xs : List ℕ) (s : ℕ) → is_among xs s ≡ true → length (take 1 xs) ≡ 1
-    one [] s e = absurd (cc)
-    one (x ∷ xs) s e = refl
-
-apart_directories : (taken : List ℕ) (objects : List Object) → Apart taken objects → Apart taken (directories objects)
-apart_directories taken [] a = tt
-apart_directories taken (o ∷ objects) a =
-    by (is_directory_object o) (apart_directories (o.sectors ++ taken) objects a.1) (apart_directories taken objects ((apart_law.removed taken [] objects o a).0))
-  where
-    by : (b : Bool) → Apart (o.sectors ++ taken) (directories objects) → Apart taken (directories objects) → Apart taken (cond b (o ∷ directories objects) (directories objects))
-    by true kept without = (a.0, kept)
-    by false kept without = without
-
--- ---- numbers
-
-as_distinct : (xs : List ℕ) → Distinct xs → IsDistinct eqb xs
-unfolding IsDistinct
-as_distinct [] d = tt
-as_distinct (x ∷ xs) d = (differ x xs d.0, as_distinct xs d.1)
-  where
-    differ : (x : ℕ) (ys : List ℕ) → is_among ys x ≡ false → AllByRecursion (λ y. eqb x y ≡ false) ys
-    differ x [] e = tt
-    differ x (y ∷ ys) e = by (y == x) refl e (differ x ys)
-      where
-        by : (b : Bool) → (y == x) ≡ b → (b || is_among ys x) ≡ false → (is_among ys x ≡ false → AllByRecursion (λ z. eqb x z ≡ false) ys) → AllByRecursion (λ z. eqb x z ≡ false) (y ∷ ys)
-        by true t g more = absurd (cc)
-        by false t g more = (ne_eqb x y (λ same. eqb-false y x t (sym same)), more g)
-
-as_among : (q : ℕ) (xs : List ℕ) → list_any (eqb q) xs ≡ true → is_among xs q ≡ true
-as_among q [] e = e
-as_among q (x ∷ xs) e = by (eqb q x) refl e (as_among q xs)
-  where
-    by : (b : Bool) → eqb q x ≡ b → (b || list_any (eqb q) xs) ≡ true → (list_any (eqb q) xs ≡ true → is_among xs q ≡ true) → is_among (x ∷ xs) q ≡ true
-    by true t g more = ap (λ c. c || is_among xs q) (eq-eqb x q (sym (eqb-true q x t)))
-    by false t g more = in_back (x ∷ []) xs q (more g)
-
--- ---- each directory has a sector
-
-some_bytes : (form : NameForm) (len : ℕ) (dir : Directory) → HasForm form len dir → IsDirectory dir → 0 < directory_size form len
-some_bytes Seven len (Directory.Small dir) h d = omega arith
-some_bytes Seven len (Directory.Big dir) h d = absurd h
-some_bytes Ten len (Directory.Small dir) h d = omega arith
-some_bytes Ten len (Directory.Big dir) h d = absurd h
-some_bytes Long len (Directory.Small dir) h d = absurd h
-some_bytes Long len (Directory.Big dir) h d = (let big = d.fits in omega (arith, h, big))
-
 module _ (kind : Kind) (space : FreeSpace) (nodes : Nodes) (owners : List Owner) (root : Node) (listings : List Listing) (a : AgreeOn kind space nodes owners root listings) where
-  dir_sector : (l : Listing) → Contains listings l → (s : ℕ) × (is_among l.object.sectors s ≡ true)
-  dir_sector l at =
-      let dir = listed_directory (Layout.Old space) listings (sound kind space nodes owners root listings a) l at in
-      let size : object_size (dir_form (Layout.Old space)) l.object.entry ≡ directory_size (dir_form (Layout.Old space)) l.object.entry.len =
-      ap (λ (b : Bool). cond b (directory_size (dir_form (Layout.Old space)) l.object.entry.len) l.object.entry.len) dir.1 in
-      let some = some_bytes (dir_form (Layout.Old space)) l.object.entry.len l.content (a.walked.forms l at) (a.walked.bodies l at) in
-      a_sector space l.object.entry.address (object_size (dir_form (Layout.Old space)) l.object.entry) l.object.sectors (omega (arith, size, some)) a.is_map.units
-      (object_lies kind space nodes owners root listings a l.object dir.0).placed
-
-  -- which directory it is
-  of_listed : (o : Object) → Contains (listed listings) o → (l : Listing) × Contains listings l × (l.object ≡ o)
-  of_listed o at = from_map (λ (l : Listing). l.object) listings o at
-
-  listed_sector : (o : Object) → Contains (listed listings) o → (s : ℕ) × (is_among o.sectors s ≡ true)
-  listed_sector o at = let l = of_listed o at in subst (λ (p : Object). (s : ℕ) × (is_among p.sectors s ≡ true)) l.2 (dir_sector l.0 l.1)
-
-  listed_low : (s : ℕ) → is_among (firsts (listed listings)) s ≡ true → s < disc_sectors (Layout.Old space)
-  listed_low s e =
-      let o = firsts_from (listed listings) s e in
-      let l = of_listed o.0 o.1 in
-      on_disc kind space nodes owners root listings a l.0.object (listed_directory (Layout.Old space) listings (sound kind space nodes owners root listings a) l.0 l.1).0 s
-      (subst (λ (p : Object). is_among p.sectors s ≡ true) (sym l.2) o.2)
-
-  listed_apart : Apart (reserved kind space nodes owners root listings a) (listed listings)
-  listed_apart =
-      let h = had kind space nodes owners root listings a in
-      apart_shuffled (reserved kind space nodes owners root listings a) (h.top ∷ directories (held listings)) (listed listings)
-      (h.apart.0, apart_directories (h.top.sectors ++ reserved kind space nodes owners root listings a) (held listings) h.apart.1)
-      (IsPermutation-sym (listed listings) (h.top ∷ directories (held listings)) h.all.all)
+  on_disc : (o : Object) → Contains (objects_of listings) o → (s : ℕ) → is_among o.sectors s ≡ true → s < disc_sectors (Layout.Old space)
+  on_disc o at s i =
+      let r = in_disc space o.entry.address _ o.sectors s (object_lies kind (Layout.Old space) nodes root listings a.walked o at).placed i in
+      let inside = r.0.inside in let low = r.2 in omega (arith, inside, low)
 
   pub room : length listings ≤ disc_sectors (Layout.Old space)
-  room =
-      let once = firsts_once (reserved kind space nodes owners root listings a) (listed listings) listed_apart in
-      let count = firsts_count (listed listings) listed_sector in
-      let most = length-le_from_distinct_below (firsts (listed listings)) (disc_sectors (Layout.Old space)) (as_distinct (firsts (listed listings)) once)
-      (λ q e. listed_low q (as_among q (firsts (listed listings)) e)) in
-      subst (λ (n : ℕ). n ≤ disc_sectors (Layout.Old space)) (count ∙ length-map listings (λ (l : Listing). l.object)) most
+  room = room_of kind (Layout.Old space) nodes root listings a.walked on_disc (λ address bytes sectors some at. a_sector space address bytes sectors some a.is_map.units at)

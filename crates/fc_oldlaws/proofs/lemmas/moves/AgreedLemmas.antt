@@ -22,7 +22,7 @@ use Rattle.fc_tree.specs.Parts.{AreOwners}
 use Rattle.fc_tree.proofs.WalkedLemmas.{apart_names, place_of, sound_law}
 use Rattle.fc_laws.specs.nodes.Edits.{Nodes}
 use Rattle.fc_oldlaws.specs.agree.Laws.{AgreeOn, parts_with}
-use Rattle.fc_oldlaws.proofs.lemmas.agree.BeforeLemmas.{sound}
+use Rattle.fc_laws.proofs.lemmas.agree.WalkedLemmas.{sound}
 use Rattle.fc_oldlaws.proofs.lemmas.agree.RoomLemmas.{room}
 use Rattle.fc_oldlaws.specs.moves.After.{IsSlide, Slide, form_of, listing_after, listings_after, move_of, space_after}
 use Rattle.fc_oldlaws.specs.moves.Laws.{AgreedLaw, BehindLaw, TakenOverLaw}
@@ -48,7 +48,7 @@ module _ (kind : Kind) (s : Slide) (nodes nodes' : Nodes) (owners owners' : List
   start = record { kind = kind; read = reader_of_nodes nodes; address = root.entry.address; size = root.entry.len; listings = listings; s = s; walked = a.walked.walked; is = is }
 
   sound_before : AreSound layout listings
-  sound_before = sound kind s.space nodes owners root listings a
+  sound_before = sound kind (Layout.Old s.space) nodes root listings a.walked
 
   tells : Tells (reader_of_nodes nodes') (listings_after s listings)
   tells = (moved_follow s nodes nodes' moved listings sound_before a.walked.held).say

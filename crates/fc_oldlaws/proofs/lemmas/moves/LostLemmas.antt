@@ -1,8 +1,8 @@
 -- The same sectors are lost afterwards, and they keep their bytes.
 use Rattle.std.proofs.Common.{◌≡◌, ◌<◌, ◌≤◌, ◌⊎◌, inl, inr, ⊎_elim, ℕ, zero, suc, ◌+◌, ◌*◌, ◌/◌, ◌%◌, Bool, true, false, not, List, [], ◌∷◌, length, map, drop, refl, sym, ap, ap₂, subst, ◌∙◌, arith, Some, slice_get}
-use Rattle.std.specs.Prelude.{Ok, Err, Contains, nat_lt, ◌&&◌, ◌||◌}
+use Rattle.std.specs.Prelude.{Ok, Err, Contains, ◌&&◌, ◌||◌}
 use Rattle.std.specs.List.{flat_map, range_with_len}
-use Rattle.std.proofs.lemmas.Bool.{cases_eq, cases_lt, lt-ltb}
+use Rattle.std.proofs.lemmas.Bool.{cases_eq, cases_lt}
 use Rattle.fc_device.specs.Sectors.{sector_at}
 use Rattle.fc_record.specs.Kinds.{disc_size}
 use Rattle.fc_newmap.proofs.PlaceLemmas.{in_either}
@@ -27,6 +27,7 @@ use Rattle.fc_oldlaws.proofs.lemmas.moves.PlaceLemmas.{Case, Start, case_of, cam
 use Rattle.fc_oldlaws.proofs.lemmas.moves.WalkLemmas.{objects_after}
 use Rattle.fc_oldlaws.proofs.lemmas.moves.BytesLemmas.{Steps, all, listed, no_body, start, to, wide, z}
 use Rattle.fc_oldlaws.proofs.lemmas.moves.ImageLemmas.{disc, long}
+use Rattle.fc_laws.proofs.lemmas.agree.NewPlaceLemmas.{some_there as some_sectors}
 
 -- ---- lists
 
@@ -43,7 +44,7 @@ or_first : (a b : Bool) → a ≡ true → (a || b) ≡ true
 or_first true b e = refl
 or_first false b e = absurd (cc)
 
-or_last : (a b : Bool) → b ≡ true → (a || b) ≡ true
+pub or_last : (a b : Bool) → b ≡ true → (a || b) ≡ true
 or_last true b e = refl
 or_last false b e = e
 
@@ -54,10 +55,6 @@ flat_among {X} f (x ∷ xs) t h = elim (in_either (f x) (flat_map f xs) t h) [
   | Ok here ↦ (x, first_in x xs, here)
   | Err later ↦ (let r = flat_among f xs t later in (r.0, next_in x r.0 xs r.1, r.2))
 ]
-
-some_sectors : (xs : List ℕ) (t : ℕ) → is_among xs t ≡ true → nat_lt 0 (length xs) ≡ true
-some_sectors [] t h = absurd (cc)
-some_sectors (x ∷ xs) t h = lt-ltb 0 (length (x ∷ xs)) (omega arith)
 
 number_of : {X : Type 0} (xs : List X) (x : X) → Contains xs x → (i : ℕ) × (slice_get xs i ≡ Some x)
 number_of [] x at = absurd (nothing_in x at)

@@ -32,7 +32,7 @@ use Rattle.fc_squash.proofs.StandLemmas.{apart_all}
 use Rattle.fc_squash.proofs.StepLemmas.{every_from}
 use Rattle.fc_oldlaws.specs.agree.Laws.{AgreeOn}
 use Rattle.fc_oldlaws.specs.agree.Spaces.{CanGive}
-use Rattle.fc_oldlaws.proofs.lemmas.agree.BeforeLemmas.{had, object_lies, sound}
+use Rattle.fc_laws.proofs.lemmas.agree.WalkedLemmas.{had, object_lies, sound}
 use Rattle.fc_oldlaws.proofs.lemmas.agree.GivenLemmas.{space_law}
 use Rattle.fc_changes.proofs.BasicLemmas.{cases_cons, clash, first_in, in_flat, next_in, nothing_in}
 use Rattle.fc_oldchanges.proofs.PlaceLemmas.{IsRow, row_or_none}
@@ -171,7 +171,7 @@ module _ (kind : Kind) (space : FreeSpace) (nodes : Nodes) (owners : List Owner)
   are_sliding = record { each = each; only = only }
 
   objects_owned : AreOwned space (objects_of listings) owned
-  objects_owned = are_owned space nodes listings owned a.is_map.units (sound kind space nodes owners root listings a) a.walked.held are_sliding
+  objects_owned = are_owned space nodes listings owned a.is_map.units (sound kind (Layout.Old space) nodes root listings a.walked) a.walked.held are_sliding
 
   once : (k : ℕ) → many (λ (p : Owned). p.node == k) owned ≤ 1
   once k = let few = once_below space nodes 0 bound k in let turned = many_permuted (λ (p : Owned). p.node == k) (sliding_below space nodes bound) owned same in omega (arith, few, turned)
@@ -192,13 +192,13 @@ module _ (kind : Kind) (space : FreeSpace) (nodes : Nodes) (owners : List Owner)
   body_of p at =
       let x = objects_owned.only p at in
       let s = only p at in
-      let n = object_of_number layout listings nodes (sound kind space nodes owners root listings a) a.walked.held p.node s.node s.there in
+      let n = object_of_number layout listings nodes (sound kind (Layout.Old space) nodes root listings a.walked) a.walked.held p.node s.node s.there in
       let m = a.walked.held.each n.0 n.1 in
       let start_n : p.start ≡ n.0.entry.address = s.start ∙ ap (λ (k : Node). k.entry.address) (same_some s.node _ (sym s.there ∙ ap (get nodes) (same_some p.node m.number (sym n.2 ∙ m.at_path)) ∙ m.is)) in
       let some_n : has_sectors n.0 ≡ true = some_by n.0 n.1 (s.some) (s.long ∙ ap (λ (k : Node). units_in space k.entry) (same_some s.node _ (sym s.there ∙ ap (get nodes) (same_some p.node m.number (sym n.2 ∙ m.at_path)) ∙ m.is))) in
       let long_n : p.len ≡ length n.0.sectors * space.sector_units =
       s.long ∙ ap (λ (k : Node). units_in space k.entry) (same_some s.node _ (sym s.there ∙ ap (get nodes) (same_some p.node m.number (sym n.2 ∙ m.at_path)) ∙ m.is))
-      ∙ sym (space_law.size space n.0 (object_lies kind space nodes owners root listings a n.0 n.1).placed) in
+      ∙ sym (space_law.size space n.0 (object_lies kind (Layout.Old space) nodes root listings a.walked n.0 n.1).placed) in
       record {
         object = n.0;
         among = n.1;
@@ -216,11 +216,11 @@ module _ (kind : Kind) (space : FreeSpace) (nodes : Nodes) (owners : List Owner)
 
       some_by : (o : Object) → Contains (objects_of listings) o → 0 < p.len → p.len ≡ units_in space o.entry → has_sectors o ≡ true
       some_by o there some long =
-          lt-ltb 0 (length o.sectors) (some_left (length o.sectors) (subst (λ (n : ℕ). 0 < n) (long ∙ sym (space_law.size space o (object_lies kind space nodes owners root listings a o there).placed)) some))
+          lt-ltb 0 (length o.sectors) (some_left (length o.sectors) (subst (λ (n : ℕ). 0 < n) (long ∙ sym (space_law.size space o (object_lies kind (Layout.Old space) nodes root listings a.walked o there).placed)) some))
 
       row_of : (o : Object) → Contains (objects_of listings) o → has_sectors o ≡ true → IsRow space o.entry.address (object_size (dir_form layout) o.entry) o.sectors
       row_of o there some = ⊎_elim (λ none. absurd (clash (has_sectors o) some (ap (λ (xs : List ℕ). nat_lt 0 (length xs)) none.1))) (λ r. r)
-          (row_or_none space o.entry.address (object_size (dir_form layout) o.entry) o.sectors (object_lies kind space nodes owners root listings a o there).placed)
+          (row_or_none space o.entry.address (object_size (dir_form layout) o.entry) o.sectors (object_lies kind (Layout.Old space) nodes root listings a.walked o there).placed)
 
   -- one that begins no later ends before the other begins
   within_row : (u : ℕ) → (u ≡ 1) ⊎ (u ≡ 4) → (b c n : ℕ) → b % u ≡ 0 → c % u ≡ 0 → b ≤ c → c < b + n * u → (b / u ≤ c / u) × (c / u < b / u + n)
@@ -245,7 +245,7 @@ module _ (kind : Kind) (space : FreeSpace) (nodes : Nodes) (owners : List Owner)
           let some = ltb-true 0 (length k.object.sectors) k.some in
           let in_second : is_among k.object.sectors (q.start / u) ≡ true =
           ap (λ (xs : List ℕ). is_among xs (q.start / u)) (k.row.row ∙ ap (range_with_len (q.start / u)) (sym k.row.long)) ∙ among_range (q.start / u) (length k.object.sectors) (q.start / u) (omega arith) (omega (arith, some)) in
-          let h = had kind space nodes owners root listings a in
+          let h = had kind (Layout.Old space) nodes root listings a.walked in
           let one : x.object ≡ k.object = same_object (reserved_in kind layout) (objects_of listings) x.object k.object (q.start / u)
           (subst (Apart (reserved_in kind layout)) (sym h.objects) h.apart) x.among k.among in_first in_second in
           other (same_some p.node q.node (sym x.number ∙ ap (λ (o : Object). number_of nodes o.path) one ∙ k.number))

@@ -58,7 +58,7 @@ listed_small (Some l) dir e = (l, refl, by l.content e)
     by (Directory.Small d) f = let g : d ≡ dir = cc in ap (λ (x : SmallDir). Directory.Small x) g
     by (Directory.Big d) f = absurd (cc)
 
-small_was : (form : NameForm) (move : ℕ → ℕ) (a : ℕ) (b : Body) (dir : SmallDir) → body_after form move a b ≡ bodies.Small dir → (d : SmallDir) × (b ≡ bodies.Small d)
+pub small_was : (form : NameForm) (move : ℕ → ℕ) (a : ℕ) (b : Body) (dir : SmallDir) → body_after form move a b ≡ bodies.Small dir → (d : SmallDir) × (b ≡ bodies.Small d)
 small_was form move a bodies.File dir e = absurd (cc)
 small_was form move a (bodies.Small d) dir e = (d, refl)
 small_was form move a (bodies.Big d) dir e = absurd (cc)

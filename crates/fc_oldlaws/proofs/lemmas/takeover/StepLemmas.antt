@@ -1,5 +1,5 @@
 -- From the steps of a command on a disc with an old map to what fc_oldchanges asks of them.
-use Rattle.std.proofs.Common.{◌≡◌, ◌<◌, ◌≤◌, ℕ, zero, suc, ◌+◌, ◌*◌, Bool, true, false, cond, List, [], ◌∷◌, ◌++◌, length, take, refl, sym, ap, ap₂, subst, ◌∙◌, arith}
+use Rattle.std.proofs.Common.{◌≡◌, ◌<◌, ◌≤◌, ℕ, zero, suc, ◌*◌, Bool, true, false, cond, List, [], ◌∷◌, ◌++◌, length, take, refl, sym, ap, ap₂, subst, ◌∙◌, arith}
 use Rattle.std.specs.Prelude.{Ok, Err, Option, Some, None, Contains, IsPermutation, nat_le, slice_get, ◌&&◌, ◌==◌}
 use Rattle.std.specs.Int.{div_ceil}
 use Rattle.std.proofs.lemmas.Bool.{eqb-true, leb-true}
@@ -10,7 +10,6 @@ use Rattle.std.proofs.Math.Seq.{take-length}
 use Rattle.fc_bytes.specs.Words.{bytes_at}
 use Rattle.fc_checks.specs.Checks.{is_half_right}
 use Rattle.fc_names.specs.declared.name.NameForm.{NameForm}
-use Rattle.fc_names.specs.declared.name.NameForm.TheVariants.{Seven, Ten, Long}
 use Rattle.fc_names.specs.Names.{Path, folded_path, is_directory, is_same_path}
 use Rattle.fc_record.specs.declared.Kind.{Kind}
 use Rattle.fc_newmap.proofs.PlaceLemmas.{in_back, in_either, in_front}
@@ -21,11 +20,10 @@ use Rattle.fc_oldmap.specs.OldMap.{FreeSpace, IsOldMap}
 use Rattle.fc_model.specs.Tree.{is_prefix}
 use Rattle.fc_model.specs.Command.{Command}
 use Rattle.fc_dirs.specs.Directory.{Directory, directory_size, entries_of}
-use Rattle.fc_image.specs.Layout.{Layout, dir_form, is_among, is_apart, map_place, sector_bytes}
+use Rattle.fc_image.specs.Layout.{Layout, dir_form, is_among, is_apart, map_place}
 use Rattle.fc_image.specs.Walk.{Listing, Object, is_directory_object, object_bytes, object_size}
 use Rattle.fc_image.specs.Objects.{objects_of}
 use Rattle.fc_image.specs.Opening.{Opened}
-use Rattle.fc_image.specs.Stays.{HasSectorsOf}
 use Rattle.fc_image.proofs.CommandLemmas.{is_prefix_of}
 use Rattle.fc_image.proofs.OneZoneLemmas.{and_first}
 use Rattle.fc_image.proofs.RelistLemmas.{folded_long}
@@ -38,17 +36,16 @@ use Rattle.fc_changes.proofs.BasicLemmas.{clash, first_in, long_pushed, next_in,
 use Rattle.fc_changes.proofs.OutsideLemmas.{no_sectors}
 use Rattle.fc_laws.proofs.lemmas.takeover.ApartLemmas.{apart_both}
 use Rattle.fc_laws.proofs.lemmas.takeover.MovingLemmas.{child_of}
-use Rattle.fc_oldchanges.specs.Owed.{IsBefore, IsMapAfter, IsWritten, MapStays, holding}
+use Rattle.fc_oldchanges.specs.Owed.{IsBefore, IsWritten, MapStays, holding}
 use Rattle.fc_oldchanges.specs.Changed.{IsDeleteChange, IsDirectoryChange, IsFileChange, IsMoveChange, IsRenameChange, IsRewordChange}
-use Rattle.fc_oldchanges.proofs.MapLemmas.{map_kept}
 use Rattle.fc_oldchanges.proofs.SpaceLemmas.{some_units}
 use Rattle.fc_oldchanges.proofs.StepsLemmas.{writes_law}
 use Rattle.fc_oldlaws.specs.takeover.Steps.{IsDeletedInSteps, IsFiledInSteps, IsMadeInSteps, IsMovedInSteps, IsRenamedInSteps, IsRewordedInSteps, StepsLaw, holes_taken}
-use Rattle.fc_oldlaws.specs.takeover.Writes.{IsUnwritten}
 use Rattle.fc_oldlaws.proofs.lemmas.takeover.AgainLemmas.{map_before, map_later, map_twice}
 use Rattle.fc_oldlaws.proofs.lemmas.takeover.ApartLemmas.{disc, file_free, fitted_free, free_unwritten, listed', no_map', objects_law, own_apart}
 use Rattle.fc_oldlaws.proofs.lemmas.takeover.TakenLemmas.{deleted_takes_over, directory_made_takes_over, filed_takes_over, moved_takes_over, renamed_takes_over, reworded_takes_over}
-use Rattle.fc_oldlaws.proofs.lemmas.takeover.WriteLemmas.{object_stays', sectors_stay', written_bytes_law}
+use Rattle.fc_oldlaws.proofs.lemmas.takeover.WriteLemmas.{object_stays', written_bytes_law}
+use Rattle.fc_laws.proofs.lemmas.agree.DirectoryAddedLemmas.{size_of_new}
 
 -- ---- writes
 
@@ -61,11 +58,6 @@ same_long p q same = sym (folded_long p) ∙ ap (λ (x : Path). length x) (folds
 is_file : (old : Option Object) (path : Path) (l : Listing) (content : Directory) (i : ℕ) (o : Object) → IsEntryMade old path l content i o.entry → is_directory_object o ≡ false
 is_file None path l content i o made = ap is_directory made.2
 is_file (Some p) path l content i o made = ap is_directory made.4 ∙ made.2
-
-size_of_new : (form : NameForm) → directory_size form (new_dir_size form) ≡ new_dir_size form
-size_of_new Seven = refl
-size_of_new Ten = refl
-size_of_new Long = refl
 
 module _ (space : FreeSpace) where
   abbrev y : Layout
