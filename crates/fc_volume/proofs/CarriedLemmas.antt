@@ -463,4 +463,4 @@ module _ {m : Map} {nodes : Nodes} {owners : List Owner} {from to : Path} {rn : 
       let holes = places.holes kind was seen m c new_sectors (across.by change both opens at hold) is.space.place.holes in
       let may = places.both kind seen m c (sectors_in r.holder.place.items) (sectors_in r.source.place.items ++ new_sectors) (across.y_may change both opens at hold)
       (places.both kind seen m c (sectors_in r.source.place.items) new_sectors loses holes) in
-      record { length_stays = w.length_stays; sectors = sectors_of_carrying r; writes = w.writes; files = may.files; dirs = may.dirs; boot = may.boot; idle = may.idle }
+      record { length_stays = w.length_stays; sectors = sectors_of_carrying r; writes = w.writes; files = may.files; dirs = may.dirs; boot = may.boot; idle = may.idle; inside = may.inside }

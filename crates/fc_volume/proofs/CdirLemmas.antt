@@ -487,4 +487,5 @@ module _ (laws : CdirLaws) (m : Map) (nodes : Nodes) (path : Path) (dir number :
         dirs = may.dirs;
         boot = may.boot;
         idle = may.idle;
+        inside = may.inside;
       }

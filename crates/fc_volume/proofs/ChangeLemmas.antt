@@ -45,7 +45,7 @@ ok_both (Err error) P Q p q = tt
 pub writes_nothing : (places : PlacesLaw) (kind : Kind) (view : Opened) (m : Map) (c : Command) (image : List ℕ) → WritesPlaces kind view m c image image
 writes_nothing places kind view m c image =
     let none = places.none kind view m c in
-    record { length_stays = refl; sectors = []; writes = λ s apart out. refl; files = none.files; dirs = none.dirs; boot = none.boot; idle = none.idle }
+    record { length_stays = refl; sectors = []; writes = λ s apart out. refl; files = none.files; dirs = none.dirs; boot = none.boot; idle = none.idle; inside = none.inside }
 
 -- ---- exits
 

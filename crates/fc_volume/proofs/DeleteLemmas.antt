@@ -284,4 +284,5 @@ module _ (laws : ChangeLaws) (m : Map) (nodes : Nodes) (owners : List Owner) (pa
           dirs = may.dirs;
           boot = may.boot;
           idle = may.idle;
+          inside = may.inside;
         }

@@ -400,4 +400,4 @@ module _ (laws : RenameLaws) (m : Map) (nodes : Nodes) (owners : List Owner) (fr
         (places.both kind view m c (more_sectors r.own) (more_sectors r.source)
         (subst (MayBeWritten kind view m c) (sym (sectors_turned view.listings p t.node y.object.entry.address name r.own (own_turns view.listings view_sound hold))) own)
         (subst (λ (s : Option Rewrite). MayBeWritten kind view m c (more_sectors s)) (sym is.ready.source) (across.x_may laws.change both opens at hold))) in
-        record { length_stays = w.length_stays; sectors = sectors_of_relocation r; writes = w.writes; files = may.files; dirs = may.dirs; boot = may.boot; idle = may.idle }
+        record { length_stays = w.length_stays; sectors = sectors_of_relocation r; writes = w.writes; files = may.files; dirs = may.dirs; boot = may.boot; idle = may.idle; inside = may.inside }

@@ -527,4 +527,4 @@ module _ (laws : RenameLaws) (m : Map) (nodes : Nodes) (from to : Path) (rn : Re
         (places.both kind view m c (more_sectors r.own) (more_sectors r.source)
         (subst (MayBeWritten kind view m c) (sym (sectors_turned view.listings p t.node k.object.entry.address name r.own (own_turns view.listings view_sound hold))) own)
         (subst (λ (s : Option Rewrite). MayBeWritten kind view m c (more_sectors s)) (sym is.ready.source) (places.none kind view m c))) in
-        record { length_stays = w.length_stays; sectors = sectors_of_relocation r; writes = w.writes; files = may.files; dirs = may.dirs; boot = may.boot; idle = may.idle }
+        record { length_stays = w.length_stays; sectors = sectors_of_relocation r; writes = w.writes; files = may.files; dirs = may.dirs; boot = may.boot; idle = may.idle; inside = may.inside }

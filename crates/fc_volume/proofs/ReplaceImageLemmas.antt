@@ -238,4 +238,5 @@ module _ (laws : ReplaceLaws) (m : Map) (nodes : Nodes) (owners : List Owner) (p
         dirs = may.dirs;
         boot = may.boot;
         idle = may.idle;
+        inside = may.inside;
       }

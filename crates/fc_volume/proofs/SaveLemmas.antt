@@ -528,4 +528,5 @@ module _ (laws : SaveLaws) (m : Map) (nodes : Nodes) (owners : List Owner) (path
           dirs = may.dirs;
           boot = may.boot;
           idle = may.idle;
+          inside = may.inside;
         }

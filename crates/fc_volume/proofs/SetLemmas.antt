@@ -258,4 +258,5 @@ module _ (laws : ChangeLaws) (m : Map) (nodes : Nodes) (path : Path) (load exec 
           dirs = may.dirs;
           boot = may.boot;
           idle = may.idle;
+          inside = may.inside;
         }

@@ -1,5 +1,5 @@
 -- What commands that change a volume answer and leave.
-use Rattle.std.specs.Prelude.{◌≡◌, ◌≤◌, ◌++◌, ◌∷◌, [], ℕ, Bool, true, false, List, Option, Some, None, Result, Ok, Err, OnOk, IfErr, IsFalse}
+use Rattle.std.specs.Prelude.{◌≡◌, ◌<◌, ◌≤◌, ◌++◌, ◌∷◌, [], ℕ, Bool, true, false, List, Option, Some, None, Result, Ok, Err, OnOk, IfErr, IsFalse}
 use Rattle.std.specs.Option.{ForSome}
 use Rattle.fc_device.specs.declared.disk.Disk.{Ghosts}
 use Rattle.fc_device.specs.Calls.{SameForm}
@@ -10,7 +10,7 @@ use Rattle.fc_names.specs.declared.refusal.Refusal.{Refusal}
 use Rattle.fc_newmap.specs.Map.{Map}
 use Rattle.fc_model.specs.Command.{Command}
 use Rattle.fc_model.specs.Answer.{changed, first_of, reasons}
-use Rattle.fc_image.specs.Layout.{Layout, dir_form, is_apart}
+use Rattle.fc_image.specs.Layout.{Layout, dir_form, disc_sectors, is_among, is_apart}
 use Rattle.fc_image.specs.Walk.{Object, is_directory_object}
 use Rattle.fc_image.specs.Objects.{objects_of, tree_of}
 use Rattle.fc_image.specs.Opening.{Opened, boot_place}
@@ -63,8 +63,8 @@ HasChanged d c was now old new = ForSome (d.bytes old) (λ image. (other : List 
 
 -- ---- what every exit leaves of the disk
 
--- Some sectors were written, and besides them only those of the map: none of an object other than a directory that the command may
--- rewrite, none of the boot block, and none of lost space.
+-- Some sectors were written, and besides them only those of the map: each lies on the disc, and none is of an object other than a
+-- directory that the command may rewrite, of the boot block, or of lost space.
 pub record WritesPlaces (kind : Kind) (view : Opened) (m : Map) (c : Command) (image other : List ℕ) : Type 0 where
   pub length_stays : Rattle.std.specs.Prelude.length other ≡ Rattle.std.specs.Prelude.length image
   pub sectors : List ℕ
@@ -73,6 +73,7 @@ pub record WritesPlaces (kind : Kind) (view : Opened) (m : Map) (c : Command) (i
   pub dirs : (o : Object) → Rattle.std.specs.Prelude.Contains (objects_of view.listings) o → may_be_rewritten view c o.path ≡ false → is_apart o.sectors sectors ≡ true
   pub boot : is_apart (boot_place kind m.geometry.sector) sectors ≡ true
   pub idle : is_apart (idle_sectors view m) sectors ≡ true
+  pub inside : (s : ℕ) → is_among sectors s ≡ true → s < disc_sectors (Layout.New m)
 
 -- It is so if the disk tells its bytes.
 abbrev pub WritesOnlyPlaces : {D : Type 0} → Ghosts D → Command → Parts → D → D → Type 0
