@@ -1,0 +1,66 @@
+#!/usr/bin/env python3
+"""Compares what pages quote of the repository's files with these files.
+
+usage: tools/quotations.py PAGE...
+A quotation is a block between lines of three backticks, the first of which names the file after them, from the top of the
+repository. Its lines have to stand in that file one after the other; all may be moved to the left or right by as much. After a line
+`...` the next one may stand anywhere below.
+"""
+import os
+import re
+import sys
+
+TOP = os.path.join(os.path.dirname(os.path.realpath(__file__)), "..")
+BLOCK = re.compile(r"^```(\S+)\n(.*?)^```$", re.MULTILINE | re.DOTALL)
+
+
+def moved(lines):
+    """Lines without the space that all of them begin with."""
+    space = min(len(line) - len(line.lstrip()) for line in lines if line.strip())
+    return [line[space:].rstrip() for line in lines]
+
+
+def parts_of(block):
+    """The parts between lines `...`."""
+    parts = [[]]
+    for line in block.splitlines():
+        if line.strip() == "...":
+            parts.append([])
+        else:
+            parts[-1].append(line)
+    return [part for part in parts if part]
+
+
+def stands_in(block, lines):
+    """Whether the parts stand in these lines, each below the one before."""
+    begin = 0
+    for part in parts_of(block):
+        places = (at for at in range(begin, len(lines) - len(part) + 1)
+                  if any(lines[at:at + len(part)]) and moved(lines[at:at + len(part)]) == moved(part))
+        found = next(places, None)
+        if found is None:
+            return False
+        begin = found + len(part)
+    return True
+
+
+def differing(path):
+    """Which files a page quotes, and which quotations don't stand there."""
+    with open(path) as page:
+        for name, block in BLOCK.findall(page.read()):
+            with open(os.path.join(TOP, name)) as file:
+                yield name, stands_in(block, file.read().splitlines())
+
+
+def main(paths):
+    found = [(path, name, same) for path in paths for name, same in differing(path)]
+    for path, name, same in found:
+        if not same:
+            print("%s quotes what doesn't stand so in %s" % (path, name))
+    failed = sum(not same for path, name, same in found)
+    print("%d quotations, %d failed" % (len(found), failed))
+    return failed == 0 and bool(found)
+
+
+if __name__ == "__main__":
+    sys.exit(0 if main(sys.argv[1:]) else 1)
