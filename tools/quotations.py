@@ -1,10 +1,10 @@
 #!/usr/bin/env python3
-"""Compares what pages quote of the repository's files with these files.
+"""Compares what pages quote of the repository's files with these files, and sees that the edits that they name are there.
 
 usage: tools/quotations.py PAGE...
 A quotation is a block between lines of three backticks, the first of which names the file after them, from the top of the
 repository. Its lines have to stand in that file one after the other; all may be moved to the left or right by as much. After a line
-`...` the next one may stand anywhere below.
+`...` the next one may stand anywhere below. An edit is named as `CRATE/EDIT`.
 """
 import os
 import re
@@ -12,6 +12,7 @@ import sys
 
 TOP = os.path.join(os.path.dirname(os.path.realpath(__file__)), "..")
 BLOCK = re.compile(r"^```(\S+)\n(.*?)^```$", re.MULTILINE | re.DOTALL)
+EDIT = re.compile(r"`(fc_\w+|fcore)/(\w+)`")
 
 
 def moved(lines):
@@ -44,22 +45,25 @@ def stands_in(block, lines):
     return True
 
 
-def differing(path):
-    """Which files a page quotes, and which quotations don't stand there."""
-    with open(path) as page:
-        for name, block in BLOCK.findall(page.read()):
-            with open(os.path.join(TOP, name)) as file:
-                yield name, stands_in(block, file.read().splitlines())
+def claims(page):
+    """What a page says of other files, and whether it is so."""
+    for name, block in BLOCK.findall(page):
+        with open(os.path.join(TOP, name)) as file:
+            yield "a quotation of " + name, stands_in(block, file.read().splitlines())
+    for crate, name in EDIT.findall(page):
+        yield "the edit %s/%s" % (crate, name), os.path.exists(os.path.join(TOP, "crates", crate, "must-fail", name + ".edit"))
 
 
 def main(paths):
-    found = [(path, name, same) for path in paths for name, same in differing(path)]
-    for path, name, same in found:
-        if not same:
-            print("%s quotes what doesn't stand so in %s" % (path, name))
-    failed = sum(not same for path, name, same in found)
-    print("%d quotations, %d failed" % (len(found), failed))
-    return failed == 0 and bool(found)
+    count = failed = 0
+    for path in paths:
+        with open(path) as page:
+            for claim, holds in claims(page.read()):
+                count, failed = count + 1, failed + (not holds)
+                if not holds:
+                    print("%s: %s isn't there, or isn't so" % (path, claim))
+    print("%d quotations and edits, %d failed" % (count, failed))
+    return count > 0 and failed == 0
 
 
 if __name__ == "__main__":
