@@ -1,8 +1,8 @@
 #!/usr/bin/env bash
 # Runs the built program over the images of tools/images.py, and compares output and status with that table; then the examples
 # of README.md. No image may be changed. Then demos, the program where the system fails it, commands that change, fcdisc over the
-# program, what `make install` puts there, and the man pages. The page of the format is tried first: the reader that was written
-# from it has to say the same as the other reader.
+# program, what `make install` puts there, and the man pages. Pages are tried first: the reader that was written from that of the
+# format has to say the same as the other reader, and what docs/PROVED.md quotes has to stand in the source.
 #
 # usage: tools/check_program.sh PROGRAM
 set -u
@@ -15,6 +15,7 @@ trap 'rm -rf "$folder"' EXIT
 cd "$folder" || exit 1
 python3 "$tools/images.py" --check || exit 1
 python3 "$tools/format_reader.py" --compare || exit 1
+python3 "$tools/quotations.py" "$tools/../docs/PROVED.md" || exit 1
 python3 "$tools/images.py" "$folder" || exit 1
 mkdir run bin
 ln -s "$program" bin/fcore

@@ -4,6 +4,7 @@ mod big_directories;
 mod changes;
 mod crashes;
 mod failing;
+mod identifiers;
 mod old_maps;
 
 use fc_device::{Failing, ListSink, ListSource, MemoryDisk, PlainDisk};
