@@ -32,6 +32,7 @@ pub use growing::{
 pub use laws::grown_steps;
 pub use leaving::{address_grown, prepare_leaving, without};
 pub use made::cdir;
+pub use named::rename;
 pub use naming::{Naming, prepare_moved, prepare_named, take_over_name};
 pub use needs::{check_space, refusals};
 pub use place::{GrownPlace, growths, plan_growth};

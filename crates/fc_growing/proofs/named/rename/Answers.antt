@@ -12,7 +12,7 @@ use Rattle.fc_volume.proofs.StandsLemmas.{new_layout}
 use Rattle.fc_growing.specs.Renaming.{IsRoomFor}
 use Rattle.fc_growing.proofs.RenamingDoneLemmas.{fits_so, full_so, room_now}
 use Rattle.fc_growing.proofs.RenamingVolumeLemmas.{can_get, no_root}
-use Rattle.fc_growing.proofs.named.rename_but_copied.Goals as goal
+use Rattle.fc_growing.proofs.named.rename.Goals as goal
 
 pub returns-in-Err-clause-refused : goal.returns-in-Err-clause-refused
 returns-in-Err-clause-refused g c = λ v image sound parts.
