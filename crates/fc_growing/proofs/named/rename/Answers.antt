@@ -57,11 +57,10 @@ grow_across-requires-clause-grows g c =
     room_now _ c.args.volume.now c.volume.view_is c.args.from.now c.args.to.now c.in-Ok.renaming c.in-Ok.ensures.accepted (rooms.Grows c.in-Grows.len)
     (subst (IsRoomFor (nodes_of c.volume.inside.tree) c.in-Ok.renaming (last_name c.args.to.now)) c.in-Grows.is c.in-Ok-room_of.ensures)
 
-pub grow_across-requires-clause-uncopied : goal.grow_across-requires-clause-uncopied
-grow_across-requires-clause-uncopied g c =
-    c.requires.uncopied c.in-Ok.renaming c.in-Ok.ensures.accepted c.in-Grows.len
-    (room_now _ c.args.volume.now c.volume.view_is c.args.from.now c.args.to.now c.in-Ok.renaming c.in-Ok.ensures.accepted (rooms.Grows c.in-Grows.len)
-    (subst (IsRoomFor (nodes_of c.volume.inside.tree) c.in-Ok.renaming (last_name c.args.to.now)) c.in-Grows.is c.in-Ok-room_of.ensures))
+pub grow_copied-requires-clause-grows : goal.grow_copied-requires-clause-grows
+grow_copied-requires-clause-grows g c =
+    room_now _ c.args.volume.now c.volume.view_is c.args.from.now c.args.to.now c.in-Ok.renaming c.in-Ok.ensures.accepted (rooms.Grows c.in-Grows.len)
+    (subst (IsRoomFor (nodes_of c.volume.inside.tree) c.in-Ok.renaming (last_name c.args.to.now)) c.in-Grows.is c.in-Ok-room_of.ensures)
 
 pub returns-in-Full-clause-refused : goal.returns-in-Full-clause-refused
 returns-in-Full-clause-refused g c = λ v image sound parts.
