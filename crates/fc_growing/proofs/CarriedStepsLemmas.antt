@@ -181,7 +181,7 @@ module _ (law : EntriesLaw) (kind : Kind) (m : Map) (nodes : Nodes) (owners : Li
   whole_ready =
       subst (λ (g : Growth). IsGrowingReady nodes m n content p [] (record { node = all.node; draft = all.draft; growth = g; around = all.around })) (sym is.ready.ready.apart.growth) is.ready.ready.growing
 
-  abbrev pub grows_so : ready_of.IsToGrow kind m nodes owners root v.listings l n bytes p
+  abbrev pub grows_so : ready_of.IsToGrow kind m nodes owners root v.listings l n (Some rn.target.node) bytes p
   grows_so = carried.grows_so law kind m nodes owners root v agree from to rn len r is
 
   abbrev pub stay : List Object
@@ -321,20 +321,19 @@ module _ (law : EntriesLaw) (kind : Kind) (m : Map) (nodes : Nodes) (owners : Li
       (gives : (i : ℕ) → is_used m i ≡ true → is_one_of p.gone.items i ≡ (is_given_back (objects_of v.listings) (at_place place l.object ∷ left) i || is_left m (objects_of v.listings) l.object place i)) where
     pub map_is : IsCarriedMap m m' (objects_of v.listings) stay left o (id_in p.object) (parts_in p.object) l.object place p.gone.items
     map_is =
-        let map = grown.grown_map kind m nodes owners root v l n bytes whole grows_so m' has in
         let seen : Opened = record { kind = v.kind; layout = Layout.New m; listings = v.listings } in
         record {
-          is_map = map.is_map;
-          geometry = map.geometry;
-          form = map.form;
-          others = map.others;
+          is_map = has.is_map;
+          geometry = has.growth.geometry;
+          form = grows_so.form;
+          others = ready_of.others kind m nodes owners root v.listings l n bytes p grows_so;
           rest = rest;
           shares = (copied_file seen from to o (carried.says_copied law kind m nodes owners root v agree from to rn len r is)).1;
           lies = lies;
-          at = map.at;
-          space = map.space;
+          at = grown.grown_at kind m nodes owners root v l n bytes whole grows_so m' has;
+          space = has.space;
           gives = gives;
-          fresh = map.fresh;
+          fresh = grown.fresh kind m nodes owners root v l n bytes whole grows_so m' has;
         }
 
     module _ (up : ℕ) (above : number_of nodes (holder l.object.path) ≡ Some up) (own_nodes : HaveOwnNodes owners) where
@@ -346,14 +345,13 @@ module _ (law : EntriesLaw) (kind : Kind) (m : Map) (nodes : Nodes) (owners : Li
 
       carries_in : CarriesIn kind m m' nodes owners between root v.listings again' l place up n stay left o (id_in p.object) (parts_in p.object) p.gone.items
       carries_in =
-          let all_in = grown.grows_in kind m nodes owners root v l n bytes whole grows_so m' has content [] whole_ready big_form up above own_nodes in
           record {
-            agree = all_in.agree;
+            agree = grows_so.agree;
             map = map_is;
-            longer = all_in.longer;
+            longer = (let more = grows_so.longer in omega (arith, more));
             again_say = but.again_say kind m nodes owners root v l (regrowth n p) place gr all.around.items ar kn;
-            up_is = all_in.up_is;
-            regrown = all_in.regrown;
+            up_is = above;
+            regrown = grown.regrown_owners kind m nodes owners root v l n bytes whole grows_so m' has content [] whole_ready big_form up above own_nodes;
           }
 
       -- The parts agree afterwards.
@@ -435,12 +433,11 @@ module _ (law : EntriesLaw) (kind : Kind) (m : Map) (nodes : Nodes) (owners : Li
 
       steps : IsGrowthInSteps stored inner.laid inner.taken w.named w.turned image' v m m' c l content place again again' left (id_in p.object) (parts_in p.object) p.gone.items
       steps =
-          let map = grown.grown_map kind m nodes owners root v l n bytes whole grows_so m' has in
           record {
             form = grows_so.form;
             growth = growth_is;
             lies = lies;
-            at = map.at;
+            at = grown.grown_at kind m nodes owners root v l n bytes whole grows_so m' has;
             says = carried.says law kind m nodes owners root v agree from to rn len r is (not_from l not_self);
             early = writes_law.then m [] _ stored inner.image inner.laid (copies_written m [] stored inner.image inner.repaired.frame)
                 (writes_law.then m [] _ inner.image inner.stored inner.laid (subst (λ (es : List Extent). IsWritten m (sectors_in es) inner.image inner.stored) whole_ready.object inner.first) inner.early);

@@ -172,7 +172,7 @@ module _ (w v : Volume) (same : w ≡ v) (maps : HasMap w) (from to : Path) (rn 
       abbrev bytes : ℕ
       bytes = (ready_v m layout).ready.file.entry.len
 
-      grows_so : ready_of.IsToGrow kind0 m nodes v.owners root0 view0.listings l0 n bytes r.naming.growing.growth.place
+      grows_so : ready_of.IsToGrow kind0 m nodes v.owners root0 view0.listings l0 n (Some rn.target.node) bytes r.naming.growing.growth.place
       grows_so = carried.grows_so entries_law kind0 m nodes v.owners root0 view0 on0 from to rn len r naming
 
       -- ---- before the writing

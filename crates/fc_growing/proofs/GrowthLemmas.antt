@@ -105,8 +105,8 @@ object_at m m' plan bytes low p is object space has small =
 
 -- ---- the directory
 
-module _ (m : Map) (nodes : Nodes) (owners : List Owner) (listings : List Listing) (o : Object) (stay : List Object) (dir bytes : ℕ) (p : GrownPlace)
-    (grows : IsGrowthOf m nodes owners listings o stay dir bytes p) where
+module _ (m : Map) (nodes : Nodes) (owners : List Owner) (listings : List Listing) (o : Object) (stay : List Object) (dir bytes : ℕ) (p : GrownPlace) {copied : Option ℕ}
+    (grows : IsGrowthOf m nodes owners listings o stay dir copied bytes p) where
   abbrev objects : List Object
   objects = objects_of listings
 
@@ -257,7 +257,7 @@ module _ (m : Map) (nodes : Nodes) (owners : List Owner) (listings : List Listin
     lies_there = inl (record { room = room_same ∙ there.0; address = address_stays; nothing = ap parts_in dir_is })
 
     pub gone_none : p.gone.items ≡ []
-    gone_none = subst (λ (q : Option Plan). AreGone owners dir q p.gone.items) dir_is grows.planned.gone
+    gone_none = subst (λ (q : Option Plan). AreGone owners dir copied q p.gone.items) dir_is grows.planned.gone
 
     -- its own identifier isn't the object's
     not_object : (object : Option Plan) → IfSome object (IsOwnPlan m bytes) → IsOther own_id object
@@ -294,8 +294,8 @@ module _ (m : Map) (nodes : Nodes) (owners : List Owner) (listings : List Listin
 
   -- ---- what goes back
 
-  gone_some : (plan : Plan) → p.dir ≡ Some plan → LeavesIds owners dir None p.gone.items × LeavesUsed owners p.gone.items
-  gone_some plan e = subst (λ (q : Option Plan). AreGone owners dir q p.gone.items) e grows.planned.gone
+  gone_some : (plan : Plan) → p.dir ≡ Some plan → LeavesGrown owners dir copied p.gone.items
+  gone_some plan e = subst (λ (q : Option Plan). AreGone owners dir copied q p.gone.items) e grows.planned.gone
 
   others_of : (k : ℕ) → has_other owners dir k ≡ list_any (is_owner_of k) stay
   others_of k = others_are m nodes listings owners o stay dir grows.node.sound grows.node.held grows.node.owned grows.node.number grows.others k

@@ -1,6 +1,7 @@
 mod RoomLemmas
 mod NeedsLemmas
 mod PlaceLemmas
+mod GoneLemmas
 mod LeadsLemmas
 mod GrowthLemmas
 mod SpaceLemmas

@@ -177,13 +177,13 @@ module _ (m : Map) (nodes : Nodes) (owners : List Owner) (path : Path) (n number
     pub planned : IsFilePlanned m owners n l.object.entry.address len words.len f
     planned = asked.planned_there kind m nodes owners root v.listings agree path n len is.content is.at is.room spot words.len f planned_at
 
-    pub to_grow : IsToGrow kind m nodes owners root v.listings l n own p
+    pub to_grow : IsToGrow kind m nodes owners root v.listings l n None own p
     to_grow = asked.to_grow kind m nodes owners root v.listings agree path n len is.content is.at is.room spot words.len f planned_at
 
     abbrev pub stay : List Object
     stay = ready_of.stay kind m nodes owners root v.listings l n own p to_grow
 
-    pub growth : IsGrowthOf m nodes owners v.listings l.object stay n own p
+    pub growth : IsGrowthOf m nodes owners v.listings l.object stay n None own p
     growth = ready_of.growth_is kind m nodes owners root v.listings l n own p to_grow
 
     abbrev pub grows : Grows kind m nodes owners root v.listings l (regrowth n p) place

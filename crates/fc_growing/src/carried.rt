@@ -147,7 +147,17 @@ fn draft_in(
 {
     map.is_map();
     let bytes = tree.node(target.node).unwrap().entry.len;
-    let planned = match plan_for(alloc, tree, places, map, owners, dir, len, bytes) {
+    let planned = match plan_for(
+        alloc,
+        tree,
+        places,
+        map,
+        owners,
+        dir,
+        Some(target.node),
+        len,
+        bytes,
+    ) {
         Ok(planned) => planned,
         Err(error) => return Err(error),
     };

@@ -7,6 +7,7 @@ mod extents;
 mod file;
 mod filing;
 mod finding;
+mod gone;
 mod growing;
 mod laws;
 mod leaving;

@@ -64,6 +64,7 @@ fn no_space(error: PlanError) -> CommandError
 }
 
 // The place of the directory of a node that grows to `len` bytes, with space for `bytes` bytes beside it, or why there is none.
+// `copied` is the file whose copy is to lie there, if one is copied.
 pub(crate) fn plan_for(
     alloc: Global,
     tree: &Tree,
@@ -71,18 +72,19 @@ pub(crate) fn plan_for(
     map: &NewMap,
     owners: &Owners,
     dir: u64,
+    copied: Option<u64>,
     len: u32,
     bytes: u32,
 ) -> Result<GrownPlace, CommandError>
     requires map { layout_of places.now ≡ Layout.New map.now }
     requires some { 0 < len }
     requires there { IsSome (get (nodes_of tree.now) dir) }
-    ensures planned { IfOk result (λ p. (node : Node) → get (nodes_of tree.now) dir ≡ Some node → IsGrowthPlanned map.now owners.now dir node.entry.address len bytes p) }
+    ensures planned { IfOk result (λ p. (node : Node) → get (nodes_of tree.now) dir ≡ Some node → IsGrowthPlanned map.now owners.now dir copied node.entry.address len bytes p) }
     ensures refused { (node : Node) → get (nodes_of tree.now) dir ≡ Some node
         → AnswersSpace result (short_of map.now bytes (is_alone_by owners.now dir node.entry.address) (if has_room_by map.now owners.now dir node.entry.address len then 0 else len)) }
 {
     let address = tree.node(dir).unwrap().entry.address;
-    match plan_growth(alloc, places, map, owners, dir, address, len, bytes) {
+    match plan_growth(alloc, places, map, owners, dir, copied, address, len, bytes) {
         Ok(place) => Ok(place),
         Err(error) => Err(no_space(error)),
     }
@@ -106,7 +108,17 @@ fn draft_in(
     ensures refused { (node : Node) → get (nodes_of tree.now) target.holder ≡ Some node
         → AnswersSpace result (short_of map.now 0 (is_alone_by owners.now target.holder node.entry.address) (if has_room_by map.now owners.now target.holder node.entry.address len then 0 else len)) }
 {
-    let place = match plan_for(alloc, tree, places, map, owners, target.holder, len, 0) {
+    let place = match plan_for(
+        alloc,
+        tree,
+        places,
+        map,
+        owners,
+        target.holder,
+        None,
+        len,
+        0,
+    ) {
         Ok(place) => place,
         Err(error) => return Err(error),
     };
@@ -165,7 +177,7 @@ fn draft_out(
     ensures refused { (node : Node) → get (nodes_of tree.now) dir ≡ Some node
         → AnswersSpace result (short_of map.now 0 (is_alone_by owners.now dir node.entry.address) (if has_room_by map.now owners.now dir node.entry.address len then 0 else len)) }
 {
-    let place = match plan_for(alloc, tree, places, map, owners, dir, len, 0) {
+    let place = match plan_for(alloc, tree, places, map, owners, dir, None, len, 0) {
         Ok(place) => place,
         Err(error) => return Err(error),
     };

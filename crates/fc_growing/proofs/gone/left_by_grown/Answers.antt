@@ -1,0 +1,1 @@
+use Rattle.fc_growing.proofs.gone.left_by_grown.Goals as goal
