@@ -1,5 +1,5 @@
 -- A directory that grows where it lies: it does so on the map that there is, and nothing else need change.
-use Rattle.std.proofs.Common.{◌≡◌, ◌<◌, ◌==◌, ◌&&◌, ◌||◌, inl, ℕ, Bool, true, cond, not, List, [], ◌∷◌, length, Some, None, refl, sym, ap, ap₂, subst, ◌∙◌, arith}
+use Rattle.std.proofs.Common.{◌≡◌, ◌<◌, ◌==◌, ◌&&◌, ◌||◌, inl, ℕ, Bool, true, cond, not, List, [], ◌∷◌, length, Some, None, refl, sym, ap, ap₂, subst, ◌∙◌, arith, Option}
 use Rattle.std.specs.Prelude.{filter}
 use Rattle.fc_newmap.specs.Map.{Map, ZoneRun, all_runs, hole_runs}
 use Rattle.fc_zone.specs.declared.RunKind.{RunKind}

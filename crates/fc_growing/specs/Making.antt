@@ -1,5 +1,5 @@
 -- A new directory in one that grows, ready in memory.
-use Rattle.std.specs.Prelude.{◌≡◌, ◌<◌, ◌*◌, ℕ, List, length, Some, IsFalse}
+use Rattle.std.specs.Prelude.{◌≡◌, ◌<◌, ◌*◌, ℕ, List, length, Some, IsFalse, None}
 use Rattle.std.specs.FinMap.{get, insert as put}
 use Rattle.fc_names.specs.declared.name.NameForm.TheVariants as forms
 use Rattle.fc_newmap.specs.Map.{Map}

@@ -1,5 +1,5 @@
 -- From the writes of a growth to the steps of a command by which a directory grows.
-use Rattle.std.specs.Prelude.{◌≡◌, ◌==◌, Bool, ℕ, List, [], length, if◌then◌else◌}
+use Rattle.std.specs.Prelude.{◌≡◌, ◌==◌, Bool, ℕ, List, [], length, if◌then◌else◌, Option}
 use Rattle.fc_newmap.specs.Map.{Map}
 use Rattle.fc_newmap.specs.NewMap.{IsNewMap}
 use Rattle.fc_copies.specs.Copies.{HoldsCopies}

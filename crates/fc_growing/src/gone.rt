@@ -4,7 +4,7 @@ ghost use Rattle.std.specs.Prelude.{◌≡◌};
 ghost use Rattle.std.specs.Option.{option_to_list};
 ghost use Rattle.std.specs.List.{find};
 ghost use Rattle.fc_alloc.specs.Owners.{is_node};
-ghost use Rattle.fc_growing.specs.Gone.{LeavesGrown, LeavesWith, has_third, left_with};
+ghost use Rattle.fc_growing.specs.Gone.{LeavesGrown, has_third, left_with};
 
 use fc_alloc::{Owner, Owners};
 use fc_placing::left_by;
@@ -27,8 +27,7 @@ fn owner_of(owners: &[Owner], node: u64) -> Option<Owner>
 
 // The identifier of a node's object, unless it is the map's, or a third owner has it.
 fn left_with(owners: &Owners, node: u64, file: u64) -> Option<u32>
-    ensures own { result ≡ left_with owners.now node file }
-    ensures exactly { LeavesWith owners.now node file (option_to_list result) }
+    ensures { result ≡ left_with owners.now node file }
 {
     let own = owner_of(owners.list(), node)?;
     let id = own.id;

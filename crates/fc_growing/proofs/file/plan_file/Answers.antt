@@ -1,4 +1,4 @@
-use Rattle.std.proofs.Common.{◌≡◌, ◌∙◌, ℕ, List, Option, ap, ap₂, subst, sym}
+use Rattle.std.proofs.Common.{◌≡◌, ◌∙◌, ℕ, List, Option, ap, ap₂, subst, sym, None}
 use Rattle.std.specs.Option.{option_map}
 use Rattle.fc_alloc.specs.declared.owner.Owner.{Owner}
 use Rattle.fc_plan.specs.declared.plan.Plan.{Plan}

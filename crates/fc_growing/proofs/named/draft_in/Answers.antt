@@ -1,4 +1,4 @@
-use Rattle.std.proofs.Common.{◌≡◌, ℕ, List, sym, ap, subst, ◌∙◌}
+use Rattle.std.proofs.Common.{◌≡◌, ℕ, List, sym, ap, subst, ◌∙◌, None}
 use Rattle.fc_model.specs.Tree.{last_name}
 use Rattle.fc_tree.specs.Nodes.{nodes_of}
 use Rattle.fc_growing.specs.declared.place.GrownPlace.{GrownPlace}
