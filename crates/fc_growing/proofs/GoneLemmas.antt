@@ -42,12 +42,12 @@ any_kept {X} q t (x ∷ xs) = by (t x) (any_kept q t xs)
 -- if none passes, none of those does
 pub none_kept : {X : Type 0} (q t : X → Bool) (xs : List X) → list_any q xs ≡ false → list_any q (filter t xs) ≡ false
 none_kept q t [] none = refl
-none_kept {X} q t (x ∷ xs) none = by (q x) (t x) refl none
+none_kept {X} q t (x ∷ xs) none = by (q x) (t x) refl none (none_kept q t xs)
   where
-    by : (c b : Bool) → q x ≡ c → (c || list_any q xs) ≡ false → list_any q (cond b (x ∷ filter t xs) (filter t xs)) ≡ false
-    by true b e h = absurd (cc)
-    by false true e h = ap (λ (c : Bool). c || list_any q (filter t xs)) e ∙ none_kept q t xs h
-    by false false e h = none_kept q t xs h
+    by : (c b : Bool) → q x ≡ c → (c || list_any q xs) ≡ false → (list_any q xs ≡ false → list_any q (filter t xs) ≡ false) → list_any q (cond b (x ∷ filter t xs) (filter t xs)) ≡ false
+    by true b e h more = absurd (cc)
+    by false true e h more = ap (λ (c : Bool). c || list_any q (filter t xs)) e ∙ more h
+    by false false e h more = more h
 
 -- ---- the numbers of objects
 

@@ -52,4 +52,4 @@ LeavesGrown owners node (Some file) gone = LeavesWith owners node file gone
 -- `left` are the objects that stay beside one: all others, but for the file that is copied, if one is. That shares its identifier.
 abbrev pub AreLeft : Map → Nodes → List Object → List Object → Option ℕ → List Object → Type 0
 AreLeft m nodes objects stay None left = left ≡ stay
-AreLeft m nodes objects stay (Some file) left = (f : Object) × ((number_of nodes f.path ≡ Some file) × (IsPermutation stay (f ∷ left) × (is_sharing (Layout.New m) objects f ≡ true)))
+AreLeft m nodes objects stay (Some file) left = (f : Object) × (number_of nodes f.path ≡ Some file) × IsPermutation stay (f ∷ left) × (is_sharing (Layout.New m) objects f ≡ true)
