@@ -127,7 +127,7 @@ module _ (m : Map) (nodes : Nodes) (listings : List Listing) (owners : List Owne
           (ne_eqb (as_owner p).node node (λ e. other_number m nodes listings o stay node sound held numbered order p at (number ∙ ap (λ (k : ℕ). let r : Option ℕ = Some k in r) e)))
           ∙ ap (λ (r : Option ℕ). not (option_map_or (λ n. n == file) r false) && is_owner_of id p) (sym number)
 
-  stays : ℕ → Bool
+  abbrev stays : ℕ → Bool
   stays id = (id == 2) || list_any (is_owner_of id) (but_node nodes file stay)
 
   gone_is : option_to_list (left_with owners node file) ≡ cond (has_sectors o) (option_to_list (cond (stays own_id) None (Some own_id))) []
