@@ -312,7 +312,7 @@ module _ (law : EntriesLaw) (kind : Kind) (m : Map) (nodes : Nodes) (owners : Li
   -- ---- what stays
 
   -- The file is one of the other objects; `left` are those beside it and the grown directory.
-  o_stays : Contains stay o
+  pub o_stays : Contains stay o
   o_stays =
       ⊎_elim (λ same. absurd (let clash : true ≡ false = sym (itself o.path) ∙ ap (λ (x : Object). is_same_path o.path x.path) (sym same) ∙ not_self in cc)) (λ later. later)
       (contains_cases l.object o stay (Contains-permutation (objects_of v.listings) (l.object ∷ stay) o (ready_of.others kind m nodes owners root v.listings l n bytes p grows_so)
@@ -394,7 +394,7 @@ module _ (law : EntriesLaw) (kind : Kind) (m : Map) (nodes : Nodes) (owners : Li
 
       inner : IsGrownInSteps m m' v.listings l.object content r.naming.growing.growth [] stored w.named
       inner =
-          steps_of m m' nodes owners v.listings l.object stay n bytes r.naming.growing.growth content [] stored w.named
+          steps_of m m' nodes owners v.listings l.object stay n (Some rn.target.node) bytes r.naming.growing.growth content [] stored w.named
           (ready_of.growth_is kind m nodes owners root v.listings l n bytes p grows_so) has.growth
           (record { is_map = has.is_map; says = whole_ready.bytes; long = whole_ready.length_is ∙ size_is })
           (is_root kind m nodes owners root v l n bytes p grows_so ∙ sym whole_ready.root) w.first

@@ -183,7 +183,7 @@ module _ (kind : Kind) (m : Map) (nodes : Nodes) (owners : List Owner) (root : N
 
       -- each write by itself
       pub inner : IsGrownInSteps m m' v.listings l.object content r.growth bytes was w.named
-      inner = steps_law m m' nodes owners v.listings l.object stay n own r.growth content bytes was w.named growth_is has.growth ready_for (root_is ∙ sym ready.root) w.first
+      inner = steps_law m m' nodes owners v.listings l.object stay n copied own r.growth content bytes was w.named growth_is has.growth ready_for (root_is ∙ sym ready.root) w.first
 
       inner_taken : inner.taken ≡ w.first.second.taken
       unfolding inner
