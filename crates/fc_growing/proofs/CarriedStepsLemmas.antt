@@ -334,7 +334,7 @@ module _ (law : EntriesLaw) (kind : Kind) (m : Map) (nodes : Nodes) (owners : Li
   module _ (m' : Map) (has : HasGrownSpace m m' p) where
     -- Exactly those identifiers go back that none owns any more.
     gives : (i : ℕ) → is_used m i ≡ true → is_one_of p.gone.items i ≡ (is_given_back (objects_of v.listings) (at_place place l.object ∷ left) i || is_left m (objects_of v.listings) l.object place i)
-    gives = grown.gives kind m nodes owners root v l n bytes whole grows_so m' has left (o, (aim.node_is, (rest, shares)))
+    gives = grown.gives kind m nodes owners root v l n bytes whole grows_so m' has left (o, aim.node_is, rest, shares)
 
     pub map_is : IsCarriedMap m m' (objects_of v.listings) stay left o (id_in p.object) (parts_in p.object) l.object place p.gone.items
     map_is =

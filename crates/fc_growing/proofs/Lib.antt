@@ -59,5 +59,4 @@ mod RenamingDoneLemmas
 mod CarriedAskedLemmas
 mod CarriedPlaceLemmas
 mod CarriedStepsLemmas
-mod CarriedGivesLemmas
 mod CarriedVolumeLemmas
