@@ -168,13 +168,13 @@ module _ (v : Volume) (m : Map) (layout : layout_of v.space ≡ Layout.New m) (i
     more : l.object.entry.len < len
     more = smaller l.object.entry.len len l.content l.object (gain_of path l) big (room.1 l.object)
 
-    pub to_grow : (p : GrownPlace) → IsGrowthPlanned m v.owners dir l.object.entry.address len 2048 p → IsToGrow agree.0 m (nodes_of v.tree) v.owners agreed.root agreed.listings l dir 2048 p
+    pub to_grow : (p : GrownPlace) → IsGrowthPlanned m v.owners dir None l.object.entry.address len 2048 p → IsToGrow agree.0 m (nodes_of v.tree) v.owners agreed.root agreed.listings l dir None 2048 p
     to_grow p planned = record {
       agree = on;
       form = form;
       listed = spot.listed;
       number = spot.holder_is;
-      planned = subst (λ (n : ℕ). IsGrowthPlanned m v.owners dir l.object.entry.address n 2048 p) (sym planned.len) planned;
+      planned = subst (λ (n : ℕ). IsGrowthPlanned m v.owners dir None l.object.entry.address n 2048 p) (sym planned.len) planned;
       longer = subst (λ (n : ℕ). l.object.entry.len < n) (sym planned.len) more;
     }
 

@@ -45,7 +45,7 @@ few m is bytes (Some plan) sectors h = plan_id m is bytes plan h.0
 
 -- It is ready by what was planned: `p` is the place, and `now` the file's node.
 pub ready_copied : (nodes : Nodes) (m : Map) (owners : List Owner) (t : Target) (dir : ℕ) (name : List ℕ) (len : ℕ) (r : Carried) (p q : GrownPlace) (address : ℕ) (now : Node) → get nodes t.node ≡ Some now → q ≡ p
-    → ((node : Node) → get nodes dir ≡ Some node → IsGrowthPlanned m owners dir node.entry.address len now.entry.len p) → address ≡ copy_address m p now.entry.len → now.entry.len < 2 ^ 32
+    → ((node : Node) → get nodes dir ≡ Some node → IsGrowthPlanned m owners dir (Some t.node) node.entry.address len now.entry.len p) → address ≡ copy_address m p now.entry.len → now.entry.len < 2 ^ 32
     → IsCopiedReady nodes m t dir name q address r → IsReadyCopied nodes m owners t dir name len r
 ready_copied nodes m owners t dir name len r p q address now there same planned at few_bytes ready =
     let file : ready.file ≡ now = same_some ready.file now (sym ready.file_there ∙ there) in
@@ -53,7 +53,7 @@ ready_copied nodes m owners t dir name len r p q address now there same planned 
     let p_is : p ≡ r.naming.growing.growth.place = sym same ∙ q_is in
     by file p_is (subst (λ (x : GrownPlace). IsCopiedReady nodes m t dir name x address r) q_is ready) (planned ready.node ready.there) ready.there file
   where
-    by : ready.file ≡ now → p ≡ r.naming.growing.growth.place → IsCopiedReady nodes m t dir name r.naming.growing.growth.place address r → IsGrowthPlanned m owners dir ready.node.entry.address len now.entry.len p
+    by : ready.file ≡ now → p ≡ r.naming.growing.growth.place → IsCopiedReady nodes m t dir name r.naming.growing.growth.place address r → IsGrowthPlanned m owners dir (Some t.node) ready.node.entry.address len now.entry.len p
         → get nodes dir ≡ Some ready.node → ready.file ≡ now → IsReadyCopied nodes m owners t dir name len r
     by file p_is again plans dir_there file' =
         let again_file : again.file ≡ now = same_some again.file now (sym again.file_there ∙ there) in
@@ -61,9 +61,9 @@ ready_copied nodes m owners t dir name len r p q address now there same planned 
         record {
           address = address;
           ready = again;
-          planned = subst (λ (x : Node). IsGrowthPlanned m owners dir x.entry.address len again.file.entry.len r.naming.growing.growth.place) (sym again_node)
-              (subst (λ (x : Node). IsGrowthPlanned m owners dir ready.node.entry.address len x.entry.len r.naming.growing.growth.place) (sym again_file)
-              (subst (λ (x : GrownPlace). IsGrowthPlanned m owners dir ready.node.entry.address len now.entry.len x) p_is plans));
+          planned = subst (λ (x : Node). IsGrowthPlanned m owners dir (Some t.node) x.entry.address len again.file.entry.len r.naming.growing.growth.place) (sym again_node)
+              (subst (λ (x : Node). IsGrowthPlanned m owners dir (Some t.node) ready.node.entry.address len x.entry.len r.naming.growing.growth.place) (sym again_file)
+              (subst (λ (x : GrownPlace). IsGrowthPlanned m owners dir (Some t.node) ready.node.entry.address len now.entry.len x) p_is plans));
           address_is = at ∙ ap (λ (x : GrownPlace). copy_address m x now.entry.len) p_is ∙ ap (λ (x : Node). copy_address m r.naming.growing.growth.place x.entry.len) (sym again_file);
           few = subst (λ (x : Node). x.entry.len < 2 ^ 32) (sym again_file) few_bytes;
         }

@@ -102,8 +102,8 @@ module _ (law : EntriesLaw) (kind : Kind) (m : Map) (nodes : Nodes) (owners : Li
 
   pub to_grow : (other : rn.holder ≡ rn.target.holder → ⊥) (renaming : (layout : Layout) (listings : List Listing) → AreSound layout listings → HoldObjects nodes listings → IsRenaming nodes listings from to rn)
       (room : IsRoomFor nodes rn (last_name to) (rooms.Grows len)) (bytes : ℕ) (p : GrownPlace)
-      → IsGrowthPlanned m owners n (across.l law kind m nodes owners root v agree from to rn len other renaming room).object.entry.address len bytes p
-      → IsToGrow kind m nodes owners root v.listings (across.l law kind m nodes owners root v agree from to rn len other renaming room) n bytes p
+      → IsGrowthPlanned m owners n (Some rn.target.node) (across.l law kind m nodes owners root v agree from to rn len other renaming room).object.entry.address len bytes p
+      → IsToGrow kind m nodes owners root v.listings (across.l law kind m nodes owners root v agree from to rn len other renaming room) n (Some rn.target.node) bytes p
   to_grow other renaming room bytes p planned =
       let l = across.l law kind m nodes owners root v agree from to rn len other renaming room in
       let spot = across.destination law kind m nodes owners root v agree from to rn len other renaming room in
@@ -112,7 +112,7 @@ module _ (law : EntriesLaw) (kind : Kind) (m : Map) (nodes : Nodes) (owners : Li
         form = across.form law kind m nodes owners root v agree from to rn len other renaming room;
         listed = spot.listed;
         number = spot.holder_is;
-        planned = subst (λ (i : ℕ). IsGrowthPlanned m owners n l.object.entry.address i bytes p) (sym planned.len) planned;
+        planned = subst (λ (i : ℕ). IsGrowthPlanned m owners n (Some rn.target.node) l.object.entry.address i bytes p) (sym planned.len) planned;
         longer = subst (λ (i : ℕ). l.object.entry.len < i) (sym planned.len) (across.longer law kind m nodes owners root v agree from to rn len other renaming room);
       }
 
@@ -165,8 +165,8 @@ module _ (law : EntriesLaw) (kind : Kind) (m : Map) (nodes : Nodes) (owners : Li
     was_content : ready.content ≡ dir.content
     was_content = rewrite.content_is nodes m v.listings is_sound agree.walked.held dir spot.listed n spot.holder_is ready.node ready.there ready.content ready.says
 
-    pub grows_so : IsToGrow kind m nodes owners root v.listings dir n bytes p
-    grows_so = to_grow is.other is.renaming is.room bytes p (subst (λ (e : Entry). IsGrowthPlanned m owners n e.address len bytes p) was_entry is.ready.planned)
+    pub grows_so : IsToGrow kind m nodes owners root v.listings dir n (Some rn.target.node) bytes p
+    grows_so = to_grow is.other is.renaming is.room bytes p (subst (λ (e : Entry). IsGrowthPlanned m owners n (Some rn.target.node) e.address len bytes p) was_entry is.ready.planned)
 
     pub grows : Grows kind m nodes owners root v.listings dir g place
     grows = ready_of.grows kind m nodes owners root v.listings dir n bytes p grows_so

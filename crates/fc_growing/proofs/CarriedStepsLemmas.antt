@@ -1,6 +1,6 @@
 -- A file that is copied into a directory that grows: from what is ready and written to what the command promises of the image and of the
 -- volume's parts.
-use Rattle.std.proofs.Common.{◌≡◌, ◌<◌, ◌≤◌, ◌*◌, ◌^◌, ◌⊎◌, inl, inr, ◌==◌, ◌||◌, ℕ, Bool, true, false, cond, not, List, [], ◌∷◌, ◌++◌, length, take, Option, Some, None, refl, sym, ap, ap₂, subst, ◌∙◌, arith, eq-eqb}
+use Rattle.std.proofs.Common.{◌≡◌, ◌<◌, ◌≤◌, ◌*◌, ◌^◌, ◌⊎◌, ⊎_elim, inl, inr, ◌==◌, ◌||◌, ℕ, Bool, true, false, cond, not, List, [], ◌∷◌, ◌++◌, length, take, Option, Some, None, refl, sym, ap, ap₂, subst, ◌∙◌, arith, eq-eqb}
 use Rattle.std.specs.Prelude.{Contains, IsPermutation, if◌then◌else◌, is_some}
 use Rattle.std.specs.List.{flat_map}
 use Rattle.std.specs.Option.{option_map_or, option_to_list}
@@ -26,7 +26,7 @@ use Rattle.fc_drafts.specs.Gains.{GetsName, HasRoom}
 use Rattle.fc_drafts.specs.Rewriting.{HasEntered}
 use Rattle.fc_device.specs.Sectors.{sector_at}
 use Rattle.fc_device.specs.declared.disk.Extent.{Extent}
-use Rattle.fc_image.specs.effects.Short.{Gain, Growth as GrowthTo, gain_of, growth_in, is_copied}
+use Rattle.fc_image.specs.effects.Short.{Gain, Growth as GrowthTo, gain_of, growth_in, is_copied, is_sharing}
 use Rattle.fc_image.specs.effects.Steady.{AreWritten, IsRewritten, is_given_back, is_renamed_by}
 use Rattle.fc_image.specs.Layout.{Layout, dir_form, hole_sectors, is_apart, sectors_at}
 use Rattle.fc_image.specs.Objects.{objects_of}
@@ -35,7 +35,7 @@ use Rattle.fc_image.specs.Stays.{HasSectorsOf, OpensAs}
 use Rattle.fc_image.specs.Walk.{Listing, Object, is_directory_object, object_bytes, object_size}
 use Rattle.fc_image.proofs.CommandLemmas.{is_prefix_of}
 use Rattle.fc_image.proofs.HolesLemmas.{Lies, apart_at, apart_from}
-use Rattle.fc_image.proofs.PathsLemmas.{unless}
+use Rattle.fc_image.proofs.PathsLemmas.{itself, unless}
 use Rattle.fc_changes.specs.Owed.{IsWritten}
 use Rattle.fc_changes.proofs.StepsLemmas.{writes_law}
 use Rattle.fc_laws.specs.agree.Agreed.{AgreeOn, CanSay}
@@ -62,7 +62,7 @@ use Rattle.fc_tree.specs.declared.node.Node.{Node}
 use Rattle.fc_tree.specs.Agree.{HasForm}
 use Rattle.fc_tree.specs.Laws.{EntriesLaw}
 use Rattle.fc_tree.specs.Nodes.{number_of}
-use Rattle.fc_tree.proofs.MemberLemmas.{contains_later}
+use Rattle.fc_tree.proofs.MemberLemmas.{contains_cases, contains_later}
 use Rattle.fc_tree.proofs.PlaceLemmas.{one_path}
 use Rattle.fc_tree.proofs.SoundLemmas.{folds_alike}
 use Rattle.fc_tree.proofs.WalkedLemmas.{listed_directory, same_some}
@@ -92,6 +92,7 @@ use Rattle.fc_growing.specs.Space.{HasGrownSpace}
 use Rattle.fc_growing.specs.Steps.{IsGrownInSteps}
 use Rattle.fc_growing.specs.Writing.{AreStoredIf}
 use Rattle.fc_growing.proofs.AroundLemmas.{Grows}
+use Rattle.fc_growing.proofs.AroundListingsLemmas.{one_first}
 use Rattle.fc_growing.proofs.AroundWrittenLemmas.{filled_as}
 use Rattle.fc_growing.proofs.GrowingLemmas as grown
 use Rattle.fc_growing.proofs.GrowthLemmas.{growth_law}
@@ -181,7 +182,7 @@ module _ (law : EntriesLaw) (kind : Kind) (m : Map) (nodes : Nodes) (owners : Li
   whole_ready =
       subst (λ (g : Growth). IsGrowingReady nodes m n content p [] (record { node = all.node; draft = all.draft; growth = g; around = all.around })) (sym is.ready.ready.apart.growth) is.ready.ready.growing
 
-  abbrev pub grows_so : ready_of.IsToGrow kind m nodes owners root v.listings l n bytes p
+  abbrev pub grows_so : ready_of.IsToGrow kind m nodes owners root v.listings l n (Some rn.target.node) bytes p
   grows_so = carried.grows_so law kind m nodes owners root v agree from to rn len r is
 
   abbrev pub stay : List Object
@@ -308,33 +309,47 @@ module _ (law : EntriesLaw) (kind : Kind) (m : Map) (nodes : Nodes) (owners : Li
       let hole = ready_of.object_holes kind m nodes owners root v.listings l n bytes p grows_so s j in
       let clash : true ≡ false = sym hole ∙ free in cc)))
 
-  -- Exactly those identifiers go back that none owns any more: `left` are the objects that stay beside the file and the grown directory.
-  pub record AreGivenBack : Type 0 where
-    pub left : List Object
-    pub rest : IsPermutation stay (o ∷ left)
-    pub gives : (i : ℕ) → is_used m i ≡ true → is_one_of p.gone.items i ≡ (is_given_back (objects_of v.listings) (at_place place l.object ∷ left) i || is_left m (objects_of v.listings) l.object place i)
+  -- ---- what stays
+
+  -- The file is one of the other objects; `left` are those beside it and the grown directory.
+  pub o_stays : Contains stay o
+  o_stays =
+      ⊎_elim (λ same. absurd (let clash : true ≡ false = sym (itself o.path) ∙ ap (λ (x : Object). is_same_path o.path x.path) (sym same) ∙ not_self in cc)) (λ later. later)
+      (contains_cases l.object o stay (Contains-permutation (objects_of v.listings) (l.object ∷ stay) o (ready_of.others kind m nodes owners root v.listings l n bytes p grows_so)
+      (carried.o_among law kind m nodes owners root v agree from to rn len r is)))
+
+  abbrev pub left : List Object
+  left = (one_first stay o o_stays).0
+
+  pub rest : IsPermutation stay (o ∷ left)
+  rest = (one_first stay o o_stays).1
+
+  shares : is_sharing (Layout.New m) (objects_of v.listings) o ≡ true
+  shares =
+      let seen : Opened = record { kind = v.kind; layout = Layout.New m; listings = v.listings } in
+      (copied_file seen from to o (carried.says_copied law kind m nodes owners root v agree from to rn len r is)).1
 
   -- ---- on the map that has its space
 
-  -- `left` are the objects that stay beside the file and the grown directory, and exactly those identifiers go back that none owns then.
-  module _ (m' : Map) (has : HasGrownSpace m m' p) (left : List Object) (rest : IsPermutation stay (o ∷ left))
-      (gives : (i : ℕ) → is_used m i ≡ true → is_one_of p.gone.items i ≡ (is_given_back (objects_of v.listings) (at_place place l.object ∷ left) i || is_left m (objects_of v.listings) l.object place i)) where
+  module _ (m' : Map) (has : HasGrownSpace m m' p) where
+    -- Exactly those identifiers go back that none owns any more.
+    gives : (i : ℕ) → is_used m i ≡ true → is_one_of p.gone.items i ≡ (is_given_back (objects_of v.listings) (at_place place l.object ∷ left) i || is_left m (objects_of v.listings) l.object place i)
+    gives = grown.gives kind m nodes owners root v l n bytes whole grows_so m' has left (o, aim.node_is, rest, shares)
+
     pub map_is : IsCarriedMap m m' (objects_of v.listings) stay left o (id_in p.object) (parts_in p.object) l.object place p.gone.items
     map_is =
-        let map = grown.grown_map kind m nodes owners root v l n bytes whole grows_so m' has in
-        let seen : Opened = record { kind = v.kind; layout = Layout.New m; listings = v.listings } in
         record {
-          is_map = map.is_map;
-          geometry = map.geometry;
-          form = map.form;
-          others = map.others;
+          is_map = has.is_map;
+          geometry = has.growth.geometry;
+          form = grows_so.form;
+          others = ready_of.others kind m nodes owners root v.listings l n bytes p grows_so;
           rest = rest;
-          shares = (copied_file seen from to o (carried.says_copied law kind m nodes owners root v agree from to rn len r is)).1;
+          shares = shares;
           lies = lies;
-          at = map.at;
-          space = map.space;
+          at = grown.grown_at kind m nodes owners root v l n bytes whole grows_so m' has;
+          space = has.space;
           gives = gives;
-          fresh = map.fresh;
+          fresh = grown.fresh kind m nodes owners root v l n bytes whole grows_so m' has;
         }
 
     module _ (up : ℕ) (above : number_of nodes (holder l.object.path) ≡ Some up) (own_nodes : HaveOwnNodes owners) where
@@ -346,14 +361,13 @@ module _ (law : EntriesLaw) (kind : Kind) (m : Map) (nodes : Nodes) (owners : Li
 
       carries_in : CarriesIn kind m m' nodes owners between root v.listings again' l place up n stay left o (id_in p.object) (parts_in p.object) p.gone.items
       carries_in =
-          let all_in = grown.grows_in kind m nodes owners root v l n bytes whole grows_so m' has content [] whole_ready big_form up above own_nodes in
           record {
-            agree = all_in.agree;
+            agree = grows_so.agree;
             map = map_is;
-            longer = all_in.longer;
+            longer = (let more = grows_so.longer in omega (arith, more));
             again_say = but.again_say kind m nodes owners root v l (regrowth n p) place gr all.around.items ar kn;
-            up_is = all_in.up_is;
-            regrown = all_in.regrown;
+            up_is = above;
+            regrown = grown.regrown_owners kind m nodes owners root v l n bytes whole grows_so m' has content [] whole_ready big_form up above own_nodes;
           }
 
       -- The parts agree afterwards.
@@ -380,7 +394,7 @@ module _ (law : EntriesLaw) (kind : Kind) (m : Map) (nodes : Nodes) (owners : Li
 
       inner : IsGrownInSteps m m' v.listings l.object content r.naming.growing.growth [] stored w.named
       inner =
-          steps_of m m' nodes owners v.listings l.object stay n bytes r.naming.growing.growth content [] stored w.named
+          steps_of m m' nodes owners v.listings l.object stay n (Some rn.target.node) bytes r.naming.growing.growth content [] stored w.named
           (ready_of.growth_is kind m nodes owners root v.listings l n bytes p grows_so) has.growth
           (record { is_map = has.is_map; says = whole_ready.bytes; long = whole_ready.length_is ∙ size_is })
           (is_root kind m nodes owners root v l n bytes p grows_so ∙ sym whole_ready.root) w.first
@@ -435,12 +449,11 @@ module _ (law : EntriesLaw) (kind : Kind) (m : Map) (nodes : Nodes) (owners : Li
 
       steps : IsGrowthInSteps stored inner.laid inner.taken w.named w.turned image' v m m' c l content place again again' left (id_in p.object) (parts_in p.object) p.gone.items
       steps =
-          let map = grown.grown_map kind m nodes owners root v l n bytes whole grows_so m' has in
           record {
             form = grows_so.form;
             growth = growth_is;
             lies = lies;
-            at = map.at;
+            at = grown.grown_at kind m nodes owners root v l n bytes whole grows_so m' has;
             says = carried.says law kind m nodes owners root v agree from to rn len r is (not_from l not_self);
             early = writes_law.then m [] _ stored inner.image inner.laid (copies_written m [] stored inner.image inner.repaired.frame)
                 (writes_law.then m [] _ inner.image inner.stored inner.laid (subst (λ (es : List Extent). IsWritten m (sectors_in es) inner.image inner.stored) whole_ready.object inner.first) inner.early);

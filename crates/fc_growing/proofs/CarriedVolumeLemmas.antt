@@ -172,7 +172,7 @@ module _ (w v : Volume) (same : w ≡ v) (maps : HasMap w) (from to : Path) (rn 
       abbrev bytes : ℕ
       bytes = (ready_v m layout).ready.file.entry.len
 
-      grows_so : ready_of.IsToGrow kind0 m nodes v.owners root0 view0.listings l0 n bytes r.naming.growing.growth.place
+      grows_so : ready_of.IsToGrow kind0 m nodes v.owners root0 view0.listings l0 n (Some rn.target.node) bytes r.naming.growing.growth.place
       grows_so = carried.grows_so entries_law kind0 m nodes v.owners root0 view0 on0 from to rn len r naming
 
       -- ---- before the writing
@@ -279,8 +279,7 @@ module _ (w v : Volume) (same : w ≡ v) (maps : HasMap w) (from to : Path) (rn 
 
       module _ {D : Type 0} (d : Ghosts D) (old new : D) (stands : StandsFor d v old) (v' : Volume) (named : HasNamed v v' r.naming) (m' : Map) (layout' : layout_of v'.space ≡ Layout.New m')
           (done : IsCarriedDone d m m' r old new) (own_nodes : HaveOwnNodes v.owners)
-          (exits : StopsAndExitsLeave d old new (IsWritten m (sectors_carried r)))
-          (given : (kind : Kind) (root : Node) (view : Opened) (a : AgreeOn kind m nodes v.owners root view.listings) → steps.AreGivenBack entries_law kind m nodes v.owners root view a from to rn len r naming) where
+          (exits : StopsAndExitsLeave d old new (IsWritten m (sectors_carried r))) where
         has_now : HasNow m m' nodes' (owners' m') v'
         has_now =
             let ready = (ready_v m layout).ready in
@@ -303,20 +302,20 @@ module _ (w v : Volume) (same : w ≡ v) (maps : HasMap w) (from to : Path) (rn 
               (carried.grows entries_law kind m nodes v.owners root view a from to rn len r naming) (ready_v m layout).ready.all.around.items
               (carried.around_all entries_law kind m nodes v.owners root view a from to rn len r naming) (ready_v m layout).ready.node (ready_v m layout).ready.there
 
-          owners_same : steps.owners' entries_law kind m nodes v.owners root view a from to rn len r naming m' done.grown (given kind root view a).left (given kind root view a).rest (given kind root view a).gives up node_facts.0 own_nodes ≡ owners' m'
+          owners_same : steps.owners' entries_law kind m nodes v.owners root view a from to rn len r naming m' done.grown up node_facts.0 own_nodes ≡ owners' m'
           owners_same = ap (λ (e : Entry). with_owner r.naming.owner (with_changed (entry_owner (Layout.New m') n up (regrown e r.naming.growing.growth.place.address r.naming.growing.growth.place.len)) v.owners)) (sym node_facts.1)
 
           pub agrees_now : Agree kind (record { layout = Layout.New m'; nodes = nodes'; owners = owners' m' })
           agrees_now =
               subst (λ (os : List Owner). Agree kind (record { layout = Layout.New m'; nodes = nodes'; owners = os })) owners_same
-              (steps.agrees entries_law kind m nodes v.owners root view a from to rn len r naming m' done.grown (given kind root view a).left (given kind root view a).rest (given kind root view a).gives up node_facts.0 own_nodes).agree
+              (steps.agrees entries_law kind m nodes v.owners root view a from to rn len r naming m' done.grown up node_facts.0 own_nodes).agree
 
         over : (kind : Kind) (view : Opened) (was image : List ℕ) → d.bytes old ≡ Some was → d.bytes new ≡ Some image → OpensAs was kind view → ArePartsOf (parts_of v) view
             → TakesOver kind was image view c m' nodes' (owners' m')
         over kind view was image told_was told opens held =
             let a = on_view v m layout (is_map m layout) agree kind was view opens held in
             subst (λ (os : List Owner). TakesOver kind was image view c m' nodes' os) (owners_same kind a.0 view a.1)
-            (steps.takes_over entries_law kind m nodes v.owners a.0 view a.1 from to rn len r naming m' done.grown (given kind a.0 view a.1).left (given kind a.0 view a.1).rest (given kind a.0 view a.1).gives was image (done.written was told_was image told) (sym held.layout ∙ layout) up
+            (steps.takes_over entries_law kind m nodes v.owners a.0 view a.1 from to rn len r naming m' done.grown was image (done.written was told_was image told) (sym held.layout ∙ layout) up
             (node_facts kind a.0 view a.1).0 own_nodes opens)
 
         pub has_changed : HasChanged d c (parts_of v) (parts_of v') old new

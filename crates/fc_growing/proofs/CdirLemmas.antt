@@ -160,7 +160,7 @@ module _ {D : Type 0} (d : Ghosts D) (old : D) (w v : Volume) (same : w ≡ v) (
       vacant = subst (λ (j : ℕ). IsVacantFor (nodes_of v.tree) path j) (sym node_is) vacant;
       free = free;
       ready = ready_at (nodes_of v.tree) m dir r.growing.node (last_name path) p r node_is made_v.ready;
-      planned = subst (λ (j : ℕ). IsGrowthPlanned m v.owners j made_v.ready.node.entry.address len 2048 p) (sym node_is) made_v.planned;
+      planned = subst (λ (j : ℕ). IsGrowthPlanned m v.owners j None made_v.ready.node.entry.address len 2048 p) (sym node_is) made_v.planned;
       grows = subst (λ (j : ℕ). HasRoomAt (nodes_of v.tree) j (last_name path) (rooms.Grows len)) (sym node_is) grows;
     }
 

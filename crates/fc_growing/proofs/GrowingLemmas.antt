@@ -49,6 +49,7 @@ use Rattle.fc_volume.specs.declared.changes.rewrite.Rewrite.{Rewrite}
 use Rattle.fc_volume.specs.Owners.{entry_owner}
 use Rattle.fc_growing.specs.declared.growing.Growing.{Growing}
 use Rattle.fc_growing.specs.declared.place.GrownPlace.{GrownPlace}
+use Rattle.fc_growing.specs.Gone.{AreLeft}
 use Rattle.fc_growing.specs.Growing.{IsGrowingReady, IsGrowingWritten, regrowth}
 use Rattle.fc_growing.specs.Place.{IsGrowthOf, new_place}
 use Rattle.fc_growing.specs.Space.{CanRoot, HasGrownSpace}
@@ -75,8 +76,8 @@ form_size len (Directory.Big dir) has = has
 form_size len (Directory.Small dir) has = absurd has
 
 -- The directory l of node r.node is to grow to the place that is planned for it.
-module _ (kind : Kind) (m : Map) (nodes : Nodes) (owners : List Owner) (root : Node) (v : Opened) (l : Listing) (n own : ℕ) (r : Growing)
-    (is : IsToGrow kind m nodes owners root v.listings l n own r.growth.place) where
+module _ (kind : Kind) (m : Map) (nodes : Nodes) (owners : List Owner) (root : Node) (v : Opened) (l : Listing) (n own : ℕ) (r : Growing) {copied : Option ℕ}
+    (is : IsToGrow kind m nodes owners root v.listings l n copied own r.growth.place) where
   abbrev pub p : GrownPlace
   p = r.growth.place
 
@@ -86,7 +87,7 @@ module _ (kind : Kind) (m : Map) (nodes : Nodes) (owners : List Owner) (root : N
   abbrev pub stay : List Object
   stay = ready_of.stay kind m nodes owners root v.listings l n own r.growth.place is
 
-  growth_is : IsGrowthOf m nodes owners v.listings l.object stay n own r.growth.place
+  growth_is : IsGrowthOf m nodes owners v.listings l.object stay n copied own r.growth.place
   growth_is = ready_of.growth_is kind m nodes owners root v.listings l n own r.growth.place is
 
   abbrev pub grows : Grows kind m nodes owners root v.listings l (regrowth n r.growth.place) place
@@ -105,12 +106,22 @@ module _ (kind : Kind) (m : Map) (nodes : Nodes) (owners : List Owner) (root : N
     grown_size = grown_size_is m nodes owners v.listings l.object stay n own r.growth.place growth_is m' has.growth
 
     -- which identifiers go back
-    pub gives : (k : ℕ) → is_used m k ≡ true → is_one_of r.growth.place.gone.items k
-        ≡ (is_given_back (objects_of v.listings) (at_place place l.object ∷ stay) k || is_left m (objects_of v.listings) l.object place k)
-    gives = growth_law.gives m m' nodes owners v.listings l.object stay n own r.growth.place growth_is has.growth
+    pub gives : (left : List Object) → AreLeft m nodes (objects_of v.listings) stay copied left → (k : ℕ) → is_used m k ≡ true → is_one_of r.growth.place.gone.items k
+        ≡ (is_given_back (objects_of v.listings) (at_place place l.object ∷ left) k || is_left m (objects_of v.listings) l.object place k)
+    gives left beside = growth_law.gives m m' nodes owners v.listings l.object stay left n own r.growth.place growth_is beside has.growth
 
-    pub grown_map : IsGrowthMap m m' (objects_of v.listings) stay (id_in r.growth.place.object) (parts_in r.growth.place.object) l.object place r.growth.place.gone.items
-    grown_map = record {
+    -- what is taken for the object was free
+    pub fresh : 0 < length (parts_in r.growth.place.object) → is_used m (id_in r.growth.place.object) ≡ false
+    fresh = by r.growth.place.object (ready_of.can_apply kind m nodes owners root v.listings l n own r.growth.place is).object_id
+      where
+        by : (q : Option Plan) → Rattle.std.specs.Prelude.IfSome q (λ plan. (is_used m plan.id ≡ false) × (is_one_of r.growth.place.gone.items plan.id ≡ false))
+            → 0 < length (parts_in q) → is_used m (id_in q) ≡ false
+        by None unused some = absurd (omega (arith, some))
+        by (Some plan) unused some = unused.0
+
+    -- if no file goes
+    pub grown_map : AreLeft m nodes (objects_of v.listings) stay copied stay → IsGrowthMap m m' (objects_of v.listings) stay (id_in r.growth.place.object) (parts_in r.growth.place.object) l.object place r.growth.place.gone.items
+    grown_map beside = record {
       is_map = has.is_map;
       geometry = has.growth.geometry;
       form = is.form;
@@ -121,14 +132,9 @@ module _ (kind : Kind) (m : Map) (nodes : Nodes) (owners : List Owner) (root : N
       lies = lies;
       at = grown_at;
       space = has.space;
-      gives = gives;
-      fresh = fresh r.growth.place.object (ready_of.can_apply kind m nodes owners root v.listings l n own r.growth.place is).object_id;
+      gives = gives stay beside;
+      fresh = fresh;
     }
-      where
-        fresh : (q : Option Plan) → Rattle.std.specs.Prelude.IfSome q (λ plan. (is_used m plan.id ≡ false) × (is_one_of r.growth.place.gone.items plan.id ≡ false))
-            → 0 < length (parts_in q) → is_used m (id_in q) ≡ false
-        fresh None unused some = absurd (omega (arith, some))
-        fresh (Some plan) unused some = unused.0
 
     -- its address is a number of 32 bits
     address_low : r.growth.place.address < 2 ^ 32
@@ -177,7 +183,7 @@ module _ (kind : Kind) (m : Map) (nodes : Nodes) (owners : List Owner) (root : N
 
       -- each write by itself
       pub inner : IsGrownInSteps m m' v.listings l.object content r.growth bytes was w.named
-      inner = steps_law m m' nodes owners v.listings l.object stay n own r.growth content bytes was w.named growth_is has.growth ready_for (root_is ∙ sym ready.root) w.first
+      inner = steps_law m m' nodes owners v.listings l.object stay n copied own r.growth content bytes was w.named growth_is has.growth ready_for (root_is ∙ sym ready.root) w.first
 
       inner_taken : inner.taken ≡ w.first.second.taken
       unfolding inner
@@ -248,10 +254,10 @@ module _ (kind : Kind) (m : Map) (nodes : Nodes) (owners : List Owner) (root : N
       pub regrown_owners : OwnersEdited owners between (owners_with (Layout.New m) up n l.object) (owners_with (Layout.New m') up n (at_place place l.object))
       regrown_owners = around_of.owners_edited kind m nodes owners root v l (regrowth n r.growth.place) place grows r.around.items ready.around up above own_nodes m' (grown_at m' has) size_some has_some
 
-      pub grows_in : GrowsIn kind m m' nodes owners between root v.listings again' l place up n stay (id_in r.growth.place.object) (parts_in r.growth.place.object) r.growth.place.gone.items
-      grows_in = record {
+      pub grows_in : AreLeft m nodes (objects_of v.listings) stay copied stay → GrowsIn kind m m' nodes owners between root v.listings again' l place up n stay (id_in r.growth.place.object) (parts_in r.growth.place.object) r.growth.place.gone.items
+      grows_in beside = record {
         agree = is.agree;
-        map = grown_map m' has;
+        map = grown_map m' has beside;
         longer = (let more = is.longer in omega (arith, more));
         again_say = around_of.again_say kind m nodes owners root v l (regrowth n r.growth.place) place grows r.around.items ready.around;
         up_is = above;

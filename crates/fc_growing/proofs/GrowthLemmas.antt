@@ -36,7 +36,7 @@ use Rattle.fc_plan.proofs.Plans.{cut_of_plan}
 use Rattle.fc_plan.proofs.Shorts.{are_new_ids}
 use Rattle.fc_plan.proofs.Units.{units_some}
 use Rattle.fc_slack.proofs.Shares.{some_sectors}
-use Rattle.fc_placing.specs.Leaving.{LeavesIds, LeavesUsed, OwnOnly, has_other}
+use Rattle.fc_placing.specs.Leaving.{has_other}
 use Rattle.fc_placing.specs.Places.{IsOwnPlan}
 use Rattle.fc_placing.proofs.LeavingLemmas.{others_are}
 use Rattle.fc_placing.proofs.PlacedLemmas.{place_law}
@@ -47,8 +47,10 @@ use Rattle.fc_growths.proofs.ObjectLemmas.{by_map}
 use Rattle.fc_growths.proofs.SpaceLemmas.{sectors_some}
 use Rattle.fc_grownlaws.specs.nodes.Space.{is_left}
 use Rattle.fc_growing.specs.declared.place.GrownPlace.{GrownPlace}
+use Rattle.fc_growing.specs.Gone.{AreLeft, LeavesGrown, but_node}
 use Rattle.fc_growing.specs.Place.{CanApply, GrowthLaw, HasGrowth, IsGrowthOf, IsIdFor, IsNewSpace, IsObjectSpace, AreGone, address_after, new_place, place_in}
 use Rattle.fc_growing.specs.Room.{has_room_by, is_alone_by}
+use Rattle.fc_growing.proofs.GoneLemmas.{given_same, given_two, none_kept, still}
 use Rattle.fc_growing.proofs.LeadsLemmas.{IsPlaceable, leads}
 use Rattle.fc_growing.proofs.PlaceLemmas.{in_part, left_free, left_zones, object_fronts, own_if}
 use Rattle.fc_growing.proofs.RoomLemmas.{alone_is, good, placed, room_is, row_of, zones}
@@ -105,8 +107,8 @@ object_at m m' plan bytes low p is object space has small =
 
 -- ---- the directory
 
-module _ (m : Map) (nodes : Nodes) (owners : List Owner) (listings : List Listing) (o : Object) (stay : List Object) (dir bytes : ℕ) (p : GrownPlace)
-    (grows : IsGrowthOf m nodes owners listings o stay dir bytes p) where
+module _ (m : Map) (nodes : Nodes) (owners : List Owner) (listings : List Listing) (o : Object) (stay : List Object) (dir bytes : ℕ) (p : GrownPlace) {copied : Option ℕ}
+    (grows : IsGrowthOf m nodes owners listings o stay dir copied bytes p) where
   abbrev objects : List Object
   objects = objects_of listings
 
@@ -257,7 +259,7 @@ module _ (m : Map) (nodes : Nodes) (owners : List Owner) (listings : List Listin
     lies_there = inl (record { room = room_same ∙ there.0; address = address_stays; nothing = ap parts_in dir_is })
 
     pub gone_none : p.gone.items ≡ []
-    gone_none = subst (λ (q : Option Plan). AreGone owners dir q p.gone.items) dir_is grows.planned.gone
+    gone_none = subst (λ (q : Option Plan). AreGone owners dir copied q p.gone.items) dir_is grows.planned.gone
 
     -- its own identifier isn't the object's
     not_object : (object : Option Plan) → IfSome object (IsOwnPlan m bytes) → IsOther own_id object
@@ -294,14 +296,14 @@ module _ (m : Map) (nodes : Nodes) (owners : List Owner) (listings : List Listin
 
   -- ---- what goes back
 
-  gone_some : (plan : Plan) → p.dir ≡ Some plan → LeavesIds owners dir None p.gone.items × LeavesUsed owners p.gone.items
-  gone_some plan e = subst (λ (q : Option Plan). AreGone owners dir q p.gone.items) e grows.planned.gone
+  gone_some : (plan : Plan) → p.dir ≡ Some plan → LeavesGrown owners dir copied p.gone.items
+  gone_some plan e = subst (λ (q : Option Plan). AreGone owners dir copied q p.gone.items) e grows.planned.gone
 
   others_of : (k : ℕ) → has_other owners dir k ≡ list_any (is_owner_of k) stay
   others_of k = others_are m nodes listings owners o stay dir grows.node.sound grows.node.held grows.node.owned grows.node.number grows.others k
 
   -- of a directory that was alone in its identifier, that one
-  module _ (e : alone ≡ true) (back : LeavesIds owners dir None p.gone.items) where
+  module _ (e : alone ≡ true) where
     tests : (not (own_id == 2) ≡ true) × (not (has_other owners dir own_id) ≡ true)
     tests = both (not (own_id == 2)) (not (has_other owners dir own_id)) (and_first (not (own_id == 2) && not (has_other owners dir own_id)) (nat_le (low_of o.entry.address) 1) e)
       where
@@ -320,9 +322,20 @@ module _ (m : Map) (nodes : Nodes) (owners : List Owner) (listings : List Listin
     no_other : list_any (is_owner_of own_id) stay ≡ false
     no_other = sym (others_of own_id) ∙ turned (has_other owners dir own_id) tests.1
 
-    own_leaves : (k : ℕ) → is_used m k ≡ true → is_one_of p.gone.items k ≡ (own_id == k)
-    own_leaves k used =
-        (back m nodes listings o stay [] grows.node.sound grows.node.held grows.node.owned grows.node.number grows.others (λ j u. refl)).exactly k used
+    own_leaves : (c : Option ℕ) → LeavesGrown owners dir c p.gone.items → (k : ℕ) → is_used m k ≡ true → is_one_of p.gone.items k ≡ (own_id == k)
+    own_leaves (Some file) back k used =
+        back m nodes listings o stay grows.node.sound grows.node.held grows.node.owned grows.node.number grows.others k
+        ∙ ap (λ (b : Bool). (b && (own_id == k)) && not (is_owned (but_node nodes file stay) k)) o_some
+        ∙ by (own_id == k) refl
+      where
+        by : (b : Bool) → (own_id == k) ≡ b → (b && not ((k == 2) || list_any (is_owner_of k) (but_node nodes file stay))) ≡ b
+        by true same =
+            let k_is : own_id ≡ k = eqb-true own_id k same in
+            ap₂ (λ (a b : Bool). not (a || b)) (ap (λ (j : ℕ). j == 2) (sym k_is) ∙ not_map)
+            (ap (λ (j : ℕ). list_any (is_owner_of j) (but_node nodes file stay)) (sym k_is) ∙ none_kept (is_owner_of own_id) _ stay no_other)
+        by false other = refl
+    own_leaves None back k used =
+        (back.0 m nodes listings o stay [] grows.node.sound grows.node.held grows.node.owned grows.node.number grows.others (λ j u. refl)).exactly k used
         ∙ ap (λ (b : Bool). b && not (is_owned stay k)) (owned_same objects (o ∷ stay) k grows.others)
         ∙ ap (λ (b : Bool). ((k == 2) || ((b && (own_id == k)) || list_any (is_owner_of k) stay)) && not (is_owned stay k)) o_some
         ∙ by (own_id == k) refl
@@ -363,15 +376,38 @@ module _ (m : Map) (nodes : Nodes) (owners : List Owner) (listings : List Listin
     grown_some =
         let s = a_sector m' p.address _ (sectors_in p.place.items) (subst (λ (n : ℕ). 0 < n) (sym (grown_size_is m' has)) grows.longer) grown_size (at m' has) in sectors_some (sectors_in p.place.items) s.0 s.1
 
-    -- with its old address it owns what it owned
-    same_owned : p.address ≡ o.entry.address → (k : ℕ) → is_given_back objects (grown ∷ stay) k ≡ false
-    same_owned address k = owned_there grown_some address k
+    -- With its old address it owns what it owned, and the file's identifier has another owner.
+    same_owned : p.address ≡ o.entry.address → (left : List Object) (c : Option ℕ) → AreLeft m nodes objects stay c left → (k : ℕ) → is_given_back objects (grown ∷ left) k ≡ false
+    same_owned address left None beside k = subst (λ (xs : List Object). is_given_back objects (grown ∷ xs) k ≡ false) (sym beside) (owned_there grown_some address k)
+    same_owned address left (Some file) (f, numbered, rest, shares) k =
+        sym (given_same grown f stay left rest
+        (ap₂ (λ (b : Bool) (a : ℕ). (id_of f.entry.address == 2) || ((b && (id_of a == id_of f.entry.address)) || list_any (is_owner_of (id_of f.entry.address)) left)) (grown_some ∙ sym o_some) address
+        ∙ still m nodes listings o f stay left file grows.node.sound grows.node.held grows.others rest numbered shares) objects k)
+        ∙ owned_there grown_some address k
 
-    pub gives : (k : ℕ) → is_used m k ≡ true → is_one_of p.gone.items k ≡ (is_given_back objects (grown ∷ stay) k || is_left m objects o place k)
-    gives k used = by p.dir refl grows.planned.dir
+    -- With a new identifier it owns none that was used.
+    owns_none : (plan : Plan) → Contains (new_ids m) plan.id → p.address ≡ 256 * plan.id → (j : ℕ) → is_used m j ≡ true → is_owner_of j grown ≡ false
+    owns_none plan new address j j_used =
+        ap (λ (i : ℕ). has_sectors grown && (i == j)) (ap id_of address ∙ (let q : id_of (256 * plan.id) ≡ plan.id = omega arith in q))
+        ∙ ap (λ (b : Bool). has_sectors grown && b) (ne_eqb plan.id j (λ same. clash (is_used m j) j_used (ap (is_used m) (sym same) ∙ Rattle.fc_growths.proofs.NewSpaceLemmas.new_id_unused m plan.id new)))
+        ∙ and_false (has_sectors grown)
+
+    given_new : (plan : Plan) → Contains (new_ids m) plan.id → p.address ≡ 256 * plan.id → (left : List Object) (c : Option ℕ) → AreLeft m nodes objects stay c left → LeavesGrown owners dir c p.gone.items
+        → (k : ℕ) → is_used m k ≡ true → is_one_of p.gone.items k ≡ is_given_back objects (grown ∷ left) k
+    given_new plan new address left None beside back k used =
+        (back.0 m nodes listings o stay (grown ∷ []) grows.node.sound grows.node.held grows.node.owned grows.node.number grows.others
+        (λ j j_used. or_false (is_owner_of j grown) ∙ owns_none plan new address j j_used)).exactly k used
+        ∙ ap (λ (xs : List Object). is_given_back objects (grown ∷ xs) k) (sym beside)
+    given_new plan new address left (Some file) (f, numbered, rest, shares) back k used =
+        back m nodes listings o stay grows.node.sound grows.node.held grows.node.owned grows.node.number grows.others k
+        ∙ sym (given_two m nodes listings o f stay left file grows.node.sound grows.node.held grows.others rest numbered shares k)
+        ∙ ap (λ (b : Bool). is_owned objects k && not ((k == 2) || (b || list_any (is_owner_of k) left))) (sym (owns_none plan new address k used))
+
+    pub gives : (left : List Object) → AreLeft m nodes objects stay copied left → (k : ℕ) → is_used m k ≡ true → is_one_of p.gone.items k ≡ (is_given_back objects (grown ∷ left) k || is_left m objects o place k)
+    gives left beside k used = by p.dir refl grows.planned.dir
       where
         back : Bool
-        back = is_given_back objects (grown ∷ stay) k
+        back = is_given_back objects (grown ∷ left) k
 
         left_as : (room was_alone : Bool) → has_room (Layout.New m) objects (o, p.len) ≡ room → is_alone objects o ≡ was_alone → is_left m objects o place k ≡ (not room && (was_alone && (own_id == k)))
         left_as room was_alone r a = ap₂ (λ (x y : Bool). not x && (y && (own_id == k))) r a
@@ -381,23 +417,16 @@ module _ (m : Map) (nodes : Nodes) (owners : List Owner) (listings : List Listin
         moved plan e s =
             by_alone plan e s
             (λ was id address.
-            own_leaves was (gone_some plan e).0 k used ∙ sym (ap₂ (λ (a b : Bool). a || b) (same_owned address k) (left_as false true (room_same ∙ s.no_room) (alone_same ∙ was))))
+            own_leaves was copied (gone_some plan e) k used ∙ sym (ap₂ (λ (a b : Bool). a || b) (same_owned address left copied beside k) (left_as false true (room_same ∙ s.no_room) (alone_same ∙ was))))
             (λ was new other address.
-            ((gone_some plan e).0 m nodes listings o stay (grown ∷ []) grows.node.sound grows.node.held grows.node.owned grows.node.number grows.others (only plan new address)).exactly k used
+            given_new plan new address left copied beside (gone_some plan e) k used
             ∙ sym (ap (λ (b : Bool). back || b) (left_as false false (room_same ∙ s.no_room) (alone_same ∙ was)) ∙ or_false back))
-          where
-            only : (plan : Plan) → Contains (new_ids m) plan.id → p.address ≡ 256 * plan.id → OwnOnly m None (grown ∷ [])
-            only plan new address j j_used =
-                or_false (is_owner_of j grown)
-                ∙ ap (λ (i : ℕ). has_sectors grown && (i == j)) (ap id_of address ∙ (let q : id_of (256 * plan.id) ≡ plan.id = omega arith in q))
-                ∙ ap (λ (b : Bool). has_sectors grown && b) (ne_eqb plan.id j (λ same. clash (is_used m j) j_used (ap (is_used m) (sym same) ∙ Rattle.fc_growths.proofs.NewSpaceLemmas.new_id_unused m plan.id new)))
-                ∙ and_false (has_sectors grown)
 
         by : (q : Option Plan) → p.dir ≡ q → Rattle.fc_growing.specs.Place.IsDirectorySpace m owners dir o.entry.address p.len p.object q (sectors_in p.place.items)
             → is_one_of p.gone.items k ≡ (back || is_left m objects o place k)
         by None e s =
             ap (λ (ids : List ℕ). is_one_of ids k) (gone_none e s)
-            ∙ sym (ap₂ (λ (a b : Bool). a || b) (same_owned (address_stays e s) k) (ap (λ (b : Bool). not b && (is_alone objects o && (own_id == k))) (room_same ∙ s.0)))
+            ∙ sym (ap₂ (λ (a b : Bool). a || b) (same_owned (address_stays e s) left copied beside k) (ap (λ (b : Bool). not b && (is_alone objects o && (own_id == k))) (room_same ∙ s.0)))
         by (Some plan) e s = moved plan e s
 
   -- ---- that the map can have it
@@ -433,9 +462,16 @@ module _ (m : Map) (nodes : Nodes) (owners : List Owner) (listings : List Listin
       object_can None own = tt
       object_can (Some plan) own = own.can
 
+      unused_stays : (c : Option ℕ) → LeavesGrown owners dir c p.gone.items → (k : ℕ) → is_used m k ≡ false → is_one_of p.gone.items k ≡ false
+      unused_stays None back k unused = back.1 m nodes listings k is grows.node.sound grows.node.owned unused
+      unused_stays (Some file) back k unused =
+          back m nodes listings o stay grows.node.sound grows.node.held grows.node.owned grows.node.number grows.others k
+          ∙ ap (λ (b : Bool). (has_sectors o && b) && not (is_owned (but_node nodes file stay) k)) (ne_eqb own_id k (λ same. clash (is_used m own_id) own_used (ap (is_used m) same ∙ unused)))
+          ∙ ap (λ (b : Bool). b && not (is_owned (but_node nodes file stay) k)) (and_false (has_sectors o))
+
       none_gone : (k : ℕ) → is_used m k ≡ false → (q : Option Plan) → p.dir ≡ q → is_one_of p.gone.items k ≡ false
-      none_gone k unused None e = ap (λ (ids : List ℕ). is_one_of ids k) (subst (λ (q : Option Plan). AreGone owners dir q p.gone.items) e grows.planned.gone)
-      none_gone k unused (Some plan) e = (gone_some plan e).1 m nodes listings k is grows.node.sound grows.node.owned unused
+      none_gone k unused None e = ap (λ (ids : List ℕ). is_one_of ids k) (subst (λ (q : Option Plan). AreGone owners dir copied q p.gone.items) e grows.planned.gone)
+      none_gone k unused (Some plan) e = unused_stays copied (gone_some plan e) k unused
 
       object_apart : (q : Option Plan) → IfSome q (IsOwnPlan m bytes) → IfSome q (λ plan. (is_used m plan.id ≡ false) × (is_one_of p.gone.items plan.id ≡ false))
       object_apart None own = tt
@@ -453,7 +489,7 @@ module _ (m : Map) (nodes : Nodes) (owners : List Owner) (listings : List Listin
       dir_used : (q : Option Plan) → p.dir ≡ q → Space q → IfSome q (λ plan. (is_used m plan.id ≡ false) ⊎ (is_one_of p.gone.items plan.id ≡ true))
       dir_used None e s = tt
       dir_used (Some plan) e s = by_alone plan e s
-          (λ was id address. inr (ap (λ (k : ℕ). is_one_of p.gone.items k) id ∙ own_leaves was (gone_some plan e).0 own_id own_used ∙ eq-eqb own_id own_id refl))
+          (λ was id address. inr (ap (λ (k : ℕ). is_one_of p.gone.items k) id ∙ own_leaves was copied (gone_some plan e) own_id own_used ∙ eq-eqb own_id own_id refl))
           (λ was new other address. inl (Rattle.fc_growths.proofs.NewSpaceLemmas.new_id_unused m plan.id new))
 
       both_apart : (q : Option Plan) → IfSome q (IsOwnPlan m bytes) → p.object ≡ q → IfSome q (λ plan. IsOther plan.id p.dir)
@@ -472,7 +508,7 @@ module _ (m : Map) (nodes : Nodes) (owners : List Owner) (listings : List Listin
 pub growth_law : GrowthLaw
 growth_law = record {
   lies = lies;
-  gives = λ m m' nodes owners listings o stay dir bytes p grows has. gives m nodes owners listings o stay dir bytes p grows m' has;
+  gives = λ m m' nodes owners listings o stay left dir bytes p grows beside has. gives m nodes owners listings o stay dir bytes p grows m' has left beside;
   can = can;
   at = λ m m' nodes owners listings o stay dir bytes p grows has. at m nodes owners listings o stay dir bytes p grows m' has;
   object_at = object_at;

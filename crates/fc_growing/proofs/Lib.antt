@@ -1,6 +1,7 @@
 mod RoomLemmas
 mod NeedsLemmas
 mod PlaceLemmas
+mod GoneLemmas
 mod LeadsLemmas
 mod GrowthLemmas
 mod SpaceLemmas
@@ -58,5 +59,4 @@ mod RenamingDoneLemmas
 mod CarriedAskedLemmas
 mod CarriedPlaceLemmas
 mod CarriedStepsLemmas
-mod CarriedGivesLemmas
 mod CarriedVolumeLemmas

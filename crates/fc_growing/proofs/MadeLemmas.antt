@@ -143,7 +143,7 @@ pub record IsReady (m : Map) (nodes : Nodes) (owners : List Owner) (path : Path)
   pub vacant : (layout : Layout) (listings : List Listing) → AreSound layout listings → HoldObjects nodes listings → IsVacant nodes listings path r.growing.node
   pub free : get nodes number ≡ None
   pub ready : IsGrownMakingReady nodes m r.growing.node (last_name path) r.growing.growth.place r
-  pub planned : IsGrowthPlanned m owners r.growing.node ready.node.entry.address len 2048 r.growing.growth.place
+  pub planned : IsGrowthPlanned m owners r.growing.node None ready.node.entry.address len 2048 r.growing.growth.place
   pub grows : HasRoomAt nodes r.growing.node (last_name path) (rooms.Grows len)
 
 module _ (m : Map) (nodes : Nodes) (owners : List Owner) (path : Path) (number len : ℕ) (r : GrownMaking) (is : IsReady m nodes owners path number len r) where
@@ -218,14 +218,14 @@ module _ (m : Map) (nodes : Nodes) (owners : List Owner) (path : Path) (number l
         ap (option_and_then growth_of) (gains (Layout.New m) nodes v.listings sound path dir spot (Command.Save path 0 0 []) 0 0 [] (inl refl) v refl) ∙ room.1 l.object
         ∙ ap (λ (n : ℕ). let g : Option Growth = Some (l.object, n) in g) (sym len_is)
 
-    pub to_grow : IsToGrow kind m nodes owners root v.listings l dir 2048 p
+    pub to_grow : IsToGrow kind m nodes owners root v.listings l dir None 2048 p
     to_grow = record {
       agree = a;
       form = is.form;
       listed = spot.listed;
       number = spot.holder_is;
-      planned = subst (λ (n : ℕ). IsGrowthPlanned m owners dir l.object.entry.address n 2048 p) (sym len_is)
-          (subst (λ (e : Entry). IsGrowthPlanned m owners dir e.address len 2048 p) entry_is is.planned);
+      planned = subst (λ (n : ℕ). IsGrowthPlanned m owners dir None l.object.entry.address n 2048 p) (sym len_is)
+          (subst (λ (e : Entry). IsGrowthPlanned m owners dir None e.address len 2048 p) entry_is is.planned);
       longer = subst (λ (n : ℕ). l.object.entry.len < n) (sym len_is) (smaller l.object.entry.len len l.content l.object (gain_of path l) big (room.1 l.object));
     }
 
@@ -370,7 +370,7 @@ module _ (m : Map) (nodes : Nodes) (owners : List Owner) (path : Path) (number l
         after =
             grown_directory_added_law kind m m' nodes nodes' owners between owners' root v.listings listings' again again' keep l content place (said_in r.growing.around.items) j d up dir number id parts
             (grown_of.stay kind m nodes owners root v l dir 2048 r.growing to_grow) p.gone.items
-            (grown_of.grows_in kind m nodes owners root v l dir 2048 r.growing to_grow m' has content p.object_place.items is.ready.growing form_now up above own_nodes)
+            (grown_of.grows_in kind m nodes owners root v l dir 2048 r.growing to_grow m' has content p.object_place.items is.ready.growing form_now up above own_nodes refl)
             edit (grown_of.can_say kind m nodes owners root v l dir 2048 r.growing to_grow m' has content p.object_place.items is.ready.growing form_now)
             (subst (CanSay (Layout.New m) o) (sym is.ready.new_says) (say_law.new (Layout.New m) o p.address (last_name path) new_len (subst IsSayable is.ready.new_says is.ready.new_sayable)))
             edited new_len lies new_space
@@ -400,12 +400,12 @@ module _ (m : Map) (nodes : Nodes) (owners : List Owner) (path : Path) (number l
               (grown_of.stay kind m nodes owners root v l dir 2048 r.growing to_grow) id parts p.gone.items
           made_steps = record {
             growing = record {
-              others = (grown_of.grown_map kind m nodes owners root v l dir 2048 r.growing to_grow m' has).others;
+              others = ready_of.others kind m nodes owners root v.listings l dir 2048 p to_grow;
               first = subst (λ (xs : List Extent). IsWritten m (sectors_in xs) inner.image inner.stored) is.ready.growing.object inner.first;
               steps = grown_of.in_steps kind m nodes owners root v l dir 2048 r.growing to_grow m' has content p.object_place.items is.ready.growing form_now [] r.bytes.items was image w
                   c (grown_of.stay kind m nodes owners root v l dir 2048 r.growing to_grow) w.turned at growth says (λ k among. none_renamed path k.object.path)
                   (grown_of.turned_stays kind m nodes owners root v l dir 2048 r.growing to_grow m' has content p.object_place.items is.ready.growing form_now [] r.bytes.items was image w)
-                  (grown_of.gives kind m nodes owners root v l dir 2048 r.growing to_grow m' has);
+                  (grown_of.gives kind m nodes owners root v l dir 2048 r.growing to_grow m' has (grown_of.stay kind m nodes owners root v l dir 2048 r.growing to_grow) refl);
               kept = around_of.kept kind m nodes owners root v l (regrowth dir p) place (ready_of.grows kind m nodes owners root v.listings l dir 2048 p to_grow) r.growing.around.items is.ready.growing.around
                   c growth at id parts (grown_of.lies kind m nodes owners root v l dir 2048 r.growing to_grow);
             };

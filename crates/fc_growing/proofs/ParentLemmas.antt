@@ -1,5 +1,5 @@
 -- The root among the directories that may grow, and the parent that a grown directory names.
-use Rattle.std.proofs.Common.{◌≡◌, inl, inr, ◌==◌, ℕ, Bool, false, cond, List, [], ◌∷◌, length, Some, refl, sym, ap, ◌∙◌, arith, eq-eqb}
+use Rattle.std.proofs.Common.{◌≡◌, inl, inr, ◌==◌, ℕ, Bool, false, cond, List, [], ◌∷◌, length, Some, refl, sym, ap, ◌∙◌, arith, eq-eqb, Option}
 use Rattle.std.specs.FinMap.{get}
 use Rattle.std.proofs.lemmas.Bool.{ne_eqb}
 use Rattle.fc_names.specs.Names.{Path, is_same_path}
@@ -31,7 +31,7 @@ use Rattle.fc_growing.proofs.ReadyLemmas.{IsToGrow}
 not_zero : (x : List ℕ) (path : Path) → (length (x ∷ path) == 0) ≡ false
 not_zero x path = ne_eqb (length (x ∷ path)) 0 (λ none. omega (arith, none))
 
-module _ (kind : Kind) (m : Map) (nodes : Nodes) (owners : List Owner) (root : Node) (v : Opened) (l : Listing) (n own : ℕ) (p : GrownPlace) (is : IsToGrow kind m nodes owners root v.listings l n own p) where
+module _ (kind : Kind) (m : Map) (nodes : Nodes) (owners : List Owner) (root : Node) (v : Opened) (l : Listing) (n own : ℕ) (p : GrownPlace) {copied : Option ℕ} (is : IsToGrow kind m nodes owners root v.listings l n copied own p) where
   sound : AreSound (Layout.New m) v.listings
   sound = ready_of.is_sound kind m nodes owners root v.listings l n own p is
 

@@ -105,17 +105,18 @@ big_range n e =
 
 -- ---- a directory that is to grow
 
--- Parts that agree, a directory l among them of node n, and how it is planned to grow, with `own` bytes of space for a new object.
-pub record IsToGrow (kind : Kind) (m : Map) (nodes : Nodes) (owners : List Owner) (root : Node) (listings : List Listing) (l : Listing) (n own : ℕ) (p : GrownPlace) : Type 0 where
+-- Parts that agree, a directory l among them of node n, and how it is planned to grow, with `own` bytes of space for a new object, or for
+-- a copy of the file of the node `copied`.
+pub record IsToGrow (kind : Kind) (m : Map) (nodes : Nodes) (owners : List Owner) (root : Node) (listings : List Listing) (l : Listing) (n : ℕ) (copied : Option ℕ) (own : ℕ) (p : GrownPlace) : Type 0 where
   pub agree : AgreeOn kind m nodes owners root listings
   pub form : dir_form (Layout.New m) ≡ forms.Long
   pub listed : Contains listings l
   pub number : number_of nodes l.object.path ≡ Some n
-  pub planned : IsGrowthPlanned m owners n l.object.entry.address p.len own p
+  pub planned : IsGrowthPlanned m owners n copied l.object.entry.address p.len own p
   pub longer : l.object.entry.len < p.len
 
-module _ (kind : Kind) (m : Map) (nodes : Nodes) (owners : List Owner) (root : Node) (listings : List Listing) (l : Listing) (n own : ℕ) (p : GrownPlace)
-    (is : IsToGrow kind m nodes owners root listings l n own p) where
+module _ (kind : Kind) (m : Map) (nodes : Nodes) (owners : List Owner) (root : Node) (listings : List Listing) (l : Listing) (n own : ℕ) (p : GrownPlace) {copied : Option ℕ}
+    (is : IsToGrow kind m nodes owners root listings l n copied own p) where
   abbrev pub place : NewPlace
   place = new_place p
 
@@ -143,7 +144,7 @@ module _ (kind : Kind) (m : Map) (nodes : Nodes) (owners : List Owner) (root : N
   pub some_now : 0 < p.len
   some_now = let more = is.longer in omega (arith, more)
 
-  pub growth_is : IsGrowthOf m nodes owners listings l.object stay n own p
+  pub growth_is : IsGrowthOf m nodes owners listings l.object stay n copied own p
   growth_is = record {
     node = record { is_map = is.agree.is_map; sound = is_sound; held = is.agree.walked.held; owned = is.agree.owned; there = top.0; number = is.number };
     form = is.form;

@@ -147,13 +147,13 @@ module _ (law : EntriesLaw) (kind : Kind) (m : Map) (nodes : Nodes) (owners : Li
     pub longer : l.object.entry.len < len
     longer = subst (λ (i : ℕ). i < len) (size_of_big (dir_form (Layout.New m)) l.object.entry.len big.dir formed) big.longer
 
-    pub to_grow : (p : GrownPlace) → IsGrowthPlanned m owners n l.object.entry.address len 0 p → IsToGrow kind m nodes owners root v.listings l n 0 p
+    pub to_grow : (p : GrownPlace) → IsGrowthPlanned m owners n None l.object.entry.address len 0 p → IsToGrow kind m nodes owners root v.listings l n None 0 p
     to_grow p planned = record {
       agree = agree;
       form = form;
       listed = destination.listed;
       number = destination.holder_is;
-      planned = subst (λ (i : ℕ). IsGrowthPlanned m owners n l.object.entry.address i 0 p) (sym planned.len) planned;
+      planned = subst (λ (i : ℕ). IsGrowthPlanned m owners n None l.object.entry.address i 0 p) (sym planned.len) planned;
       longer = subst (λ (i : ℕ). l.object.entry.len < i) (sym planned.len) longer;
     }
 
@@ -229,8 +229,8 @@ module _ (law : EntriesLaw) (kind : Kind) (m : Map) (nodes : Nodes) (owners : Li
     was_content : ready.content ≡ dir.content
     was_content = rewrite.content_is nodes m v.listings is_sound agree.walked.held dir spot.listed n spot.holder_is ready.node ready.there ready.content ready.says
 
-    pub grows_so : IsToGrow kind m nodes owners root v.listings dir n 0 p
-    grows_so = to_grow is.other is.renaming is.room p (subst (λ (e : Entry). IsGrowthPlanned m owners n e.address len 0 p) was_entry is.ready.planned)
+    pub grows_so : IsToGrow kind m nodes owners root v.listings dir n None 0 p
+    grows_so = to_grow is.other is.renaming is.room p (subst (λ (e : Entry). IsGrowthPlanned m owners n None e.address len 0 p) was_entry is.ready.planned)
 
     pub grows : Grows kind m nodes owners root v.listings dir g place
     grows = ready_of.grows kind m nodes owners root v.listings dir n 0 p grows_so

@@ -154,7 +154,7 @@ module _ (law : EntriesLaw) (kind : Kind) (m : Map) (nodes : Nodes) (owners : Li
   o_among : Contains (objects_of v.listings) o
   o_among = child_is_object (Layout.New m) v.listings is_sound l o known.target.listed (contained l.children rn.target.at o known.target.at)
 
-  can_name : (p : GrownPlace) → IsGrowthPlanned m owners n l.object.entry.address len 0 p → CanNameWithin nodes m rn.target (last_name to) p
+  can_name : (p : GrownPlace) → IsGrowthPlanned m owners n None l.object.entry.address len 0 p → CanNameWithin nodes m rn.target (last_name to) p
   can_name p planned =
       let grows = within.to_grow law kind m nodes owners root v agree from to rn len same renaming room p planned in
       record {

@@ -149,7 +149,7 @@ module _ (law : EntriesLaw) (kind : Kind) (m : Map) (nodes : Nodes) (owners : Li
   k_form : HasForm (dir_form (Layout.New m)) k.object.entry.len k.content
   k_form = agree.walked.forms k known.target.listed
 
-  can_name : (p : GrownPlace) → IsGrowthPlanned m owners n l.object.entry.address len 0 p → CanNameAcross nodes m rn.target n (last_name to) p
+  can_name : (p : GrownPlace) → IsGrowthPlanned m owners n None l.object.entry.address len 0 p → CanNameAcross nodes m rn.target n (last_name to) p
   can_name p planned =
       let grows = across.to_grow law kind m nodes owners top v agree from to rn len other renaming room p planned in
       record {

@@ -172,7 +172,7 @@ module _ (law : EntriesLaw) (kind : Kind) (m : Map) (nodes : Nodes) (owners : Li
   whole_ready =
       subst (λ (g : Growth). IsGrowingReady nodes m n content p [] (record { node = all.node; draft = all.draft; growth = g; around = all.around })) (sym is.ready.ready.apart.growth) is.ready.ready.growing
 
-  abbrev pub grows_so : ready_of.IsToGrow kind m nodes owners root v.listings l n 0 p
+  abbrev pub grows_so : ready_of.IsToGrow kind m nodes owners root v.listings l n None 0 p
   grows_so = across.grows_so law kind m nodes owners root v agree from to rn len r is
 
   abbrev pub stay : List Object
@@ -299,7 +299,7 @@ module _ (law : EntriesLaw) (kind : Kind) (m : Map) (nodes : Nodes) (owners : Li
 
       grows_in : GrowsIn kind m m' nodes owners between root v.listings again' l place up n stay (id_in p.object) (parts_in p.object) p.gone.items
       grows_in =
-          let all_in = grown.grows_in kind m nodes owners root v l n 0 whole grows_so m' has content [] whole_ready big_form up above own_nodes in
+          let all_in = grown.grows_in kind m nodes owners root v l n 0 whole grows_so m' has content [] whole_ready big_form up above own_nodes refl in
           record {
             agree = all_in.agree;
             map = all_in.map;
@@ -331,7 +331,7 @@ module _ (law : EntriesLaw) (kind : Kind) (m : Map) (nodes : Nodes) (owners : Li
     module _ (start image' : List ℕ) (w : IsGrowingWritten m m' r.growing r.others.items [] start image') (layout_is : v.layout ≡ Layout.New m) where
       inner : IsGrownInSteps m m' v.listings l.object content r.growing.growth [] start w.named
       inner =
-          steps_of m m' nodes owners v.listings l.object stay n 0 r.growing.growth content [] start w.named
+          steps_of m m' nodes owners v.listings l.object stay n None 0 r.growing.growth content [] start w.named
           (ready_of.growth_is kind m nodes owners root v.listings l n 0 p grows_so) has.growth
           (record { is_map = has.is_map; says = whole_ready.bytes; long = whole_ready.length_is ∙ size_is })
           (is_root kind m nodes owners root v l n 0 p grows_so ∙ sym whole_ready.root) w.first
@@ -394,7 +394,7 @@ module _ (law : EntriesLaw) (kind : Kind) (m : Map) (nodes : Nodes) (owners : Li
 
       steps : IsGrowthInSteps inner.image inner.laid inner.taken w.named w.turned image' v m m' c l content place again again' stay (id_in p.object) (parts_in p.object) p.gone.items
       steps =
-          let map = grown.grown_map kind m nodes owners root v l n 0 whole grows_so m' has in
+          let map = grown.grown_map kind m nodes owners root v l n 0 whole grows_so m' has refl in
           record {
             form = grows_so.form;
             growth = growth_is;
@@ -413,7 +413,7 @@ module _ (law : EntriesLaw) (kind : Kind) (m : Map) (nodes : Nodes) (owners : Li
             root = λ top. grown.root_place kind m nodes owners root v l n 0 whole grows_so m' has (big_length p.len content big_form whole_ready.sayable)
                 (whole_ready.can_root (sym (is_root kind m nodes owners root v l n 0 p grows_so) ∙ eq-eqb (length l.object.path) 0 top));
             space = has.space;
-            gives = growth_law.gives m m' nodes owners v.listings l.object stay n 0 p (ready_of.growth_is kind m nodes owners root v.listings l n 0 p grows_so) has.growth;
+            gives = growth_law.gives m m' nodes owners v.listings l.object stay stay n 0 p (ready_of.growth_is kind m nodes owners root v.listings l n 0 p grows_so) refl has.growth;
           }
 
       by_name : IsGrowingByName inner.image inner.laid inner.taken w.named w.turned image' v m m' from to l content place again again' keep o stay stay (id_in p.object) (parts_in p.object) p.gone.items

@@ -182,7 +182,7 @@ module _ (w v : Volume) (same : w ≡ v) (maps : HasMap w) (from to : Path) (rn 
       abbrev own : Option Rewrite
       own = (ready_v m layout).ready.own
 
-      grows_so : ready_of.IsToGrow kind0 m nodes v.owners root0 view0.listings l0 n 0 r.growing.growth.place
+      grows_so : ready_of.IsToGrow kind0 m nodes v.owners root0 view0.listings l0 n None 0 r.growing.growth.place
       grows_so = across.grows_so entries_law kind0 m nodes v.owners root0 view0 on0 from to rn len r naming
 
       -- ---- before the writing

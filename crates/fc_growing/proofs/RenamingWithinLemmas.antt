@@ -179,13 +179,13 @@ module _ (law : EntriesLaw) (kind : Kind) (m : Map) (nodes : Nodes) (owners : Li
     differ spelled =
         let kept = (room.within same o.entry (ap (λ (d : Directory). slice_get (entries_of d) t.at) content_is ∙ entry_at)).kept spelled in cc
 
-    pub to_grow : (p : GrownPlace) → IsGrowthPlanned m owners t.holder l.object.entry.address len 0 p → IsToGrow kind m nodes owners root v.listings l t.holder 0 p
+    pub to_grow : (p : GrownPlace) → IsGrowthPlanned m owners t.holder None l.object.entry.address len 0 p → IsToGrow kind m nodes owners root v.listings l t.holder None 0 p
     to_grow p planned = record {
       agree = agree;
       form = form;
       listed = target.listed;
       number = target.holder_is;
-      planned = subst (λ (n : ℕ). IsGrowthPlanned m owners t.holder l.object.entry.address n 0 p) (sym planned.len) planned;
+      planned = subst (λ (n : ℕ). IsGrowthPlanned m owners t.holder None l.object.entry.address n 0 p) (sym planned.len) planned;
       longer = subst (λ (n : ℕ). l.object.entry.len < n) (sym planned.len) longer;
     }
 
@@ -231,8 +231,8 @@ module _ (law : EntriesLaw) (kind : Kind) (m : Map) (nodes : Nodes) (owners : Li
     pub was_is : ready.was ≡ object.entry
     was_is = same_some ready.was object.entry (sym ready.at ∙ ap (λ (d : Directory). slice_get (entries_of d) t.at) was_content ∙ entry_at is.same is.renaming is.room)
 
-    pub grows_so : IsToGrow kind m nodes owners root v.listings dir t.holder 0 p
-    grows_so = to_grow is.same is.renaming is.room p (subst (λ (e : Entry). IsGrowthPlanned m owners t.holder e.address len 0 p) was_entry is.ready.planned)
+    pub grows_so : IsToGrow kind m nodes owners root v.listings dir t.holder None 0 p
+    grows_so = to_grow is.same is.renaming is.room p (subst (λ (e : Entry). IsGrowthPlanned m owners t.holder None e.address len 0 p) was_entry is.ready.planned)
 
     pub grows : Grows kind m nodes owners root v.listings dir g place
     grows = ready_of.grows kind m nodes owners root v.listings dir t.holder 0 p grows_so

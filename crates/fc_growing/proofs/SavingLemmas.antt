@@ -177,13 +177,13 @@ module _ (m : Map) (nodes : Nodes) (owners : List Owner) (path : Path) (n number
     pub planned : IsFilePlanned m owners n l.object.entry.address len words.len f
     planned = asked.planned_there kind m nodes owners root v.listings agree path n len is.content is.at is.room spot words.len f planned_at
 
-    pub to_grow : IsToGrow kind m nodes owners root v.listings l n own p
+    pub to_grow : IsToGrow kind m nodes owners root v.listings l n None own p
     to_grow = asked.to_grow kind m nodes owners root v.listings agree path n len is.content is.at is.room spot words.len f planned_at
 
     abbrev pub stay : List Object
     stay = ready_of.stay kind m nodes owners root v.listings l n own p to_grow
 
-    pub growth : IsGrowthOf m nodes owners v.listings l.object stay n own p
+    pub growth : IsGrowthOf m nodes owners v.listings l.object stay n None own p
     growth = ready_of.growth_is kind m nodes owners root v.listings l n own p to_grow
 
     abbrev pub grows : Grows kind m nodes owners root v.listings l (regrowth n p) place
@@ -347,7 +347,7 @@ module _ (m : Map) (nodes : Nodes) (owners : List Owner) (path : Path) (n number
       grows_in =
           subst (λ (e : Entry). GrowsIn kind m m' nodes owners (with_changed (entry_owner (Layout.New m') n up (regrown e p.address p.len)) owners) root v.listings again' l place up n stay (id_in p.object) (parts_in p.object)
           p.gone.items) (sym held_by.1)
-          (growing_of.grows_in kind m nodes owners root v l n own r.growing to_grow m' grown content is.drafted.ready.sectors is.drafted.ready.growing formed_now up held_by.0 own_nodes)
+          (growing_of.grows_in kind m nodes owners root v l n own r.growing to_grow m' grown content is.drafted.ready.sectors is.drafted.ready.growing formed_now up held_by.0 own_nodes refl)
 
       -- ---- the parts agree afterwards
 

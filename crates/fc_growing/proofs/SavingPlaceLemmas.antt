@@ -55,7 +55,7 @@ use Rattle.fc_growing.proofs.ReadyLemmas.{IsToGrow, hole_apart, hole_on_disc}
 
 -- What becomes of the map, said of the objects.
 pub growth_map : (m m' : Map) (nodes : Nodes) (owners : List Owner) (listings : List Listing) (o : Object) (stay : List Object) (dir bytes : ℕ) (p : GrownPlace)
-    → IsGrowthOf m nodes owners listings o stay dir bytes p → HasGrownSpace m m' p → IsGrowthMap m m' (objects_of listings) stay (id_in p.object) (parts_in p.object) o (new_place p) p.gone.items
+    → IsGrowthOf m nodes owners listings o stay dir None bytes p → HasGrownSpace m m' p → IsGrowthMap m m' (objects_of listings) stay (id_in p.object) (parts_in p.object) o (new_place p) p.gone.items
 growth_map m m' nodes owners listings o stay dir bytes p grows grown = record {
   is_map = grown.is_map;
   geometry = grown.growth.geometry;
@@ -67,7 +67,7 @@ growth_map m m' nodes owners listings o stay dir bytes p grows grown = record {
   lies = growth_law.lies m nodes owners listings o stay dir bytes p grows;
   at = growth_law.at m m' nodes owners listings o stay dir bytes p grows grown.growth;
   space = grown.space;
-  gives = growth_law.gives m m' nodes owners listings o stay dir bytes p grows grown.growth;
+  gives = growth_law.gives m m' nodes owners listings o stay stay dir bytes p grows refl grown.growth;
   fresh = free p.object (growth_law.can m nodes owners listings o stay dir bytes p grows).object_id;
 }
   where
@@ -91,7 +91,7 @@ no_bytes layout address bytes none = ap (λ (n : ℕ). sectors_at layout address
 -- ---- a file in its place
 
 module _ (kind : Kind) (m : Map) (nodes : Nodes) (owners : List Owner) (root : Node) (listings : List Listing) (l : Listing) (n len bytes : ℕ) (path : Path) (f : FilePlace)
-    (is : IsToGrow kind m nodes owners root listings l n (own_bytes (slack_left m owners n bytes) bytes) f.place) (number : number_of nodes path ≡ Some n)
+    (is : IsToGrow kind m nodes owners root listings l n None (own_bytes (slack_left m owners n bytes) bytes) f.place) (number : number_of nodes path ≡ Some n)
     (planned : IsFilePlanned m owners n l.object.entry.address len bytes f)
     (sectors : List ℕ) (lies : LiesIn (Layout.New m) f.share f.address bytes (sectors_in f.place.object_place.items) sectors) where
   abbrev own : ℕ
@@ -103,7 +103,7 @@ module _ (kind : Kind) (m : Map) (nodes : Nodes) (owners : List Owner) (root : N
   abbrev stay : List Object
   stay = ready_of.stay kind m nodes owners root listings l n own f.place is
 
-  abbrev pub growth : IsGrowthOf m nodes owners listings l.object stay n own f.place
+  abbrev pub growth : IsGrowthOf m nodes owners listings l.object stay n None own f.place
   growth = ready_of.growth_is kind m nodes owners root listings l n own f.place is
 
   -- a file there

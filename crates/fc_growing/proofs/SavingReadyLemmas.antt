@@ -111,13 +111,13 @@ module _ (kind : Kind) (m : Map) (nodes : Nodes) (owners : List Owner) (root : N
     pub len_is : f.place.len ≡ len
     len_is = planned.planned.len
 
-    pub to_grow : IsToGrow kind m nodes owners root listings l n own f.place
+    pub to_grow : IsToGrow kind m nodes owners root listings l n None own f.place
     to_grow = record {
       agree = agree;
       form = form;
       listed = spot.listed;
       number = spot.holder_is;
-      planned = subst (λ (k : ℕ). IsGrowthPlanned m owners n l.object.entry.address k own f.place) (sym len_is) planned_there.planned;
+      planned = subst (λ (k : ℕ). IsGrowthPlanned m owners n None l.object.entry.address k own f.place) (sym len_is) planned_there.planned;
       longer = subst (λ (e : Entry). e.len < f.place.len) (sym entry_is) (subst (λ (k : ℕ). at.node.entry.len < k) (sym len_is) longer);
     }
 

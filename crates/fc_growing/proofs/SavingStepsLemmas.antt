@@ -1,5 +1,5 @@
 -- `save` and `create` of a new file by which its directory grows: from what was written to what the command promises.
-use Rattle.std.proofs.Common.{◌≡◌, ◌<◌, ◌≤◌, ◌*◌, ◌&&◌, ℕ, Bool, true, false, List, [], ◌∷◌, ◌++◌, length, Some, refl, sym, ap, subst, ◌∙◌, arith}
+use Rattle.std.proofs.Common.{◌≡◌, ◌<◌, ◌≤◌, ◌*◌, ◌&&◌, ℕ, Bool, true, false, List, [], ◌∷◌, ◌++◌, length, Some, refl, sym, ap, subst, ◌∙◌, arith, None}
 use Rattle.fc_device.specs.declared.Extent.{Extent}
 use Rattle.fc_names.specs.Names.{Path, is_same_name, is_same_path}
 use Rattle.fc_record.specs.declared.Geometry.{Geometry}
@@ -99,7 +99,7 @@ module _ (m : Map) (nodes : Nodes) (owners : List Owner) (path : Path) (n number
   abbrev new_sectors : List ℕ
   new_sectors = sectors_in is.drafted.ready.sectors
 
-  abbrev grow : IsToGrow kind m nodes owners root v.listings l n own p
+  abbrev grow : IsToGrow kind m nodes owners root v.listings l n None own p
   grow = saved.to_grow m nodes owners path n number len words r is kind root v agree
 
   module _ (own_nodes : HaveOwnNodes owners) (m' : Map) (grown : HasGrownSpace m m' p) (c : Command) (bytes : List ℕ) (makes : MakesFile c path words.load words.exec bytes) (whole : length bytes ≡ words.len)
@@ -152,7 +152,8 @@ module _ (m : Map) (nodes : Nodes) (owners : List Owner) (path : Path) (n number
             (saved.stay m nodes owners path n number len words r is kind root v agree) w.turned layout growth_is says (λ k at. no_rename k)
             (growing_of.turned_stays kind m nodes owners root v l n own r.growing grow m' grown content is.drafted.ready.sectors is.drafted.ready.growing
             (saved.formed_now m nodes owners path n number len words r is kind root v agree) [] bytes was image w)
-            (growth_law.gives m m' nodes owners v.listings l.object (saved.stay m nodes owners path n number len words r is kind root v agree) n own p (saved.growth m nodes owners path n number len words r is kind root v agree) grown.growth);
+            (growth_law.gives m m' nodes owners v.listings l.object (saved.stay m nodes owners path n number len words r is kind root v agree) (saved.stay m nodes owners path n number len words r is kind root v agree) n own p
+            (saved.growth m nodes owners path n number len words r is kind root v agree) refl grown.growth);
         kept = around_of.kept kind m nodes owners root v l (regrowth n p) place (saved.grows m nodes owners path n number len words r is kind root v agree) r.growing.around.items
             (saved.around m nodes owners path n number len words r is kind root v agree) c growth_is layout (id_in p.object) (parts_in p.object)
             (growth_law.lies m nodes owners v.listings l.object (saved.stay m nodes owners path n number len words r is kind root v agree) n own p (saved.growth m nodes owners path n number len words r is kind root v agree));

@@ -26,8 +26,8 @@ use Rattle.fc_growing.proofs.GrowthLemmas.{at, grown_size_is, room_same}
 unwritten : (m : Map) (sectors image image' : List ℕ) → image' ≡ image → IsWritten m sectors image image'
 unwritten m sectors image image' same = subst (IsWritten m sectors image) (sym same) (record { length_stays = refl; writes = λ s out no_map. refl })
 
-module _ (m m' : Map) (nodes : Nodes) (owners : List Owner) (listings : List Listing) (o : Object) (stay : List Object) (dir own_bytes : ℕ) (g : Growth) (content : Directory) (new_bytes was named : List ℕ)
-    (grows : IsGrowthOf m nodes owners listings o stay dir own_bytes g.place) (has : HasGrowth m m' g.place) (ready : IsReadyFor m' g content) (root : (length o.path == 0) ≡ g.root)
+module _ (m m' : Map) (nodes : Nodes) (owners : List Owner) (listings : List Listing) (o : Object) (stay : List Object) (dir own_bytes : ℕ) (g : Growth) (content : Directory) (new_bytes was named : List ℕ) {copied : Option ℕ}
+    (grows : IsGrowthOf m nodes owners listings o stay dir copied own_bytes g.place) (has : HasGrowth m m' g.place) (ready : IsReadyFor m' g content) (root : (length o.path == 0) ≡ g.root)
     (w : IsGrownWritten m m' g new_bytes was named) where
   abbrev grown : Object
   grown = at_place (new_place g.place) o
@@ -104,13 +104,13 @@ module _ (m m' : Map) (nodes : Nodes) (owners : List Owner) (listings : List Lis
   }
 
 pub steps_law : GrownStepsLaw
-steps_law m m' nodes owners listings o stay dir own_bytes g content new_bytes was named grows has ready root w =
+steps_law m m' nodes owners listings o stay dir copied own_bytes g content new_bytes was named grows has ready root w =
     steps m m' nodes owners listings o stay dir own_bytes g content new_bytes was named grows has ready root w
 
 -- the map was committed when the writes say so
-pub taken_is : (m m' : Map) (nodes : Nodes) (owners : List Owner) (listings : List Listing) (o : Object) (stay : List Object) (dir own_bytes : ℕ) (g : Growth) (content : Directory) (new_bytes was named : List ℕ)
-    (grows : IsGrowthOf m nodes owners listings o stay dir own_bytes g.place) (has : HasGrowth m m' g.place) (ready : IsReadyFor m' g content) (root : (length o.path == 0) ≡ g.root)
+pub taken_is : (m m' : Map) (nodes : Nodes) (owners : List Owner) (listings : List Listing) (o : Object) (stay : List Object) (dir own_bytes : ℕ) (g : Growth) (content : Directory) (new_bytes was named : List ℕ) {copied : Option ℕ}
+    (grows : IsGrowthOf m nodes owners listings o stay dir copied own_bytes g.place) (has : HasGrowth m m' g.place) (ready : IsReadyFor m' g content) (root : (length o.path == 0) ≡ g.root)
     (w : IsGrownWritten m m' g new_bytes was named)
-    → (steps_law m m' nodes owners listings o stay dir own_bytes g content new_bytes was named grows has ready root w).taken ≡ w.second.taken
+    → (steps_law m m' nodes owners listings o stay dir copied own_bytes g content new_bytes was named grows has ready root w).taken ≡ w.second.taken
 unfolding steps_law steps
 taken_is m m' nodes owners listings o stay dir own_bytes g content new_bytes was named grows has ready root w = refl

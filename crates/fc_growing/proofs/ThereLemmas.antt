@@ -1,5 +1,5 @@
 -- A directory that grows where it lies: it does so on the map that there is, and nothing else need change.
-use Rattle.std.proofs.Common.{◌≡◌, ◌<◌, ◌==◌, ◌&&◌, ◌||◌, inl, ℕ, Bool, true, cond, not, List, [], ◌∷◌, length, Some, None, refl, sym, ap, ap₂, subst, ◌∙◌, arith}
+use Rattle.std.proofs.Common.{◌≡◌, ◌<◌, ◌==◌, ◌&&◌, ◌||◌, inl, ℕ, Bool, true, cond, not, List, [], ◌∷◌, length, Some, None, refl, sym, ap, ap₂, subst, ◌∙◌, arith, Option}
 use Rattle.std.specs.Prelude.{filter}
 use Rattle.fc_newmap.specs.Map.{Map, ZoneRun, all_runs, hole_runs}
 use Rattle.fc_zone.specs.declared.RunKind.{RunKind}
@@ -49,8 +49,8 @@ same_space m place none = record {
   others = λ k own dir. refl;
 }
 
-module _ (m : Map) (nodes : Nodes) (owners : List Owner) (listings : List Listing) (o : Object) (stay : List Object) (dir bytes : ℕ) (p : GrownPlace)
-    (grows : IsGrowthOf m nodes owners listings o stay dir bytes p) (dir_is : p.dir ≡ None)
+module _ (m : Map) (nodes : Nodes) (owners : List Owner) (listings : List Listing) (o : Object) (stay : List Object) (dir bytes : ℕ) (p : GrownPlace) {copied : Option ℕ}
+    (grows : IsGrowthOf m nodes owners listings o stay dir copied bytes p) (dir_is : p.dir ≡ None)
     (there : (has_room_by m owners dir o.entry.address p.len ≡ true) × (new_sectors m o.entry.address p.len ≡ Some (sectors_in p.place.items))) where
   abbrev place : NewPlace
   place = new_place p

@@ -62,7 +62,7 @@ pub record CanGrowCopied (nodes : Nodes) (m : Map) (owners : List Owner) (t : Ta
   pub there : get nodes dir ≡ Some node
   pub some : 0 < len
   pub copy : CanCopy nodes (Layout.New m) t.node
-  pub each : (p : GrownPlace) → IsGrowthPlanned m owners dir node.entry.address len copy.node.entry.len p → CanCopyGrown nodes m t dir name p
+  pub each : (p : GrownPlace) → IsGrowthPlanned m owners dir (Some t.node) node.entry.address len copy.node.entry.len p → CanCopyGrown nodes m t dir name p
 
 -- ---- what is ready
 
@@ -92,7 +92,7 @@ pub record IsCopiedReady (nodes : Nodes) (m : Map) (t : Target) (dir : ℕ) (nam
 pub record IsReadyCopied (nodes : Nodes) (m : Map) (owners : List Owner) (t : Target) (dir : ℕ) (name : List ℕ) (len : ℕ) (r : Carried) : Type 0 where
   pub address : ℕ
   pub ready : IsCopiedReady nodes m t dir name r.naming.growing.growth.place address r
-  pub planned : IsGrowthPlanned m owners dir ready.node.entry.address len ready.file.entry.len r.naming.growing.growth.place
+  pub planned : IsGrowthPlanned m owners dir (Some t.node) ready.node.entry.address len ready.file.entry.len r.naming.growing.growth.place
   pub address_is : address ≡ copy_address m r.naming.growing.growth.place ready.file.entry.len
   pub few : ready.file.entry.len < 2 ^ 32
 

@@ -45,7 +45,7 @@ plan_within Nowhere = None
 -- A file of so many bytes is to lie so in the directory of node `node`, which lies at the address `old` and is to have `len` bytes.
 pub record IsFilePlanned (m : Map) (owners : List Owner) (node old len bytes : ℕ) (f : FilePlace) : Type 0 where
   pub shared : option_map place_in f.share ≡ slack_left m owners node bytes
-  pub planned : IsGrowthPlanned m owners node old len (own_bytes (slack_left m owners node bytes) bytes) f.place
+  pub planned : IsGrowthPlanned m owners node None old len (own_bytes (slack_left m owners node bytes) bytes) f.place
   pub at : f.address ≡ address_in m (placing_in f.share f.place.object) bytes
 
 pub record FileLaw : Type 0 where

@@ -1,5 +1,6 @@
 pub mod Room
 pub mod Needs
+pub mod Gone
 pub mod Place
 pub mod Space
 pub mod Writing

@@ -1,5 +1,5 @@
 -- A new directory in one that grows, ready in memory.
-use Rattle.std.specs.Prelude.{◌≡◌, ◌<◌, ◌*◌, ℕ, List, length, Some, IsFalse}
+use Rattle.std.specs.Prelude.{◌≡◌, ◌<◌, ◌*◌, ℕ, List, length, Some, IsFalse, None}
 use Rattle.std.specs.FinMap.{get, insert as put}
 use Rattle.fc_names.specs.declared.name.NameForm.TheVariants as forms
 use Rattle.fc_newmap.specs.Map.{Map}
@@ -64,7 +64,7 @@ pub record IsGrownMakingReady (nodes : Nodes) (m : Map) (n : ℕ) (name : List �
 -- The same where a path leads, if the directory of node n grows to so many bytes, by what was planned for it.
 pub record IsCdirReady (nodes : Nodes) (m : Map) (owners : List Owner) (n : ℕ) (name : List ℕ) (len : ℕ) (r : GrownMaking) : Type 0 where
   pub ready : IsGrownMakingReady nodes m n name r.growing.growth.place r
-  pub planned : IsGrowthPlanned m owners n ready.node.entry.address len 2048 r.growing.growth.place
+  pub planned : IsGrowthPlanned m owners n None ready.node.entry.address len 2048 r.growing.growth.place
 
 -- However it is planned, the directory of node n can grow to so many bytes by a new directory of this name.
 pub record CanGrowBy (nodes : Nodes) (m : Map) (owners : List Owner) (n : ℕ) (name : List ℕ) (len : ℕ) : Type 0 where
@@ -73,7 +73,7 @@ pub record CanGrowBy (nodes : Nodes) (m : Map) (owners : List Owner) (n : ℕ) (
   pub there : get nodes n ≡ Some node
   pub says : node.body ≡ body_in content
   pub some : 0 < len
-  pub each : (p : GrownPlace) → IsGrowthPlanned m owners n node.entry.address len 2048 p → CanMakeGrown nodes m n name node content p
+  pub each : (p : GrownPlace) → IsGrowthPlanned m owners n None node.entry.address len 2048 p → CanMakeGrown nodes m n name node content p
 
 -- The directory of node n, which the path names as the holder, has this room for the last name.
 abbrev pub HasRoomAt : Nodes → ℕ → List ℕ → Room → Type 0

@@ -121,23 +121,23 @@ pub record CanGrowWithin (nodes : Nodes) (m : Map) (owners : List Owner) (t : Ta
   pub node : Node
   pub there : get nodes t.holder ≡ Some node
   pub some : 0 < len
-  pub each : (p : GrownPlace) → IsGrowthPlanned m owners t.holder node.entry.address len 0 p → CanNameWithin nodes m t name p
+  pub each : (p : GrownPlace) → IsGrowthPlanned m owners t.holder None node.entry.address len 0 p → CanNameWithin nodes m t name p
 
 -- So can the directory of node `dir`, by the target's entry under this name.
 pub record CanGrowAcross (nodes : Nodes) (m : Map) (owners : List Owner) (t : Target) (dir : ℕ) (name : List ℕ) (len : ℕ) : Type 0 where
   pub node : Node
   pub there : get nodes dir ≡ Some node
   pub some : 0 < len
-  pub each : (p : GrownPlace) → IsGrowthPlanned m owners dir node.entry.address len 0 p → CanNameAcross nodes m t dir name p
+  pub each : (p : GrownPlace) → IsGrowthPlanned m owners dir None node.entry.address len 0 p → CanNameAcross nodes m t dir name p
 
 -- It is ready so.
 pub record IsReadyWithin (nodes : Nodes) (m : Map) (owners : List Owner) (t : Target) (name : List ℕ) (len : ℕ) (r : Naming) : Type 0 where
   pub ready : IsNamedWithin nodes m t name r.growing.growth.place r
-  pub planned : IsGrowthPlanned m owners t.holder ready.node.entry.address len 0 r.growing.growth.place
+  pub planned : IsGrowthPlanned m owners t.holder None ready.node.entry.address len 0 r.growing.growth.place
 
 pub record IsReadyAcross (nodes : Nodes) (m : Map) (owners : List Owner) (t : Target) (dir : ℕ) (name : List ℕ) (len : ℕ) (r : Naming) : Type 0 where
   pub ready : IsNamedAcross nodes m owners t dir name r.growing.growth.place r
-  pub planned : IsGrowthPlanned m owners dir ready.node.entry.address len 0 r.growing.growth.place
+  pub planned : IsGrowthPlanned m owners dir None ready.node.entry.address len 0 r.growing.growth.place
 
 -- ---- the volume
 

@@ -21,12 +21,12 @@ use Rattle.fc_plan.specs.Giving.{is_one_of}
 use Rattle.fc_plan.specs.Parts.{fronts}
 use Rattle.fc_plan.specs.Supply.{Stock}
 use Rattle.fc_placing.specs.Extents.{parts_met}
-use Rattle.fc_placing.specs.Leaving.{LeavesIds, LeavesUsed}
 use Rattle.fc_placing.specs.Places.{IsOwnPlan}
 use Rattle.fc_growths.specs.Grown.{IsGrownAt, NewPlace, at_place}
 use Rattle.fc_growths.specs.Maps.{HasParts}
 use Rattle.fc_grownlaws.specs.nodes.Space.{is_left}
 use Rattle.fc_growing.specs.declared.place.GrownPlace.{GrownPlace}
+use Rattle.fc_growing.specs.Gone.{AreLeft, LeavesGrown}
 use Rattle.fc_growing.specs.Room.{IsNodeOf, has_room_by, is_alone_by}
 
 -- ---- sectors of plans
@@ -91,18 +91,20 @@ address_after alone address None = address
 address_after true address (Some plan) = address
 address_after false address (Some plan) = 256 * plan.id
 
--- These identifiers go back: none, if it grows where it lies, else those that go back if the directory goes.
-abbrev pub AreGone : List Owner → ℕ → Option Plan → List ℕ → Type 0
-AreGone owners dir None gone = gone ≡ []
-AreGone owners dir (Some plan) gone = LeavesIds owners dir None gone × LeavesUsed owners gone
+-- These identifiers go back: none, if it grows where it lies, else those that go back if the directory goes, and the file that is
+-- copied beside it, if one is.
+abbrev pub AreGone : List Owner → ℕ → Option ℕ → Option Plan → List ℕ → Type 0
+AreGone owners dir copied None gone = gone ≡ []
+AreGone owners dir copied (Some plan) gone = LeavesGrown owners dir copied gone
 
--- The directory of this node, which lies at the address `old`, is to have `bytes` bytes, and an object `own_bytes` of its own.
-pub record IsGrowthPlanned (m : Map) (owners : List Owner) (node old bytes own_bytes : ℕ) (p : GrownPlace) : Type 0 where
+-- The directory of this node, which lies at the address `old`, is to have `bytes` bytes, and an object `own_bytes` of its own. That may
+-- be a copy of the file of the node `copied`, which goes.
+pub record IsGrowthPlanned (m : Map) (owners : List Owner) (node : ℕ) (copied : Option ℕ) (old bytes own_bytes : ℕ) (p : GrownPlace) : Type 0 where
   pub object : IsObjectSpace m own_bytes p.object (sectors_in p.object_place.items)
   pub dir : IsDirectorySpace m owners node old bytes p.object p.dir (sectors_in p.place.items)
   pub address : p.address ≡ address_after (is_alone_by owners node old) old p.dir
   pub len : p.len ≡ bytes
-  pub gone : AreGone owners node p.dir p.gone.items
+  pub gone : AreGone owners node copied p.dir p.gone.items
 
 -- ---- what it is good for
 
@@ -121,14 +123,14 @@ pub record CanApply (m : Map) (first second : Option Plan) (gone : List ℕ) : T
   pub dir_parts : IfSome second HasParts
 
 -- The directory o of these listings, with `stay` as the other objects, is to grow so.
-pub record IsGrowthOf (m : Map) (nodes : Nodes) (owners : List Owner) (listings : List Listing) (o : Object) (stay : List Object) (dir bytes : ℕ) (p : GrownPlace) : Type 0 where
+pub record IsGrowthOf (m : Map) (nodes : Nodes) (owners : List Owner) (listings : List Listing) (o : Object) (stay : List Object) (dir : ℕ) (copied : Option ℕ) (bytes : ℕ) (p : GrownPlace) : Type 0 where
   pub node : IsNodeOf m nodes owners listings o dir
   pub form : dir_form (Layout.New m) ≡ forms.Long
   pub directory : is_directory_object o ≡ true
   pub others : IsPermutation (objects_of listings) (o ∷ stay)
   pub some : 0 < o.entry.len
   pub longer : 0 < p.len
-  pub planned : IsGrowthPlanned m owners dir o.entry.address p.len bytes p
+  pub planned : IsGrowthPlanned m owners dir copied o.entry.address p.len bytes p
 
 -- The map has both plans' parts as runs, and not the runs that go back.
 pub record HasGrowth (m m' : Map) (p : GrownPlace) : Type 0 where
@@ -138,16 +140,17 @@ pub record HasGrowth (m m' : Map) (p : GrownPlace) : Type 0 where
   pub others : (id : ℕ) → IsOther id p.object → IsOther id p.dir → id_runs m' id ≡ unless_gone p.gone.items id (id_runs m id)
 
 pub record GrowthLaw : Type 0 where
-  pub lies : (m : Map) (nodes : Nodes) (owners : List Owner) (listings : List Listing) (o : Object) (stay : List Object) (dir bytes : ℕ) (p : GrownPlace)
-      → IsGrowthOf m nodes owners listings o stay dir bytes p → IsGrownAt m (objects_of listings) (id_in p.object) (parts_in p.object) o (new_place p)
-  pub gives : (m m' : Map) (nodes : Nodes) (owners : List Owner) (listings : List Listing) (o : Object) (stay : List Object) (dir bytes : ℕ) (p : GrownPlace)
-      → IsGrowthOf m nodes owners listings o stay dir bytes p → HasGrowth m m' p → (k : ℕ) → is_used m k ≡ true
-      → is_one_of p.gone.items k ≡ (is_given_back (objects_of listings) (at_place (new_place p) o ∷ stay) k || is_left m (objects_of listings) o (new_place p) k)
-  pub can : (m : Map) (nodes : Nodes) (owners : List Owner) (listings : List Listing) (o : Object) (stay : List Object) (dir bytes : ℕ) (p : GrownPlace)
-      → IsGrowthOf m nodes owners listings o stay dir bytes p → CanApply m p.object p.dir p.gone.items
+  pub lies : (m : Map) (nodes : Nodes) (owners : List Owner) (listings : List Listing) (o : Object) (stay : List Object) (dir bytes : ℕ) (p : GrownPlace) {copied : Option ℕ}
+      → IsGrowthOf m nodes owners listings o stay dir copied bytes p → IsGrownAt m (objects_of listings) (id_in p.object) (parts_in p.object) o (new_place p)
+  -- Exactly those identifiers go back that none of the objects owns afterwards, and the one that the directory has left.
+  pub gives : (m m' : Map) (nodes : Nodes) (owners : List Owner) (listings : List Listing) (o : Object) (stay left : List Object) (dir bytes : ℕ) (p : GrownPlace) {copied : Option ℕ}
+      → IsGrowthOf m nodes owners listings o stay dir copied bytes p → AreLeft m nodes (objects_of listings) stay copied left → HasGrowth m m' p → (k : ℕ) → is_used m k ≡ true
+      → is_one_of p.gone.items k ≡ (is_given_back (objects_of listings) (at_place (new_place p) o ∷ left) k || is_left m (objects_of listings) o (new_place p) k)
+  pub can : (m : Map) (nodes : Nodes) (owners : List Owner) (listings : List Listing) (o : Object) (stay : List Object) (dir bytes : ℕ) (p : GrownPlace) {copied : Option ℕ}
+      → IsGrowthOf m nodes owners listings o stay dir copied bytes p → CanApply m p.object p.dir p.gone.items
   -- where both lie on a map that has them
-  pub at : (m m' : Map) (nodes : Nodes) (owners : List Owner) (listings : List Listing) (o : Object) (stay : List Object) (dir bytes : ℕ) (p : GrownPlace)
-      → IsGrowthOf m nodes owners listings o stay dir bytes p → HasGrowth m m' p → IsAt (Layout.New m') (at_place (new_place p) o)
+  pub at : (m m' : Map) (nodes : Nodes) (owners : List Owner) (listings : List Listing) (o : Object) (stay : List Object) (dir bytes : ℕ) (p : GrownPlace) {copied : Option ℕ}
+      → IsGrowthOf m nodes owners listings o stay dir copied bytes p → HasGrowth m m' p → IsAt (Layout.New m') (at_place (new_place p) o)
   pub object_at : (m m' : Map) (plan : Plan) (bytes low : ℕ) (p : GrownPlace) → IsNewMap m → p.object ≡ Some plan → IsObjectSpace m bytes p.object (sectors_in p.object_place.items)
       → HasGrowth m m' p → low < 2 → sectors_at (Layout.New m') (256 * plan.id + low) bytes ≡ Some (sectors_in p.object_place.items)
   -- what is new lies in holes

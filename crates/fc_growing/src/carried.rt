@@ -147,7 +147,17 @@ fn draft_in(
 {
     map.is_map();
     let bytes = tree.node(target.node).unwrap().entry.len;
-    let planned = match plan_for(alloc, tree, places, map, owners, dir, len, bytes) {
+    let planned = match plan_for(
+        alloc,
+        tree,
+        places,
+        map,
+        owners,
+        dir,
+        Some(target.node),
+        len,
+        bytes,
+    ) {
         Ok(planned) => planned,
         Err(error) => return Err(error),
     };
@@ -297,6 +307,50 @@ fn write_carried<D: Disk>(
 {
     match copy_file(volume, disk, &change) {
         Ok(()) => write_name(volume, disk, change.naming),
+        Err(error) => Err(error),
+    }
+}
+
+// Moves a file, which is copied, to another directory, which grows by it to `len` bytes.
+pub(crate) fn grow_copied<D: Disk>(
+    volume: &mut Volume,
+    alloc: Global,
+    disk: &mut D,
+    from: &Path,
+    to: &Path,
+    renaming: Renaming,
+    len: u32,
+) -> Result<(), CommandError>
+    requires attached { IsTrue (D.attached disk.old) }
+    requires settled { IsFalse (D.pending disk.old) }
+    requires fit { IsTrue volume.old.fit }
+    requires stands { StandsFor D.Disk volume.old disk.old }
+    requires new_map { IsNewLayout (parts_of volume.old).layout }
+    requires judged { IsJudged volume.old from.now to.now renaming }
+    requires across { renaming.holder ≡ renaming.target.holder → ⊥ }
+    requires copied { SaysCopied volume.old.owners renaming.target.node renaming.holder true }
+    requires grows { IsRoomFor (nodes_of volume.old.tree) renaming (last_name to.now) (rooms.Grows len) }
+    ensures refused { AnswersOver volume.old (Command.Rename from.now to.now) result }
+    ensures changed { OnOk result (HasChanged D.Disk (Command.Rename from.now to.now) (parts_of volume.old) (parts_of volume.new) disk.old disk.new) }
+    ensures places { WritesOnlyPlaces D.Disk (Command.Rename from.now to.now) (parts_of volume.old) disk.old disk.new }
+    ensures keeps { ChangeKeeps D.Disk disk.old disk.new volume.old volume.new result }
+    ensures form_stays { UnlessFault result (dir_form (parts_of volume.new).layout ≡ dir_form (parts_of volume.old).layout) }
+{
+    is_new_map(&volume.places);
+    fc_laws::takeover::places();
+    volume.places.places_suffice();
+    let _ = volume.owners.list();
+    match draft_copied(
+        alloc,
+        &volume.tree,
+        &volume.places,
+        &volume.owners,
+        renaming.target,
+        renaming.holder,
+        to,
+        len,
+    ) {
+        Ok(change) => write_carried(volume, disk, change),
         Err(error) => Err(error),
     }
 }

@@ -103,7 +103,7 @@ pub fn plan_file(
     map.is_map();
     let share = slack(alloc, map, owners.list(), dir, u64::from(bytes))?;
     let own = own_bytes(&share, bytes);
-    let planned = plan_growth(alloc, places, map, owners, dir, address, len, own)?;
+    let planned = plan_growth(alloc, places, map, owners, dir, None, address, len, own)?;
     let (at, object) = address_with(map, share, planned.object, bytes);
     let place = GrownPlace { object, ..planned };
     Ok(FilePlace {

@@ -7,6 +7,7 @@ mod extents;
 mod file;
 mod filing;
 mod finding;
+mod gone;
 mod growing;
 mod laws;
 mod leaving;
@@ -32,6 +33,7 @@ pub use growing::{
 pub use laws::grown_steps;
 pub use leaving::{address_grown, prepare_leaving, without};
 pub use made::cdir;
+pub use named::rename;
 pub use naming::{Naming, prepare_moved, prepare_named, take_over_name};
 pub use needs::{check_space, refusals};
 pub use place::{GrownPlace, growths, plan_growth};

@@ -100,7 +100,7 @@ fn draft_in(
         return Err(CommandError::NoMemory);
     };
     let address = node.entry.address;
-    let place = match plan_growth(alloc, places, map, owners, dir, address, len, 2048) {
+    let place = match plan_growth(alloc, places, map, owners, dir, None, address, len, 2048) {
         Ok(place) => place,
         Err(error) => return Err(no_space(error)),
     };

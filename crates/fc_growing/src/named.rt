@@ -31,6 +31,7 @@ ghost use Rattle.fc_growing.specs.Renaming.{IsJudged, IsRoomFor};
 ghost use Rattle.fc_growing.specs.Room.{has_room_by, is_alone_by};
 ghost use Rattle.fc_growing.specs.Writing.{CanWriteGrowth};
 
+use crate::carried::grow_copied;
 use crate::growing::{is_new_map, write_growing};
 use crate::naming::{Naming, prepare_moved, prepare_named, take_over_name};
 use crate::place::{GrownPlace, plan_growth};
@@ -40,6 +41,7 @@ use fc_device::{Disk, NoMemory};
 use fc_drafts::Room;
 use fc_names::{Path, Refusal};
 use fc_newmap::NewMap;
+use fc_placing::is_copied;
 use fc_plan::PlanError;
 use fc_refusals::{Renaming, Target};
 use fc_space::{Places, Space};
@@ -62,6 +64,7 @@ fn no_space(error: PlanError) -> CommandError
 }
 
 // The place of the directory of a node that grows to `len` bytes, with space for `bytes` bytes beside it, or why there is none.
+// `copied` is the file whose copy is to lie there, if one is copied.
 pub(crate) fn plan_for(
     alloc: Global,
     tree: &Tree,
@@ -69,18 +72,19 @@ pub(crate) fn plan_for(
     map: &NewMap,
     owners: &Owners,
     dir: u64,
+    copied: Option<u64>,
     len: u32,
     bytes: u32,
 ) -> Result<GrownPlace, CommandError>
     requires map { layout_of places.now ≡ Layout.New map.now }
     requires some { 0 < len }
     requires there { IsSome (get (nodes_of tree.now) dir) }
-    ensures planned { IfOk result (λ p. (node : Node) → get (nodes_of tree.now) dir ≡ Some node → IsGrowthPlanned map.now owners.now dir node.entry.address len bytes p) }
+    ensures planned { IfOk result (λ p. (node : Node) → get (nodes_of tree.now) dir ≡ Some node → IsGrowthPlanned map.now owners.now dir copied node.entry.address len bytes p) }
     ensures refused { (node : Node) → get (nodes_of tree.now) dir ≡ Some node
         → AnswersSpace result (short_of map.now bytes (is_alone_by owners.now dir node.entry.address) (if has_room_by map.now owners.now dir node.entry.address len then 0 else len)) }
 {
     let address = tree.node(dir).unwrap().entry.address;
-    match plan_growth(alloc, places, map, owners, dir, address, len, bytes) {
+    match plan_growth(alloc, places, map, owners, dir, copied, address, len, bytes) {
         Ok(place) => Ok(place),
         Err(error) => Err(no_space(error)),
     }
@@ -104,7 +108,17 @@ fn draft_in(
     ensures refused { (node : Node) → get (nodes_of tree.now) target.holder ≡ Some node
         → AnswersSpace result (short_of map.now 0 (is_alone_by owners.now target.holder node.entry.address) (if has_room_by map.now owners.now target.holder node.entry.address len then 0 else len)) }
 {
-    let place = match plan_for(alloc, tree, places, map, owners, target.holder, len, 0) {
+    let place = match plan_for(
+        alloc,
+        tree,
+        places,
+        map,
+        owners,
+        target.holder,
+        None,
+        len,
+        0,
+    ) {
         Ok(place) => place,
         Err(error) => return Err(error),
     };
@@ -163,7 +177,7 @@ fn draft_out(
     ensures refused { (node : Node) → get (nodes_of tree.now) dir ≡ Some node
         → AnswersSpace result (short_of map.now 0 (is_alone_by owners.now dir node.entry.address) (if has_room_by map.now owners.now dir node.entry.address len then 0 else len)) }
 {
-    let place = match plan_for(alloc, tree, places, map, owners, dir, len, 0) {
+    let place = match plan_for(alloc, tree, places, map, owners, dir, None, len, 0) {
         Ok(place) => place,
         Err(error) => return Err(error),
     };
@@ -331,9 +345,15 @@ fn grow_across<D: Disk>(
     }
 }
 
-// Gives an object another name, another directory, or both. The directory that gets the name may grow, unless a file has to be
-// copied into it.
-fn rename_but_copied<D: Disk>(
+/// Gives an object another name, another directory, or both. The disc has a new map, and nothing is pending. Copies of the map
+/// that may differ are made equal first. A file that moves to another directory and shares its identifier with another object is
+/// copied into holes then, and the map is written with its space. Next comes the directory that gets the entry; if it has to grow,
+/// it is written to its new place, and then those around it whose entries or heads name its place. Last come the object's own, if
+/// it is a directory, and the directory that loses the entry. No other sector is written.
+///
+/// Refused with the first reason that applies, and then nothing has changed; `NoMemory` leaves all as it was, too.
+/// `DiskFault` only if the disk's count of faults rose; the volume is unfit afterwards.
+pub fn rename<D: Disk>(
     volume: &mut Volume,
     alloc: Global,
     disk: &mut D,
@@ -345,8 +365,6 @@ fn rename_but_copied<D: Disk>(
     requires fit { IsTrue volume.old.fit }
     requires stands { StandsFor D.Disk volume.old disk.old }
     requires new_map { IsNewLayout (parts_of volume.old).layout }
-    requires uncopied { (renaming : Renaming) → IsJudged volume.old from.now to.now renaming → (len : ℕ) → IsRoomFor (nodes_of volume.old.tree) renaming (last_name to.now) (rooms.Grows len)
-        → SaysCopied volume.old.owners renaming.target.node renaming.holder false }
     ensures refused { AnswersOver volume.old (Command.Rename from.now to.now) result }
     ensures changed { OnOk result (HasChanged D.Disk (Command.Rename from.now to.now) (parts_of volume.old) (parts_of volume.new) disk.old disk.new) }
     ensures places { WritesOnlyPlaces D.Disk (Command.Rename from.now to.now) (parts_of volume.old) disk.old disk.new }
@@ -368,6 +386,9 @@ fn rename_but_copied<D: Disk>(
         Room::Grows(len) => {
             if renaming.holder == renaming.target.holder {
                 return grow_within(volume, alloc, disk, from, to, renaming, len);
+            }
+            if is_copied(&volume.owners, renaming.target.node, renaming.holder) {
+                return grow_copied(volume, alloc, disk, from, to, renaming, len);
             }
             grow_across(volume, alloc, disk, from, to, renaming, len)
         }

@@ -1,6 +1,6 @@
 // Where a directory that grows is to lie, and what is taken beside it for a new object.
 
-ghost use Rattle.std.specs.Prelude.{◌≡◌, ◌<◌, ◌^◌, ℕ, List, Some, None, IfOk, IfSome, false, true, if◌then◌else◌};
+ghost use Rattle.std.specs.Prelude.{◌≡◌, ◌<◌, ◌^◌, ℕ, List, Option, Some, None, IfOk, IfSome, false, true, if◌then◌else◌};
 ghost use Rattle.std.specs.Option.{option_to_list};
 ghost use Rattle.fc_alloc.specs.declared.owner.Owner.{Owner};
 ghost use Rattle.fc_image.specs.Layout.{Layout, new_sectors};
@@ -12,12 +12,13 @@ ghost use Rattle.fc_growing.specs.Place.{GrowthLaw, IsDirectoryPlan, IsGrowthPla
 ghost use Rattle.fc_growing.specs.Room.{has_room_by, is_alone_by};
 
 use crate::extents::extents_in;
+use crate::gone::left_by_grown;
 use crate::needs::check_space;
 use crate::room::{is_alone, room_for};
 use fc_alloc::Owners;
 use fc_device::{Extent, NoMemory};
 use fc_newmap::NewMap;
-use fc_placing::{directory_address, left_by};
+use fc_placing::directory_address;
 use fc_plan::{Plan, PlanError, Supply};
 use fc_space::Places;
 use std::alloc::Global;
@@ -133,8 +134,8 @@ fn grow_there(
     place: Vec<Extent>,
     bytes: u32,
 ) -> Result<GrownPlace, NoMemory>
-    ensures { IfOk result (λ p. (owners : List Owner) (dir : ℕ) → has_room_by map.now owners dir address len ≡ true
-        → new_sectors map.now address len ≡ Some (sectors_in place.items) → IsGrowthPlanned map.now owners dir address len bytes p) }
+    ensures { IfOk result (λ p. (owners : List Owner) (dir : ℕ) (copied : Option ℕ) → has_room_by map.now owners dir address len ≡ true
+        → new_sectors map.now address len ≡ Some (sectors_in place.items) → IsGrowthPlanned map.now owners dir copied address len bytes p) }
 {
     map.is_map();
     let mut supply = Supply::new(alloc, map)?;
@@ -151,19 +152,20 @@ fn grow_there(
     })
 }
 
-// The object gets space if it needs some, and then the directory. There is enough of it.
+// The object gets space if it needs some, and then the directory. There is enough of it. The file that is copied goes.
 fn grow_into(
     alloc: Global,
     map: &NewMap,
     owners: &Owners,
     dir: u64,
+    copied: Option<u64>,
     address: u32,
     len: u32,
     bytes: u32,
 ) -> Result<GrownPlace, NoMemory>
     requires some { 0 < len }
     requires no_room { has_room_by map.now owners.now dir address len ≡ false }
-    ensures { IfOk result (IsGrowthPlanned map.now owners.now dir address len bytes) }
+    ensures { IfOk result (IsGrowthPlanned map.now owners.now dir copied address len bytes) }
 {
     map.is_map();
     let alone = is_alone(owners, dir, address);
@@ -172,7 +174,7 @@ fn grow_into(
     let object_place = place_object(alloc, map, &object, bytes)?;
     let plan = plan_directory(alloc, &mut supply, alone, address, len)?;
     let place = extents_in(alloc, map, &plan, len)?;
-    let gone = as_list(alloc, left_by(owners, dir))?;
+    let gone = as_list(alloc, left_by_grown(owners, dir, copied))?;
     Ok(GrownPlace {
         object,
         object_place,
@@ -186,7 +188,8 @@ fn grow_into(
 
 /// Plans where the directory of a node, at an address, is to lie with `len` bytes, and the space of a new object of `bytes`
 /// bytes, or none for 0. The object's comes first. The directory grows where it lies, if its identifier has room there, else
-/// into new space: of its own identifier, if it is alone in it, else of another.
+/// into new space: of its own identifier, if it is alone in it, else of another. `copied` is the node of a file, if the object
+/// is a copy of it: the file goes, and then an identifier that it shares with the directory alone goes back.
 ///
 /// `IdsFull` if too few identifiers are left, else `DiscFull` if the holes together are too small, exactly as the command
 /// is refused. The map's runs are gone over at most three times, and the owners twice. The map stays as it is.
@@ -196,20 +199,21 @@ pub fn plan_growth(
     map: &NewMap,
     owners: &Owners,
     dir: u64,
+    copied: Option<u64>,
     address: u32,
     len: u32,
     bytes: u32,
 ) -> Result<GrownPlace, PlanError>
     requires map { layout_of places.now ≡ Layout.New map.now }
     requires some { 0 < len }
-    ensures planned { IfOk result (IsGrowthPlanned map.now owners.now dir address len bytes) }
+    ensures planned { IfOk result (IsGrowthPlanned map.now owners.now dir copied address len bytes) }
     ensures refused { AnswersShort result (short_of map.now bytes (is_alone_by owners.now dir address) (if has_room_by map.now owners.now dir address len then 0 else len)) }
 {
     let room = room_for(alloc, places, map, owners, dir, address, len)?;
     let alone = is_alone(owners, dir, address);
     let Some(place) = room else {
         check_space(alloc, map, bytes, alone, len)?;
-        return Ok(grow_into(alloc, map, owners, dir, address, len, bytes)?);
+        return Ok(grow_into(alloc, map, owners, dir, copied, address, len, bytes)?);
     };
     check_space(alloc, map, bytes, alone, 0)?;
     Ok(grow_there(alloc, map, address, len, place, bytes)?)

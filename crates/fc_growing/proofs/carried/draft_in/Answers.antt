@@ -26,7 +26,7 @@ prepare_copied-requires-clause-can c =
     let can = c.requires.can in
     let there = sym c.node.ensures ∙ ap (option_map (λ n. n.now)) c.unwrap.ensures in
     let same = same_some can.copy.node c.unwrap.result.now (sym can.copy.there ∙ there) in
-    let planned = subst (λ (x : Node). IsGrowthPlanned m c.args.owners.now c.args.dir can.node.entry.address c.args.len x.entry.len c.in-Ok.planned) (sym same) (c.in-Ok.ensures.planned can.node can.there) in
+    let planned = subst (λ (x : Node). IsGrowthPlanned m c.args.owners.now c.args.dir (Some c.args.target.node) can.node.entry.address c.args.len x.entry.len c.in-Ok.planned) (sym same) (c.in-Ok.ensures.planned can.node can.there) in
     subst (λ (q : GrownPlace). CanCopyGrown nodes m c.args.target c.args.dir c.in-Ok-last_name.name q) (sym c.addressed-address.ensures.place)
     (subst (λ (name : List ℕ). CanCopyGrown nodes m c.args.target c.args.dir name c.in-Ok.planned) (sym c.in-Ok-last_name.ensures) (can.each c.in-Ok.planned planned))
 

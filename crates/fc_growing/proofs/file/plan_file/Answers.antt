@@ -1,4 +1,4 @@
-use Rattle.std.proofs.Common.{◌≡◌, ◌∙◌, ℕ, List, Option, ap, ap₂, subst, sym}
+use Rattle.std.proofs.Common.{◌≡◌, ◌∙◌, ℕ, List, Option, ap, ap₂, subst, sym, None}
 use Rattle.std.specs.Option.{option_map}
 use Rattle.fc_alloc.specs.declared.owner.Owner.{Owner}
 use Rattle.fc_plan.specs.declared.plan.Plan.{Plan}
@@ -38,6 +38,6 @@ returns-clause-planned c =
     record {
       shared = shared d;
       planned = with_object m c.args.owners.now c.args.dir c.args.address c.args.len (own_bytes (slack_left m c.args.owners.now c.args.dir c.args.bytes) c.args.bytes) p c.address_with-at.result.1 same
-          (subst (λ (n : ℕ). IsGrowthPlanned m c.args.owners.now c.args.dir c.args.address c.args.len n p) (own_is d) c.in_ok-planned.ensures.planned);
+          (subst (λ (n : ℕ). IsGrowthPlanned m c.args.owners.now c.args.dir None c.args.address c.args.len n p) (own_is d) c.in_ok-planned.ensures.planned);
       at = c.address_with-at.ensures.address ∙ ap (λ (o : Option Plan). address_in m (placing_in c.in_ok-share.share o) c.args.bytes) (sym same);
     }

@@ -1,4 +1,4 @@
-use Rattle.std.proofs.Common.{◌≡◌, ℕ, List, sym, ap, subst, ◌∙◌, if◌then◌else◌}
+use Rattle.std.proofs.Common.{◌≡◌, ℕ, List, sym, ap, subst, ◌∙◌, if◌then◌else◌, None}
 use Rattle.std.specs.Prelude.{Err}
 use Rattle.std.specs.Option.{option_map}
 use Rattle.fc_dirs.specs.Directory.{Directory}
@@ -41,7 +41,7 @@ prepare_grown-requires-clause-can c =
       subst (λ (name : List ℕ). CanMakeGrown (nodes_of c.args.tree.now) c.args.map.now c.args.dir name can.node (directory_in c.in-Ok-draft_of.draft) c.in-Ok-plan_growth.place) (sym c.in-Ok.ensures)
           (subst (λ (d : Directory). CanMakeGrown (nodes_of c.args.tree.now) c.args.map.now c.args.dir (last_name c.args.p.now) can.node d c.in-Ok-plan_growth.place) drafted
           (can.each c.in-Ok-plan_growth.place
-          (subst (λ (x : Node). IsGrowthPlanned c.args.map.now c.args.owners.now c.args.dir x.entry.address c.args.len 2048 c.in-Ok-plan_growth.place) same c.in-Ok-plan_growth.ensures.planned))),
+          (subst (λ (x : Node). IsGrowthPlanned c.args.map.now c.args.owners.now c.args.dir None x.entry.address c.args.len 2048 c.in-Ok-plan_growth.place) same c.in-Ok-plan_growth.ensures.planned))),
     )
 
 pub returns-in-Ok-prepare_grown-clause-ready : goal.returns-in-Ok-prepare_grown-clause-ready
@@ -53,7 +53,7 @@ returns-in-Ok-prepare_grown-clause-ready c =
     let same = ready.growing.place in
     record {
       ready = ready_by nodes c.args.map.now c.args.dir (last_name c.args.p.now) c.in-Ok-plan_growth.place r.growing.growth.place r same ready;
-      planned = subst (λ (q : GrownPlace). IsGrowthPlanned c.args.map.now c.args.owners.now c.args.dir ready.node.entry.address c.args.len 2048 q) (sym same)
-          (subst (λ (x : Node). IsGrowthPlanned c.args.map.now c.args.owners.now c.args.dir x.entry.address c.args.len 2048 c.in-Ok-plan_growth.place)
+      planned = subst (λ (q : GrownPlace). IsGrowthPlanned c.args.map.now c.args.owners.now c.args.dir None ready.node.entry.address c.args.len 2048 q) (sym same)
+          (subst (λ (x : Node). IsGrowthPlanned c.args.map.now c.args.owners.now c.args.dir None x.entry.address c.args.len 2048 c.in-Ok-plan_growth.place)
           (same_some c.unwrap-node.result.now ready.node (sym own ∙ ready.there)) c.in-Ok-plan_growth.ensures.planned);
     }

@@ -1,4 +1,4 @@
-use Rattle.std.proofs.Common.{◌≡◌, ℕ, List, sym, ap, subst, ◌∙◌}
+use Rattle.std.proofs.Common.{◌≡◌, ℕ, List, sym, ap, subst, ◌∙◌, None}
 use Rattle.fc_model.specs.Tree.{last_name}
 use Rattle.fc_tree.specs.Nodes.{nodes_of}
 use Rattle.fc_growing.specs.declared.place.GrownPlace.{GrownPlace}
@@ -15,5 +15,5 @@ returns-in-Ok-prepare_moved-clause-ready c =
     let same : c.in-Ok.place ≡ r.growing.growth.place = sym (ap (λ (g : Growth). g.place) ready.apart.growth ∙ ready.growing.place) in
     record {
       ready = subst (λ (q : GrownPlace). IsNamedAcross nodes c.args.map.now c.args.owners.now c.args.target c.args.dir (last_name c.args.to.now) q r) same ready;
-      planned = subst (λ (q : GrownPlace). IsGrowthPlanned c.args.map.now c.args.owners.now c.args.dir ready.node.entry.address c.args.len 0 q) same (c.in-Ok.ensures.planned ready.node ready.there);
+      planned = subst (λ (q : GrownPlace). IsGrowthPlanned c.args.map.now c.args.owners.now c.args.dir None ready.node.entry.address c.args.len 0 q) same (c.in-Ok.ensures.planned ready.node ready.there);
     }

@@ -4,8 +4,7 @@ use Rattle.fc_plan.specs.Applied.{parts_in}
 use Rattle.fc_plan.specs.Parts.{fronts}
 use Rattle.fc_image.specs.effects.Placed.{IsPlan, holes_left}
 use Rattle.fc_image.specs.effects.Sharing.{units}
-use Rattle.fc_placing.specs.Leaving.{LeavesIds, LeavesUsed}
-use Rattle.std.specs.Prelude.{None}
+use Rattle.fc_growing.specs.Gone.{LeavesGrown}
 use Rattle.fc_growing.specs.Place.{IsIdFor, IsIdFrom, address_after}
 use Rattle.fc_growing.proofs.PlaceLemmas.{directory_planned, few_new, geometry_then, holes_then, id_then, object_own, parts_zones}
 use Rattle.fc_growing.proofs.place.grow_into.Goals as goal
@@ -56,8 +55,5 @@ returns c =
       };
       address = c.address_after.ensures ∙ ap (λ (b : Bool). address_after b c.args.address (Some plan)) c.is_alone-alone.ensures;
       len = refl;
-      gone = (
-        subst (λ (ids : List ℕ). LeavesIds c.args.owners.now c.args.dir None ids) (sym c.in_ok-gone.ensures) c.left_by.ensures.exactly,
-        subst (λ (ids : List ℕ). LeavesUsed c.args.owners.now ids) (sym c.in_ok-gone.ensures) c.left_by.ensures.used,
-      );
+      gone = subst (λ (ids : List ℕ). LeavesGrown c.args.owners.now c.args.dir c.args.copied ids) (sym c.in_ok-gone.ensures) c.left_by_grown.ensures;
     }

@@ -1,18 +1,19 @@
-use Rattle.std.proofs.Common.{◌≡◌, subst}
+use Rattle.std.proofs.Common.{◌≡◌, Bool, subst}
 use Rattle.fc_drafts.specs.declared.room.Room.TheVariants as rooms
 use Rattle.fc_laws.proofs.lemmas.takeover.ApartLemmas.{places_law}
 use Rattle.fc_model.specs.Command.{Command}
 use Rattle.fc_model.specs.Tree.{last_name}
 use Rattle.fc_names.specs.declared.refusal.Refusal.TheVariants as refusals
+use Rattle.fc_placing.specs.Copying.{SaysCopied}
 use Rattle.fc_tree.specs.Nodes.{nodes_of}
-use Rattle.fc_volume.specs.Volume.{parts_of}
+use Rattle.fc_volume.specs.Volume.{Volume, parts_of}
 use Rattle.fc_volume.proofs.ChangeLemmas.{writes_nothing}
 use Rattle.fc_volume.proofs.JudgedLemmas.{refused_by}
 use Rattle.fc_volume.proofs.StandsLemmas.{new_layout}
 use Rattle.fc_growing.specs.Renaming.{IsRoomFor}
 use Rattle.fc_growing.proofs.RenamingDoneLemmas.{fits_so, full_so, room_now}
 use Rattle.fc_growing.proofs.RenamingVolumeLemmas.{can_get, no_root}
-use Rattle.fc_growing.proofs.named.rename_but_copied.Goals as goal
+use Rattle.fc_growing.proofs.named.rename.Goals as goal
 
 pub returns-in-Err-clause-refused : goal.returns-in-Err-clause-refused
 returns-in-Err-clause-refused g c = λ v image sound parts.
@@ -57,11 +58,20 @@ grow_across-requires-clause-grows g c =
     room_now _ c.args.volume.now c.volume.view_is c.args.from.now c.args.to.now c.in-Ok.renaming c.in-Ok.ensures.accepted (rooms.Grows c.in-Grows.len)
     (subst (IsRoomFor (nodes_of c.volume.inside.tree) c.in-Ok.renaming (last_name c.args.to.now)) c.in-Grows.is c.in-Ok-room_of.ensures)
 
+pub grow_copied-requires-clause-grows : goal.grow_copied-requires-clause-grows
+grow_copied-requires-clause-grows g c =
+    room_now _ c.args.volume.now c.volume.view_is c.args.from.now c.args.to.now c.in-Ok.renaming c.in-Ok.ensures.accepted (rooms.Grows c.in-Grows.len)
+    (subst (IsRoomFor (nodes_of c.volume.inside.tree) c.in-Ok.renaming (last_name c.args.to.now)) c.in-Grows.is c.in-Ok-room_of.ensures)
+
+pub grow_copied-requires-clause-copied : goal.grow_copied-requires-clause-copied
+grow_copied-requires-clause-copied g c =
+    subst (λ (b : Bool). SaysCopied c.args.volume.now.owners c.in-Ok.renaming.target.node c.in-Ok.renaming.holder b) c.if-is_copied.true
+    (subst (λ (v : Volume). SaysCopied v.owners c.in-Ok.renaming.target.node c.in-Ok.renaming.holder c.is_copied.result) c.volume.view_is c.is_copied.ensures)
+
 pub grow_across-requires-clause-uncopied : goal.grow_across-requires-clause-uncopied
 grow_across-requires-clause-uncopied g c =
-    c.requires.uncopied c.in-Ok.renaming c.in-Ok.ensures.accepted c.in-Grows.len
-    (room_now _ c.args.volume.now c.volume.view_is c.args.from.now c.args.to.now c.in-Ok.renaming c.in-Ok.ensures.accepted (rooms.Grows c.in-Grows.len)
-    (subst (IsRoomFor (nodes_of c.volume.inside.tree) c.in-Ok.renaming (last_name c.args.to.now)) c.in-Grows.is c.in-Ok-room_of.ensures))
+    subst (λ (b : Bool). SaysCopied c.args.volume.now.owners c.in-Ok.renaming.target.node c.in-Ok.renaming.holder b) c.if-is_copied.false
+    (subst (λ (v : Volume). SaysCopied v.owners c.in-Ok.renaming.target.node c.in-Ok.renaming.holder c.is_copied.result) c.volume.view_is c.is_copied.ensures)
 
 pub returns-in-Full-clause-refused : goal.returns-in-Full-clause-refused
 returns-in-Full-clause-refused g c = λ v image sound parts.

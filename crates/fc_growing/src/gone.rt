@@ -1,0 +1,50 @@
+// Which identifier goes back if a directory gets new space, and a file that may share its identifier goes.
+
+ghost use Rattle.std.specs.Prelude.{◌≡◌};
+ghost use Rattle.std.specs.Option.{option_to_list};
+ghost use Rattle.std.specs.List.{find};
+ghost use Rattle.fc_alloc.specs.Owners.{is_node};
+ghost use Rattle.fc_growing.specs.Gone.{LeavesGrown, has_third, left_with};
+
+use fc_alloc::{Owner, Owners};
+use fc_placing::left_by;
+
+// Whether an owner of another node than these two has an identifier.
+fn has_third(owners: &[Owner], node: u64, file: u64, id: u32) -> bool
+    ensures { result ≡ has_third owners.now node file id }
+{
+    owners
+        .iter()
+        .any(|o| o.id == id && o.node != node && o.node != file)
+}
+
+// The owner of a node.
+fn owner_of(owners: &[Owner], node: u64) -> Option<Owner>
+    ensures { result ≡ find (is_node node) owners.now }
+{
+    owners.iter().copied().find(|o| o.node == node)
+}
+
+// The identifier of a node's object, unless it is the map's, or a third owner has it.
+fn left_with(owners: &Owners, node: u64, file: u64) -> Option<u32>
+    ensures { result ≡ left_with owners.now node file }
+{
+    let own = owner_of(owners.list(), node)?;
+    let id = own.id;
+    if id == 2 || has_third(owners.list(), node, file, id) {
+        return None;
+    }
+    Some(id)
+}
+
+/// The identifier that goes back if the object of a node gets another one, or goes: its own, if no other object has it, and it
+/// isn't the map's. The object of `copied` goes too, if that is a node, and doesn't count. The owners are gone over twice, and
+/// no memory is taken.
+pub fn left_by_grown(owners: &Owners, node: u64, copied: Option<u64>) -> Option<u32>
+    ensures { LeavesGrown owners.now node copied (option_to_list result) }
+{
+    match copied {
+        Some(file) => left_with(owners, node, file),
+        None => left_by(owners, node),
+    }
+}
