@@ -363,4 +363,4 @@ module _ (w v : Volume) (same : w ≡ v) (maps : HasMap w) (from to : Path) (rn 
           (places_law.both kind view m c (sectors_around r.naming.growing.around.items) _ around_may
           (places_law.both kind view m c (sectors_in r.naming.growing.growth.place.place.items) (sectors_in r.naming.growing.growth.object.items) place_may none_may)) in
           let may = places_law.both kind view m c (sectors_written r.naming.growing r.naming.others.items) (sectors_to r) named_may copy_may in
-          record { length_stays = written.length_stays; sectors = sectors_carried r; writes = written.writes; files = may.files; dirs = may.dirs; boot = may.boot; idle = may.idle }
+          record { length_stays = written.length_stays; sectors = sectors_carried r; writes = written.writes; files = may.files; dirs = may.dirs; boot = may.boot; idle = may.idle; inside = may.inside }

@@ -454,4 +454,5 @@ module _ (m : Map) (nodes : Nodes) (owners : List Owner) (path : Path) (number l
           dirs = all.dirs;
           boot = all.boot;
           idle = all.idle;
+          inside = all.inside;
         }

@@ -364,4 +364,4 @@ module _ (w v : Volume) (same : w ≡ v) (maps : HasMap w) (from to : Path) (rn 
           let may = places_law.both kind view m c (sectors_around r.others.items) _ others_may
           (places_law.both kind view m c (sectors_around r.growing.around.items) _ around_may
           (places_law.both kind view m c (sectors_in r.growing.growth.place.place.items) (sectors_in r.growing.growth.object.items) place_may object_may)) in
-          record { length_stays = written.length_stays; sectors = sectors_written r.growing r.others.items; writes = written.writes; files = may.files; dirs = may.dirs; boot = may.boot; idle = may.idle }
+          record { length_stays = written.length_stays; sectors = sectors_written r.growing r.others.items; writes = written.writes; files = may.files; dirs = may.dirs; boot = may.boot; idle = may.idle; inside = may.inside }

@@ -128,4 +128,5 @@ module _ (m : Map) (nodes : Nodes) (owners : List Owner) (path : Path) (n number
             dirs = all.dirs;
             boot = all.boot;
             idle = all.idle;
+            inside = all.inside;
           }
