@@ -99,5 +99,5 @@ file_law = record {
 -- the same with a plan that is the same again
 pub with_object : (m : Map) (owners : List Owner) (node old len own : ℕ) (p : GrownPlace) (object : Option Plan) {copied : Option ℕ} → object ≡ p.object → IsGrowthPlanned m owners node copied old len own p
     → IsGrowthPlanned m owners node copied old len own (record { object = object; object_place = p.object_place; dir = p.dir; address = p.address; len = p.len; place = p.place; gone = p.gone })
-with_object m owners node old len own p object same planned =
+with_object m owners node old len own p object {copied = copied} same planned =
     subst (λ (o : Option Plan). IsGrowthPlanned m owners node copied old len own (record { object = o; object_place = p.object_place; dir = p.dir; address = p.address; len = p.len; place = p.place; gone = p.gone })) (sym same) planned

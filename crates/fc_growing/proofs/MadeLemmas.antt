@@ -370,7 +370,7 @@ module _ (m : Map) (nodes : Nodes) (owners : List Owner) (path : Path) (number l
         after =
             grown_directory_added_law kind m m' nodes nodes' owners between owners' root v.listings listings' again again' keep l content place (said_in r.growing.around.items) j d up dir number id parts
             (grown_of.stay kind m nodes owners root v l dir 2048 r.growing to_grow) p.gone.items
-            (grown_of.grows_in kind m nodes owners root v l dir 2048 r.growing to_grow m' has content p.object_place.items is.ready.growing form_now up above own_nodes)
+            (grown_of.grows_in kind m nodes owners root v l dir 2048 r.growing to_grow m' has content p.object_place.items is.ready.growing form_now up above own_nodes refl)
             edit (grown_of.can_say kind m nodes owners root v l dir 2048 r.growing to_grow m' has content p.object_place.items is.ready.growing form_now)
             (subst (CanSay (Layout.New m) o) (sym is.ready.new_says) (say_law.new (Layout.New m) o p.address (last_name path) new_len (subst IsSayable is.ready.new_says is.ready.new_sayable)))
             edited new_len lies new_space

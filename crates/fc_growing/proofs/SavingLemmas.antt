@@ -347,7 +347,7 @@ module _ (m : Map) (nodes : Nodes) (owners : List Owner) (path : Path) (n number
       grows_in =
           subst (λ (e : Entry). GrowsIn kind m m' nodes owners (with_changed (entry_owner (Layout.New m') n up (regrown e p.address p.len)) owners) root v.listings again' l place up n stay (id_in p.object) (parts_in p.object)
           p.gone.items) (sym held_by.1)
-          (growing_of.grows_in kind m nodes owners root v l n own r.growing to_grow m' grown content is.drafted.ready.sectors is.drafted.ready.growing formed_now up held_by.0 own_nodes)
+          (growing_of.grows_in kind m nodes owners root v l n own r.growing to_grow m' grown content is.drafted.ready.sectors is.drafted.ready.growing formed_now up held_by.0 own_nodes refl)
 
       -- ---- the parts agree afterwards
 
