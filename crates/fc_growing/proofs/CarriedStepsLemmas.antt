@@ -99,7 +99,7 @@ use Rattle.fc_growing.proofs.GrowthLemmas.{growth_law}
 use Rattle.fc_growing.proofs.ParentLemmas.{is_root}
 use Rattle.fc_growing.proofs.ReadyLemmas as ready_of
 use Rattle.fc_growing.proofs.ReadyLemmas.{big_length}
-use Rattle.fc_growing.proofs.StepLemmas.{steps_law as steps_of, taken_is}
+use Rattle.fc_growing.proofs.StepLemmas.{steps as steps_of, taken_is}
 use Rattle.fc_growing.proofs.RenamingAroundLemmas as but
 use Rattle.fc_growing.proofs.RenamingAcrossLemmas as across
 use Rattle.fc_growing.proofs.CarriedObjectsLemmas as carried
