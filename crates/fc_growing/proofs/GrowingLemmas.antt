@@ -62,7 +62,7 @@ use Rattle.fc_growing.proofs.ParentLemmas.{is_root}
 use Rattle.fc_growing.proofs.ReadyLemmas as ready_of
 use Rattle.fc_growing.proofs.ReadyLemmas.{IsToGrow, big_length, big_range}
 use Rattle.fc_growing.proofs.RoomLemmas.{row_of}
-use Rattle.fc_growing.proofs.StepLemmas.{steps_law, taken_is}
+use Rattle.fc_growing.proofs.StepLemmas.{steps as steps_of, taken_is}
 
 -- ---- directories
 
@@ -183,7 +183,7 @@ module _ (kind : Kind) (m : Map) (nodes : Nodes) (owners : List Owner) (root : N
 
       -- each write by itself
       pub inner : IsGrownInSteps m m' v.listings l.object content r.growth bytes was w.named
-      inner = steps_law m m' nodes owners v.listings l.object stay n copied own r.growth content bytes was w.named growth_is has.growth ready_for (root_is ∙ sym ready.root) w.first
+      inner = steps_of m m' nodes owners v.listings l.object stay n own r.growth content bytes was w.named growth_is has.growth ready_for (root_is ∙ sym ready.root) w.first
 
       inner_taken : inner.taken ≡ w.first.second.taken
       unfolding inner

@@ -87,7 +87,7 @@ use Rattle.fc_growing.proofs.GrowthLemmas.{growth_law}
 use Rattle.fc_growing.proofs.ParentLemmas.{is_root}
 use Rattle.fc_growing.proofs.ReadyLemmas as ready_of
 use Rattle.fc_growing.proofs.ReadyLemmas.{big_length}
-use Rattle.fc_growing.proofs.StepLemmas.{steps_law as steps_of, taken_is}
+use Rattle.fc_growing.proofs.StepLemmas.{steps as steps_of, taken_is}
 use Rattle.fc_growing.proofs.RenamingAroundLemmas as but
 use Rattle.fc_growing.proofs.RenamingAcrossLemmas as across
 use Rattle.fc_growing.proofs.RenamingAcrossLemmas.{IsNamingAcross}
@@ -331,7 +331,7 @@ module _ (law : EntriesLaw) (kind : Kind) (m : Map) (nodes : Nodes) (owners : Li
     module _ (start image' : List ℕ) (w : IsGrowingWritten m m' r.growing r.others.items [] start image') (layout_is : v.layout ≡ Layout.New m) where
       inner : IsGrownInSteps m m' v.listings l.object content r.growing.growth [] start w.named
       inner =
-          steps_of m m' nodes owners v.listings l.object stay n None 0 r.growing.growth content [] start w.named
+          steps_of m m' nodes owners v.listings l.object stay n 0 r.growing.growth content [] start w.named
           (ready_of.growth_is kind m nodes owners root v.listings l n 0 p grows_so) has.growth
           (record { is_map = has.is_map; says = whole_ready.bytes; long = whole_ready.length_is ∙ size_is })
           (is_root kind m nodes owners root v l n 0 p grows_so ∙ sym whole_ready.root) w.first

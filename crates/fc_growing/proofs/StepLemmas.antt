@@ -104,13 +104,13 @@ module _ (m m' : Map) (nodes : Nodes) (owners : List Owner) (listings : List Lis
   }
 
 pub steps_law : GrownStepsLaw
-steps_law m m' nodes owners listings o stay dir copied own_bytes g content new_bytes was named grows has ready root w =
+steps_law m m' nodes owners listings o stay dir own_bytes g content new_bytes was named copied grows has ready root w =
     steps m m' nodes owners listings o stay dir own_bytes g content new_bytes was named grows has ready root w
 
 -- the map was committed when the writes say so
 pub taken_is : (m m' : Map) (nodes : Nodes) (owners : List Owner) (listings : List Listing) (o : Object) (stay : List Object) (dir own_bytes : ℕ) (g : Growth) (content : Directory) (new_bytes was named : List ℕ) {copied : Option ℕ}
     (grows : IsGrowthOf m nodes owners listings o stay dir copied own_bytes g.place) (has : HasGrowth m m' g.place) (ready : IsReadyFor m' g content) (root : (length o.path == 0) ≡ g.root)
     (w : IsGrownWritten m m' g new_bytes was named)
-    → (steps_law m m' nodes owners listings o stay dir copied own_bytes g content new_bytes was named grows has ready root w).taken ≡ w.second.taken
-unfolding steps_law steps
+    → (steps m m' nodes owners listings o stay dir own_bytes g content new_bytes was named grows has ready root w).taken ≡ w.second.taken
+unfolding steps
 taken_is m m' nodes owners listings o stay dir own_bytes g content new_bytes was named grows has ready root w = refl

@@ -48,6 +48,6 @@ pub record IsGrownInSteps (m m' : Map) (listings : List Listing) (o : Object) (c
   pub bytes : AreWritten (object_bytes (if stays_there m listings o g then named else laid) (Layout.New m') (at_place (new_place g.place) o)) content
 
 abbrev pub GrownStepsLaw : Type 0
-GrownStepsLaw = (m m' : Map) (nodes : Nodes) (owners : List Owner) (listings : List Listing) (o : Object) (stay : List Object) (dir : ℕ) (copied : Option ℕ) (own_bytes : ℕ) (g : Growth) (content : Directory) (new_bytes was named : List ℕ)
+GrownStepsLaw = (m m' : Map) (nodes : Nodes) (owners : List Owner) (listings : List Listing) (o : Object) (stay : List Object) (dir own_bytes : ℕ) (g : Growth) (content : Directory) (new_bytes was named : List ℕ) (copied : Option ℕ)
     → IsGrowthOf m nodes owners listings o stay dir copied own_bytes g.place → HasGrowth m m' g.place → IsReadyFor m' g content → (length o.path == 0) ≡ g.root → IsGrownWritten m m' g new_bytes was named
     → IsGrownInSteps m m' listings o content g new_bytes was named

@@ -37,10 +37,10 @@ fn left_with(owners: &Owners, node: u64, file: u64) -> Option<u32>
     Some(id)
 }
 
-/// The identifier that goes back if the object of a node gets another one, or goes: its own, if no other object has it, and it
-/// isn't the map's. The object of `copied` goes too, if that is a node, and doesn't count. The owners are gone over twice, and
-/// no memory is taken.
-pub fn left_by_grown(owners: &Owners, node: u64, copied: Option<u64>) -> Option<u32>
+// The identifier that goes back if the object of a node gets another one, or goes: its own, if no other object has it, and it
+// isn't the map's. The object of `copied` goes too, if that is a node, and doesn't count. The owners are gone over twice, and
+// no memory is taken.
+pub(crate) fn left_by_grown(owners: &Owners, node: u64, copied: Option<u64>) -> Option<u32>
     ensures { LeavesGrown owners.now node copied (option_to_list result) }
 {
     match copied {
