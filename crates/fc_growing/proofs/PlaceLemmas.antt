@@ -1,6 +1,6 @@
 -- Plans for an object, and then for a directory, from one map.
 use Rattle.std.proofs.Common.{◌≡◌, ◌<◌, ◌≤◌, inl, inr, ◌==◌, ℕ, zero, suc, ◌+◌, ◌-◌, ◌*◌, ◌/◌, ◌%◌, ◌^◌, Bool, true, false, cond, List, [], ◌∷◌, ◌++◌, get_or, length, take, drop, refl, sym, ap, subst, ◌∙◌, arith, Some, None, Option}
-use Rattle.std.specs.Prelude.{All, Contains, IfSome, Result, Ok, Err}
+use Rattle.std.specs.Prelude.{All, Contains, IfSome, MatchOption, Result, Ok, Err}
 use Rattle.std.specs.List.{find}
 use Rattle.std.specs.Int.{div_ceil}
 use Rattle.std.proofs.Math.Nat.{mul-le-mul_right}
@@ -33,11 +33,17 @@ use Rattle.fc_plan.proofs.Order.{same_place}
 use Rattle.fc_plan.proofs.Shorts.{are_new_ids}
 use Rattle.fc_slack.proofs.Shares.{ids_few}
 use Rattle.fc_space.specs.Index.{is_met}
+use Rattle.fc_tree.proofs.WalkedLemmas.{same_some}
 use Rattle.fc_placing.specs.Extents.{parts_met}
 use Rattle.fc_placing.specs.Places.{IsOwnPlan}
 use Rattle.fc_placing.proofs.ExtentLemmas.{take_append}
 use Rattle.fc_placing.proofs.PlacesLemmas.{own_plan}
 use Rattle.fc_growing.specs.Place.{IsDirectoryPlan, IsIdFor, IsIdFrom, IsObjectPlan, IsObjectSpace, place_in, plan_sectors}
+
+-- what is told of an option that has something
+pub told_of_some : {X : Type 0} (A : Type 0) (B : X → Type 0) (q : Option X) (x : X) → q ≡ Some x → MatchOption q A B → B x
+told_of_some A B None x e told = absurd (cc)
+told_of_some A B (Some y) x e told = subst B (same_some y x e) told
 
 -- ---- what is planned from a map
 
