@@ -1,5 +1,5 @@
 -- A file that is copied into a directory that grows: what making it ready asks for, and how it is refused for want of space.
-use Rattle.std.proofs.Common.{◌≡◌, ◌<◌, ℕ, Bool, true, false, cond, List, length, Option, Some, None, refl, sym, ap, ap₂, subst, ◌∙◌, arith}
+use Rattle.std.proofs.Common.{◌≡◌, ◌<◌, ℕ, Bool, true, cond, List, Option, Some, refl, sym, ap, ap₂, subst, ◌∙◌, arith}
 use Rattle.std.specs.Prelude.{Contains, is_some, if◌then◌else◌}
 use Rattle.std.specs.FinMap.{get}
 use Rattle.std.specs.Option.{option_map_or}
@@ -12,7 +12,7 @@ use Rattle.fc_newmap.specs.Map.{Map}
 use Rattle.fc_model.specs.Command.{Command}
 use Rattle.fc_model.specs.Tree.{last_name}
 use Rattle.fc_dirs.specs.declared.Entry.{Entry}
-use Rattle.fc_dirs.specs.Directory.{Directory, directory_size, entries_of}
+use Rattle.fc_dirs.specs.Directory.{directory_size, entries_of}
 use Rattle.fc_alloc.specs.declared.owner.Owner.{Owner}
 use Rattle.fc_drafts.specs.declared.room.Room.TheVariants as rooms
 use Rattle.fc_drafts.specs.Gains.{HasRoom}
@@ -45,7 +45,6 @@ use Rattle.fc_volume.proofs.RewriteLemmas as rewrite
 use Rattle.fc_volume.proofs.TargetLemmas as target_of
 use Rattle.fc_growing.specs.declared.place.GrownPlace.{GrownPlace}
 use Rattle.fc_growing.specs.Carried.{CanCopyGrown, CanGrowCopied}
-use Rattle.fc_growing.specs.Growing.{regrowth}
 use Rattle.fc_growing.specs.Needs.{short_of}
 use Rattle.fc_growing.specs.Place.{IsGrowthPlanned}
 use Rattle.fc_growing.specs.Renaming.{IsRoomFor}

@@ -1,17 +1,16 @@
 -- A file that is copied into a directory that grows: from what is ready in memory to the edit of the volume's objects.
-use Rattle.std.proofs.Common.{◌≡◌, ◌<◌, ◌≤◌, ◌+◌, ◌*◌, ◌&&◌, not, ⊎_elim, inl, inr, ℕ, Bool, true, false, cond, List, [], ◌∷◌, ◌++◌, length, map, insert, remove, slice_get, Option, Some, None, refl, sym, ap, ap₂, subst, ◌∙◌, arith}
+use Rattle.std.proofs.Common.{◌≡◌, ◌<◌, ◌&&◌, not, ⊎_elim, inl, inr, ℕ, Bool, true, false, cond, List, [], ◌∷◌, ◌++◌, map, insert, remove, Some, None, refl, sym, ap, subst, ◌∙◌}
 use Rattle.std.specs.Prelude.{Contains}
 use Rattle.std.specs.FinMap.{get}
 use Rattle.std.proofs.lemmas.List.Elements.{Contains-append_cases}
 use Rattle.fc_names.specs.Names.{Path, is_same_path}
-use Rattle.fc_names.specs.declared.name.NameForm.TheVariants as forms
 use Rattle.fc_record.specs.declared.Kind.{Kind}
-use Rattle.fc_newmap.specs.Map.{Map, ZoneRun, bits_in}
+use Rattle.fc_newmap.specs.Map.{Map}
 use Rattle.fc_model.specs.Command.{Command}
 use Rattle.fc_model.specs.Tree.{holder, last_name}
 use Rattle.fc_dirs.specs.declared.Entry.{Entry}
 use Rattle.fc_dirs.specs.Directory.{Directory, entries_of}
-use Rattle.fc_dirs.specs.Entries.{entry_place, with_entry as with_new_entry}
+use Rattle.fc_dirs.specs.Entries.{entry_place}
 use Rattle.fc_alloc.specs.declared.owner.Owner.{Owner}
 use Rattle.fc_drafts.specs.declared.room.Room.TheVariants as rooms
 use Rattle.fc_drafts.specs.Draft.{directory_in}
@@ -20,7 +19,7 @@ use Rattle.fc_drafts.specs.Rewriting.{HasEntered}
 use Rattle.fc_image.specs.effects.Short.{is_copied, is_sharing}
 use Rattle.fc_image.specs.effects.Steady.{IsRewritten, is_renamed_by}
 use Rattle.fc_image.specs.InPlace.{says_now}
-use Rattle.fc_image.specs.Layout.{Layout, dir_form}
+use Rattle.fc_image.specs.Layout.{Layout}
 use Rattle.fc_image.specs.Objects.{objects_of}
 use Rattle.fc_image.specs.Opening.{Opened}
 use Rattle.fc_image.specs.Sound.{AreSound}
@@ -30,7 +29,6 @@ use Rattle.fc_laws.specs.nodes.Edits.{Nodes, with_body, with_entry, with_holder}
 use Rattle.fc_growths.specs.Grown.{NewPlace, grown_says, holder_now}
 use Rattle.fc_grownlaws.specs.nodes.Commands.{IsGrownCopied}
 use Rattle.fc_grownlaws.specs.nodes.Regrown.{regrown_object, with_bodies, with_regrown}
-use Rattle.fc_objects.specs.Extents.{sectors_in}
 use Rattle.fc_placing.specs.Copying.{SaysCopied}
 use Rattle.fc_refusals.specs.declared.target.Renaming.{Renaming}
 use Rattle.fc_refusals.specs.declared.target.Target.{Target}

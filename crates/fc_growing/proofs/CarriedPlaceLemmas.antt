@@ -1,6 +1,5 @@
 -- A file that is copied into a directory that grows: where its copy lies, and the copy's owner.
-use Rattle.std.proofs.Common.{◌≡◌, ◌<◌, ◌+◌, ◌*◌, ℕ, Bool, true, false, cond, find, not, List, [], ◌∷◌, length, Option, Some, None, refl, sym, ap, ap₂, subst, ◌∙◌, arith}
-use Rattle.std.specs.Prelude.{Contains}
+use Rattle.std.proofs.Common.{◌≡◌, ◌<◌, ◌*◌, ℕ, Bool, true, false, cond, not, List, [], ◌∷◌, length, Option, Some, None, refl, sym, ap, ap₂, subst, ◌∙◌, arith}
 use Rattle.std.specs.Int.{div_ceil}
 use Rattle.fc_names.specs.Names.{Path, is_directory}
 use Rattle.fc_names.specs.declared.name.NameForm.{NameForm}
@@ -16,10 +15,9 @@ use Rattle.fc_changes.specs.Changed.{IsInNewSpace}
 use Rattle.fc_changes.proofs.ChangeLemmas.{a_sector}
 use Rattle.fc_growths.proofs.SpaceLemmas.{sectors_some}
 use Rattle.fc_image.specs.effects.Placed.{file_low, has_spare_share}
-use Rattle.fc_image.specs.effects.Short.{is_copied}
 use Rattle.fc_image.specs.Edits.{IsAt}
 use Rattle.fc_image.specs.Layout.{Layout, dir_form, id_of, low_of, sectors_at}
-use Rattle.fc_image.specs.Objects.{has_sectors, objects_of}
+use Rattle.fc_image.specs.Objects.{has_sectors}
 use Rattle.fc_image.specs.Opening.{Opened}
 use Rattle.fc_image.specs.Walk.{Object, is_directory_object, object_size}
 use Rattle.fc_laws.specs.agree.Agreed.{AgreeOn}
@@ -36,7 +34,6 @@ use Rattle.fc_plan.specs.Parts.{fronts}
 use Rattle.fc_refusals.specs.declared.target.Renaming.{Renaming}
 use Rattle.fc_tree.specs.declared.node.Node.{Node}
 use Rattle.fc_tree.specs.Laws.{EntriesLaw}
-use Rattle.fc_tree.specs.Parts.{first_in}
 use Rattle.fc_volume.specs.Owners.{entry_owner}
 use Rattle.fc_volume.specs.Relocating.{HasOwner, with_owner}
 use Rattle.fc_volume.proofs.MoveLemmas.{has_owner}

@@ -1,55 +1,51 @@
 -- A file that is copied into a directory that grows: from what is ready and written to what the command promises of the image and of the
 -- volume's parts.
-use Rattle.std.proofs.Common.{◌≡◌, ◌<◌, ◌≤◌, ◌*◌, ◌^◌, ◌⊎◌, ⊎_elim, inl, inr, ◌==◌, ◌||◌, ℕ, Bool, true, false, cond, not, List, [], ◌∷◌, ◌++◌, length, take, Option, Some, None, refl, sym, ap, ap₂, subst, ◌∙◌, arith, eq-eqb}
-use Rattle.std.specs.Prelude.{Contains, IsPermutation, if◌then◌else◌, is_some}
-use Rattle.std.specs.List.{flat_map}
-use Rattle.std.specs.Option.{option_map_or, option_to_list}
+use Rattle.std.proofs.Common.{◌≡◌, ◌<◌, ◌≤◌, ◌^◌, ⊎_elim, inl, inr, ◌||◌, ℕ, Bool, true, false, not, List, [], ◌∷◌, ◌++◌, length, take, Option, Some, refl, sym, ap, subst, ◌∙◌, arith, eq-eqb}
+use Rattle.std.specs.Prelude.{Contains, IsPermutation, is_some}
+use Rattle.std.specs.Option.{option_map_or}
 use Rattle.std.specs.Int.{div_ceil}
 use Rattle.std.proofs.lemmas.List.{take_all}
-use Rattle.std.proofs.lemmas.List.Elements.{Contains-append_right}
-use Rattle.std.proofs.lemmas.List.Sorted.{Contains-permutation, IsPermutation-sym}
+use Rattle.std.proofs.lemmas.List.Sorted.{Contains-permutation}
 use Rattle.fc_names.specs.Names.{Path, folded_path, is_same_path}
 use Rattle.fc_names.specs.declared.name.NameForm.{NameForm}
 use Rattle.fc_names.specs.declared.name.NameForm.TheVariants as forms
 use Rattle.fc_record.specs.declared.Kind.{Kind}
 use Rattle.fc_newmap.specs.Map.{Map, is_used, map_sectors}
 use Rattle.fc_model.specs.Command.{Command}
-use Rattle.fc_model.specs.Tree.{holder, is_prefix, last_name}
+use Rattle.fc_model.specs.Tree.{holder, last_name}
 use Rattle.fc_dirs.specs.Big.{BigDir}
 use Rattle.fc_dirs.specs.declared.Entry.{Entry}
-use Rattle.fc_dirs.specs.Directory.{Directory, entries_of}
+use Rattle.fc_dirs.specs.Directory.{Directory}
 use Rattle.fc_alloc.specs.declared.owner.Owner.{Owner}
 use Rattle.fc_alloc.specs.Owners.{HaveOwnNodes}
 use Rattle.fc_drafts.specs.declared.room.Room.TheVariants as rooms
-use Rattle.fc_drafts.specs.Draft.{directory_in, size_of, with_head, with_new}
+use Rattle.fc_drafts.specs.Draft.{size_of, with_head, with_new}
 use Rattle.fc_drafts.specs.Gains.{GetsName, HasRoom}
 use Rattle.fc_drafts.specs.Rewriting.{HasEntered}
 use Rattle.fc_device.specs.Sectors.{sector_at}
 use Rattle.fc_device.specs.declared.disk.Extent.{Extent}
 use Rattle.fc_image.specs.effects.Short.{Gain, Growth as GrowthTo, gain_of, growth_in, is_copied, is_sharing}
-use Rattle.fc_image.specs.effects.Steady.{AreWritten, IsRewritten, is_given_back, is_renamed_by}
+use Rattle.fc_image.specs.effects.Steady.{is_given_back, is_renamed_by}
 use Rattle.fc_image.specs.Layout.{Layout, dir_form, hole_sectors, is_apart, sectors_at}
 use Rattle.fc_image.specs.Objects.{objects_of}
 use Rattle.fc_image.specs.Opening.{Opened, boot_place, reserved_in}
 use Rattle.fc_image.specs.Stays.{HasSectorsOf, OpensAs}
-use Rattle.fc_image.specs.Walk.{Listing, Object, is_directory_object, object_bytes, object_size}
+use Rattle.fc_image.specs.Walk.{Listing, Object, object_bytes, object_size}
 use Rattle.fc_image.proofs.CommandLemmas.{is_prefix_of}
 use Rattle.fc_image.proofs.HolesLemmas.{Lies, apart_at, apart_from}
 use Rattle.fc_image.proofs.PathsLemmas.{itself, unless}
 use Rattle.fc_changes.specs.Owed.{IsWritten}
 use Rattle.fc_changes.proofs.StepsLemmas.{writes_law}
 use Rattle.fc_laws.specs.agree.Agreed.{AgreeOn, CanSay}
-use Rattle.fc_laws.specs.nodes.Edits.{Nodes, OwnersEdited, owners_with}
+use Rattle.fc_laws.specs.nodes.Edits.{Nodes}
 use Rattle.fc_laws.specs.takeover.Laws.{TakesOver}
 use Rattle.fc_laws.proofs.lemmas.agree.BeforeLemmas.{no_hole, object_lies}
 use Rattle.fc_laws.proofs.lemmas.takeover.SaidLemmas.{apart_front}
 use Rattle.fc_laws.proofs.lemmas.takeover.WriteLemmas.{written_bytes_law}
 use Rattle.fc_objects.specs.Extents.{sectors_in}
-use Rattle.fc_placing.specs.Copying.{SaysCopied}
-use Rattle.fc_plan.specs.declared.plan.Plan.{Plan}
 use Rattle.fc_plan.specs.Applied.{id_in, parts_in}
 use Rattle.fc_plan.specs.Giving.{is_one_of}
-use Rattle.fc_growths.specs.Grown.{IsGrownAt, NewPlace, at_place, holder_now}
+use Rattle.fc_growths.specs.Grown.{IsGrownAt, NewPlace, at_place}
 use Rattle.fc_grownlaws.specs.agree.Commands.{AgreeAfter, CarriesIn}
 use Rattle.fc_grownlaws.specs.takeover.Steps.{IsGrowingByName, IsGrownCarriedInSteps, IsGrowthInSteps}
 use Rattle.fc_grownlaws.specs.nodes.Space.{IsCarriedMap, is_left}
@@ -62,8 +58,7 @@ use Rattle.fc_tree.specs.declared.node.Node.{Node}
 use Rattle.fc_tree.specs.Agree.{HasForm}
 use Rattle.fc_tree.specs.Laws.{EntriesLaw}
 use Rattle.fc_tree.specs.Nodes.{number_of}
-use Rattle.fc_tree.proofs.MemberLemmas.{contains_cases, contains_later}
-use Rattle.fc_tree.proofs.PlaceLemmas.{one_path}
+use Rattle.fc_tree.proofs.MemberLemmas.{contains_cases}
 use Rattle.fc_tree.proofs.SoundLemmas.{folds_alike}
 use Rattle.fc_tree.proofs.WalkedLemmas.{listed_directory, same_some}
 use Rattle.fc_laws.specs.takeover.Copied.{AreCopied}
@@ -74,13 +69,10 @@ use Rattle.fc_volume.proofs.OwnersLemmas.{sectors_long}
 use Rattle.fc_volume.proofs.WritingLemmas.{copies_written}
 use Rattle.fc_growing.specs.Carried.{IsCarriedWritten, sectors_to}
 use Rattle.fc_volume.specs.declared.changes.rewrite.Rewrite.{Rewrite}
-use Rattle.fc_volume.specs.Owners.{entry_owner}
-use Rattle.fc_volume.specs.Relocating.{AreFilled, AreMoreFilled, with_owner}
+use Rattle.fc_volume.specs.Relocating.{AreFilled, with_owner}
 use Rattle.fc_volume.proofs.RenameLemmas.{both_same, too_long, turned_round}
 use Rattle.fc_volume.proofs.RewriteLemmas.{says_it}
-use Rattle.fc_volume.proofs.TargetLemmas as target_of
 use Rattle.fc_volume.proofs.TurnedLemmas.{fills}
-use Rattle.fc_growing.specs.declared.around.Regrowth.{Regrowth}
 use Rattle.fc_growing.specs.declared.growing.Growing.{Growing}
 use Rattle.fc_growing.specs.declared.carried.Carried.{Carried}
 use Rattle.fc_growing.specs.declared.place.GrownPlace.{GrownPlace}
@@ -106,8 +98,6 @@ use Rattle.fc_growing.proofs.CarriedObjectsLemmas as carried
 use Rattle.fc_growing.proofs.CarriedObjectsLemmas.{IsCarrying, copied_file}
 use Rattle.fc_growing.proofs.CarriedPlaceLemmas as placed
 use Rattle.fc_growing.proofs.RenamingLeftLemmas as k_of
-use Rattle.fc_growing.proofs.RenamingOwnLemmas.{OwnIsWritten, own_is_written}
-use Rattle.fc_growing.proofs.RenamingStepsLemmas.{no_object}
 
 -- what a directory says that has grown to so many bytes by an entry
 entered_form : (f : NameForm) (len parent : ℕ) (e : Entry) (old new : Directory) (dir : BigDir) → f ≡ forms.Long → HasEntered parent e old new → old ≡ Directory.Big dir → size_of new ≡ len → HasForm f len new

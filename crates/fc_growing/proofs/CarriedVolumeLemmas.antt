@@ -1,13 +1,11 @@
 -- A file that is copied into a directory that grows, of a volume: what is asked before the writing, and which sectors may be written.
-use Rattle.std.proofs.Common.{◌≡◌, ◌<◌, ◌≤◌, ◌||◌, ℕ, Bool, true, false, List, [], ◌∷◌, ◌++◌, length, Option, Some, None, refl, sym, ap, ap₂, subst, ◌∙◌, arith}
+use Rattle.std.proofs.Common.{◌≡◌, ◌<◌, ◌≤◌, ◌||◌, ℕ, Bool, true, false, List, [], Some, None, refl, sym, ap, ap₂, subst, ◌∙◌, arith}
 use Rattle.std.specs.Prelude.{All, Contains, IsSome, IsTrue, is_some, if◌then◌else◌}
 use Rattle.std.specs.FinMap.{get}
-use Rattle.std.specs.Option.{ForSome, option_to_list}
 use Rattle.std.proofs.lemmas.List.{append-nil}
 use Rattle.fc_device.specs.declared.disk.Disk.{Ghosts}
 use Rattle.fc_device.specs.Calls.{SameForm, StopsAndExitsLeave}
 use Rattle.fc_names.specs.Names.{Path, is_same_path}
-use Rattle.fc_names.specs.declared.name.NameForm.TheVariants as forms
 use Rattle.fc_record.specs.declared.Kind.{Kind}
 use Rattle.fc_newmap.specs.Map.{Map}
 use Rattle.fc_newmap.specs.NewMap.{IsNewMap}
@@ -23,46 +21,39 @@ use Rattle.fc_image.specs.Objects.{objects_of}
 use Rattle.fc_image.specs.Opening.{Opened}
 use Rattle.fc_image.specs.Sound.{AreSound}
 use Rattle.fc_image.specs.Stays.{OpensAs}
-use Rattle.fc_image.specs.Walk.{Listing, Object, is_directory_object}
+use Rattle.fc_image.specs.Walk.{Listing, Object}
 use Rattle.fc_image.specs.effects.Steady.{has_grown, has_new_holder}
 use Rattle.fc_changes.specs.Owed.{IsWritten}
 use Rattle.fc_laws.specs.agree.Agreed.{AgreeOn}
 use Rattle.fc_laws.specs.nodes.Edits.{Nodes}
 use Rattle.fc_laws.specs.takeover.Laws.{TakesOver}
 use Rattle.fc_laws.specs.takeover.Places.{MayBeWritten}
-use Rattle.fc_laws.proofs.lemmas.agree.BeforeLemmas.{agreed_law, on_disc}
+use Rattle.fc_laws.proofs.lemmas.agree.BeforeLemmas.{on_disc}
 use Rattle.fc_laws.proofs.lemmas.takeover.ApartLemmas.{places_law}
-use Rattle.fc_grownlaws.proofs.lemmas.agree.ViewedLemmas.{viewed_law}
 use Rattle.fc_objects.specs.Extents.{sectors_in}
 use Rattle.fc_refusals.specs.declared.target.Renaming.{Renaming}
 use Rattle.fc_space.specs.Space.{layout_of}
 use Rattle.fc_tree.specs.declared.node.Node.{Node}
 use Rattle.fc_tree.specs.Agree.{Agree}
-use Rattle.fc_tree.specs.Laws.{EntriesLaw}
 use Rattle.fc_tree.specs.Nodes.{nodes_of, number_of}
-use Rattle.fc_tree.specs.Parts.{AreOwners, ArePartsOf, Parts}
-use Rattle.fc_tree.proofs.SoundLemmas.{children_stored}
+use Rattle.fc_tree.specs.Parts.{AreOwners, ArePartsOf}
 use Rattle.fc_volume.specs.declared.changes.rewrite.Rewrite.{Rewrite}
 use Rattle.fc_volume.specs.Changing.{HasChanged, WritesPlaces, refusal_in}
 use Rattle.fc_volume.specs.Owners.{entry_owner}
-use Rattle.fc_volume.specs.Relocating.{HasMore, HasOwner, more_sectors, with_owner}
-use Rattle.fc_volume.proofs.MoveLemmas.{has_owner}
+use Rattle.fc_volume.specs.Relocating.{with_owner}
 use Rattle.fc_volume.proofs.PieceLemmas.{all_low}
 use Rattle.fc_growing.proofs.RenamingLeftLemmas as k_of
-use Rattle.std.proofs.lemmas.List.Elements.{All-cons, All-head, All-nil, All-tail}
+use Rattle.std.proofs.lemmas.List.Elements.{All-cons, All-nil}
 use Rattle.fc_tree.proofs.WalkedLemmas.{listed_directory}
 use Rattle.fc_image.specs.Layout.{is_among}
-use Rattle.fc_volume.specs.Renaming.{IsTurned}
 use Rattle.fc_volume.specs.Volume.{StandsFor, Volume, parts_of}
-use Rattle.fc_volume.proofs.RenameLemmas.{second_true, turned_round}
-use Rattle.fc_volume.proofs.TurnedLemmas.{sectors_turned}
 use Rattle.fc_growing.specs.declared.carried.Carried.{Carried}
 use Rattle.fc_growing.specs.Carried.{CanCopyOn, CanGrowCopied, IsCarriedDone, IsOffMap, IsReadyCopied, sectors_carried, sectors_to}
 use Rattle.fc_growing.specs.Around.{LieOn, sectors_around}
-use Rattle.fc_growing.specs.Growing.{CanTakeOver, IsGrowingDone, LiesOn, owners_grown, regrowth, sectors_written}
+use Rattle.fc_growing.specs.Growing.{LiesOn, regrowth, sectors_written}
 use Rattle.fc_growing.specs.Naming.{CanTakeName, HasNamed, nodes_named}
 use Rattle.fc_growing.specs.Needs.{short_of}
-use Rattle.fc_growing.specs.Renaming.{CanGetName, IsJudged, IsRoomFor}
+use Rattle.fc_growing.specs.Renaming.{IsJudged, IsRoomFor}
 use Rattle.fc_growing.specs.Room.{has_room_by, is_alone_by}
 use Rattle.fc_growing.specs.Writing.{CanWriteGrowth}
 use Rattle.fc_growing.proofs.AroundGrownLemmas as around_of
@@ -72,7 +63,6 @@ use Rattle.fc_growing.proofs.VolumeLemmas.{HasNow}
 use Rattle.fc_growing.proofs.RenamingAroundLemmas as but
 use Rattle.fc_growing.proofs.CarriedAskedLemmas as asked
 use Rattle.fc_growing.proofs.RenamingJudgeLemmas.{only_short}
-use Rattle.fc_growing.proofs.RenamingOwnLemmas.{one_sectors, own_low}
 use Rattle.fc_growing.proofs.CarriedStepsLemmas as steps
 use Rattle.fc_growing.proofs.CarriedObjectsLemmas as carried
 use Rattle.fc_growing.proofs.CarriedObjectsLemmas.{IsCarrying}

@@ -1,7 +1,6 @@
 -- `rename` to another directory, which grows: from what is ready in memory to the edit of the volume's objects.
-use Rattle.std.proofs.Common.{◌≡◌, ◌<◌, ◌≤◌, ◌+◌, ⊎_elim, inl, inr, ℕ, Bool, true, false, cond, List, [], ◌∷◌, ◌++◌, length, map, take, insert, remove, slice_get, Option, Some, None, refl, sym, ap, ap₂, subst, ◌∙◌, arith}
+use Rattle.std.proofs.Common.{◌≡◌, ◌<◌, ⊎_elim, inl, inr, ℕ, Bool, true, false, cond, List, [], ◌∷◌, ◌++◌, length, map, take, insert, remove, Some, None, refl, sym, ap, ap₂, subst, ◌∙◌, arith}
 use Rattle.std.specs.Prelude.{Contains}
-use Rattle.std.specs.Option.{option_map_or}
 use Rattle.std.proofs.lemmas.List.{take-append-le, take_all}
 use Rattle.std.proofs.lemmas.List.Elements.{Contains-append_cases}
 use Rattle.fc_names.specs.Names.{Path, folded, folded_path, is_same_name, is_same_path}
@@ -9,17 +8,17 @@ use Rattle.fc_names.specs.declared.name.NameForm.TheVariants as forms
 use Rattle.fc_record.specs.declared.Kind.{Kind}
 use Rattle.fc_newmap.specs.Map.{Map}
 use Rattle.fc_model.specs.Command.{Command}
-use Rattle.fc_model.specs.Tree.{holder, is_prefix, last_name}
+use Rattle.fc_model.specs.Tree.{is_prefix, last_name}
 use Rattle.fc_dirs.specs.declared.Entry.{Entry}
 use Rattle.fc_dirs.specs.Directory.{Directory, entries_of}
-use Rattle.fc_dirs.specs.Entries.{entry_place, has_name, with_entry as with_new_entry}
+use Rattle.fc_dirs.specs.Entries.{entry_place}
 use Rattle.fc_alloc.specs.declared.owner.Owner.{Owner}
 use Rattle.fc_drafts.specs.declared.room.Room.TheVariants as rooms
 use Rattle.fc_drafts.specs.Draft.{directory_in}
 use Rattle.fc_drafts.specs.Entries.{renamed_entry}
 use Rattle.fc_drafts.specs.Gains.{HasRoom}
 use Rattle.fc_drafts.specs.Rewriting.{HasEntered, HasMoved}
-use Rattle.fc_image.specs.effects.Short.{Gain, Growth, growth_in}
+use Rattle.fc_image.specs.effects.Short.{Gain, growth_in}
 use Rattle.fc_image.specs.effects.Steady.{IsRewritten, is_renamed_by}
 use Rattle.fc_image.specs.EditedWalk.{moved_object}
 use Rattle.fc_image.specs.InPlace.{says_now}
@@ -33,7 +32,7 @@ use Rattle.fc_image.proofs.PathsLemmas.{same_last, unless}
 use Rattle.fc_laws.specs.agree.Agreed.{AgreeOn, CanSay}
 use Rattle.fc_laws.specs.nodes.Edits.{Nodes, as_moved, relisted, with_body, with_entry, with_holder, with_own_body}
 use Rattle.fc_laws.proofs.lemmas.agree.BeforeLemmas.{sound}
-use Rattle.fc_growths.specs.Grown.{NewPlace, at_place, grown_says, holder_now}
+use Rattle.fc_growths.specs.Grown.{NewPlace, grown_says, holder_now}
 use Rattle.fc_grownlaws.specs.nodes.Commands.{IsGrownTransferred}
 use Rattle.fc_grownlaws.specs.nodes.Regrown.{regrown_object, with_bodies, with_regrown}
 use Rattle.fc_refusals.specs.declared.target.Renaming.{Renaming}
@@ -43,12 +42,11 @@ use Rattle.fc_refusals.specs.Targets.{IsTarget}
 use Rattle.fc_tree.specs.declared.node.Node.{Node}
 use Rattle.fc_tree.specs.Agree.{HasForm}
 use Rattle.fc_tree.specs.Laws.{EntriesLaw}
-use Rattle.fc_tree.specs.Nodes.{HoldObjects, body_in, number_of}
+use Rattle.fc_tree.specs.Nodes.{HoldObjects, body_in}
 use Rattle.fc_tree.proofs.MemberLemmas.{contains_cases, no_element}
 use Rattle.fc_tree.proofs.PlaceLemmas.{same_number}
 use Rattle.fc_tree.proofs.SoundLemmas.{fold_pushed, folds_alike}
 use Rattle.fc_tree.proofs.WalkedLemmas.{child_is_object, child_path, contained, same_some}
-use Rattle.fc_volume.specs.declared.changes.moving.Leaving.{Leaving}
 use Rattle.fc_volume.specs.declared.changes.rewrite.Rewrite.{Rewrite}
 use Rattle.fc_volume.proofs.MoveLemmas.{with_source}
 use Rattle.fc_volume.proofs.RenameLemmas.{can_say, moved_at, named_in}

@@ -1,6 +1,6 @@
 -- The directories around a grown one, but for one that a rename writes by itself.
-use Rattle.std.proofs.Common.{◌≡◌, ◌≤◌, ◌==◌, ◌&&◌, ◌||◌, ⊎_elim, ℕ, Bool, true, false, cond, not, List, [], ◌∷◌, ◌++◌, filter, Option, Some, None, refl, sym, ap, ap₂, subst, ◌∙◌, append_assoc, eq-eqb}
-use Rattle.std.specs.Prelude.{All, Contains, IsPermutation, IsSome, is_some}
+use Rattle.std.proofs.Common.{◌≡◌, ◌≤◌, ◌==◌, ◌&&◌, ◌||◌, ⊎_elim, ℕ, Bool, true, false, cond, not, List, [], ◌∷◌, ◌++◌, filter, Option, Some, None, refl, sym, ap, subst, ◌∙◌, append_assoc, eq-eqb}
+use Rattle.std.specs.Prelude.{All, Contains, IsPermutation, IsSome}
 use Rattle.std.specs.FinMap.{get}
 use Rattle.std.specs.List.{flat_map}
 use Rattle.std.specs.Option.{option_map_or}
@@ -19,7 +19,7 @@ use Rattle.fc_image.specs.Layout.{Layout, disc_sectors}
 use Rattle.fc_image.specs.Objects.{objects_of}
 use Rattle.fc_image.specs.Opening.{Opened}
 use Rattle.fc_image.specs.Stays.{HasSectorsOf}
-use Rattle.fc_image.specs.Walk.{Listing, Object}
+use Rattle.fc_image.specs.Walk.{Listing}
 use Rattle.fc_image.proofs.PathsLemmas.{unless}
 use Rattle.fc_image.proofs.ShuffleLemmas.{IsPermutation-filter}
 use Rattle.fc_tree.specs.declared.node.Node.{Node}
@@ -27,7 +27,6 @@ use Rattle.fc_tree.specs.Nodes.{number_of}
 use Rattle.fc_tree.proofs.MemberLemmas.{contains_cases, contains_here, contains_later, no_element}
 use Rattle.fc_tree.proofs.PlaceLemmas.{one_path, same_number}
 use Rattle.fc_tree.proofs.SoundLemmas.{folds_alike, same_by_folds}
-use Rattle.fc_tree.proofs.WalkedLemmas.{listed_directory, same_some}
 use Rattle.fc_changes.specs.Owed.{IsWritten}
 use Rattle.fc_laws.specs.nodes.Edits.{Nodes}
 use Rattle.fc_laws.specs.agree.Agreed.{CanSay}

@@ -1,5 +1,5 @@
 -- `rename`, by what the judge and the room say.
-use Rattle.std.proofs.Common.{◌≡◌, ℕ, List, Some, refl, ap, subst, ◌∙◌}
+use Rattle.std.proofs.Common.{◌≡◌, ℕ, List, Some, refl, subst, ◌∙◌}
 use Rattle.fc_names.specs.Names.{Path}
 use Rattle.fc_names.specs.declared.refusal.Refusal.TheVariants as refusals
 use Rattle.fc_model.specs.Command.{Command}

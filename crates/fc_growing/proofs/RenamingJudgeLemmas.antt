@@ -1,5 +1,5 @@
 -- What the judge of `rename` has accepted, and the growth of the directory that gets the name, by the room that it has.
-use Rattle.std.proofs.Common.{◌≡◌, inl, inr, ◌++◌, ◌∷◌, [], ℕ, Bool, true, false, cond, not, List, filter, slice_get, Option, Some, None, refl, sym, ap, ap₂, subst, ◌∙◌}
+use Rattle.std.proofs.Common.{◌≡◌, inl, inr, ◌++◌, ◌∷◌, [], ℕ, Bool, true, false, cond, not, List, slice_get, Option, Some, None, refl, sym, ap, ap₂, subst, ◌∙◌}
 use Rattle.std.specs.Prelude.{Result, Ok, Err, IfOk, OnOk, IsTrue, if◌then◌else◌, option_map}
 use Rattle.std.specs.FinMap.{get}
 use Rattle.std.specs.Option.{option_and_then, option_map_or}
@@ -9,18 +9,16 @@ use Rattle.std.proofs.lemmas.Slice.Eq.{bytes_eq-Decides}
 use Rattle.fc_names.specs.declared.name.NameForm.{NameForm}
 use Rattle.fc_names.specs.declared.refusal.Refusal.{Refusal}
 use Rattle.fc_names.specs.declared.refusal.Refusal.TheVariants as refusals
-use Rattle.fc_names.specs.Names.{Path, is_same_name, is_same_path, is_writable}
+use Rattle.fc_names.specs.Names.{Path, is_writable}
 use Rattle.fc_model.specs.Answer.{first_of, reasons, when}
 use Rattle.fc_model.specs.Command.{Command}
-use Rattle.fc_model.specs.Tree.{holder, last_name}
-use Rattle.fc_dirs.specs.declared.Entry.{Entry}
+use Rattle.fc_model.specs.Tree.{last_name}
 use Rattle.fc_dirs.specs.Directory.{Directory, entries_of}
 use Rattle.fc_drafts.specs.declared.room.Room.{Room}
 use Rattle.fc_drafts.specs.declared.room.Room.TheVariants as rooms
-use Rattle.fc_drafts.specs.Draft.{names_of}
 use Rattle.fc_drafts.specs.Gains.{GetsName, GetsNameFor, HasRoom}
 use Rattle.fc_image.specs.Layout.{Layout, dir_form}
-use Rattle.fc_image.specs.Objects.{listing_at, object_at, tree_of}
+use Rattle.fc_image.specs.Objects.{tree_of}
 use Rattle.fc_image.specs.Opening.{Opened}
 use Rattle.fc_image.specs.Sound.{AreSound}
 use Rattle.fc_image.specs.Walk.{Listing, Object}
@@ -28,22 +26,19 @@ use Rattle.fc_image.specs.effects.Short.{Gain, gain_at, gain_by_new_name, gain_b
 use Rattle.fc_laws.specs.nodes.Edits.{Nodes}
 use Rattle.fc_refusals.specs.declared.target.Renaming.{Renaming}
 use Rattle.fc_refusals.specs.Slots.{IsRenaming}
-use Rattle.fc_refusals.specs.Targets.{refusal_of}
 use Rattle.fc_space.specs.Space.{layout_of}
 use Rattle.fc_tree.specs.declared.node.Node.{Node}
 use Rattle.fc_tree.specs.Laws.{EntriesLaw}
 use Rattle.fc_tree.specs.Nodes.{HoldObjects, body_in, nodes_of}
 use Rattle.fc_tree.specs.Parts.{ArePartsOf, Parts}
-use Rattle.fc_tree.proofs.WalkedLemmas.{same_some}
 use Rattle.fc_volume.specs.Changing.{refusal_in}
 use Rattle.fc_volume.specs.Roomy.{IsRoomy}
 use Rattle.fc_volume.specs.Volume.{Volume, parts_of}
 use Rattle.fc_volume.proofs.AcceptedLemmas.{JudgesRename}
 use Rattle.fc_volume.proofs.FitsLemmas as fits
-use Rattle.fc_volume.proofs.RespelledLemmas.{like}
 use Rattle.fc_volume.proofs.SettingLemmas.{one_content}
 use Rattle.fc_volume.proofs.TargetLemmas as target_of
-use Rattle.fc_growing.specs.Renaming.{HasRoomFor, IsJudged, IsRoomFor}
+use Rattle.fc_growing.specs.Renaming.{IsJudged, IsRoomFor}
 
 -- ---- the judge
 

@@ -1,9 +1,9 @@
 -- The directory that an object leaves, where another one grows: it may hold that one, or lie in it.
-use Rattle.std.proofs.Common.{◌≡◌, ◌==◌, ◌&&◌, ⊎_elim, inl, inr, ◌≤◌, ℕ, Bool, true, false, cond, List, [], ◌∷◌, ◌++◌, length, map, remove, slice_get, Option, Some, refl, sym, ap, ap₂, subst, ◌∙◌, arith, eq-eqb}
-use Rattle.std.specs.Prelude.{Contains, if◌then◌else◌}
+use Rattle.std.proofs.Common.{◌≡◌, ◌==◌, ◌&&◌, inl, inr, ℕ, Bool, true, false, cond, List, [], ◌∷◌, ◌++◌, length, map, remove, slice_get, Option, Some, refl, sym, ap, ap₂, subst, ◌∙◌, arith, eq-eqb}
+use Rattle.std.specs.Prelude.{Contains}
 use Rattle.std.specs.FinMap.{get}
 use Rattle.std.specs.Option.{option_map_or}
-use Rattle.std.proofs.lemmas.Bool.{eqb-true, ne_eqb}
+use Rattle.std.proofs.lemmas.Bool.{eqb-true}
 use Rattle.std.proofs.lemmas.List.{length_push}
 use Rattle.fc_names.specs.Names.{Path, is_same_name, is_same_path}
 use Rattle.fc_names.specs.declared.name.NameForm.{NameForm}
@@ -15,17 +15,16 @@ use Rattle.fc_dirs.specs.declared.Entry.{Entry}
 use Rattle.fc_dirs.specs.Directory.{Directory, entries_of}
 use Rattle.fc_dirs.specs.Entries.{without_entry}
 use Rattle.fc_alloc.specs.declared.owner.Owner.{Owner}
-use Rattle.fc_drafts.specs.Draft.{directory_in, size_of}
-use Rattle.fc_drafts.specs.Rewriting.{HasLeft}
+use Rattle.fc_drafts.specs.Draft.{directory_in}
 use Rattle.fc_image.specs.effects.Steady.{IsRewritten, is_renamed_by, regrown_entry}
 use Rattle.fc_image.specs.Layout.{Layout, dir_form}
 use Rattle.fc_image.specs.Objects.{objects_of}
 use Rattle.fc_image.specs.Opening.{Opened}
 use Rattle.fc_image.specs.Report.{holder_address}
 use Rattle.fc_image.specs.Sound.{AreSound}
-use Rattle.fc_image.specs.Walk.{Listing, Object, is_directory_object, object_size}
+use Rattle.fc_image.specs.Walk.{Listing, Object, object_size}
 use Rattle.fc_image.proofs.PathsLemmas.{itself, same_last, unless}
-use Rattle.fc_laws.specs.agree.Agreed.{AgreeOn, CanSay}
+use Rattle.fc_laws.specs.agree.Agreed.{CanSay}
 use Rattle.fc_laws.specs.nodes.Edits.{Nodes}
 use Rattle.fc_laws.proofs.lemmas.nodes.ListLemmas.{map_fixed, map_remove}
 use Rattle.fc_growths.specs.Grown.{NewPlace, at_place, holder_now}
@@ -33,11 +32,10 @@ use Rattle.fc_objects.specs.Extents.{sectors_in}
 use Rattle.fc_refusals.specs.declared.target.Target.{Target}
 use Rattle.fc_tree.specs.declared.node.Node.{Node}
 use Rattle.fc_tree.specs.Agree.{HasForm}
-use Rattle.fc_tree.specs.Counts.{address_in}
 use Rattle.fc_tree.specs.Nodes.{HoldObjects, number_of}
 use Rattle.fc_tree.proofs.PlaceLemmas.{same_number}
 use Rattle.fc_tree.proofs.SoundLemmas.{folds_alike, root_or_child, same_listing}
-use Rattle.fc_tree.proofs.WalkedLemmas.{child_path, holder-push, listed_directory, root, root_path, same_some}
+use Rattle.fc_tree.proofs.WalkedLemmas.{child_path, holder-push, listed_directory, root_path, same_some}
 use Rattle.fc_volume.specs.declared.changes.moving.Leaving.{Leaving}
 use Rattle.fc_volume.proofs.DeleteLemmas.{entries_left, form_left}
 use Rattle.fc_volume.proofs.RewriteLemmas as rewrite

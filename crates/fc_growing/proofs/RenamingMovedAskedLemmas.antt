@@ -1,5 +1,5 @@
 -- `rename` to another directory, which grows: what making it ready asks for, and how it is refused for want of space.
-use Rattle.std.proofs.Common.{◌≡◌, ◌<◌, ◌==◌, ◌⊎◌, inl, inr, ℕ, Bool, true, false, cond, List, length, slice_get, Option, Some, None, refl, sym, ap, ap₂, subst, ◌∙◌, arith}
+use Rattle.std.proofs.Common.{◌≡◌, ◌<◌, ◌==◌, ◌⊎◌, inl, inr, ℕ, Bool, true, false, cond, List, Option, Some, None, refl, sym, ap, ap₂, subst, ◌∙◌, arith}
 use Rattle.std.specs.Prelude.{Contains, IsTrue, is_some, if◌then◌else◌}
 use Rattle.std.specs.FinMap.{get}
 use Rattle.std.specs.Option.{option_map_or}
@@ -38,7 +38,7 @@ use Rattle.fc_tree.specs.declared.node.Node.{Node}
 use Rattle.fc_tree.specs.Agree.{HasForm}
 use Rattle.fc_tree.specs.Laws.{EntriesLaw}
 use Rattle.fc_tree.specs.Nodes.{HoldObjects, number_of}
-use Rattle.fc_tree.specs.Parts.{AreOwners, Parts}
+use Rattle.fc_tree.specs.Parts.{AreOwners}
 use Rattle.fc_tree.proofs.MemberLemmas.{in_map}
 use Rattle.fc_tree.proofs.SoundLemmas.{children_stored, root_or_child, same_listing}
 use Rattle.fc_tree.proofs.WalkedLemmas.{child_is_object, child_path, contained, holder-push, listed_directory, root, root_path, same_some}

@@ -1,7 +1,6 @@
 -- `rename` to another directory, which grows: from what is ready and written to what the command promises of the image and of the volume's parts.
-use Rattle.std.proofs.Common.{◌≡◌, ◌<◌, ◌≤◌, ◌*◌, ◌==◌, ◌||◌, ℕ, Bool, true, false, cond, not, List, [], ◌∷◌, ◌++◌, length, take, Option, Some, None, refl, sym, ap, ap₂, subst, ◌∙◌, arith, eq-eqb}
-use Rattle.std.specs.Prelude.{Contains, if◌then◌else◌, is_some}
-use Rattle.std.specs.List.{flat_map}
+use Rattle.std.proofs.Common.{◌≡◌, ℕ, Bool, true, false, not, List, [], ◌∷◌, ◌++◌, length, take, Option, Some, None, refl, sym, ap, subst, ◌∙◌, arith, eq-eqb}
+use Rattle.std.specs.Prelude.{Contains, is_some}
 use Rattle.std.specs.Option.{option_map_or, option_to_list}
 use Rattle.std.proofs.lemmas.List.{take_all}
 use Rattle.std.proofs.lemmas.List.Elements.{Contains-append_right}
@@ -12,14 +11,14 @@ use Rattle.fc_names.specs.declared.name.NameForm.TheVariants as forms
 use Rattle.fc_record.specs.declared.Kind.{Kind}
 use Rattle.fc_newmap.specs.Map.{Map, map_sectors}
 use Rattle.fc_model.specs.Command.{Command}
-use Rattle.fc_model.specs.Tree.{holder, is_prefix, last_name}
+use Rattle.fc_model.specs.Tree.{holder, last_name}
 use Rattle.fc_dirs.specs.Big.{BigDir}
 use Rattle.fc_dirs.specs.declared.Entry.{Entry}
 use Rattle.fc_dirs.specs.Directory.{Directory, entries_of}
 use Rattle.fc_alloc.specs.declared.owner.Owner.{Owner}
 use Rattle.fc_alloc.specs.Owners.{HaveOwnNodes}
 use Rattle.fc_drafts.specs.declared.room.Room.TheVariants as rooms
-use Rattle.fc_drafts.specs.Draft.{directory_in, size_of, with_head, with_new}
+use Rattle.fc_drafts.specs.Draft.{size_of, with_head, with_new}
 use Rattle.fc_drafts.specs.Gains.{GetsName, HasRoom}
 use Rattle.fc_drafts.specs.Rewriting.{HasEntered}
 use Rattle.fc_device.specs.Sectors.{sector_at}
@@ -46,7 +45,7 @@ use Rattle.fc_objects.specs.Extents.{sectors_in}
 use Rattle.fc_placing.specs.Copying.{SaysCopied}
 use Rattle.fc_plan.specs.declared.plan.Plan.{Plan}
 use Rattle.fc_plan.specs.Applied.{id_in, parts_in}
-use Rattle.fc_growths.specs.Grown.{IsGrownAt, NewPlace, at_place, holder_now}
+use Rattle.fc_growths.specs.Grown.{IsGrownAt, NewPlace, at_place}
 use Rattle.fc_grownlaws.specs.agree.Commands.{AgreeAfter, GrowsIn}
 use Rattle.fc_grownlaws.specs.takeover.Steps.{IsGrowingByName, IsGrownMovedInSteps, IsGrowthInSteps}
 use Rattle.fc_grownlaws.proofs.lemmas.agree.AcrossLemmas.{grown_transferred_law}
@@ -59,17 +58,13 @@ use Rattle.fc_tree.specs.Agree.{HasForm}
 use Rattle.fc_tree.specs.Laws.{EntriesLaw}
 use Rattle.fc_tree.specs.Nodes.{number_of}
 use Rattle.fc_tree.proofs.MemberLemmas.{contains_later}
-use Rattle.fc_tree.proofs.PlaceLemmas.{one_path}
 use Rattle.fc_tree.proofs.SoundLemmas.{folds_alike}
 use Rattle.fc_tree.proofs.WalkedLemmas.{listed_directory}
 use Rattle.fc_volume.specs.declared.changes.rewrite.Rewrite.{Rewrite}
-use Rattle.fc_volume.specs.Owners.{entry_owner}
 use Rattle.fc_volume.specs.Relocating.{AreFilled, AreMoreFilled, with_owner}
 use Rattle.fc_volume.proofs.RenameLemmas.{both_same, too_long, turned_round}
 use Rattle.fc_volume.proofs.RewriteLemmas.{says_it}
-use Rattle.fc_volume.proofs.TargetLemmas as target_of
 use Rattle.fc_volume.proofs.TurnedLemmas.{fills}
-use Rattle.fc_growing.specs.declared.around.Regrowth.{Regrowth}
 use Rattle.fc_growing.specs.declared.growing.Growing.{Growing}
 use Rattle.fc_growing.specs.declared.naming.Naming.{Naming}
 use Rattle.fc_growing.specs.declared.place.GrownPlace.{GrownPlace}

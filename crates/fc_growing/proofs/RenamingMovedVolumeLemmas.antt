@@ -1,13 +1,12 @@
 -- `rename` to another directory, which grows, of a volume: what is asked before the writing, and what the volume stands for afterwards.
-use Rattle.std.proofs.Common.{◌≡◌, ◌<◌, ◌≤◌, ◌||◌, ℕ, Bool, true, false, List, [], ◌∷◌, ◌++◌, length, Option, Some, None, refl, sym, ap, ap₂, subst, ◌∙◌, arith}
+use Rattle.std.proofs.Common.{◌≡◌, ◌<◌, ◌≤◌, ◌||◌, ℕ, Bool, true, false, List, [], ◌∷◌, ◌++◌, Option, Some, None, refl, sym, ap, ap₂, subst, ◌∙◌, arith}
 use Rattle.std.specs.Prelude.{All, Contains, IsSome, IsTrue, is_some, if◌then◌else◌}
 use Rattle.std.specs.FinMap.{get}
-use Rattle.std.specs.Option.{ForSome, option_to_list}
+use Rattle.std.specs.Option.{option_to_list}
 use Rattle.std.proofs.lemmas.List.{append-nil}
 use Rattle.fc_device.specs.declared.disk.Disk.{Ghosts}
 use Rattle.fc_device.specs.Calls.{SameForm, StopsAndExitsLeave}
 use Rattle.fc_names.specs.Names.{Path, is_same_path}
-use Rattle.fc_names.specs.declared.name.NameForm.TheVariants as forms
 use Rattle.fc_record.specs.declared.Kind.{Kind}
 use Rattle.fc_newmap.specs.Map.{Map}
 use Rattle.fc_newmap.specs.NewMap.{IsNewMap}
@@ -23,7 +22,7 @@ use Rattle.fc_image.specs.Objects.{objects_of}
 use Rattle.fc_image.specs.Opening.{Opened}
 use Rattle.fc_image.specs.Sound.{AreSound}
 use Rattle.fc_image.specs.Stays.{OpensAs}
-use Rattle.fc_image.specs.Walk.{Listing, Object, is_directory_object}
+use Rattle.fc_image.specs.Walk.{Listing, Object}
 use Rattle.fc_image.specs.effects.Steady.{has_grown, has_new_holder}
 use Rattle.fc_changes.specs.Owed.{IsWritten}
 use Rattle.fc_laws.specs.agree.Agreed.{AgreeOn}
@@ -32,16 +31,13 @@ use Rattle.fc_laws.specs.takeover.Laws.{TakesOver}
 use Rattle.fc_laws.specs.takeover.Places.{MayBeWritten}
 use Rattle.fc_laws.proofs.lemmas.agree.BeforeLemmas.{agreed_law, on_disc}
 use Rattle.fc_laws.proofs.lemmas.takeover.ApartLemmas.{places_law}
-use Rattle.fc_grownlaws.proofs.lemmas.agree.ViewedLemmas.{viewed_law}
 use Rattle.fc_objects.specs.Extents.{sectors_in}
 use Rattle.fc_refusals.specs.declared.target.Renaming.{Renaming}
 use Rattle.fc_space.specs.Space.{layout_of}
 use Rattle.fc_tree.specs.declared.node.Node.{Node}
 use Rattle.fc_tree.specs.Agree.{Agree}
-use Rattle.fc_tree.specs.Laws.{EntriesLaw}
 use Rattle.fc_tree.specs.Nodes.{nodes_of, number_of}
-use Rattle.fc_tree.specs.Parts.{AreOwners, ArePartsOf, Parts}
-use Rattle.fc_tree.proofs.SoundLemmas.{children_stored}
+use Rattle.fc_tree.specs.Parts.{AreOwners, ArePartsOf}
 use Rattle.fc_volume.specs.declared.changes.rewrite.Rewrite.{Rewrite}
 use Rattle.fc_volume.specs.Changing.{HasChanged, WritesPlaces, refusal_in}
 use Rattle.fc_volume.specs.Owners.{entry_owner}
@@ -58,10 +54,10 @@ use Rattle.fc_volume.proofs.RenameLemmas.{second_true, turned_round}
 use Rattle.fc_volume.proofs.TurnedLemmas.{sectors_turned}
 use Rattle.fc_growing.specs.declared.naming.Naming.{Naming}
 use Rattle.fc_growing.specs.Around.{LieOn, sectors_around}
-use Rattle.fc_growing.specs.Growing.{CanTakeOver, IsGrowingDone, LiesOn, owners_grown, regrowth, sectors_written}
+use Rattle.fc_growing.specs.Growing.{IsGrowingDone, LiesOn, regrowth, sectors_written}
 use Rattle.fc_growing.specs.Naming.{CanGrowAcross, CanTakeName, HasNamed, IsReadyAcross, nodes_named}
 use Rattle.fc_growing.specs.Needs.{short_of}
-use Rattle.fc_growing.specs.Renaming.{CanGetName, IsJudged, IsRoomFor}
+use Rattle.fc_growing.specs.Renaming.{IsJudged, IsRoomFor}
 use Rattle.fc_growing.specs.Room.{has_room_by, is_alone_by}
 use Rattle.fc_growing.specs.Writing.{CanWriteGrowth}
 use Rattle.fc_growing.proofs.AroundGrownLemmas as around_of
@@ -71,7 +67,7 @@ use Rattle.fc_growing.proofs.VolumeLemmas.{HasNow}
 use Rattle.fc_growing.proofs.RenamingAroundLemmas as but
 use Rattle.fc_growing.proofs.RenamingMovedAskedLemmas as asked
 use Rattle.fc_growing.proofs.RenamingJudgeLemmas.{only_short}
-use Rattle.fc_growing.proofs.RenamingOwnLemmas.{one_sectors, own_low}
+use Rattle.fc_growing.proofs.RenamingOwnLemmas.{own_low}
 use Rattle.fc_growing.proofs.RenamingMovedLemmas as steps
 use Rattle.fc_growing.proofs.RenamingAcrossLemmas as across
 use Rattle.fc_growing.proofs.RenamingAcrossLemmas.{IsNamingAcross}

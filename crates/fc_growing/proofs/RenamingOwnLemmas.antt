@@ -1,5 +1,5 @@
 -- The object that is renamed, if it is a directory, as it is written last; and the directory that it leaves.
-use Rattle.std.proofs.Common.{◌≡◌, ◌*◌, ◌<◌, ◌≤◌, ℕ, Bool, true, false, cond, List, [], ◌∷◌, ◌++◌, length, Option, Some, None, refl, sym, ap, subst, ◌∙◌, arith}
+use Rattle.std.proofs.Common.{◌≡◌, ◌<◌, ℕ, true, false, List, [], ◌++◌, length, Option, Some, None, refl, sym, ap, subst, ◌∙◌}
 use Rattle.std.specs.Prelude.{All, Contains, if◌then◌else◌}
 use Rattle.std.specs.Option.{option_to_list}
 use Rattle.std.proofs.lemmas.List.Elements.{All-cons, All-nil}
@@ -7,7 +7,7 @@ use Rattle.fc_newmap.specs.Map.{Map, map_sectors}
 use Rattle.fc_newmap.specs.NewMap.{IsNewMap}
 use Rattle.fc_dirs.specs.Directory.{Directory}
 use Rattle.fc_device.specs.Sectors.{sector_at}
-use Rattle.fc_drafts.specs.Draft.{directory_in, size_of}
+use Rattle.fc_drafts.specs.Draft.{directory_in}
 use Rattle.fc_image.specs.effects.Steady.{AreWritten}
 use Rattle.fc_image.specs.Edits.{IsAt}
 use Rattle.fc_image.specs.Layout.{Layout, dir_form, is_among, is_apart}

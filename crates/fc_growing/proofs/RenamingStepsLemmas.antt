@@ -1,26 +1,22 @@
 -- `rename` within a directory that grows: from what is ready and written to what the command promises of the image and of the volume's parts.
 use Rattle.std.proofs.Common.{◌≡◌, ◌<◌, ◌≤◌, ◌*◌, ◌==◌, ◌||◌, ℕ, Bool, true, false, cond, not, List, [], ◌∷◌, ◌++◌, length, Option, Some, None, refl, sym, ap, ap₂, subst, ◌∙◌, arith}
-use Rattle.std.specs.Prelude.{Contains, if◌then◌else◌, is_some}
-use Rattle.std.specs.List.{flat_map}
+use Rattle.std.specs.Prelude.{Contains, is_some}
 use Rattle.std.proofs.lemmas.List.Sorted.{Contains-permutation, IsPermutation-sym}
 use Rattle.fc_names.specs.Names.{Path, is_same_path}
 use Rattle.fc_names.specs.declared.name.NameForm.{NameForm}
 use Rattle.fc_names.specs.declared.name.NameForm.TheVariants as forms
 use Rattle.fc_record.specs.declared.Kind.{Kind}
-use Rattle.fc_newmap.specs.Map.{Map, is_used, map_sectors}
+use Rattle.fc_newmap.specs.Map.{Map, map_sectors}
 use Rattle.fc_model.specs.Command.{Command}
 use Rattle.fc_model.specs.Tree.{holder, last_name}
 use Rattle.fc_dirs.specs.Directory.{Directory}
 use Rattle.fc_alloc.specs.declared.owner.Owner.{Owner}
-use Rattle.fc_alloc.specs.Owners.{HaveOwnNodes, with_changed}
-use Rattle.fc_drafts.specs.Draft.{directory_in}
-use Rattle.fc_drafts.specs.Entries.{regrown}
+use Rattle.fc_alloc.specs.Owners.{HaveOwnNodes}
 use Rattle.fc_device.specs.Sectors.{sector_at}
 use Rattle.fc_device.specs.declared.disk.Extent.{Extent}
 use Rattle.fc_image.specs.effects.Short.{Growth as GrowthTo, growth_in}
-use Rattle.fc_image.specs.effects.Steady.{AreWritten, IsRewritten, is_given_back, is_renamed_by}
-use Rattle.fc_image.specs.Edits.{IsAt}
-use Rattle.fc_image.specs.Layout.{Layout, dir_form}
+use Rattle.fc_image.specs.effects.Steady.{AreWritten, IsRewritten, is_renamed_by}
+use Rattle.fc_image.specs.Layout.{Layout}
 use Rattle.fc_image.specs.Objects.{objects_of}
 use Rattle.fc_image.specs.Opening.{Opened, boot_place, reserved_in}
 use Rattle.fc_image.specs.Stays.{HasSectorsOf, OpensAs}
@@ -29,20 +25,17 @@ use Rattle.fc_image.proofs.HolesLemmas.{Lies}
 use Rattle.fc_image.proofs.PathsLemmas.{unless}
 use Rattle.fc_changes.specs.Owed.{IsWritten}
 use Rattle.fc_changes.proofs.StepsLemmas.{writes_law}
-use Rattle.fc_laws.specs.agree.Agreed.{AgreeOn, CanSay, PartsFollow}
+use Rattle.fc_laws.specs.agree.Agreed.{AgreeOn}
 use Rattle.fc_laws.specs.nodes.Edits.{Nodes}
 use Rattle.fc_laws.specs.takeover.Laws.{TakesOver}
-use Rattle.fc_laws.specs.takeover.Steps.{Begins}
 use Rattle.fc_laws.proofs.lemmas.agree.BeforeLemmas.{object_lies}
 use Rattle.fc_laws.proofs.lemmas.takeover.SaidLemmas.{apart_front}
 use Rattle.fc_laws.proofs.lemmas.takeover.WriteLemmas.{written_bytes_law}
 use Rattle.fc_objects.specs.Extents.{sectors_in}
 use Rattle.fc_plan.specs.declared.plan.Plan.{Plan}
 use Rattle.fc_plan.specs.Applied.{id_in, parts_in}
-use Rattle.fc_plan.specs.Giving.{is_one_of}
 use Rattle.fc_growths.specs.Grown.{NewPlace, at_place, holder_now}
 use Rattle.fc_grownlaws.specs.agree.Commands.{AgreeAfter, GrowsIn}
-use Rattle.fc_grownlaws.specs.nodes.Space.{is_left}
 use Rattle.fc_grownlaws.specs.takeover.Steps.{IsGrowingByName, IsGrownRenamedInSteps, IsGrowthInSteps}
 use Rattle.fc_grownlaws.proofs.lemmas.agree.WithinLemmas.{grown_renamed_law}
 use Rattle.fc_grownlaws.proofs.lemmas.takeover.StepsLawLemmas.{grown_steps_law}
@@ -56,9 +49,6 @@ use Rattle.std.proofs.lemmas.List.Elements.{Contains-append_right}
 use Rattle.fc_tree.proofs.WalkedLemmas.{listed_directory}
 use Rattle.fc_volume.specs.declared.changes.rewrite.Rewrite.{Rewrite}
 use Rattle.fc_volume.proofs.RenameLemmas.{named_in, turned_round}
-use Rattle.fc_volume.proofs.StoringLemmas.{wider_first}
-use Rattle.fc_volume.specs.Owners.{entry_owner}
-use Rattle.fc_growing.specs.declared.around.Regrowth.{Regrowth}
 use Rattle.fc_growing.specs.declared.growing.Growing.{Growing}
 use Rattle.fc_growing.specs.declared.naming.Naming.{Naming}
 use Rattle.fc_growing.specs.declared.place.GrownPlace.{GrownPlace}

@@ -1,13 +1,12 @@
 -- `rename` within a directory that grows, of a volume: what is asked before the writing, and what the volume stands for afterwards.
-use Rattle.std.proofs.Common.{◌≡◌, ◌<◌, ◌≤◌, ◌||◌, ℕ, Bool, true, false, List, [], ◌∷◌, ◌++◌, length, Option, Some, None, refl, sym, ap, ap₂, subst, ◌∙◌, arith}
-use Rattle.std.specs.Prelude.{All, Contains, IsSome, IsTrue, is_some, if◌then◌else◌}
+use Rattle.std.proofs.Common.{◌≡◌, ◌<◌, ◌≤◌, ◌||◌, ℕ, Bool, true, List, [], length, Option, Some, None, refl, sym, ap, ap₂, subst, ◌∙◌, arith}
+use Rattle.std.specs.Prelude.{All, IsSome, IsTrue, is_some, if◌then◌else◌}
 use Rattle.std.specs.FinMap.{get}
-use Rattle.std.specs.Option.{ForSome, option_to_list}
+use Rattle.std.specs.Option.{option_to_list}
 use Rattle.std.proofs.lemmas.List.{append-nil}
 use Rattle.fc_device.specs.declared.disk.Disk.{Ghosts}
 use Rattle.fc_device.specs.Calls.{SameForm, StopsAndExitsLeave}
 use Rattle.fc_names.specs.Names.{Path, is_same_path}
-use Rattle.fc_names.specs.declared.name.NameForm.TheVariants as forms
 use Rattle.fc_record.specs.declared.Kind.{Kind}
 use Rattle.fc_newmap.specs.Map.{Map}
 use Rattle.fc_newmap.specs.NewMap.{IsNewMap}
@@ -23,7 +22,7 @@ use Rattle.fc_image.specs.Objects.{objects_of}
 use Rattle.fc_image.specs.Opening.{Opened}
 use Rattle.fc_image.specs.Sound.{AreSound}
 use Rattle.fc_image.specs.Stays.{OpensAs}
-use Rattle.fc_image.specs.Walk.{Listing, Object, is_directory_object}
+use Rattle.fc_image.specs.Walk.{Listing, Object}
 use Rattle.fc_image.specs.effects.Steady.{has_grown, has_new_holder}
 use Rattle.fc_changes.specs.Owed.{IsWritten}
 use Rattle.fc_laws.specs.agree.Agreed.{AgreeOn}
@@ -52,7 +51,7 @@ use Rattle.fc_volume.proofs.RenameLemmas.{second_true, turned_round}
 use Rattle.fc_volume.proofs.TurnedLemmas.{sectors_turned}
 use Rattle.fc_growing.specs.declared.naming.Naming.{Naming}
 use Rattle.fc_growing.specs.Around.{LieOn, sectors_around}
-use Rattle.fc_growing.specs.Growing.{CanTakeOver, IsGrowingDone, LiesOn, owners_grown, regrowth, sectors_written}
+use Rattle.fc_growing.specs.Growing.{IsGrowingDone, LiesOn, owners_grown, regrowth, sectors_written}
 use Rattle.fc_growing.specs.Naming.{CanGrowWithin, CanTakeName, HasNamed, IsReadyWithin, nodes_named}
 use Rattle.fc_growing.specs.Needs.{short_of}
 use Rattle.fc_growing.specs.Renaming.{CanGetName, IsJudged, IsRoomFor}

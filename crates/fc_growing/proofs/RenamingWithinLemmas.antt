@@ -1,5 +1,5 @@
 -- `rename` within a directory that grows: from what is ready in memory to the edit of the volume's objects.
-use Rattle.std.proofs.Common.{◌≡◌, ◌<◌, ◌≤◌, ◌+◌, ℕ, Bool, true, false, cond, filter, not, List, [], ◌∷◌, ◌++◌, length, insert, remove, slice_get, Option, Some, None, refl, sym, ap, ap₂, subst, ◌∙◌, arith}
+use Rattle.std.proofs.Common.{◌≡◌, ◌<◌, ℕ, Bool, true, false, cond, filter, not, List, [], ◌∷◌, ◌++◌, length, insert, remove, slice_get, Option, Some, None, refl, sym, ap, subst, ◌∙◌, arith}
 use Rattle.std.specs.Prelude.{Contains, nat_lt}
 use Rattle.std.specs.Option.{option_map_or}
 use Rattle.std.proofs.lemmas.Bool.{ltb-true}
@@ -14,14 +14,14 @@ use Rattle.fc_model.specs.Tree.{holder, last_name}
 use Rattle.fc_dirs.specs.declared.Entry.{Entry}
 use Rattle.fc_dirs.specs.Big.{BigDir, needed_size}
 use Rattle.fc_dirs.specs.Directory.{Directory, entries_of}
-use Rattle.fc_dirs.specs.Entries.{entry_place, has_name, with_entry as with_new_entry, without_entry}
+use Rattle.fc_dirs.specs.Entries.{entry_place, with_entry as with_new_entry, without_entry}
 use Rattle.fc_alloc.specs.declared.owner.Owner.{Owner}
 use Rattle.fc_drafts.specs.declared.room.Room.TheVariants as rooms
 use Rattle.fc_drafts.specs.Draft.{directory_in, names_of, size_of}
 use Rattle.fc_drafts.specs.Entries.{renamed_entry}
 use Rattle.fc_drafts.specs.Gains.{GetsNameFor, HasRoom}
 use Rattle.fc_drafts.specs.Rewriting.{HasMoved, HasRenamed}
-use Rattle.fc_image.specs.effects.Short.{Gain, Growth, growth_in, growth_with}
+use Rattle.fc_image.specs.effects.Short.{Gain, Growth, growth_in}
 use Rattle.fc_image.specs.effects.Steady.{IsRewritten, is_renamed_by}
 use Rattle.fc_image.specs.EditedWalk.{moved_object}
 use Rattle.fc_image.specs.Layout.{Layout, dir_form}
@@ -30,7 +30,7 @@ use Rattle.fc_image.specs.Opening.{Opened}
 use Rattle.fc_image.specs.Sound.{AreSound}
 use Rattle.fc_image.specs.Walk.{Listing, Object, is_directory_object}
 use Rattle.fc_laws.specs.agree.Agreed.{AgreeOn, CanSay}
-use Rattle.fc_laws.specs.nodes.Edits.{IsChild, Nodes, as_moved, relisted, with_body, with_entry, with_own_body}
+use Rattle.fc_laws.specs.nodes.Edits.{Nodes, as_moved, relisted, with_body, with_entry, with_own_body}
 use Rattle.fc_laws.proofs.lemmas.agree.BeforeLemmas.{sound}
 use Rattle.fc_growths.specs.Grown.{NewPlace, at_place, grown_says, holder_now}
 use Rattle.fc_grownlaws.specs.nodes.Commands.{IsGrownRenamed}
@@ -40,13 +40,11 @@ use Rattle.fc_refusals.specs.declared.target.Target.{Target}
 use Rattle.fc_refusals.specs.Slots.{IsRenaming}
 use Rattle.fc_refusals.specs.Targets.{IsTarget}
 use Rattle.fc_tree.specs.declared.node.Node.{Node}
-use Rattle.fc_tree.specs.Agree.{HasForm, IsDirectory}
+use Rattle.fc_tree.specs.Agree.{HasForm}
 use Rattle.fc_tree.specs.Laws.{EntriesLaw}
-use Rattle.fc_tree.specs.Nodes.{HoldObjects, body_in, number_of}
-use Rattle.fc_tree.specs.Parts.{Parts}
+use Rattle.fc_tree.specs.Nodes.{HoldObjects, body_in}
 use Rattle.fc_tree.proofs.WalkedLemmas.{child_is_object, child_path, contained, same_some}
 use Rattle.fc_volume.specs.declared.changes.rewrite.Rewrite.{Rewrite}
-use Rattle.fc_volume.specs.declared.changes.relocate.Relocation.{Relocation}
 use Rattle.fc_volume.proofs.RenameLemmas.{can_say, moved_at, named_in, without_source}
 use Rattle.fc_volume.proofs.RespelledLemmas.{entries_renamed}
 use Rattle.fc_volume.proofs.RewriteLemmas as rewrite
@@ -58,7 +56,7 @@ use Rattle.fc_growing.specs.declared.growing.Growing.{Growing}
 use Rattle.fc_growing.specs.declared.naming.Naming.{Naming}
 use Rattle.fc_growing.specs.declared.place.GrownPlace.{GrownPlace}
 use Rattle.fc_growing.specs.Around.{IsAroundReady, said_in, with_place}
-use Rattle.fc_growing.specs.Growing.{IsGrowingReady, parent_after, regrowth, regrowth_of}
+use Rattle.fc_growing.specs.Growing.{parent_after, regrowth, regrowth_of}
 use Rattle.fc_growing.specs.Naming.{IsNamedWithin, IsReadyWithin, nodes_named, relocation_in}
 use Rattle.fc_growing.specs.Place.{IsGrowthPlanned, new_place}
 use Rattle.fc_growing.specs.Renaming.{IsRoomFor}

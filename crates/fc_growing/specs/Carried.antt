@@ -1,5 +1,5 @@
 -- A file that moves to another directory, which grows, and is copied into space of its own: ready in memory, and written.
-use Rattle.std.specs.Prelude.{◌≡◌, ◌<◌, ◌^◌, ◌++◌, ◌∷◌, [], ℕ, List, All, IsFalse, Some, None, true, slice_get}
+use Rattle.std.specs.Prelude.{◌≡◌, ◌<◌, ◌^◌, ◌++◌, ◌∷◌, [], ℕ, List, All, IsFalse, Some, None, true}
 use Rattle.std.specs.FinMap.{get}
 use Rattle.std.specs.Option.{ForSome}
 use Rattle.fc_names.specs.declared.name.NameForm.TheVariants as forms

@@ -13,7 +13,7 @@ use Rattle.fc_alloc.specs.Owners.{is_node}
 use Rattle.fc_drafts.specs.Draft.{CanHold, directory_in}
 use Rattle.fc_drafts.specs.Entries.{renamed_entry}
 use Rattle.fc_drafts.specs.Rewriting.{HasEntered, HasRenamed}
-use Rattle.fc_image.specs.Layout.{Layout, dir_form}
+use Rattle.fc_image.specs.Layout.{Layout}
 use Rattle.fc_laws.specs.nodes.Edits.{Nodes}
 use Rattle.fc_refusals.specs.declared.target.Target.{Target}
 use Rattle.fc_space.specs.Space.{layout_of}

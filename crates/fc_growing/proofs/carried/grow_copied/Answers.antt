@@ -1,12 +1,9 @@
-use Rattle.std.proofs.Common.{◌≡◌, ◌≤◌, refl, ap, sym, subst, ◌∙◌}
-use Rattle.std.specs.Prelude.{Err, Ok}
+use Rattle.std.proofs.Common.{◌≤◌, refl, ap, subst, ◌∙◌}
 use Rattle.fc_device.proofs.DiskLaws.{laws}
 use Rattle.fc_device.proofs.StopLemmas.{weaker}
 use Rattle.fc_alloc.specs.Owners.{HaveOwnNodes}
-use Rattle.fc_image.specs.Layout.{Layout, dir_form, disc_sectors}
-use Rattle.fc_image.specs.Opening.{Opened}
+use Rattle.fc_image.specs.Layout.{Layout, disc_sectors}
 use Rattle.fc_model.specs.Command.{Command}
-use Rattle.fc_laws.proofs.lemmas.agree.BeforeLemmas.{agreed_law}
 use Rattle.fc_laws.proofs.lemmas.takeover.ApartLemmas.{places_law}
 use Rattle.fc_volume.proofs.ChangeLemmas.{ok_both, ok_then, only_faults, places_written, unless_fault, writes_nothing}
 use Rattle.fc_volume.proofs.JudgedLemmas.{done_by}

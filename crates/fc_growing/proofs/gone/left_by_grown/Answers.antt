@@ -1,4 +1,4 @@
-use Rattle.std.proofs.Common.{List, ℕ, None, Option, Some, subst, sym}
+use Rattle.std.proofs.Common.{ℕ, Option, subst, sym}
 use Rattle.std.specs.Option.{option_to_list}
 use Rattle.fc_growing.specs.Gone.{LeavesGrown, LeavesWith}
 use Rattle.fc_growing.proofs.GoneLemmas.{leaves_with}

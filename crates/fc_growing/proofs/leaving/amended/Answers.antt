@@ -2,7 +2,6 @@ use Rattle.std.proofs.Common.{◌≡◌, true, false, sym, ap, subst, ◌∙◌}
 use Rattle.std.specs.Option.{option_map}
 use Rattle.fc_dirs.specs.declared.Entry.{Entry}
 use Rattle.fc_drafts.specs.Draft.{CanHold, directory_in}
-use Rattle.fc_drafts.specs.Entries.{regrown}
 use Rattle.fc_drafts.specs.Rewriting.{HasAmended}
 use Rattle.fc_growing.proofs.AroundReadyLemmas.{place_at}
 use Rattle.fc_growing.proofs.RenamingAmendLemmas.{read_at, read_held, read_named}

@@ -3,7 +3,7 @@ use Rattle.fc_model.specs.Tree.{last_name}
 use Rattle.fc_tree.specs.Nodes.{nodes_of}
 use Rattle.fc_growing.specs.declared.place.GrownPlace.{GrownPlace}
 use Rattle.fc_growing.specs.declared.writing.Growth.{Growth}
-use Rattle.fc_growing.specs.Naming.{CanNameAcross, IsNamedAcross}
+use Rattle.fc_growing.specs.Naming.{IsNamedAcross}
 use Rattle.fc_growing.specs.Place.{IsGrowthPlanned}
 use Rattle.fc_growing.proofs.named.draft_out.Goals as goal
 

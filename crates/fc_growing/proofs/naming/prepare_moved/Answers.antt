@@ -1,4 +1,4 @@
-use Rattle.std.proofs.Common.{◌≡◌, [], List, find, refl, sym, ap, subst, ◌∙◌}
+use Rattle.std.proofs.Common.{List, find, refl, sym, ap, subst, ◌∙◌}
 use Rattle.std.specs.Prelude.{option_map}
 use Rattle.std.specs.Option.{option_map as map_option}
 use Rattle.fc_alloc.specs.declared.owner.Owner.{Owner}

@@ -1,4 +1,4 @@
-use Rattle.std.proofs.Common.{◌≡◌, ◌<◌, length, get_or, [], List, refl, sym, ap, subst, ◌∙◌}
+use Rattle.std.proofs.Common.{◌<◌, length, get_or, List, refl, sym, ap, subst, ◌∙◌}
 use Rattle.std.proofs.lemmas.Option.{slice_get_read}
 use Rattle.std.proofs.lemmas.List.{append-nil}
 use Rattle.std.specs.Option.{option_map, option_to_list}
@@ -6,14 +6,13 @@ use Rattle.fc_device.specs.declared.disk.Extent.{Extent}
 use Rattle.fc_dirs.specs.declared.Entry.{Entry}
 use Rattle.fc_dirs.specs.Directory.{Directory, entries_of}
 use Rattle.fc_drafts.specs.Draft.{directory_in}
-use Rattle.fc_drafts.specs.Rewriting.{HasRenamed}
 use Rattle.fc_image.specs.Layout.{Layout}
 use Rattle.fc_tree.specs.declared.node.Node.{Node}
 use Rattle.fc_tree.specs.Nodes.{nodes_of}
 use Rattle.fc_tree.proofs.WalkedLemmas.{same_some}
 use Rattle.fc_volume.specs.Renaming.{IsTurned}
 use Rattle.fc_volume.proofs.SettingLemmas.{one_content}
-use Rattle.fc_growing.specs.Growing.{IsGrowingReady, parent_after}
+use Rattle.fc_growing.specs.Growing.{IsGrowingReady}
 use Rattle.fc_growing.proofs.naming.prepare_named.Goals as goal
 
 pub returns : goal.returns
