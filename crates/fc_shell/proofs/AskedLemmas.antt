@@ -1,15 +1,13 @@
 -- Which script a run has, and what is told of it.
 use Rattle.std.proofs.Common.{◌≡◌, ◌⊎◌, ◌<◌, ◌≤◌, inl, inr, ℕ, false, true, List, length, Option, Some, None, refl, sym, ap, subst, ◌∙◌, arith}
 use Rattle.std.specs.Option.{ForSome}
-use Rattle.fc_device.specs.declared.disk.Disk.{Ghosts}
 use Rattle.fc_runs.specs.Demo.{demo_script}
 use Rattle.fc_words.specs.CommandLine.{Request}
 use Rattle.fc_shell.specs.declared.ending.End.{End}
 use Rattle.fc_shell.specs.declared.ending.End.TheVariants.{BadWords, ScriptFault, ScriptTooLong, NotBuilt, NoImage}
-use Rattle.fc_shell.specs.Built.{has_changing, has_unbuilt}
+use Rattle.fc_shell.specs.Built.{has_unbuilt}
 use Rattle.fc_shell.specs.Ends.{is_late}
-use Rattle.fc_shell.specs.Kept.{LeavesUnbegun, LeavesUnbuilt}
-use Rattle.fc_shell.specs.Replies.{AsksNoDemo, asked_script, script_limit, told_script}
+use Rattle.fc_shell.specs.Replies.{AsksNoDemo, AsksUnbuilt, asked_script, script_limit, told_script}
 use Rattle.fc_shell.proofs.PromiseLemmas.{no_fresh}
 
 pub no_demo : (demo : Option ℕ) → ((n : ℕ) → demo ≡ Some n → ⊥) → demo ≡ None
@@ -39,9 +37,8 @@ module _ (told : Option (List ℕ)) (text : List ℕ) (is : (other : List ℕ) �
       absurd (omega (arith, long, few))
   unattached_told X then other left (inr unbuilt) = then (ap has_unbuilt (is other left) ∙ unbuilt)
 
-  pub unbuilt_told : {D : Type 0} (d : Ghosts D) (r : Request) (old new : D) → ((new ≡ old) × (has_unbuilt text ≡ true)) ⊎ (LeavesUnbegun d r old new × (has_changing text ≡ true)) → LeavesUnbuilt d r told old new
-  unbuilt_told d r old new (inl x) = inl (x.0, inr (λ other left. (subst (λ (t : List ℕ). length t ≤ script_limit) (is other left) short, sym (ap has_unbuilt (is other left)) ∙ x.1)))
-  unbuilt_told d r old new (inr x) = inr (x.0, (λ other left. sym (ap has_changing (is other left)) ∙ x.1))
+  pub unbuilt_told : (r : Request) → has_unbuilt text ≡ true → AsksUnbuilt r told
+  unbuilt_told r unbuilt = inr (λ other left. (subst (λ (t : List ℕ). length t ≤ script_limit) (is other left) short, sym (ap has_unbuilt (is other left)) ∙ unbuilt))
 
 -- how such a run doesn't end
 pub ran_late : (end : End) → (is_late end ≡ true) ⊎ ((end ≡ NoImage) ⊎ (end ≡ NotBuilt)) → (end ≡ ScriptFault → ⊥) × (end ≡ ScriptTooLong → ⊥) × (end ≡ BadWords → ⊥)

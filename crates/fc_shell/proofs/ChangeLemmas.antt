@@ -46,13 +46,29 @@ use Rattle.fc_shell.specs.Modes.{plain_mode}
 use Rattle.fc_shell.specs.Writing.{Wrote, WrotePart}
 use Rattle.fc_shell.proofs.AnsweredLemmas.{caused_alone}
 use Rattle.fc_shell.proofs.ErrorLemmas.{ok_no_error}
-use Rattle.fc_shell.proofs.LackingLemmas.{lacks_as_before, not_reading}
 use Rattle.fc_shell.proofs.StepLemmas.{left_ends, one_fault, unbegun_ends}
 use Rattle.fc_shell.proofs.WritingLemmas.{wrote_nothing}
 
 -- ---- which commands these are
 
--- No layout refuses them,
+-- They don't read,
+not_reading : (c : Command) → keeps_tree c ≡ false → is_reading c ≡ false
+not_reading (Command.Cat path) changes = absurd (cc)
+not_reading (Command.Load path) changes = absurd (cc)
+not_reading (Command.Digest path) changes = absurd (cc)
+not_reading Command.Free changes = absurd (cc)
+not_reading Command.Check changes = absurd (cc)
+not_reading Command.Compact changes = absurd (cc)
+not_reading Command.Reclaim changes = absurd (cc)
+not_reading (Command.Save path load exec bytes) changes = refl
+not_reading (Command.Create path load exec len) changes = refl
+not_reading (Command.Cdir path) changes = refl
+not_reading (Command.Delete path) changes = refl
+not_reading (Command.Rename from to) changes = refl
+not_reading (Command.Set path load exec access) changes = refl
+not_reading (Command.Mark path attrs) changes = refl
+
+-- no layout refuses them,
 no_reason : (layout : Layout) (c : Command) → keeps_tree c ≡ false → layout_reason layout c ≡ None
 no_reason (Layout.New m) c changes = refl
 no_reason (Layout.Old space) (Command.Cat path) changes = refl
@@ -282,24 +298,17 @@ module _ {D K : Type 0} {d : Ghosts D} (law : Laws d) (k : Sinks K) (kind : Kind
 
 module _ {D K : Type 0} {d : Ghosts D} (law : Laws d) (k : Sinks K) (line : List ℕ) (was v : Volume) (old new : D) (before after : K) where
   -- Unless the disk failed, the volume takes the next line.
-  ready : (done : Result (Unit {0}) CommandError) → KeepsVolume d old new was v done → UnlessFault done (dir_form (parts_of v).layout ≡ dir_form (parts_of was).layout) → UnlessFault done (IsReady d new was v)
-  ready done keeps form_stays = by done keeps.fit keeps.stands keeps.settled form_stays
+  ready : (done : Result (Unit {0}) CommandError) → KeepsVolume d old new was v done → UnlessFault done (IsReady d new was v)
+  ready done keeps = by done keeps.fit keeps.stands keeps.settled
     where
-      takes : v.fit ≡ true → StandsFor d v new → d.pending new ≡ false → dir_form (parts_of v).layout ≡ dir_form (parts_of was).layout → IsReady d new was v
-      takes fit stands settled same = record {
-        fit = fit;
-        stands = stands;
-        settled = settled;
-        read_only = keeps.rights;
-        lacks_no_more = lacks_as_before (parts_of was).layout (parts_of v).layout keeps.alike same;
-      }
+      takes : v.fit ≡ true → StandsFor d v new → d.pending new ≡ false → IsReady d new was v
+      takes fit stands settled = record { fit = fit; stands = stands; settled = settled; read_only = keeps.rights }
 
-      by : (x : Result (Unit {0}) CommandError) → UnlessFault x (v.fit ≡ true) → UnlessFault x (StandsFor d v new) → UnlessFault x (d.pending new ≡ false)
-          → UnlessFault x (dir_form (parts_of v).layout ≡ dir_form (parts_of was).layout) → UnlessFault x (IsReady d new was v)
-      by (Ok value) fit stands settled same = takes fit stands settled same
-      by (Err (Refused r)) fit stands settled same = takes fit stands settled same
-      by (Err NoMemory) fit stands settled same = takes fit stands settled same
-      by (Err DiskFault) fit stands settled same = tt
+      by : (x : Result (Unit {0}) CommandError) → UnlessFault x (v.fit ≡ true) → UnlessFault x (StandsFor d v new) → UnlessFault x (d.pending new ≡ false) → UnlessFault x (IsReady d new was v)
+      by (Ok value) fit stands settled = takes fit stands settled
+      by (Err (Refused r)) fit stands settled = takes fit stands settled
+      by (Err NoMemory) fit stands settled = takes fit stands settled
+      by (Err DiskFault) fit stands settled = tt
 
   ready_if : (done : Result (Unit {0}) CommandError) (result : Result Bool LineFault) → UnlessFault done (IsReady d new was v) → Tells k before after done result → IfOk result (λ refused. IsReady d new was v)
   ready_if done (Err fault) takes tells = tt
@@ -334,12 +343,12 @@ module _ {D K : Type 0} {d : Ghosts D} (law : Laws d) (k : Sinks K) (line : List
 
   -- It is so over a line that doesn't read, and that leaves everything if the volume may not be changed.
   pub going : (done : Result (Unit {0}) CommandError) (result : Result Bool LineFault) → KeepsVolume d old new was v done
-      → UnlessFault done (dir_form (parts_of v).layout ≡ dir_form (parts_of was).layout) → (was.read_only ≡ true → (v ≡ was) × (new ≡ old)) → is_reading_line (command_of line) ≡ false
+      → (was.read_only ≡ true → (v ≡ was) × (new ≡ old)) → is_reading_line (command_of line) ≡ false
       → Tells k before after done result → KeepsGoing d k old new before after was v line result
-  going done result keeps form_stays spared writes tells = record {
+  going done result keeps spared writes tells = record {
     goes = record { form = keeps.form; stops = keeps.goes; faults = keeps.faults };
-    ready = ready_if done result (ready done keeps form_stays) tells;
-    settled = settled_if done result (ready done keeps form_stays) tells;
+    ready = ready_if done result (ready done keeps) tells;
+    settled = settled_if done result (ready done keeps) tells;
     reads = ⊎_elim
         (λ read_only. let same = spared read_only in (subst (λ (x : D). OnlyReads d old x) (sym same.1) (reads_start law old), same.0))
         (λ reads. absurd (let clash : true ≡ false = sym reads ∙ writes in cc));
@@ -387,4 +396,4 @@ module _ {D K : Type 0} {d : Ghosts D} (law : Laws d) (k : Sinks K) (line : List
   pub change_keeps : (done : Result (Unit {0}) CommandError) (result : Result Bool LineFault) → IsAsked d c was v old new done → Tells k before after done result
       → KeepsGoing d k old new before after was v line result
   change_keeps done result asked tells =
-      going law k line was v old new before after done result asked.keeps asked.form_stays (spared done asked) (ap is_reading_line is ∙ not_reading c changes) tells
+      going law k line was v old new before after done result asked.keeps (spared done asked) (ap is_reading_line is ∙ not_reading c changes) tells

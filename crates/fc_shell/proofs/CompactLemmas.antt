@@ -233,4 +233,4 @@ module _ {D K : Type 0} {d : Ghosts D} (law : Laws d) (k : Sinks K) (line : List
   pub compact_keeps : (done : Result (Unit {0}) CommandError) (result : Result Bool LineFault) → IsCompacting d was v old new done → Tells k before after done result
       → KeepsGoing d k old new before after was v line result
   compact_keeps done result asked tells =
-      going law k line was v old new before after done result asked.keeps asked.form_stays (spared done asked) (ap is_reading_line is) tells
+      going law k line was v old new before after done result asked.keeps (spared done asked) (ap is_reading_line is) tells

@@ -233,8 +233,7 @@ session_demo d k reads old new before after end goes settled only disk out late 
   out_fault = out;
   settled = settled;
   unwritten = λ r. reads_unwritten (only r);
-  late = inl late;
-  not_built = λ is. absurd (no_fresh (sym (ap is_late is) ∙ late));
+  late = late;
 }
 
 -- a demo whose line was told, or wasn't

@@ -19,7 +19,7 @@ use Rattle.fc_shell.specs.declared.ending.End.{End}
 use Rattle.fc_shell.specs.declared.ending.End.TheVariants.{Done, Refused, BadWords, BadImage, DiskFault, ScriptFault, OutFault, NoMemory, ScriptTooLong, NotBuilt, NoImage}
 use Rattle.fc_shell.specs.Built.{Spares, has_unbuilt, only_reads}
 use Rattle.fc_shell.specs.Ends.{AsksFor, is_late, is_over_image}
-use Rattle.fc_shell.specs.Kept.{LeavesUnbegun, RunKeeps, RunSpares, SessionKeeps}
+use Rattle.fc_shell.specs.Kept.{RunKeeps, RunSpares, SessionKeeps}
 use Rattle.fc_shell.specs.Promise.{EndsByGiving, EndsByLength, EndsByOpening, EndsByScript, EndsByWords, EndsWithout, Promise}
 use Rattle.fc_shell.specs.Reading.{IsUnwritten}
 use Rattle.fc_shell.specs.Replies.{blank_size, format_in, image_for, is_unbuilt, script_limit}
@@ -47,25 +47,21 @@ told_spares r told text is (inr x) = inr (subst (λ (t : List ℕ). only_reads t
 
 -- ---- a run over an image
 
-late_asks : (image : Asked) (end : End) (old new : List Asked) → (is_late end ≡ true) ⊎ (end ≡ NotBuilt) → new ≡ old ++ image ∷ [] → AsksFor image end old new
+late_asks : (image : Asked) (end : End) (old new : List Asked) → is_late end ≡ true → new ≡ old ++ image ∷ [] → AsksFor image end old new
 late_asks image Done old new late is = is
 late_asks image Refused old new late is = is
 late_asks image (BadImage fault) old new late is = is
 late_asks image DiskFault old new late is = is
 late_asks image OutFault old new late is = is
 late_asks image NoMemory old new late is = inr is
-late_asks image NotBuilt old new late is = inr is
+late_asks image NotBuilt old new late is = absurd (no_fresh late)
 late_asks image NoImage old new late is = is
-late_asks image BadWords old new (inl late) is = absurd (no_fresh late)
-late_asks image BadWords old new (inr late) is = absurd (cc)
-late_asks image ScriptFault old new (inl late) is = absurd (no_fresh late)
-late_asks image ScriptFault old new (inr late) is = absurd (cc)
-late_asks image ScriptTooLong old new (inl late) is = absurd (no_fresh late)
-late_asks image ScriptTooLong old new (inr late) is = absurd (cc)
+late_asks image BadWords old new late is = absurd (no_fresh late)
+late_asks image ScriptFault old new late is = absurd (no_fresh late)
+late_asks image ScriptTooLong old new late is = absurd (no_fresh late)
 
-late_image : (end : End) → (is_late end ≡ true) ⊎ (end ≡ NotBuilt) → end ≡ NoImage → ⊥
-late_image end (inl late) is = no_fresh (sym (ap is_late is) ∙ late)
-late_image end (inr late) is = absurd (cc)
+late_image : (end : End) → is_late end ≡ true → end ≡ NoImage → ⊥
+late_image end late is = no_fresh (sym (ap is_late is) ∙ late)
 
 over_disk : (end : End) → is_over_image end ≡ true → end ≡ DiskFault → ⊥
 over_disk end over is = no_fresh (sym (ap is_over_image is) ∙ over)
@@ -89,18 +85,6 @@ module _ {D K : Type 0} {d : Ghosts D} (law : Laws d) (k : Sinks K) (r : Request
     unwritten = λ only. unwritten_then (keeps.unwritten only);
     made = λ only over. (keeps.unwritten only).bytes_stay ∙ bytes;
   }
-
-  pub session_unbegun : end ≡ NotBuilt → LeavesUnbegun d r old new × (after ≡ before)
-  session_unbegun e = let x = keeps.not_built e in (
-    record {
-      asked = keeps.asked_stays ∙ asked;
-      given = given;
-      has_image = x.0.bytes_stay ∙ bytes;
-      settled = keeps.settled (λ is. let clash : NotBuilt ≡ DiskFault = sym e ∙ is in cc);
-      unwritten = unwritten_then x.0;
-    },
-    x.1,
-  )
 
 pub not_made : (new : Option Word) → is_some new ≡ false → new ≡ None
 not_made None is = refl

@@ -7,7 +7,6 @@ mod LineLemmas
 mod FreshLemmas
 mod HeadlineLemmas
 mod KeptLemmas
-mod LackingLemmas
 mod LengthLemmas
 mod MapsLemmas
 mod OutcomeLemmas

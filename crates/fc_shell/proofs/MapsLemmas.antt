@@ -8,7 +8,7 @@ use Rattle.fc_device.specs.Faults.{Rose}
 use Rattle.fc_device.specs.Stops.{LeavesOnly}
 use Rattle.fc_names.specs.declared.refusal.Refusal.{Refusal}
 use Rattle.fc_newmap.specs.Map.{Map}
-use Rattle.fc_image.specs.Layout.{Layout, dir_form}
+use Rattle.fc_image.specs.Layout.{Layout}
 use Rattle.fc_image.specs.Moves.{KeepsObjects}
 use Rattle.fc_image.specs.Stays.{IsNewLayout}
 use Rattle.fc_model.specs.Command.{Command}
@@ -17,23 +17,12 @@ use Rattle.fc_volume.specs.Changing.{AnswersOver, ChangeKeeps, HasChanged}
 use Rattle.fc_volume.specs.Compacting.{CompactsParts, UnlessFault}
 use Rattle.fc_volume.specs.Volume.{StandsFor, Volume, parts_of}
 use Rattle.fc_oldvolume.specs.Changing.{ChangeKeeps as OldKeeps, IsOldLayout}
-use Rattle.fc_shell.specs.Changing.{AreAlike, HasCompacted, IsAsked, IsCompacting}
-
-alike_new : (was now : Layout) → IsNewLayout was → IsNewLayout now → AreAlike was now
-alike_new (Layout.New m) (Layout.New n) new still = tt
-alike_new (Layout.Old space) now new still = absurd new
-alike_new (Layout.New m) (Layout.Old space) new still = absurd still
-
-alike_old : (was now : Layout) → IsOldLayout was → IsOldLayout now → AreAlike was now
-alike_old (Layout.Old space) (Layout.Old other) old still = tt
-alike_old (Layout.New m) now old still = absurd old
-alike_old (Layout.Old space) (Layout.New m) old still = absurd still
+use Rattle.fc_shell.specs.Changing.{HasCompacted, IsAsked, IsCompacting}
 
 -- A volume with a new map was,
-pub asked_new : {D : Type 0} (d : Ghosts D) (c : Command) (was v : Volume) (old new : D) (answer : Result (Unit {0}) CommandError) → IsNewLayout (parts_of was).layout → AnswersOver was c answer
-    → OnOk answer (HasChanged d c (parts_of was) (parts_of v) old new) → ChangeKeeps d old new was v answer → UnlessFault answer (dir_form (parts_of v).layout ≡ dir_form (parts_of was).layout)
-    → IsAsked d c was v old new answer
-asked_new d c was v old new answer map refused changed keeps form_stays = record {
+pub asked_new : {D : Type 0} (d : Ghosts D) (c : Command) (was v : Volume) (old new : D) (answer : Result (Unit {0}) CommandError) → AnswersOver was c answer
+    → OnOk answer (HasChanged d c (parts_of was) (parts_of v) old new) → ChangeKeeps d old new was v answer → IsAsked d c was v old new answer
+asked_new d c was v old new answer refused changed keeps = record {
   refused = refused;
   changed = changed;
   keeps = record {
@@ -42,21 +31,18 @@ asked_new d c was v old new answer map refused changed keeps form_stays = record
     settled = keeps.settled;
     fit = keeps.fit;
     unfit = keeps.unfit;
-    alike = alike_new (parts_of was).layout (parts_of v).layout map keeps.new_map;
     rights = keeps.rights;
     form = keeps.form;
     goes = keeps.goes;
     faults = keeps.faults;
     cause = keeps.cause;
   };
-  form_stays = form_stays;
 }
 
 -- or one with an old map.
-pub asked_old : {D : Type 0} (d : Ghosts D) (c : Command) (was v : Volume) (old new : D) (answer : Result (Unit {0}) CommandError) → IsOldLayout (parts_of was).layout → AnswersOver was c answer
-    → OnOk answer (HasChanged d c (parts_of was) (parts_of v) old new) → OldKeeps d old new was v answer → UnlessFault answer (dir_form (parts_of v).layout ≡ dir_form (parts_of was).layout)
-    → IsAsked d c was v old new answer
-asked_old d c was v old new answer map refused changed keeps form_stays = record {
+pub asked_old : {D : Type 0} (d : Ghosts D) (c : Command) (was v : Volume) (old new : D) (answer : Result (Unit {0}) CommandError) → AnswersOver was c answer
+    → OnOk answer (HasChanged d c (parts_of was) (parts_of v) old new) → OldKeeps d old new was v answer → IsAsked d c was v old new answer
+asked_old d c was v old new answer refused changed keeps = record {
   refused = refused;
   changed = changed;
   keeps = record {
@@ -65,14 +51,12 @@ asked_old d c was v old new answer map refused changed keeps form_stays = record
     settled = keeps.settled;
     fit = keeps.fit;
     unfit = keeps.unfit;
-    alike = alike_old (parts_of was).layout (parts_of v).layout map keeps.old_map;
     rights = keeps.rights;
     form = keeps.form;
     goes = keeps.goes;
     faults = keeps.faults;
     cause = keeps.cause;
   };
-  form_stays = form_stays;
 }
 
 -- ---- compaction
@@ -95,10 +79,10 @@ pub compacting_new : {D : Type 0} (d : Ghosts D) (was v : Volume) (old new : D) 
     → OnOk answer (ForSome (d.bytes old) (λ image. ForSome (d.bytes new) (CompactsParts (parts_of was) (parts_of v) image)))
     → ((m : Map) → (parts_of was).layout ≡ Layout.New m → StopsAndExitsLeave d old new (KeepsObjects m.geometry))
     → UnlessFault answer (StandsFor d v new) → UnlessFault answer (d.pending new ≡ false) → UnlessFault answer (v.fit ≡ true) → (answer ≡ Err CommandError.DiskFault → v.fit ≡ false)
-    → IsNewLayout (parts_of v).layout → UnlessFault answer (dir_form (parts_of v).layout ≡ dir_form (parts_of was).layout) → v.read_only ≡ was.read_only
+    → v.read_only ≡ was.read_only
     → SameForm d old new → d.faults old ≤ d.faults new → (answer ≡ Err CommandError.DiskFault → Rose (d.faults old) (d.faults new))
     → IsCompacting d was v old new answer
-compacting_new d was v old new answer map refused errors unchanged compacted objects stands settled fit unfit new_map form_stays rights form faults cause = record {
+compacting_new d was v old new answer map refused errors unchanged compacted objects stands settled fit unfit rights form faults cause = record {
   refused = refused;
   errors = by_error answer errors;
   compacted = done answer compacted;
@@ -108,14 +92,12 @@ compacting_new d was v old new answer map refused errors unchanged compacted obj
     settled = settled;
     fit = fit;
     unfit = unfit;
-    alike = alike_new (parts_of was).layout (parts_of v).layout map new_map;
     rights = rights;
     form = form;
     goes = goes (new_of (parts_of was).layout map);
     faults = faults;
     cause = cause;
   };
-  form_stays = form_stays;
   objects = objects;
 }
   where
@@ -143,9 +125,8 @@ pub compacting_old : {D : Type 0} (d : Ghosts D) (was v : Volume) (old new : D) 
     → (answer ≡ Err (CommandError.Refused Refusal.ReadOnly)) ↔ (was.read_only ≡ true)
     → IfErr answer (λ error. (error ≡ CommandError.Refused Refusal.ReadOnly) ⊎ ((error ≡ CommandError.NoMemory) ⊎ (error ≡ CommandError.DiskFault)))
     → OnOk answer (HasCompacted d (parts_of was) (parts_of v) old new)
-    → OldKeeps d old new was v answer → UnlessFault answer (dir_form (parts_of v).layout ≡ dir_form (parts_of was).layout)
-    → IsCompacting d was v old new answer
-compacting_old d was v old new answer map refused errors compacted keeps form_stays = record {
+    → OldKeeps d old new was v answer → IsCompacting d was v old new answer
+compacting_old d was v old new answer map refused errors compacted keeps = record {
   refused = refused;
   errors = by_error answer errors;
   compacted = compacted;
@@ -155,14 +136,12 @@ compacting_old d was v old new answer map refused errors compacted keeps form_st
     settled = keeps.settled;
     fit = keeps.fit;
     unfit = keeps.unfit;
-    alike = alike_old (parts_of was).layout (parts_of v).layout map keeps.old_map;
     rights = keeps.rights;
     form = keeps.form;
     goes = keeps.goes;
     faults = keeps.faults;
     cause = keeps.cause;
   };
-  form_stays = form_stays;
   objects = λ m new_map. absurd (subst IsOldLayout new_map map);
 }
   where

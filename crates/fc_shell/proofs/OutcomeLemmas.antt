@@ -21,13 +21,12 @@ use Rattle.fc_runs.proofs.ReadLemmas.{read_law}
 use Rattle.fc_words.specs.CommandLine.{Request}
 use Rattle.fc_shell.specs.declared.ending.End.{End}
 use Rattle.fc_shell.specs.declared.ending.End.TheVariants.{Done, Refused, BadWords, BadImage, DiskFault, ScriptFault, OutFault, NoMemory, ScriptTooLong, NotBuilt, NoImage}
-use Rattle.fc_shell.specs.Built.{all_read, any_changing, has_changing, has_unbuilt, is_changing, is_reading_line, only_reads}
+use Rattle.fc_shell.specs.Built.{all_read, has_unbuilt, is_reading_line, only_reads}
 use Rattle.fc_shell.specs.Modes.{plain_mode}
 use Rattle.fc_shell.specs.Promise.{EndsBefore, EndsByGiving, EndsByLength, EndsByOpening, EndsByScript, EndsByWords, EndsOnFault, EndsOver, EndsWithout, Promise}
 use Rattle.fc_shell.specs.Replies.{AsksNoDemo, EndsAs, attached_reply, blank_size, command_reply, image_for, is_unbuilt, line_reply, opened_reply, replies_of, request_reply, script_limit, script_reply, served, silent}
 use Rattle.fc_shell.specs.Writing.{Wrote, WrotePart}
 use Rattle.fc_shell.proofs.ReadsLemmas.{one_row, one_step}
-use Rattle.fc_shell.proofs.LackingLemmas.{lacking_script}
 use Rattle.fc_shell.proofs.ServingLemmas.{both_true, neither, steps_weaker, true_both}
 use Rattle.fc_shell.proofs.WritingLemmas.{part_of_first}
 
@@ -42,31 +41,10 @@ part_none before after text whole wrote is = (0, subst (Wrote before after) is w
 
 -- ---- which scripts only read
 
-command_reads : (c : Command) → not (is_reading c) ≡ false → is_reading c ≡ true
-command_reads c = by (is_reading c)
-  where
-    by : (b : Bool) → not b ≡ false → b ≡ true
-    by true other = refl
-    by false other = absurd (cc)
-
-line_reads : (r : Result Command Refusal) → is_changing r ≡ false → is_reading_line r ≡ true
-line_reads (Err refusal) other = refl
-line_reads (Ok c) other = command_reads c other
-
-lines_read : (lines : List (List ℕ)) → any_changing lines ≡ false → all_read lines ≡ true
-lines_read [] other = refl
-lines_read (line ∷ lines) other =
-    let none = neither (is_changing (command_of line)) (any_changing lines) other in
-    true_both (is_reading_line (command_of line)) (all_read lines) (line_reads (command_of line) none.0) (lines_read lines none.1)
-
--- where no line changes the disc
-pub calm_reads : (script : List ℕ) → has_changing script ≡ false → only_reads script ≡ true
-calm_reads script other = lines_read (commands_in script) other
-
--- If every command is built, and the end is settled by words, script and image, then no line changes the disc.
-calm_built : (script : List ℕ) → has_unbuilt script ≡ false → (has_unbuilt script ≡ true) ⊎ (has_changing script ≡ false) → has_changing script ≡ false
-calm_built script built (inl unbuilt) = absurd (let clash : false ≡ true = sym built ∙ unbuilt in cc)
-calm_built script built (inr calm) = calm
+-- if every command is built, and the end is settled by words, script and image
+built_reads : (script : List ℕ) → has_unbuilt script ≡ false → (has_unbuilt script ≡ true) ⊎ (only_reads script ≡ true) → only_reads script ≡ true
+built_reads script built (inl unbuilt) = absurd (let clash : false ≡ true = sym built ∙ unbuilt in cc)
+built_reads script built (inr reads) = reads
 
 -- ---- a part of the replies
 
@@ -104,7 +82,7 @@ early mode s s' (line ∷ lines) (reply ∷ replies) reads x =
     )
 
 module _ {D : Type 0} (d : Ghosts D) (old new : D) (before after : Option (List ℕ)) (text : List ℕ) (wrote : Wrote before after text) where
-  module _ (mode : Mode) (fresh : Bool) (s : State) (script : List ℕ) (reads : only_reads script ≡ true) (calm : has_changing script ≡ false) where
+  module _ (mode : Mode) (fresh : Bool) (s : State) (script : List ℕ) (reads : only_reads script ≡ true) where
     stopped_as : (cause : Cause) → HasStopped d old new mode fresh None s script text cause → WrotePart before after (text_of (replies_of mode s script))
     stopped_as cause has =
         let ended = has.ended in
@@ -135,7 +113,7 @@ module _ {D : Type 0} (d : Ghosts D) (old new : D) (before after : Option (List 
     over_as BadWords x = absurd x
     over_as (BadImage fault) x = absurd x
     over_as ScriptTooLong x = absurd x
-    over_as NotBuilt x = absurd (let clash : false ≡ true = sym calm ∙ lacking_script s.view.layout script x.lacking in cc)
+    over_as NotBuilt x = absurd x
     over_as NoImage x = absurd x
 
   fault_as : (fault : ImageFault) (end : End) → EndsOnFault d old new fault text end → EndsAs (record { end = BadImage fault; text = bad_image_line fault }) end before after
@@ -170,34 +148,34 @@ module _ {D : Type 0} (d : Ghosts D) (old new : D) (before after : Option (List 
   before_as reason end at (inr (inl is), x) = subst (λ (e : End). EndsAs (silent reason) e before after) (sym is) (wrote_none before after text wrote x.told)
   before_as reason end at (inr (inr is), x) = subst (λ (e : End). EndsAs (silent reason) e before after) (sym is) (part_none before after text [] wrote x.told)
 
-  opening_as : (read_only fresh : Bool) (image script : List ℕ) (o : Result Opened ImageFault) (end : End) → only_reads script ≡ true → has_changing script ≡ false
+  opening_as : (read_only fresh : Bool) (image script : List ℕ) (o : Result Opened ImageFault) (end : End) → only_reads script ≡ true
       → EndsByOpening d old new read_only fresh None image script text o end → EndsAs (opened_reply read_only script image o) end before after
-  opening_as read_only fresh image script (Err fault) end reads calm x = fault_as fault end x
-  opening_as read_only fresh image script (Ok v) end reads calm x = over_as (plain_mode v.kind read_only) fresh (record { image = image; view = v }) script reads calm end x
+  opening_as read_only fresh image script (Err fault) end reads x = fault_as fault end x
+  opening_as read_only fresh image script (Ok v) end reads x = over_as (plain_mode v.kind read_only) fresh (record { image = image; view = v }) script reads end x
 
-  giving_as : (r : Request) (image script : List ℕ) (given : Bool) (end : End) → r.demo ≡ None → only_reads script ≡ true → has_changing script ≡ false → EndsByGiving d old new r image script text given end
+  giving_as : (r : Request) (image script : List ℕ) (given : Bool) (end : End) → r.demo ≡ None → only_reads script ≡ true → EndsByGiving d old new r image script text given end
       → EndsAs (attached_reply given r script image) end before after
-  giving_as r image script false end plain reads calm x = without_as (is_some r.new) end x
-  giving_as r image script true end plain reads calm x =
-      opening_as r.read_only (is_some r.new) (image_for r.new image) script (open_image (image_for r.new image)) end reads calm
+  giving_as r image script false end plain reads x = without_as (is_some r.new) end x
+  giving_as r image script true end plain reads x =
+      opening_as r.read_only (is_some r.new) (image_for r.new image) script (open_image (image_for r.new image)) end reads
       (subst (λ (demo : Option ℕ). EndsByOpening d old new r.read_only (is_some r.new) demo (image_for r.new image) script text (open_image (image_for r.new image)) end) plain x)
 
-  script_as : (gives : List ℕ → Option ℕ → Bool) (r : Request) (image script : List ℕ) (unbuilt : Bool) (end : End) → r.demo ≡ None → (has_unbuilt script ≡ true) ⊎ (has_changing script ≡ false) → has_unbuilt script ≡ unbuilt
+  script_as : (gives : List ℕ → Option ℕ → Bool) (r : Request) (image script : List ℕ) (unbuilt : Bool) (end : End) → r.demo ≡ None → (has_unbuilt script ≡ true) ⊎ (only_reads script ≡ true) → has_unbuilt script ≡ unbuilt
       → EndsByScript d old new gives r image script text unbuilt end → EndsAs (if unbuilt then silent NotBuilt else attached_reply (gives r.image (blank_size r)) r script image) end before after
-  script_as gives r image script true end plain calm is x = before_as NotBuilt end (λ w. (refl, w)) x
-  script_as gives r image script false end plain calm is x = giving_as r image script (gives r.image (blank_size r)) end plain (calm_reads script (calm_built script is calm)) (calm_built script is calm) x
+  script_as gives r image script true end plain settled is x = before_as NotBuilt end (λ w. (refl, w)) x
+  script_as gives r image script false end plain settled is x = giving_as r image script (gives r.image (blank_size r)) end plain (built_reads script is settled) x
 
-  length_as : (gives : List ℕ → Option ℕ → Bool) (r : Request) (image script : List ℕ) (long : Bool) (end : End) → r.demo ≡ None → (has_unbuilt script ≡ true) ⊎ (has_changing script ≡ false) → EndsByLength d old new gives r image script text long end
+  length_as : (gives : List ℕ → Option ℕ → Bool) (r : Request) (image script : List ℕ) (long : Bool) (end : End) → r.demo ≡ None → (has_unbuilt script ≡ true) ⊎ (only_reads script ≡ true) → EndsByLength d old new gives r image script text long end
       → EndsAs (if long then silent ScriptTooLong else if has_unbuilt script then silent NotBuilt else attached_reply (gives r.image (blank_size r)) r script image) end before after
-  length_as gives r image script true end plain calm x = before_as ScriptTooLong end (λ w. (refl, w)) x
-  length_as gives r image script false end plain calm x = script_as gives r image script (has_unbuilt script) end plain calm refl x
+  length_as gives r image script true end plain settled x = before_as ScriptTooLong end (λ w. (refl, w)) x
+  length_as gives r image script false end plain settled x = script_as gives r image script (has_unbuilt script) end plain settled refl x
 
-  words_as : (gives : List ℕ → Option ℕ → Bool) (r : Request) (image script : List ℕ) (unbuilt : Bool) (end : End) → r.demo ≡ None → (has_unbuilt script ≡ true) ⊎ (has_changing script ≡ false) → EndsByWords d old new gives r image script text unbuilt end
+  words_as : (gives : List ℕ → Option ℕ → Bool) (r : Request) (image script : List ℕ) (unbuilt : Bool) (end : End) → r.demo ≡ None → (has_unbuilt script ≡ true) ⊎ (only_reads script ≡ true) → EndsByWords d old new gives r image script text unbuilt end
       → EndsAs (if unbuilt then silent NotBuilt else script_reply gives r script image) end before after
-  words_as gives r image script true end plain calm x = before_as NotBuilt end (λ w. (refl, w)) x
-  words_as gives r image script false end plain calm x = length_as gives r image script (nat_lt script_limit (length script)) end plain calm x
+  words_as gives r image script true end plain settled x = before_as NotBuilt end (λ w. (refl, w)) x
+  words_as gives r image script false end plain settled x = length_as gives r image script (nat_lt script_limit (length script)) end plain settled x
 
-  pub promise_as : (gives : List ℕ → Option ℕ → Bool) (image script : List ℕ) (o : Option Request) (end : End) → AsksNoDemo o → (has_unbuilt script ≡ true) ⊎ (has_changing script ≡ false) → Promise d old new gives image script text o end
+  pub promise_as : (gives : List ℕ → Option ℕ → Bool) (image script : List ℕ) (o : Option Request) (end : End) → AsksNoDemo o → (has_unbuilt script ≡ true) ⊎ (only_reads script ≡ true) → Promise d old new gives image script text o end
       → EndsAs (request_reply gives script image o) end before after
-  promise_as gives image script None end plain calm x = before_as BadWords end (λ w. (refl, w)) x
-  promise_as gives image script (Some r) end plain calm x = words_as gives r image script (is_unbuilt r) end plain calm x
+  promise_as gives image script None end plain settled x = before_as BadWords end (λ w. (refl, w)) x
+  promise_as gives image script (Some r) end plain settled x = words_as gives r image script (is_unbuilt r) end plain settled x

@@ -10,7 +10,6 @@ use Rattle.fc_device.proofs.DiskLaws.{Laws}
 use Rattle.fc_device.proofs.StopLemmas.{goes_on_same, started, weaker}
 use Rattle.fc_image.specs.declared.ImageFault.{ImageFault}
 use Rattle.fc_image.specs.Opening.{Opened, open_image}
-use Rattle.fc_image.specs.Layout.{Layout}
 use Rattle.fc_image.specs.Stays.{OpensAs}
 use Rattle.fc_record.specs.declared.Kind.{Kind}
 use Rattle.fc_image.specs.effects.Effect.{State}
@@ -24,11 +23,11 @@ use Rattle.fc_shell.specs.declared.answer.LineFault.{LineFault}
 use Rattle.fc_shell.specs.declared.answer.LineFault.TheVariants as lines
 use Rattle.fc_shell.specs.declared.tally.Tally.{Tally}
 use Rattle.fc_words.specs.declared.Format.{Format as Word}
-use Rattle.fc_shell.specs.Built.{has_lacking, has_unbuilt}
+use Rattle.fc_shell.specs.Built.{has_unbuilt}
 use Rattle.fc_shell.specs.Counted.{has_refused}
 use Rattle.fc_shell.specs.Ends.{end_after, end_of, is_late}
 use Rattle.fc_shell.specs.Modes.{plain_mode}
-use Rattle.fc_shell.specs.Promise.{EndsByGiving, EndsByLength, EndsByOpening, EndsByScript, EndsOnFault, EndsOver, LacksCommand}
+use Rattle.fc_shell.specs.Promise.{EndsByGiving, EndsByLength, EndsByOpening, EndsByScript, EndsOnFault, EndsOver}
 use Rattle.fc_shell.specs.Reading.{IsUnwritten}
 use Rattle.fc_shell.specs.Replies.{blank_size, image_for}
 use Rattle.fc_shell.specs.Serving.{ServesAs}
@@ -122,18 +121,7 @@ module _ {D : Type 0} {d : Ghosts D} (law : Laws d) (old mid new : D) (first : L
       stops = λ was_quiet. stops_from has.end _ has.ended.replies was_quiet (has.stops quiet);
     }
 
-    lacks_from : LacksCommand d mid new false s script text → LacksCommand d old new fresh s script text
-    lacks_from x = record {
-      lacking = x.lacking;
-      not_begun = record {
-        told = x.not_begun.told;
-        holds = x.not_begun.holds;
-        settled = x.not_begun.settled;
-        stops = λ there. goes_on_same law (same there).stops (x.not_begun.stops refl);
-      };
-    }
-
-    over_from : (end : End) → (is_late end ≡ true) ⊎ (end ≡ NotBuilt) → EndsOver d mid new mode false demo s script text end → EndsOver d old new mode fresh demo s script text end
+    over_from : (end : End) → is_late end ≡ true → EndsOver d mid new mode false demo s script text end → EndsOver d old new mode fresh demo s script text end
     over_from Done late x = run_from false x
     over_from Refused late x = run_from true x
     over_from DiskFault late (inl x) = inl (stopped_from Cause.Disk x)
@@ -142,12 +130,11 @@ module _ {D : Type 0} {d : Ghosts D} (law : Laws d) (old mid new : D) (first : L
     over_from OutFault late (inr x) = absurd x
     over_from NoMemory late (inl x) = inl (stopped_from Cause.Memory x)
     over_from NoMemory late (inr x) = absurd (no_fresh x.0)
-    over_from ScriptFault (inl late) x = absurd (no_fresh late)
-    over_from ScriptFault (inr is) x = absurd (cc)
+    over_from ScriptFault late x = absurd (no_fresh late)
     over_from BadWords late x = absurd x
     over_from (BadImage fault) late x = absurd x
     over_from ScriptTooLong late x = absurd x
-    over_from NotBuilt late x = lacks_from x
+    over_from NotBuilt late x = absurd x
     over_from NoImage late x = absurd x
 
   fault_from : (fault : ImageFault) (text : List ℕ) (end : End) → IsUnwritten d old mid → EndsOnFault d mid new fault text end → EndsOnFault d old new fault text end
@@ -164,7 +151,7 @@ module _ {D : Type 0} {d : Ghosts D} (law : Laws d) (old mid new : D) (first : L
   fault_from fault text NoImage same x = absurd x
 
   pub ends_from : Accepts → (read_only fresh : Bool) (demo : Option ℕ) (image script text : List ℕ) (end : End) → d.bytes mid ≡ Some image → (fresh ≡ false → IsUnwritten d old mid)
-      → (fresh ≡ true → (v : Opened) × (open_image image ≡ Ok v)) → (is_late end ≡ true) ⊎ (end ≡ NotBuilt)
+      → (fresh ≡ true → (v : Opened) × (open_image image ≡ Ok v)) → is_late end ≡ true
       → EndsByOpening d mid new read_only false demo image script text (open_image image) end → EndsByOpening d old new read_only fresh demo image script text (open_image image) end
   ends_from accepts read_only fresh demo image script text end told same opened late x = by (open_image image) refl x
     where
@@ -182,7 +169,7 @@ pub no_run : {D : Type 0} (d : Ghosts D) (old new : D) (line : List ℕ) → IsU
 no_run d old new line same = record { told = refl; bytes = same.bytes_stay; stops = same.stops }
 
 module _ {D : Type 0} {d : Ghosts D} (law : Laws d) (old new : D) where
-  pub not_begun : (kind : Kind) (read_only : Bool) (demo : Option ℕ) (s : State) (script : List ℕ) (cause : Cause) → d.bytes old ≡ Some s.image → OpensAs s.image kind s.view → IsUnwritten d old new
+  not_begun : (kind : Kind) (read_only : Bool) (demo : Option ℕ) (s : State) (script : List ℕ) (cause : Cause) → d.bytes old ≡ Some s.image → OpensAs s.image kind s.view → IsUnwritten d old new
       → (spares_disk cause ≡ true → (d.pending new ≡ false) ⊎ (new ≡ old)) → HasStopped d old new (plain_mode kind read_only) false demo s script [] cause
   not_begun kind read_only demo s script cause told opens same settled = record {
     end = s;
@@ -245,7 +232,7 @@ served_ends d old new kind read_only s script before after (Err lines.NoMemory) 
 -- ---- the disk as it was
 
 module _ {D : Type 0} {d : Ghosts D} (law : Laws d) (disk : D) where
-  pub same_unwritten : IsUnwritten d disk disk
+  same_unwritten : IsUnwritten d disk disk
   same_unwritten = record { bytes_stay = refl; stops = started law disk (d.left_since disk (d.moment disk)) (λ image left. left); faults = omega arith }
 
   pub none : HasNoRun d disk disk [] []
@@ -350,47 +337,11 @@ session_shapes {d = d} law k reads old new before after end shapes quiet late di
   out_fault = out;
   settled = λ never. shapes.pending_stays ∙ quiet;
   unwritten = λ only. shapes_unwritten d old new shapes;
-  late = inl late;
-  not_built = λ is. absurd (no_fresh (sym (ap is_late is) ∙ late));
+  late = late;
 }
-
--- a volume that was opened, of which no line was begun
-pub session_same : {D K : Type 0} {d : Ghosts D} (law : Laws d) (k : Sinks K) (reads : Type 0) (disk : D) (out : K) (end : End) → d.pending disk ≡ false → (end ≡ NoMemory) ⊎ (end ≡ NotBuilt)
-    → SessionKeeps d k reads disk disk out out end
-session_same {d = d} law k reads disk out end quiet is = record {
-  asked_stays = refl;
-  goes = started law disk (λ image. Unit {0}) (λ image left. tt);
-  faults = omega arith;
-  disk_fault = λ e. absurd (other is e);
-  out_fault = λ e. absurd (wrong is e);
-  settled = λ never. quiet;
-  unwritten = λ only. same_unwritten law disk;
-  late = ⊎_elim (λ memory. inl (ap is_late memory)) (λ built. inr built) is;
-  not_built = λ e. (same_unwritten law disk, refl);
-}
-  where
-    other : (end ≡ NoMemory) ⊎ (end ≡ NotBuilt) → end ≡ DiskFault → ⊥
-    other (inl a) e = absurd (cc)
-    other (inr a) e = absurd (cc)
-
-    wrong : (end ≡ NoMemory) ⊎ (end ≡ NotBuilt) → end ≡ OutFault → ⊥
-    wrong (inl a) e = absurd (cc)
-    wrong (inr a) e = absurd (cc)
 
 pub reads_unwritten : {D : Type 0} {d : Ghosts D} {old new : D} → OnlyReads d old new → IsUnwritten d old new
 reads_unwritten reads = record { bytes_stay = reads.bytes; stops = reads.stops; faults = reads.faults }
-
--- lines that were served are no lines that aren't built
-pub served_built : (result : Result Tally LineFault) → end_of result ≡ NotBuilt → ⊥
-served_built result is = no_fresh (sym (ap is_late is) ∙ late_end result)
-
--- no line was begun of a script with a command that isn't built for the disc
-pub lacks_ends : {D : Type 0} {d : Ghosts D} (law : Laws d) (disk : D) (s : State) (script : List ℕ) (layout : Layout) → layout ≡ s.view.layout → has_lacking layout script ≡ true → d.bytes disk ≡ Some s.image → d.pending disk ≡ false
-    → LacksCommand d disk disk false s script []
-lacks_ends {d = d} law disk s script layout same lacking told quiet = record {
-  lacking = ap (λ (l : Layout). has_lacking l script) (sym same) ∙ lacking;
-  not_begun = record { told = refl; holds = told; settled = quiet; stops = λ there. (same_unwritten law disk).stops };
-}
 
 pub unwritten_after : {D : Type 0} {d : Ghosts D} (law : Laws d) (old mid new : D) → OnlyShapes d old mid → IsUnwritten d mid new → IsUnwritten d old new
 unwritten_after law old mid new shapes now = record {

@@ -58,14 +58,6 @@ pub spares_rest : (ro : Bool) (line : List ℕ) (left : List (List ℕ)) → Spa
 spares_rest ro line left (inl locked) = inl locked
 spares_rest ro line left (inr reads) = inr (both_true (is_reading_line (command_of line)) (all_read left) reads).1
 
-pub first_of_any : (a b : Bool) → a ≡ true → (a || b) ≡ true
-first_of_any true b e = refl
-first_of_any false b e = absurd (cc)
-
-pub rest_of_any : (a b : Bool) → b ≡ true → (a || b) ≡ true
-rest_of_any true b e = refl
-rest_of_any false b e = e
-
 -- what lines are tested for
 abbrev keeps : Bool → List ℕ → Bool
 keeps refused line = keeps_tree_or refused (command_of line)

@@ -185,7 +185,7 @@ pub reading_keeps : {D K : Type 0} {d : Ghosts D} (law : Laws d) (k : Sinks K) (
     → d.pending old ≡ false → v.fit ≡ true → StandsFor d v old → OnlyReads d old new → IsCaused d k old new before after result → KeepsGoing d k old new before after v v line result
 reading_keeps {d = d} law k v line old new before after result quiet fit stands reads caused = record {
   goes = record { form = reads.form; stops = weaker law (λ image. Unit {0}) reads.stops (λ image left. tt); faults = reads.faults };
-  ready = ready_if result (IsReady d new v v) (record { fit = fit; stands = stands_read d v old new reads stands; settled = reads.pending ∙ quiet; read_only = refl; lacks_no_more = λ command none. none });
+  ready = ready_if result (IsReady d new v v) (record { fit = fit; stands = stands_read d v old new reads stands; settled = reads.pending ∙ quiet; read_only = refl });
   settled = λ never. reads.pending ∙ quiet;
   reads = λ is. (reads, refl);
   caused = caused;

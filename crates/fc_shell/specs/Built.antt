@@ -1,16 +1,13 @@
--- Which commands are built, which scripts change the disc, and which only read.
-use Rattle.std.specs.Prelude.{◌≡◌, ◌⊎◌, Bool, true, false, not, ◌&&◌, List, ℕ, Result, Ok, Err}
+-- Which commands are built, and which scripts only read.
+use Rattle.std.specs.Prelude.{◌≡◌, ◌⊎◌, Bool, true, false, not, List, ℕ, Result, Ok, Err}
 use Rattle.std.specs.List.{list_all, list_any}
-use Rattle.fc_names.specs.declared.name.NameForm.{NameForm}
-use Rattle.fc_names.specs.declared.name.NameForm.TheVariants.{Seven, Ten, Long}
 use Rattle.fc_names.specs.declared.refusal.Refusal.{Refusal}
-use Rattle.fc_image.specs.Layout.{Layout, dir_form}
 use Rattle.fc_model.specs.Command.{Command}
 use Rattle.fc_script.specs.Lines.{command_of}
 use Rattle.fc_runs.specs.ReadLaw.{is_reading}
 use Rattle.fc_runs.specs.Run.{commands_in}
 
--- A command that is built, for some discs at least: each but `reclaim`, and but what no line spells.
+-- A command that is built: each but `reclaim`, and but what no line spells.
 abbrev pub is_built : Command → Bool
 is_built Command.Compact = true
 is_built (Command.Cdir path) = true
@@ -29,50 +26,6 @@ is_unbuilt_command (Err refusal) = false
 -- A line of the script is such a command.
 abbrev pub has_unbuilt : List ℕ → Bool
 has_unbuilt script = list_any (λ line. is_unbuilt_command (command_of line)) (commands_in script)
-
--- The line spells a command that changes the disc, or may.
-abbrev pub is_changing : Result Command Refusal → Bool
-is_changing (Ok c) = not (is_reading c)
-is_changing (Err refusal) = false
-
--- One of these lines does.
-abbrev pub any_changing : List (List ℕ) → Bool
-any_changing lines = list_any (λ line. is_changing (command_of line)) lines
-
--- A line of the script does.
-abbrev pub has_changing : List ℕ → Bool
-has_changing script = any_changing (commands_in script)
-
--- ---- what is built for which discs
-
--- The command renames an object.
-abbrev pub is_renaming : Command → Bool
-is_renaming (Command.Rename from to) = true
-is_renaming c = false
-
--- Directories of this form are big ones, which grow.
-abbrev pub are_big : NameForm → Bool
-are_big Seven = false
-are_big Ten = false
-are_big Long = true
-
--- A disc of this layout lacks the command: one with big directories `rename`.
-abbrev pub lacks : Layout → Command → Bool
-lacks (Layout.Old space) c = false
-lacks (Layout.New m) c = is_renaming c && are_big (dir_form (Layout.New m))
-
--- It lacks the command that the line spells.
-abbrev pub lacks_command : Layout → Result Command Refusal → Bool
-lacks_command layout (Ok c) = lacks layout c
-lacks_command layout (Err refusal) = false
-
--- It lacks the command of one of these lines.
-abbrev pub any_lacking : Layout → List (List ℕ) → Bool
-any_lacking layout lines = list_any (λ line. lacks_command layout (command_of line)) lines
-
--- It lacks a command of the script.
-abbrev pub has_lacking : Layout → List ℕ → Bool
-has_lacking layout script = any_lacking layout (commands_in script)
 
 -- ---- what only reads
 

@@ -8,7 +8,7 @@ use Rattle.fc_device.specs.Faults.{Rose}
 use Rattle.fc_device.specs.Stops.{LeavesOnly}
 use Rattle.fc_names.specs.declared.refusal.Refusal.{Refusal}
 use Rattle.fc_newmap.specs.Map.{Map}
-use Rattle.fc_image.specs.Layout.{Layout, dir_form}
+use Rattle.fc_image.specs.Layout.{Layout}
 use Rattle.fc_image.specs.Moves.{KeepsObjects}
 use Rattle.fc_model.specs.Command.{Command}
 use Rattle.fc_script.specs.Texts.{ok_line, refusal_line}
@@ -22,22 +22,14 @@ use Rattle.fc_oldvolume.specs.Changing.{IsOldLayout}
 use Rattle.fc_shell.specs.declared.answer.LineFault.{LineFault}
 use Rattle.fc_shell.specs.Answered.{Answered, OnlyTells}
 
--- Both layouts are new maps, or both are old ones.
-abbrev pub AreAlike : Layout → Layout → Type 0
-AreAlike (Layout.New m) (Layout.New n) = Unit {0}
-AreAlike (Layout.New m) (Layout.Old space) = ⊥
-AreAlike (Layout.Old space) (Layout.New m) = ⊥
-AreAlike (Layout.Old space) (Layout.Old other) = Unit {0}
-
--- What stays over a command that changes a volume, whatever is known of the disk's bytes: `ChangeKeeps` of fc_volume and of
--- fc_oldvolume, whose maps stay new or old.
+-- What stays over a command that changes a volume, whatever is known of the disk's bytes: what `ChangeKeeps` of fc_volume and of
+-- fc_oldvolume say alike.
 pub record KeepsVolume {D : Type 0} (d : Ghosts D) (old new : D) (was v : Volume) (answer : Result (Unit {0}) CommandError) : Type 0 where
   pub unchanged : IfErr answer (λ error. (error ≡ DiskFault → ⊥) → (v ≡ was) × (new ≡ old))
   pub stands : UnlessFault answer (StandsFor d v new)
   pub settled : UnlessFault answer (IsFalse (d.pending new))
   pub fit : UnlessFault answer (v.fit ≡ true)
   pub unfit : answer ≡ Err DiskFault → v.fit ≡ false
-  pub alike : AreAlike (parts_of was).layout (parts_of v).layout
   pub rights : v.read_only ≡ was.read_only
   pub form : SameForm d old new
   pub goes : LeavesOnly d.moment d.left_since old new (λ image. Unit {0})
@@ -49,7 +41,6 @@ pub record IsAsked {D : Type 0} (d : Ghosts D) (c : Command) (was v : Volume) (o
   pub refused : AnswersOver was c answer
   pub changed : OnOk answer (HasChanged d c (parts_of was) (parts_of v) old new)
   pub keeps : KeepsVolume d old new was v answer
-  pub form_stays : UnlessFault answer (dir_form (parts_of v).layout ≡ dir_form (parts_of was).layout)
 
 -- Parts of a compacted image, if the disk tells its bytes.
 abbrev pub HasCompacted : {D : Type 0} → Ghosts D → Parts → Parts → D → D → Type 0
@@ -61,7 +52,6 @@ pub record IsCompacting {D : Type 0} (d : Ghosts D) (was v : Volume) (old new : 
   pub errors : IfErr answer (λ error. (error ≡ Refused Refusal.ReadOnly) ⊎ ((error ≡ DiskFault) ⊎ ((error ≡ NoMemory) × IsOldLayout (parts_of was).layout)))
   pub compacted : OnOk answer (HasCompacted d (parts_of was) (parts_of v) old new)
   pub keeps : KeepsVolume d old new was v answer
-  pub form_stays : UnlessFault answer (dir_form (parts_of v).layout ≡ dir_form (parts_of was).layout)
   pub objects : (m : Map) → (parts_of was).layout ≡ Layout.New m → StopsAndExitsLeave d old new (KeepsObjects m.geometry)
 
 -- What is told of its answer: `ok`, or the line of the refusal. After any other error nothing is.

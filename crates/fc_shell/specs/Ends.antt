@@ -57,13 +57,12 @@ is_over_image end = false
 abbrev pub FitsGiven : Bool → End → Type 0
 FitsGiven given end = (end ≡ NoImage → given ≡ false) × (is_over_image end ≡ true → given ≡ true)
 
--- What was asked of the disk, by how the run ends: nothing; or this image, and once; and where memory was short or something isn't
--- built, either.
+-- What was asked of the disk, by how the run ends: nothing; or this image, and once; and where memory was short, either.
 abbrev pub AsksFor : Asked → End → List Asked → List Asked → Type 0
 AsksFor image BadWords old new = new ≡ old
 AsksFor image ScriptFault old new = new ≡ old
 AsksFor image ScriptTooLong old new = new ≡ old
-AsksFor image NotBuilt old new = (new ≡ old) ⊎ (new ≡ old ++ image ∷ [])
+AsksFor image NotBuilt old new = new ≡ old
 AsksFor image NoMemory old new = (new ≡ old) ⊎ (new ≡ old ++ image ∷ [])
 AsksFor image end old new = new ≡ old ++ image ∷ []
 

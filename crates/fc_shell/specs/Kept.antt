@@ -8,11 +8,11 @@ use Rattle.fc_device.specs.Faults.{Rose}
 use Rattle.fc_device.specs.Stops.{LeavesOnly}
 use Rattle.fc_words.specs.CommandLine.{Request}
 use Rattle.fc_shell.specs.declared.ending.End.{End}
-use Rattle.fc_shell.specs.declared.ending.End.TheVariants.{DiskFault, OutFault, NoMemory, NotBuilt, NoImage}
+use Rattle.fc_shell.specs.declared.ending.End.TheVariants.{DiskFault, OutFault, NoMemory, NoImage}
 use Rattle.fc_shell.specs.Ends.{AsksFor, FitsGiven, is_late, is_over_image}
 use Rattle.fc_shell.specs.Reading.{IsUnwritten}
-use Rattle.fc_shell.specs.Built.{has_changing, only_reads}
-use Rattle.fc_shell.specs.Replies.{AsksUnbuilt, blank_size, image_for}
+use Rattle.fc_shell.specs.Built.{only_reads}
+use Rattle.fc_shell.specs.Replies.{blank_size, image_for}
 
 -- The disk has the image that was asked for, as it was or fresh.
 abbrev pub HasImage : {D : Type 0} → Ghosts D → Request → D → D → Type 0
@@ -22,20 +22,6 @@ HasImage d r old new = d.bytes new ≡ option_map (image_for r.new) (d.bytes old
 abbrev pub LeavesDisk : {D : Type 0} → Ghosts D → Request → Type 0 → D → D → Type 0
 LeavesDisk d r reads old new = (new ≡ old)
     ⊎ ((d.asked new ≡ d.asked old ++ (r.image, blank_size r) ∷ []) × (reads → HasImage d r old new) × (d.pending new ≡ false))
-
--- The image that was asked for is there, as it was or fresh, and nothing is pending; no line was begun.
-pub record LeavesUnbegun {D : Type 0} (d : Ghosts D) (r : Request) (old new : D) : Type 0 where
-  pub asked : d.asked new ≡ d.asked old ++ (r.image, blank_size r) ∷ []
-  pub given : ForSome (d.gives old) (λ gives. gives r.image (blank_size r) ≡ true)
-  pub has_image : HasImage d r old new
-  pub settled : d.pending new ≡ false
-  pub unwritten : r.new ≡ None → IsUnwritten d old new
-
--- Something isn't built: of words or script, and nothing was asked of the disk; or for the disc that the
--- image is, which a command of the script changes. Which script the run has is told, or not.
-abbrev pub LeavesUnbuilt : {D : Type 0} → Ghosts D → Request → Option (List ℕ) → D → D → Type 0
-LeavesUnbuilt d r told old new = ((new ≡ old) × AsksUnbuilt r told)
-    ⊎ (LeavesUnbegun d r old new × ForSome told (λ text. has_changing text ≡ true))
 
 -- The run writes nothing over an image that is there: it may not change it, or its script, which is told, only reads.
 abbrev pub RunSpares : Request → Option (List ℕ) → Type 0
@@ -62,5 +48,4 @@ pub record SessionKeeps {D K : Type 0} (d : Ghosts D) (k : Sinks K) (reads : Typ
   pub out_fault : end ≡ OutFault → Rose (k.faults before) (k.faults after)
   pub settled : (end ≡ DiskFault → ⊥) → d.pending new ≡ false
   pub unwritten : reads → IsUnwritten d old new
-  pub late : (is_late end ≡ true) ⊎ (end ≡ NotBuilt)
-  pub not_built : end ≡ NotBuilt → IsUnwritten d old new × (after ≡ before)
+  pub late : is_late end ≡ true

@@ -5,7 +5,6 @@ use Rattle.fc_device.specs.declared.streams.Sink.{Ghosts as Sinks}
 use Rattle.fc_device.specs.Calls.{OnlyReads, SameForm}
 use Rattle.fc_device.specs.Stops.{LeavesOnly}
 use Rattle.fc_record.specs.declared.Kind.{Kind}
-use Rattle.fc_model.specs.Command.{Command}
 use Rattle.fc_image.specs.Stays.{IsNewLayout, OpensAs}
 use Rattle.fc_image.specs.effects.Effect.{State, tree_in}
 use Rattle.fc_image.specs.safe.SafeEffect.{HasTree}
@@ -17,7 +16,7 @@ use Rattle.fc_tree.specs.Parts.{ArePartsOf}
 use Rattle.fc_volume.specs.Volume.{StandsFor, Volume, parts_of}
 use Rattle.fc_shell.specs.declared.answer.LineFault.{LineFault}
 use Rattle.fc_shell.specs.Answered.{IsCaused}
-use Rattle.fc_shell.specs.Built.{is_reading_line, lacks}
+use Rattle.fc_shell.specs.Built.{is_reading_line}
 use Rattle.fc_shell.specs.Modes.{plain_mode}
 use Rattle.fc_shell.specs.Writing.{Wrote, WrotePart}
 
@@ -78,13 +77,12 @@ pub record GoesOn {D : Type 0} (d : Ghosts D) (old new : D) : Type 0 where
   pub stops : LeavesOnly d.moment d.left_since old new (λ image. Unit {0})
   pub faults : d.faults old ≤ d.faults new
 
--- The volume takes the next line: it stands for the disk, nothing is pending, and each command that was built for it still is.
+-- The volume takes the next line: it stands for the disk, and nothing is pending.
 pub record IsReady {D : Type 0} (d : Ghosts D) (new : D) (was v : Volume) : Type 0 where
   pub fit : v.fit ≡ true
   pub stands : StandsFor d v new
   pub settled : d.pending new ≡ false
   pub read_only : v.read_only ≡ was.read_only
-  pub lacks_no_more : (c : Command) → lacks (parts_of was).layout c ≡ false → lacks (parts_of v).layout c ≡ false
 
 -- what stays over a line
 pub record KeepsGoing {D K : Type 0} (d : Ghosts D) (k : Sinks K) (old new : D) (before after : K) (was v : Volume) (line : List ℕ) (result : Result Bool LineFault) : Type 0 where

@@ -4,13 +4,13 @@ use Rattle.fc_device.specs.declared.disk.Disk.{Ghosts}
 use Rattle.fc_image.specs.effects.Effect.{State}
 use Rattle.fc_image.specs.declared.ImageFault.{ImageFault}
 use Rattle.fc_image.specs.Opening.{Opened, open_image}
-use Rattle.fc_runs.specs.Promises.{Cause, HasBrokenOff, HasNoRun, HasNotSuited, HasRun, IsUnmade}
+use Rattle.fc_runs.specs.Promises.{Cause, HasBrokenOff, HasNoRun, HasRun, IsUnmade}
 use Rattle.fc_runs.specs.Replies.{bad_image_line}
 use Rattle.fc_runs.specs.Run.{Mode}
 use Rattle.fc_words.specs.CommandLine.{Request}
 use Rattle.fc_shell.specs.declared.ending.End.{End}
 use Rattle.fc_shell.specs.declared.ending.End.TheVariants.{Done, Refused, BadWords, BadImage, DiskFault, ScriptFault, OutFault, NoMemory, ScriptTooLong, NotBuilt, NoImage}
-use Rattle.fc_shell.specs.Built.{has_lacking, has_unbuilt}
+use Rattle.fc_shell.specs.Built.{has_unbuilt}
 use Rattle.fc_shell.specs.Modes.{plain_mode}
 use Rattle.fc_shell.specs.Replies.{blank_size, image_for, is_unbuilt, script_limit}
 
@@ -35,11 +35,6 @@ EndsOnFault d old new fault text NoMemory = HasNoRun d old new [] text
 EndsOnFault d old new fault text OutFault = (n : ℕ) × HasNoRun d old new (take n (bad_image_line fault)) text
 EndsOnFault d old new fault text end = ⊥
 
--- The script has a command that isn't built for such a disc. The image was opened or made, and no line was begun.
-pub record LacksCommand {D : Type 0} (d : Ghosts D) (old new : D) (fresh : Bool) (s : State) (script text : List ℕ) : Type 0 where
-  pub lacking : has_lacking s.view.layout script ≡ true
-  pub not_begun : HasNotSuited d old new fresh s text
-
 -- The image is accepted, and opens as s: its lines are steps from s on, whose replies were written, or with a demo the one line over
 -- them.
 abbrev pub EndsOver : {D : Type 0} → Ghosts D → D → D → Mode → Bool → Option ℕ → State → List ℕ → List ℕ → End → Type 0
@@ -49,7 +44,6 @@ EndsOver d old new mode fresh demo s script text ScriptFault = HasNoRun d old ne
 EndsOver d old new mode fresh demo s script text DiskFault = HasBrokenOff d old new mode fresh demo s script text Cause.Disk
 EndsOver d old new mode fresh demo s script text OutFault = HasBrokenOff d old new mode fresh demo s script text Cause.Out
 EndsOver d old new mode fresh demo s script text NoMemory = HasBrokenOff d old new mode fresh demo s script text Cause.Memory
-EndsOver d old new mode fresh demo s script text NotBuilt = LacksCommand d old new fresh s script text
 EndsOver d old new mode fresh demo s script text end = ⊥
 
 -- by what the image opens as

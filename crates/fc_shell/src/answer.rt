@@ -4,9 +4,9 @@ ghost use Rattle.fc_device.specs.Calls.{OnlyReads};
 ghost use Rattle.fc_runs.specs.ReadLaw.{is_reading};
 ghost use Rattle.fc_script.specs.Lines.{command_of};
 ghost use Rattle.fc_script.specs.Reading.{command};
-ghost use Rattle.fc_volume.specs.Volume.{StandsFor, parts_of};
+ghost use Rattle.fc_volume.specs.Volume.{StandsFor};
 ghost use Rattle.fc_shell.specs.Answered.{Answered, ForState, IsCaused, volume_reply};
-ghost use Rattle.fc_shell.specs.Built.{is_built, is_unbuilt_command, lacks, lacks_command};
+ghost use Rattle.fc_shell.specs.Built.{is_built, is_unbuilt_command};
 ghost use Rattle.fc_shell.specs.Replies.{script_limit};
 ghost use Rattle.fc_shell.specs.Line.{KeepsGoing, LineEnds};
 
@@ -70,7 +70,7 @@ fn renew_index(alloc: Global, volume: &mut Volume, asked: &Command)
     }
 }
 
-// Answers a command that is built for such a disc. `line` of the clauses is each line that spells it.
+// Answers a command that is built. `line` of the clauses is each line that spells it.
 fn answer_command<D: Disk, K: Sink>(
     alloc: Global,
     volume: &mut Volume,
@@ -83,7 +83,6 @@ fn answer_command<D: Disk, K: Sink>(
     requires stands { StandsFor D.Disk volume.old disk.old }
     requires settled { IsFalse (D.pending disk.old) }
     requires built { is_built (command asked.now) ≡ true }
-    requires built_for { lacks (parts_of volume.old).layout (command asked.now) ≡ false }
     requires spelled { (line : List ℕ) × (command_of line ≡ Ok (command asked.now)) × (length line ≤ script_limit) }
     ensures step { (line : List ℕ) → command_of line ≡ Ok (command asked.now) → ForState (D.bytes disk.old) volume.old (λ kind s.
         LineEnds D.Disk disk.old disk.new kind volume.old.read_only s volume.new line (K.taken out.old) (K.taken out.new) result) }
@@ -100,8 +99,8 @@ fn answer_command<D: Disk, K: Sink>(
     }
 }
 
-/// Answers a command line of the script, whose command is built for such a disc: does it, and writes its whole reply. Answers whether the
-/// reply is an error line.
+/// Answers a command line of the script, whose command is built: does it, and writes its whole reply. Answers whether the reply is
+/// an error line.
 pub fn answer_line<D: Disk, K: Sink>(
     alloc: Global,
     volume: &mut Volume,
@@ -115,7 +114,6 @@ pub fn answer_line<D: Disk, K: Sink>(
     requires settled { IsFalse (D.pending disk.old) }
     requires short { length line.now ≤ script_limit }
     requires built { IsFalse (is_unbuilt_command (command_of line.now)) }
-    requires built_for { lacks_command (parts_of volume.old).layout (command_of line.now) ≡ false }
     ensures step { ForState (D.bytes disk.old) volume.old (λ kind s.
         LineEnds D.Disk disk.old disk.new kind volume.old.read_only s volume.new line.now (K.taken out.old) (K.taken out.new) result) }
     ensures keeps { KeepsGoing D.Disk K.Sink disk.old disk.new out.old out.new volume.old volume.new line.now result }

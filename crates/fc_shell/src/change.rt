@@ -8,7 +8,7 @@ ghost use Rattle.fc_script.specs.Reading.{command};
 ghost use Rattle.fc_script.specs.Texts.{ok_line};
 ghost use Rattle.fc_volume.specs.Volume.{StandsFor, parts_of};
 ghost use Rattle.fc_shell.specs.Answered.{Answered, ForState, OnlyTells};
-ghost use Rattle.fc_shell.specs.Built.{is_built, lacks};
+ghost use Rattle.fc_shell.specs.Built.{is_built};
 ghost use Rattle.fc_shell.specs.Changing.{IsAsked, Tells};
 ghost use Rattle.fc_shell.specs.Replies.{script_limit};
 ghost use Rattle.fc_shell.specs.Line.{KeepsGoing, LineEnds};
@@ -78,7 +78,6 @@ fn change_new<D: Disk>(
     requires stands { StandsFor D.Disk volume.old disk.old }
     requires settled { IsFalse (D.pending disk.old) }
     requires new_map { IsNewLayout (parts_of volume.old).layout }
-    requires built_for { lacks (parts_of volume.old).layout (command asked.now) ≡ false }
     requires built { is_built (command asked.now) ≡ true }
     requires changes { keeps_tree (command asked.now) ≡ false }
     requires spelled { (line : List ℕ) × (command_of line ≡ Ok (command asked.now)) × (length line ≤ script_limit) }
@@ -105,7 +104,7 @@ fn change_new<D: Disk>(
             exec,
             len,
         } => fc_growing::create(volume, alloc, disk, path, *load, *exec, *len),
-        Command::Rename { from, to } => volume.rename(alloc, disk, from, to),
+        Command::Rename { from, to } => fc_growing::rename(volume, alloc, disk, from, to),
         _ => unreachable!(),
     }
 }
@@ -122,7 +121,6 @@ fn change_old<D: Disk>(
     requires stands { StandsFor D.Disk volume.old disk.old }
     requires settled { IsFalse (D.pending disk.old) }
     requires old_map { IsOldLayout (parts_of volume.old).layout }
-    requires built_for { lacks (parts_of volume.old).layout (command asked.now) ≡ false }
     requires built { is_built (command asked.now) ≡ true }
     requires changes { keeps_tree (command asked.now) ≡ false }
     requires spelled { (line : List ℕ) × (command_of line ≡ Ok (command asked.now)) × (length line ≤ script_limit) }
@@ -165,7 +163,6 @@ fn change<D: Disk>(
     requires fit { IsTrue volume.old.fit }
     requires stands { StandsFor D.Disk volume.old disk.old }
     requires settled { IsFalse (D.pending disk.old) }
-    requires built_for { lacks (parts_of volume.old).layout (command asked.now) ≡ false }
     requires built { is_built (command asked.now) ≡ true }
     requires changes { keeps_tree (command asked.now) ≡ false }
     requires spelled { (line : List ℕ) × (command_of line ≡ Ok (command asked.now)) × (length line ≤ script_limit) }
@@ -177,8 +174,8 @@ fn change<D: Disk>(
     change_new(alloc, volume, disk, asked)
 }
 
-/// Answers a command that changes the tree and is built for such a disc: does it, and then writes the reply. Answers whether the reply
-/// is an error line.
+/// Answers a command that changes the tree and is built: does it, and then writes the reply. Answers whether the reply is an error
+/// line.
 pub fn answer_change<D: Disk, K: Sink>(
     alloc: Global,
     volume: &mut Volume,
@@ -190,7 +187,6 @@ pub fn answer_change<D: Disk, K: Sink>(
     requires fit { IsTrue volume.old.fit }
     requires stands { StandsFor D.Disk volume.old disk.old }
     requires settled { IsFalse (D.pending disk.old) }
-    requires built_for { lacks (parts_of volume.old).layout (command asked.now) ≡ false }
     requires built { is_built (command asked.now) ≡ true }
     requires changes { keeps_tree (command asked.now) ≡ false }
     requires spelled { (line : List ℕ) × (command_of line ≡ Ok (command asked.now)) × (length line ≤ script_limit) }

@@ -25,7 +25,7 @@ pub enum End {
     NoMemory,
     /// 8: the script is longer than 16,777,216 bytes.
     ScriptTooLong,
-    /// 9: the words, the script or a command of the script needs what isn't built yet.
+    /// 9: the words or a line of the script ask for what isn't built.
     NotBuilt,
     /// 12: the disk doesn't give the image.
     NoImage,

@@ -1,7 +1,7 @@
 //! The top of the filing system: a run of a script over an image.
 //!
-//! All commands are served, over images of every kind and over fresh volumes, but for `reclaim`, and for `rename` where directories
-//! are big ones. What needs more is answered by `End::NotBuilt`.
+//! Every command but `reclaim` is served, over images of every kind and over fresh volumes. `reclaim` and the option `--safe` aren't
+//! built: a run that asks for one ends as `End::NotBuilt`, before an image is asked for.
 #![tactic(auto)]
 
 mod answer;
@@ -34,14 +34,14 @@ ghost use Rattle.fc_runs.specs.Demo.{demo_script};
 ghost use Rattle.fc_runs.specs.Run.{commands_in, script_for};
 ghost use Rattle.fc_words.specs.CommandLine.{Request, request_of};
 ghost use Rattle.fc_words.specs.Request.{request_in};
-ghost use Rattle.fc_shell.specs.Built.{Spares, has_changing, has_unbuilt};
+ghost use Rattle.fc_shell.specs.Built.{Spares, has_unbuilt, only_reads};
 ghost use Rattle.fc_shell.specs.Ends.{AsksFor, FitsGiven, is_early, is_late, is_over_image};
 ghost use Rattle.fc_shell.specs.Headline.{IsAnsweredByMap};
-ghost use Rattle.fc_shell.specs.Kept.{HasImage, LeavesDisk, LeavesUnbegun, LeavesUnbuilt, RunKeeps, RunSpares};
+ghost use Rattle.fc_shell.specs.Kept.{HasImage, LeavesDisk, RunKeeps, RunSpares};
 ghost use Rattle.fc_shell.specs.Promise.{EndsByScript, EndsByWords, Promise};
 ghost use Rattle.fc_shell.specs.Reading.{IsUnwritten};
 ghost use Rattle.fc_shell.specs.ReadsLaw.{ReadsLaw};
-ghost use Rattle.fc_shell.specs.Replies.{AsksNoDemo, EndsAs, asked_script, blank_size, demo_limit, is_unbuilt, run_reply, script_limit, told_script};
+ghost use Rattle.fc_shell.specs.Replies.{AsksNoDemo, AsksUnbuilt, EndsAs, asked_script, blank_size, demo_limit, is_unbuilt, run_reply, script_limit, told_script};
 ghost use Rattle.fc_shell.specs.Script.{behind_limit};
 ghost use Rattle.fc_shell.specs.Writing.{Wrote};
 
@@ -70,8 +70,7 @@ fn run_script<D: Disk, K: Sink>(
         × EndsByScript D.Disk disk.old disk.new gives r image script.now text (has_unbuilt script.now) result)) }
     ensures keeps { RunKeeps D.Disk K.Sink (request_in asked.now) (Spares (request_in asked.now).read_only (commands_in script.now)) disk.old disk.new out.old out.new result }
     ensures unattached { has_unbuilt script.now ≡ true → (is_early result ≡ true) × (disk.new ≡ disk.old) × (out.new ≡ out.old) }
-    ensures not_built { result ≡ End.NotBuilt → (out.new ≡ out.old) × (((disk.new ≡ disk.old) × (has_unbuilt script.now ≡ true))
-        ⊎ (LeavesUnbegun D.Disk (request_in asked.now) disk.old disk.new × (has_changing script.now ≡ true))) }
+    ensures not_built { result ≡ End.NotBuilt → (has_unbuilt script.now ≡ true) × (disk.new ≡ disk.old) × (out.new ≡ out.old) }
     ensures ended { (is_late result ≡ true) ⊎ ((result ≡ End.NoImage) ⊎ (result ≡ End.NotBuilt)) }
 {
     // A law, for the proof alone: an image that is accepted opens as its own kind.
@@ -98,8 +97,7 @@ fn run_demo<D: Disk, K: Sink>(
         × EndsByScript D.Disk disk.old disk.new gives r image (demo_script n) text (has_unbuilt (demo_script n)) result)) }
     ensures keeps { RunKeeps D.Disk K.Sink (request_in asked.now) (Spares (request_in asked.now).read_only (commands_in (demo_script n))) disk.old disk.new out.old out.new result }
     ensures unattached { has_unbuilt (demo_script n) ≡ true → (is_early result ≡ true) × (disk.new ≡ disk.old) × (out.new ≡ out.old) }
-    ensures not_built { result ≡ End.NotBuilt → (out.new ≡ out.old) × (((disk.new ≡ disk.old) × (has_unbuilt (demo_script n) ≡ true))
-        ⊎ (LeavesUnbegun D.Disk (request_in asked.now) disk.old disk.new × (has_changing (demo_script n) ≡ true))) }
+    ensures not_built { result ≡ End.NotBuilt → (has_unbuilt (demo_script n) ≡ true) × (disk.new ≡ disk.old) × (out.new ≡ out.old) }
     ensures ended { (is_late result ≡ true) ⊎ ((result ≡ End.NoImage) ⊎ (result ≡ End.NotBuilt)) }
 {
     // A law, for the proof alone: an image that is accepted opens as its own kind.
@@ -128,8 +126,8 @@ fn run_request<D: Disk, S: Source, K: Sink>(
         → (is_early result ≡ true) × (disk.new ≡ disk.old) × (out.new ≡ out.old)) }
     ensures too_long { result ≡ End.ScriptTooLong → (disk.new ≡ disk.old) × (out.new ≡ out.old) × ForSome (S.left script.old) (λ text. script_limit < length text)
         × (S.left script.new ≡ behind_limit (S.left script.old)) }
-    ensures not_built { result ≡ End.NotBuilt → (out.new ≡ out.old)
-        × LeavesUnbuilt D.Disk (request_in asked.now) (told_script (request_in asked.now).demo (S.left script.old)) disk.old disk.new }
+    ensures not_built { result ≡ End.NotBuilt
+        → AsksUnbuilt (request_in asked.now) (told_script (request_in asked.now).demo (S.left script.old)) × (disk.new ≡ disk.old) × (out.new ≡ out.old) }
     ensures script_fault { result ≡ End.ScriptFault → Rose (S.faults script.old) (S.faults script.new) × (disk.new ≡ disk.old) × (out.new ≡ out.old) }
     ensures script_end { (request_in asked.now).demo ≡ None → is_early result ≡ false → ForSome (S.left script.new) (λ rest. rest ≡ []) }
     ensures unread { (n : ℕ) → (request_in asked.now).demo ≡ Some n → (script.new ≡ script.old) × (result ≢ End.ScriptFault) × (result ≢ End.ScriptTooLong) }
@@ -160,7 +158,7 @@ fn run_request<D: Disk, S: Source, K: Sink>(
 ///
 /// Where the source tells its script, two ends are settled whatever the disk tells. With words of the grammar that ask for
 /// nothing that isn't built, a script that is too long ends as `ScriptTooLong`, any other with a command that isn't built as
-/// `NotBuilt`, and the rest as neither, but for a command that isn't built for the disc (`NotBuilt`); only a call of the source may fail first, and memory may be short.
+/// `NotBuilt`, and the rest as neither; only a call of the source may fail first, and memory may be short.
 pub fn run<D: Disk, S: Source, K: Sink>(
     alloc: Global,
     words: &Vec<String>,
@@ -183,9 +181,9 @@ pub fn run<D: Disk, S: Source, K: Sink>(
         → ForSome (D.gives disk.old) (λ gives. ForSome (told_script r.demo (S.left script.old)) (λ lines. ForSome (D.bytes disk.old) (λ image.
         (text : List ℕ) × Wrote (K.taken out.old) (K.taken out.new) text × IsAnsweredByMap D.Disk disk.new r image lines text))) }
 
-    // If the script changes nothing, or asks for what isn't built, and is no demo's, end and text are even those of words, script and
+    // If the script only reads, or asks for what isn't built, and is no demo's, end and text are even those of words, script and
     // image, unless a call failed or memory was short.
-    ensures reply { AsksNoDemo (request_of (map string_bytes words.now.items)) → ForSome (D.gives disk.old) (λ gives. ForSome (S.left script.old) (λ text. ForSome (D.bytes disk.old) (λ image. (has_unbuilt text ≡ true) ⊎ (has_changing text ≡ false) →
+    ensures reply { AsksNoDemo (request_of (map string_bytes words.now.items)) → ForSome (D.gives disk.old) (λ gives. ForSome (S.left script.old) (λ text. ForSome (D.bytes disk.old) (λ image. (has_unbuilt text ≡ true) ⊎ (only_reads text ≡ true) →
         EndsAs (run_reply (map string_bytes words.now.items) gives text image) result (K.taken out.old) (K.taken out.new)))) }
 
     // Words that aren't of the grammar, and no others, are bad; nothing is read, attached or written.
@@ -194,12 +192,11 @@ pub fn run<D: Disk, S: Source, K: Sink>(
         → ((result ≡ End.BadWords) ⊎ (result ≡ End.NoMemory)) × (script.new ≡ script.old) × (disk.new ≡ disk.old) × (out.new ≡ out.old) }
 
     // Of the disk nothing is asked, or one image, and once: the one that the words name, as it is or as a fresh one of its
-    // format's size. Which of the two, the end says.
+    // format's size. Which of the two, the end says, unless memory was short.
     ensures asks { (r : Request) → request_of (map string_bytes words.now.items) ≡ Some r → AsksFor (r.image, blank_size r) result (D.asked disk.old) (D.asked disk.new) }
 
-    // Nothing is attached or written where the words or the script ask for what isn't built, or the script is too long. Then
-    // the run ends before an image is asked for. These two ends have no other cause, but that a command isn't built for
-    // the disc: then the image was opened, or made, and no line was begun (`promise`).
+    // Where the words or the script ask for what isn't built, or the script is too long, the run ends before an image is asked
+    // for, and nothing is written. These two ends have no other cause.
     ensures unbuilt { (r : Request) → request_of (map string_bytes words.now.items) ≡ Some r → is_unbuilt r ≡ true
         → ((result ≡ End.NotBuilt) ⊎ (result ≡ End.NoMemory)) × (script.new ≡ script.old) × (disk.new ≡ disk.old) × (out.new ≡ out.old) }
     ensures unattached { ForSome (asked_script (request_of (map string_bytes words.now.items)) (S.left script.old)) (λ text. (script_limit < length text) ⊎ (has_unbuilt text ≡ true)
@@ -207,17 +204,20 @@ pub fn run<D: Disk, S: Source, K: Sink>(
     ensures too_long { result ≡ End.ScriptTooLong → (disk.new ≡ disk.old) × ForSome (S.left script.old) (λ text. script_limit < length text)
         × (S.left script.new ≡ behind_limit (S.left script.old)) }
     ensures not_built { (r : Request) → request_of (map string_bytes words.now.items) ≡ Some r → result ≡ End.NotBuilt
-        → LeavesUnbuilt D.Disk r (told_script r.demo (S.left script.old)) disk.old disk.new }
+        → AsksUnbuilt r (told_script r.demo (S.left script.old)) × (disk.new ≡ disk.old) }
 
     // A fault is answered only where that object's count of faults rose in this call.
     ensures script_fault { result ≡ End.ScriptFault → Rose (S.faults script.old) (S.faults script.new) × (disk.new ≡ disk.old) }
     ensures disk_fault { result ≡ End.DiskFault → Rose (D.faults disk.old) (D.faults disk.new) }
     ensures out_fault { result ≡ End.OutFault → Rose (K.faults out.old) (K.faults out.new) }
 
-    // Where the disk doesn't give the name, nothing has changed, and no stop shows anything else than before.
+    // Where the disk doesn't give the name, nothing has changed, and no stop shows anything else than before. A run ends so only
+    // for a name that isn't given, and over an image only for one that is, if it is known which names the disk gives.
     ensures no_image { result ≡ End.NoImage → Untouched D.Disk disk.old disk.new
         × IsUnwritten D.Disk disk.old disk.new }
     ensures given { (r : Request) → request_of (map string_bytes words.now.items) ≡ Some r → ForSome (D.gives disk.old) (λ gives. FitsGiven (gives r.image (blank_size r)) result) }
+
+    // Nothing was written where a run ends so.
     ensures silent { (result ≡ End.NotBuilt) ⊎ ((result ≡ End.NoImage) ⊎ ((result ≡ End.ScriptFault) ⊎ (result ≡ End.ScriptTooLong))) → out.new ≡ out.old }
 
     // If the run may not change the image, or the script only reads, an image that is there keeps its bytes, and at every stop
@@ -226,6 +226,9 @@ pub fn run<D: Disk, S: Source, K: Sink>(
     ensures unwritten { (r : Request) → request_of (map string_bytes words.now.items) ≡ Some r → RunSpares r (told_script r.demo (S.left script.old)) → r.new ≡ None → IsUnwritten D.Disk disk.old disk.new }
     ensures made { (r : Request) → request_of (map string_bytes words.now.items) ≡ Some r → RunSpares r (told_script r.demo (S.left script.old)) → is_over_image result ≡ true
         → HasImage D.Disk r disk.old disk.new }
+
+    // Where a run ends over an image, all that it wrote is durable. After out of memory the disk is as it was, or it was asked for
+    // the image, and what was written to it is durable.
     ensures settled { is_over_image result ≡ true → IsFalse (D.pending disk.new) }
     ensures no_memory { (r : Request) → request_of (map string_bytes words.now.items) ≡ Some r → result ≡ End.NoMemory
         → LeavesDisk D.Disk r (RunSpares r (told_script r.demo (S.left script.old))) disk.old disk.new }
@@ -245,8 +248,8 @@ pub fn run<D: Disk, S: Source, K: Sink>(
     }
 }
 
-/// A law: where every command of a script is built, its replies are those of a run that leaves everything; and a fresh
-/// image is accepted.
+/// A law: the replies of a script that only reads are those of a run that leaves everything, and of no other run; and a fresh image
+/// is accepted.
 pub fn reads()
     ensures { ReadsLaw }
 {

@@ -7,12 +7,12 @@ ghost use Rattle.fc_device.specs.Form.{IsFresh};
 ghost use Rattle.fc_image.specs.Opening.{open_image};
 ghost use Rattle.fc_runs.specs.Replies.{bad_image_line};
 ghost use Rattle.fc_runs.specs.Run.{commands_in, script_for};
-ghost use Rattle.fc_volume.specs.Volume.{StandsFor, parts_of};
+ghost use Rattle.fc_volume.specs.Volume.{StandsFor};
 ghost use Rattle.fc_words.specs.Request.{request_in};
 ghost use Rattle.fc_shell.specs.Answered.{ForState, IsCaused};
-ghost use Rattle.fc_shell.specs.Built.{Spares, has_changing, has_lacking, has_unbuilt};
+ghost use Rattle.fc_shell.specs.Built.{Spares, has_unbuilt};
 ghost use Rattle.fc_shell.specs.Ends.{end_of, is_late};
-ghost use Rattle.fc_shell.specs.Kept.{LeavesUnbegun, RunKeeps, SessionKeeps};
+ghost use Rattle.fc_shell.specs.Kept.{RunKeeps, SessionKeeps};
 ghost use Rattle.fc_shell.specs.Line.{GoesOn};
 ghost use Rattle.fc_shell.specs.Modes.{plain_mode};
 ghost use Rattle.fc_shell.specs.Promise.{EndsByGiving, EndsByOpening, EndsOver};
@@ -21,7 +21,6 @@ ghost use Rattle.fc_shell.specs.Serving.{ServesAs};
 ghost use Rattle.fc_shell.specs.Writing.{Wrote, WrotePart};
 
 use crate::answer::{LineFault, answer_line};
-use crate::built::has_lacking;
 use crate::demo::{Replies, end_after, tell_tally};
 use crate::ending::End;
 use crate::image::attach_image;
@@ -29,7 +28,7 @@ use crate::lines::CommandLines;
 use crate::sink::write_all;
 use crate::tally::Tally;
 use crate::texts::bad_image_line;
-use fc_device::{Disk, DiskFault, Failed, NoMemory, Sink};
+use fc_device::{Disk, DiskFault, Failed, Sink};
 use fc_image::ImageFault;
 use fc_volume::{MountError, Volume};
 use fc_words::Words;
@@ -50,7 +49,6 @@ fn serve<D: Disk, K: Sink>(
     requires settled { IsFalse (D.pending disk.old) }
     requires short { length script.now ≤ script_limit }
     requires built { has_unbuilt script.now ≡ false }
-    requires built_for { has_lacking (parts_of volume.old).layout script.now ≡ false }
     ensures served { ForState (D.bytes disk.old) volume.old (λ kind s.
         ServesAs D.Disk disk.old disk.new kind volume.old.read_only s script.now (K.taken out.old) (K.taken out.new) result) }
     ensures goes { GoesOn D.Disk disk.old disk.new }
@@ -113,7 +111,6 @@ fn answer_demo<D: Disk, K: Sink>(
     requires settled { IsFalse (D.pending disk.old) }
     requires short { length script.now ≤ script_limit }
     requires built { has_unbuilt script.now ≡ false }
-    requires built_for { has_lacking (parts_of volume.old).layout script.now ≡ false }
     requires own { script_for (Some n) script.now ≡ script.now }
     ensures promise { ForState (D.bytes disk.old) volume.old (λ kind s. (text : List ℕ) × Wrote (K.taken out.old) (K.taken out.new) text
         × EndsOver D.Disk disk.old disk.new (plain_mode kind volume.old.read_only) false (Some n) s script.now text result) }
@@ -145,7 +142,6 @@ fn answer_lines<D: Disk, K: Sink>(
     requires settled { IsFalse (D.pending disk.old) }
     requires short { length script.now ≤ script_limit }
     requires built { has_unbuilt script.now ≡ false }
-    requires built_for { has_lacking (parts_of volume.old).layout script.now ≡ false }
     requires own { script_for demo script.now ≡ script.now }
     ensures promise { ForState (D.bytes disk.old) volume.old (λ kind s. (text : List ℕ) × Wrote (K.taken out.old) (K.taken out.new) text
         × EndsOver D.Disk disk.old disk.new (plain_mode kind volume.old.read_only) false demo s script.now text result) }
@@ -155,34 +151,6 @@ fn answer_lines<D: Disk, K: Sink>(
     match demo {
         None => end_of(serve(alloc, volume, disk, out, script)),
         Some(n) => answer_demo(alloc, volume, disk, out, script, n),
-    }
-}
-
-// Serves a script over a volume that was opened, unless it asks for what isn't built for such a disc.
-fn answer_volume<D: Disk, K: Sink>(
-    alloc: Global,
-    volume: &mut Volume,
-    disk: &mut D,
-    out: &mut K,
-    script: &[u8],
-    demo: Option<u32>,
-) -> End
-    requires attached { IsTrue (D.attached disk.old) }
-    requires fit { IsTrue volume.old.fit }
-    requires stands { StandsFor D.Disk volume.old disk.old }
-    requires settled { IsFalse (D.pending disk.old) }
-    requires short { length script.now ≤ script_limit }
-    requires built { has_unbuilt script.now ≡ false }
-    requires own { script_for demo script.now ≡ script.now }
-    ensures promise { ForState (D.bytes disk.old) volume.old (λ kind s. (text : List ℕ) × Wrote (K.taken out.old) (K.taken out.new) text
-        × EndsOver D.Disk disk.old disk.new (plain_mode kind volume.old.read_only) false demo s script.now text result) }
-    ensures keeps { SessionKeeps D.Disk K.Sink (Spares volume.old.read_only (commands_in script.now)) disk.old disk.new out.old out.new result }
-    ensures changes { result ≡ End.NotBuilt → has_changing script.now ≡ true }
-{
-    match has_lacking(alloc, volume.space(), script) {
-        Err(NoMemory) => End::NoMemory,
-        Ok(true) => End::NotBuilt,
-        Ok(false) => answer_lines(alloc, volume, disk, out, script, demo),
     }
 }
 
@@ -202,12 +170,11 @@ fn answer_image<D: Disk, K: Sink>(
     ensures promise { ForSome (D.bytes disk.old) (λ image. (text : List ℕ) × Wrote (K.taken out.old) (K.taken out.new) text
         × EndsByOpening D.Disk disk.old disk.new read_only false demo image script.now text (open_image image) result) }
     ensures keeps { SessionKeeps D.Disk K.Sink (Spares read_only (commands_in script.now)) disk.old disk.new out.old out.new result }
-    ensures changes { result ≡ End.NotBuilt → has_changing script.now ≡ true }
 {
     // A law, for the proof alone: an image that is accepted opens as its own kind.
     fc_image::accepted();
     match Volume::mount(alloc, disk, read_only) {
-        Ok(mut volume) => answer_volume(alloc, &mut volume, disk, out, script, demo),
+        Ok(mut volume) => answer_lines(alloc, &mut volume, disk, out, script, demo),
         Err(MountError::Image(fault)) => tell_fault(alloc, out, fault),
         Err(MountError::DiskFault) => End::DiskFault,
         Err(MountError::NoMemory) => End::NoMemory,
@@ -229,8 +196,7 @@ pub fn answer_script<D: Disk, K: Sink>(
         (text : List ℕ) × Wrote (K.taken out.old) (K.taken out.new) text
         × EndsByGiving D.Disk disk.old disk.new r image script.now text (gives r.image (blank_size r)) result)) }
     ensures keeps { RunKeeps D.Disk K.Sink (request_in asked.now) (Spares (request_in asked.now).read_only (commands_in script.now)) disk.old disk.new out.old out.new result }
-    ensures late { (is_late result ≡ true) ⊎ ((result ≡ End.NoImage) ⊎ (result ≡ End.NotBuilt)) }
-    ensures not_built { result ≡ End.NotBuilt → LeavesUnbegun D.Disk (request_in asked.now) disk.old disk.new × (out.new ≡ out.old) × (has_changing script.now ≡ true) }
+    ensures late { (is_late result ≡ true) ⊎ (result ≡ End.NoImage) }
 {
     // Laws, for the proof alone: a fresh image is accepted, and one that is accepted opens as its own kind.
     fc_image::accepted();

@@ -44,11 +44,11 @@ returns-in-Ok-clause-headline g c r asked whole gives given text left image told
     )
 
 pub returns-in-Ok-clause-reply : goal.returns-in-Ok-clause-reply
-returns-in-Ok-clause-reply g c plain gives given text left image told calm =
+returns-in-Ok-clause-reply g c plain gives given text left image told settled =
     let asked = request_of (map string_bytes c.args.words.now.items) in
     let promise = returns-in-Ok-clause-promise g c gives given text (asked_plain asked (g.S.Source.left c.args.script.now) plain ∙ left) image told in
     promise_as g.D.Disk c.args.disk.now c.run_request.new.disk (g.K.Sink.taken c.args.out.now) (g.K.Sink.taken c.run_request.new.out) promise.0 promise.1 gives image text
-    asked c.run_request.result plain calm promise.2
+    asked c.run_request.result plain settled promise.2
 
 pub run_request-requires : goal.run_request-requires
 run_request-requires g c = record { few = asked_few (map string_bytes c.args.words.now.items) (request_in c.in-Ok.asked) c.in-Ok.ensures.ok }

@@ -40,9 +40,10 @@ returns-in-Some-clause-not_built g c e =
     let r = request_in c.args.asked.now in
     let left = told_script r.demo (g.S.Source.left c.args.script.now) in
     let x = c.run_demo.ensures.not_built e in (
-      x.0,
       unbuilt_told left (demo_script c.in-Some.n) (told_demo_script r.demo c.in-Some.n (g.S.Source.left c.args.script.now) c.in-Some.is) (demo_short c.in-Some.n (c.requires.few c.in-Some.n c.in-Some.is))
-          g.D.Disk r c.args.disk.now c.run_demo.new.disk x.1,
+          r x.0,
+      x.1,
+      x.2,
     )
 
 -- ---- a script of the source

@@ -8,9 +8,8 @@ use Rattle.fc_script.specs.declared.command.LineError.{LineError}
 use Rattle.fc_script.specs.Lines.{command_of}
 use Rattle.fc_script.specs.Reading.{Gives, command}
 use Rattle.fc_script.specs.Texts.{refusal_line}
-use Rattle.fc_volume.specs.Volume.{parts_of}
 use Rattle.fc_shell.specs.declared.answer.LineFault.{LineFault}
-use Rattle.fc_shell.specs.Built.{is_unbuilt_command, lacks_command}
+use Rattle.fc_shell.specs.Built.{is_unbuilt_command}
 use Rattle.fc_shell.proofs.AnsweredLemmas.{caused_alone}
 use Rattle.fc_shell.proofs.ReplyLemmas.{not_false}
 use Rattle.fc_shell.proofs.StepLemmas.{reading_keeps, refusal_ends, unbegun_ends}
@@ -21,9 +20,6 @@ answer_command-requires-clause-built g c = not_false c.in-Ok.asked (ap is_unbuil
 
 pub answer_command-requires-clause-spelled : goal.answer_command-requires-clause-spelled
 answer_command-requires-clause-spelled g c = (c.args.line.now, c.in-Ok.ensures, c.requires.short)
-
-pub answer_command-requires-clause-built_for : goal.answer_command-requires-clause-built_for
-answer_command-requires-clause-built_for g c = ap (lacks_command (parts_of c.args.volume.now).layout) (sym c.in-Ok.ensures) ∙ c.requires.built_for
 
 pub returns-in-Ok-clause-step : goal.returns-in-Ok-clause-step
 returns-in-Ok-clause-step g c = c.answer_command.ensures.step c.args.line.now c.in-Ok.ensures

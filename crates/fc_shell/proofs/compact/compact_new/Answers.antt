@@ -5,4 +5,4 @@ pub returns : goal.returns
 returns g c =
     let e = c.compact.ensures in
     compacting_new g.D.Disk c.args.volume.now c.compact.new.self c.args.disk.now c.compact.new.disk c.compact.result c.requires.new_map
-    e.refused e.errors e.unchanged e.compacted e.keeps e.stands e.durable e.fit e.unfit e.new_map e.form_stays e.rights e.form e.faults e.cause
+    e.refused e.errors e.unchanged e.compacted e.keeps e.stands e.durable e.fit e.unfit e.rights e.form e.faults e.cause

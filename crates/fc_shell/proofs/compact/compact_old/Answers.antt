@@ -5,4 +5,4 @@ pub returns : goal.returns
 returns g c =
     let e = c.compact.ensures in
     compacting_old g.D.Disk c.args.volume.now c.compact.new.volume c.args.disk.now c.compact.new.disk c.compact.result c.requires.old_map
-    e.refused e.errors e.compacted e.keeps e.form_stays
+    e.refused e.errors e.compacted e.keeps

@@ -19,40 +19,39 @@ returns-in-Ok-clause-promise g c image told =
     let shapes = c.mount.ensures.shapes in
     let old = c.args.disk.now in
     let mid = c.mount.new.disk in
-    let new = c.answer_volume.new.disk in
+    let new = c.answer_lines.new.disk in
     let script = c.args.script.now in
     let ro : Bool = c.args.read_only in
-    let keeps = c.answer_volume.ensures.keeps in
+    let keeps = c.answer_lines.ensures.keeps in
     let there = c.in-Ok.ensures.opened image told in
     let view = there.0 in
     let s : State = record { image = image; view = view } in
-    let ends = c.answer_volume.ensures.promise image (shapes.bytes_stay ∙ told) view.kind view (c.accepted.ensures image view there.1) there.2 in
-    let over = subst (λ (b : Bool). EndsOver g.D.Disk mid new (plain_mode view.kind b) false c.args.demo s script ends.0 c.answer_volume.result) c.in-Ok.ensures.ready.1 ends.2 in (
+    let ends = c.answer_lines.ensures.promise image (shapes.bytes_stay ∙ told) view.kind view (c.accepted.ensures image view there.1) there.2 in
+    let over = subst (λ (b : Bool). EndsOver g.D.Disk mid new (plain_mode view.kind b) false c.args.demo s script ends.0 c.answer_lines.result) c.in-Ok.ensures.ready.1 ends.2 in (
       ends.0,
       ends.1,
       ends_from law old mid new (weaker law (λ image. Unit {0}) shapes.stops (λ image left. tt)) keeps.goes shapes.tells_stays (shapes.pending_stays ∙ c.requires.fresh.nothing_pending)
-          c.accepted.ensures ro false c.args.demo image script ends.0 c.answer_volume.result (shapes.bytes_stay ∙ told) (λ there. shapes_unwritten g.D.Disk old mid shapes) (λ fresh. absurd (no_fresh fresh)) keeps.late
-          (subst (λ o. EndsByOpening g.D.Disk mid new ro false c.args.demo image script ends.0 o c.answer_volume.result) (sym there.1) over),
+          c.accepted.ensures ro false c.args.demo image script ends.0 c.answer_lines.result (shapes.bytes_stay ∙ told) (λ there. shapes_unwritten g.D.Disk old mid shapes) (λ fresh. absurd (no_fresh fresh)) keeps.late
+          (subst (λ o. EndsByOpening g.D.Disk mid new ro false c.args.demo image script ends.0 o c.answer_lines.result) (sym there.1) over),
     )
 
 pub returns-in-Ok-clause-keeps : goal.returns-in-Ok-clause-keeps
 returns-in-Ok-clause-keeps g c =
     let law = laws g.met.D.Disk in
     let shapes = c.mount.ensures.shapes in
-    let keeps = c.answer_volume.ensures.keeps in
+    let keeps = c.answer_lines.ensures.keeps in
     let script = c.args.script.now in
     let old = c.args.disk.now in
-    let then = unwritten_after law old c.mount.new.disk c.answer_volume.new.disk shapes in
+    let then = unwritten_after law old c.mount.new.disk c.answer_lines.new.disk shapes in
     record {
       asked_stays = keeps.asked_stays ∙ shapes.asked_stays;
       goes = goes_on law (weaker law (λ image. Unit {0}) shapes.stops (λ image left. tt)) keeps.goes (λ image left. tt);
       faults = omega (arith, shapes.faults, keeps.faults);
-      disk_fault = λ e. rose_earlier (g.D.Disk.faults old) (g.D.Disk.faults c.mount.new.disk) (g.D.Disk.faults c.answer_volume.new.disk) shapes.faults (keeps.disk_fault e);
+      disk_fault = λ e. rose_earlier (g.D.Disk.faults old) (g.D.Disk.faults c.mount.new.disk) (g.D.Disk.faults c.answer_lines.new.disk) shapes.faults (keeps.disk_fault e);
       out_fault = keeps.out_fault;
       settled = keeps.settled;
       unwritten = λ reads. then (keeps.unwritten (subst (λ (b : Bool). Spares b (commands_in script)) (sym c.in-Ok.ensures.ready.1) reads));
       late = keeps.late;
-      not_built = λ e. let x = keeps.not_built e in (then x.0, x.1);
     }
 
 pub returns-in-Err-Image-clause-promise : goal.returns-in-Err-Image-clause-promise

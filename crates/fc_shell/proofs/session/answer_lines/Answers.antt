@@ -1,11 +1,11 @@
-use Rattle.std.proofs.Common.{◌≡◌, Option, ℕ, Bool, false, None, inl, sym, ap, subst, ◌∙◌}
+use Rattle.std.proofs.Common.{◌≡◌, Option, ℕ, Bool, false, None, sym, ap, subst, ◌∙◌}
 use Rattle.fc_image.specs.effects.Effect.{State}
 use Rattle.fc_runs.specs.Run.{script_for}
 use Rattle.fc_shell.specs.declared.ending.End.{End}
 use Rattle.fc_shell.specs.Ends.{end_of, is_late}
 use Rattle.fc_shell.specs.Modes.{plain_mode}
 use Rattle.fc_shell.specs.Promise.{EndsOver}
-use Rattle.fc_shell.proofs.PromiseLemmas.{disk_end, late_end, out_end, reads_unwritten, served_built, served_ends}
+use Rattle.fc_shell.proofs.PromiseLemmas.{disk_end, late_end, out_end, reads_unwritten, served_ends}
 use Rattle.fc_shell.proofs.session.answer_lines.Goals as goal
 
 pub returns-in-None-clause-promise : goal.returns-in-None-clause-promise
@@ -32,8 +32,7 @@ returns-in-None-clause-keeps g c =
       out_fault = λ e. caused.out (out_end c.serve.result (sym is ∙ e));
       settled = λ never. c.serve.ensures.settled (λ e. never (is ∙ ap end_of e));
       unwritten = λ reads. reads_unwritten (c.serve.ensures.reads reads);
-      late = inl (ap is_late is ∙ late_end c.serve.result);
-      not_built = λ e. absurd (served_built c.serve.result (sym is ∙ e));
+      late = ap is_late is ∙ late_end c.serve.result;
     }
 
 pub returns-in-None-clause-late : goal.returns-in-None-clause-late

@@ -1,4 +1,4 @@
-use Rattle.std.proofs.Common.{◌≡◌, inl, inr, ⊎_elim, Bool, true, Ok, Some, [], ap, subst, ◌∙◌, arith}
+use Rattle.std.proofs.Common.{◌≡◌, inl, Bool, true, Ok, Some, [], ap, subst, ◌∙◌, arith}
 use Rattle.std.specs.Prelude.{is_some}
 use Rattle.std.specs.Option.{option_map}
 use Rattle.fc_device.proofs.DiskLaws.{laws}
@@ -7,7 +7,7 @@ use Rattle.fc_runs.specs.Run.{commands_in}
 use Rattle.fc_shell.specs.Built.{Spares}
 use Rattle.fc_shell.specs.Promise.{EndsByGiving}
 use Rattle.fc_shell.specs.Replies.{blank_size, image_for}
-use Rattle.fc_shell.proofs.KeptLemmas.{attach_fault, fresh_opens, not_made, session_run, session_unbegun}
+use Rattle.fc_shell.proofs.KeptLemmas.{attach_fault, fresh_opens, not_made, session_run}
 use Rattle.fc_shell.proofs.PromiseLemmas.{ends_from}
 use Rattle.fc_shell.proofs.WritingLemmas.{wrote_nothing}
 use Rattle.fc_shell.proofs.session.answer_script.Goals as goal
@@ -49,14 +49,5 @@ returns-in-Ok-true-clause-keeps g c =
     session_run (laws g.met.D.Disk) g.K.Sink r (Spares r.read_only (commands_in c.args.script.now)) c.args.disk.now c.attach_image.new.disk c.answer_image.new.disk c.args.out.now c.answer_image.new.out c.answer_image.result
     (grind (arith, attach.asked, c.as_str.ensures.value)) (λ gives given. grind (arith, c.in-Ok-true.field-0-test, c.in-Ok-true.ensures.given gives given, c.as_str.ensures.value)) (attach.bytes here) attach.unwritten attach.cause.later c.answer_image.ensures.keeps
 
-pub returns-in-Ok-true-clause-not_built : goal.returns-in-Ok-true-clause-not_built
-returns-in-Ok-true-clause-not_built g c e =
-    let r = request_in c.args.asked.now in
-    let attach = c.attach_image.ensures in
-    let here : c.attach_image.result ≡ Ok true = grind (arith, c.in-Ok-true.is, c.in-Ok-true.field-0-test) in
-    let x = session_unbegun (laws g.met.D.Disk) g.K.Sink r (Spares r.read_only (commands_in c.args.script.now)) c.args.disk.now c.attach_image.new.disk c.answer_image.new.disk c.args.out.now c.answer_image.new.out c.answer_image.result
-    (grind (arith, attach.asked, c.as_str.ensures.value)) (λ gives given. grind (arith, c.in-Ok-true.field-0-test, c.in-Ok-true.ensures.given gives given, c.as_str.ensures.value)) (attach.bytes here) attach.unwritten attach.cause.later c.answer_image.ensures.keeps e in
-    (x.0, x.1, c.answer_image.ensures.changes e)
-
 pub returns-in-Ok-true-clause-late : goal.returns-in-Ok-true-clause-late
-returns-in-Ok-true-clause-late g c = ⊎_elim (λ late. inl late) (λ built. inr (inr built)) c.answer_image.ensures.keeps.late
+returns-in-Ok-true-clause-late g c = inl c.answer_image.ensures.keeps.late

@@ -4,16 +4,14 @@ use Rattle.std.proofs.lemmas.Result.{err_from_is_err_and}
 use Rattle.fc_device.proofs.DiskLaws.{laws}
 use Rattle.fc_device.proofs.StopLemmas.{reads_start, reads_then}
 use Rattle.fc_image.specs.effects.Effect.{State}
-use Rattle.fc_volume.specs.Volume.{parts_of}
 use Rattle.fc_script.specs.Lines.{command_of}
 use Rattle.fc_shell.specs.declared.answer.LineFault.{LineFault}
 use Rattle.fc_shell.specs.declared.tally.Tally.{Tally}
-use Rattle.fc_shell.specs.Built.{Spares, any_lacking, is_unbuilt_command, lacks_command}
+use Rattle.fc_shell.specs.Built.{Spares, is_unbuilt_command}
 use Rattle.fc_shell.specs.Left.{commands_left}
 use Rattle.fc_shell.specs.Line.{IsReady, LineEnds}
 use Rattle.fc_shell.specs.Serving.{HasServed, ServesAs}
 use Rattle.fc_shell.specs.Replies.{script_limit}
-use Rattle.fc_shell.proofs.LackingLemmas.{still_built}
 use Rattle.fc_shell.proofs.LengthLemmas.{AreUpTo, commands_few, commands_up_to}
 use Rattle.fc_shell.proofs.ServingLemmas.{goes_same, goes_then, neither, served_all, served_more, served_part, served_start, spares_first, spares_rest}
 use Rattle.fc_shell.proofs.StepLemmas.{caused_later, caused_ok, one_fault}
@@ -42,8 +40,7 @@ loop-line-init g c = record {
   built = subst (λ (lines : List (List ℕ)). list_any (λ line. is_unbuilt_command (command_of line)) lines ≡ false) (sym c.new-lines.ensures) c.requires.built;
   short = subst (AreUpTo script_limit) (sym c.new-lines.ensures) (commands_up_to script_limit c.args.script.now c.requires.short);
   goes = goes_same (laws g.met.D.Disk) c.args.disk.now;
-  ready = record { fit = c.requires.fit; stands = c.requires.stands; settled = c.requires.settled; read_only = refl; lacks_no_more = λ command none. none };
-  lacks_none = subst (λ (lines : List (List ℕ)). any_lacking (parts_of c.args.volume.now).layout lines ≡ false) (sym c.new-lines.ensures) c.requires.built_for;
+  ready = record { fit = c.requires.fit; stands = c.requires.stands; settled = c.requires.settled; read_only = refl };
   reads = λ reads. (subst (λ (lines : List (List ℕ)). Spares c.args.volume.now.read_only lines) (sym c.new-lines.ensures) reads, reads_start (laws g.met.D.Disk) c.args.disk.now);
   out_faults = omega arith;
   counted = let none = c.new-tally.ensures.replies in let same = ap length c.new-lines.ensures in omega (arith, none, same);
@@ -75,15 +72,6 @@ answer_line-requires-clause-built g c =
     (neither (is_unbuilt_command (command_of line)) (list_any (λ line. is_unbuilt_command (command_of line)) left)
     (subst (λ (lines : List (List ℕ)). list_any (λ line. is_unbuilt_command (command_of line)) lines ≡ false) c.in-Some.ensures c.loop-line.invariant.built)).0
 
-pub answer_line-requires-clause-built_for : goal.answer_line-requires-clause-built_for
-answer_line-requires-clause-built_for g c =
-    let line = c.in-Some.line.now in
-    let left = commands_left c.next.new.self in
-    let layout = (parts_of c.args.volume.now).layout in
-    still_built layout (parts_of c.loop-line.volume).layout c.loop-line.invariant.ready.lacks_no_more (command_of line)
-    (neither (lacks_command layout (command_of line)) (any_lacking layout left)
-    (subst (λ (lines : List (List ℕ)). any_lacking layout lines ≡ false) c.in-Some.ensures c.loop-line.invariant.lacks_none)).0
-
 pub loop-line-preserved : goal.loop-line-preserved
 loop-line-preserved g c =
     let so_far = c.loop-line.invariant in
@@ -99,9 +87,7 @@ loop-line-preserved g c =
           (subst (λ (lines : List (List ℕ)). list_any (λ line. is_unbuilt_command (command_of line)) lines ≡ false) cut so_far.built)).1;
       short = (subst (AreUpTo script_limit) cut so_far.short).1;
       goes = goes_then (laws g.met.D.Disk) so_far.goes keeps.goes;
-      ready = record { fit = ready.fit; stands = ready.stands; settled = ready.settled; read_only = ready.read_only ∙ so_far.ready.read_only; lacks_no_more = λ command none. ready.lacks_no_more command (so_far.ready.lacks_no_more command none) };
-      lacks_none = (neither (lacks_command (parts_of c.args.volume.now).layout (command_of line)) (any_lacking (parts_of c.args.volume.now).layout left)
-          (subst (λ (lines : List (List ℕ)). any_lacking (parts_of c.args.volume.now).layout lines ≡ false) cut so_far.lacks_none)).1;
+      ready = record { fit = ready.fit; stands = ready.stands; settled = ready.settled; read_only = ready.read_only ∙ so_far.ready.read_only };
       reads = λ reads.
           let was = so_far.reads reads in
           let spares : Spares c.args.volume.now.read_only (line ∷ left) = subst (λ (lines : List (List ℕ)). Spares c.args.volume.now.read_only lines) cut was.0 in (

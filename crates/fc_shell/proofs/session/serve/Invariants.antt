@@ -2,10 +2,9 @@ use Rattle.std.proofs.Common.{◌≡◌, ◌≤◌, ◌+◌, false, length}
 use Rattle.std.specs.List.{list_any}
 use Rattle.fc_device.specs.Calls.{OnlyReads}
 use Rattle.fc_runs.specs.Run.{commands_in}
-use Rattle.fc_volume.specs.Volume.{parts_of}
 use Rattle.fc_script.specs.Lines.{command_of}
 use Rattle.fc_shell.specs.Answered.{ForState}
-use Rattle.fc_shell.specs.Built.{Spares, any_lacking, is_unbuilt_command}
+use Rattle.fc_shell.specs.Built.{Spares, is_unbuilt_command}
 use Rattle.fc_shell.specs.Left.{commands_left}
 use Rattle.fc_shell.specs.Line.{GoesOn, IsReady}
 use Rattle.fc_shell.specs.Serving.{HasServed}
@@ -19,7 +18,6 @@ invariant-loop-line g l = record {
   short : AreUpTo script_limit (commands_left l.lines);
   goes : GoesOn g.D.Disk l.fn.disk l.disk;
   ready : IsReady g.D.Disk l.disk l.fn.volume l.volume;
-  lacks_none : any_lacking (parts_of l.fn.volume).layout (commands_left l.lines) ≡ false;
   reads : Spares l.fn.volume.read_only (commands_in l.script) → Spares l.fn.volume.read_only (commands_left l.lines) × OnlyReads g.D.Disk l.fn.disk l.disk;
   out_faults : g.K.Sink.faults l.fn.out ≤ g.K.Sink.faults l.out;
   counted : l.tally.replies + length (commands_left l.lines) ≡ length (commands_in l.script);
