@@ -7,7 +7,7 @@ Files of 100 bytes are saved in one script into 100 directories of a disc with b
 them, and then over discs of 1,000 directories and 50,000 files (tools/large_image.py), with small directories and with big ones,
 each command is run LINES times in one script: the time beside that of an empty script, and the calls of the system beside its calls,
 by strace or, without it, by the recorder of tools/check_outside.c, both a command. Between them files are made in one directory,
-which grows. Commands that aren't built are left out.
+which grows, and files are moved into one.
 """
 import os
 import shutil
@@ -40,9 +40,9 @@ class Bench:
         start = time.monotonic()
         ran = subprocess.run([self.program, image], input=script, stdout=subprocess.PIPE, check=False)
         taken = time.monotonic() - start
-        if ran.returncode not in (0, 9):
+        if ran.returncode:
             sys.exit("status %d: %s" % (ran.returncode, ran.stdout[-200:].decode()))
-        return None if ran.returncode == 9 else taken
+        return taken
 
     def calls(self, image, script):
         """How many calls of the system it makes."""
@@ -57,24 +57,20 @@ class Bench:
         return int(next(line for line in lines if line.endswith("total")).split()[3]) if traced else len(lines) - 1
 
     def a_command(self, image, lines):
-        """Microseconds and calls of one of the lines; None if the command isn't built. The image stays."""
+        """Microseconds and calls of one of the lines. The image stays."""
         script, found = "".join(line + "\n" for line in lines).encode(), []
         for measure in (self.seconds, self.calls):
             taken = []
             for one in (b"", script):
                 subprocess.run(["cp", "--sparse=always", image, self.work], check=True)
                 taken.append(measure(self.work, one))
-                if taken[-1] is None:
-                    return None
             found.append((taken[1] - taken[0]) / len(lines))
         return found[0] * 1e6, found[1]
 
     def table(self, image, title, lines):
         """A row for each command."""
         for word, found in lines.items():
-            result = self.a_command(image, found)
-            text = "%.0f microseconds, %.1f calls a command" % result if result else "not built"
-            print("%s, %s: %s" % (title, word, text), flush=True)
+            print("%s, %s: %.0f microseconds, %.1f calls a command" % (title, word, *self.a_command(image, found)), flush=True)
 
 
 def saving(first, last):
@@ -116,9 +112,7 @@ def many_files(bench, image, files):
     done = 0
     for count in (files // 10, files):
         taken = bench.seconds(image, script_of(saving(done, count)))
-        print("%d files saved in one script: %s" % (count - done, "not built" if taken is None else "%.2f s" % taken), flush=True)
-        if taken is None:
-            return
+        print("%d files saved in one script: %.2f s" % (count - done, taken), flush=True)
         done = count
         step = max(1, count // LINES)
         paths = ["$.D%d.File%d" % (at % DIRECTORIES, at) for at in range(0, count, step)][:LINES]
@@ -128,13 +122,18 @@ def many_files(bench, image, files):
 
 
 def one_directory(bench, image, files):
-    """Files of 0 bytes in one directory, which grows at every fiftieth."""
+    """Files of 0 bytes in one directory, which grows at every fiftieth; and files that share identifiers, and so are copied, moved into one."""
     empty_disc(image)
     for first, last in ((0, files // 20), (files // 20, files // 5)):
         lines = ["create $.D0.File%d %s 0" % (at, WORDS) for at in range(first, last)]
         taken = bench.seconds(image, script_of(lines))
-        text = "not built" if taken is None else "%.0f microseconds a command" % (taken / len(lines) * 1e6)
-        print("%d files of 0 bytes made in one directory that has %d: %s" % (last - first, first, text), flush=True)
+        print("%d files of 0 bytes made in one directory that has %d: %.0f microseconds a command" % (
+            last - first, first, taken / len(lines) * 1e6), flush=True)
+    numbers = range(files // 20)
+    bench.seconds(image, script_of("save $.D1.File%d %s %s" % (at, WORDS, "5a" * 100) for at in numbers))
+    taken = bench.seconds(image, script_of("rename $.D1.File%d $.D2.File%d" % (at, at) for at in numbers))
+    print("%d files that share identifiers moved into one empty directory: %.0f microseconds a command" % (
+        len(numbers), taken / len(numbers) * 1e6), flush=True)
 
 
 def many_objects(bench, image, objects, big):

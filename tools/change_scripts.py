@@ -26,10 +26,10 @@ REFUSED = (b"delete $", b"cdir $", b"save $ 00000000 00000000 00", b"create $.A%
 class Drawer:
     """Draws commands over the image as it stands."""
 
-    def __init__(self, chance, built):
-        self.chance, self.built = chance, [word for word in CHANGING if word in built]
-        self.compacts = "compact" in built
-        self.lines = [line for line in LINES if not line or Command(line).fault or Command(line).word in built]
+    def __init__(self, chance, words):
+        self.chance, self.drawn = chance, [word for word in CHANGING if word in words]
+        self.compacts = "compact" in words
+        self.lines = [line for line in LINES if not line or Command(line).fault or Command(line).word in words]
         self.mood = chance.choice(sorted(MOODS))
         self.favourite = None  # a directory in which names are often made
         self.state = None
@@ -40,7 +40,7 @@ class Drawer:
         self.state = state
         draw = self.chance.random()
         if draw < 0.5 and isinstance(state, State) and state.is_new and len(set(state.copies())) > 1:
-            return self.chance.choice([line for line in REFUSED if line.split()[0].decode() in self.built])
+            return self.chance.choice([line for line in REFUSED if line.split()[0].decode() in self.drawn])
         if draw < 0.02:
             return self.chance.choice(self.lines)
         if draw < 0.04:
@@ -49,7 +49,7 @@ class Drawer:
         if draw > 0.98 and self.compacts:
             return b"compact"
         weights = MOODS[self.mood]
-        word = self.chance.choices(self.built, [weights[word] for word in self.built])[0]
+        word = self.chance.choices(self.drawn, [weights[word] for word in self.drawn])[0]
         return getattr(self, word)().encode()
 
     # lines
@@ -72,6 +72,8 @@ class Drawer:
         return "delete " + self.there()
 
     def rename(self):
+        if self.state.form == "big" and self.chance.random() < 0.3:
+            return self.rename_that_grows()
         source, draw = self.there(), self.chance.random()
         if draw < 0.15:
             return "rename %s %s" % (source, source)
@@ -86,6 +88,19 @@ class Drawer:
         if draw < 0.75 and "." in source:  # to another directory under the same name
             return "rename %s %s.%s" % (source, self.directory(), source.rsplit(".", 1)[1])
         return "rename %s %s" % (source, self.made())
+
+    def rename_that_grows(self):
+        """To a big directory in which little is left, under a long name; most files share their identifier, and so are copied."""
+        found = self.state.disc.directories
+        to = min(found if self.chance.random() < 0.7 else self.chance.sample(found, 1), key=self.room_in)
+        others = [entry for entry in self.state.objects.values() if not entry.is_directory() and entry.path[:-1] != to.path]
+        chosen = [entry for entry in others if self.is_sharing(entry)] or others
+        source = self.path_to(self.chance.choice(chosen)) if chosen else self.there()
+        return "rename %s %s.%s" % (source, self.path_to(to), self.long_name())
+
+    def is_sharing(self, entry):
+        """Whether another object lies in the file's identifier; a tree without an image doesn't say."""
+        return isinstance(self.state, State) and bool(entry.sectors) and len(self.state.owners[entry.address // 256]) > 1
 
     def set(self):
         access = "".join(letter for letter in "RWL" if self.chance.random() < (0.2 if letter == "L" else 0.5))
@@ -153,8 +168,11 @@ class Drawer:
         if draw < 0.03:
             return self.chance.choice(("%0A", "x" * 256, "%2", "#"))
         if self.mood == "grow" and draw < 0.8 and self.state.form == "big":
-            return "".join(self.chance.choices("abcdefgh", k=self.chance.randint(120, 255)))
+            return self.long_name()
         return self.spelled([random_name(self.chance, self.state.form)])[2:]
+
+    def long_name(self):
+        return "".join(self.chance.choices("abcdefgh", k=self.chance.randint(120, 255)))
 
     def made(self):
         return "%s.%s" % (self.directory(), self.name())

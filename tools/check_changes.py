@@ -9,9 +9,8 @@ usage: tools/check_changes.py [--program PATH] [--seed N] [--images N] [--comman
 Commands are drawn by chance over the image as it stands, and run one by one, followed by reading lines over what they touched.
 The reply has to be that of [Answer] and [Short] over the image before; the image after has to be one that [Placed] and [Steady]
 allow (tools/change_effects.py), and the program has to say of it what tools/read_image.py says. Then the whole script runs
-over the first image at once; with --batch it runs at once only. --old takes old maps in place of new ones. Without --only, the
-commands are those that the program has: it answers 9 to others. Few images are spread over the kinds of discs. --table counts
-replies and events. The first difference ends a disc: the script is printed, and the images are kept. Exit status 1 if there is any.
+over the first image at once; with --batch it runs at once only. --old takes old maps in place of new ones. --only draws these
+commands alone. Few images are spread over the kinds of discs. --table counts replies and events. The first difference ends a disc: the script is printed, and the images are kept. Exit status 1 if there is any.
 """
 import argparse
 import collections
@@ -36,13 +35,11 @@ from change_answer import CHANGING, WORDS, Command, owed_refusal, refusal_of, tr
 from change_batch import TreeState, batch_differences
 from change_effects import differences
 from change_state import State
-from filecore import NOT_OVER_BIG, spelled_path
-from images import VOLUMES
+from filecore import spelled_path
 
 TOOLS = os.path.dirname(os.path.realpath(__file__))
 PROGRAM = os.path.join(TOOLS, "..", "crates", "fcore", "out", "fcore")
-TRY = {"save": "save $.hello 00000000 00000000 00", "create": "create $.hello 00000000 00000000 0", "cdir": "cdir $.hello",
-       "delete": "delete $.None", "rename": "rename $.None $.B", "set": "set $.None 00000000 00000000 -", "compact": "compact"}
+ALL = CHANGING + ("compact",)
 SELF_TEST_SECONDS, MOST_SECONDS = 30, 120
 
 
@@ -184,6 +181,7 @@ def compaction_differences(before, after):
 def count_events(needs, after, counts):
     """What the accepted commands came to."""
     events = {"shares": needs.slack, "is copied": needs.copied, "grows": needs.grown is not None, "root grows": needs.grown == (),
+              "is copied and grows": needs.copied and needs.grown is not None,
               "grows with room": needs.grown is not None and not needs.growth, "grows alone": needs.growth and needs.alone,
               "grows into a new identifier": needs.growth and not needs.alone,
               "takes twice": needs.growth and needs.length and not needs.slack}
@@ -208,7 +206,7 @@ class Run:
         self.actor, self.options, self.counts, self.number = actor, options, counts, number
         self.name, self.image = change_images.image_of(number, options.old)
         self.chance = random.Random("%d %d" % (options.seed, number))
-        self.drawer = change_scripts.Drawer(self.chance, built_for(options, opened(self.image)))
+        self.drawer = change_scripts.Drawer(self.chance, options.words)
         self.read_only = self.chance.random() < 0.03
         self.script, self.text, self.last = [], "", self.image
 
@@ -275,13 +273,13 @@ class Run:
 
 
 def rows_differ(actor, options):
-    """The worked rows of the standard, of those commands that are built, in words."""
+    """The worked rows of the standard, of the commands that are drawn, in words."""
     wrong, count = [], 0
     for make, script, wanted, *read_only in change_rows.ROWS:
-        words = {line.split()[0] for line in script.split("\n")} & set(CHANGING + ("compact",))
+        words = {line.split()[0] for line in script.split("\n")} & set(ALL)
         image = bytes(make().image())
         is_old = isinstance(opened(image).map, read_image.OldMap)
-        if is_old == options.old and words <= set(built_for(options, opened(image))):
+        if is_old == options.old and words <= set(options.words):
             count += 1
             status, text, end = actor.run(image, re.sub(r"\bZ\b", "00000000", script).encode() + b"\n", bool(read_only))
             if text.replace("\n", " / ") != wanted + " / ":
@@ -310,19 +308,6 @@ def after_zones(state):
     return [int.from_bytes(sector, "little") >> state.map.shape.end(zone) for zone, sector in enumerate(state.map.chosen_copy(state.data))]
 
 
-# ---- which commands are built
-
-
-def built_for(options, state):
-    """The commands that are built for discs such as this one: adding an entry may not be, where directories are big ones."""
-    return options.built_big if state.form == "big" and options.built_big is not None else options.built
-
-
-def built_commands(program, name):
-    image = bytes(VOLUMES[name]().image())
-    return [word for word, line in TRY.items() if program.run(image, (line + "\n").encode())[0] != 9]
-
-
 def check(actor, options):
     counts, failed = collections.Counter(), 0
     kinds = len(change_images.OLD if options.old else change_images.NEW)
@@ -347,13 +332,7 @@ def check(actor, options):
 def check_program(options):
     with tempfile.TemporaryDirectory() as folder:
         program = Program(options.program, folder)
-        built = built_commands(program, "d-files" if options.old else "hello")
-        big = built_commands(program, "e-plus-files")
-        options.built = options.only.split(",") if options.only else built
-        options.built_big = [word for word in options.built if word in big or word not in NOT_OVER_BIG]
-        if not set(options.built) & set(CHANGING):
-            print("no command that changes %s maps is built" % ("old" if options.old else "new"))
-            return True
+        options.words = options.only.split(",") if options.only else ALL
         wrong = rows_differ(program, options)
         return check(program, options) and not wrong
 
@@ -361,10 +340,15 @@ def check_program(options):
 # ---- the self-test
 
 
+def words_of(old):
+    """What tools/changer.py can do: it compacts old maps alone."""
+    return CHANGING + ("compact",) * old
+
+
 def found_after(fault, words, options):
     """Over how many commands a fault was found, and what was found first; None if it wasn't."""
     options.old = "old" in words.split()
-    options.built, options.built_big = list(CHANGING) + ["compact"] * options.old, None
+    options.words = words_of(options.old)
     start, counts, number = time.process_time(), collections.Counter(), 0  # not the wall clock: the machine may be busy
     names = list(change_images.OLD if options.old else change_images.NEW)
     chosen = [at for at, name in enumerate(names) if all(word in name for word in words.split() if word != "old")]
@@ -382,14 +366,13 @@ def without_fault(options):
     """Whether the rows and the commands over discs agree."""
     good = True
     for old in (False, True):
-        options.old, options.built, options.built_big = old, list(CHANGING) + ["compact"] * old, None
+        options.old, options.words = old, words_of(old)
         good = not rows_differ(Stand(), options) and good
         good = check(Stand(), options) and good
     return good
 
 
 def self_test(options):
-    options.built, options.built_big = list(CHANGING), None
     good = bool(options.only) or without_fault(options)
     for fault, words in changer.FAULTS.items() if not options.only else [(options.only, changer.FAULTS[options.only])]:
         found = found_after(fault, words, options)

@@ -11,8 +11,7 @@ import sys
 import tempfile
 
 COUNTS = (1, 2, 63, 64, 65, 1000, 10000)
-SERVED = ("E", "F", "D", "L")  # the discs for which every command of a demo is implemented
-LACKING = ("E+", "F+")  # `rename` isn't, of which the demo of 1 has none
+FORMS = ("E", "F", "D", "L", "E+", "F+")
 
 
 def draws(seed):
@@ -106,13 +105,6 @@ class Demos:
         self.expect("--read-only --demo %d over %s" % (count, form), (wanted, line), self.run(["--read-only", "--demo", str(count), "two.adf"]))
         self.expect("--read-only --demo %d over %s: the image" % (count, form), before, self.image("two.adf"))
 
-    def lacking(self, form):
-        self.run(["--new", form, "plain.adf"])
-        self.expect("--demo over %s" % form, (9, ""), self.run(["--new", form, "--demo", "3", "one.adf"]))
-        self.expect("--demo over %s: the image" % form, self.image("plain.adf"), self.image("one.adf"))
-        os.remove("plain.adf")
-        os.remove("one.adf")
-
     def others(self):
         with open("zeros.adf", "wb") as opened:
             opened.write(bytes(1 << 20))
@@ -130,12 +122,9 @@ def main():
     demos.expect("the script of 1", "".join("cdir $.D%d\n" % d for d in range(8)) + first + "check\nfree\n", demo_script(1))
     with tempfile.TemporaryDirectory() as folder:
         os.chdir(folder)
-        for form in SERVED:
+        for form in FORMS:
             for count in COUNTS:
                 demos.served(form, count)
-        for form in LACKING:
-            demos.served(form, 1)
-            demos.lacking(form)
         demos.others()
         os.chdir("/")
     print("demos: %d passed, %d failed" % (demos.passed, demos.failed))

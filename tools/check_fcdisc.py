@@ -66,7 +66,6 @@ class Checks:
     def __init__(self, folder, fcdisc, fcore):
         self.folder, self.fcdisc, self.fcore = os.fsencode(folder), os.path.abspath(fcdisc), os.path.abspath(fcore)
         self.passed = self.failed = 0
-        self.extra = {}  # of the environment
 
     def place(self, name):
         return os.path.join(self.folder, name)
@@ -85,7 +84,7 @@ class Checks:
         return done.stdout.decode("utf-8", "replace"), done.stderr.decode("utf-8", "replace"), done.returncode
 
     def environment(self, fcore=None):
-        return {**os.environ, "FCORE": fcore or self.fcore, "COLUMNS": "80", "LC_ALL": "C.UTF-8", **self.extra}
+        return {**os.environ, "FCORE": fcore or self.fcore, "COLUMNS": "80", "LC_ALL": "C.UTF-8"}
 
     def expect(self, name, **pairs):
         """Each pair is what was wanted and what came."""

@@ -25,9 +25,8 @@ import tempfile
 import change_images
 import check_changes
 from change_answer import CHANGING, Command
-from check_changes import Run, Stand, built_commands, opened, owed_refusal
+from check_changes import ALL, Run, Stand, opened, owed_refusal
 from failing_calls import KINDS, LEFT, NAMES, Ended, Script, Shimmed, Wrong, each_call, joined, map_sectors
-from filecore import NOT_OVER_BIG
 
 LARGEST = 3 << 20  # an image whose calls fail in turn is written again for each
 KINDS_OF_DISCS = [(False, at) for at in range(len(change_images.NEW))] + [(True, at) for at in range(len(change_images.OLD))]
@@ -47,16 +46,12 @@ class Runs:
         self.options, self.folder = options, folder
         self.program = check_changes.Program(options.program, folder)
         self.shimmed = None
-        self.built = {old: built_commands(self.program, "d-files" if old else "hello") for old in (False, True)}
-        big = built_commands(self.program, "e-plus-files")
-        self.big = [word for word in self.built[False] if word in big or word not in NOT_OVER_BIG]
         self.counts, self.calls, self.failures = collections.Counter(), collections.Counter(), []
         self.scripts, self.discs = 0, set()
 
     def options_for(self, old):
         found = copy.copy(self.options)
-        found.old, found.batch, found.only = old, False, None
-        found.built, found.built_big = self.built[old], None if old else self.big
+        found.old, found.batch, found.words = old, False, ALL
         return found
 
     def one(self, at, count):

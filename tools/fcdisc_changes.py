@@ -1,5 +1,4 @@
-"""Checks of the jobs of fcdisc that change a disc. tools/stand_in.py is in fcore's place, since it has all commands over all discs;
-then fcore itself is, over discs for which it has them.
+"""Checks of the jobs of fcdisc that change a disc.
 
 The trees are read by tools/read_image.py; what has to be on a disc is written here, or follows from the disc that was extracted.
 """
@@ -15,7 +14,6 @@ import images
 from change_state import State
 from filecore import NOT_SPELLED, spelled_path
 
-STAND_IN = os.path.join(os.path.dirname(os.path.realpath(__file__)), "stand_in.py")
 SETTABLE = 15
 LOST = "lost what others than the owner may do: fcore can't set that"
 
@@ -39,10 +37,10 @@ def read(path):
 
 
 class Changes:
-    """The checks, over the folders of those of check_fcdisc.py, and with this program as fcore."""
+    """The checks, over the folders of those of check_fcdisc.py."""
 
-    def __init__(self, checks, fcore=STAND_IN):
-        self.checks, self.fcore, self.work = checks, fcore, b""
+    def __init__(self, checks):
+        self.checks, self.work = checks, b""
 
     # a disc in the work folder
 
@@ -63,13 +61,13 @@ class Changes:
         return os.path.join(self.work, os.fsencode(name))
 
     def run(self, *words, fcore=None, within=None):
-        return self.checks.run(list(words), fcore or self.fcore, within)
+        return self.checks.run(list(words), fcore, within)
 
     def fake(self, text):
         """A program in fcore's place."""
         path = os.path.join(self.checks.fresh(b"fake"), b"fcore")
         with open(path, "w") as file:
-            file.write(text.replace("STAND_IN", self.fcore))
+            file.write(text.replace("FCORE", self.checks.fcore))
         os.chmod(path, 0o755)
         return "../fake/fcore"
 
@@ -274,7 +272,7 @@ def adding(c):
                     told=(30 - count, got[1].count("not added: the disc is full")), some=(True, 5 < count < 25))
     c.start(files={"o/%d" % at: bytes([at]) * 5000000 for at in range(3)})
     os.chmod(c.at("o/2"), 0o600)
-    watched = c.fake('#!/bin/sh\necho run >> runs; exec STAND_IN "$@"\n')
+    watched = c.fake('#!/bin/sh\necho run >> runs; exec FCORE "$@"\n')
     got = c.run("add", "a.adf", "o", fcore=watched)
     c.checks.expect("add in several scripts", runs=(4, read(c.at("runs")).count(b"\n")), status=(1, got[2]),
                     out=("0 of 3 files added to a.adf\n", got[0]))
@@ -290,14 +288,7 @@ def troubles(c):
     with open(c.at("a.adf"), "rb") as other:
         fcntl.flock(other, fcntl.LOCK_EX)
         c.refused("another job", words, "a.adf: another fcdisc is changing it: try again when that has ended")
-    for missing in ("save", "set"):
-        c.checks.extra = {"STAND_IN_LACKS": missing}
-        job = words if missing == "save" else ["access", "a.adf", "L", "Ab"]
-        for place in ([], ["--in-place"]):
-            c.refused("a command that fcore lacks", [job[0], *place, *job[1:]],
-                      "a.adf: this fcore can't do that to such a disc yet (%s): nothing was changed" % missing)
-        c.checks.extra = {}
-    failing = '#!/bin/sh\ncase "$*" in *read-only*) exec STAND_IN "$@";; esac\ncat > /dev/null; %s\n'
+    failing = '#!/bin/sh\ncase "$*" in *read-only*) exec FCORE "$@";; esac\ncat > /dev/null; %s\n'
     for name, end, error in (("fails", "exit 4", "I/O error while fcore read it"),
                              ("dies", "kill -9 $$", "fcore was ended by signal 9"),
                              ("says less", "exit 0", fcdisc_cases.CHANGED)):
@@ -308,13 +299,13 @@ def troubles(c):
     os.mkdir(c.at("a.adf~"))
     c.refused("a folder of the copy's name", words, "a.adf~: Is a directory: nothing was changed")
     os.rmdir(c.at("a.adf~"))
-    touching = c.fake('#!/bin/sh\ncase "$*" in *read-only*) ;; *) printf x >> a.adf;; esac\nexec STAND_IN "$@"\n')
+    touching = c.fake('#!/bin/sh\ncase "$*" in *read-only*) ;; *) printf x >> a.adf;; esac\nexec FCORE "$@"\n')
     got = c.run(*words, fcore=touching)
     text = "fcdisc: a.adf: another program changed it meanwhile: it stays as it is now\n"
     c.checks.expect("changed meanwhile", result=(("", text, 1), got),
                     left=(["a.adf", "note"], c.names()), tree=(NAMED, short_tree(read(c.at("a.adf")))))
     c.start(files={"o/gone": b"", "o/stays": b"s"})
-    removing = c.fake('#!/bin/sh\nrm -f o/gone\nexec STAND_IN "$@"\n')
+    removing = c.fake('#!/bin/sh\nrm -f o/gone\nexec FCORE "$@"\n')
     got = c.run("add", "a.adf", "o", fcore=removing)
     text = "fcdisc: o/gone: not added: No such file or directory\n"
     c.checks.expect("a file that vanishes", result=(("1 of 2 files added to a.adf\n", text, 1), got),
@@ -332,7 +323,7 @@ def no_room(c):
               out=". ./a.adf ./note ./pad\n", within=within)
 
 
-SLOW = '#!/bin/sh\ncase "$*" in *read-only*) exec STAND_IN "$@";; esac\ntouch begun; sleep 2; exec STAND_IN "$@"\n'
+SLOW = '#!/bin/sh\ncase "$*" in *read-only*) exec FCORE "$@";; esac\ntouch begun; sleep 2; exec FCORE "$@"\n'
 
 
 def signals(c):
@@ -422,25 +413,18 @@ def converting(c):
     c.start(files={"there": b"mine"})
     c.refused("convert over a file", ["convert", "E", "a.adf", "there"], "there: there is something of this name already")
     c.refused("convert nothing", ["convert", "E", "none", "b.adf"], "none: No such file or directory")
-    c.checks.extra = {"STAND_IN_LACKS": "save"}
-    c.refused("convert by an fcore without save", ["convert", "E", "a.adf", "b.adf"],
-              "b.adf: this fcore can't do that to such a disc yet (save, cdir): nothing was made")
-    c.checks.extra = {}
     c.start("sides.adl", "a.adl")
     got = c.run("convert", "F+", "a.adl", "b.adf")
     c.checks.expect("convert an .adl", status=(1, got[2]), told=(True, got[1].startswith("fcdisc: a.adl: " + fcdisc_cases.SIDES)))
 
 
 def run_all(checks, mounts):
-    c, real = Changes(checks), Changes(checks, checks.fcore)
+    c = Changes(checks)
     for part in (putting, ordering, over_old_maps, squashing, forms, adding, troubles, signals, converting):
         part(c)
-    for part in (putting, ordering, over_old_maps, squashing, adding):
-        part(real)
     if mounts:
         no_room(c)
     kept_words(c)
-    kept_words(real)
     seen = []
     discs = [(name, volume, data) for name, volume, data in images.accepted() if len(data) < 2000000]
     for name in ("hostile", "one"):
@@ -450,4 +434,3 @@ def run_all(checks, mounts):
         if tree and (len(data), tree) not in seen:  # many discs differ in their maps alone
             seen.append((len(data), tree))
             round_trip(c, name, data, (own_format(data, volume), "F+"))
-            round_trip(real, name, data, (own_format(data, volume), "F+"))

@@ -13,7 +13,6 @@ BIG_LIMIT = 4194304
 # the bytes in which the record of a boot block and that of the map have to agree; of byte 40 the low four bits
 AGREED = [0, 4, 5, 9, 10, 11, 16, 17, 18, 19, 36, 37, 38, 39, 40, 42, 44, 45, 46, 47]
 NOT_SPELLED = b'$&%@\\^:.#*"|'
-NOT_OVER_BIG = ("rename",)  # commands that the program doesn't do yet over big directories, which grow
 
 
 def number(block, at, size):

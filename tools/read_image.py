@@ -11,7 +11,7 @@ import sys
 from collections import deque
 
 from filecore import (AGREED, BAD_COMMAND, BAD_NAME, BIG_LIMIT, BOOT_BLOCK, BOOT_SIZE, EXISTS, INTO_ITSELF,
-                      IS_DIRECTORY, LOCKED, NOT_DIRECTORY, NOT_EMPTY, NOT_FOUND, NOT_OVER_BIG, NOT_SPELLED, READ_ONLY, RECORD_SIZE, ROOT_REFUSED,
+                      IS_DIRECTORY, LOCKED, NOT_DIRECTORY, NOT_EMPTY, NOT_FOUND, NOT_SPELLED, READ_ONLY, RECORD_SIZE, ROOT_REFUSED,
                       SMALL_SIZE, UNIT, Geometry, Record, big_directory_check, boot_check, entry_line, folded, number,
                       old_map_check, small_directory_check, spelled_path, zone_check)
 
@@ -437,7 +437,7 @@ FORMS = {  # what follows the words that are paths
 }
 READING = ("cat", "load", "digest", "free", "check")
 ADDING = ("save", "create", "cdir", "rename")  # a directory gets an entry
-BUILT = tuple(word for word in FORMS if word != "reclaim")
+UNBUILT = "reclaim"
 
 
 def read_path(text):
@@ -547,14 +547,12 @@ def answer(data, script, read_only=False):
     if len(script) > SCRIPT_LIMIT:
         return 8, ""
     commands = [read_line(line) for line in lines_of(script)]
-    if any(word and word not in BUILT for word, paths in commands):
+    if any(word == UNBUILT for word, paths in commands):
         return 9, ""
     try:
         disc = Disc(data)
     except Fault as fault:
         return 3, str(fault)
-    if disc.map.form == "big" and any(word in NOT_OVER_BIG for word, paths in commands):
-        return 9, ""
     replies = [reply(disc, word, paths, read_only) if word else paths for word, paths in commands]
     refused = any(re.fullmatch(r"error [0-9]+ [A-Za-z]+\n", one) for one in replies)
     return int(refused), "".join(replies)

@@ -75,8 +75,6 @@ def long_scripts():
 
 # ---- what isn't built yet: status 9 before anything is attached
 
-RENAMING = ["rename $.Hello $.B", "rename $ $"]
-
 
 def compaction():
     """Where nothing is left to do, nothing is written: no image of the table may change."""
@@ -107,9 +105,10 @@ def refused_changes():
     for image in ("e-files.adf", "d-files.adf", "l-files.adf", "e-plus-files.adf"):
         yield lines_case("refused-additions-" + image[:-4], image, [
             (f"save $.Lengths.L1 {ZEROS} -", LOCKED), (f"create $.Lengths {ZEROS} 1", IS_DIRECTORY), ("cdir $.lengths", EXISTS)])
-    for image in ("e-files.adf", "d-files.adf", "l-files.adf"):
+    for image in ("e-files.adf", "d-files.adf", "l-files.adf", "e-plus-files.adf"):
         yield lines_case("refused-renames-" + image[:-4], image, [
-            ("rename $.Lengths.L1 $.L", LOCKED), ("rename $.Outer $.Outer.Inner.X", INTO_ITSELF), ("rename $.Outer $.Lengths", EXISTS)])
+            ("rename $.Lengths.L1 $.L", LOCKED), ("rename $.Outer $.Outer.Inner.X", INTO_ITSELF), ("rename $.Outer $.Lengths", EXISTS),
+            ("rename $ $", ROOT_REFUSED), ("rename $.None $.A", NOT_FOUND)])
     yield lines_case("names-of-an-l-disc", "l-files.adf", [  # they have no byte above 127
         (f"create $.%E9 {ZEROS} 0", BAD_NAME), ("cdir $.Caf%E9", BAD_NAME), ("rename $.Outer $.%FF", BAD_NAME), ("rename $ $.A", ROOT_REFUSED)])
     for image in ("d-files.adf", "l-files.adf", "e-plus-files.adf"):
@@ -130,7 +129,6 @@ def refused_changes():
 
 def unbuilt():
     yield Case("reclaim", ["hello.adf"], "load $.hello\nreclaim\n", 9)
-    yield from unbuilt_over_big_directories()
     yield Case("change-without-end", ["hello.adf"], "lod\nreclaim", 9)
     yield Case("change-no-image", ["nothing.adf"], "cdir $.A\n", 12)
     yield Case("reclaim-no-image", ["nothing.adf"], "reclaim\n", 9)
@@ -144,14 +142,6 @@ def unbuilt():
         yield Case("option-%d-no-image" % at, ["nothing.adf", *words], "", 9)
     yield Case("new-and-change", ["--new", "E", "unmade.adf"], "free\nreclaim\n", 9, absent="unmade.adf")
     yield Case("new-and-safe", ["--new", "E+", "--safe", "unmade.adf"], "free\n", 9, absent="unmade.adf")
-
-
-def unbuilt_over_big_directories():
-    for at, line in enumerate(RENAMING):
-        yield Case("rename-big-directory-%d" % at, ["e-plus-files.adf"], "free\n" + line + "\n", 9)
-    yield Case("rename-fresh-big-directory", ["--new", "F+", "unrenamed.adf"], "free\nrename $.A $.B\n", 9, made=("unrenamed.adf", "fresh-F+.adf"))
-    yield Case("demo-big-directory", ["--demo=10000", "--read-only", "e-plus-files.adf"], "free\n", 9)
-    yield Case("new-and-demo", ["--new", "F+", "--demo", "3", "undemoed.adf"], "", 9, made=("undemoed.adf", "fresh-F+.adf"))
 
 
 # ---- words

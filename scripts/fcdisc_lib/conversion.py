@@ -7,14 +7,14 @@ from typing import Iterator, List
 
 from .adding import SETTABLE
 from .changes import tell_lost_access
-from .editing import Failure, Step, commands_of, longest_content, save_line, set_line, tell_failures
+from .editing import Failure, Step, longest_content, save_line, set_line, tell_failures
 from .hostfiles import NEW_FILE
 from .jobs import place_text, refusal
 from .listing import counted
 from .messages import FAILED, Progress, Trouble, say, shown, tell
 from .names import spelled_path
 from .output import Folder, TemporaryName, split_path
-from .program import Entry, NotBuilt, Refused, Run, batches, command, find_program, scripts
+from .program import Entry, Refused, Run, batches, command, find_program, scripts
 from .tree import Tree, read_tree
 
 DIRECTORY = 8
@@ -40,16 +40,12 @@ class Conversion:
             self.perform(words, b"", [], kept_open)
 
     def perform(self, words: List[str], script: bytes, batch: List[Step], kept_open: List[int]) -> None:
-        try:
-            with Run(self.program, self.name, words, script, kept_open) as run:
-                for step in batch:
-                    try:
-                        list(run.lines())
-                    except Refused as refused:
-                        self.failures.append(Failure(step, refused.name))
-        except NotBuilt:
-            text = "%s: this fcore can't do that to such a disc yet (%s): nothing was made"
-            raise Trouble(text % (shown(self.name), commands_of(script))) from None
+        with Run(self.program, self.name, words, script, kept_open) as run:
+            for step in batch:
+                try:
+                    list(run.lines())
+                except Refused as refused:
+                    self.failures.append(Failure(step, refused.name))
 
     def steps(self) -> Iterator[Step]:
         self.files = [entry for entry in self.tree.files() if self.fits(entry)]

@@ -15,7 +15,7 @@ from .images import (AS_IT_IS, HEADER, L_SIZE, SIDES, Image, copy, has_l_size, o
 from .listing import counted
 from .messages import FAILED, Trouble, reason, shown, tell
 from .output import NO_LINKS, Folder, NewFile, TemporaryName, split_path
-from .program import SCRIPT_LIMIT, BadImage, NotBuilt, Path, Refused, Run, scripts
+from .program import SCRIPT_LIMIT, BadImage, Path, Refused, Run, scripts
 
 Result = TypeVar("Result")
 SIGNALS = (signal.SIGINT, signal.SIGTERM, signal.SIGHUP)
@@ -99,7 +99,7 @@ class Edit:
     def __init__(self, program: str, words: Namespace):
         self.program, self.name, self.order, self.in_place = program, words.image, words.order, words.in_place
         self.path = os.path.realpath(words.image)
-        self.changes = self.runs = 0
+        self.changes = 0
         self.failures: List[Failure] = []
         self.working: Optional[BinaryIO] = None  # what fcore changes: the copy, or the image itself
         self.holder: Optional[Folder] = None
@@ -161,18 +161,11 @@ class Edit:
         try:
             with unbroken(self.in_place), Run(self.program, self.name, ["--", "/dev/fd/%d" % number], script, [number]) as run:
                 result = read(run)
-        except NotBuilt:
-            text = "this fcore can't do that to such a disc yet (%s): %s"
-            raise self.trouble(text % (commands_of(script), self.left())) from None
         except (Trouble, BadImage) as error:
             text = str(error) if isinstance(error, Trouble) else "%s: not accepted: %s" % (shown(self.name), error)
             raise Trouble("%s: %s" % (text, "it was changed in place, and may be damaged: use check" if self.in_place
                                       else "nothing was changed")) from None
-        self.runs += 1
         return result
-
-    def left(self) -> str:
-        return "the rest wasn't done" if self.in_place and self.runs else "nothing was changed"
 
     def change(self, steps: Iterable[Step]) -> None:
         """Makes the changes, by one run of fcore or as few as there can be."""
@@ -282,12 +275,6 @@ def unbroken(in_place: bool) -> Iterator[None]:
         yield
     finally:
         signal.pthread_sigmask(signal.SIG_SETMASK, before)
-
-
-def commands_of(script: bytes) -> str:
-    """The commands of a script that change a disc."""
-    words = dict.fromkeys(line.split(b" ")[0].decode("ascii") for line in script.split(b"\n") if line)
-    return ", ".join(word for word in words if word not in ("free", "check"))
 
 
 def tell_failures(name: str, failures: List[Failure]) -> None:

@@ -18,12 +18,11 @@ DIRECTORY = 8  # of an object's attributes
 Path = Tuple[bytes, ...]
 Subject = TypeVar("Subject")
 
-NOT_BUILT = 9
 # Why a run ended, by its status. 0 and 1 are good ends, and 3 comes with a line of its own.
 ENDS = {
     2: "fcore doesn't know these words: is it of another version?", 4: "I/O error while fcore read it",
     5: "fcore couldn't read its script", 6: "fcore couldn't write its replies", 7: "fcore ran out of memory",
-    8: "fcore's script is too long", 9: "this fcore can't do that yet", 12: "fcore can't open it",
+    8: "fcore's script is too long", 9: "this fcore can't do that: is it of another version?", 12: "fcore can't open it",
 }
 
 
@@ -41,10 +40,6 @@ class Refused(Exception):
     def __init__(self, name: str):
         super().__init__(name)
         self.name = name
-
-
-class NotBuilt(Trouble):
-    """fcore can't serve the script yet: none of it was run."""
 
 
 class Entry(NamedTuple):
@@ -149,8 +144,6 @@ class Run:
             return BadImage(line.decode("ascii").rstrip("\n").partition(" ")[2])
         if status < 0:
             return self.trouble("fcore was ended by signal %d" % -status)
-        if status == NOT_BUILT:
-            return NotBuilt("%s: %s" % (shown(self.image), ENDS[status]))
         return changed if status in (0, 1) else self.trouble(ENDS.get(status, "fcore ended with status %d" % status))
 
     def trouble(self, text: str) -> Trouble:
