@@ -45,12 +45,3 @@ pub ran_late : (end : End) → (is_late end ≡ true) ⊎ ((end ≡ NoImage) ⊎
 ran_late end (inl late) = ((λ e. no_fresh (sym (ap is_late e) ∙ late)), (λ e. no_fresh (sym (ap is_late e) ∙ late)), (λ e. no_fresh (sym (ap is_late e) ∙ late)))
 ran_late end (inr (inl is)) = ((λ e. absurd (cc)), (λ e. absurd (cc)), (λ e. absurd (cc)))
 ran_late end (inr (inr is)) = ((λ e. absurd (cc)), (λ e. absurd (cc)), (λ e. absurd (cc)))
-
--- how a run doesn't end whose script has no command that isn't built, and how it may end
-pub never_unbuilt : (end : End) → (is_late end ≡ true) ⊎ (end ≡ NoImage) → end ≡ NotBuilt → ⊥
-never_unbuilt end (inl late) e = no_fresh (sym (ap is_late e) ∙ late)
-never_unbuilt end (inr is) e = absurd (cc)
-
-pub may_end : (end : End) → (is_late end ≡ true) ⊎ (end ≡ NoImage) → (is_late end ≡ true) ⊎ ((end ≡ NoImage) ⊎ (end ≡ NotBuilt))
-may_end end (inl late) = inl late
-may_end end (inr is) = inr (inl is)

@@ -3,7 +3,6 @@ use Rattle.fc_device.proofs.DiskLaws.{laws}
 use Rattle.fc_words.specs.Request.{request_in}
 use Rattle.fc_shell.specs.Built.{has_unbuilt}
 use Rattle.fc_shell.specs.Promise.{EndsByScript}
-use Rattle.fc_shell.proofs.AskedLemmas.{may_end, never_unbuilt}
 use Rattle.fc_shell.proofs.PromiseLemmas.{memory_ends}
 use Rattle.fc_shell.proofs.WritingLemmas.{wrote_nothing}
 use Rattle.fc_shell.proofs.run_script.Goals as goal
@@ -21,9 +20,3 @@ returns-in-Ok-false-clause-promise g c gives given image told =
       subst (λ (b : Bool). EndsByScript g.D.Disk c.args.disk.now c.answer_script.new.disk gives (request_in c.args.asked.now) image c.args.script.now promise.0 b c.answer_script.result)
           (sym built) promise.2,
     )
-
-pub returns-in-Ok-false-clause-not_built : goal.returns-in-Ok-false-clause-not_built
-returns-in-Ok-false-clause-not_built g c e = absurd (never_unbuilt c.answer_script.result c.answer_script.ensures.late e)
-
-pub returns-in-Ok-false-clause-ended : goal.returns-in-Ok-false-clause-ended
-returns-in-Ok-false-clause-ended g c = may_end c.answer_script.result c.answer_script.ensures.late
