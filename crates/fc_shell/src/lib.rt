@@ -189,7 +189,7 @@ pub fn run<D: Disk, S: Source, K: Sink>(
     // Words that aren't of the grammar, and no others, are bad; nothing is read, attached or written.
     ensures bad_words { result ≡ End.BadWords → request_of (map string_bytes words.now.items) ≡ None }
     ensures words { request_of (map string_bytes words.now.items) ≡ None
-        → ((result ≡ End.BadWords) ⊎ (result ≡ End.NoMemory)) × (script.new ≡ script.old) × (disk.new ≡ disk.old) × (out.new ≡ out.old) }
+        → (result ≡ End.BadWords) × (script.new ≡ script.old) × (disk.new ≡ disk.old) × (out.new ≡ out.old) }
 
     // Of the disk nothing is asked, or one image, and once: the one that the words name, as it is or as a fresh one of its
     // format's size. Which of the two, the end says, unless memory was short.

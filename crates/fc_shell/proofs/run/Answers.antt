@@ -1,5 +1,5 @@
 use Rattle.std.proofs.Common.{Option, [], Err, inl, refl, ap, map, sym, subst, ◌∙◌}
-use Rattle.std.specs.Prelude.{string_bytes}
+use Rattle.std.specs.Prelude.{IsSome, string_bytes}
 use Rattle.fc_device.proofs.DiskLaws.{laws}
 use Rattle.fc_words.specs.CommandLine.{Request, request_of}
 use Rattle.fc_words.specs.Request.{request_in}
@@ -26,6 +26,10 @@ returns-in-Err-BadWords-clause-promise g c gives given text left image told = (
 pub returns-in-Err-NoMemory-clause-promise : goal.returns-in-Err-NoMemory-clause-promise
 returns-in-Err-NoMemory-clause-promise g c gives given text left image told =
     ([], wrote_nothing (g.K.Sink.taken c.args.out.now), memory_promise (laws g.met.D.Disk) c.accepted.ensures c.args.disk.now gives image text told (request_of (map string_bytes c.args.words.now.items)))
+
+pub returns-in-Err-NoMemory-clause-words : goal.returns-in-Err-NoMemory-clause-words
+returns-in-Err-NoMemory-clause-words g c bad =
+    absurd (subst (λ (o : Option Request). IsSome o) bad (c.in-Err-NoMemory.ensures.no_memory (ap Err c.in-Err-NoMemory.field-0-is)))
 
 pub returns-in-Ok-clause-promise : goal.returns-in-Ok-clause-promise
 returns-in-Ok-clause-promise g c gives given text left image told =
