@@ -1,4 +1,4 @@
-use Rattle.std.proofs.Common.{Option, [], Err, inl, refl, ap, map, sym, subst, ◌∙◌}
+use Rattle.std.proofs.Common.{Option, None, [], Err, inl, refl, ap, map, sym, subst, ◌∙◌}
 use Rattle.std.specs.Prelude.{IsSome, string_bytes}
 use Rattle.fc_device.proofs.DiskLaws.{laws}
 use Rattle.fc_words.specs.CommandLine.{Request, request_of}
@@ -29,7 +29,10 @@ returns-in-Err-NoMemory-clause-promise g c gives given text left image told =
 
 pub returns-in-Err-NoMemory-clause-words : goal.returns-in-Err-NoMemory-clause-words
 returns-in-Err-NoMemory-clause-words g c bad =
-    absurd (subst (λ (o : Option Request). IsSome o) bad (c.in-Err-NoMemory.ensures.no_memory (ap Err c.in-Err-NoMemory.field-0-is)))
+    no_request (subst (λ (o : Option Request). IsSome o) bad (c.in-Err-NoMemory.ensures.no_memory (ap Err c.in-Err-NoMemory.field-0-is)))
+  where
+    no_request : {A : Type 0} → IsSome {T = Request} None → A
+    no_request some = absurd (cc)
 
 pub returns-in-Ok-clause-promise : goal.returns-in-Ok-clause-promise
 returns-in-Ok-clause-promise g c gives given text left image told =
