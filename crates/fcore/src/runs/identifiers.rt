@@ -59,26 +59,23 @@ fn two_runs(id: u32) -> [u8; 3]
 }
 
 // Writes a copy of the map.
-fn put_map(image: &mut Vec<u8>, at: usize) {
-    let mut zone = at;
+fn put_map(map: &mut Vec<u8>) {
+    let mut zone: usize = 0;
     for (head, start, first, pairs) in ZONES {
-        put(image, zone, head);
+        put(map, zone, head);
         let mut place = zone.saturating_add(*start);
         for pair in 0..*pairs {
-            put(
-                image,
-                place,
-                &two_runs(first.saturating_add(pair.saturating_mul(2)) % 2047),
-            );
+            let id = first.saturating_add(pair.saturating_mul(2)) % 2047;
+            put(map, place, &two_runs(id));
             place = place.saturating_add(3);
         }
         zone = zone.saturating_add(256);
     }
-    put(image, at.saturating_add(64), b"\x02\0\x80");
+    put(map, 64, b"\x02\0\x80");
     // The last identifier has the last run of zone 12. The hole behind it ends with the zone, as those of the zones after it.
-    put(image, at.saturating_add(3187), b"\xff\x0f");
+    put(map, 3187, b"\xff\x0f");
     for end in [3327, 3583, 3839, 4095] {
-        put(image, at.saturating_add(end), b"\x80");
+        put(map, end, b"\x80");
     }
 }
 
@@ -89,8 +86,10 @@ fn identifiers_run_out(rt: HostRuntime) -> Result<(), Fail> {
     for (at, bytes) in PARTS {
         put(&mut image, *at, bytes);
     }
-    put_map(&mut image, 4_005_888);
-    put_map(&mut image, 4_009_984);
+    let mut map = vec![in alloc; 0; 4096]?;
+    put_map(&mut map);
+    put(&mut image, 4_005_888, &map);
+    put(&mut image, 4_009_984, &map);
     let mut disk = PlainDisk::new(
         String::from_str(alloc, "disc")?,
         copied(alloc, &image)?,
