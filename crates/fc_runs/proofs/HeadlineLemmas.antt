@@ -111,6 +111,7 @@ steps_answer mode s s' t (line ∷ lines) (reply ∷ replies) plain o e x =
       step.0,
       (
         x.0,
+        x.2,
         steps_answer mode x.0 s' (map_line mode.read_only t s.view (command_of line)).0 lines replies plain step.2 step.1 x.3,
       ),
     ))

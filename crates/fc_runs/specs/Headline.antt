@@ -15,7 +15,7 @@ use Rattle.fc_image.specs.effects.Effect.{State, tree_in}
 use Rattle.fc_script.specs.Lines.{command_of}
 use Rattle.fc_script.specs.Texts.{cat_reply, digest_reply, load_reply, ok_line, refusal_line}
 use Rattle.fc_runs.specs.Replies.{bytes_of}
-use Rattle.fc_runs.specs.Run.{Mode, Steps, layout_reason}
+use Rattle.fc_runs.specs.Run.{Mode, Step, Steps, layout_reason}
 
 -- ---- one line
 
@@ -60,12 +60,13 @@ pub record HoldsMap (mode : Mode) (t : Tree) (s : State) : Type 0 where
   pub opens : OpensAs s.image mode.kind s.view
   pub tree : tree_in s ≡ t
 
--- From the map t on, which the image of s holds, the lines are answered in turn. At the end the image of s' holds the map t'.
+-- From the map t on, which the image of s holds, the lines are answered in turn, each by a step to the next image. At the end the
+-- image of s' holds the map t'.
 abbrev pub MapAnswers : Mode → Tree → State → List (List ℕ) → List (List ℕ) → Tree → State → Type 0
 MapAnswers mode t s [] [] t' s' = HoldsMap mode t s × (t' ≡ t) × (s' ≡ s)
 MapAnswers mode t s (line ∷ lines) (reply ∷ replies) t' s' =
     HoldsMap mode t s × IsReply (map_line mode.read_only t s.view (command_of line)).1 reply
-    × ((mid : State) × MapAnswers mode (map_line mode.read_only t s.view (command_of line)).0 mid lines replies t' s')
+    × ((mid : State) × Step mode s line reply mid × MapAnswers mode (map_line mode.read_only t s.view (command_of line)).0 mid lines replies t' s')
 MapAnswers mode t s [] (reply ∷ replies) t' s' = ⊥
 MapAnswers mode t s (line ∷ lines) [] t' s' = ⊥
 
