@@ -190,6 +190,23 @@ def over_old_maps(c):
         path: node for path, node in before.items() if not (path + ".").startswith("$.Outer.")})
 
 
+def over_big_directories(c):
+    """Directories that grow by what is added to them and moved into them."""
+    names = ["%02d" % at + "n" * 200 for at in range(12)]
+    content = {name: (3, name[:2].encode()) for name in names}
+    c.start(files={"o/" + name: data for name, (_, data) in content.items()})
+    c.run("new", "E+", "b.adf")
+    old = {"$.Old": 0, **{"$.Old." + name: node for name, node in content.items()}}
+    c.good("add to a directory that grows", ["add", "b.adf", "o", "Old"], old, "12 of 12 files added to b.adf\n", image="b.adf")
+    c.run("mkdir", "b.adf", "New")
+    for name in names[:-1]:
+        c.run("mv", "b.adf", "Old." + name, "New")
+    new = {"$.Old": 0, "$.New": 0, **{"$.New." + name: node for name, node in content.items()}}
+    c.good("mv into a directory that grows", ["mv", "b.adf", "Old." + names[-1], "New"], new, image="b.adf")
+    c.good("mv a directory that has grown", ["mv", "b.adf", "New", "Old.Newer"], {
+        "$.Old": 0, "$.Old.Newer": 0, **{"$.Old.Newer." + name: node for name, node in content.items()}}, image="b.adf")
+
+
 def squashing(c):
     c.start("d-files.adf")
     before = short_tree(read(c.at("a.adf")))
@@ -420,7 +437,7 @@ def converting(c):
 
 def run_all(checks, mounts):
     c = Changes(checks)
-    for part in (putting, ordering, over_old_maps, squashing, forms, adding, troubles, signals, converting):
+    for part in (putting, ordering, over_big_directories, over_old_maps, squashing, forms, adding, troubles, signals, converting):
         part(c)
     if mounts:
         no_room(c)
