@@ -152,13 +152,13 @@ fn run_request<D: Disk, S: Source, K: Sink>(
 /// Runs the script that the source gives over the image that the words name, or over a fresh one, and writes the replies. A demo
 /// has a script of its own: the source isn't read, and one line that counts the replies is written in their place.
 ///
-/// `words` are those after the program's name. In this order: the words, the whole script, the image, the fresh volume
+/// `words` are the arguments, without the program's name. In this order: the words, the whole script, the image, the fresh volume
 /// where one is asked for, opening, and the commands in turn. The first that fails ends the run. An image that is there
 /// is written by commands that change the disc alone, and never where the words forbid it.
 ///
-/// Where the source tells its script, two ends are settled whatever the disk tells. With words of the grammar that ask for
-/// nothing that isn't built, a script that is too long ends as `ScriptTooLong`, any other with a command that isn't built as
-/// `NotBuilt`, and the rest as neither; only a call of the source may fail first, and memory may be short.
+/// If the source's content is known, two ends don't depend on the disk. If the words are right and ask for nothing that isn't
+/// implemented, a script that is too long ends as `ScriptTooLong`, any other with a command that isn't implemented as `NotBuilt`,
+/// and no other script ends so; an I/O error of the source or out of memory may come first.
 pub fn run<D: Disk, S: Source, K: Sink>(
     alloc: Global,
     words: &Vec<String>,
@@ -166,37 +166,43 @@ pub fn run<D: Disk, S: Source, K: Sink>(
     script: &mut S,
     out: &mut K,
 ) -> End
-    // If all contents are known: what was written and what the disk has then, for each end (specs/Promise). At Done and Refused
-    // the lines are steps from the image as it opened, or from the fresh one, to the one that the disk has; their replies were
-    // written; and a crash at any moment leaves what `Stops` says.
+    // Disk, source and sink may make known: `gives`, which names can be opened; `bytes`, the image; `left`, what the source still
+    // has; `taken`, what the sink took (`Wrote` says nothing if that isn't known). Always known: `asked`, what was asked of the
+    // disk; `pending`, whether a write isn't synced; `faults`, the I/O errors so far. `ForSome x p`: if x is known, p holds of it.
+    // `request_of (..) ≡ Some r`: the words are right, and ask for r.
+
+    // If all contents are known: for each end, what was written and what the disk has then (`Promise`). At Done and Refused the
+    // lines are steps from the image as it opened, or from the fresh one, to the one that the disk has; their replies were
+    // written; and a crash at any moment leaves what `Stops` of fc_runs says.
     ensures promise { ForSome (D.gives disk.old) (λ gives. ForSome (asked_script (request_of (map string_bytes words.now.items)) (S.left script.old)) (λ lines. ForSome (D.bytes disk.old) (λ image.
         (text : List ℕ) × Wrote (K.taken out.old) (K.taken out.new) text
         × Promise D.Disk disk.old disk.new gives image lines text (request_of (map string_bytes words.now.items)) result))) }
 
-    // The headline. If all lines were done and all contents are known: the tree in the image is a map from paths to attributes and
-    // bytes. It answers the lines in turn (`answer`), but for those that the layout refuses, by written conditions on how the disc
-    // lies at that point (`short`). Their replies were written, of which `free` and `check` alone tell of the layout; and the image
-    // holds the map after them.
+    // The headline. If all lines were done (`Done`: none refused) and the contents are known: the image opens, and its tree is a
+    // map from paths to attributes and bytes. Each line is answered by this map (`answer`): by a refusal, which leaves it, or by
+    // the map after the command and its reply. How the disc lies decides two things alone: which commands that the map accepts
+    // lack space or room in a directory (`short`), and what `free` and `check` reply. The replies were written in order, and the
+    // image holds the last map.
     ensures headline { (r : Request) → request_of (map string_bytes words.now.items) ≡ Some r → (result ≡ End.Done) ⊎ (result ≡ End.Refused)
         → ForSome (D.gives disk.old) (λ gives. ForSome (told_script r.demo (S.left script.old)) (λ lines. ForSome (D.bytes disk.old) (λ image.
         (text : List ℕ) × Wrote (K.taken out.old) (K.taken out.new) text × IsAnsweredByMap D.Disk disk.new r image lines text))) }
 
-    // If the script only reads, or asks for what isn't built, and is no demo's, end and text are even those of words, script and
-    // image, unless a call failed or memory was short.
+    // If the script only reads, or asks for what isn't implemented, and is no demo's, end and text are even a function of words,
+    // script and image (`run_reply`); after an I/O error or out of memory the text is a part of that, from its front.
     ensures reply { AsksNoDemo (request_of (map string_bytes words.now.items)) → ForSome (D.gives disk.old) (λ gives. ForSome (S.left script.old) (λ text. ForSome (D.bytes disk.old) (λ image. (has_unbuilt text ≡ true) ⊎ (only_reads text ≡ true) →
         EndsAs (run_reply (map string_bytes words.now.items) gives text image) result (K.taken out.old) (K.taken out.new)))) }
 
-    // Words that aren't of the grammar, and no others, are bad; nothing is read, attached or written.
+    // Exactly words that aren't of the grammar are bad, also if memory is short; then nothing is read, opened or written.
     ensures bad_words { result ≡ End.BadWords → request_of (map string_bytes words.now.items) ≡ None }
     ensures words { request_of (map string_bytes words.now.items) ≡ None
         → (result ≡ End.BadWords) × (script.new ≡ script.old) × (disk.new ≡ disk.old) × (out.new ≡ out.old) }
 
     // Of the disk nothing is asked, or one image, and once: the one that the words name, as it is or as a fresh one of its
-    // format's size. Which of the two, the end says, unless memory was short.
+    // format's size. Whether it was asked, the end says (`AsksFor`), unless memory was short.
     ensures asks { (r : Request) → request_of (map string_bytes words.now.items) ≡ Some r → AsksFor (r.image, blank_size r) result (D.asked disk.old) (D.asked disk.new) }
 
-    // Where the words or the script ask for what isn't built, or the script is too long, the run ends before an image is asked
-    // for, and nothing is written. These two ends have no other cause.
+    // If words or script ask for what isn't implemented, or the script is too long, the run ends before an image is asked for.
+    // `NotBuilt` and `ScriptTooLong` have no other cause.
     ensures unbuilt { (r : Request) → request_of (map string_bytes words.now.items) ≡ Some r → is_unbuilt r ≡ true
         → ((result ≡ End.NotBuilt) ⊎ (result ≡ End.NoMemory)) × (script.new ≡ script.old) × (disk.new ≡ disk.old) × (out.new ≡ out.old) }
     ensures unattached { ForSome (asked_script (request_of (map string_bytes words.now.items)) (S.left script.old)) (λ text. (script_limit < length text) ⊎ (has_unbuilt text ≡ true)
@@ -206,34 +212,34 @@ pub fn run<D: Disk, S: Source, K: Sink>(
     ensures not_built { (r : Request) → request_of (map string_bytes words.now.items) ≡ Some r → result ≡ End.NotBuilt
         → AsksUnbuilt r (told_script r.demo (S.left script.old)) × (disk.new ≡ disk.old) }
 
-    // A fault is answered only where that object's count of faults rose in this call.
+    // An I/O error is reported only if that object's count of faults rose in this call.
     ensures script_fault { result ≡ End.ScriptFault → Rose (S.faults script.old) (S.faults script.new) × (disk.new ≡ disk.old) }
     ensures disk_fault { result ≡ End.DiskFault → Rose (D.faults disk.old) (D.faults disk.new) }
     ensures out_fault { result ≡ End.OutFault → Rose (K.faults out.old) (K.faults out.new) }
 
-    // Where the disk doesn't give the name, nothing has changed, and no stop shows anything else than before. A run ends so only
-    // for a name that isn't given, and over an image only for one that is, if it is known which names the disk gives.
+    // After `NoImage` nothing has changed, and a crash shows nothing new. It comes only if the disk can't open the name, and an end
+    // over an image only if it can, as far as that is known.
     ensures no_image { result ≡ End.NoImage → Untouched D.Disk disk.old disk.new
         × IsUnwritten D.Disk disk.old disk.new }
     ensures given { (r : Request) → request_of (map string_bytes words.now.items) ≡ Some r → ForSome (D.gives disk.old) (λ gives. FitsGiven (gives r.image (blank_size r)) result) }
 
-    // Nothing was written where a run ends so.
+    // At these ends nothing was written.
     ensures silent { (result ≡ End.NotBuilt) ⊎ ((result ≡ End.NoImage) ⊎ ((result ≡ End.ScriptFault) ⊎ (result ≡ End.ScriptTooLong))) → out.new ≡ out.old }
 
-    // If the run may not change the image, or the script only reads, an image that is there keeps its bytes, and at every stop
-    // it has one of those that it might have had before. Where a fresh one is asked for, the disk then has it wherever the run
-    // ends over it.
+    // If the run may not change the image, or the script only reads, an image that is there keeps its bytes, and a crash leaves
+    // only what a crash before the run could have left. With `--new` the disk has the fresh one at each end over an image
+    // (`is_over_image`).
     ensures unwritten { (r : Request) → request_of (map string_bytes words.now.items) ≡ Some r → RunSpares r (told_script r.demo (S.left script.old)) → r.new ≡ None → IsUnwritten D.Disk disk.old disk.new }
     ensures made { (r : Request) → request_of (map string_bytes words.now.items) ≡ Some r → RunSpares r (told_script r.demo (S.left script.old)) → is_over_image result ≡ true
         → HasImage D.Disk r disk.old disk.new }
 
-    // Where a run ends over an image, all that it wrote is durable. After out of memory the disk is as it was, or it was asked for
-    // the image, and what was written to it is durable.
+    // If a run ends over an image, all that it wrote is synced. After out of memory the disk is as it was, or it was asked for the
+    // image, and what was written to it is synced.
     ensures settled { is_over_image result ≡ true → IsFalse (D.pending disk.new) }
     ensures no_memory { (r : Request) → request_of (map string_bytes words.now.items) ≡ Some r → result ≡ End.NoMemory
         → LeavesDisk D.Disk r (RunSpares r (told_script r.demo (S.left script.old))) disk.old disk.new }
 
-    // The source was read to its end, wherever the run isn't over before an image is asked for. A demo doesn't read it.
+    // The source was read to its end, if the run doesn't end before an image is asked for. A demo doesn't read it.
     ensures script_end { AsksNoDemo (request_of (map string_bytes words.now.items)) → is_early result ≡ false → ForSome (S.left script.new) (λ rest. rest ≡ []) }
     ensures unread { (r : Request) → request_of (map string_bytes words.now.items) ≡ Some r → (n : ℕ) → r.demo ≡ Some n
         → (script.new ≡ script.old) × (result ≢ End.ScriptFault) × (result ≢ End.ScriptTooLong) }
