@@ -178,7 +178,7 @@ pub fn run<D: Disk, S: Source, K: Sink>(
         (text : List ℕ) × Wrote (K.taken out.old) (K.taken out.new) text
         × Promise D.Disk disk.old disk.new gives image lines text (request_of (map string_bytes words.now.items)) result))) }
 
-    // The headline. If all lines were done (`Done`: none refused) and the contents are known: the image opens, and its tree is a
+    // The headline. If all lines were done (`Done`, or `Refused`) and the contents are known: the image opens, and its tree is a
     // map from paths to attributes and bytes. Each line is answered by this map (`answer`): by a refusal, which leaves it, or by
     // the map after the command and its reply. How the disc lies decides two things alone: which commands that the map accepts
     // lack space or room in a directory (`short`), and what `free` and `check` reply. The replies were written in order, and the
