@@ -7,7 +7,7 @@ ghost use Rattle.fc_device.specs.Faults.{Rose};
 ghost use Rattle.fc_device.specs.Stops.{StillLeaves};
 ghost use Rattle.fc_checks.specs.Checks.{is_half_right};
 ghost use Rattle.fc_record.specs.Front.{HasMapOf};
-ghost use Rattle.fc_record.specs.Kinds.{is_boot, boot_record, is_old_map, kind_of, IsKind, Answers, FitsLength};
+ghost use Rattle.fc_record.specs.Kinds.{is_boot, boot_record, is_old_map, kind_calls, kind_of, IsKind, Answers, FitsLength};
 ghost use Rattle.fc_record.specs.Parts.{record_in_boot, record_in_map, kind_in_old_map};
 ghost use Rattle.fc_record.specs.Record.{IsRecord};
 
@@ -72,6 +72,7 @@ fn kind_in_old_map(map: &[u8]) -> Option<Kind>
     requires { length map.now ≡ 512 }
     ensures value { result ≡ kind_in_old_map map.now }
     ensures sound { IfSome result IsKind }
+    ensures calls { IfSome result (λ kind. kind_calls kind ≡ 10) }
 {
     if !is_half_right(&map[..256]) || !is_half_right(&map[256..]) {
         return None;
@@ -130,6 +131,7 @@ fn old_kind<D: Disk>(disk: &mut D, first: &mut [u8; 1024]) -> Result<Option<Kind
     requires size { D.sector_size disk.old ≡ 256 }
     ensures found { IfOk result (λ found. ForSome (D.bytes disk.old) (λ image. found ≡ kind_in_old_map image)) }
     ensures valid { IfOk result (λ found. IfSome found IsKind) }
+    ensures calls { IfOk result (λ found. IfSome found (λ kind. kind_calls kind ≡ 10)) }
     ensures map { IfOk result (λ found. ForSome (D.bytes disk.old) (λ image. (kind : Kind) → found ≡ Some kind → bytes_at first.new 0 512 ≡ bytes_at image 0 512)) }
     ensures reads { OnlyReads D.Disk disk.old disk.new }
     ensures few { D.read_calls disk.new ≤ D.read_calls disk.old + 2 }
@@ -150,7 +152,8 @@ fn first_kind<D: Disk>(disk: &mut D, front: &mut Front) -> Result<Option<Kind>, 
     ensures valid { IfOk result (λ found. IfSome found IsKind) }
     ensures map { IfOk result (λ found. ForSome (D.bytes disk.old) (λ image. (kind : Kind) → found ≡ Some kind → HasMapOf image kind front.new)) }
     ensures reads { OnlyReads D.Disk disk.old disk.new }
-    ensures few { D.read_calls disk.new ≤ D.read_calls disk.old + 10 }
+    ensures few { IfOk result (λ found. IfSome found (λ kind. D.read_calls disk.new ≤ D.read_calls disk.old + kind_calls kind)) }
+    ensures most { D.read_calls disk.new ≤ D.read_calls disk.old + 10 }
     ensures cause { FailsByFault D.Disk disk.old disk.new result }
 {
     if let Some(record) = boot_record(disk)? {
@@ -169,7 +172,7 @@ fn first_kind<D: Disk>(disk: &mut D, front: &mut Front) -> Result<Option<Kind>, 
 }
 
 /// The kind of an image: the first of four that fits (docs/FORMAT.md, "Kinds"). The disk is attached and has sectors
-/// of 256 bytes. At most 10 read calls are made, and nothing is written. What was read
+/// of 256 bytes. At most 10 read calls are made, 2 if the kind is that of a boot block, and nothing is written. What was read
 /// of a map of one zone, or of an old map, stands in `front` afterwards, so that no one has to read it again.
 ///
 /// The answer is `NoKind` exactly where none fits, `Short` exactly where the image is shorter than the disc of the
@@ -186,6 +189,7 @@ pub fn kind<D: Disk>(disk: &mut D, front: &mut Front) -> Result<Kind, KindError>
     ensures stops { StopsAsBefore D.Disk disk.old disk.new }
     ensures still { StillLeaves D.moment D.left_since disk.old disk.new }
     ensures read_calls { (D.read_calls disk.old ≤ D.read_calls disk.new) × (D.read_calls disk.new ≤ D.read_calls disk.old + 10) }
+    ensures few { IfOk result (λ kind. D.read_calls disk.new ≤ D.read_calls disk.old + kind_calls kind) }
     ensures later { D.faults disk.old ≤ D.faults disk.new }
     ensures cause { result ≡ Err KindError.DiskFault → Rose (D.faults disk.old) (D.faults disk.new) }
 {

@@ -2,6 +2,7 @@ use Rattle.std.proofs.Common.{◌≤◌, ◌<◌, length, sym, ◌∙◌, arith}
 use Rattle.std.proofs.lemmas.Result.{IfOk-weaker}
 use Rattle.fc_device.proofs.DiskLaws.{laws}
 use Rattle.fc_device.proofs.StopLemmas.{reads_then}
+use Rattle.fc_record.proofs.CallLemmas.{few_calls}
 use Rattle.fc_record.proofs.FrontLemmas.{IfOk-both, first_read, map_read, old_in_front, old_read, second_read}
 use Rattle.fc_record.proofs.PartLemmas.{boot_first, first_zone, old_last, second_zone, too_short}
 use Rattle.fc_record.proofs.kinds.first_kind.Goals as goal
@@ -97,3 +98,14 @@ pub returns-clause-reads : goal.returns-clause-reads
 returns-clause-reads g c =
     let law = laws g.met.D.Disk in
     reads_then law (reads_then law c.boot_record.ensures.reads c.map_record.ensures.reads) c.map_record-2.ensures.reads
+
+pub returns-then-length-lt-MAP-clause-few : goal.returns-then-length-lt-MAP-clause-few
+returns-then-length-lt-MAP-clause-few g c =
+    IfOk-weaker c.old_kind.result _ _
+    (λ found ten. few_calls _ _ found ten (omega (arith, c.boot_record.ensures.few, c.old_kind.ensures.few)))
+    c.old_kind.ensures.calls
+
+pub returns-clause-few : goal.returns-clause-few
+returns-clause-few g c =
+    few_calls _ _ c.kind_in_old_map.result c.kind_in_old_map.ensures.calls
+    (omega (arith, c.boot_record.ensures.few, c.map_record.ensures.few, c.map_record-2.ensures.few))
