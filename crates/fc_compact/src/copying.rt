@@ -10,11 +10,8 @@ ghost use Rattle.fc_compact.specs.Copying.{ChangesRow, IsCopied};
 
 use crate::laws;
 use fc_alloc::Owners;
-use fc_device::{Disk, DiskFault};
+use fc_device::{Disk, DiskFault, MAX_SECTOR};
 use fc_newmap::NewMap;
-
-/// The most bytes that a sector has.
-const MOST: usize = 1024;
 
 // Copies `count` sectors from sector `from` on to those from sector `to` on, which are none of them, and syncs. The buffer
 // has the bytes of a sector.
@@ -77,6 +74,6 @@ pub fn copy_into<D: Disk>(
 {
     laws();
     let size = map.geometry().sector as usize;
-    let mut sector = [0; MOST];
+    let mut sector = [0; MAX_SECTOR];
     copy_sectors(disk, from, to, count, &mut sector[..size])
 }

@@ -8,8 +8,8 @@ ghost use Rattle.fc_copies.specs.Passes.{HasWritten, IsPartWritten, masked, zone
 
 use crate::Which;
 use crate::reading::start_of;
-use fc_device::{Disk, DiskFault};
-use fc_record::{Geometry, MAX_SECTOR};
+use fc_device::{Disk, DiskFault, MAX_SECTOR};
+use fc_record::Geometry;
 
 // Writes these bytes as sector n, where others stand there. Answers whether it wrote.
 fn write_other<D: Disk>(disk: &mut D, n: u64, bytes: &[u8], there: &[u8]) -> Result<bool, DiskFault>

@@ -9,10 +9,7 @@ ghost use Rattle.fc_objects.specs.Extents.{sectors_in};
 ghost use Rattle.fc_objects.specs.Written.{AreApart, HasParts, IsPartWritten, StopsTear, padded};
 
 use crate::sectors::Sectors;
-use fc_device::{Disk, DiskFault, Extent};
-
-// The most bytes of a sector.
-const MAX_SECTOR: usize = 1024;
+use fc_device::{Disk, DiskFault, Extent, MAX_SECTOR};
 
 // The first of these bytes as a sector; where there are fewer, zeros follow them.
 fn sector_of(from: &[u8], size: usize) -> [u8; MAX_SECTOR]

@@ -8,15 +8,12 @@ ghost use Rattle.fc_squash.specs.Places.{ChangesRoom, Leaves};
 ghost use Rattle.fc_squash.specs.Squashing.{AreBodies, KeepsBodies, SquashedBy, with_start};
 
 use crate::pulling::pull;
-use fc_device::{Disk, DiskFault};
+use fc_device::{Disk, DiskFault, MAX_SECTOR};
 use fc_image::effects::Owned;
 use fc_oldmap::OldMap;
 
 /// The bytes of a unit.
 const UNIT: usize = 256;
-
-/// The bytes of the largest sector.
-const LARGEST: usize = 1024;
 
 // Puts the new start of an object in the place of the old one.
 fn set_start(owned: &mut [Owned], k: usize, start: u32)
@@ -80,7 +77,7 @@ pub fn squash<D: Disk>(
     ensures told { TellsAsBefore D.Disk disk.old disk.new }
     ensures cause { FailsByFault D.Disk disk.old disk.new result }
 {
-    let mut room = [0; LARGEST];
+    let mut room = [0; MAX_SECTOR];
     let size = UNIT * map.sector_units() as usize;
     pull_all(disk, map, owned, &mut room[..size])
 }

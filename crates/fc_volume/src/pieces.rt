@@ -10,8 +10,7 @@ ghost use Rattle.fc_volume.specs.Answers.{IsPlace, IsRef, piece_length, ref_byte
 ghost use Rattle.fc_volume.specs.Volume.{StandsFor, parts_of};
 
 use crate::{FileRef, Volume};
-use fc_device::{Disk, DiskFault, Extent, NoMemory};
-use fc_record::MAX_SECTOR;
+use fc_device::{Disk, DiskFault, Extent, MAX_SECTOR, NoMemory};
 use fc_space::PlaceError;
 use std::alloc::Global;
 

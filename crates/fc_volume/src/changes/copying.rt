@@ -11,12 +11,9 @@ ghost use Rattle.fc_volume.specs.Volume.{HasCopies};
 
 use crate::Copies;
 use crate::compacting::match_copies;
-use fc_device::{Disk, DiskFault, Extent};
+use fc_device::{Disk, DiskFault, Extent, MAX_SECTOR};
 use fc_newmap::NewMap;
 use fc_objects::{read_piece, write_piece};
-
-/// The most bytes that a sector has.
-const MOST: usize = 1024;
 
 // How many sectors some extents have, or the greatest number if they are more.
 fn count_sectors(place: &[Extent]) -> u64
@@ -82,7 +79,7 @@ fn copy_object<D: Disk>(
 {
     let size = map.geometry().sector as usize;
     let count = count_sectors(from).min(count_sectors(to));
-    let mut sector = [0; MOST];
+    let mut sector = [0; MAX_SECTOR];
     copy_sectors(disk, from, to, count, &mut sector[..size])
 }
 
