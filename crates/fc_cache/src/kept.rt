@@ -8,7 +8,7 @@ use std::alloc::Global;
 use std::num::NonZeroUsize;
 
 /// How many sectors are kept at most.
-const MOST: usize = 64;
+const MOST_SECTORS: usize = 64;
 
 /// The sectors that were used last, each under its number. Where no memory was found for it there is no cache.
 #[derive(Drop)]
@@ -25,7 +25,7 @@ impl Kept {
     pub fn new(alloc: Global) -> Kept
         ensures { entries_of result ≡ [] }
     {
-        let cache = match NonZeroUsize::new(MOST) {
+        let cache = match NonZeroUsize::new(MOST_SECTORS) {
             None => None,
             Some(most) => LruCache::new(alloc, most).ok(),
         };

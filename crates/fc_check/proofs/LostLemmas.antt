@@ -9,7 +9,7 @@ use Rattle.std.proofs.lemmas.List.Sums.{sum_by-cons}
 use Rattle.fc_newmap.proofs.PlaceLemmas.{in_either}
 use Rattle.fc_oldmap.specs.declared.Hole.{Hole}
 use Rattle.fc_oldmap.specs.Holes.{AreHoles, hole_end, hole_sum}
-use Rattle.fc_oldmap.specs.OldMap.{FreeSpace, map_units}
+use Rattle.fc_oldmap.specs.OldMap.{OldMapContent, map_units}
 use Rattle.fc_image.specs.Layout.{Layout, disc_sectors, hole_sectors, hole_sectors_in, is_among, map_place, sectors_at}
 use Rattle.fc_image.specs.Walk.{Object}
 use Rattle.fc_image.specs.Edits.{Apart}
@@ -184,7 +184,7 @@ record IsRow (n : ℕ) (sectors : List ℕ) : Type 0 where
   pub is : sectors ≡ range_with_len first count
   pub within : first + count ≤ n
 
-placed_row : (space : FreeSpace) (address bytes : ℕ) (sectors : List ℕ) → sectors_at (Layout.Old space) address bytes ≡ Some sectors
+placed_row : (space : OldMapContent) (address bytes : ℕ) (sectors : List ℕ) → sectors_at (Layout.Old space) address bytes ≡ Some sectors
     → IsRow (space.disc_units / space.sector_units) sectors
 unfolding sectors_at
 placed_row space address bytes sectors e = by (bytes == 0) (address % space.sector_units == 0) (nat_le (first + count) n) refl e
@@ -207,7 +207,7 @@ placed_row space address bytes sectors e = by (bytes == 0) (address % space.sect
     by false true false f g = absurd (cc)
     by false false d f g = absurd (cc)
 
-objects_among : (space : FreeSpace) (taken : List ℕ) (objects : List Object) → Each (IsPlaced (Layout.Old space)) objects → Apart taken objects
+objects_among : (space : OldMapContent) (taken : List ℕ) (objects : List Object) → Each (IsPlaced (Layout.Old space)) objects → Apart taken objects
     → among (space.disc_units / space.sector_units) (taken_by taken objects) ≡ among (space.disc_units / space.sector_units) taken + sum_by (λ o. length o.sectors) objects
 objects_among space taken [] placed apart = omega arith
 objects_among space taken (o ∷ objects) placed apart =
@@ -230,7 +230,7 @@ none_of true false o = refl
 none_of false true o = refl
 none_of false false o = refl
 
-pub lost_left : (space : FreeSpace) (objects : List Object) → (space.sector_units ≡ 1) ⊎ (space.sector_units ≡ 4)
+pub lost_left : (space : OldMapContent) (objects : List Object) → (space.sector_units ≡ 1) ⊎ (space.sector_units ≡ 4)
     → AreHoles space.disc_units space.sector_units (map_units space.sector_units) space.holes → map_units space.sector_units ≤ space.disc_units
     → Each (IsPlaced (Layout.Old space)) objects → Apart (map_place (Layout.Old space) ++ hole_sectors (Layout.Old space)) objects
     → count_by (is_lost_sector (Layout.Old space) objects) (range_with_len 0 (disc_sectors (Layout.Old space)))

@@ -12,7 +12,7 @@ use Rattle.fc_record.specs.Kinds.{IsKind, fits_kind, is_old_map, old_units}
 use Rattle.fc_zone.specs.declared.RunKind.{RunKind}
 use Rattle.fc_zone.specs.declared.RunKind.TheVariants as kinds
 use Rattle.fc_oldmap.specs.Holes.{AreHoles, hole_sum}
-use Rattle.fc_oldmap.specs.OldMap.{FreeSpace, free_end, free_space, hole_fault, is_free_end, map_units, stored_holes, wrong_hole}
+use Rattle.fc_oldmap.specs.OldMap.{OldMapContent, free_end, free_space, hole_fault, is_free_end, map_units, stored_holes, wrong_hole}
 use Rattle.fc_oldmap.proofs.ReadLemmas.{AreHoles-right}
 use Rattle.fc_newmap.specs.Map.{Map, ZoneRun, all_runs, bits_in}
 use Rattle.fc_alloc.specs.declared.owner.Owner.{Owner}
@@ -93,15 +93,15 @@ both : (a b : Bool) → (a && b) ≡ true → (a ≡ true) × (b ≡ true)
 both true b e = (refl, e)
 both false b e = absurd (cc)
 
-record IsOldDisc (space : FreeSpace) : Type 0 where
+record IsOldDisc (space : OldMapContent) : Type 0 where
   pub units : (space.sector_units ≡ 1) ⊎ (space.sector_units ≡ 4)
   pub holes : AreHoles space.disc_units space.sector_units (map_units space.sector_units) space.holes
   pub room : map_units space.sector_units ≤ space.disc_units
 
-old_same : (x y : FreeSpace) → Layout.Old x ≡ Layout.Old y → x ≡ y
+old_same : (x y : OldMapContent) → Layout.Old x ≡ Layout.Old y → x ≡ y
 old_same x y e = cc
 
-not_old : (m : Map) (space : FreeSpace) → Layout.New m ≡ Layout.Old space → ⊥
+not_old : (m : Map) (space : OldMapContent) → Layout.New m ≡ Layout.Old space → ⊥
 not_old m space e = cc
 
 right_holes : (image : List ℕ) (units : ℕ) → hole_fault image units ≡ None → AreHoles (old_units image) units (map_units units) (stored_holes image)
@@ -112,7 +112,7 @@ right_holes image units e = by (is_free_end (free_end image)) e
     by true f = AreHoles-right (old_units image) units 0 (map_units units) (stored_holes image) f
     by false f = absurd (cc)
 
-old_found : (image : List ℕ) (units root : ℕ) (found : MapAndRoot) (space : FreeSpace) (fault : Option ℕ) → hole_fault image units ≡ fault
+old_found : (image : List ℕ) (units root : ℕ) (found : MapAndRoot) (space : OldMapContent) (fault : Option ℕ) → hole_fault image units ≡ fault
     → holes_or (Layout.Old (free_space image units), root, 0) fault ≡ Ok found → found.0 ≡ Layout.Old space
     → (units ≡ 1) ⊎ (units ≡ 4) → map_units units ≤ old_units image → IsOldDisc space
 old_found image units root found space None right e is of room =
@@ -123,7 +123,7 @@ old_found image units root found space None right e is of room =
     ok_same x y f = cc
 old_found image units root found space (Some index) wrong e is of room = absurd (cc)
 
-old_disc : (image : List ℕ) (kind : Kind) (found : MapAndRoot) (space : FreeSpace) → IsKind kind → fits_kind image kind ≡ true → map_and_root image kind ≡ Ok found
+old_disc : (image : List ℕ) (kind : Kind) (found : MapAndRoot) (space : OldMapContent) → IsKind kind → fits_kind image kind ≡ true → map_and_root image kind ≡ Ok found
     → found.0 ≡ Layout.Old space → IsOldDisc space
 old_disc image (Boot r) found space right fits e is =
     let f = found_map image (Boot r) r found refl e in absurd (not_old _ space (ap (λ (x : MapAndRoot). x.0) f.is ∙ is))
@@ -140,7 +140,7 @@ each_placed : (layout : Layout) (reserved : List ℕ) (objects : List Object) �
 each_placed layout reserved [] a = tt
 each_placed layout reserved (o ∷ objects) a = (a.0.placed, each_placed layout reserved objects a.1)
 
-old_lost : (space : FreeSpace) (nodes : FinMap nat_cmp Node) (owners : List Owner) (objects : List Object) → AreOwners owners nodes (Layout.Old space) objects → IsOldDisc space
+old_lost : (space : OldMapContent) (nodes : FinMap nat_cmp Node) (owners : List Owner) (objects : List Object) → AreOwners owners nodes (Layout.Old space) objects → IsOldDisc space
     → Each (IsPlaced (Layout.Old space)) objects → Apart (map_place (Layout.Old space) ++ hole_sectors (Layout.Old space)) objects
     → bytes_lost_to (Layout.Old space) owners ≡ lost_bytes (Layout.Old space) objects
 old_lost space nodes owners objects are is placed apart =

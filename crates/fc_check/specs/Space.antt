@@ -4,7 +4,7 @@ use Rattle.fc_zone.specs.declared.Run.{Run}
 use Rattle.fc_zone.specs.declared.RunKind.{RunKind}
 use Rattle.fc_zone.specs.declared.RunKind.TheVariants as kinds
 use Rattle.fc_oldmap.specs.Holes.{hole_sum}
-use Rattle.fc_oldmap.specs.OldMap.{FreeSpace, map_units}
+use Rattle.fc_oldmap.specs.OldMap.{OldMapContent, map_units}
 use Rattle.fc_newmap.specs.Map.{all_runs, bits_in, is_hole}
 use Rattle.fc_alloc.specs.declared.owner.Owner.{Owner}
 use Rattle.fc_alloc.specs.Owners.{is_id_owned}
@@ -33,7 +33,7 @@ abbrev pub left_by : ℕ → List Owner → ℕ
 left_by sectors owners = fold (λ left o. left - o.sectors) sectors owners
 
 -- the sectors of a disc with an old map, less those of the map, of the holes and of the owners
-abbrev pub left_sectors : FreeSpace → List Owner → ℕ
+abbrev pub left_sectors : OldMapContent → List Owner → ℕ
 left_sectors space owners =
     left_by (space.disc_units / space.sector_units - map_units space.sector_units / space.sector_units - hole_sum space.holes / space.sector_units) owners
 

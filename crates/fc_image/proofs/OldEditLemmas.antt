@@ -6,7 +6,7 @@ use Rattle.fc_record.specs.declared.DiscRecord.{DiscRecord}
 use Rattle.fc_record.specs.declared.Kind.{Kind}
 use Rattle.fc_record.specs.declared.Kind.TheVariants.{Boot, OneZone, DiscD, DiscL}
 use Rattle.fc_record.specs.Kinds.{disc_size}
-use Rattle.fc_oldmap.specs.OldMap.{FreeSpace, free_space, hole_fault}
+use Rattle.fc_oldmap.specs.OldMap.{OldMapContent, free_space, hole_fault}
 use Rattle.fc_dirs.specs.Directory.{directory_size}
 use Rattle.fc_image.specs.declared.ImageFault.{ImageFault}
 use Rattle.fc_image.specs.Layout.{Layout, dir_form, disc_sectors, sectors_at}
@@ -46,7 +46,7 @@ is_old (Layout.New m) = false
 found_ok : (x y : MapAndRoot) → (let q : Result MapAndRoot ImageFault = Ok x in q) ≡ Ok y → x ≡ y
 found_ok x y h = cc
 
-old_found : (o : Option ℕ) (space : FreeSpace) (a s : ℕ) (found : MapAndRoot) → holes_or (Layout.Old space, a, s) o ≡ Ok found → (let p : ℕ × ℕ = (a, s) in p) ≡ (found.1, found.2)
+old_found : (o : Option ℕ) (space : OldMapContent) (a s : ℕ) (found : MapAndRoot) → holes_or (Layout.Old space, a, s) o ≡ Ok found → (let p : ℕ × ℕ = (a, s) in p) ≡ (found.1, found.2)
 old_found None space a s found e = ap (λ (q : MapAndRoot). let p : ℕ × ℕ = (q.1, q.2) in p) (found_ok (Layout.Old space, a, s) found e)
 old_found (Some n) space a s found e = absurd (cc)
 
@@ -60,7 +60,7 @@ new_found image kind r layout a s new old e =
     never false h g = cc
 
 -- On discs of one kind with old maps the root lies at one place.
-same_root : (image image' : List ℕ) (kind : Kind) (space space' : FreeSpace) (a s a' s' : ℕ) → map_and_root image kind ≡ Ok (Layout.Old space, a, s)
+same_root : (image image' : List ℕ) (kind : Kind) (space space' : OldMapContent) (a s a' s' : ℕ) → map_and_root image kind ≡ Ok (Layout.Old space, a, s)
     → map_and_root image' kind ≡ Ok (Layout.Old space', a', s') → (a ≡ a') × (s ≡ s')
 same_root image image' (Boot r) space space' a s a' s' e f = absurd (new_found image (Boot r) r (Layout.Old space) a s refl refl e)
 same_root image image' (OneZone r) space space' a s a' s' e f = absurd (new_found image (OneZone r) r (Layout.Old space) a s refl refl e)
@@ -74,13 +74,13 @@ same_root image image' (DiscL units) space space' a s a' s' e f =
     (ap (λ (p : ℕ × ℕ). p.0) (sym here ∙ there), ap (λ (p : ℕ × ℕ). p.1) (sym here ∙ there))
 
 -- the old walk, from the root's place
-record Before (kind : Kind) (image : List ℕ) (v : Opened) (space : FreeSpace) (root : Object) (address : ℕ) : Type 0 where
+record Before (kind : Kind) (image : List ℕ) (v : Opened) (space : OldMapContent) (root : Object) (address : ℕ) : Type 0 where
   walked : walk (reader_of image (Layout.Old space)) (Layout.Old space) (reserved_in kind (Layout.Old space)) address 0 ≡ Ok v.listings
   is_root : IsRoot (Layout.Old space) address 0 root
   room : length v.listings ≤ disc_sectors (Layout.Old space)
   long : disc_size kind ≤ length image
 
-known : (kind : Kind) (image image' : List ℕ) (v : Opened) (space space' : FreeSpace) (root : Object) (address : ℕ) → OpensAs image kind v → v.layout ≡ Layout.Old space
+known : (kind : Kind) (image image' : List ℕ) (v : Opened) (space space' : OldMapContent) (root : Object) (address : ℕ) → OpensAs image kind v → v.layout ≡ Layout.Old space
     → first_object v.listings ≡ root ∷ [] → map_and_root image' kind ≡ Ok (Layout.Old space', address, 0) → Before kind image v space root address
 known kind image image' v space space' root address opens layout first found =
     let p = parts_of image kind v opens.opened in
@@ -104,14 +104,14 @@ known kind image image' v space space' root address opens layout first found =
 -- ---- any edit
 
 -- the same disc by its units
-of_units : (space space' : FreeSpace) → space'.sector_units ≡ space.sector_units → space'.disc_units ≡ space.disc_units
+of_units : (space space' : OldMapContent) → space'.sector_units ≡ space.sector_units → space'.disc_units ≡ space.disc_units
     → (dir_form (Layout.Old space') ≡ dir_form (Layout.Old space)) × (disc_sectors (Layout.Old space') ≡ disc_sectors (Layout.Old space))
 of_units space space' units disc = (
   ap (λ (u : ℕ). dir_form (Layout.Old (record { holes = []; disc_units = 0; sector_units = u }))) units,
   ap₂ (λ (u d : ℕ). disc_sectors (Layout.Old (record { holes = []; disc_units = d; sector_units = u }))) units disc,
 )
 
-module _ (kind : Kind) (image image' : List ℕ) (v : Opened) (space space' : FreeSpace) (root : Object) (g : Object → Object) (listings' : List Listing)
+module _ (kind : Kind) (image image' : List ℕ) (v : Opened) (space space' : OldMapContent) (root : Object) (g : Object → Object) (listings' : List Listing)
     (gone come kept : List Object) (e : IsOldMapEdit kind image image' v space space' root g listings' gone come kept) where
   abbrev TheEdit : Type 0
   TheEdit = IsImageEdit image image' (Layout.Old space) (Layout.Old space') (reserved_in kind (Layout.Old space)) (reserved_in kind (Layout.Old space')) e.address e.address 0 0 g
@@ -173,7 +173,7 @@ module _ (kind : Kind) (image image' : List ℕ) (v : Opened) (space space' : Fr
             v.listings listings' gone come kept changing others k.is k.walk_now order nodes),
       )
 
-any_moved' : (kind : Kind) (image image' : List ℕ) (v : Opened) (space space' : FreeSpace) (root : Object) (g : Object → Object) (listings' : List Listing) (kept : List Object) (from to : Path)
+any_moved' : (kind : Kind) (image image' : List ℕ) (v : Opened) (space space' : OldMapContent) (root : Object) (g : Object → Object) (listings' : List Listing) (kept : List Object) (from to : Path)
     → IsOldMapEdit kind image image' v space space' root g listings' [] [] kept → 0 < length from
     → ((o : Object) → Contains kept o → IsMoved from to image image' (Layout.Old space) (Layout.Old space') o (g o))
     → (w : OpensEdited kind image' (Layout.Old space') listings') × IsMove image image' v.layout (Layout.Old space') v.listings w.found from to

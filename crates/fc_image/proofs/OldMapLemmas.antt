@@ -9,7 +9,7 @@ use Rattle.std.proofs.lemmas.List.FromFn.{length-range_with_len}
 use Rattle.fc_record.specs.declared.Kind.{Kind}
 use Rattle.fc_record.specs.declared.Kind.TheVariants.{Boot, OneZone, DiscD, DiscL}
 use Rattle.fc_oldmap.specs.Holes.{AreHoles}
-use Rattle.fc_oldmap.specs.OldMap.{FreeSpace, map_units, free_space, free_end, is_free_end, hole_fault, stored_holes, wrong_hole}
+use Rattle.fc_oldmap.specs.OldMap.{OldMapContent, map_units, free_space, free_end, is_free_end, hole_fault, stored_holes, wrong_hole}
 use Rattle.fc_oldmap.proofs.ReadLemmas.{AreHoles-right}
 use Rattle.fc_bytes.specs.Words.{u24_at}
 use Rattle.fc_names.specs.Names.{Path}
@@ -30,15 +30,15 @@ use Rattle.fc_image.proofs.EditLemmas.{walk_gives}
 -- ---- the map
 
 -- a map that was found with its root
-record IsOldMapAt (space : FreeSpace) (root : ℕ) : Type 0 where
+record IsOldMapAt (space : OldMapContent) (root : ℕ) : Type 0 where
   pub units : (space.sector_units ≡ 1) ⊎ (space.sector_units ≡ 4)
   pub holes : AreHoles space.disc_units space.sector_units (map_units space.sector_units) space.holes
   pub begins : root ≡ map_units space.sector_units
 
-old_same : (x y : FreeSpace) → Layout.Old x ≡ Layout.Old y → x ≡ y
+old_same : (x y : OldMapContent) → Layout.Old x ≡ Layout.Old y → x ≡ y
 old_same x y e = cc
 
-not_old : (m : Map) (space : FreeSpace) → Layout.New m ≡ Layout.Old space → ⊥
+not_old : (m : Map) (space : OldMapContent) → Layout.New m ≡ Layout.Old space → ⊥
 not_old m space e = cc
 
 right_holes : (image : List ℕ) (units : ℕ) → hole_fault image units ≡ None → AreHoles (u24_at image 252) units (map_units units) (stored_holes image)
@@ -49,7 +49,7 @@ right_holes image units e = by (is_free_end (free_end image)) e
     by true f = AreHoles-right (u24_at image 252) units 0 (map_units units) (stored_holes image) f
     by false f = absurd (cc)
 
-old_found : (image : List ℕ) (units root : ℕ) (found : MapAndRoot) (space : FreeSpace) (fault : Option ℕ) → hole_fault image units ≡ fault
+old_found : (image : List ℕ) (units root : ℕ) (found : MapAndRoot) (space : OldMapContent) (fault : Option ℕ) → hole_fault image units ≡ fault
     → holes_or (Layout.Old (free_space image units), root, 0) fault ≡ Ok found → found.0 ≡ Layout.Old space
     → (units ≡ 1) ⊎ (units ≡ 4) → root ≡ map_units units → IsOldMapAt space found.1
 old_found image units root found space None right e is of begins =
@@ -63,7 +63,7 @@ old_found image units root found space None right e is of begins =
     ok_same x y f = cc
 old_found image units root found space (Some index) wrong e is of begins = absurd (cc)
 
-old_disc : (image : List ℕ) (kind : Kind) (found : MapAndRoot) (space : FreeSpace) → map_and_root image kind ≡ Ok found
+old_disc : (image : List ℕ) (kind : Kind) (found : MapAndRoot) (space : OldMapContent) → map_and_root image kind ≡ Ok found
     → found.0 ≡ Layout.Old space → IsOldMapAt space found.1
 old_disc image (Boot r) found space e is =
     let f = found_map image (Boot r) r found refl e in absurd (not_old _ space (ap (λ (x : MapAndRoot). x.0) f.is ∙ is))
@@ -117,7 +117,7 @@ or_right : (a b : Bool) → (a || b) ≡ false → b ≡ false
 or_right true b e = absurd (cc)
 or_right false b e = e
 
-lies_old : (space : FreeSpace) (o : Object) → Lies (Layout.Old space) (map_place (Layout.Old space) ++ hole_sectors (Layout.Old space)) o
+lies_old : (space : OldMapContent) (o : Object) → Lies (Layout.Old space) (map_place (Layout.Old space) ++ hole_sectors (Layout.Old space)) o
     → RootAt (map_units space.sector_units) o → has_sectors o ≡ true → LiesOnOldMap space o
 unfolding sectors_at
 lies_old space o lies root has =

@@ -7,7 +7,7 @@ use Rattle.std.proofs.lemmas.Map.Steps.{length-le_from_distinct_below}
 use Rattle.std.proofs.lemmas.List.{length-append}
 use Rattle.std.proofs.lemmas.List.Concat.{flat_map-append}
 use Rattle.std.specs.Int.{div_ceil}
-use Rattle.fc_oldmap.specs.OldMap.{FreeSpace, free_space, hole_fault}
+use Rattle.fc_oldmap.specs.OldMap.{OldMapContent, free_space, hole_fault}
 use Rattle.fc_record.specs.declared.DiscRecord.{DiscRecord}
 use Rattle.fc_record.specs.declared.Kind.{Kind}
 use Rattle.fc_record.specs.declared.Kind.TheVariants.{Boot, OneZone, DiscD, DiscL}
@@ -243,7 +243,7 @@ new_room image kind r v new e =
 -- ---- discs with old maps
 
 -- an address of an old map leads to sectors of the disc
-old_low : (space : FreeSpace) (address bytes : ℕ) (xs : List ℕ) → sectors_at (Layout.Old space) address bytes ≡ Some xs → (s : ℕ) → is_among xs s ≡ true → s < disc_sectors (Layout.Old space)
+old_low : (space : OldMapContent) (address bytes : ℕ) (xs : List ℕ) → sectors_at (Layout.Old space) address bytes ≡ Some xs → (s : ℕ) → is_among xs s ≡ true → s < disc_sectors (Layout.Old space)
 unfolding sectors_at
 old_low space address bytes xs h s i =
     by (bytes == 0) (address % space.sector_units == 0)
@@ -274,7 +274,7 @@ old_low space address bytes xs h s i =
         lt_of_lt_of_le bounds.1 most
 
 -- a walk over an old disc finds no more directories than sectors
-pub old_room : (image : List ℕ) (space : FreeSpace) (reserved : List ℕ) (address size : ℕ) (listings : List Listing)
+pub old_room : (image : List ℕ) (space : OldMapContent) (reserved : List ℕ) (address size : ℕ) (listings : List Listing)
     → walk (reader_of image (Layout.Old space)) (Layout.Old space) reserved address size ≡ Ok listings → length listings ≤ disc_sectors (Layout.Old space)
 old_room image space reserved address size listings h =
     let layout = Layout.Old space in

@@ -7,12 +7,12 @@ use Rattle.fc_names.specs.declared.name.NameForm.{NameForm}
 use Rattle.fc_names.specs.declared.name.NameForm.TheVariants.{Seven, Ten, Long}
 use Rattle.fc_record.specs.Record.{id_limit}
 use Rattle.fc_oldmap.specs.declared.Hole.{Hole}
-use Rattle.fc_oldmap.specs.OldMap.{FreeSpace, map_units}
+use Rattle.fc_oldmap.specs.OldMap.{OldMapContent, map_units}
 use Rattle.fc_newmap.specs.Map.{Map, id_runs, hole_runs, sectors_of, map_sectors}
 
 -- a disc by its map, an old one or a new one
 pub data Layout : Type 0 where
-  Old : (space : FreeSpace) → Layout
+  Old : (space : OldMapContent) → Layout
   New : (map : Map) → Layout
 
 -- the bytes of a sector
@@ -81,7 +81,7 @@ new_sectors m address bytes =
     else None
 
 -- On an old map an address counts units.
-abbrev pub old_sectors : FreeSpace → ℕ → ℕ → Option (List ℕ)
+abbrev pub old_sectors : OldMapContent → ℕ → ℕ → Option (List ℕ)
 old_sectors space address bytes =
     let first = address / space.sector_units in
     let count = div_ceil bytes (256 * space.sector_units) in

@@ -1,5 +1,5 @@
 -- Trees: finite maps from paths to nodes. The keys are the folded paths, and each node keeps its name as it is spelled.
-use Rattle.std.specs.Prelude.{◌≡◌, ◌<◌, ℕ, ◌+◌, ◌-◌, Bool, true, false, ◌&&◌, ◌==◌, List, [], ◌∷◌, length, take, filter, Option, Some}
+use Rattle.std.specs.Prelude.{◌≡◌, ◌<◌, ℕ, ◌+◌, ◌-◌, Bool, true, false, ◌&&◌, ◌==◌, List, [], ◌∷◌, length, take, filter, Option, Some, None}
 use Rattle.std.specs.List.{starts_with}
 use Rattle.std.specs.Str.{bytes_eq}
 use Rattle.std.specs.FinMap.{FinMap, entries, get}
@@ -30,6 +30,16 @@ node_at t path = get t (folded_path path)
 abbrev pub is_directory_body : Body → Bool
 is_directory_body (File bytes) = false
 is_directory_body Directory = true
+
+-- the bytes of a file; a directory has none
+abbrev pub bytes_of_body : Body → List ℕ
+bytes_of_body (File bytes) = bytes
+bytes_of_body Directory = []
+
+-- the bytes of the file there
+abbrev pub bytes_of_node : Option Node → List ℕ
+bytes_of_node None = []
+bytes_of_node (Some n) = bytes_of_body n.body
 
 -- the root's node
 abbrev pub root_node : Node

@@ -9,7 +9,7 @@ use std::cmp::Ordering;
 use std::marker::Model;
 
 /// The most bytes of a name.
-pub const MOST: usize = 255;
+pub const LONGEST: usize = 255;
 
 /// The name of an object: 1 to 255 bytes, each at least 32. It takes memory of its own length.
 #[derive(Clone, Debug, Drop)]
@@ -156,7 +156,7 @@ fn name_limit(form: NameForm) -> usize
 {
     match form {
         NameForm::Seven | NameForm::Ten => 10,
-        NameForm::Long => MOST,
+        NameForm::Long => LONGEST,
     }
 }
 

@@ -7,14 +7,14 @@ ghost use Rattle.arrayvec.specs.ArrayVec.{array_vec_len};
 ghost use Rattle.fc_names.specs.Paths.{byte_of, cons_some, name_of, spelled_byte, spelled_bytes, spelled_name, spelled_path};
 ghost use Rattle.fc_names.specs.Names.{IsName};
 
-use crate::name::{MOST, is_plain};
+use crate::name::{LONGEST, is_plain};
 use crate::{Name, Path, PathError};
 use arrayvec::ArrayVec;
 use fc_device::NoMemory;
 use std::alloc::Global;
 
 // The most bytes of a spelled name.
-const SPELLED: usize = 3 * MOST;
+const SPELLED: usize = 3 * LONGEST;
 
 const DIGITS: &[u8; 16] = b"0123456789ABCDEF";
 
@@ -128,11 +128,11 @@ fn read_byte(text: &[u8]) -> Option<(u8, &[u8])>
 }
 
 /// The bytes of the name that a text spells, by the rule of names in paths. `None` where it spells none.
-pub fn spelled_bytes(text: &[u8]) -> Option<ArrayVec<u8, MOST>>
+pub fn spelled_bytes(text: &[u8]) -> Option<ArrayVec<u8, LONGEST>>
     ensures name { option_map (λ bytes. bytes.items) result ≡ name_of text.now }
     ensures is_name { IfSome result (λ bytes. IsName bytes.items) }
 {
-    let mut bytes: ArrayVec<u8, MOST> = ArrayVec::new();
+    let mut bytes: ArrayVec<u8, LONGEST> = ArrayVec::new();
     let mut rest = text;
     while !rest.is_empty() {
         let (c, after) = read_byte(rest)?;

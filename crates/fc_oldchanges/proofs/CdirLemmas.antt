@@ -9,7 +9,7 @@ use Rattle.fc_record.specs.declared.Kind.{Kind}
 use Rattle.fc_oldmap.specs.declared.Hole.{Hole}
 use Rattle.fc_oldmap.specs.Holes.{after_take}
 use Rattle.fc_oldmap.specs.Laws.{ReadsBack}
-use Rattle.fc_oldmap.specs.OldMap.{FreeSpace}
+use Rattle.fc_oldmap.specs.OldMap.{OldMapContent}
 use Rattle.fc_model.specs.Tree.{holder, last_name}
 use Rattle.fc_model.specs.Command.{Command}
 use Rattle.fc_dirs.specs.declared.Entry.{Entry}
@@ -67,7 +67,7 @@ size_of_new Seven = refl
 size_of_new Ten = refl
 size_of_new Long = refl
 
-module _ (back : ReadsBack) (kind : Kind) (image image' : List ℕ) (space : FreeSpace) (holes : List Hole) (ls : List Listing) (path : Path) (rest : List Listing) (l : Listing) (content : Directory)
+module _ (back : ReadsBack) (kind : Kind) (image image' : List ℕ) (space : OldMapContent) (holes : List Hole) (ls : List Listing) (path : Path) (rest : List Listing) (l : Listing) (content : Directory)
     (d : Listing) (e : IsDirectoryChange kind image image' (opened kind space ls) space holes path rest l content d) where
   abbrev c : Command
   c = Command.Cdir path

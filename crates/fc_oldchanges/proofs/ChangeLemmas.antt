@@ -11,7 +11,7 @@ use Rattle.fc_record.specs.Kinds.{disc_size}
 use Rattle.fc_newmap.proofs.PlaceLemmas.{in_back, in_either, in_front}
 use Rattle.fc_oldmap.specs.declared.Hole.{Hole}
 use Rattle.fc_oldmap.specs.Holes.{AreHoles}
-use Rattle.fc_oldmap.specs.OldMap.{FreeSpace, IsOldMap, map_units}
+use Rattle.fc_oldmap.specs.OldMap.{OldMapContent, IsOldMap, map_units}
 use Rattle.fc_oldmap.specs.Laws.{ReadsBack}
 use Rattle.fc_oldmap.proofs.SpaceLemmas.{AreHoles-lower}
 use Rattle.fc_model.specs.Command.{Command}
@@ -43,7 +43,7 @@ use Rattle.fc_oldchanges.proofs.HoleLemmas.{below_end, units_in}
 use Rattle.fc_oldchanges.proofs.MapLemmas.{IsOldDisc, old_disc}
 use Rattle.fc_oldchanges.proofs.PlaceLemmas.{among_flat, in_disc, pair_apart}
 
-abbrev pub opened : Kind → FreeSpace → List Listing → Opened
+abbrev pub opened : Kind → OldMapContent → List Listing → Opened
 opened kind space ls = record { kind = kind; layout = Layout.Old space; listings = ls }
 
 -- ---- what is written
@@ -55,7 +55,7 @@ pub record Start : Type 0 where
   pub kind : Kind
   pub image : List ℕ
   pub image' : List ℕ
-  pub space : FreeSpace
+  pub space : OldMapContent
   pub holes : List Hole
   pub ls : List Listing
   pub others : List Listing

@@ -8,7 +8,7 @@ use Rattle.fc_names.specs.Names.{Path, is_same_path}
 use Rattle.fc_record.specs.declared.Kind.{Kind}
 use Rattle.fc_oldmap.specs.declared.Hole.{Hole}
 use Rattle.fc_oldmap.specs.Laws.{ReadsBack}
-use Rattle.fc_oldmap.specs.OldMap.{FreeSpace}
+use Rattle.fc_oldmap.specs.OldMap.{OldMapContent}
 use Rattle.fc_model.specs.Tree.{holder, last_name}
 use Rattle.fc_model.specs.Command.{Command}
 use Rattle.fc_dirs.specs.declared.Entry.{Entry}
@@ -60,7 +60,7 @@ goes_at path (d ∷ []) o alone same k at = elim (cases_cons d [] k at) [
 ]
 goes_at path (d ∷ e ∷ out) o alone same k at = absurd alone
 
-module _ (back : ReadsBack) (kind : Kind) (image image' : List ℕ) (space : FreeSpace) (holes : List Hole) (ls : List Listing) (path : Path) (out rest : List Listing) (l : Listing) (content : Directory)
+module _ (back : ReadsBack) (kind : Kind) (image image' : List ℕ) (space : OldMapContent) (holes : List Hole) (ls : List Listing) (path : Path) (out rest : List Listing) (l : Listing) (content : Directory)
     (i : ℕ) (o : Object) (stay : List Object) (e : IsDeleteChange kind image image' (opened kind space ls) space holes path out rest l content i o stay) where
   abbrev c : Command
   c = Command.Delete path

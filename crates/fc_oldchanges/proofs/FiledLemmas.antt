@@ -10,7 +10,7 @@ use Rattle.fc_record.specs.declared.Kind.{Kind}
 use Rattle.fc_oldmap.specs.declared.Hole.{Hole}
 use Rattle.fc_oldmap.specs.Holes.{after_take}
 use Rattle.fc_oldmap.specs.Laws.{ReadsBack}
-use Rattle.fc_oldmap.specs.OldMap.{FreeSpace}
+use Rattle.fc_oldmap.specs.OldMap.{OldMapContent}
 use Rattle.fc_model.specs.Tree.{holder, last_name}
 use Rattle.fc_model.specs.Command.{Command}
 use Rattle.fc_model.specs.Answer.{changed}
@@ -145,7 +145,7 @@ stood_at : (ls : List Listing) (path : Path) (old : Option Object) → object_at
 stood_at ls path None h = tt
 stood_at ls path (Some p) h = ((found_in (λ (o : Object). is_same_path path o.path) (objects_of ls) p h).1, tt)
 
-module _ (back : ReadsBack) (kind : Kind) (image image' : List ℕ) (space : FreeSpace) (holes : List Hole) (ls : List Listing) (c : Command) (path : Path) (load exec : ℕ) (bytes : List ℕ)
+module _ (back : ReadsBack) (kind : Kind) (image image' : List ℕ) (space : OldMapContent) (holes : List Hole) (ls : List Listing) (c : Command) (path : Path) (load exec : ℕ) (bytes : List ℕ)
     (rest : List Listing) (l : Listing) (content : Directory) (i : ℕ) (old : Option Object) (o : Object) (stay : List Object)
     (e : IsFileChange kind image image' (opened kind space ls) space holes c path load exec bytes rest l content i old o stay)
     (names : MakesFileAt c path (length bytes))

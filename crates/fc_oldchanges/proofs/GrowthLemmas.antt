@@ -7,7 +7,7 @@ use Rattle.std.specs.Str.{bytes_eq}
 use Rattle.fc_names.specs.declared.name.NameForm.TheVariants.{Seven, Ten}
 use Rattle.fc_names.specs.Names.{Path, is_same_path}
 use Rattle.fc_record.specs.declared.Kind.{Kind}
-use Rattle.fc_oldmap.specs.OldMap.{FreeSpace}
+use Rattle.fc_oldmap.specs.OldMap.{OldMapContent}
 use Rattle.fc_model.specs.Tree.{holder, last_name}
 use Rattle.fc_model.specs.Command.{Command}
 use Rattle.fc_dirs.specs.declared.DirFault.{DirFault}
@@ -50,7 +50,7 @@ none_grows gain small = go gain.listing.content small
     go (Directory.Small dir) s = refl
     go (Directory.Big dir) s = absurd s
 
-module _ (kind : Kind) (image : List ℕ) (space : FreeSpace) (ls : List Listing) (opens : OpensAs image kind (opened kind space ls)) where
+module _ (kind : Kind) (image : List ℕ) (space : OldMapContent) (ls : List Listing) (opens : OpensAs image kind (opened kind space ls)) where
   abbrev v : Opened
   v = opened kind space ls
 
@@ -100,19 +100,19 @@ module _ (kind : Kind) (image : List ℕ) (space : FreeSpace) (ls : List Listing
 
 -- ---- the holes
 
-pub none_needed : (space : FreeSpace) → (space.sector_units ≡ 1) ⊎ (space.sector_units ≡ 4) → old_need space 0 ≡ 0
+pub none_needed : (space : OldMapContent) → (space.sector_units ≡ 1) ⊎ (space.sector_units ≡ 4) → old_need space 0 ≡ 0
 none_needed space (inl one) = subst (λ (u : ℕ). div_ceil 0 (256 * u) * u ≡ 0) (sym one) refl
 none_needed space (inr four) = subst (λ (u : ℕ). div_ceil 0 (256 * u) * u ≡ 0) (sym four) refl
 
 -- if the command takes nothing
-pub given_alone : (space : FreeSpace) (v : Opened) (c : Command) (o : Option Object) → (space.sector_units ≡ 1) ⊎ (space.sector_units ≡ 4) → replaced_object v c ≡ o → new_length v c ≡ 0
+pub given_alone : (space : OldMapContent) (v : Opened) (c : Command) (o : Option Object) → (space.sector_units ≡ 1) ⊎ (space.sector_units ≡ 4) → replaced_object v c ≡ o → new_length v c ≡ 0
     → with_space_of space o space.holes ≡ old_holes_after space v c
 given_alone space v c o units replaced none =
     sym (ap₂ (λ (r : Option Object) (n : ℕ). with_space_of space r (holes_without (old_need space n) space.holes)) replaced none
     ∙ ap (λ (n : ℕ). with_space_of space o (holes_without n space.holes)) (none_needed space units))
 
 -- a rename takes nothing
-pub renames_take_none : (kind : Kind) (space : FreeSpace) (ls : List Listing) (from to : Path) → new_length (opened kind space ls) (Command.Rename from to) ≡ 0
+pub renames_take_none : (kind : Kind) (space : OldMapContent) (ls : List Listing) (from to : Path) → new_length (opened kind space ls) (Command.Rename from to) ≡ 0
 renames_take_none kind space ls from to = go (object_at ls from)
   where
     by : (a b : Bool) (n : ℕ) → cond ((a && b) && false) n 0 ≡ 0
@@ -124,7 +124,7 @@ renames_take_none kind space ls from to = go (object_at ls from)
     go None = refl
     go (Some o) = by (not (is_directory_object o)) (not (is_same_path (holder from) (holder to))) o.entry.len
 
-pub renames_copy_none : (kind : Kind) (space : FreeSpace) (ls : List Listing) (from to : Path) (o : Object) → is_copied (opened kind space ls) from to o ≡ false
+pub renames_copy_none : (kind : Kind) (space : OldMapContent) (ls : List Listing) (from to : Path) (o : Object) → is_copied (opened kind space ls) from to o ≡ false
 renames_copy_none kind space ls from to o = by (not (is_directory_object o)) (not (is_same_path (holder from) (holder to)))
   where
     by : (a b : Bool) → ((a && b) && false) ≡ false

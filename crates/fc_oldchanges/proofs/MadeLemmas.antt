@@ -6,7 +6,7 @@ use Rattle.std.proofs.lemmas.Bool.{eqb-true}
 use Rattle.std.proofs.lemmas.Grind.{div_ceil_times}
 use Rattle.fc_names.specs.Names.{Path, is_same_name, is_same_path}
 use Rattle.fc_record.specs.declared.Kind.{Kind}
-use Rattle.fc_oldmap.specs.OldMap.{FreeSpace}
+use Rattle.fc_oldmap.specs.OldMap.{OldMapContent}
 use Rattle.fc_dirs.specs.declared.Entry.{Entry}
 use Rattle.fc_dirs.specs.Entries.{entry_named, has_name}
 use Rattle.fc_dirs.specs.Directory.{entries_of}
@@ -24,7 +24,7 @@ use Rattle.fc_oldchanges.proofs.ChangeLemmas.{opened}
 use Rattle.fc_oldchanges.proofs.SpaceLemmas.{some_units}
 
 -- no entry has the name, if no object is at its path
-pub free_name : (kind : Kind) (image : List ℕ) (space : FreeSpace) (ls : List Listing) (opens : OpensAs image kind (opened kind space ls)) → (l : Listing) → Contains ls l
+pub free_name : (kind : Kind) (image : List ℕ) (space : OldMapContent) (ls : List Listing) (opens : OpensAs image kind (opened kind space ls)) → (l : Listing) → Contains ls l
     → (path : Path) (name : List ℕ) → is_same_path path (l.object.path ++ name ∷ []) ≡ true → object_at ls path ≡ None → has_name (entries_of l.content) name ≡ false
 free_name kind image space ls opens l at path name same none = unless (has_name (entries_of l.content) name) (λ there.
     let d = some_entry (entry_named (entries_of l.content) name) refl there in
@@ -49,7 +49,7 @@ ceil_some bytes size some pos = by (div_ceil bytes size) (div_ceil_times bytes s
     by (suc n) h = omega arith
 
 -- some bytes need some units
-pub need_some : (space : FreeSpace) (n : ℕ) → (space.sector_units ≡ 1) ⊎ (space.sector_units ≡ 4) → 0 < n → (old_need space n == 0) ≡ false
+pub need_some : (space : OldMapContent) (n : ℕ) → (space.sector_units ≡ 1) ⊎ (space.sector_units ≡ 4) → 0 < n → (old_need space n == 0) ≡ false
 need_some space n units some = unless (old_need space n == 0) (λ e.
     let none = eqb-true (old_need space n) 0 e in
     let many = some_units space.sector_units units (div_ceil n (256 * space.sector_units)) (ceil_some n (256 * space.sector_units) some (size_some units)) in

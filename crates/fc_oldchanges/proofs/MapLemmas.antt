@@ -17,7 +17,7 @@ use Rattle.fc_record.specs.Kinds.{IsKind, disc_size, fits_kind, is_old_map, old_
 use Rattle.fc_oldmap.specs.declared.Hole.{Hole}
 use Rattle.fc_oldmap.specs.declared.OldMapFault.{OldMapFault}
 use Rattle.fc_oldmap.specs.declared.OldMapFault.TheVariants.{Check, Bad}
-use Rattle.fc_oldmap.specs.OldMap.{FreeSpace, IsOldMap, free_end, free_space, hole_fault, holes_of, is_free_end, is_hole_right, map_units, old_map, stored_hole, stored_holes, wrong_hole}
+use Rattle.fc_oldmap.specs.OldMap.{OldMapContent, IsOldMap, free_end, free_space, hole_fault, holes_of, is_free_end, is_hole_right, map_units, old_map, stored_hole, stored_holes, wrong_hole}
 use Rattle.fc_oldmap.specs.Holes.{AreHoles, IsHole, hole, hole_end}
 use Rattle.fc_oldmap.specs.Laws.{ReadsBack}
 use Rattle.fc_newmap.specs.Map.{Map}
@@ -34,7 +34,7 @@ and_parts false b e = absurd (cc)
 
 -- ---- what reading 512 bytes answers
 
-pub record IsRead (bytes : List ℕ) (units : ℕ) (space : FreeSpace) : Type 0 where
+pub record IsRead (bytes : List ℕ) (units : ℕ) (space : OldMapContent) : Type 0 where
   pub first : is_half_right (bytes_at bytes 0 256) ≡ true
   pub second : is_half_right (bytes_at bytes 256 256) ≡ true
   pub none : hole_fault bytes units ≡ None
@@ -57,10 +57,10 @@ module _ (bytes : List ℕ) (units : ℕ) where
   unfolding old_map
   all_right first second none = rw (first, second, none) refl
 
-  read_is : (space : FreeSpace) → old_map bytes units ≡ Ok space → IsRead bytes units space
+  read_is : (space : OldMapContent) → old_map bytes units ≡ Ok space → IsRead bytes units space
   read_is space e = go (is_half_right (bytes_at bytes 0 256)) (is_half_right (bytes_at bytes 256 256)) (hole_fault bytes units) refl refl refl
     where
-      ok_same : (x y : FreeSpace) → (let q : Result FreeSpace OldMapFault = Ok x in q) ≡ Ok y → x ≡ y
+      ok_same : (x y : OldMapContent) → (let q : Result OldMapContent OldMapFault = Ok x in q) ≡ Ok y → x ≡ y
       ok_same x y h = cc
 
       go : (first second : Bool) (fault : Option ℕ) → is_half_right (bytes_at bytes 0 256) ≡ first → is_half_right (bytes_at bytes 256 256) ≡ second → hole_fault bytes units ≡ fault
@@ -111,7 +111,7 @@ space_front : (image : List ℕ) (units : ℕ) → is_free_end (free_end image) 
 space_front image units right =
     let ends = end_front image in
     let holes : stored_holes (take 512 image) ≡ stored_holes image = ap (λ n. holes_of (take 512 image) (n / 3)) ends ∙ holes_front image (free_end image / 3) (few (free_end image) right) in
-    ap₂ (λ hs n. let s : FreeSpace = record { holes = hs; disc_units = n; sector_units = units } in s) holes (u24_front image 252 (omega arith))
+    ap₂ (λ hs n. let s : OldMapContent = record { holes = hs; disc_units = n; sector_units = units } in s) holes (u24_front image 252 (omega arith))
 
 abbrev fault_by : Bool → ℕ → ℕ → List Hole → ℕ → Option ℕ
 fault_by right disc units holes last = if right then wrong_hole disc units 0 (map_units units) holes else Some (last / 3)
@@ -125,7 +125,7 @@ fault_front image units = go (is_free_end (free_end image)) refl
         let s = space_front image units right in
         let there : is_free_end (free_end (take 512 image)) ≡ true = ap is_free_end ends ∙ right in
         ap (λ b. fault_by b (u24_at (take 512 image) 252) units (stored_holes (take 512 image)) (free_end (take 512 image))) there
-        ∙ ap (λ (x : FreeSpace). wrong_hole x.disc_units units 0 (map_units units) x.holes) s
+        ∙ ap (λ (x : OldMapContent). wrong_hole x.disc_units units 0 (map_units units) x.holes) s
         ∙ sym (ap (λ b. fault_by b (u24_at image 252) units (stored_holes image) (free_end image)) right)
     go false wrong =
         let ends = end_front image in
@@ -156,7 +156,7 @@ none_wrong d s i floor (h ∷ holes) are = rw (hole_right d s floor h are.0) (no
 -- ---- discs with old maps
 
 -- what is fixed of such a disc, and what its image says
-pub record IsOldDisc (kind : Kind) (image : List ℕ) (space : FreeSpace) : Type 0 where
+pub record IsOldDisc (kind : Kind) (image : List ℕ) (space : OldMapContent) : Type 0 where
   pub units : (space.sector_units ≡ 1) ⊎ (space.sector_units ≡ 4)
   pub root : ℕ
   pub layout : (other : List ℕ) → map_and_root other kind ≡ old_layout other space.sector_units root
@@ -171,13 +171,13 @@ pub record IsOldDisc (kind : Kind) (image : List ℕ) (space : FreeSpace) : Type
 found_ok : (x y : MapAndRoot) → (let q : Result MapAndRoot ImageFault = Ok x in q) ≡ Ok y → x ≡ y
 found_ok x y h = cc
 
-old_same : (x y : FreeSpace) → Layout.Old x ≡ Layout.Old y → x ≡ y
+old_same : (x y : OldMapContent) → Layout.Old x ≡ Layout.Old y → x ≡ y
 old_same x y e = cc
 
-no_new : (m : Map) (space : FreeSpace) → Layout.New m ≡ Layout.Old space → ⊥
+no_new : (m : Map) (space : OldMapContent) → Layout.New m ≡ Layout.Old space → ⊥
 no_new m space e = cc
 
-read_disc : (image : List ℕ) (units root a size : ℕ) (space : FreeSpace) → old_layout image units root ≡ Ok (Layout.Old space, a, size) → (hole_fault image units ≡ None) × (free_space image units ≡ space)
+read_disc : (image : List ℕ) (units root a size : ℕ) (space : OldMapContent) → old_layout image units root ≡ Ok (Layout.Old space, a, size) → (hole_fault image units ≡ None) × (free_space image units ≡ space)
 read_disc image units root a size space e = go (hole_fault image units) refl e
   where
     go : (fault : Option ℕ) → hole_fault image units ≡ fault → holes_or (Layout.Old (free_space image units), root, 0) fault ≡ Ok (Layout.Old space, a, size)
@@ -185,16 +185,16 @@ read_disc image units root a size space e = go (hole_fault image units) refl e
     go None h f = (h, old_same (free_space image units) space (ap (λ (x : MapAndRoot). x.0) (found_ok (Layout.Old (free_space image units), root, 0) (Layout.Old space, a, size) f)))
     go (Some i) h f = absurd (cc)
 
-pub old_disc : (kind : Kind) (image : List ℕ) (space : FreeSpace) (a size : ℕ) → map_and_root image kind ≡ Ok (Layout.Old space, a, size) → fits_kind image kind ≡ true → IsKind kind → IsOldDisc kind image space
+pub old_disc : (kind : Kind) (image : List ℕ) (space : OldMapContent) (a size : ℕ) → map_and_root image kind ≡ Ok (Layout.Old space, a, size) → fits_kind image kind ≡ true → IsKind kind → IsOldDisc kind image space
 old_disc (Boot r) image space a size e fits is =
     let f = found_map image (Boot r) r (Layout.Old space, a, size) refl e in absurd (no_new _ space (ap (λ (x : MapAndRoot). x.0) f.is))
 old_disc (OneZone r) image space a size e fits is =
     let f = found_map image (OneZone r) r (Layout.Old space, a, size) refl e in absurd (no_new _ space (ap (λ (x : MapAndRoot). x.0) f.is))
 old_disc DiscD image space a size e fits is =
     let d = read_disc image 4 4 a size space e in
-    let four : space.sector_units ≡ 4 = ap (λ (s : FreeSpace). s.sector_units) (sym d.1) in
+    let four : space.sector_units ≡ 4 = ap (λ (s : OldMapContent). s.sector_units) (sym d.1) in
     let p = and_parts (is_old_map image) (old_units image == 3200) fits in
-    let disc : space.disc_units ≡ 3200 = ap (λ (s : FreeSpace). s.disc_units) (sym d.1) ∙ eqb-true (old_units image) 3200 p.1 in
+    let disc : space.disc_units ≡ 3200 = ap (λ (s : OldMapContent). s.disc_units) (sym d.1) ∙ eqb-true (old_units image) 3200 p.1 in
     record {
       units = inr four;
       root = 4;
@@ -209,10 +209,10 @@ old_disc DiscD image space a size e fits is =
     }
 old_disc (DiscL n) image space a size e fits is =
     let d = read_disc image 1 2 a size space e in
-    let one : space.sector_units ≡ 1 = ap (λ (s : FreeSpace). s.sector_units) (sym d.1) in
+    let one : space.sector_units ≡ 1 = ap (λ (s : OldMapContent). s.sector_units) (sym d.1) in
     let p = and_parts (is_old_map image && is_in_range 7 2560 n) (old_units image == n) fits in
     let q = and_parts (is_old_map image) (is_in_range 7 2560 n) p.0 in
-    let disc : space.disc_units ≡ n = ap (λ (s : FreeSpace). s.disc_units) (sym d.1) ∙ eqb-true (old_units image) n p.1 in
+    let disc : space.disc_units ≡ n = ap (λ (s : OldMapContent). s.disc_units) (sym d.1) ∙ eqb-true (old_units image) n p.1 in
     record {
       units = inl one;
       root = 2;
@@ -234,7 +234,7 @@ one_front image = take-take 256 512 image (omega arith)
 two_front : (image : List ℕ) → bytes_at (take 512 image) 256 256 ≡ bytes_at image 256 256
 two_front image = ap (take 256) (drop-take 256 256 image) ∙ take-take 256 256 (drop 256 image) (omega arith)
 
-module _ (back : ReadsBack) (kind : Kind) (image image' : List ℕ) (space : FreeSpace) (d : IsOldDisc kind image space) (holes : List Hole) (long : length image' ≡ length image) (map : IsMapAfter space holes image image')
+module _ (back : ReadsBack) (kind : Kind) (image image' : List ℕ) (space : OldMapContent) (d : IsOldDisc kind image space) (holes : List Hole) (long : length image' ≡ length image) (map : IsMapAfter space holes image image')
     (is_map : IsOldMap (holding space holes)) (right : AreHoles space.disc_units space.sector_units (map_units space.sector_units) holes) where
   abbrev u : ℕ
   u = space.sector_units
@@ -264,20 +264,20 @@ module _ (back : ReadsBack) (kind : Kind) (image image' : List ℕ) (space : Fre
     | inr anew ↦ read_is (take 512 image') u (holding space holes)
         (ap (λ (bs : List ℕ). old_map bs u) anew
         ∙ back (holding space holes) (take 512 image) (length-take-le 512 image (leb-true 512 (length image) halves.high))
-        (u24_front image 252 (omega arith) ∙ ap (λ (s : FreeSpace). s.disc_units) d.is) is_map (none_wrong space.disc_units u 0 (map_units u) holes right))
+        (u24_front image 252 (omega arith) ∙ ap (λ (s : OldMapContent). s.disc_units) d.is) is_map (none_wrong space.disc_units u 0 (map_units u) holes right))
   ]
 
   pub fits_now : fits_kind image' kind ≡ true
   fits_now =
       d.fits image'
       (and_from _ _ (and_from _ _ (ap (nat_le 512) long ∙ halves.high) (ap is_half_right (sym (one_front image')) ∙ read_now.first)) (ap is_half_right (sym (two_front image')) ∙ read_now.second))
-      (sym (u24_front image' 252 (omega arith)) ∙ ap (λ (s : FreeSpace). s.disc_units) read_now.is)
+      (sym (u24_front image' 252 (omega arith)) ∙ ap (λ (s : OldMapContent). s.disc_units) read_now.is)
 
   pub found_now : map_and_root image' kind ≡ Ok (Layout.Old (holding space holes), d.root, 0)
   found_now =
       let none : hole_fault image' u ≡ None = sym (fault_front image' u) ∙ read_now.none in
       d.layout image' ∙ ap (λ (o : Option ℕ). holes_or (Layout.Old (free_space image' u), d.root, 0) o) none
-      ∙ ap (λ (s : FreeSpace). let r : Result MapAndRoot ImageFault = Ok (Layout.Old s, d.root, 0) in r) (sym (space_front image' u (right_end image' u none)) ∙ read_now.is)
+      ∙ ap (λ (s : OldMapContent). let r : Result MapAndRoot ImageFault = Ok (Layout.Old s, d.root, 0) in r) (sym (space_front image' u (right_end image' u none)) ∙ read_now.is)
 
 -- ---- a map that isn't written
 
@@ -301,7 +301,7 @@ front_same image image' u (inr four) same =
     subst (λ (n : ℕ). HasSectorsOf (256 * n) (range_with_len 0 (map_units n / n)) image image' → (take 512 image' ≡ take 512 image) × (bytes_at image' 512 (256 * n - 512) ≡ bytes_at image 512 (256 * n - 512)))
     (sym four) (wide image image') same
 
-pub map_kept : (space : FreeSpace) (image image' : List ℕ) → IsOldMap space → MapStays space image image' → IsMapAfter space space.holes image image'
+pub map_kept : (space : OldMapContent) (image image' : List ℕ) → IsOldMap space → MapStays space image image' → IsMapAfter space space.holes image image'
 map_kept space image image' is stays =
     let f = front_same image image' space.sector_units is.units stays in
     record { few = is.few; bytes = inl (refl, f.0); rest = f.1 }

@@ -75,7 +75,7 @@ use Rattle.fc_image.proofs.CommandLemmas.{is_prefix_of, prefix_is}
 use Rattle.std.proofs.lemmas.List.{take-take}
 use Rattle.fc_changes.proofs.RenamedLemmas.{each_apart, folds_append}
 use Rattle.fc_oldmap.specs.Laws.{ReadsBack}
-use Rattle.fc_oldmap.specs.OldMap.{FreeSpace}
+use Rattle.fc_oldmap.specs.OldMap.{OldMapContent}
 use Rattle.fc_image.specs.Layout.{sector_bytes}
 use Rattle.fc_image.specs.TreeEdits.{IsMove}
 use Rattle.fc_image.specs.MapEdits.{OpensEdited}
@@ -104,7 +104,7 @@ holder_not from p no' = unless (is_prefix (folded_path from) (folded_path (holde
     (is_prefix_of (folded_path from) (folded_path p)
     (cut' ∙ ap (take (length (folded_path from))) (holder_folds p) ∙ take-take (length (folded_path from)) n (folded_path p) (omega (arith, low, t, f)))) no')
 
-module _ (back : ReadsBack) (kind : Kind) (image image' : List ℕ) (space : FreeSpace) (ls : List Listing) (from to : Path) (rest : List Listing) (src l : Listing) (src_content l_content : Directory) (i : ℕ) (o : Object)
+module _ (back : ReadsBack) (kind : Kind) (image image' : List ℕ) (space : OldMapContent) (ls : List Listing) (from to : Path) (rest : List Listing) (src l : Listing) (src_content l_content : Directory) (i : ℕ) (o : Object)
     (said_now : Directory) (e : IsMoveChange kind image image' (opened kind space ls) space from to rest src l src_content l_content i o said_now) where
   abbrev c : Command
   c = Command.Rename from to

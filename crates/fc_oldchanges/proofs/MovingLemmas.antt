@@ -10,7 +10,7 @@ use Rattle.fc_record.specs.declared.Kind.{Kind}
 use Rattle.fc_record.specs.Kinds.{disc_size}
 use Rattle.fc_newmap.proofs.PlaceLemmas.{in_either, in_front}
 use Rattle.fc_oldmap.specs.Laws.{ReadsBack}
-use Rattle.fc_oldmap.specs.OldMap.{FreeSpace, map_units}
+use Rattle.fc_oldmap.specs.OldMap.{OldMapContent, map_units}
 use Rattle.fc_model.specs.Tree.{Tree, is_prefix, last_name}
 use Rattle.fc_model.specs.Command.{Command}
 use Rattle.fc_dirs.specs.declared.Entry.{Entry}
@@ -53,7 +53,7 @@ use Rattle.fc_oldchanges.proofs.MapLemmas.{IsOldDisc, fits_now, found_now, map_k
 use Rattle.fc_oldchanges.proofs.PlaceLemmas.{among_flat, in_disc, pair_apart}
 
 -- the image opens with these listings, in some order, and has this tree
-pub record OpensWithTree (kind : Kind) (image : List ℕ) (space : FreeSpace) (listings : List Listing) (t : Tree) : Type 0 where
+pub record OpensWithTree (kind : Kind) (image : List ℕ) (space : OldMapContent) (listings : List Listing) (t : Tree) : Type 0 where
   pub found : List Listing
   pub opens : OpensAs image kind (opened kind space found)
   pub order : IsPermutation listings found
@@ -61,7 +61,7 @@ pub record OpensWithTree (kind : Kind) (image : List ℕ) (space : FreeSpace) (l
 
 -- ---- what lies apart
 
-module _ (kind : Kind) (image : List ℕ) (space : FreeSpace) (ls : List Listing) (opens : OpensAs image kind (opened kind space ls)) where
+module _ (kind : Kind) (image : List ℕ) (space : OldMapContent) (ls : List Listing) (opens : OpensAs image kind (opened kind space ls)) where
   abbrev y : Layout
   y = Layout.Old space
 
@@ -142,7 +142,7 @@ module _ (kind : Kind) (image : List ℕ) (space : FreeSpace) (ls : List Listing
 
 -- ---- the move
 
-module _ (back : ReadsBack) (kind : Kind) (image image' : List ℕ) (space : FreeSpace) (ls : List Listing) (before : IsBefore kind image (opened kind space ls) space) (long : length image' ≡ length image)
+module _ (back : ReadsBack) (kind : Kind) (image image' : List ℕ) (space : OldMapContent) (ls : List Listing) (before : IsBefore kind image (opened kind space ls) space) (long : length image' ≡ length image)
     (map_stays : MapStays space image image') (o : Object) (to : Path) (rest : List Listing) (said : Listing → Directory)
     (rest_in : (k : Listing) → Contains rest k → Contains ls k)
     (tells : (k : Listing) → Contains rest k → (reader_of image' (Layout.Old space) (moved_object o.path to k.object) ≡ Ok (said k)) × (entries_of (said k) ≡ entries_of k.content))

@@ -6,7 +6,7 @@ use Rattle.std.specs.Int.{div_ceil}
 use Rattle.std.proofs.lemmas.Bool.{eqb-true, leb-true}
 use Rattle.std.proofs.lemmas.List.FromFn.{length-range_with_len}
 use Rattle.fc_newmap.proofs.PlaceLemmas.{in_back, in_either, in_front}
-use Rattle.fc_oldmap.specs.OldMap.{FreeSpace}
+use Rattle.fc_oldmap.specs.OldMap.{OldMapContent}
 use Rattle.fc_image.specs.Layout.{Layout, is_among, is_apart, old_sectors, sectors_at}
 use Rattle.fc_image.specs.Walk.{Object}
 use Rattle.fc_image.specs.Edits.{Apart}
@@ -17,7 +17,7 @@ use Rattle.fc_changes.proofs.BasicLemmas.{cases_cons, clash, nothing_in}
 -- ---- an object
 
 -- The sectors are a row of whole sectors on the disc.
-pub record IsRow (space : FreeSpace) (address bytes : ℕ) (sectors : List ℕ) : Type 0 where
+pub record IsRow (space : OldMapContent) (address bytes : ℕ) (sectors : List ℕ) : Type 0 where
   pub begins : address % space.sector_units ≡ 0
   pub row : sectors ≡ range_with_len (address / space.sector_units) (div_ceil bytes (256 * space.sector_units))
   pub long : length sectors ≡ div_ceil bytes (256 * space.sector_units)
@@ -27,7 +27,7 @@ some_list : (x y : List ℕ) → Some x ≡ Some y → x ≡ y
 some_list x y e = cc
 
 -- no bytes have no sectors, and others lie in a row
-pub row_or_none : (space : FreeSpace) (address bytes : ℕ) (sectors : List ℕ) → sectors_at (Layout.Old space) address bytes ≡ Some sectors
+pub row_or_none : (space : OldMapContent) (address bytes : ℕ) (sectors : List ℕ) → sectors_at (Layout.Old space) address bytes ≡ Some sectors
     → ((bytes ≡ 0) × (sectors ≡ [])) ⊎ IsRow space address bytes sectors
 unfolding sectors_at
 row_or_none space address bytes sectors e = by (bytes == 0) refl e
@@ -59,7 +59,7 @@ row_or_none space address bytes sectors e = by (bytes == 0) refl e
     by false t f = inr (in_row (address % u == 0) (nat_le (first + count) (space.disc_units / u)) refl refl f)
 
 -- one of the sectors
-pub in_disc : (space : FreeSpace) (address bytes : ℕ) (sectors : List ℕ) (s : ℕ) → sectors_at (Layout.Old space) address bytes ≡ Some sectors → is_among sectors s ≡ true
+pub in_disc : (space : OldMapContent) (address bytes : ℕ) (sectors : List ℕ) (s : ℕ) → sectors_at (Layout.Old space) address bytes ≡ Some sectors → is_among sectors s ≡ true
     → IsRow space address bytes sectors × (address / space.sector_units ≤ s) × (s < address / space.sector_units + div_ceil bytes (256 * space.sector_units))
 in_disc space address bytes sectors s e h = ⊎_elim
     (λ none. absurd (clash (is_among sectors s) h (ap (λ (xs : List ℕ). is_among xs s) none.1)))

@@ -70,7 +70,7 @@ use Rattle.fc_changes.proofs.MadeLemmas.{turned}
 use Rattle.fc_changes.proofs.ReadsLemmas.{same_name_turned}
 use Rattle.fc_changes.proofs.RewordedLemmas.{Mapped, mapped, ok_same, same_address}
 use Rattle.fc_oldmap.specs.Laws.{ReadsBack}
-use Rattle.fc_oldmap.specs.OldMap.{FreeSpace}
+use Rattle.fc_oldmap.specs.OldMap.{OldMapContent}
 use Rattle.fc_image.specs.Layout.{sector_bytes}
 use Rattle.fc_image.specs.TreeEdits.{IsMove}
 use Rattle.fc_image.specs.MapEdits.{OpensEdited}
@@ -87,7 +87,7 @@ use Rattle.fc_dirs.specs.declared.DirFault.{DirFault}
 use Rattle.fc_image.proofs.CommandLemmas.{both_ways}
 use Rattle.fc_changes.proofs.RenamedLemmas.{same_turned}
 
-module _ (back : ReadsBack) (kind : Kind) (image image' : List ℕ) (space : FreeSpace) (ls : List Listing) (from to : Path) (rest : List Listing) (l : Listing) (content : Directory) (i : ℕ) (o : Object)
+module _ (back : ReadsBack) (kind : Kind) (image image' : List ℕ) (space : OldMapContent) (ls : List Listing) (from to : Path) (rest : List Listing) (l : Listing) (content : Directory) (i : ℕ) (o : Object)
     (said_now : Directory) (e : IsRenameChange kind image image' (opened kind space ls) space from to rest l content i o said_now) where
   abbrev c : Command
   c = Command.Rename from to

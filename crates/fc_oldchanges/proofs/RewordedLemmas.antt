@@ -10,7 +10,7 @@ use Rattle.fc_names.specs.Names.{Path, is_same_path}
 use Rattle.fc_record.specs.declared.Kind.{Kind}
 use Rattle.fc_record.specs.Kinds.{disc_size}
 use Rattle.fc_oldmap.specs.Laws.{ReadsBack}
-use Rattle.fc_oldmap.specs.OldMap.{FreeSpace}
+use Rattle.fc_oldmap.specs.OldMap.{OldMapContent}
 use Rattle.fc_model.specs.Tree.{holder}
 use Rattle.fc_model.specs.Command.{Command}
 use Rattle.fc_dirs.specs.declared.Entry.{Entry}
@@ -68,7 +68,7 @@ pub map_still : (g : Object → Object) (xs : List Object) → ((p : Object) →
 map_still g [] still = refl
 map_still g (x ∷ xs) still = ap₂ (λ (y : Object) (ys : List Object). y ∷ ys) (still x (first_in x xs)) (map_still g xs (λ p at. still p (next_in x p xs at)))
 
-module _ (back : ReadsBack) (kind : Kind) (image image' : List ℕ) (space : FreeSpace) (ls : List Listing) (c : Command) (rest : List Listing) (l : Listing) (content : Directory) (i : ℕ) (o : Object)
+module _ (back : ReadsBack) (kind : Kind) (image image' : List ℕ) (space : OldMapContent) (ls : List Listing) (c : Command) (rest : List Listing) (l : Listing) (content : Directory) (i : ℕ) (o : Object)
     (g : Object → Object) (is : IsRewording o.path g) (e : IsRewordChange kind image image' (opened kind space ls) space c rest l content i o g) where
   abbrev y : Layout
   y = Layout.Old space
@@ -329,7 +329,7 @@ set_is : (path : Path) (load exec access : ℕ) (o : Object)
     → set_object o.path load exec access o ≡ record o { entry = record o.entry { load = load; exec = exec; attrs = o.entry.attrs / 8 * 8 + access } }
 set_is path load exec access o = ap (λ (b : Bool). cond b (record o { entry = record o.entry { load = load; exec = exec; attrs = o.entry.attrs / 8 * 8 + access } }) o) (itself o.path)
 
-set_at : (back : ReadsBack) (kind : Kind) (image image' : List ℕ) (space : FreeSpace) (ls rest : List Listing) (l : Listing) (content : Directory) (i : ℕ) (o : Object) (path : Path) (load exec access : ℕ)
+set_at : (back : ReadsBack) (kind : Kind) (image image' : List ℕ) (space : OldMapContent) (ls rest : List Listing) (l : Listing) (content : Directory) (i : ℕ) (o : Object) (path : Path) (load exec access : ℕ)
     → access < 8 → is_same_path path o.path ≡ true
     → IsRewordChange kind image image' (opened kind space ls) space (Command.Set path load exec access) rest l content i o (set_object o.path load exec access)
     → (rest' : List Listing) × AreListedBy (set_object o.path load exec access) rest rest'
@@ -374,7 +374,7 @@ names_mark path attrs = record {
 mark_is : (attrs : ℕ) (o : Object) → mark_object o.path attrs o ≡ record o { entry = record o.entry { attrs = attrs / 16 * 16 + 8 * (o.entry.attrs / 8 % 2) + attrs % 8 } }
 mark_is attrs o = ap (λ (b : Bool). cond b (record o { entry = record o.entry { attrs = attrs / 16 * 16 + 8 * (o.entry.attrs / 8 % 2) + attrs % 8 } }) o) (itself o.path)
 
-mark_at : (back : ReadsBack) (kind : Kind) (image image' : List ℕ) (space : FreeSpace) (ls rest : List Listing) (l : Listing) (content : Directory) (i : ℕ) (o : Object) (path : Path) (attrs : ℕ)
+mark_at : (back : ReadsBack) (kind : Kind) (image image' : List ℕ) (space : OldMapContent) (ls rest : List Listing) (l : Listing) (content : Directory) (i : ℕ) (o : Object) (path : Path) (attrs : ℕ)
     → is_same_path path o.path ≡ true
     → IsRewordChange kind image image' (opened kind space ls) space (Command.Mark path attrs) rest l content i o (mark_object o.path attrs)
     → (rest' : List Listing) × AreListedBy (mark_object o.path attrs) rest rest'

@@ -9,7 +9,7 @@ use Rattle.std.proofs.lemmas.List.Elements.{All-cons, All-nil}
 use Rattle.fc_record.specs.declared.Kind.{Kind}
 use Rattle.fc_oldmap.specs.declared.Hole.{Hole}
 use Rattle.fc_oldmap.specs.Holes.{AreApart, AreHoles, IsHole, after_give, after_take, first_fit_place, hole_end}
-use Rattle.fc_oldmap.specs.OldMap.{FreeSpace, map_units}
+use Rattle.fc_oldmap.specs.OldMap.{OldMapContent, map_units}
 use Rattle.fc_oldmap.proofs.MapLemmas.{AreHoles-after_give}
 use Rattle.fc_oldmap.proofs.SpaceLemmas.{AreHoles-after_take}
 use Rattle.fc_image.specs.Layout.{Layout, dir_form, hole_sectors, hole_sectors_in, is_among, map_place, sectors_at}
@@ -108,18 +108,18 @@ module _ (u : ℕ) (units : (u ≡ 1) ⊎ (u ≡ 4)) where
 -- ---- objects of a disc
 
 -- Sectors have 256 or 1024 bytes, the holes lie after the map, and the objects lie at their addresses, in no hole and not in the map.
-pub record AreSpaced (kind : Kind) (space : FreeSpace) (objects : List Object) : Type 0 where
+pub record AreSpaced (kind : Kind) (space : OldMapContent) (objects : List Object) : Type 0 where
   pub units : (space.sector_units ≡ 1) ⊎ (space.sector_units ≡ 4)
   pub holes : AreHoles space.disc_units space.sector_units (map_units space.sector_units) space.holes
   pub lies : (p : Object) → Contains objects p → Lies (Layout.Old space) (reserved_in kind (Layout.Old space)) p
 
 -- so do those of an opened disc
-pub spaced : (kind : Kind) (image : List ℕ) (space : FreeSpace) (ls : List Listing) → OpensAs image kind (opened kind space ls) → AreSpaced kind space (objects_of ls)
+pub spaced : (kind : Kind) (image : List ℕ) (space : OldMapContent) (ls : List Listing) → OpensAs image kind (opened kind space ls) → AreSpaced kind space (objects_of ls)
 spaced kind image space ls opens =
     let facts = old_map_law image kind (opened kind space ls) space opens refl in
     record { units = facts.units; holes = facts.holes; lies = object_lies kind image (Layout.Old space) ls opens }
 
-module _ (kind : Kind) (space : FreeSpace) (objects : List Object) (facts : AreSpaced kind space objects) where
+module _ (kind : Kind) (space : OldMapContent) (objects : List Object) (facts : AreSpaced kind space objects) where
   abbrev y : Layout
   y = Layout.Old space
 

@@ -5,7 +5,7 @@ use Rattle.fc_names.specs.Names.{Path, folded_path, is_same_path}
 use Rattle.fc_record.specs.declared.Kind.{Kind}
 use Rattle.fc_oldmap.specs.declared.Hole.{Hole}
 use Rattle.fc_oldmap.specs.Holes.{after_take, first_fit_place}
-use Rattle.fc_oldmap.specs.OldMap.{FreeSpace}
+use Rattle.fc_oldmap.specs.OldMap.{OldMapContent}
 use Rattle.fc_model.specs.Tree.{is_prefix, last_name}
 use Rattle.fc_model.specs.Command.{Command}
 use Rattle.fc_model.specs.Answer.{changed}
@@ -26,7 +26,7 @@ use Rattle.fc_oldchanges.specs.Owed.{IsBefore, IsDirectoryWritten, IsMapAfter, I
 -- ---- what is promised
 
 -- The new image opens with the map `space'` and these listings, in some order, and the command has done what it promises.
-pub record IsChanged (kind : Kind) (image image' : List ℕ) (v : Opened) (space' : FreeSpace) (listings' : List Listing) (c : Command) : Type 0 where
+pub record IsChanged (kind : Kind) (image image' : List ℕ) (v : Opened) (space' : OldMapContent) (listings' : List Listing) (c : Command) : Type 0 where
   pub found : List Listing
   pub order : IsPermutation listings' found
   pub changes : Changes kind (record { image = image; view = v }) (record { image = image'; view = record { kind = kind; layout = Layout.Old space'; listings = found } }) c
@@ -35,7 +35,7 @@ pub record IsChanged (kind : Kind) (image image' : List ℕ) (v : Opened) (space
 -- ---- set, mark
 
 -- Entry i of directory l is that of g's object. The map stays as it is, and no sector of it is written.
-pub record IsRewordChange (kind : Kind) (image image' : List ℕ) (v : Opened) (space : FreeSpace) (c : Command) (rest : List Listing) (l : Listing) (content : Directory)
+pub record IsRewordChange (kind : Kind) (image image' : List ℕ) (v : Opened) (space : OldMapContent) (c : Command) (rest : List Listing) (l : Listing) (content : Directory)
     (i : ℕ) (o : Object) (g : Object → Object) : Type 0 where
   pub before : IsBefore kind image v space
   pub found : IsPermutation v.listings (l ∷ rest)
@@ -49,7 +49,7 @@ pub record IsRewordChange (kind : Kind) (image image' : List ℕ) (v : Opened) (
 -- ---- delete
 
 -- Entry i of directory l is gone, and with it the file or the empty directory o, whose space is in the holes. `stay` are all other objects.
-pub record IsDeleteChange (kind : Kind) (image image' : List ℕ) (v : Opened) (space : FreeSpace) (holes : List Hole) (path : Path) (out rest : List Listing) (l : Listing) (content : Directory)
+pub record IsDeleteChange (kind : Kind) (image image' : List ℕ) (v : Opened) (space : OldMapContent) (holes : List Hole) (path : Path) (out rest : List Listing) (l : Listing) (content : Directory)
     (i : ℕ) (o : Object) (stay : List Object) : Type 0 where
   pub before : IsBefore kind image v space
   pub found : IsPermutation v.listings (out ++ l ∷ rest)
@@ -68,11 +68,11 @@ pub record IsDeleteChange (kind : Kind) (image image' : List ℕ) (v : Opened) (
 -- ---- where a new object lies
 
 -- An object of n bytes, some, lies at the front of the first hole that is long enough.
-abbrev pub IsFirstFitted : FreeSpace → ℕ → Object → Type 0
+abbrev pub IsFirstFitted : OldMapContent → ℕ → Object → Type 0
 IsFirstFitted space n o = (0 < n) × (first_fit_place (old_need space n) space.holes ≡ Some o.entry.address)
 
 -- A file of n bytes lies so, and one of no bytes has address 0.
-abbrev pub IsFileAt : FreeSpace → ℕ → Object → Type 0
+abbrev pub IsFileAt : OldMapContent → ℕ → Object → Type 0
 IsFileAt space n o = IsFirstFitted space n o ⊎ ((n ≡ 0) × (o.entry.address ≡ 0))
 
 -- ---- save, create
@@ -80,7 +80,7 @@ IsFileAt space n o = IsFirstFitted space n o ⊎ ((n ≡ 0) × (o.entry.address 
 -- the objects of the directory with it are `children_with` of fc_changes
 
 -- Directory l has the file o, new or in the place of `old`. `stay` are all objects that were there but `old`.
-pub record IsFileChange (kind : Kind) (image image' : List ℕ) (v : Opened) (space : FreeSpace) (holes : List Hole) (c : Command) (path : Path) (load exec : ℕ) (bytes : List ℕ)
+pub record IsFileChange (kind : Kind) (image image' : List ℕ) (v : Opened) (space : OldMapContent) (holes : List Hole) (c : Command) (path : Path) (load exec : ℕ) (bytes : List ℕ)
     (rest : List Listing) (l : Listing) (content : Directory) (i : ℕ) (old : Option Object) (o : Object) (stay : List Object) : Type 0 where
   pub before : IsBefore kind image v space
   pub command : MakesFile c path load exec bytes
@@ -108,7 +108,7 @@ pub record IsFileChange (kind : Kind) (image image' : List ℕ) (v : Opened) (sp
 -- ---- cdir
 
 -- Directory l has the empty directory that d lists.
-pub record IsDirectoryChange (kind : Kind) (image image' : List ℕ) (v : Opened) (space : FreeSpace) (holes : List Hole) (path : Path)
+pub record IsDirectoryChange (kind : Kind) (image image' : List ℕ) (v : Opened) (space : OldMapContent) (holes : List Hole) (path : Path)
     (rest : List Listing) (l : Listing) (content : Directory) (d : Listing) : Type 0 where
   pub before : IsBefore kind image v space
   pub found : IsPermutation v.listings (l ∷ rest)
@@ -140,7 +140,7 @@ pub record IsDirectoryChange (kind : Kind) (image image' : List ℕ) (v : Opened
 
 -- Entry i of directory l has another name and place, and l holds the object o as before. A directory o is rewritten, and says `now`;
 -- what lies in it is not written. The map stays as it is.
-pub record IsRenameChange (kind : Kind) (image image' : List ℕ) (v : Opened) (space : FreeSpace) (from to : Path) (rest : List Listing) (l : Listing) (content : Directory)
+pub record IsRenameChange (kind : Kind) (image image' : List ℕ) (v : Opened) (space : OldMapContent) (from to : Path) (rest : List Listing) (l : Listing) (content : Directory)
     (i : ℕ) (o : Object) (now : Directory) : Type 0 where
   pub before : IsBefore kind image v space
   pub found : IsPermutation v.listings (l ∷ rest)
@@ -160,7 +160,7 @@ pub record IsRenameChange (kind : Kind) (image image' : List ℕ) (v : Opened) (
 
 -- Entry i of directory k is gone, and directory l has the object o under a new name. A directory o is rewritten, with its new holder
 -- as its parent, and says `now`. No file is copied, and the map stays as it is.
-pub record IsMoveChange (kind : Kind) (image image' : List ℕ) (v : Opened) (space : FreeSpace) (from to : Path) (rest : List Listing) (k l : Listing) (k_content l_content : Directory)
+pub record IsMoveChange (kind : Kind) (image image' : List ℕ) (v : Opened) (space : OldMapContent) (from to : Path) (rest : List Listing) (k l : Listing) (k_content l_content : Directory)
     (i : ℕ) (o : Object) (now : Directory) : Type 0 where
   pub before : IsBefore kind image v space
   pub found : IsPermutation v.listings (k ∷ l ∷ rest)

@@ -3,7 +3,7 @@ use Rattle.std.specs.Prelude.{◌≡◌, ◌<◌, ◌++◌, ℕ, true, List, [],
 use Rattle.fc_names.specs.Names.{Path, is_same_path}
 use Rattle.fc_record.specs.declared.Kind.{Kind}
 use Rattle.fc_oldmap.specs.declared.Hole.{Hole}
-use Rattle.fc_oldmap.specs.OldMap.{FreeSpace}
+use Rattle.fc_oldmap.specs.OldMap.{OldMapContent}
 use Rattle.fc_model.specs.Tree.{last_name}
 use Rattle.fc_model.specs.Command.{Command}
 use Rattle.fc_dirs.specs.Entries.{entry_place}
@@ -22,12 +22,12 @@ use Rattle.fc_oldchanges.specs.Changed.{IsChanged, IsDeleteChange, IsDirectoryCh
 
 -- `set` and `mark`: the other directories are listed as they were, but for the object itself if it is a directory.
 pub record RewordedLaw : Type 0 where
-  pub set : (kind : Kind) (image image' : List ℕ) (v : Opened) (space : FreeSpace) (rest : List Listing) (l : Listing) (content : Directory) (i : ℕ) (o : Object)
+  pub set : (kind : Kind) (image image' : List ℕ) (v : Opened) (space : OldMapContent) (rest : List Listing) (l : Listing) (content : Directory) (i : ℕ) (o : Object)
       (path : Path) (load exec access : ℕ) → access < 8 → is_same_path path o.path ≡ true
       → IsRewordChange kind image image' v space (Command.Set path load exec access) rest l content i o (set_object o.path load exec access)
       → (rest' : List Listing) × AreListedBy (set_object o.path load exec access) rest rest'
       × IsChanged kind image image' v space (says_now l content (slice_set l.children i (set_object o.path load exec access o)) ∷ rest') (Command.Set path load exec access)
-  pub mark : (kind : Kind) (image image' : List ℕ) (v : Opened) (space : FreeSpace) (rest : List Listing) (l : Listing) (content : Directory) (i : ℕ) (o : Object)
+  pub mark : (kind : Kind) (image image' : List ℕ) (v : Opened) (space : OldMapContent) (rest : List Listing) (l : Listing) (content : Directory) (i : ℕ) (o : Object)
       (path : Path) (attrs : ℕ) → is_same_path path o.path ≡ true
       → IsRewordChange kind image image' v space (Command.Mark path attrs) rest l content i o (mark_object o.path attrs)
       → (rest' : List Listing) × AreListedBy (mark_object o.path attrs) rest rest'
@@ -35,26 +35,26 @@ pub record RewordedLaw : Type 0 where
 
 -- `delete` of a file or an empty directory
 abbrev pub DeletedLaw : Type 0
-DeletedLaw = (kind : Kind) (image image' : List ℕ) (v : Opened) (space : FreeSpace) (holes : List Hole) (path : Path) (out rest : List Listing) (l : Listing) (content : Directory)
+DeletedLaw = (kind : Kind) (image image' : List ℕ) (v : Opened) (space : OldMapContent) (holes : List Hole) (path : Path) (out rest : List Listing) (l : Listing) (content : Directory)
     (i : ℕ) (o : Object) (stay : List Object) → IsDeleteChange kind image image' v space holes path out rest l content i o stay
     → IsChanged kind image image' v (holding space holes) (says_now l content (remove l.children i) ∷ rest) (Command.Delete path)
 
 -- `save` and `create` of a new file, or over a file
 abbrev pub FiledLaw : Type 0
-FiledLaw = (kind : Kind) (image image' : List ℕ) (v : Opened) (space : FreeSpace) (holes : List Hole) (c : Command) (path : Path) (load exec : ℕ) (bytes : List ℕ)
+FiledLaw = (kind : Kind) (image image' : List ℕ) (v : Opened) (space : OldMapContent) (holes : List Hole) (c : Command) (path : Path) (load exec : ℕ) (bytes : List ℕ)
     (rest : List Listing) (l : Listing) (content : Directory) (i : ℕ) (old : Option Object) (o : Object) (stay : List Object)
     → IsFileChange kind image image' v space holes c path load exec bytes rest l content i old o stay
     → IsChanged kind image image' v (holding space holes) (says_now l content (children_with old l i o) ∷ rest) c
 
 -- `cdir`
 abbrev pub DirectoryMadeLaw : Type 0
-DirectoryMadeLaw = (kind : Kind) (image image' : List ℕ) (v : Opened) (space : FreeSpace) (holes : List Hole) (path : Path) (rest : List Listing) (l : Listing) (content : Directory) (d : Listing)
+DirectoryMadeLaw = (kind : Kind) (image image' : List ℕ) (v : Opened) (space : OldMapContent) (holes : List Hole) (path : Path) (rest : List Listing) (l : Listing) (content : Directory) (d : Listing)
     → IsDirectoryChange kind image image' v space holes path rest l content d
     → IsChanged kind image image' v (holding space holes) (d ∷ says_now l content (insert l.children (entry_place d.object.entry.name (entries_of l.content)) d.object) ∷ rest) (Command.Cdir path)
 
 -- `rename` within a directory, of a file or of a directory with its contents
 abbrev pub RenamedLaw : Type 0
-RenamedLaw = (kind : Kind) (image image' : List ℕ) (v : Opened) (space : FreeSpace) (from to : Path) (rest : List Listing) (l : Listing) (content : Directory) (i : ℕ) (o : Object)
+RenamedLaw = (kind : Kind) (image image' : List ℕ) (v : Opened) (space : OldMapContent) (from to : Path) (rest : List Listing) (l : Listing) (content : Directory) (i : ℕ) (o : Object)
     (now : Directory) → IsRenameChange kind image image' v space from to rest l content i o now
     → (rest' : List Listing) × AreListedBy (moved_object o.path (l.object.path ++ last_name to ∷ [])) rest rest'
     × IsChanged kind image image' v space (says_now l content
@@ -62,7 +62,7 @@ RenamedLaw = (kind : Kind) (image image' : List ℕ) (v : Opened) (space : FreeS
 
 -- `rename` to another directory, of a file or of a directory with its contents
 abbrev pub MovedLaw : Type 0
-MovedLaw = (kind : Kind) (image image' : List ℕ) (v : Opened) (space : FreeSpace) (from to : Path) (rest : List Listing) (k l : Listing) (k_content l_content : Directory) (i : ℕ) (o : Object)
+MovedLaw = (kind : Kind) (image image' : List ℕ) (v : Opened) (space : OldMapContent) (from to : Path) (rest : List Listing) (k l : Listing) (k_content l_content : Directory) (i : ℕ) (o : Object)
     (now : Directory) → IsMoveChange kind image image' v space from to rest k l k_content l_content i o now
     → (rest' : List Listing) × AreListedBy (moved_object o.path (l.object.path ++ last_name to ∷ [])) rest rest'
     × IsChanged kind image image' v space (says_now k k_content (remove k.children i)
@@ -72,9 +72,9 @@ MovedLaw = (kind : Kind) (image image' : List ℕ) (v : Opened) (space : FreeSpa
 
 -- Nothing, one write after another, one sector, and one sector of the map (`Disk::write`).
 pub record WritesLaw : Type 0 where
-  pub none : (space : FreeSpace) (image : List ℕ) → IsWritten space [] image image
-  pub then : (space : FreeSpace) (xs ys first second third : List ℕ) → IsWritten space xs first second → IsWritten space ys second third → IsWritten space (xs ++ ys) first third
-  pub sector : (space : FreeSpace) (n : ℕ) (bytes image : List ℕ) → length bytes ≡ sector_bytes (Layout.Old space) → n * sector_bytes (Layout.Old space) + sector_bytes (Layout.Old space) ≤ length image
+  pub none : (space : OldMapContent) (image : List ℕ) → IsWritten space [] image image
+  pub then : (space : OldMapContent) (xs ys first second third : List ℕ) → IsWritten space xs first second → IsWritten space ys second third → IsWritten space (xs ++ ys) first third
+  pub sector : (space : OldMapContent) (n : ℕ) (bytes image : List ℕ) → length bytes ≡ sector_bytes (Layout.Old space) → n * sector_bytes (Layout.Old space) + sector_bytes (Layout.Old space) ≤ length image
       → IsWritten space (n ∷ []) image (with_sector (sector_bytes (Layout.Old space)) image n bytes)
-  pub map_sector : (space : FreeSpace) (n : ℕ) (bytes image : List ℕ) → is_among (map_place (Layout.Old space)) n ≡ true → length bytes ≡ sector_bytes (Layout.Old space)
+  pub map_sector : (space : OldMapContent) (n : ℕ) (bytes image : List ℕ) → is_among (map_place (Layout.Old space)) n ≡ true → length bytes ≡ sector_bytes (Layout.Old space)
       → n * sector_bytes (Layout.Old space) + sector_bytes (Layout.Old space) ≤ length image → IsWritten space [] image (with_sector (sector_bytes (Layout.Old space)) image n bytes)

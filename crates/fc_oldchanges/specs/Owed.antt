@@ -6,7 +6,7 @@ use Rattle.fc_device.specs.Sectors.{sector_at}
 use Rattle.fc_record.specs.declared.Kind.{Kind}
 use Rattle.fc_oldmap.specs.declared.Hole.{Hole}
 use Rattle.fc_oldmap.specs.Holes.{hole_limit}
-use Rattle.fc_oldmap.specs.OldMap.{FreeSpace, IsOldMap}
+use Rattle.fc_oldmap.specs.OldMap.{OldMapContent, IsOldMap}
 use Rattle.fc_model.specs.Command.{Command}
 use Rattle.fc_dirs.specs.Directory.{Directory}
 use Rattle.fc_image.specs.Layout.{Layout, is_among, map_place, sector_bytes}
@@ -19,11 +19,11 @@ use Rattle.fc_image.specs.effects.Steady.{AreWritten, IsRewritten, OldMapOutside
 -- ---- the disc before
 
 -- the map of the same disc with other holes
-abbrev pub holding : FreeSpace → List Hole → FreeSpace
+abbrev pub holding : OldMapContent → List Hole → OldMapContent
 holding space holes = record space { holes = holes }
 
 -- The image opens with the old map `space`, which the volume has in memory.
-pub record IsBefore (kind : Kind) (image : List ℕ) (v : Opened) (space : FreeSpace) : Type 0 where
+pub record IsBefore (kind : Kind) (image : List ℕ) (v : Opened) (space : OldMapContent) : Type 0 where
   -- `Volume::mount`
   pub opens : OpensAs image kind v
   pub layout : v.layout ≡ Layout.Old space
@@ -33,13 +33,13 @@ pub record IsBefore (kind : Kind) (image : List ℕ) (v : Opened) (space : FreeS
 -- ---- what is written
 
 -- The image keeps its length, and no sectors but these and those of the map are written (`Disk::write` of each sector).
-pub record IsWritten (space : FreeSpace) (sectors image image' : List ℕ) : Type 0 where
+pub record IsWritten (space : OldMapContent) (sectors image image' : List ℕ) : Type 0 where
   pub length_stays : length image' ≡ length image
   pub writes : (s : ℕ) → is_among sectors s ≡ false → is_among (map_place (Layout.Old space)) s ≡ false
       → sector_at (sector_bytes (Layout.Old space)) image' s ≡ sector_at (sector_bytes (Layout.Old space)) image s
 
 -- Directory l says `content`, and has all its bytes as writing makes them.
-pub record IsDirectoryWritten (image' : List ℕ) (v : Opened) (space : FreeSpace) (c : Command) (l : Listing) (content : Directory) : Type 0 where
+pub record IsDirectoryWritten (image' : List ℕ) (v : Opened) (space : OldMapContent) (c : Command) (l : Listing) (content : Directory) : Type 0 where
   -- The edits of directories are equations: `insert`, `remove`, `change`, `set_parent`, `touch`.
   pub says : IsRewritten c l.object.path (holder_address v.listings l.object.path) l.content content
   -- `SmallDir::write`: `written`
@@ -48,11 +48,11 @@ pub record IsDirectoryWritten (image' : List ℕ) (v : Opened) (space : FreeSpac
 -- ---- the map afterwards
 
 -- no sector of the map is written
-abbrev pub MapStays : FreeSpace → List ℕ → List ℕ → Type 0
+abbrev pub MapStays : OldMapContent → List ℕ → List ℕ → Type 0
 MapStays space image image' = HasSectorsOf (sector_bytes (Layout.Old space)) (map_place (Layout.Old space)) image image'
 
 -- The map has these holes, and says so in its 512 bytes; what else is in its sectors stays.
-pub record IsMapAfter (space : FreeSpace) (holes : List Hole) (image image' : List ℕ) : Type 0 where
+pub record IsMapAfter (space : OldMapContent) (holes : List Hole) (image image' : List ℕ) : Type 0 where
   -- `OldMap::give` would answer MapFull
   pub few : length holes ≤ hole_limit
   -- `OldMap::write`, or no write at all if the holes are as before

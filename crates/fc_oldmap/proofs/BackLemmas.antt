@@ -10,7 +10,7 @@ use Rattle.fc_bytes.specs.Words.{u24_at}
 use Rattle.fc_checks.specs.Checks.{carry_sum, is_half_right, old_check}
 use Rattle.fc_oldmap.specs.declared.Hole.{Hole}
 use Rattle.fc_oldmap.specs.Holes.{hole, hole_end}
-use Rattle.fc_oldmap.specs.OldMap.{FreeSpace, checked_half, triples, with_holes, stored_hole, holes_of, is_free_end, map_units, old_map, wrong_hole}
+use Rattle.fc_oldmap.specs.OldMap.{OldMapContent, checked_half, triples, with_holes, stored_hole, holes_of, is_free_end, map_units, old_map, wrong_hole}
 use Rattle.fc_oldmap.specs.Laws.{ReadsBack}
 use Rattle.fc_oldmap.proofs.SpaceLemmas.{end-inside}
 use Rattle.fc_oldmap.proofs.ReadLemmas.{holes_of-none, holes_of-more, old_map-right, read_as}
@@ -187,7 +187,7 @@ reads_back space bytes size disc is_map none =
     let w = written holes bytes size is_map.few in
     let same = size_is holes bytes size is_map.few ∙ disc in
     let all = holes_are holes bytes size is_map.few fits in
-    let made : List Hole → ℕ → FreeSpace = λ l d. record { holes = l; disc_units = d; sector_units = units } in
+    let made : List Hole → ℕ → OldMapContent = λ l d. record { holes = l; disc_units = d; sector_units = units } in
     let right : wrong_hole (u24_at w 252) units 0 (map_units units) (holes_of w (slice_index w 510 / 3)) ≡ None =
     ap (λ d. wrong_hole d units 0 (map_units units) (holes_of w (slice_index w 510 / 3))) same ∙ ap (wrong_hole space.disc_units units 0 (map_units units)) all ∙ none in
     ap (λ l. old_map l units) (with_holes-written holes bytes size is_map.few)

@@ -7,7 +7,7 @@ use Rattle.fc_oldmap.specs.declared.TakeError.{TakeError}
 use Rattle.fc_oldmap.specs.declared.TakeError.TheVariants.{DiscFull, CompactionRequired}
 use Rattle.fc_oldmap.specs.declared.Hole.{Hole}
 use Rattle.fc_oldmap.specs.Holes.{hole, hole_end, hole_sum, hole_limit, rest_after_take, after_take, first_fit_place, take_answer, after_give, shifted, tidied, IsHole, AreHoles, AreApart, AreOfSomeDisc}
-use Rattle.fc_oldmap.specs.OldMap.{FreeSpace, IsOldMap}
+use Rattle.fc_oldmap.specs.OldMap.{OldMapContent, IsOldMap}
 use Rattle.fc_oldmap.proofs.FitLemmas.{after_give-front, raised}
 use Rattle.fc_oldmap.proofs.SpaceLemmas.{mod-sum, AreHoles-joined_with, length-joined_with}
 
@@ -91,11 +91,11 @@ length-after_take n (x ∷ holes) = by (nat_le n x.len) (x.len == n) (length-aft
     by true false le = omega arith
     by false b le = omega arith
 
-pub of_some_disc : (space : FreeSpace) → IsOldMap space → AreOfSomeDisc space.holes
+pub of_some_disc : (space : OldMapContent) → IsOldMap space → AreOfSomeDisc space.holes
 of_some_disc space map = record { disc_units = space.disc_units; sector_units = space.sector_units; small = map.disc; are_holes = map.holes }
 
 -- another list of holes of the same disc
-pub with_list : (space : FreeSpace) (holes : List Hole) → IsOldMap space → length holes ≤ hole_limit
+pub with_list : (space : OldMapContent) (holes : List Hole) → IsOldMap space → length holes ≤ hole_limit
     → AreHoles space.disc_units space.sector_units 0 holes → IsOldMap (record space { holes = holes })
 with_list space holes map few right = record { few = few; disc = map.disc; units = map.units; holes = right }
 
@@ -107,7 +107,7 @@ not_more n h = by (nat_lt hole_limit n) refl
     by false e = omega (arith, leb-false (suc hole_limit) n e)
 
 -- what giving leaves, whatever it answers
-pub given_keeps : {A E : Type 0} (r : Result A E) (space : FreeSpace) (new given : List Hole) → (IsErr r ↔ (hole_limit < length given))
+pub given_keeps : {A E : Type 0} (r : Result A E) (space : OldMapContent) (new given : List Hole) → (IsErr r ↔ (hole_limit < length given))
     → OnOk r (new ≡ given) → OnErr r (new ≡ space.holes) → IsOldMap space → AreHoles space.disc_units space.sector_units 0 given
     → IsOldMap (record space { holes = new })
 given_keeps (Ok x) space new given full ok err map right =

@@ -8,7 +8,7 @@ use Rattle.std.proofs.lemmas.Option.{none-some}
 use Rattle.std.proofs.lemmas.List.FromFn.{map-range_with_len_more, length-map-range_with_len}
 use Rattle.fc_oldmap.specs.declared.Hole.{Hole}
 use Rattle.fc_oldmap.specs.Holes.{hole_end, IsHole, AreHoles}
-use Rattle.fc_oldmap.specs.OldMap.{FreeSpace, stored_hole, holes_of, is_free_end, is_hole_right, map_units, old_map, wrong_hole}
+use Rattle.fc_oldmap.specs.OldMap.{OldMapContent, stored_hole, holes_of, is_free_end, is_hole_right, map_units, old_map, wrong_hole}
 use Rattle.fc_oldmap.specs.declared.OldMapFault.{OldMapFault}
 use Rattle.fc_oldmap.specs.declared.OldMapFault.TheVariants.{Check, Bad}
 use Rattle.fc_bytes.specs.Words.{u24_at}
@@ -109,10 +109,10 @@ module _ (bytes : List ℕ) (units : ℕ) where
     old_map-right right none = rw (first, second, right, none) refl
 
 -- the two answers as functions
-abbrev pub bad : ℕ → Result FreeSpace OldMapFault
+abbrev pub bad : ℕ → Result OldMapContent OldMapFault
 bad index = Err (Bad index)
 
-abbrev pub read_as : FreeSpace → Result FreeSpace OldMapFault
+abbrev pub read_as : OldMapContent → Result OldMapContent OldMapFault
 read_as space = Ok space
 
 pub few_holes : (n : ℕ) → is_free_end n ≡ true → n / 3 ≤ 82

@@ -21,9 +21,9 @@ pub struct OldMap {
 }
 
 impl Model for OldMap {
-    ghost use Rattle.fc_oldmap.specs.OldMap.{FreeSpace, IsOldMap};
+    ghost use Rattle.fc_oldmap.specs.OldMap.{OldMapContent, IsOldMap};
 
-    ghost Value = { FreeSpace };
+    ghost Value = { OldMapContent };
 
     ghost view = { λ m. record { holes = m.holes.items; disc_units = m.disc_units; sector_units = m.sector_units } };
 

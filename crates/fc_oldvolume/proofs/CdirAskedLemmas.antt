@@ -13,7 +13,7 @@ use Rattle.fc_record.specs.declared.Kind.{Kind}
 use Rattle.fc_names.specs.declared.name.NameForm.TheVariants as forms
 use Rattle.fc_names.specs.declared.refusal.Refusal.{Refusal}
 use Rattle.fc_names.specs.Names.{Path, is_same_path, is_writable, is_writable_byte}
-use Rattle.fc_oldmap.specs.OldMap.{FreeSpace, IsOldMap}
+use Rattle.fc_oldmap.specs.OldMap.{OldMapContent, IsOldMap}
 use Rattle.fc_alloc.specs.declared.owner.Owner.{Owner}
 use Rattle.fc_alloc.specs.Owners.{has_node, is_node}
 use Rattle.fc_model.specs.Command.{Command}
@@ -64,14 +64,14 @@ use Rattle.fc_oldvolume.proofs.TargetLemmas.{addressed}
 -- ---- the directory that gets an entry
 
 -- an address of three bytes fits a small directory
-pub fits_small : (space : FreeSpace) (content : Directory) (len address : ℕ) → HasForm (dir_form (Layout.Old space)) len content → address < 2 ^ 24 → CanAddress content address
+pub fits_small : (space : OldMapContent) (content : Directory) (len address : ℕ) → HasForm (dir_form (Layout.Old space)) len content → address < 2 ^ 24 → CanAddress content address
 fits_small space content len address has low = by (space.sector_units == 4) content has
   where
     by : (b : Bool) (c : Directory) → HasForm (cond b forms.Ten forms.Seven) len c → CanAddress c address
     by b (Directory.Small dir) h = low
     by b (Directory.Big dir) h = tt
 
-pub fits_name : (space : FreeSpace) (content : Directory) (len : ℕ) (name : List ℕ) → HasForm (dir_form (Layout.Old space)) len content → is_writable (dir_form (Layout.Old space)) name ≡ true → CanName content name
+pub fits_name : (space : OldMapContent) (content : Directory) (len : ℕ) (name : List ℕ) → HasForm (dir_form (Layout.Old space)) len content → is_writable (dir_form (Layout.Old space)) name ≡ true → CanName content name
 fits_name space content len name has good = by (space.sector_units == 4) content has good
   where
     by : (b : Bool) (c : Directory) → HasForm (cond b forms.Ten forms.Seven) len c → is_writable (cond b forms.Ten forms.Seven) name ≡ true → CanName c name
@@ -81,7 +81,7 @@ fits_name space content len name has good = by (space.sector_units == 4) content
     by false (Directory.Big dir) h g = absurd h
 
 -- A name that can be written is short.
-short_name : (space : FreeSpace) (name : List ℕ) → is_writable (dir_form (Layout.Old space)) name ≡ true → length name ≤ 10
+short_name : (space : OldMapContent) (name : List ℕ) → is_writable (dir_form (Layout.Old space)) name ≡ true → length name ≤ 10
 short_name space name good = by (space.sector_units == 4) good
   where
     first : (a b : Bool) → (a && b) ≡ true → a ≡ true
@@ -97,21 +97,21 @@ short_name space name good = by (space.sector_units == 4) good
     by false g = leb-true (length name) 10 (second (nat_le 1 (length name)) (nat_le (length name) 10) (first (nat_le 1 (length name) && nat_le (length name) 10) (list_all (is_writable_byte forms.Seven) name) g))
 
 -- a new directory takes any address of three bytes as its parent, and any short name
-new_parent : (space : FreeSpace) (parent : ℕ) (name : List ℕ) → parent < 2 ^ 24 → CanAddress (new_directory (dir_form (Layout.Old space)) parent name) parent
+new_parent : (space : OldMapContent) (parent : ℕ) (name : List ℕ) → parent < 2 ^ 24 → CanAddress (new_directory (dir_form (Layout.Old space)) parent name) parent
 new_parent space parent name low = by (space.sector_units == 4)
   where
     by : (b : Bool) → CanAddress (new_directory (cond b forms.Ten forms.Seven) parent name) parent
     by true = low
     by false = low
 
-new_called : (space : FreeSpace) (parent : ℕ) (name : List ℕ) → length name ≤ 10 → CanBeCalled (new_directory (dir_form (Layout.Old space)) parent name) name
+new_called : (space : OldMapContent) (parent : ℕ) (name : List ℕ) → length name ≤ 10 → CanBeCalled (new_directory (dir_form (Layout.Old space)) parent name) name
 new_called space parent name low = by (space.sector_units == 4)
   where
     by : (b : Bool) → CanBeCalled (new_directory (cond b forms.Ten forms.Seven) parent name) name
     by true = low
     by false = low
 
-module _ (space : FreeSpace) (nodes : Nodes) (listings : List Listing) (sound : AreSound (Layout.Old space) listings) (held : HoldObjects nodes listings) (path : Path) (dir : ℕ) (spot : IsVacant nodes listings path dir)
+module _ (space : OldMapContent) (nodes : Nodes) (listings : List Listing) (sound : AreSound (Layout.Old space) listings) (held : HoldObjects nodes listings) (path : Path) (dir : ℕ) (spot : IsVacant nodes listings path dir)
     (is : IsOldMap space) (form : HasForm (dir_form (Layout.Old space)) spot.listing.object.entry.len spot.listing.content) (good : is_writable (dir_form (Layout.Old space)) (last_name path) ≡ true) where
   abbrev l : Listing
   l = spot.listing
@@ -213,7 +213,7 @@ abbrev pub IsVacantIn : Volume → Path → ℕ → Type 0
 IsVacantIn v path dir = (layout : Layout) (listings : List Listing) → AreSound layout listings → HoldObjects (nodes_of v.tree) listings → IsVacant (nodes_of v.tree) listings path dir
 
 -- `w` is the same volume as `v`, by its parts.
-module _ (laws : MakingLaws) (w v : Volume) (same : w ≡ v) (space : FreeSpace) (layout : layout_of v.space ≡ Layout.Old space) (maps : HasMap w) (behind : LieBehind space) (path : Path) (dir : ℕ)
+module _ (laws : MakingLaws) (w v : Volume) (same : w ≡ v) (space : OldMapContent) (layout : layout_of v.space ≡ Layout.Old space) (maps : HasMap w) (behind : LieBehind space) (path : Path) (dir : ℕ)
     (vacant : IsVacantIn w path dir) (agree : (kind : Kind) × Agree kind (parts_of v)) where
   abbrev is_map : IsOldMap space
   is_map = maps space (ap (λ (x : Volume). layout_of x.space) same ∙ layout)

@@ -10,7 +10,7 @@ use Rattle.fc_names.specs.declared.name.NameForm.{NameForm}
 use Rattle.fc_names.specs.declared.name.NameForm.TheVariants as forms
 use Rattle.fc_record.specs.declared.Kind.{Kind}
 use Rattle.fc_oldmap.specs.Holes.{after_take, first_fit_place}
-use Rattle.fc_oldmap.specs.OldMap.{FreeSpace, IsOldMap}
+use Rattle.fc_oldmap.specs.OldMap.{OldMapContent, IsOldMap}
 use Rattle.fc_alloc.specs.declared.owner.Owner.{Owner}
 use Rattle.fc_model.specs.Command.{Command}
 use Rattle.fc_model.specs.Tree.{holder, last_name}
@@ -86,7 +86,7 @@ at_path path dir name some above same =
 -- ---- directories
 
 -- a directory that gets an entry keeps its form
-pub entered_form : (space : FreeSpace) (len parent : ℕ) (e : Entry) (old new : Directory) → HasEntered parent e old new → HasForm (dir_form (Layout.Old space)) len old
+pub entered_form : (space : OldMapContent) (len parent : ℕ) (e : Entry) (old new : Directory) → HasEntered parent e old new → HasForm (dir_form (Layout.Old space)) len old
     → HasForm (dir_form (Layout.Old space)) len new
 entered_form space len parent e old new is has = subst (HasForm (dir_form (Layout.Old space)) len) (sym is.is) (by (space.sector_units == 4) old has)
   where
@@ -102,7 +102,7 @@ no_entries forms.Ten parent name = refl
 no_entries forms.Long parent name = refl
 
 -- the bytes of a new directory, by its entry
-size_by_entry : (space : FreeSpace) (e : Entry) → is_directory e.attrs ≡ true → object_size (dir_form (Layout.Old space)) e ≡ new_dir_size (dir_form (Layout.Old space))
+size_by_entry : (space : OldMapContent) (e : Entry) → is_directory e.attrs ≡ true → object_size (dir_form (Layout.Old space)) e ≡ new_dir_size (dir_form (Layout.Old space))
 size_by_entry space e is = by (space.sector_units == 4)
   where
     by : (b : Bool) → object_size (cond b forms.Ten forms.Seven) e ≡ new_dir_size (cond b forms.Ten forms.Seven)
@@ -110,26 +110,26 @@ size_by_entry space e is = by (space.sector_units == 4)
     by false = ap (λ (d : Bool). cond d 1280 e.len) is
 
 -- the sectors of some bytes
-long_row : (space : FreeSpace) (address n : ℕ) (sectors : List ℕ) → 0 < n → sectors_at (Layout.Old space) address n ≡ Some sectors → length sectors ≡ div_ceil n (256 * space.sector_units)
+long_row : (space : OldMapContent) (address n : ℕ) (sectors : List ℕ) → 0 < n → sectors_at (Layout.Old space) address n ≡ Some sectors → length sectors ≡ div_ceil n (256 * space.sector_units)
 long_row space address n sectors some at = elim (row_or_none space address n sectors at) [
   | inl none ↦ absurd (let zero = none.0 in omega (arith, zero, some))
   | inr row ↦ row.long
 ]
 
-some_row : (space : FreeSpace) (n : ℕ) → IsOldMap space → 0 < n → 0 < div_ceil n (256 * space.sector_units)
+some_row : (space : OldMapContent) (n : ℕ) → IsOldMap space → 0 < n → 0 < div_ceil n (256 * space.sector_units)
 some_row space n is some = ceil_some n (256 * space.sector_units) some (by is.units)
   where
     by : (space.sector_units ≡ 1) ⊎ (space.sector_units ≡ 4) → 0 < 256 * space.sector_units
     by (inl one) = omega (arith, one)
     by (inr four) = omega (arith, four)
 
-first_fitted : (space : FreeSpace) (n address : ℕ) → 0 < n → IsAddressFor space n address → first_fit_place (old_need space n) space.holes ≡ Some address
+first_fitted : (space : OldMapContent) (n address : ℕ) → 0 < n → IsAddressFor space n address → first_fit_place (old_need space n) space.holes ≡ Some address
 first_fitted space n address some (inl fits) = fits.1
 first_fitted space n address some (inr none) = absurd (let zero = none.0 in omega (arith, zero, some))
 
 -- ---- what is ready
 
-pub record IsReady (space : FreeSpace) (nodes : Nodes) (path : Path) (dir number : ℕ) (r : Making) : Type 0 where
+pub record IsReady (space : OldMapContent) (nodes : Nodes) (path : Path) (dir number : ℕ) (r : Making) : Type 0 where
   pub is_map : IsOldMap space
   pub behind : LieBehind space
   pub vacant : (layout : Layout) (listings : List Listing) → AreSound layout listings → HoldObjects nodes listings → IsVacant nodes listings path dir
@@ -138,7 +138,7 @@ pub record IsReady (space : FreeSpace) (nodes : Nodes) (path : Path) (dir number
 
 -- ---- the edit
 
-module _ (laws : MakingLaws) (space : FreeSpace) (nodes : Nodes) (path : Path) (dir number : ℕ) (r : Making) (is : IsReady space nodes path dir number r) where
+module _ (laws : MakingLaws) (space : OldMapContent) (nodes : Nodes) (path : Path) (dir number : ℕ) (r : Making) (is : IsReady space nodes path dir number r) where
   abbrev pub content : Directory
   content = directory_in r.directory.draft
 
@@ -151,7 +151,7 @@ module _ (laws : MakingLaws) (space : FreeSpace) (nodes : Nodes) (path : Path) (
   abbrev pub new_sectors : List ℕ
   new_sectors = sectors_in r.taken.place.items
 
-  abbrev pub space' : FreeSpace
+  abbrev pub space' : OldMapContent
   space' = map_after space r.taken.map
 
   -- the bytes of the new directory
@@ -343,11 +343,11 @@ module _ (laws : MakingLaws) (space : FreeSpace) (nodes : Nodes) (path : Path) (
         (laws.say.new (Layout.Old space) (o a.listings agreed_sound a.walked.held) is.ready.node.entry.address (last_name path) len_is (subst IsSayable is.ready.new_says is.ready.new_sayable)))
         (record {
           nodes_follow = nodes_follow a.listings agreed_sound a.walked.held;
-          owners_follow = subst (λ (s : FreeSpace). OwnersFollow (owners ++ owner ∷ []) nodes' (Layout.Old s) (listings' a.listings agreed_sound a.walked.held)) space_is
+          owners_follow = subst (λ (s : OldMapContent). OwnersFollow (owners ++ owner ∷ []) nodes' (Layout.Old s) (listings' a.listings agreed_sound a.walked.held)) space_is
               (owners_follow a.listings agreed_sound a.walked.held owners a.owned);
         })
         len_is lies (some, fits) holes_are in
-        subst (λ (s : FreeSpace). Agree kind (record { layout = Layout.Old s; nodes = nodes'; owners = owners ++ owner ∷ [] }) × LieBehind s) (sym space_is) both
+        subst (λ (s : OldMapContent). Agree kind (record { layout = Layout.Old s; nodes = nodes'; owners = owners ++ owner ∷ [] }) × LieBehind s) (sym space_is) both
 
     -- the bytes of the directory that holds it are as many as its entry asks for
     pub long : length r.directory.bytes.items ≡ object_size (dir_form (Layout.Old space)) is.ready.node.entry
@@ -422,12 +422,12 @@ module _ (laws : MakingLaws) (space : FreeSpace) (nodes : Nodes) (path : Path) (
       pub takes_over : (owners : List Owner) → AreOwners owners nodes (Layout.Old space) (objects_of view.listings)
           → TakesOver kind was image view (Command.Cdir path) space' nodes' (owners ++ owner ∷ [])
       takes_over owners owned =
-          subst (λ (s : FreeSpace). TakesOver kind was image view (Command.Cdir path) s nodes' (owners ++ owner ∷ [])) (sym space_is)
+          subst (λ (s : OldMapContent). TakesOver kind was image view (Command.Cdir path) s nodes' (owners ++ owner ∷ [])) (sym space_is)
           (laws.steps.made kind was w.stored w.taken image view space space'.holes path (rest view.listings view_sound hold) k content (j view.listings view_sound hold) (d view.listings view_sound hold)
           nodes nodes' (listings' view.listings view_sound hold) (owners ++ owner ∷ []) dir number before steps (edit view.listings view_sound hold)
           (record {
             nodes_follow = nodes_follow view.listings view_sound hold;
-            owners_follow = subst (λ (s : FreeSpace). OwnersFollow (owners ++ owner ∷ []) nodes' (Layout.Old s) (listings' view.listings view_sound hold)) space_is (owners_follow view.listings view_sound hold owners owned);
+            owners_follow = subst (λ (s : OldMapContent). OwnersFollow (owners ++ owner ∷ []) nodes' (Layout.Old s) (listings' view.listings view_sound hold)) space_is (owners_follow view.listings view_sound hold owners owned);
           }))
 
     -- which sectors may be written

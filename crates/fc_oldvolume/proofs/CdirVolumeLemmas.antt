@@ -5,7 +5,7 @@ use Rattle.fc_device.specs.declared.disk.Disk.{Ghosts}
 use Rattle.fc_device.specs.Calls.{SameForm, StopsAndExitsLeave}
 use Rattle.fc_record.specs.declared.Kind.{Kind}
 use Rattle.fc_names.specs.Names.{Path}
-use Rattle.fc_oldmap.specs.OldMap.{FreeSpace}
+use Rattle.fc_oldmap.specs.OldMap.{OldMapContent}
 use Rattle.fc_alloc.specs.declared.owner.Owner.{Owner}
 use Rattle.fc_model.specs.Command.{Command}
 use Rattle.fc_image.specs.Layout.{Layout, disc_sectors, sector_bytes}
@@ -38,7 +38,7 @@ pub same_nodes : (t : Numbers) (room : ℕ) → nodes_of (record t { room = room
 unfolding nodes_of
 same_nodes t room = refl
 
-module _ {D : Type 0} (d : Ghosts D) (laws : MakingLaws) (space : FreeSpace) (v : Volume) (old : D) (path : Path) (dir : ℕ) (r : Making)
+module _ {D : Type 0} (d : Ghosts D) (laws : MakingLaws) (space : OldMapContent) (v : Volume) (old : D) (path : Path) (dir : ℕ) (r : Making)
     (layout : layout_of v.space ≡ Layout.Old space) (is : IsReady space (nodes_of v.tree) path dir (next_number v.tree) r) (stands : StandsFor d v old) where
   abbrev sectors : List ℕ
   sectors = sectors_in r.directory.place.items
@@ -55,7 +55,7 @@ module _ {D : Type 0} (d : Ghosts D) (laws : MakingLaws) (space : FreeSpace) (v 
   abbrev agreed : Agree stands.agree.0 parts
   agreed = subst (Agree stands.agree.0) (λ i. record { layout = layout i; nodes = nodes_of v.tree; owners = v.owners }) stands.agree.1
 
-  abbrev space' : FreeSpace
+  abbrev space' : OldMapContent
   space' = map_after space r.taken.map
 
   abbrev owner : Owner
@@ -110,10 +110,10 @@ module _ {D : Type 0} (d : Ghosts D) (laws : MakingLaws) (space : FreeSpace) (v 
     both = made.agrees laws space (nodes_of v.tree) path dir number r is stands.agree.0 v.owners agreed
 
     same_size : sector_bytes (layout_of v'.space) ≡ sector_bytes (layout_of v.space)
-    same_size = ap sector_bytes layout' ∙ ap (λ (s : FreeSpace). sector_bytes (Layout.Old s)) space_is ∙ ap sector_bytes (sym layout)
+    same_size = ap sector_bytes layout' ∙ ap (λ (s : OldMapContent). sector_bytes (Layout.Old s)) space_is ∙ ap sector_bytes (sym layout)
 
     same_disc : disc_sectors (layout_of v'.space) ≡ disc_sectors (layout_of v.space)
-    same_disc = ap disc_sectors layout' ∙ ap (λ (s : FreeSpace). disc_sectors (Layout.Old s)) space_is ∙ ap disc_sectors (sym layout)
+    same_disc = ap disc_sectors layout' ∙ ap (λ (s : OldMapContent). disc_sectors (Layout.Old s)) space_is ∙ ap disc_sectors (sym layout)
 
     pub stands_now : SameForm d old new → StandsFor d v' new
     stands_now form = record {

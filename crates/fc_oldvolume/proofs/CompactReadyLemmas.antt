@@ -16,7 +16,7 @@ use Rattle.fc_image.specs.Walk.{Listing}
 use Rattle.fc_laws.specs.nodes.Edits.{Nodes}
 use Rattle.fc_oldlaws.specs.agree.Laws.{AgreeOn, parts_with}
 use Rattle.fc_oldlaws.proofs.lemmas.agree.BeforeLemmas.{sound}
-use Rattle.fc_oldmap.specs.OldMap.{FreeSpace, IsOldMap}
+use Rattle.fc_oldmap.specs.OldMap.{OldMapContent, IsOldMap}
 use Rattle.fc_oldlaws.specs.moves.Laws.{ReadyLaw}
 use Rattle.fc_oldlaws.specs.moves.Nodes.{AreReady, sliding_below}
 use Rattle.fc_oldlaws.proofs.lemmas.moves.FormLemmas.{not_long}
@@ -53,7 +53,7 @@ never_big (bodies.Big dir) never = never dir refl
 
 -- ---- parts that agree
 
-module _ (kind : Kind) (space : FreeSpace) (nodes : Nodes) (owners : List Owner) (agree : Agree kind (parts_with space nodes owners)) (is_map : IsOldMap space) (behind : LieBehind space) where
+module _ (kind : Kind) (space : OldMapContent) (nodes : Nodes) (owners : List Owner) (agree : Agree kind (parts_with space nodes owners)) (is_map : IsOldMap space) (behind : LieBehind space) where
   agree_on : AgreeOn kind space nodes owners agree.root agree.listings
   agree_on = record { is_map = is_map; holes = behind; root_is = agree.root_is; walked = agree.walked; owned = agree.owned }
 

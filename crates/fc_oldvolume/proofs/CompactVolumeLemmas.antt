@@ -21,7 +21,7 @@ use Rattle.fc_laws.specs.nodes.Edits.{Nodes}
 use Rattle.fc_oldlaws.specs.agree.Laws.{AgreeOn, parts_with}
 use Rattle.fc_oldlaws.proofs.lemmas.agree.BeforeLemmas.{sound}
 use Rattle.fc_oldchanges.specs.Owed.{IsWritten, holding}
-use Rattle.fc_oldmap.specs.OldMap.{FreeSpace, IsOldMap}
+use Rattle.fc_oldmap.specs.OldMap.{OldMapContent, IsOldMap}
 use Rattle.fc_oldlaws.specs.moves.After.{IsSlide, Slide, space_after}
 use Rattle.fc_oldlaws.specs.moves.Nodes.{AreMoved, AreReady, AreRemade, remade}
 use Rattle.fc_oldlaws.specs.moves.Steps.{opened_after}
@@ -51,10 +51,10 @@ use Rattle.fc_oldvolume.proofs.RoomLemmas.{is_room, only_room}
 use Rattle.fc_oldvolume.proofs.SetVolumeLemmas.{HasMap, lie_behind}
 
 -- the map that was squashed is of the same disc
-pub squashed_map : (space space' : FreeSpace) (was now : List Owned) → KeepsBodies space space' was now → space' ≡ holding space space'.holes
+pub squashed_map : (space space' : OldMapContent) (was now : List Owned) → KeepsBodies space space' was now → space' ≡ holding space space'.holes
 squashed_map space space' was now kept = λ i. record { holes = space'.holes; disc_units = kept.disc.0 i; sector_units = kept.disc.1 i }
 
-module _ (laws : MoveLaws) (kind : Kind) (space space' : FreeSpace) (nodes nodes' : Nodes) (owners : List Owner) (was now : List Owned) (is_map : IsOldMap space) (behind : LieBehind space)
+module _ (laws : MoveLaws) (kind : Kind) (space space' : OldMapContent) (nodes nodes' : Nodes) (owners : List Owner) (was now : List Owned) (is_map : IsOldMap space) (behind : LieBehind space)
     (agree : Agree kind (parts_with space nodes owners)) (ready : AreReady space nodes was) (kept : KeepsBodies space space' was now) (squashed : Squashed space space' was now) where
   abbrev s : Slide
   s = slide_by space space' was now
@@ -71,8 +71,8 @@ module _ (laws : MoveLaws) (kind : Kind) (space space' : FreeSpace) (nodes nodes
     holes = behind;
     owned = laws.sliding space nodes listings was is_map.units are held ready.sliding;
     bodies = ready.bodies;
-    squashed = subst (λ (m : FreeSpace). Squashed space m was now) space_is squashed;
-    kept = subst (λ (m : FreeSpace). KeepsBodies space m was now) space_is kept;
+    squashed = subst (λ (m : OldMapContent). Squashed space m was now) space_is squashed;
+    kept = subst (λ (m : OldMapContent). KeepsBodies space m was now) space_is kept;
   }
 
   pub behind_now : LieBehind space'
@@ -81,10 +81,10 @@ module _ (laws : MoveLaws) (kind : Kind) (space space' : FreeSpace) (nodes nodes
 
   pub agree_now : (owners' : List Owner) → AreMoved s nodes nodes' → AreRemade space' nodes' owners owners' → Agree kind (parts_with space' nodes' owners')
   agree_now owners' moved made =
-      subst (λ (m : FreeSpace). Agree kind (parts_with m nodes' owners')) (sym space_is)
+      subst (λ (m : OldMapContent). Agree kind (parts_with m nodes' owners')) (sym space_is)
       (laws.agreed kind s nodes nodes' owners owners' agree.root agree.listings agree_on
       (slides agree.listings (sound kind space nodes owners agree.root agree.listings agree_on) agree.walked.held) moved
-      (subst (λ (m : FreeSpace). AreRemade m nodes' owners owners') space_is made))
+      (subst (λ (m : OldMapContent). AreRemade m nodes' owners owners') space_is made))
 
   -- whatever the owners are
   pub placed_now : AreMoved s nodes nodes' → AreDirectoriesPlaced space' nodes'
@@ -99,21 +99,21 @@ module _ (laws : MoveLaws) (kind : Kind) (space space' : FreeSpace) (nodes nodes
         → Compacts k (record { image = image; view = view }) (record { image = image'; view = opened_after s view }) × ArePartsOf (parts_with space' nodes' owners') (opened_after s view)
     over k view image slid mid image' opens parts bytes dirs map =
         let are : AreSound (Layout.Old space) view.listings = subst (λ (l : Layout). AreSound l view.listings) (sym parts.layout) (sound_law image k view opens) in
-        let map_now : IsMapWritten (space_after s) mid image' = subst (λ (m : FreeSpace). IsMapWritten m mid image') space_is map in
+        let map_now : IsMapWritten (space_after s) mid image' = subst (λ (m : OldMapContent). IsMapWritten m mid image') space_is map in
         let both = laws.over k image slid mid image' view s nodes nodes' owners owners' (record {
           before = record { opens = opens; layout = sym parts.layout; is_map = is_map };
           slide = slides view.listings are parts.nodes;
           bytes = bytes;
           directories = laws.rewritten s nodes nodes' view.listings changed bound slid mid are parts.nodes moved past marked
-              (subst (λ (m : FreeSpace). AreDirectoriesWritten m nodes' changed bound slid mid) space_is dirs);
+              (subst (λ (m : OldMapContent). AreDirectoriesWritten m nodes' changed bound slid mid) space_is dirs);
           map_only = record { length_stays = map_now.written.length_stays; writes = map_now.written.writes };
           map = record { few = kept.map.few; bytes = inr map_now.front; rest = map_now.rest };
-        }) parts moved (subst (λ (m : FreeSpace). AreRemade m nodes' owners owners') space_is made) in
-        (both.0, subst (λ (m : FreeSpace). ArePartsOf (parts_with m nodes' owners') (opened_after s view)) (sym space_is) both.1)
+        }) parts moved (subst (λ (m : OldMapContent). AreRemade m nodes' owners owners') space_is made) in
+        (both.0, subst (λ (m : OldMapContent). ArePartsOf (parts_with m nodes' owners') (opened_after s view)) (sym space_is) both.1)
 
 -- ---- the volume
 
-module _ {D : Type 0} (d : Ghosts D) (laws : MoveLaws) (v v' : Volume) (old new : D) (space space' : FreeSpace) (was : List Owned) (moves : Moves) (changed : ℕ → Bool) (bound : ℕ)
+module _ {D : Type 0} (d : Ghosts D) (laws : MoveLaws) (v v' : Volume) (old new : D) (space space' : OldMapContent) (was : List Owned) (moves : Moves) (changed : ℕ → Bool) (bound : ℕ)
     (layout : layout_of v.space ≡ Layout.Old space) (layout' : layout_of v'.space ≡ Layout.Old space') (is_map : IsOldMap space) (behind : LieBehind space) (stands : StandsFor d v old)
     (ready : AreReady space (nodes_of v.tree) was) (past : (n : ℕ) → bound ≤ n → get (nodes_of v.tree) n ≡ None) (mem : HasSlidInMemory space space' was moves (nodes_of v.tree) (nodes_of v'.tree) changed)
     (written : HasSlidOnDisk d old new space space' moves (nodes_of v'.tree) changed bound) (told : TellsAsBefore d old new) (made : AreRemade space' (nodes_of v'.tree) v.owners v'.owners) where
@@ -151,9 +151,9 @@ module _ {D : Type 0} (d : Ghosts D) (laws : MoveLaws) (v v' : Volume) (old new 
   stands_now copies form =
       let is = squashed_map space space' was moves.after.items mem.kept in
       record {
-        size = form.size_stays ∙ stands.size ∙ ap sector_bytes layout ∙ sym (ap (λ (m : FreeSpace). sector_bytes (Layout.Old m)) is) ∙ ap sector_bytes (sym layout');
+        size = form.size_stays ∙ stands.size ∙ ap sector_bytes layout ∙ sym (ap (λ (m : OldMapContent). sector_bytes (Layout.Old m)) is) ∙ ap sector_bytes (sym layout');
         room = subst (λ (n : ℕ). disc_sectors (layout_of v'.space) ≤ n) (sym form.sectors_stay)
-            (subst (λ (k : ℕ). k ≤ d.sectors old) (sym (ap disc_sectors layout' ∙ ap (λ (m : FreeSpace). disc_sectors (Layout.Old m)) is ∙ ap disc_sectors (sym layout))) stands.room);
+            (subst (λ (k : ℕ). k ≤ d.sectors old) (sym (ap disc_sectors layout' ∙ ap (λ (m : OldMapContent). disc_sectors (Layout.Old m)) is ∙ ap disc_sectors (sym layout))) stands.room);
         map_room = subst (λ (n : ℕ). HoldsMap (layout_of v'.space) n) (sym form.sectors_stay)
             (subst (λ (l : Layout). HoldsMap l (d.sectors old)) (sym layout') (
               (subst (λ (l : Layout). HoldsMap l (d.sectors old)) layout stands.map_room).0,
@@ -179,14 +179,14 @@ module _ {D : Type 0} (d : Ghosts D) (laws : MoveLaws) (v v' : Volume) (old new 
 
 -- ---- the command
 
-pub map_is : (w v : Volume) → w ≡ v → IsOldLayout (parts_of v).layout → (m : FreeSpace) → ((space : FreeSpace) → layout_of w.space ≡ Layout.Old space → m ≡ space) → layout_of w.space ≡ Layout.Old m
+pub map_is : (w v : Volume) → w ≡ v → IsOldLayout (parts_of v).layout → (m : OldMapContent) → ((space : OldMapContent) → layout_of w.space ≡ Layout.Old space → m ≡ space) → layout_of w.space ≡ Layout.Old m
 map_is w v same old_map m made =
     let map = old_layout (parts_of v).layout old_map in
     let here = ap (λ (x : Volume). layout_of x.space) same ∙ map.1 in
-    here ∙ ap (λ (x : FreeSpace). Layout.Old x) (sym (made map.0 here))
+    here ∙ ap (λ (x : OldMapContent). Layout.Old x) (sym (made map.0 here))
 
 -- `w` is the same volume as `v`, by its parts.
-module _ {D : Type 0} (d : Ghosts D) (laws : MoveLaws) (w v : Volume) (same : w ≡ v) (old : D) (stands : StandsFor d v old) (space : FreeSpace) (layout : layout_of w.space ≡ Layout.Old space)
+module _ {D : Type 0} (d : Ghosts D) (laws : MoveLaws) (w v : Volume) (same : w ≡ v) (old : D) (stands : StandsFor d v old) (space : OldMapContent) (layout : layout_of w.space ≡ Layout.Old space)
     (maps : HasMap w) (ready : Ready) (prepared : IsReadyToCompact (layout_of w.space) (nodes_of w.tree) (bound_of w.tree) ready)
     (past : (n : ℕ) → bound_of w.tree ≤ n → get (nodes_of w.tree) n ≡ None) where
   here : StandsFor d w old
@@ -204,7 +204,7 @@ module _ {D : Type 0} (d : Ghosts D) (laws : MoveLaws) (w v : Volume) (same : w 
   pub no_big : (n : ℕ) (node : Node) → get (nodes_of w.tree) n ≡ Some node → IsNotBig node.body
   no_big = all_small here.agree.0 space (nodes_of w.tree) w.owners agreed_here (maps space layout) behind
 
-  pub placed : (space' : FreeSpace) (now : List Owned) (nodes : Nodes) → KeepsBodies space space' ready.moves.before.items now → Squashed space space' ready.moves.before.items now
+  pub placed : (space' : OldMapContent) (now : List Owned) (nodes : Nodes) → KeepsBodies space space' ready.moves.before.items now → Squashed space space' ready.moves.before.items now
       → AreMoved (slide_by space space' ready.moves.before.items now) (nodes_of w.tree) nodes → AreDirectoriesPlaced space' nodes
   placed space' now nodes kept squashed moved =
       placed_now laws here.agree.0 space space' (nodes_of w.tree) nodes w.owners ready.moves.before.items now (maps space layout) behind agreed_here are_ready kept squashed moved
@@ -219,7 +219,7 @@ module _ {D : Type 0} (d : Ghosts D) (laws : MoveLaws) (w v : Volume) (same : w 
       (λ space' now kept squashed. slides laws here.agree.0 space space' (nodes_of w.tree) (nodes_of w.tree) w.owners was now (maps space layout) behind agreed_here are_ready kept squashed view.listings are held)
       (λ space' now kept. squashed_map space space' was now kept)
 
-  one_map : {m n : FreeSpace} → Layout.Old m ≡ Layout.Old n → m ≡ n
+  one_map : {m n : OldMapContent} → Layout.Old m ≡ Layout.Old n → m ≡ n
   one_map e = cc
 
   one_list : {x y : List ℕ} → Some x ≡ Some y → x ≡ y
@@ -240,11 +240,11 @@ module _ {D : Type 0} (d : Ghosts D) (laws : MoveLaws) (w v : Volume) (same : w 
             (subst (λ (l : Layout). walk (reader_of image view.layout) l (reserved_in kind l) walk_of.address walk_of.size ≡ Ok view.listings) layout_is walk_of.walked)
             (subst (λ (l : Layout). AreSound l view.listings) layout_is (sound_law image kind view opens))
             (subst (λ (x : Volume). HoldObjects (nodes_of x.tree) view.listings) (sym same) parts.nodes)) image told in
-            subst (λ (m : FreeSpace). WritesOnlyRoom view m image first.0) (one_map (sym layout_is ∙ at))
+            subst (λ (m : OldMapContent). WritesOnlyRoom view m image first.0) (one_map (sym layout_is ∙ at))
             (only_room view space image first.0 (subst (IsWritten space (room_of view space) image) (one_list (sym second.1 ∙ first.1)) second.2))),
       )
 
-  module _ (v' : Volume) (new : D) (space' : FreeSpace) (layout' : layout_of v'.space ≡ Layout.Old space') (tree : Numbers) (tree_is : v'.tree ≡ tree) (moves : Moves) (changed : ℕ → Bool)
+  module _ (v' : Volume) (new : D) (space' : OldMapContent) (layout' : layout_of v'.space ≡ Layout.Old space') (tree : Numbers) (tree_is : v'.tree ≡ tree) (moves : Moves) (changed : ℕ → Bool)
       (mem : HasSlidInMemory space space' ready.moves.before.items moves (nodes_of w.tree) (nodes_of tree) changed)
       (written : HasSlidOnDisk d old new space space' moves (nodes_of tree) changed (bound_of w.tree)) (told : TellsAsBefore d old new) (made : AreRemade space' (nodes_of tree) w.owners v'.owners) where
     mem_now : HasSlidInMemory space space' ready.moves.before.items moves (nodes_of w.tree) (nodes_of v'.tree) changed

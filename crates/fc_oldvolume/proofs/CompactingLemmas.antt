@@ -8,7 +8,7 @@ use Rattle.std.specs.List.Sorted.{IsPartitionPoint}
 use Rattle.std.proofs.lemmas.Bool.{cases_lt, ltb-false, ltb-true}
 use Rattle.std.proofs.lemmas.List.{append-nil}
 use Rattle.std.proofs.lemmas.List.Concat.{flat_map-append}
-use Rattle.fc_oldmap.specs.OldMap.{FreeSpace}
+use Rattle.fc_oldmap.specs.OldMap.{OldMapContent}
 use Rattle.fc_names.specs.declared.name.NameForm.{NameForm}
 use Rattle.fc_names.specs.declared.name.NameForm.TheVariants.{Long, Seven, Ten}
 use Rattle.fc_dirs.specs.declared.Entry.{Entry}
@@ -33,7 +33,7 @@ flat_more {X} f n =
     range-more a zero = ap (λ b. b ∷ []) (let e : a ≡ a + 0 = omega arith in e)
     range-more a (suc k) = ap (range_with_len a) (let z : suc k + 1 ≡ suc (k + 1) = omega arith in z) ∙ ap (λ xs. a ∷ xs) (range-more (a + 1) k ∙ ap (λ b. range_with_len (a + 1) k ++ b ∷ []) (let e : (a + 1) + k ≡ a + suc k = omega arith in e))
 
-pub one_more : (space : FreeSpace) (nodes : Nodes) (n : ℕ) → sliding_below space nodes n ++ sliding_at space n (get nodes n) ≡ sliding_below space nodes (n + 1)
+pub one_more : (space : OldMapContent) (nodes : Nodes) (n : ℕ) → sliding_below space nodes n ++ sliding_at space n (get nodes n) ≡ sliding_below space nodes (n + 1)
 one_more space nodes n = flat_more (λ k. sliding_at space k (get nodes k)) n
 
 -- ---- addresses
@@ -124,7 +124,7 @@ module _ (was now : List Owned) (k address : ℕ) (few : k ≤ length was) (cut 
 
 -- ---- units
 
-pub few_units : (form : NameForm) (space : FreeSpace) (e : Entry) → (space.sector_units ≡ 1) ⊎ (space.sector_units ≡ 4) → e.len < 2 ^ 32 → old_need space (object_size form e) < 2 ^ 32
+pub few_units : (form : NameForm) (space : OldMapContent) (e : Entry) → (space.sector_units ≡ 1) ⊎ (space.sector_units ≡ 4) → e.len < 2 ^ 32 → old_need space (object_size form e) < 2 ^ 32
 few_units form space e units low = by (is_directory e.attrs) form
   where
     need : (n : ℕ) → n < 2 ^ 32 → old_need space n < 2 ^ 32

@@ -12,7 +12,7 @@ use Rattle.fc_alloc.specs.Owners.{has_node}
 use Rattle.fc_names.specs.Names.{Path, is_same_path}
 use Rattle.fc_record.specs.declared.Kind.{Kind}
 use Rattle.fc_oldmap.specs.Holes.{hole_limit}
-use Rattle.fc_oldmap.specs.OldMap.{FreeSpace, IsOldMap}
+use Rattle.fc_oldmap.specs.OldMap.{OldMapContent, IsOldMap}
 use Rattle.fc_model.specs.Command.{Command}
 use Rattle.fc_dirs.specs.declared.Entry.{Entry}
 use Rattle.fc_dirs.specs.Directory.{Directory, entries_of}
@@ -61,21 +61,21 @@ use Rattle.fc_oldvolume.proofs.RewriteLemmas as rewrite
 -- ---- the map
 
 -- the holes after the object has gone
-holes_now : (laws : OldLaws) (space : FreeSpace) (o : Object) (map : Option FreeSpace) → IsOldMap space → IsAt (Layout.Old space) o → GivesBack space o.entry (Ok map)
+holes_now : (laws : OldLaws) (space : OldMapContent) (o : Object) (map : Option OldMapContent) → IsOldMap space → IsAt (Layout.Old space) o → GivesBack space o.entry (Ok map)
     → (map_after space map).holes ≡ with_space_of space (Some o) space.holes
 holes_now laws space o None is at none = sym (with_none laws.spaces space o is at none)
-holes_now laws space o (Some now) is at gives = ap (λ (m : FreeSpace). m.holes) gives.1 ∙ sym (with_some laws.spaces space o is at gives.0)
+holes_now laws space o (Some now) is at gives = ap (λ (m : OldMapContent). m.holes) gives.1 ∙ sym (with_some laws.spaces space o is at gives.0)
 
-pub after_is : (space : FreeSpace) (o : Object) (map : Option FreeSpace) → GivesBack space o.entry (Ok map) → map_after space map ≡ holding space (map_after space map).holes
+pub after_is : (space : OldMapContent) (o : Object) (map : Option OldMapContent) → GivesBack space o.entry (Ok map) → map_after space map ≡ holding space (map_after space map).holes
 after_is space o None none = refl
-after_is space o (Some now) gives = gives.1 ∙ ap (λ (m : FreeSpace). holding space m.holes) (sym gives.1)
+after_is space o (Some now) gives = gives.1 ∙ ap (λ (m : OldMapContent). holding space m.holes) (sym gives.1)
 
-few_now : (space : FreeSpace) (o : Object) (map : Option FreeSpace) → IsOldMap space → GivesBack space o.entry (Ok map) → length (map_after space map).holes ≤ hole_limit
+few_now : (space : OldMapContent) (o : Object) (map : Option OldMapContent) → IsOldMap space → GivesBack space o.entry (Ok map) → length (map_after space map).holes ≤ hole_limit
 few_now space o None is none = is.few
 few_now space o (Some now) is gives = gives.2
 
 -- the step that writes the map
-map_step : (space : FreeSpace) (o : Object) (map : Option FreeSpace) (mid image : List ℕ) → IsOldMap space → GivesBack space o.entry (Ok map) → IsMapDone map mid image
+map_step : (space : OldMapContent) (o : Object) (map : Option OldMapContent) (mid image : List ℕ) → IsOldMap space → GivesBack space o.entry (Ok map) → IsMapDone map mid image
     → IsMapStep space (map_after space map).holes mid image
 map_step space o None mid image is none done = record {
   written = record { length_stays = ap length done; writes = λ s apart out. ap (λ (x : List ℕ). sector_at (sector_bytes (Layout.Old space)) x s) done };
@@ -86,14 +86,14 @@ map_step space o None mid image is none done = record {
   };
 }
 map_step space o (Some now) mid image is gives done =
-    subst (λ (m : FreeSpace). IsMapWritten m mid image → IsMapStep space m.holes mid image) (sym gives.1)
-    (λ w. record { written = record { length_stays = w.written.length_stays; writes = w.written.writes }; map = record { few = subst (λ (m : FreeSpace). length m.holes ≤ hole_limit) gives.1 gives.2; bytes = inr w.front; rest = w.rest } })
+    subst (λ (m : OldMapContent). IsMapWritten m mid image → IsMapStep space m.holes mid image) (sym gives.1)
+    (λ w. record { written = record { length_stays = w.written.length_stays; writes = w.written.writes }; map = record { few = subst (λ (m : OldMapContent). length m.holes ≤ hole_limit) gives.1 gives.2; bytes = inr w.front; rest = w.rest } })
     done
 
 -- ---- the edit
 
 -- What is known before anything is written.
-pub record IsGoing (space : FreeSpace) (nodes : Nodes) (path : Path) (t : Target) (r : Removal) : Type 0 where
+pub record IsGoing (space : OldMapContent) (nodes : Nodes) (path : Path) (t : Target) (r : Removal) : Type 0 where
   pub is_map : IsOldMap space
   pub behind : LieBehind space
   pub targets : MayGoIn nodes path t
@@ -104,7 +104,7 @@ pub record OwnersGo (owners owners' : List Owner) (n : ℕ) : Type 0 where
   pub there : (w : Owner) → Contains owners w → w.node ≡ n → IsPermutation owners (w ∷ owners')
   pub absent : has_node owners n ≡ false → owners' ≡ owners
 
-module _ (laws : OldLaws) (space : FreeSpace) (nodes : Nodes) (path : Path) (t : Target) (r : Removal) (is : IsGoing space nodes path t r) where
+module _ (laws : OldLaws) (space : OldMapContent) (nodes : Nodes) (path : Path) (t : Target) (r : Removal) (is : IsGoing space nodes path t r) where
   abbrev pub content : Directory
   content = directory_in r.directory.draft
 
@@ -114,7 +114,7 @@ module _ (laws : OldLaws) (space : FreeSpace) (nodes : Nodes) (path : Path) (t :
   abbrev pub sectors : List ℕ
   sectors = sectors_in r.directory.place.items
 
-  abbrev pub space' : FreeSpace
+  abbrev pub space' : OldMapContent
   space' = map_after space r.map
 
   module _ (listings : List Listing) (sound : AreSound (Layout.Old space) listings) (held : HoldObjects nodes listings) where
@@ -235,10 +235,10 @@ module _ (laws : OldLaws) (space : FreeSpace) (nodes : Nodes) (path : Path) (t :
         })
         (record {
           nodes_follow = nodes_follow a.listings agreed_sound a.walked.held;
-          owners_follow = subst (λ (s : FreeSpace). OwnersFollow owners' nodes' (Layout.Old s) (listings' a.listings agreed_sound a.walked.held)) same (owners_follow a.listings agreed_sound a.walked.held owners owners' a.owned go);
+          owners_follow = subst (λ (s : OldMapContent). OwnersFollow owners' nodes' (Layout.Old s) (listings' a.listings agreed_sound a.walked.held)) same (owners_follow a.listings agreed_sound a.walked.held owners owners' a.owned go);
         })
         (holes_are a.listings agreed_sound a.walked.held) in
-        subst (λ (s : FreeSpace). Agree kind (record { layout = Layout.Old s; nodes = nodes'; owners = owners' }) × LieBehind s) (sym same) both
+        subst (λ (s : OldMapContent). Agree kind (record { layout = Layout.Old s; nodes = nodes'; owners = owners' }) × LieBehind s) (sym same) both
 
     -- the bytes are as many as the directory's entry asks for
     pub long : length r.directory.bytes.items ≡ object_size (dir_form (Layout.Old space)) is.ready.directory.node.entry
@@ -279,7 +279,7 @@ module _ (laws : OldLaws) (space : FreeSpace) (nodes : Nodes) (path : Path) (t :
           bytes_are = is.ready.directory.prepared.bytes;
           stored = written.directory;
         } in
-        subst (λ (x : FreeSpace). TakesOver kind was image view (Command.Delete path) x nodes' owners') (sym same)
+        subst (λ (x : OldMapContent). TakesOver kind was image view (Command.Delete path) x nodes' owners') (sym same)
         (laws.steps.deleted kind was written.mid image view space space'.holes path c.0 c.1 d content t.at (o view.listings view_sound hold) s.0 nodes nodes' (listings' view.listings view_sound hold)
         owners' t.holder t.node before
         (record {
@@ -296,7 +296,7 @@ module _ (laws : OldLaws) (space : FreeSpace) (nodes : Nodes) (path : Path) (t :
         (edit view.listings view_sound hold)
         (record {
           nodes_follow = nodes_follow view.listings view_sound hold;
-          owners_follow = subst (λ (x : FreeSpace). OwnersFollow owners' nodes' (Layout.Old x) (listings' view.listings view_sound hold)) same (owners_follow view.listings view_sound hold owners owners' owned go);
+          owners_follow = subst (λ (x : OldMapContent). OwnersFollow owners' nodes' (Layout.Old x) (listings' view.listings view_sound hold)) same (owners_follow view.listings view_sound hold owners owners' owned go);
         }))
 
     -- the directory lies apart from the map
@@ -304,7 +304,7 @@ module _ (laws : OldLaws) (space : FreeSpace) (nodes : Nodes) (path : Path) (t :
     off_map = subst (λ (xs : List ℕ). is_apart xs (map_place (Layout.Old space)) ≡ true) (sym (sectors_are view.listings view_sound hold))
         (laws.objects.no_map kind was view space d.object before (among view.listings view_sound hold))
 
-    none_given : (map : Option FreeSpace) (e : Entry) → GivesBack space e (Ok map) → units_of space e ≡ 0 → map ≡ None
+    none_given : (map : Option OldMapContent) (e : Entry) → GivesBack space e (Ok map) → units_of space e ≡ 0 → map ≡ None
     none_given None e g z = refl
     none_given (Some now) e g z = let some = g.0 in absurd (omega (arith, some, z))
 

@@ -7,7 +7,7 @@ use Rattle.fc_device.specs.declared.disk.Disk.{Ghosts}
 use Rattle.fc_device.specs.Calls.{SameForm, StopsAndExitsLeave}
 use Rattle.fc_record.specs.declared.Kind.{Kind}
 use Rattle.fc_names.specs.Names.{Path}
-use Rattle.fc_oldmap.specs.OldMap.{FreeSpace, IsOldMap}
+use Rattle.fc_oldmap.specs.OldMap.{OldMapContent, IsOldMap}
 use Rattle.fc_model.specs.Command.{Command}
 use Rattle.fc_image.specs.Layout.{Layout, dir_form, disc_sectors, sector_bytes}
 use Rattle.fc_image.specs.Opening.{Opened}
@@ -50,7 +50,7 @@ use Rattle.fc_oldvolume.proofs.SetVolumeLemmas.{HasMap}
 
 -- ---- what is asked before the writing
 
-module _ (w v : Volume) (same : w ≡ v) (space : FreeSpace) (layout : layout_of v.space ≡ Layout.Old space) (maps : HasMap w) (behind : LieBehind space) (path : Path) (t : Target) (may : MayGoIn (nodes_of w.tree) path t)
+module _ (w v : Volume) (same : w ≡ v) (space : OldMapContent) (layout : layout_of v.space ≡ Layout.Old space) (maps : HasMap w) (behind : LieBehind space) (path : Path) (t : Target) (may : MayGoIn (nodes_of w.tree) path t)
     (r : Removal) (ready : IsDeleteReady (nodes_of w.tree) (layout_of w.space) t r) where
   pub made_going : IsGoing space (nodes_of v.tree) path t r
   made_going = record {
@@ -70,7 +70,7 @@ module _ (w v : Volume) (same : w ≡ v) (space : FreeSpace) (layout : layout_of
       omega (arith, here, room)))
 
 -- before it is made ready
-module _ (w v : Volume) (same : w ≡ v) (space : FreeSpace) (layout : layout_of v.space ≡ Layout.Old space) (maps : HasMap w) (behind : LieBehind space) (path : Path) (t : Target)
+module _ (w v : Volume) (same : w ≡ v) (space : OldMapContent) (layout : layout_of v.space ≡ Layout.Old space) (maps : HasMap w) (behind : LieBehind space) (path : Path) (t : Target)
     (may : MayGoIn (nodes_of w.tree) path t) (laws : OldLaws) where
   abbrev one : IsOldMap space
   one = maps space (ap (λ (x : Volume). layout_of x.space) same ∙ layout)
@@ -106,16 +106,16 @@ module _ (w v : Volume) (same : w ≡ v) (space : FreeSpace) (layout : layout_of
 -- ---- after the writing
 
 -- the map afterwards has sectors and a form as before
-pub same_size : (space : FreeSpace) (space' : FreeSpace) → space' ≡ holding space space'.holes → sector_bytes (Layout.Old space') ≡ sector_bytes (Layout.Old space)
-same_size space space' is = ap (λ (s : FreeSpace). sector_bytes (Layout.Old s)) is
+pub same_size : (space : OldMapContent) (space' : OldMapContent) → space' ≡ holding space space'.holes → sector_bytes (Layout.Old space') ≡ sector_bytes (Layout.Old space)
+same_size space space' is = ap (λ (s : OldMapContent). sector_bytes (Layout.Old s)) is
 
-pub same_disc : (space : FreeSpace) (space' : FreeSpace) → space' ≡ holding space space'.holes → disc_sectors (Layout.Old space') ≡ disc_sectors (Layout.Old space)
-same_disc space space' is = ap (λ (s : FreeSpace). disc_sectors (Layout.Old s)) is
+pub same_disc : (space : OldMapContent) (space' : OldMapContent) → space' ≡ holding space space'.holes → disc_sectors (Layout.Old space') ≡ disc_sectors (Layout.Old space)
+same_disc space space' is = ap (λ (s : OldMapContent). disc_sectors (Layout.Old s)) is
 
-pub same_form : (l l' : Layout) (space space' : FreeSpace) → l ≡ Layout.Old space → l' ≡ Layout.Old space' → space' ≡ holding space space'.holes → dir_form l' ≡ dir_form l
-same_form l l' space space' at at' is = ap dir_form at' ∙ ap (λ (s : FreeSpace). dir_form (Layout.Old s)) is ∙ ap dir_form (sym at)
+pub same_form : (l l' : Layout) (space space' : OldMapContent) → l ≡ Layout.Old space → l' ≡ Layout.Old space' → space' ≡ holding space space'.holes → dir_form l' ≡ dir_form l
+same_form l l' space space' at at' is = ap dir_form at' ∙ ap (λ (s : OldMapContent). dir_form (Layout.Old s)) is ∙ ap dir_form (sym at)
 
-module _ {D : Type 0} (d : Ghosts D) (laws : OldLaws) (space : FreeSpace) (v v' : Volume) (old new : D) (path : Path) (t : Target) (r : Removal)
+module _ {D : Type 0} (d : Ghosts D) (laws : OldLaws) (space : OldMapContent) (v v' : Volume) (old new : D) (path : Path) (t : Target) (r : Removal)
     (layout : layout_of v.space ≡ Layout.Old space) (is : IsGoing space (nodes_of v.tree) path t r) (stands : StandsFor d v old) where
   abbrev sectors : List ℕ
   sectors = sectors_in r.directory.place.items
@@ -126,7 +126,7 @@ module _ {D : Type 0} (d : Ghosts D) (laws : OldLaws) (space : FreeSpace) (v v' 
   abbrev agreed : Agree stands.agree.0 parts
   agreed = subst (Agree stands.agree.0) (λ i. record { layout = layout i; nodes = nodes_of v.tree; owners = v.owners }) stands.agree.1
 
-  abbrev space' : FreeSpace
+  abbrev space' : OldMapContent
   space' = map_after space r.map
 
   pub space_is : space' ≡ holding space space'.holes
@@ -144,7 +144,7 @@ module _ {D : Type 0} (d : Ghosts D) (laws : OldLaws) (space : FreeSpace) (v v' 
       let part = subst (λ (l : Layout). IsPartWritten (sector_bytes l) sectors r.directory.bytes.items image w.0) layout w.2 in
       let off = deleted.off_map laws space (nodes_of v.tree) path t r is kind image view opens at_space held.nodes in
       let stays = (laws.writes.step space sectors r.directory.bytes.items image w.0 off part).map_stays in
-      subst (λ (m : FreeSpace). MapStays m image other) (one_space view.layout space map at_space at)
+      subst (λ (m : OldMapContent). MapStays m image other) (one_space view.layout space map at_space at)
       (subst (MapStays space image) (one_image (sym w.1 ∙ now)) stays)
     where
       one_image : {x y : List ℕ} → Some x ≡ Some y → x ≡ y
@@ -211,9 +211,9 @@ module _ {D : Type 0} (d : Ghosts D) (laws : OldLaws) (space : FreeSpace) (v v' 
     }
 
 -- the map that is ready is of the same disc
-pub edit_of : (space : FreeSpace) (e : Entry) (map : Option FreeSpace) → GivesBack space e (Ok map) → IsEditOf space map
+pub edit_of : (space : OldMapContent) (e : Entry) (map : Option OldMapContent) → GivesBack space e (Ok map) → IsEditOf space map
 edit_of space e None none = tt
-edit_of space e (Some other) gives = gives.1 ∙ ap (λ (m : FreeSpace). holding space m.holes) (sym gives.1)
+edit_of space e (Some other) gives = gives.1 ∙ ap (λ (m : OldMapContent). holding space m.holes) (sym gives.1)
 
 -- if nothing is written
 pub spares_same : {D : Type 0} (d : Ghosts D) (path : Path) (was : Parts) (disk : D) → SparesMap d path was disk disk

@@ -8,7 +8,7 @@ use Rattle.fc_names.specs.declared.refusal.Refusal.{Refusal}
 use Rattle.fc_names.specs.declared.refusal.Refusal.TheVariants as refusals
 use Rattle.fc_oldmap.specs.declared.Hole.{Hole}
 use Rattle.fc_oldmap.specs.Holes.{after_give, after_take, first_fit_place, hole_limit, hole_sum}
-use Rattle.fc_oldmap.specs.OldMap.{FreeSpace, IsOldMap}
+use Rattle.fc_oldmap.specs.OldMap.{OldMapContent, IsOldMap}
 use Rattle.fc_oldmap.proofs.MapLemmas.{length-after_take}
 use Rattle.fc_model.specs.Command.{Command}
 use Rattle.fc_model.specs.Answer.{first_of, when}
@@ -37,7 +37,7 @@ abbrev is_full_in : Opened → Command → Bool
 is_full_in v c = option_map_or (λ gain. is_full_with gain.listing.content gain) (gain_in v c) false
 
 -- A command that takes n bytes, and gives the space of an object back, if there is one.
-module _ (space : FreeSpace) (v : Opened) (c : Command) (n : ℕ) (old : Option Object) (at : v.layout ≡ Layout.Old space) (len : new_length v c ≡ n) (gives : replaced_object v c ≡ old) where
+module _ (space : OldMapContent) (v : Opened) (c : Command) (n : ℕ) (old : Option Object) (at : v.layout ≡ Layout.Old space) (len : new_length v c ≡ n) (gives : replaced_object v c ≡ old) where
   abbrev after : List Hole
   after = with_space_of space old (holes_without (old_need space n) space.holes)
 
@@ -86,7 +86,7 @@ module _ (space : FreeSpace) (v : Opened) (c : Command) (n : ℕ) (old : Option 
     refused_by_space A B DiskFault h = absurd h
 
 -- taking leaves no more holes
-few_without : (space : FreeSpace) (n : ℕ) → IsOldMap space → length (holes_without n space.holes) ≤ hole_limit
+few_without : (space : OldMapContent) (n : ℕ) → IsOldMap space → length (holes_without n space.holes) ≤ hole_limit
 few_without space n is = by (n == 0)
   where
     by : (b : Bool) → length (cond b space.holes (after_take n space.holes)) ≤ hole_limit
@@ -95,7 +95,7 @@ few_without space n is = by (n == 0)
 
 -- ---- a new file
 
-module _ (space : FreeSpace) (n : ℕ) (content : Directory) (name : List ℕ) (v : Opened) (c : Command) (w : WantsFile space n content name v c) where
+module _ (space : OldMapContent) (n : ℕ) (content : Directory) (name : List ℕ) (v : Opened) (c : Command) (w : WantsFile space n content name v c) where
   full_is : is_full_in v c ≡ is_full_with content w.gain
   full_is = ap (λ (o : Option Gain). option_map_or (λ (g : Gain). is_full_with g.listing.content g) o false) w.gains ∙ ap (λ (d : Directory). is_full_with d w.gain) w.says
 
@@ -108,7 +108,7 @@ module _ (space : FreeSpace) (n : ℕ) (content : Directory) (name : List ℕ) (
 
 -- ---- a file in the place of another
 
-module _ (spaces : SpaceLaw) (space : FreeSpace) (is : IsOldMap space) (n : ℕ) (e : Entry) (v : Opened) (c : Command) (w : WantsOver space n e v c) where
+module _ (spaces : SpaceLaw) (space : OldMapContent) (is : IsOldMap space) (n : ℕ) (e : Entry) (v : Opened) (c : Command) (w : WantsOver space n e v c) where
   not_full : is_full_in v c ≡ false
   not_full = ap (λ (o : Option Gain). option_map_or (λ (g : Gain). is_full_with g.listing.content g) o false) w.no_gain
 
@@ -119,21 +119,21 @@ module _ (spaces : SpaceLaw) (space : FreeSpace) (is : IsOldMap space) (n : ℕ)
   abbrev base : List Hole
   base = holes_without (old_need space n) space.holes
 
-  module _ (map : Option FreeSpace) (taken : HasTaken space n map) (some : taking_refusal space n ≡ None) where
+  module _ (map : Option OldMapContent) (taken : HasTaken space n map) (some : taking_refusal space n ≡ None) where
     map_is : map_after space map ≡ holding space base
     map_is = taken_after space n map taken ∙ ap (holding space) (taken_holes space n map is taken)
 
     pub over_full : IsTooFull (map_after space map) e → short v c ≡ Some refusals.MapFull
     over_full many =
-        let here : IsTooFull (holding space base) w.object.entry = subst (λ (m : FreeSpace). IsTooFull m w.object.entry) map_is (subst (λ (x : Entry). IsTooFull (map_after space map) x) (sym w.entry) many) in
+        let here : IsTooFull (holding space base) w.object.entry = subst (λ (m : OldMapContent). IsTooFull m w.object.entry) map_is (subst (λ (x : Entry). IsTooFull (map_after space map) x) (sym w.entry) many) in
         no_holes space v c n (Some w.object) w.at w.len w.replaced not_full some
         (subst (λ (hs : List Hole). hole_limit < length hs)
         (sym (with_space spaces space w.object is w.placed base
         ∙ ap (λ (b : Bool). cond b (after_give (space_at space w.object.entry) base) base) (lt-ltb 0 (units_of space w.object.entry) here.0))) here.1)
 
-    pub over_fits : (given : Option FreeSpace) → GivesBack (map_after space map) e (Ok given) → short v c ≡ None
+    pub over_fits : (given : Option OldMapContent) → GivesBack (map_after space map) e (Ok given) → short v c ≡ None
     over_fits given gives =
-        let here : GivesBack (holding space base) w.object.entry (Ok given) = subst (λ (m : FreeSpace). GivesBack m w.object.entry (Ok given)) map_is (subst (λ (x : Entry). GivesBack (map_after space map) x (Ok given)) (sym w.entry) gives) in
+        let here : GivesBack (holding space base) w.object.entry (Ok given) = subst (λ (m : OldMapContent). GivesBack m w.object.entry (Ok given)) map_is (subst (λ (x : Entry). GivesBack (map_after space map) x (Ok given)) (sym w.entry) gives) in
         enough space v c n (Some w.object) w.at w.len w.replaced not_full some
         (subst (λ (hs : List Hole). length hs ≤ hole_limit) (given_holes spaces space w.object is w.placed base given here)
         (given_few (holding space base) w.object.entry given (subst (λ (hs : List Hole). length hs ≤ hole_limit) (taken_holes space n map is taken) (taken_few space n map is taken)) here))

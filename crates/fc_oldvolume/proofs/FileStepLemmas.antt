@@ -16,7 +16,7 @@ use Rattle.fc_objects.specs.Written.{AreApart}
 use Rattle.fc_oldchanges.specs.Owed.{holding}
 use Rattle.fc_oldmap.specs.declared.Hole.{Hole}
 use Rattle.fc_oldmap.specs.Holes.{hole_limit}
-use Rattle.fc_oldmap.specs.OldMap.{FreeSpace, IsOldMap}
+use Rattle.fc_oldmap.specs.OldMap.{OldMapContent, IsOldMap}
 use Rattle.fc_oldlaws.specs.takeover.Steps.{holes_taken}
 use Rattle.fc_oldlaws.specs.takeover.Writes.{IsMapStep, IsObjectStep, WrittenBytesLaw}
 use Rattle.fc_tree.specs.Agree.{HasForm}
@@ -30,7 +30,7 @@ use Rattle.fc_oldvolume.proofs.TakingLemmas.{taken_after, taken_edit, taken_hole
 
 -- ---- a directory on an old map, which is small, gets an entry
 
-pub old_entries : (space : FreeSpace) (len parent : ℕ) (e : Entry) (old new : Directory) → HasEntered parent e old new → HasForm (dir_form (Layout.Old space)) len old
+pub old_entries : (space : OldMapContent) (len parent : ℕ) (e : Entry) (old new : Directory) → HasEntered parent e old new → HasForm (dir_form (Layout.Old space)) len old
     → entries_of new ≡ insert (entries_of old) (entry_place e.name (entries_of old)) e
 old_entries space len parent e old new is has = ap entries_of is.is ∙ by (space.sector_units == 4) old has
   where
@@ -41,9 +41,9 @@ old_entries space len parent e old new is has = ap entries_of is.is ∙ by (spac
 
 -- ---- the steps
 
-module _ (writes : WrittenBytesLaw) (space : FreeSpace) (f : Filing) (n : ℕ) (is_map : IsOldMap space) (t : IsTaken space n f.taken) (bytes : List ℕ) (whole : length bytes ≡ n)
+module _ (writes : WrittenBytesLaw) (space : OldMapContent) (f : Filing) (n : ℕ) (is_map : IsOldMap space) (t : IsTaken space n f.taken) (bytes : List ℕ) (whole : length bytes ≡ n)
     (was image : List ℕ) (w : IsFileWritten (Layout.Old space) f bytes was image) where
-  abbrev mid : FreeSpace
+  abbrev mid : OldMapContent
   mid = map_after space f.taken.map
 
   -- the map without the new space
@@ -63,7 +63,7 @@ module _ (writes : WrittenBytesLaw) (space : FreeSpace) (f : Filing) (n : ℕ) (
 
   pub give : IsEditOf mid f.given → length (space_after space f).holes ≤ hole_limit → IsMapStep (holding space (holes_taken space (length bytes))) (space_after space f).holes w.last.named image
   give edit few =
-      subst (λ (m : FreeSpace). IsMapStep m (space_after space f).holes w.last.named image) mid_is (map_step mid f.given w.last.named image few edit w.last.map)
+      subst (λ (m : OldMapContent). IsMapStep m (space_after space f).holes w.last.named image) mid_is (map_step mid f.given w.last.named image few edit w.last.map)
 
   module _ (o : Object) (same : o.sectors ≡ sectors_in f.taken.place.items) (at : IsAt (Layout.Old space) o) (size : object_size (dir_form (Layout.Old space)) o.entry ≡ n) where
     pub file : object_bytes w.first.stored (Layout.Old space) o ≡ bytes

@@ -14,7 +14,7 @@ use Rattle.fc_oldlaws.specs.agree.Spaces.{SpaceLaw}
 use Rattle.fc_oldchanges.specs.Owed.{IsWritten, holding}
 use Rattle.fc_oldmap.specs.declared.Hole.{Hole}
 use Rattle.fc_oldmap.specs.Holes.{after_give, hole_limit}
-use Rattle.fc_oldmap.specs.OldMap.{FreeSpace, IsOldMap}
+use Rattle.fc_oldmap.specs.OldMap.{OldMapContent, IsOldMap}
 use Rattle.fc_oldlaws.specs.takeover.Writes.{IsMapStep}
 use Rattle.fc_oldvolume.specs.Deleting.{IsMapDone, map_after}
 use Rattle.fc_oldvolume.specs.Spaces.{GivesBack, IsEditOf, space_at, units_of}
@@ -29,7 +29,7 @@ none_of_both true b e = absurd (cc)
 none_of_both false b e = (refl, e)
 
 -- A write to some sectors is one to more.
-module _ (space : FreeSpace) (xs ys image image' : List ℕ) where
+module _ (space : OldMapContent) (xs ys image image' : List ℕ) where
   parts : (s : ℕ) → is_among (xs ++ ys) s ≡ false → (is_among xs s ≡ false) × (is_among ys s ≡ false)
   parts s out = none_of_both (is_among xs s) (is_among ys s) (sym (list_any-append (λ t. t == s) xs ys) ∙ out)
 
@@ -41,27 +41,27 @@ module _ (space : FreeSpace) (xs ys image image' : List ℕ) where
 
 -- ---- the map without the space of some bytes
 
-pub taken_few : (space : FreeSpace) (n : ℕ) (map : Option FreeSpace) → IsOldMap space → HasTaken space n map → length (map_after space map).holes ≤ hole_limit
+pub taken_few : (space : OldMapContent) (n : ℕ) (map : Option OldMapContent) → IsOldMap space → HasTaken space n map → length (map_after space map).holes ≤ hole_limit
 taken_few space n None is none = is.few
 taken_few space n (Some now) is has = has.2
 
 -- ---- maps that are edited
 
 -- one edit after another
-pub edit_twice : (space mid : FreeSpace) (map : Option FreeSpace) → mid ≡ holding space mid.holes → IsEditOf mid map → IsEditOf space map
+pub edit_twice : (space mid : OldMapContent) (map : Option OldMapContent) → mid ≡ holding space mid.holes → IsEditOf mid map → IsEditOf space map
 edit_twice space mid None is edit = tt
-edit_twice space mid (Some now) is edit = edit ∙ ap (λ (m : FreeSpace). holding m now.holes) is
+edit_twice space mid (Some now) is edit = edit ∙ ap (λ (m : OldMapContent). holding m now.holes) is
 
-pub twice_after : (space mid : FreeSpace) (map : Option FreeSpace) → mid ≡ holding space mid.holes → IsEditOf mid map → map_after mid map ≡ holding space (map_after mid map).holes
+pub twice_after : (space mid : OldMapContent) (map : Option OldMapContent) → mid ≡ holding space mid.holes → IsEditOf mid map → map_after mid map ≡ holding space (map_after mid map).holes
 twice_after space mid None is edit = is
-twice_after space mid (Some now) is edit = edit ∙ ap (λ (m : FreeSpace). holding m now.holes) is
+twice_after space mid (Some now) is edit = edit ∙ ap (λ (m : OldMapContent). holding m now.holes) is
 
-pub given_few : (space : FreeSpace) (e : Entry) (map : Option FreeSpace) → length space.holes ≤ hole_limit → GivesBack space e (Ok map) → length (map_after space map).holes ≤ hole_limit
+pub given_few : (space : OldMapContent) (e : Entry) (map : Option OldMapContent) → length space.holes ≤ hole_limit → GivesBack space e (Ok map) → length (map_after space map).holes ≤ hole_limit
 given_few space e None few none = few
 given_few space e (Some now) few gives = gives.2
 
 -- the step that writes a map, if it is another one
-pub map_step : (space : FreeSpace) (map : Option FreeSpace) (mid image : List ℕ) → length (map_after space map).holes ≤ hole_limit → IsEditOf space map → IsMapDone map mid image
+pub map_step : (space : OldMapContent) (map : Option OldMapContent) (mid image : List ℕ) → length (map_after space map).holes ≤ hole_limit → IsEditOf space map → IsMapDone map mid image
     → IsMapStep space (map_after space map).holes mid image
 map_step space None mid image few edit done = record {
   written = record { length_stays = ap length done; writes = λ s apart out. ap (λ (x : List ℕ). sector_at (sector_bytes (Layout.Old space)) x s) done };
@@ -72,18 +72,18 @@ map_step space None mid image few edit done = record {
   };
 }
 map_step space (Some now) mid image few edit done =
-    subst (λ (m : FreeSpace). IsMapWritten m mid image → IsMapStep space now.holes mid image) (sym edit)
+    subst (λ (m : OldMapContent). IsMapWritten m mid image → IsMapStep space now.holes mid image) (sym edit)
     (λ w. record { written = record { length_stays = w.written.length_stays; writes = w.written.writes }; map = record { few = few; bytes = inr w.front; rest = w.rest } }) done
 
 -- ---- the map with the space of an object
 
-module _ (spaces : SpaceLaw) (space : FreeSpace) (o : Object) (is : IsOldMap space) (at : IsAt (Layout.Old space) o) (holes : List Hole) where
+module _ (spaces : SpaceLaw) (space : OldMapContent) (o : Object) (is : IsOldMap space) (at : IsAt (Layout.Old space) o) (holes : List Hole) where
   pub with_space : with_space_of space (Some o) holes ≡ cond (nat_lt 0 (units_of space o.entry)) (after_give (space_at space o.entry) holes) holes
   with_space = ap₂ (λ (b : Bool) (h : Hole). cond b (after_give h holes) holes) (has_units spaces space o is at) (space_is spaces space o is at)
 
-  pub given_holes : (map : Option FreeSpace) → GivesBack (holding space holes) o.entry (Ok map) → (map_after (holding space holes) map).holes ≡ with_space_of space (Some o) holes
+  pub given_holes : (map : Option OldMapContent) → GivesBack (holding space holes) o.entry (Ok map) → (map_after (holding space holes) map).holes ≡ with_space_of space (Some o) holes
   given_holes None none =
       sym (with_space ∙ ap (λ (n : ℕ). cond (nat_lt 0 n) (after_give (space_at space o.entry) holes) holes) none)
   given_holes (Some now) gives =
-      ap (λ (m : FreeSpace). m.holes) gives.1
+      ap (λ (m : OldMapContent). m.holes) gives.1
       ∙ sym (with_space ∙ ap (λ (b : Bool). cond b (after_give (space_at space o.entry) holes) holes) (lt-ltb 0 (units_of space o.entry) gives.0))

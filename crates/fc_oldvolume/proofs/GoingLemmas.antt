@@ -6,7 +6,7 @@ use Rattle.std.specs.FinMap.{FinMap, get}
 use Rattle.fc_names.specs.declared.refusal.Refusal.{Refusal}
 use Rattle.fc_names.specs.Names.{Path}
 use Rattle.fc_record.specs.declared.Kind.{Kind}
-use Rattle.fc_oldmap.specs.OldMap.{FreeSpace, IsOldMap}
+use Rattle.fc_oldmap.specs.OldMap.{OldMapContent, IsOldMap}
 use Rattle.fc_model.specs.Command.{Command}
 use Rattle.fc_dirs.specs.declared.Entry.{Entry}
 use Rattle.fc_image.specs.Layout.{Layout}
@@ -65,7 +65,7 @@ module _ (nodes : FinMap nat_cmp Node) (path : Path) (t : Target) (may : MayGoIn
 
 -- ---- what is asked before anything is made ready
 
-module _ (laws : OldLaws) (space : FreeSpace) (nodes : FinMap nat_cmp Node) (owners : List Owner) (path : Path) (t : Target) (may : MayGoIn nodes path t) (is_map : IsOldMap space) (behind : LieBehind space)
+module _ (laws : OldLaws) (space : OldMapContent) (nodes : FinMap nat_cmp Node) (owners : List Owner) (path : Path) (t : Target) (may : MayGoIn nodes path t) (is_map : IsOldMap space) (behind : LieBehind space)
     (kind : Kind) (a : Agree kind (record { layout = Layout.Old space; nodes = nodes; owners = owners })) where
   sound : AreSound (Layout.Old space) a.listings
   sound = laws.agreed.sound_by kind (record { layout = Layout.Old space; nodes = nodes; owners = owners }) a
@@ -86,12 +86,12 @@ module _ (laws : OldLaws) (space : FreeSpace) (nodes : FinMap nat_cmp Node) (own
     object = node nodes path t may (Layout.Old space) a.listings sound a.walked.held;
     there = node_is nodes path t may (Layout.Old space) a.listings sound a.walked.held;
     behind = λ s is. subst LieBehind (one_space layout space s at is) behind;
-    free = λ s is. subst (λ (x : FreeSpace). 0 < units_of x gone.entry → CanGive x x.holes (space_at x gone.entry)) (one_space layout space s at is) can_give;
+    free = λ s is. subst (λ (x : OldMapContent). 0 < units_of x gone.entry → CanGive x x.holes (space_at x gone.entry)) (one_space layout space s at is) can_give;
   }
 
 -- ---- what is answered
 
-module _ (spaces : SpaceLaw) (space : FreeSpace) (nodes : FinMap nat_cmp Node) (path : Path) (t : Target) (may : MayGoIn nodes path t) (is_map : IsOldMap space) (object : Node)
+module _ (spaces : SpaceLaw) (space : OldMapContent) (nodes : FinMap nat_cmp Node) (path : Path) (t : Target) (may : MayGoIn nodes path t) (is_map : IsOldMap space) (object : Node)
     (is : get nodes t.node ≡ Some object) (v : Opened) (at : v.layout ≡ Layout.Old space) (sound : AreSound v.layout v.listings) (held : HoldObjects nodes v.listings) where
   abbrev its : Object
   its = o nodes path t may v.layout v.listings sound held
@@ -102,7 +102,7 @@ module _ (spaces : SpaceLaw) (space : FreeSpace) (nodes : FinMap nat_cmp Node) (
   its_entry : object.entry ≡ its.entry
   its_entry = entry_is nodes path t may v.layout v.listings sound held object is
 
-  pub accepted : (map : Option FreeSpace) → GivesBack space object.entry (Ok map) → short v (Command.Delete path) ≡ None
+  pub accepted : (map : Option OldMapContent) → GivesBack space object.entry (Ok map) → short v (Command.Delete path) ≡ None
   accepted map gives =
       not_full spaces space its is_map its_place v path at (there nodes path t may v.layout v.listings sound held) map (subst (λ (e : Entry). GivesBack space e (Ok map)) its_entry gives)
 

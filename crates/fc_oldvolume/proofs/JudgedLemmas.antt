@@ -8,7 +8,7 @@ use Rattle.fc_names.specs.declared.refusal.Refusal.TheVariants as refusals
 use Rattle.fc_names.specs.Names.{Path}
 use Rattle.fc_oldmap.specs.declared.Hole.{Hole}
 use Rattle.fc_oldmap.specs.Holes.{after_give, first_fit_place, hole, hole_limit, hole_sum}
-use Rattle.fc_oldmap.specs.OldMap.{FreeSpace, IsOldMap}
+use Rattle.fc_oldmap.specs.OldMap.{OldMapContent, IsOldMap}
 use Rattle.fc_model.specs.Command.{Command}
 use Rattle.fc_model.specs.Answer.{first_of, reasons, when}
 use Rattle.fc_image.specs.Layout.{Layout, dir_form}
@@ -61,7 +61,7 @@ too_many : (count : ℕ) → hole_limit < count → full_at count ≡ Some refus
 too_many count many = ap (λ (b : Bool). first_of (when b refusals.MapFull ∷ [])) (lt-ltb 82 count many)
 
 -- A command that needs no new space is refused for too many holes alone.
-pub no_space : (space : FreeSpace) (v : Opened) (c : Command) → new_length v c ≡ 0 → IsOldMap space
+pub no_space : (space : OldMapContent) (v : Opened) (c : Command) → new_length v c ≡ 0 → IsOldMap space
     → first_of (space_reasons (Layout.Old space) v c) ≡ full_at (length (with_space_of space (replaced_object v c) space.holes))
 no_space space v c none is =
     ap by (ap (old_need space) none ∙ none_needed space is.units)
@@ -75,14 +75,14 @@ no_space space v c none is =
         ∷ when (nat_lt hole_limit (length (with_space_of space (replaced_object v c) (holes_without need space.holes)))) refusals.MapFull ∷ [])
 
 -- `set` needs no space
-pub set_takes_none : (v : Opened) (space : FreeSpace) (path : Path) (load exec access : ℕ) → v.layout ≡ Layout.Old space → IsOldMap space → short v (Command.Set path load exec access) ≡ None
+pub set_takes_none : (v : Opened) (space : OldMapContent) (path : Path) (load exec access : ℕ) → v.layout ≡ Layout.Old space → IsOldMap space → short v (Command.Set path load exec access) ≡ None
 unfolding short
 set_takes_none v space path load exec access at is =
     ap (λ (layout : Layout). first_of (space_reasons layout v (Command.Set path load exec access))) at
     ∙ no_space space v (Command.Set path load exec access) refl is ∙ few_enough (length space.holes) is.few
 
 -- `delete` may leave too many holes
-delete_short : (v : Opened) (space : FreeSpace) (path : Path) (o : Object) → v.layout ≡ Layout.Old space → IsOldMap space → object_at v.listings path ≡ Some o
+delete_short : (v : Opened) (space : OldMapContent) (path : Path) (o : Object) → v.layout ≡ Layout.Old space → IsOldMap space → object_at v.listings path ≡ Some o
     → short v (Command.Delete path) ≡ full_at (length (with_space_of space (Some o) space.holes))
 unfolding short
 delete_short v space path o at is there =
@@ -95,7 +95,7 @@ some_times : (n u : ℕ) → (u ≡ 1) ⊎ (u ≡ 4) → nat_lt 0 n ≡ nat_lt 0
 some_times n u (inl one) = let l : nat_lt 0 n ≡ nat_lt 0 (n * 1) = grind (arith, nat_tests) in subst (λ (k : ℕ). nat_lt 0 n ≡ nat_lt 0 (n * k)) (sym one) l
 some_times n u (inr four) = let l : nat_lt 0 n ≡ nat_lt 0 (n * 4) = grind (arith, nat_tests) in subst (λ (k : ℕ). nat_lt 0 n ≡ nat_lt 0 (n * k)) (sym four) l
 
-module _ (spaces : SpaceLaw) (space : FreeSpace) (o : Object) (is : IsOldMap space) (at : IsAt (Layout.Old space) o) where
+module _ (spaces : SpaceLaw) (space : OldMapContent) (o : Object) (is : IsOldMap space) (at : IsAt (Layout.Old space) o) where
   pub has_units : has_sectors o ≡ nat_lt 0 (units_of space o.entry)
   has_units = some_times (length o.sectors) space.sector_units is.units ∙ ap (nat_lt 0) (spaces.size space o at)
 
@@ -116,12 +116,12 @@ module _ (spaces : SpaceLaw) (space : FreeSpace) (o : Object) (is : IsOldMap spa
   with_some some = with_space ∙ ap (λ (b : Bool). cond b (after_give (space_at space o.entry) space.holes) space.holes) (lt-ltb 0 (units_of space o.entry) some)
 
   module _ (v : Opened) (path : Path) (layout : v.layout ≡ Layout.Old space) (there : object_at v.listings path ≡ Some o) where
-    pub not_full : (map : Option FreeSpace) → GivesBack space o.entry (Ok map) → short v (Command.Delete path) ≡ None
+    pub not_full : (map : Option OldMapContent) → GivesBack space o.entry (Ok map) → short v (Command.Delete path) ≡ None
     not_full None none = delete_short v space path o layout is there ∙ few_enough (length (with_space_of space (Some o) space.holes)) (subst (λ (hs : List Hole). length hs ≤ 82) (sym (with_none none)) is.few)
     not_full (Some now) gives =
         delete_short v space path o layout is there
         ∙ few_enough (length (with_space_of space (Some o) space.holes))
-        (subst (λ (hs : List Hole). length hs ≤ 82) (ap (λ (m : FreeSpace). m.holes) gives.1 ∙ sym (with_some gives.0)) gives.2)
+        (subst (λ (hs : List Hole). length hs ≤ 82) (ap (λ (m : OldMapContent). m.holes) gives.1 ∙ sym (with_some gives.0)) gives.2)
 
     pub full : IsTooFull space o.entry → short v (Command.Delete path) ≡ Some refusals.MapFull
     full many =

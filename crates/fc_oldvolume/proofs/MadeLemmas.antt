@@ -4,11 +4,11 @@ use Rattle.fc_newmap.proofs.PlaceLemmas.{in_back, in_front}
 use Rattle.fc_image.specs.Layout.{Layout, sector_bytes}
 use Rattle.fc_objects.specs.Written.{IsPartWritten}
 use Rattle.fc_oldchanges.specs.Owed.{IsWritten}
-use Rattle.fc_oldmap.specs.OldMap.{FreeSpace}
+use Rattle.fc_oldmap.specs.OldMap.{OldMapContent}
 use Rattle.fc_oldlaws.specs.takeover.Writes.{WrittenBytesLaw}
 use Rattle.fc_oldvolume.proofs.ChangeLemmas.{part_written}
 
-module _ (writes : WrittenBytesLaw) (layout : Layout) (space : FreeSpace) (at : layout ≡ Layout.Old space) (xs ys bytes was image : List ℕ) where
+module _ (writes : WrittenBytesLaw) (layout : Layout) (space : OldMapContent) (at : layout ≡ Layout.Old space) (xs ys bytes was image : List ℕ) where
   -- a part of the first sectors, or of the last
   pub wider_first : IsPartWritten (sector_bytes layout) xs bytes was image → IsWritten space (xs ++ ys) was image
   wider_first part = writes.within space xs (xs ++ ys) was image (λ s i. in_front xs ys s i) (part_written writes layout space xs bytes at was image part)

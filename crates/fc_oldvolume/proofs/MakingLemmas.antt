@@ -11,7 +11,7 @@ use Rattle.fc_names.specs.declared.refusal.Refusal.{Refusal}
 use Rattle.fc_names.specs.declared.refusal.Refusal.TheVariants as refusals
 use Rattle.fc_names.specs.Names.{Path}
 use Rattle.fc_oldmap.specs.Holes.{after_take, first_fit_place, hole_limit, hole_sum}
-use Rattle.fc_oldmap.specs.OldMap.{FreeSpace, IsOldMap}
+use Rattle.fc_oldmap.specs.OldMap.{OldMapContent, IsOldMap}
 use Rattle.fc_oldmap.proofs.MapLemmas.{length-after_take}
 use Rattle.fc_model.specs.Answer.{first_of, when}
 use Rattle.fc_model.specs.Command.{Command}
@@ -61,7 +61,7 @@ short_full v path gain content gains same full =
     ap (λ (b : Bool). first_of (when b refusals.DirFull ∷ space_reasons v.layout v (Command.Cdir path))) (full_is v path gain content gains same ∙ full)
 
 -- the refusals for so many units, when nothing goes back
-abbrev reasons_for : FreeSpace → ℕ → List (Option Refusal)
+abbrev reasons_for : OldMapContent → ℕ → List (Option Refusal)
 reasons_for space need =
     when (nat_lt (hole_sum space.holes) need) refusals.DiscFull
     ∷ when (nat_lt 0 need && is_none (first_fit_place need space.holes)) refusals.CompactionRequired
@@ -76,7 +76,7 @@ never_last a b c e = ap (λ (x : Bool). first_of (a ∷ b ∷ when x refusals.Ma
     by (Some r) b = refl
 
 -- Taking makes no more holes.
-few_left : (space : FreeSpace) (need : ℕ) → IsOldMap space → nat_lt hole_limit (length (holes_without need space.holes)) ≡ false
+few_left : (space : OldMapContent) (need : ℕ) → IsOldMap space → nat_lt hole_limit (length (holes_without need space.holes)) ≡ false
 few_left space need is = fits (length (holes_without need space.holes)) (by (need == 0))
   where
     by : (b : Bool) → length (cond b space.holes (after_take need space.holes)) ≤ 82
@@ -87,7 +87,7 @@ few_left space need is = fits (length (holes_without need space.holes)) (by (nee
     fits n low = grind (arith, nat_tests, low)
 
 -- Where it has room, only the taking decides.
-pub short_taken : (v : Opened) (space : FreeSpace) (path : Path) (gain : Gain) (content : Directory) → v.layout ≡ Layout.Old space → IsOldMap space → gain_in v (Command.Cdir path) ≡ Some gain
+pub short_taken : (v : Opened) (space : OldMapContent) (path : Path) (gain : Gain) (content : Directory) → v.layout ≡ Layout.Old space → IsOldMap space → gain_in v (Command.Cdir path) ≡ Some gain
     → gain.listing.content ≡ content → is_full_with content gain ≡ false → short v (Command.Cdir path) ≡ taking_refusal space (new_dir_size (dir_form (Layout.Old space)))
 unfolding short
 short_taken v space path gain content at is gains same room =

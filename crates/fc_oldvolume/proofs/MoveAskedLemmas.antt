@@ -8,7 +8,7 @@ use Rattle.fc_device.specs.declared.disk.Disk.{Ghosts}
 use Rattle.fc_alloc.specs.Owners.{is_node}
 use Rattle.fc_names.specs.declared.refusal.Refusal.TheVariants as refusals
 use Rattle.fc_names.specs.Names.{Path, is_same_path}
-use Rattle.fc_oldmap.specs.OldMap.{FreeSpace}
+use Rattle.fc_oldmap.specs.OldMap.{OldMapContent}
 use Rattle.fc_model.specs.Command.{Command}
 use Rattle.fc_model.specs.Tree.{holder, last_name}
 use Rattle.fc_dirs.specs.declared.Entry.{Entry}
@@ -56,12 +56,12 @@ use Rattle.fc_oldvolume.proofs.SmallLemmas.{old_form, small_holds, small_names, 
 use Rattle.fc_oldvolume.proofs.TargetLemmas.{addressed}
 
 -- what is asked, and what is ready, of either of two volumes that are the same by their parts
-pub can_move_at : (w v : Volume) → w ≡ v → (space : FreeSpace) → layout_of v.space ≡ Layout.Old space → (t : Target) (dir : ℕ) (name : List ℕ) → CanMove (nodes_of v.tree) (Layout.Old space) t dir name
+pub can_move_at : (w v : Volume) → w ≡ v → (space : OldMapContent) → layout_of v.space ≡ Layout.Old space → (t : Target) (dir : ℕ) (name : List ℕ) → CanMove (nodes_of v.tree) (Layout.Old space) t dir name
     → CanMove (nodes_of w.tree) (layout_of w.space) t dir name
 can_move_at w v same space layout t dir name can =
     subst (λ (x : Volume). CanMove (nodes_of x.tree) (layout_of x.space) t dir name) (sym same) (subst (λ (l : Layout). CanMove (nodes_of v.tree) l t dir name) (sym layout) can)
 
-pub moved_at : (w v : Volume) → w ≡ v → (space : FreeSpace) → layout_of v.space ≡ Layout.Old space → (t : Target) (dir : ℕ) (name : List ℕ) (r : Relocation)
+pub moved_at : (w v : Volume) → w ≡ v → (space : OldMapContent) → layout_of v.space ≡ Layout.Old space → (t : Target) (dir : ℕ) (name : List ℕ) (r : Relocation)
     → IsMoveReady (nodes_of w.tree) (layout_of w.space) w.owners t dir name r → IsMoveReady (nodes_of v.tree) (Layout.Old space) v.owners t dir name r
 moved_at w v same space layout t dir name r ready =
     subst (λ (l : Layout). IsMoveReady (nodes_of v.tree) l v.owners t dir name r) layout
@@ -70,7 +70,7 @@ moved_at w v same space layout t dir name r ready =
 pub says_at : (w v : Volume) → w ≡ v → (n : ℕ) (full : Bool) → SaysFull (nodes_of w.tree) n full → SaysFull (nodes_of v.tree) n full
 says_at w v same n full says = subst (λ (x : Volume). SaysFull (nodes_of x.tree) n full) same says
 
-module _ {v : Volume} {space : FreeSpace} {from to : Path} {rn : Renaming} (laws : RenameLaws) (a : IsAsked v space from to rn) (across : rn.holder ≡ rn.target.holder → ⊥) where
+module _ {v : Volume} {space : OldMapContent} {from to : Path} {rn : Renaming} (laws : RenameLaws) (a : IsAsked v space from to rn) (across : rn.holder ≡ rn.target.holder → ⊥) where
   abbrev listings : List Listing
   listings = (asked.agreed laws a).listings
 

@@ -6,7 +6,7 @@ use Rattle.std.specs.Option.{option_map, option_map_or}
 use Rattle.std.specs.Prelude.{Contains, IsPermutation}
 use Rattle.fc_names.specs.Names.{Path, folded_path, is_directory, is_same_path}
 use Rattle.fc_record.specs.declared.Kind.{Kind}
-use Rattle.fc_oldmap.specs.OldMap.{FreeSpace, IsOldMap}
+use Rattle.fc_oldmap.specs.OldMap.{OldMapContent, IsOldMap}
 use Rattle.fc_alloc.specs.declared.owner.Owner.{Owner}
 use Rattle.fc_alloc.specs.Owners.{HaveOwnNodes, is_node}
 use Rattle.fc_model.specs.Command.{Command}
@@ -106,7 +106,7 @@ entered_size parent e old new dir is small = ap size_of (is.is ∙ ap (λ (d : D
 -- ---- the edit
 
 -- What is known before anything is written.
-pub record IsReadyToMove (space : FreeSpace) (nodes : Nodes) (owners : List Owner) (from to : Path) (rn : Renaming) (r : Relocation) : Type 0 where
+pub record IsReadyToMove (space : OldMapContent) (nodes : Nodes) (owners : List Owner) (from to : Path) (rn : Renaming) (r : Relocation) : Type 0 where
   pub is_map : IsOldMap space
   pub behind : LieBehind space
   pub other : rn.holder ≡ rn.target.holder → ⊥
@@ -117,7 +117,7 @@ pub record IsReadyToMove (space : FreeSpace) (nodes : Nodes) (owners : List Owne
   pub dir : SmallDir
   pub small : ready.entering.content ≡ Directory.Small dir
 
-module _ (laws : RenameLaws) (space : FreeSpace) (nodes : Nodes) (owners : List Owner) (from to : Path) (rn : Renaming) (r : Relocation) (is : IsReadyToMove space nodes owners from to rn r) where
+module _ (laws : RenameLaws) (space : OldMapContent) (nodes : Nodes) (owners : List Owner) (from to : Path) (rn : Renaming) (r : Relocation) (is : IsReadyToMove space nodes owners from to rn r) where
   abbrev pub t : Target
   t = rn.target
 

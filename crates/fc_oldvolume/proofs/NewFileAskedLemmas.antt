@@ -6,7 +6,7 @@ use Rattle.fc_alloc.specs.Owners.{has_node}
 use Rattle.fc_device.specs.declared.disk.Disk.{Ghosts}
 use Rattle.fc_record.specs.declared.Kind.{Kind}
 use Rattle.fc_names.specs.Names.{Path, is_writable}
-use Rattle.fc_oldmap.specs.OldMap.{FreeSpace, IsOldMap}
+use Rattle.fc_oldmap.specs.OldMap.{OldMapContent, IsOldMap}
 use Rattle.fc_model.specs.Command.{Command}
 use Rattle.fc_model.specs.Tree.{last_name}
 use Rattle.fc_dirs.specs.declared.Entry.{Entry}
@@ -51,7 +51,7 @@ use Rattle.fc_oldvolume.proofs.SetVolumeLemmas.{HasMap}
 use Rattle.fc_oldvolume.proofs.TargetLemmas.{addressed}
 
 -- `w` is the same volume as `v`, by its parts.
-module _ (laws : FilingLaws) (w v : Volume) (same : w ≡ v) (space : FreeSpace) (layout : layout_of v.space ≡ Layout.Old space) (maps : HasMap w) (behind : LieBehind space) (path : Path) (dir : ℕ) (words : FileWords)
+module _ (laws : FilingLaws) (w v : Volume) (same : w ≡ v) (space : OldMapContent) (layout : layout_of v.space ≡ Layout.Old space) (maps : HasMap w) (behind : LieBehind space) (path : Path) (dir : ℕ) (words : FileWords)
     (accepted : IsFileAccepted v path (Slot.New dir)) (agree : (kind : Kind) × Agree kind (parts_of v)) where
   is_map : IsOldMap space
   is_map = maps space (ap (λ (x : Volume). layout_of x.space) same ∙ layout)
@@ -127,11 +127,11 @@ module _ (laws : FilingLaws) (w v : Volume) (same : w ≡ v) (space : FreeSpace)
 
     -- what is answered for want of space, over each view whose parts the volume has
     pub answered : {T : Type 0} (result : Result T CommandError)
-        → ((s : FreeSpace) (x : Opened) (k : Command) (node : Node) (content : Directory) → layout_of w.space ≡ Layout.Old s → get (nodes_of w.tree) dir ≡ Some node → node.body ≡ body_in content
+        → ((s : OldMapContent) (x : Opened) (k : Command) (node : Node) (content : Directory) → layout_of w.space ≡ Layout.Old s → get (nodes_of w.tree) dir ≡ Some node → node.body ≡ body_in content
         → WantsFile s words.len content (last_name path) x k → AnswersSpace result (short x k))
         → AnswersSpace result (short view c)
     answered result answers =
-        subst (λ (y : Volume). (s : FreeSpace) (x : Opened) (k : Command) (node : Node) (content : Directory) → layout_of y.space ≡ Layout.Old s → get (nodes_of y.tree) dir ≡ Some node → node.body ≡ body_in content
+        subst (λ (y : Volume). (s : OldMapContent) (x : Opened) (k : Command) (node : Node) (content : Directory) → layout_of y.space ≡ Layout.Old s → get (nodes_of y.tree) dir ≡ Some node → node.body ≡ body_in content
         → WantsFile s words.len content (last_name path) x k → AnswersSpace result (short x k)) same answers space view c
         (target_of.node (nodes_of v.tree) (Layout.Old space) view.listings here parts.nodes place.listing place.listed dir place.holder_is) place.listing.content layout
         (target_of.there (nodes_of v.tree) (Layout.Old space) view.listings here parts.nodes place.listing place.listed dir place.holder_is)

@@ -9,7 +9,7 @@ use Rattle.fc_names.specs.declared.name.NameForm.{NameForm}
 use Rattle.fc_record.specs.declared.Kind.{Kind}
 use Rattle.fc_alloc.specs.declared.owner.Owner.{Owner}
 use Rattle.fc_oldmap.specs.Holes.{hole_limit}
-use Rattle.fc_oldmap.specs.OldMap.{FreeSpace, IsOldMap}
+use Rattle.fc_oldmap.specs.OldMap.{OldMapContent, IsOldMap}
 use Rattle.fc_model.specs.Command.{Command}
 use Rattle.fc_model.specs.Tree.{last_name}
 use Rattle.fc_dirs.specs.declared.Entry.{Entry}
@@ -65,7 +65,7 @@ use Rattle.fc_oldvolume.proofs.TakingLemmas.{taken_after, taken_edit, taken_hole
 
 -- ---- what is ready
 
-pub record IsReady (space : FreeSpace) (nodes : Nodes) (path : Path) (dir number : ℕ) (words : FileWords) (r : NewFile) : Type 0 where
+pub record IsReady (space : OldMapContent) (nodes : Nodes) (path : Path) (dir number : ℕ) (words : FileWords) (r : NewFile) : Type 0 where
   pub is_map : IsOldMap space
   pub behind : LieBehind space
   pub vacant : (layout : Layout) (listings : List Listing) → AreSound layout listings → HoldObjects nodes listings → IsVacant nodes listings path dir
@@ -73,7 +73,7 @@ pub record IsReady (space : FreeSpace) (nodes : Nodes) (path : Path) (dir number
   pub ready : IsFileReady nodes (Layout.Old space) dir (last_name path) words r
   pub form : HasForm (dir_form (Layout.Old space)) ready.node.entry.len ready.content
 
-module _ (laws : FilingLaws) (space : FreeSpace) (nodes : Nodes) (path : Path) (dir number : ℕ) (words : FileWords) (r : NewFile) (is : IsReady space nodes path dir number words r) where
+module _ (laws : FilingLaws) (space : OldMapContent) (nodes : Nodes) (path : Path) (dir number : ℕ) (words : FileWords) (r : NewFile) (is : IsReady space nodes path dir number words r) where
   abbrev pub content : Directory
   content = directory_in r.filing.directory.draft
 
@@ -91,7 +91,7 @@ module _ (laws : FilingLaws) (space : FreeSpace) (nodes : Nodes) (path : Path) (
 
   -- ---- the map
 
-  abbrev pub space' : FreeSpace
+  abbrev pub space' : OldMapContent
   space' = map_after space r.filing.taken.map
 
   pub after_is : space_after space r.filing ≡ space'
@@ -279,11 +279,11 @@ module _ (laws : FilingLaws) (space : FreeSpace) (nodes : Nodes) (path : Path) (
         (record { form = form_now a.listings agreed_sound a.walked.held; body = says_it content is.ready.prepared.sayable })
         (record {
           nodes_follow = nodes_follow a.listings agreed_sound a.walked.held;
-          owners_follow = subst (λ (s : FreeSpace). OwnersFollow after nodes' (Layout.Old s) (listings' a.listings agreed_sound a.walked.held)) space_is
+          owners_follow = subst (λ (s : OldMapContent). OwnersFollow after nodes' (Layout.Old s) (listings' a.listings agreed_sound a.walked.held)) space_is
               (owners_follow a.listings agreed_sound a.walked.held owners a.owned);
         })
         len_is lies address_for holes_are in
-        subst (λ (s : FreeSpace). Agree kind (record { layout = Layout.Old s; nodes = nodes'; owners = after }) × LieBehind s) (sym space_is) both
+        subst (λ (s : OldMapContent). Agree kind (record { layout = Layout.Old s; nodes = nodes'; owners = after }) × LieBehind s) (sym space_is) both
 
   -- ---- the image
 
@@ -316,9 +316,9 @@ module _ (laws : FilingLaws) (space : FreeSpace) (nodes : Nodes) (path : Path) (
 
       give : IsMapStep (holding space (holes_taken space (length bytes))) space'.holes w.last.named image
       give =
-          subst (λ (s : FreeSpace). IsMapStep (holding space (holes_taken space (length bytes))) s.holes w.last.named image) after_is
+          subst (λ (s : OldMapContent). IsMapStep (holding space (holes_taken space (length bytes))) s.holes w.last.named image) after_is
           (steps_of.give laws.writes space r.filing words.len is.is_map taken bytes whole was image w (subst (IsEditOf space') (sym is.ready.given) tt)
-          (subst (λ (s : FreeSpace). length s.holes ≤ hole_limit) (sym after_is) (taken_few space words.len r.filing.taken.map is.is_map taken.map)))
+          (subst (λ (s : OldMapContent). length s.holes ≤ hole_limit) (sym after_is) (taken_few space words.len r.filing.taken.map is.is_map taken.map)))
 
       steps : IsFiledInSteps was w.first.stored w.taken w.last.named image view space space'.holes c path words.load words.exec bytes (rest view.listings view_sound hold) d content
           (j view.listings view_sound hold) None file (objects_of view.listings)
@@ -352,13 +352,13 @@ module _ (laws : FilingLaws) (space : FreeSpace) (nodes : Nodes) (path : Path) (
           → TakesOver kind was image view c space' nodes' (with_owner owners (entry_owner (Layout.Old space) number r.filing.directory.node r.entry))
       takes_over owners owned =
           let after = with_owner owners (entry_owner (Layout.Old space) number r.filing.directory.node r.entry) in
-          subst (λ (x : FreeSpace). TakesOver kind was image view c x nodes' after) (sym space_is)
+          subst (λ (x : OldMapContent). TakesOver kind was image view c x nodes' after) (sym space_is)
           (laws.steps.added kind was w.first.stored w.taken w.last.named image view space space'.holes c path words.load words.exec bytes (rest view.listings view_sound hold) d content
           (j view.listings view_sound hold) (j view.listings view_sound hold) file (objects_of view.listings) nodes nodes' (listings' view.listings view_sound hold) after dir number before steps
           (edit view.listings view_sound hold)
           (record {
             nodes_follow = nodes_follow view.listings view_sound hold;
-            owners_follow = subst (λ (x : FreeSpace). OwnersFollow after nodes' (Layout.Old x) (listings' view.listings view_sound hold)) space_is (owners_follow view.listings view_sound hold owners owned);
+            owners_follow = subst (λ (x : OldMapContent). OwnersFollow after nodes' (Layout.Old x) (listings' view.listings view_sound hold)) space_is (owners_follow view.listings view_sound hold owners owned);
           }))
 
     -- which sectors may be written

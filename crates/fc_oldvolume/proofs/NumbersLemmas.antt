@@ -13,7 +13,7 @@ use Rattle.fc_tree.specs.declared.node.Node.{Node}
 use Rattle.fc_tree.specs.Counts.{address_in}
 use Rattle.fc_laws.specs.nodes.Edits.{Nodes, with_edited}
 use Rattle.fc_laws.proofs.lemmas.nodes.ShapeLemmas.{edited_here, edited_length, edited_other}
-use Rattle.fc_oldmap.specs.OldMap.{FreeSpace, IsOldMap}
+use Rattle.fc_oldmap.specs.OldMap.{OldMapContent, IsOldMap}
 use Rattle.fc_image.specs.Layout.{Layout, dir_form}
 use Rattle.fc_volume.specs.Owners.{entry_owner}
 use Rattle.std.proofs.lemmas.Option.{slice_get_read}
@@ -206,12 +206,12 @@ remade_next {X} f k xs now next less is set =
     let there = something now k long in
     set there.0 there.1 ∙ ap (λ (ys : List X). slice_set ys k (f there.0)) is ∙ first_next f k xs there.0 (ap (λ (ys : List X). slice_get ys k) (sym is) ∙ there.1)
 
-pub none_remade : (space : FreeSpace) (nodes : Nodes) (owners : List Owner) (k : ℕ) (owner : Owner) → slice_get owners k ≡ Some owner → get nodes owner.node ≡ None → IsRemade space nodes owners owners k
+pub none_remade : (space : OldMapContent) (nodes : Nodes) (owners : List Owner) (k : ℕ) (owner : Owner) → slice_get owners k ≡ Some owner → get nodes owner.node ≡ None → IsRemade space nodes owners owners k
 none_remade space nodes owners k owner at none = λ o is.
     let same : owner ≡ o = same_last owner o (sym at ∙ is) in
     sym (set_same owners k o is) ∙ ap (slice_set owners k) (sym (ap (λ (x : Option Node). option_map_or (node_owner space o.node) x o) (ap (λ (x : Owner). get nodes x.node) (sym same) ∙ none)))
 
-pub one_remade : (space : FreeSpace) (nodes : Nodes) (owners owners' : List Owner) (k : ℕ) (owner : Owner) (node : Node) → HaveOwnNodes owners → slice_get owners k ≡ Some owner → get nodes owner.node ≡ Some node
+pub one_remade : (space : OldMapContent) (nodes : Nodes) (owners owners' : List Owner) (k : ℕ) (owner : Owner) (node : Node) → HaveOwnNodes owners → slice_get owners k ≡ Some owner → get nodes owner.node ≡ Some node
     → owners' ≡ with_changed (node_owner space owner.node node) owners → IsRemade space nodes owners owners' k
 one_remade space nodes owners owners' k owner node own at there now = λ o is.
     let same : owner ≡ o = same_last owner o (sym at ∙ is) in
@@ -220,7 +220,7 @@ one_remade space nodes owners owners' k owner node own at there now = λ o is.
     now ∙ changed_at owners k owner (node_owner space owner.node node) own at refl ∙ ap (slice_set owners k) (sym made)
 
 -- what a volume makes of a node is its owner here
-pub owner_is : (space : FreeSpace) (layout : Layout) (n : ℕ) (node : Node) (owners : List Owner) → layout ≡ Layout.Old space
+pub owner_is : (space : OldMapContent) (layout : Layout) (n : ℕ) (node : Node) (owners : List Owner) → layout ≡ Layout.Old space
     → with_changed (entry_owner layout n node.holder node.entry) owners ≡ with_changed (node_owner space n node) owners
 owner_is space layout n node owners is = ap (λ (y : Layout). with_changed (entry_owner y n node.holder node.entry) owners) is
 
@@ -261,7 +261,7 @@ module _ (s : Slide) (nodes mid now : Nodes) (spares : List Spare) (bound : ℕ)
   ]
 
 -- as a volume has them
-module _ (layout : Layout) (disc map : FreeSpace) (moves : Moves) (nodes mid now : Nodes) (spares : List Spare) (bound : ℕ) (is : layout ≡ Layout.Old disc) (past : (n : ℕ) → bound ≤ n → get nodes n ≡ None)
+module _ (layout : Layout) (disc map : OldMapContent) (moves : Moves) (nodes mid now : Nodes) (spares : List Spare) (bound : ℕ) (is : layout ≡ Layout.Old disc) (past : (n : ℕ) → bound ≤ n → get nodes n ≡ None)
     (r : AreReaddressed (dir_form layout) (start_after moves.before.items moves.after.items) nodes mid spares bound) where
   pub all_moved : (bound' : ℕ) → bound' ≡ bound → AreAddressed (dir_form layout) (start_after moves.before.items moves.after.items) mid now bound' → AreMoved (slide_of disc map moves) nodes now
   all_moved bound' same a =
@@ -277,7 +277,7 @@ pub mark_is : (spares : List Spare) (n : ℕ) (x : Spare) (b : Bool) → n < len
 mark_is spares n x b less is c = ap (λ (o : Option Spare). option_map_or (λ (spare : Spare). spare.changed) o false) (slice_get_read spares (length spares) n x refl less is) ∙ c
 
 -- what moves fits the field of an address
-pub low_moves : (space : FreeSpace) (was now : List Owned) → IsOldMap space → AreBodies space now → IsLow (start_after was now)
+pub low_moves : (space : OldMapContent) (was now : List Owned) → IsOldMap space → AreBodies space now → IsLow (start_after was now)
 low_moves space was now is_map bodies = record { stays = λ a low. moved_low was now (2 ^ 24) a place low; moved = λ a other. other_low was now (2 ^ 24) a place other }
   where
     place : (p : Owned) → Contains now p → p.start < 2 ^ 24

@@ -5,7 +5,7 @@ use Rattle.std.specs.FinMap.{get}
 use Rattle.fc_device.specs.declared.disk.Disk.{Ghosts}
 use Rattle.fc_record.specs.declared.Kind.{Kind}
 use Rattle.fc_names.specs.Names.{Path}
-use Rattle.fc_oldmap.specs.OldMap.{FreeSpace, IsOldMap}
+use Rattle.fc_oldmap.specs.OldMap.{OldMapContent, IsOldMap}
 use Rattle.fc_model.specs.Command.{Command}
 use Rattle.fc_dirs.specs.Directory.{Directory}
 use Rattle.fc_drafts.specs.Draft.{CanAddress}
@@ -51,7 +51,7 @@ use Rattle.fc_oldvolume.proofs.SetVolumeLemmas.{HasMap}
 use Rattle.fc_oldvolume.proofs.TargetLemmas.{holds_entry}
 
 -- `w` is the same volume as `v`, by its parts.
-module _ (laws : FilingLaws) (w v : Volume) (same : w ≡ v) (space : FreeSpace) (layout : layout_of v.space ≡ Layout.Old space) (maps : HasMap w) (behind : LieBehind space) (path : Path) (t : Target) (words : FileWords)
+module _ (laws : FilingLaws) (w v : Volume) (same : w ≡ v) (space : OldMapContent) (layout : layout_of v.space ≡ Layout.Old space) (maps : HasMap w) (behind : LieBehind space) (path : Path) (t : Target) (words : FileWords)
     (accepted : IsFileAccepted v path (Slot.Over t)) (agree : (kind : Kind) × Agree kind (parts_of v)) where
   is_map : IsOldMap space
   is_map = maps space (ap (λ (x : Volume). layout_of x.space) same ∙ layout)
@@ -109,7 +109,7 @@ module _ (laws : FilingLaws) (w v : Volume) (same : w ≡ v) (space : FreeSpace)
   replace = record {
     object = file_node (nodes_of v.tree) (Layout.Old space) agreed.listings sound agreed.walked.held path t file;
     there = file_there (nodes_of v.tree) (Layout.Old space) agreed.listings sound agreed.walked.held path t file;
-    free = λ s is. subst (λ (x : FreeSpace). 0 < units_of x p.entry → CanGive x (holes_without (old_need x words.len) x.holes) (space_at x p.entry)) (one_space (Layout.Old space) space s refl is) can_give;
+    free = λ s is. subst (λ (x : OldMapContent). 0 < units_of x p.entry → CanGive x (holes_without (old_need x words.len) x.holes) (space_at x p.entry)) (one_space (Layout.Old space) space s refl is) can_give;
   }
 
   pub can_replace : CanReplace (nodes_of w.tree) (layout_of w.space) t.node words.len
@@ -146,13 +146,13 @@ module _ (laws : FilingLaws) (w v : Volume) (same : w ≡ v) (space : FreeSpace)
 
     -- what is answered for want of space, over each view whose parts the volume has
     pub answered : {T : Type 0} (result : Result T CommandError)
-        → ((s : FreeSpace) (x : Opened) (k : Command) (object : Node) → layout_of w.space ≡ Layout.Old s → get (nodes_of w.tree) t.node ≡ Some object → WantsOver s words.len object.entry x k
+        → ((s : OldMapContent) (x : Opened) (k : Command) (object : Node) → layout_of w.space ≡ Layout.Old s → get (nodes_of w.tree) t.node ≡ Some object → WantsOver s words.len object.entry x k
         → AnswersSpace result (short x k))
         → AnswersSpace result (short view c)
     answered result answers =
         let object = file_node (nodes_of v.tree) (Layout.Old space) view.listings here parts.nodes path t its in
         let is = file_there (nodes_of v.tree) (Layout.Old space) view.listings here parts.nodes path t its in
-        subst (λ (y : Volume). (s : FreeSpace) (x : Opened) (k : Command) (n : Node) → layout_of y.space ≡ Layout.Old s → get (nodes_of y.tree) t.node ≡ Some n → WantsOver s words.len n.entry x k
+        subst (λ (y : Volume). (s : OldMapContent) (x : Opened) (k : Command) (n : Node) → layout_of y.space ≡ Layout.Old s → get (nodes_of y.tree) t.node ≡ Some n → WantsOver s words.len n.entry x k
         → AnswersSpace result (short x k)) same answers space view c object layout is (wanted object is)
 
   -- ---- what is ready

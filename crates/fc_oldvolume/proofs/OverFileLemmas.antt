@@ -9,7 +9,7 @@ use Rattle.fc_alloc.specs.declared.owner.Owner.{Owner}
 use Rattle.fc_alloc.specs.Owners.{HaveOwnNodes}
 use Rattle.fc_oldmap.specs.declared.Hole.{Hole}
 use Rattle.fc_oldmap.specs.Holes.{hole_limit}
-use Rattle.fc_oldmap.specs.OldMap.{FreeSpace, IsOldMap}
+use Rattle.fc_oldmap.specs.OldMap.{OldMapContent, IsOldMap}
 use Rattle.fc_model.specs.Command.{Command}
 use Rattle.fc_dirs.specs.declared.Entry.{Entry}
 use Rattle.fc_dirs.specs.Directory.{Directory, entries_of}
@@ -72,7 +72,7 @@ use Rattle.fc_oldvolume.proofs.TakingLemmas.{taken_after, taken_edit, taken_hole
 
 -- ---- what is ready
 
-pub record IsOver (space : FreeSpace) (nodes : Nodes) (path : Path) (t : Target) (words : FileWords) (r : Replacement) : Type 0 where
+pub record IsOver (space : OldMapContent) (nodes : Nodes) (path : Path) (t : Target) (words : FileWords) (r : Replacement) : Type 0 where
   pub is_map : IsOldMap space
   pub behind : LieBehind space
   pub files : (layout : Layout) (listings : List Listing) → AreSound layout listings → HoldObjects nodes listings → IsFile nodes listings path t
@@ -95,7 +95,7 @@ module _ (nodes : Nodes) (layout : Layout) (listings : List Listing) (sound : Ar
   pub file_entry : (object : Node) → get nodes t.node ≡ Some object → object.entry ≡ f.target.object.entry
   file_entry object is = ap (λ (n : Node). n.entry) (same_some object file_node (sym is ∙ file_there))
 
-module _ (laws : FilingLaws) (space : FreeSpace) (nodes : Nodes) (path : Path) (t : Target) (words : FileWords) (r : Replacement) (is : IsOver space nodes path t words r) where
+module _ (laws : FilingLaws) (space : OldMapContent) (nodes : Nodes) (path : Path) (t : Target) (words : FileWords) (r : Replacement) (is : IsOver space nodes path t words r) where
   abbrev pub content : Directory
   content = directory_in r.filing.directory.draft
 
@@ -113,10 +113,10 @@ module _ (laws : FilingLaws) (space : FreeSpace) (nodes : Nodes) (path : Path) (
 
   -- ---- the maps
 
-  abbrev pub mid : FreeSpace
+  abbrev pub mid : OldMapContent
   mid = map_after space r.filing.taken.map
 
-  abbrev pub space' : FreeSpace
+  abbrev pub space' : OldMapContent
   space' = space_after space r.filing
 
   abbrev base : List Hole
@@ -269,8 +269,8 @@ module _ (laws : FilingLaws) (space : FreeSpace) (nodes : Nodes) (path : Path) (
 
     pub holes_are : space'.holes ≡ with_space_of space (Some p) (holes_without (old_need space words.len) space.holes)
     holes_are =
-        ap (λ (m : FreeSpace). (map_after m r.filing.given).holes) mid_is
-        ∙ given_holes laws.spaces space p is.is_map p_placed base r.filing.given (subst (λ (m : FreeSpace). GivesBack m p.entry (Ok r.filing.given)) mid_is gives)
+        ap (λ (m : OldMapContent). (map_after m r.filing.given).holes) mid_is
+        ∙ given_holes laws.spaces space p is.is_map p_placed base r.filing.given (subst (λ (m : OldMapContent). GivesBack m p.entry (Ok r.filing.given)) mid_is gives)
 
     -- ---- the owners
 
@@ -332,11 +332,11 @@ module _ (laws : FilingLaws) (space : FreeSpace) (nodes : Nodes) (path : Path) (
         })
         (record {
           nodes_follow = nodes_follow a.listings agreed_sound a.walked.held;
-          owners_follow = subst (λ (s : FreeSpace). OwnersFollow owners' nodes' (Layout.Old s) (listings' a.listings agreed_sound a.walked.held)) space_is
+          owners_follow = subst (λ (s : OldMapContent). OwnersFollow owners' nodes' (Layout.Old s) (listings' a.listings agreed_sound a.walked.held)) space_is
               (owners_follow a.listings agreed_sound a.walked.held owners admitted owners' a.owned own room changed);
         })
         len_is (lies a.listings agreed_sound a.walked.held) address_for (holes_are a.listings agreed_sound a.walked.held) in
-        subst (λ (s : FreeSpace). Agree kind (record { layout = Layout.Old s; nodes = nodes'; owners = owners' }) × LieBehind s) (sym space_is) both
+        subst (λ (s : OldMapContent). Agree kind (record { layout = Layout.Old s; nodes = nodes'; owners = owners' }) × LieBehind s) (sym space_is) both
 
     -- The bytes are as many as the directory's entry asks for.
     pub long : length r.filing.directory.bytes.items ≡ object_size (dir_form (Layout.Old space)) is.ready.saved.node.entry
@@ -420,12 +420,12 @@ module _ (laws : FilingLaws) (space : FreeSpace) (nodes : Nodes) (path : Path) (
       pub takes_over : (owners admitted owners' : List Owner) → AreOwners owners nodes (Layout.Old space) (objects_of view.listings) → HaveOwnNodes owners → admitted ≡ owners_with_room r.owner owners
           → HasOwnerNow r.owner r.node admitted owners' → TakesOver kind was image view c space' nodes' owners'
       takes_over owners admitted owners' owned own room changed =
-          subst (λ (x : FreeSpace). TakesOver kind was image view c x nodes' owners') (sym space_is)
+          subst (λ (x : OldMapContent). TakesOver kind was image view c x nodes' owners') (sym space_is)
           (laws.steps.replaced kind was w.first.stored w.taken w.last.named image view space space'.holes c path words.load words.exec bytes (rest view.listings view_sound hold) d content t.at its new
           (stay view.listings view_sound hold) nodes nodes' (listings' view.listings view_sound hold) owners' t.holder t.node before steps (edit view.listings view_sound hold)
           (record {
             nodes_follow = nodes_follow view.listings view_sound hold;
-            owners_follow = subst (λ (x : FreeSpace). OwnersFollow owners' nodes' (Layout.Old x) (listings' view.listings view_sound hold)) space_is
+            owners_follow = subst (λ (x : OldMapContent). OwnersFollow owners' nodes' (Layout.Old x) (listings' view.listings view_sound hold)) space_is
                 (owners_follow view.listings view_sound hold owners admitted owners' owned own room changed);
           }))
 

@@ -6,7 +6,7 @@ use Rattle.fc_device.specs.declared.disk.Disk.{Ghosts}
 use Rattle.fc_device.specs.Calls.{SameForm, StopsAndExitsLeave}
 use Rattle.fc_record.specs.declared.Kind.{Kind}
 use Rattle.fc_names.specs.Names.{Path}
-use Rattle.fc_oldmap.specs.OldMap.{FreeSpace}
+use Rattle.fc_oldmap.specs.OldMap.{OldMapContent}
 use Rattle.fc_model.specs.Command.{Command}
 use Rattle.fc_drafts.specs.Draft.{directory_in}
 use Rattle.fc_image.specs.Layout.{Layout}
@@ -35,7 +35,7 @@ use Rattle.fc_oldvolume.proofs.OverFileLemmas.{IsOver}
 use Rattle.fc_oldvolume.proofs.OverFileLemmas as over_file
 use Rattle.fc_oldvolume.proofs.SpacedLemmas.{HasNow, has_changed as space_changed, stands_now as space_stands}
 
-module _ {D : Type 0} (d : Ghosts D) (laws : FilingLaws) (space : FreeSpace) (v : Volume) (old : D) (path : Path) (t : Target) (words : FileWords) (r : Replacement)
+module _ {D : Type 0} (d : Ghosts D) (laws : FilingLaws) (space : OldMapContent) (v : Volume) (old : D) (path : Path) (t : Target) (words : FileWords) (r : Replacement)
     (layout : layout_of v.space ≡ Layout.Old space) (is : IsOver space (nodes_of v.tree) path t words r) (stands : StandsFor d v old) where
   abbrev sectors : List ℕ
   sectors = sectors_in r.filing.directory.place.items
@@ -52,7 +52,7 @@ module _ {D : Type 0} (d : Ghosts D) (laws : FilingLaws) (space : FreeSpace) (v 
   owned : (view : Opened) → ArePartsOf (parts_of v) view → AreOwners v.owners (nodes_of v.tree) (Layout.Old space) (objects_of view.listings)
   owned view held = subst (λ (x : Layout). AreOwners v.owners (nodes_of v.tree) x (objects_of view.listings)) (sym held.layout ∙ layout) held.owners
 
-  abbrev space' : FreeSpace
+  abbrev space' : OldMapContent
   space' = over_file.space' laws space (nodes_of v.tree) path t words r is
 
   pub space_is : space' ≡ holding space space'.holes

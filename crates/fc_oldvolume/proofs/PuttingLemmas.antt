@@ -2,7 +2,7 @@
 use Rattle.std.proofs.Common.{◌≡◌, ◌<◌, ◌^◌, ℕ, List, Some, sym, ap, subst, ◌∙◌}
 use Rattle.std.specs.Ordering.{nat_cmp}
 use Rattle.std.specs.FinMap.{FinMap, get}
-use Rattle.fc_oldmap.specs.OldMap.{FreeSpace}
+use Rattle.fc_oldmap.specs.OldMap.{OldMapContent}
 use Rattle.fc_dirs.specs.Directory.{Directory}
 use Rattle.fc_image.specs.Layout.{Layout}
 use Rattle.fc_tree.specs.declared.node.Node.{Node}
@@ -28,5 +28,5 @@ module _ (nodes : FinMap nat_cmp Node) (layout : Layout) (n : ℕ) (name : List 
   gains = subst (CanGain nodes layout n name node) content_is (subst (λ (x : Node). CanGain nodes layout n name x can.1) node_is can.2)
 
 -- what is taken has a short address
-pub short_address : (layout : Layout) (bytes : ℕ) (t : Taken) → IsOldLayout layout → ((space : FreeSpace) → layout ≡ Layout.Old space → IsTaken space bytes t) → t.address < 2 ^ 24
+pub short_address : (layout : Layout) (bytes : ℕ) (t : Taken) → IsOldLayout layout → ((space : OldMapContent) → layout ≡ Layout.Old space → IsTaken space bytes t) → t.address < 2 ^ 24
 short_address layout bytes t is taken = let map = old_layout layout is in (taken map.0 map.1).short

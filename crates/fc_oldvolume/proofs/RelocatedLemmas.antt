@@ -4,7 +4,7 @@ use Rattle.std.proofs.Common.{◌≡◌, ◌≤◌, ℕ, List, Option, refl, sym
 use Rattle.fc_device.specs.declared.disk.Disk.{Ghosts}
 use Rattle.fc_device.specs.Calls.{SameForm, StopsAndExitsLeave}
 use Rattle.fc_record.specs.declared.Kind.{Kind}
-use Rattle.fc_oldmap.specs.OldMap.{FreeSpace}
+use Rattle.fc_oldmap.specs.OldMap.{OldMapContent}
 use Rattle.fc_oldchanges.specs.Owed.{MapStays}
 use Rattle.fc_model.specs.Command.{Command}
 use Rattle.fc_image.specs.Layout.{Layout, disc_sectors, sector_bytes}
@@ -25,7 +25,7 @@ use Rattle.fc_oldvolume.specs.Changing.{WritesNoMap}
 use Rattle.fc_oldvolume.proofs.ChangeLemmas.{one_space}
 use Rattle.fc_oldvolume.proofs.WritingLemmas.{kept_to}
 
-module _ {D : Type 0} (d : Ghosts D) (c : Command) (space : FreeSpace) (v v' : Volume) (old new : D) (r : Relocation) (layout : layout_of v.space ≡ Layout.Old space) (stands : StandsFor d v old)
+module _ {D : Type 0} (d : Ghosts D) (c : Command) (space : OldMapContent) (v v' : Volume) (old new : D) (r : Relocation) (layout : layout_of v.space ≡ Layout.Old space) (stands : StandsFor d v old)
     (has : HasRelocated v v' r) (exits : StopsAndExitsLeave d old new (WritesRelocation space r))
     (over : (kind : Kind) (view : Opened) (was image : List ℕ) → d.bytes old ≡ Some was → d.bytes new ≡ Some image → OpensAs was kind view → ArePartsOf (parts_of v) view
     → TakesOver kind was image view c space (relocated r (nodes_of v.tree)) (with_owner r.owner v.owners)) where
@@ -68,12 +68,12 @@ module _ {D : Type 0} (d : Ghosts D) (c : Command) (space : FreeSpace) (v v' : V
   }
 
 -- The map isn't written, if the directories lie apart from it by each view of the image.
-pub map_unwritten : {D : Type 0} (d : Ghosts D) (space : FreeSpace) (v : Volume) (old new : D) (r : Relocation) → layout_of v.space ≡ Layout.Old space → StandsFor d v old
+pub map_unwritten : {D : Type 0} (d : Ghosts D) (space : OldMapContent) (v : Volume) (old new : D) (r : Relocation) → layout_of v.space ≡ Layout.Old space → StandsFor d v old
     → StopsAndExitsLeave d old new (WritesRelocation space r)
     → ((kind : Kind) (view : Opened) (was : List ℕ) → OpensAs was kind view → ArePartsOf (parts_of v) view → LieOffMap space r) → WritesNoMap d (parts_of v) old new
 map_unwritten d space v old new r layout stands exits off was told image now other at =
     let s = stands.image was told in
-    subst (λ (x : FreeSpace). MapStays x was image) (one_space (layout_of v.space) space other layout at) ((kept_to d exits was image told now).map_stays (off s.0 s.1 was s.2 s.3))
+    subst (λ (x : OldMapContent). MapStays x was image) (one_space (layout_of v.space) space other layout at) ((kept_to d exits was image told now).map_stays (off s.0 s.1 was s.2 s.3))
 
 -- It isn't if nothing is.
 pub map_same : {D : Type 0} (d : Ghosts D) (v : Volume) (disk : D) → WritesNoMap d (parts_of v) disk disk

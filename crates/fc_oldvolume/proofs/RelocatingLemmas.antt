@@ -7,7 +7,7 @@ use Rattle.fc_device.specs.Calls.{StopsAndExitsLeave}
 use Rattle.fc_image.specs.Layout.{Layout, sector_bytes}
 use Rattle.fc_objects.specs.Extents.{sectors_in}
 use Rattle.fc_objects.specs.Written.{IsPartWritten}
-use Rattle.fc_oldmap.specs.OldMap.{FreeSpace}
+use Rattle.fc_oldmap.specs.OldMap.{OldMapContent}
 use Rattle.fc_oldlaws.specs.takeover.Writes.{WrittenBytesLaw}
 use Rattle.fc_volume.specs.declared.changes.relocate.Relocation.{Relocation}
 use Rattle.fc_volume.specs.Relocating.{more_sectors, sectors_of_relocation}
@@ -18,7 +18,7 @@ use Rattle.fc_oldvolume.proofs.ChangeLemmas.{written_then}
 
 -- ---- one step, whatever came of it
 
-module _ (writes : WrittenBytesLaw) (layout : Layout) (space : FreeSpace) (r : Relocation) (at : layout ≡ Layout.Old space) (was image : List ℕ) where
+module _ (writes : WrittenBytesLaw) (layout : Layout) (space : OldMapContent) (r : Relocation) (at : layout ≡ Layout.Old space) (was image : List ℕ) where
   abbrev xs : List ℕ
   xs = sectors_in r.holder.place.items
 
@@ -60,7 +60,7 @@ module _ (writes : WrittenBytesLaw) (layout : Layout) (space : FreeSpace) (r : R
       }
 
 -- one step after another
-pub step_then : (space : FreeSpace) (r : Relocation) (a b c : List ℕ) → WritesRelocation space r a b → WritesRelocation space r b c → WritesRelocation space r a c
+pub step_then : (space : OldMapContent) (r : Relocation) (a b c : List ℕ) → WritesRelocation space r a b → WritesRelocation space r b c → WritesRelocation space r a c
 step_then space r a b c first second = record {
   written = written_then space (sectors_of_relocation r) a b c first.written second.written;
   map_stays = λ off s among. second.map_stays off s among ∙ first.map_stays off s among;

@@ -9,7 +9,7 @@ use Rattle.fc_names.specs.declared.name.NameForm.{NameForm}
 use Rattle.fc_names.specs.declared.refusal.Refusal.{Refusal}
 use Rattle.fc_names.specs.Names.{Path, is_same_name, is_same_path, is_writable}
 use Rattle.fc_record.specs.declared.Kind.{Kind}
-use Rattle.fc_oldmap.specs.OldMap.{FreeSpace, IsOldMap}
+use Rattle.fc_oldmap.specs.OldMap.{OldMapContent, IsOldMap}
 use Rattle.fc_model.specs.Answer.{first_of, reasons}
 use Rattle.fc_model.specs.Command.{Command}
 use Rattle.fc_model.specs.Tree.{holder, last_name}
@@ -76,7 +76,7 @@ accepted_by v from to form (Ok r) is judge renaming name = record {
 -- ---- before the writing
 
 -- sectors that have a place on the disc are on the disk
-pub placed_low : {D : Type 0} (d : Ghosts D) (old : D) (v : Volume) (space : FreeSpace) (e : Entry) (xs : List ℕ) → PlacesSuffice (layout_of v.space) → StandsFor d v old → layout_of v.space ≡ Layout.Old space
+pub placed_low : {D : Type 0} (d : Ghosts D) (old : D) (v : Volume) (space : OldMapContent) (e : Entry) (xs : List ℕ) → PlacesSuffice (layout_of v.space) → StandsFor d v old → layout_of v.space ≡ Layout.Old space
     → sectors_at (Layout.Old space) e.address (object_size (dir_form (Layout.Old space)) e) ≡ Some xs → All (λ n. n < d.sectors old) xs
 placed_low d old v space e xs suffice stands layout at =
     all_low (d.sectors old) xs
@@ -86,7 +86,7 @@ placed_low d old v space e xs suffice stands layout at =
     omega (arith, here, room))
 
 -- What is known of a volume with an old map and of a rename that the judge has accepted.
-pub record IsAsked (v : Volume) (space : FreeSpace) (from to : Path) (rn : Renaming) : Type 0 where
+pub record IsAsked (v : Volume) (space : OldMapContent) (from to : Path) (rn : Renaming) : Type 0 where
   pub layout : layout_of v.space ≡ Layout.Old space
   pub is_map : IsOldMap space
   pub behind : LieBehind space
@@ -94,23 +94,23 @@ pub record IsAsked (v : Volume) (space : FreeSpace) (from to : Path) (rn : Renam
   pub agree : (kind : Kind) × Agree kind (parts_of v)
 
 -- `w` is the same volume, by its parts
-pub asked : (w v : Volume) → w ≡ v → (space : FreeSpace) → layout_of v.space ≡ Layout.Old space → HasMap w → LieBehind space → (from to : Path) (rn : Renaming) → IsAccepted v from to rn
+pub asked : (w v : Volume) → w ≡ v → (space : OldMapContent) → layout_of v.space ≡ Layout.Old space → HasMap w → LieBehind space → (from to : Path) (rn : Renaming) → IsAccepted v from to rn
     → (kind : Kind) × Agree kind (parts_of v) → IsAsked v space from to rn
 asked w v same space layout maps behind from to rn accepted agree =
     record { layout = layout; is_map = maps space (ap (λ (x : Volume). layout_of x.space) same ∙ layout); behind = behind; accepted = accepted; agree = agree }
 
 -- what is asked, and what is ready, of either
-pub can_at : (w v : Volume) → w ≡ v → (space : FreeSpace) → layout_of v.space ≡ Layout.Old space → (t : Target) (name : List ℕ) → CanRename (nodes_of v.tree) (Layout.Old space) t name
+pub can_at : (w v : Volume) → w ≡ v → (space : OldMapContent) → layout_of v.space ≡ Layout.Old space → (t : Target) (name : List ℕ) → CanRename (nodes_of v.tree) (Layout.Old space) t name
     → CanRename (nodes_of w.tree) (layout_of w.space) t name
 can_at w v same space layout t name can =
     subst (λ (x : Volume). CanRename (nodes_of x.tree) (layout_of x.space) t name) (sym same) (subst (λ (l : Layout). CanRename (nodes_of v.tree) l t name) (sym layout) can)
 
-pub ready_at : (w v : Volume) → w ≡ v → (space : FreeSpace) → layout_of v.space ≡ Layout.Old space → (t : Target) (name : List ℕ) (r : Relocation) → IsRenameReady (nodes_of w.tree) (layout_of w.space) t name r
+pub ready_at : (w v : Volume) → w ≡ v → (space : OldMapContent) → layout_of v.space ≡ Layout.Old space → (t : Target) (name : List ℕ) (r : Relocation) → IsRenameReady (nodes_of w.tree) (layout_of w.space) t name r
     → IsRenameReady (nodes_of v.tree) (Layout.Old space) t name r
 ready_at w v same space layout t name r ready =
     subst (λ (l : Layout). IsRenameReady (nodes_of v.tree) l t name r) layout (subst (λ (x : Volume). IsRenameReady (nodes_of x.tree) (layout_of x.space) t name r) same ready)
 
-module _ {v : Volume} {space : FreeSpace} {from to : Path} {rn : Renaming} (laws : RenameLaws) (a : IsAsked v space from to rn) where
+module _ {v : Volume} {space : OldMapContent} {from to : Path} {rn : Renaming} (laws : RenameLaws) (a : IsAsked v space from to rn) where
   abbrev pub parts : Parts
   parts = record { layout = Layout.Old space; nodes = nodes_of v.tree; owners = v.owners }
 

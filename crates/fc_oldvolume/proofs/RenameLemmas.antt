@@ -5,7 +5,7 @@ use Rattle.std.specs.Prelude.{Contains}
 use Rattle.std.specs.Option.{option_map_or}
 use Rattle.fc_names.specs.Names.{Path, is_directory, is_same_path}
 use Rattle.fc_record.specs.declared.Kind.{Kind}
-use Rattle.fc_oldmap.specs.OldMap.{FreeSpace, IsOldMap}
+use Rattle.fc_oldmap.specs.OldMap.{OldMapContent, IsOldMap}
 use Rattle.fc_alloc.specs.declared.owner.Owner.{Owner}
 use Rattle.fc_model.specs.Command.{Command}
 use Rattle.fc_model.specs.Tree.{holder, last_name}
@@ -62,7 +62,7 @@ use Rattle.fc_oldvolume.proofs.TurnedLemmas.{own_written, turned_off}
 -- ---- the edit
 
 -- What is known before anything is written.
-pub record IsReady (space : FreeSpace) (nodes : Nodes) (from to : Path) (rn : Renaming) (r : Relocation) : Type 0 where
+pub record IsReady (space : OldMapContent) (nodes : Nodes) (from to : Path) (rn : Renaming) (r : Relocation) : Type 0 where
   pub is_map : IsOldMap space
   pub behind : LieBehind space
   pub same : rn.holder ≡ rn.target.holder
@@ -71,7 +71,7 @@ pub record IsReady (space : FreeSpace) (nodes : Nodes) (from to : Path) (rn : Re
   pub dir : SmallDir
   pub small : ready.content ≡ Directory.Small dir
 
-module _ (laws : RenameLaws) (space : FreeSpace) (nodes : Nodes) (from to : Path) (rn : Renaming) (r : Relocation) (is : IsReady space nodes from to rn r) where
+module _ (laws : RenameLaws) (space : OldMapContent) (nodes : Nodes) (from to : Path) (rn : Renaming) (r : Relocation) (is : IsReady space nodes from to rn r) where
   abbrev pub t : Target
   t = rn.target
 

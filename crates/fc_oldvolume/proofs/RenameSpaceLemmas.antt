@@ -4,7 +4,7 @@ use Rattle.std.specs.Prelude.{if◌then◌else◌}
 use Rattle.std.specs.Option.{option_map_or}
 use Rattle.fc_names.specs.declared.refusal.Refusal.TheVariants as refusals
 use Rattle.fc_names.specs.Names.{Path, is_same_path}
-use Rattle.fc_oldmap.specs.OldMap.{FreeSpace, IsOldMap}
+use Rattle.fc_oldmap.specs.OldMap.{OldMapContent, IsOldMap}
 use Rattle.fc_model.specs.Tree.{holder}
 use Rattle.fc_model.specs.Command.{Command}
 use Rattle.fc_model.specs.Answer.{first_of, when}
@@ -16,7 +16,7 @@ use Rattle.fc_image.specs.effects.Short.{Gain, gain_in, is_copied, is_full_with,
 use Rattle.fc_oldvolume.proofs.JudgedLemmas.{few_enough, no_space}
 
 -- no object of an old map shares its space
-not_copied : (v : Opened) (space : FreeSpace) (from to : Path) (o : Object) → v.layout ≡ Layout.Old space → is_copied v from to o ≡ false
+not_copied : (v : Opened) (space : OldMapContent) (from to : Path) (o : Object) → v.layout ≡ Layout.Old space → is_copied v from to o ≡ false
 not_copied v space from to o at =
     ap (λ (l : Layout). not (is_directory_object o) && not (is_same_path (holder from) (holder to)) && is_sharing l (objects_of v.listings) o) at
     ∙ by (is_directory_object o) (is_same_path (holder from) (holder to))
@@ -26,7 +26,7 @@ not_copied v space from to o at =
     by false true = refl
     by false false = refl
 
-needs_nothing : (v : Opened) (space : FreeSpace) (from to : Path) → v.layout ≡ Layout.Old space → new_length v (Command.Rename from to) ≡ 0
+needs_nothing : (v : Opened) (space : OldMapContent) (from to : Path) → v.layout ≡ Layout.Old space → new_length v (Command.Rename from to) ≡ 0
 needs_nothing v space from to at = by (object_at v.listings from)
   where
     by : (x : Option Object) → option_map_or (λ (o : Object). if is_copied v from to o then o.entry.len else 0) x 0 ≡ 0
@@ -37,7 +37,7 @@ needs_nothing v space from to at = by (object_at v.listings from)
 abbrev pub lacks_room : Opened → Command → Bool
 lacks_room v c = option_map_or (λ (gain : Gain). is_full_with gain.listing.content gain) (gain_in v c) false
 
-pub rename_takes_none : (v : Opened) (space : FreeSpace) (from to : Path) → v.layout ≡ Layout.Old space → IsOldMap space → lacks_room v (Command.Rename from to) ≡ false → short v (Command.Rename from to) ≡ None
+pub rename_takes_none : (v : Opened) (space : OldMapContent) (from to : Path) → v.layout ≡ Layout.Old space → IsOldMap space → lacks_room v (Command.Rename from to) ≡ false → short v (Command.Rename from to) ≡ None
 unfolding short
 rename_takes_none v space from to at is room =
     ap (λ (b : Bool). first_of (when b refusals.DirFull ∷ space_reasons v.layout v (Command.Rename from to))) room

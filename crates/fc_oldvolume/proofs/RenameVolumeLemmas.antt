@@ -6,7 +6,7 @@ use Rattle.fc_alloc.specs.declared.owner.Owner.{Owner}
 use Rattle.fc_alloc.specs.Owners.{HaveOwnNodes}
 use Rattle.fc_names.specs.Names.{Path}
 use Rattle.fc_record.specs.declared.Kind.{Kind}
-use Rattle.fc_oldmap.specs.OldMap.{FreeSpace}
+use Rattle.fc_oldmap.specs.OldMap.{OldMapContent}
 use Rattle.fc_model.specs.Command.{Command}
 use Rattle.fc_image.specs.Layout.{Layout, sector_bytes}
 use Rattle.fc_image.specs.Objects.{objects_of}
@@ -27,7 +27,7 @@ use Rattle.fc_oldvolume.proofs.MoveLemmas.{IsReadyToMove}
 use Rattle.fc_oldvolume.proofs.MoveLemmas as move
 use Rattle.fc_oldvolume.proofs.RenameLemmas.{IsReady, agrees, long, takes_over}
 
-module _ {D : Type 0} (d : Ghosts D) (laws : RenameLaws) (space : FreeSpace) (v : Volume) (old : D) (layout : layout_of v.space ≡ Layout.Old space) (stands : StandsFor d v old) where
+module _ {D : Type 0} (d : Ghosts D) (laws : RenameLaws) (space : OldMapContent) (v : Volume) (old : D) (layout : layout_of v.space ≡ Layout.Old space) (stands : StandsFor d v old) where
   abbrev had : Parts
   had = record { layout = Layout.Old space; nodes = nodes_of v.tree; owners = v.owners }
 

@@ -3,7 +3,7 @@ use Rattle.std.proofs.Common.{◌≡◌, ◌≤◌, ◌*◌, ℕ, true, List, le
 use Rattle.std.specs.Prelude.{Contains}
 use Rattle.std.specs.Ordering.{nat_cmp}
 use Rattle.std.specs.FinMap.{FinMap, get}
-use Rattle.fc_oldmap.specs.OldMap.{FreeSpace, IsOldMap}
+use Rattle.fc_oldmap.specs.OldMap.{OldMapContent, IsOldMap}
 use Rattle.fc_model.specs.Command.{Command}
 use Rattle.fc_dirs.specs.declared.Entry.{Entry}
 use Rattle.fc_dirs.specs.Directory.{Directory}
@@ -50,7 +50,7 @@ module _ (nodes : FinMap nat_cmp Node) (layout : Layout) (listings : List Listin
 -- ---- the step
 
 -- What is known of a directory whose bytes were written.
-pub record IsDirectoryBytes (space : FreeSpace) (view : Opened) (c : Command) (l : Listing) (content : Directory) (bytes sectors was image : List ℕ) : Type 0 where
+pub record IsDirectoryBytes (space : OldMapContent) (view : Opened) (c : Command) (l : Listing) (content : Directory) (bytes sectors was image : List ℕ) : Type 0 where
   pub is_map : IsOldMap space
   pub placed : IsAt (Layout.Old space) l.object
   pub no_map : is_apart l.object.sectors (map_place (Layout.Old space)) ≡ true
@@ -60,7 +60,7 @@ pub record IsDirectoryBytes (space : FreeSpace) (view : Opened) (c : Command) (l
   pub bytes_are : AreWritten bytes content
   pub stored : AreStored (sector_bytes (Layout.Old space)) sectors bytes was image
 
-module _ (writes : WrittenBytesLaw) (space : FreeSpace) (view : Opened) (c : Command) (l : Listing) (content : Directory) (bytes sectors was image : List ℕ)
+module _ (writes : WrittenBytesLaw) (space : OldMapContent) (view : Opened) (c : Command) (l : Listing) (content : Directory) (bytes sectors was image : List ℕ)
     (is : IsDirectoryBytes space view c l content bytes sectors was image) where
   abbrev size : ℕ
   size = sector_bytes (Layout.Old space)

@@ -12,7 +12,7 @@ use Rattle.fc_names.specs.declared.name.NameForm.{NameForm}
 use Rattle.fc_dirs.specs.declared.Entry.{Entry}
 use Rattle.fc_dirs.specs.Small.{SmallDir, tail_of}
 use Rattle.fc_device.specs.declared.disk.Extent.{Extent}
-use Rattle.fc_oldmap.specs.OldMap.{FreeSpace}
+use Rattle.fc_oldmap.specs.OldMap.{OldMapContent}
 use Rattle.fc_newmap.proofs.PlaceLemmas.{in_back, in_either, in_front}
 use Rattle.fc_image.specs.Layout.{Layout, dir_form, disc_sectors, hole_sectors, is_among, map_place, sectors_at}
 use Rattle.fc_image.specs.Objects.{has_sectors, objects_of}
@@ -52,13 +52,13 @@ use Rattle.fc_oldvolume.proofs.RowsLemmas.{one_row}
 
 -- ---- what is written
 
-pub written_same : (space : FreeSpace) (sectors image : List ℕ) → IsWritten space sectors image image
+pub written_same : (space : OldMapContent) (sectors image : List ℕ) → IsWritten space sectors image image
 written_same space sectors image = record { length_stays = refl; writes = λ s off map. refl }
 
 -- a map of the same disc has its sectors in the same place
-pub written_by : (space now : FreeSpace) (sectors a b : List ℕ) → now ≡ holding space now.holes → IsWritten now sectors a b → IsWritten space sectors a b
+pub written_by : (space now : OldMapContent) (sectors a b : List ℕ) → now ≡ holding space now.holes → IsWritten now sectors a b → IsWritten space sectors a b
 written_by space now sectors a b is w =
-    let x : IsWritten (holding space now.holes) sectors a b = subst (λ (s : FreeSpace). IsWritten s sectors a b) is w in
+    let x : IsWritten (holding space now.holes) sectors a b = subst (λ (s : OldMapContent). IsWritten s sectors a b) is w in
     record { length_stays = x.length_stays; writes = x.writes }
 
 -- a part of some bytes in a row
@@ -90,7 +90,7 @@ outside_row a n t off = elim (cases_lt t a) [
 ]
 
 -- a directory
-pub written_row : (space : FreeSpace) (nodes : Nodes) (sectors : List ℕ) (n : ℕ) (node : Node) (dir : SmallDir) (first count : ℕ) (was image : List ℕ) → AreDirectoriesPlaced space nodes → IsDirAt nodes n node dir
+pub written_row : (space : OldMapContent) (nodes : Nodes) (sectors : List ℕ) (n : ℕ) (node : Node) (dir : SmallDir) (first count : ℕ) (was image : List ℕ) → AreDirectoriesPlaced space nodes → IsDirAt nodes n node dir
     → first ≡ node.entry.address / space.sector_units → count ≡ div_ceil (tail_of dir.form).size (256 * space.sector_units) → HaveDirectories space nodes sectors
     → ChangesRow (256 * space.sector_units) first count was image → IsWritten space sectors was image
 written_row space nodes sectors n node dir first count was image placed is begins long have row = record {
@@ -103,7 +103,7 @@ written_row space nodes sectors n node dir first count was image placed is begin
     here = ap₂ (λ (a k : ℕ). range_with_len a k) begins (long ∙ ap (λ (k : ℕ). div_ceil k (256 * space.sector_units)) (sym (placed.size n node dir is)))
 
 -- objects that slide
-pub written_room : (space : FreeSpace) (nodes : Nodes) (was : List Owned) (sectors a b : List ℕ) → IsRoom space nodes was sectors → ChangesRoom space was a b → IsWritten space sectors a b
+pub written_room : (space : OldMapContent) (nodes : Nodes) (was : List Owned) (sectors a b : List ℕ) → IsRoom space nodes was sectors → ChangesRoom space was a b → IsWritten space sectors a b
 written_room space nodes was sectors a b room slid = record {
   length_stays = slid.long;
   writes = λ s off map.
@@ -132,7 +132,7 @@ three false false true e = absurd (cc)
 three false true o e = absurd (cc)
 three true m o e = absurd (cc)
 
-pub only_room : (view : Opened) (space : FreeSpace) (image other : List ℕ) → IsWritten space (room_of view space) image other → WritesOnlyRoom view space image other
+pub only_room : (view : Opened) (space : OldMapContent) (image other : List ℕ) → IsWritten space (room_of view space) image other → WritesOnlyRoom view space image other
 only_room view space image other w = record {
   written = w;
   lost = λ s h.
@@ -209,7 +209,7 @@ as_many u n units = elim units [
 ]
 
 -- the units of an object are its sectors
-body_is : (space : FreeSpace) (o : Object) (p : Owned) → (space.sector_units ≡ 1) ⊎ (space.sector_units ≡ 4) → sectors_at (Layout.Old space) o.entry.address (object_size (dir_form (Layout.Old space)) o.entry) ≡ Some o.sectors
+body_is : (space : OldMapContent) (o : Object) (p : Owned) → (space.sector_units ≡ 1) ⊎ (space.sector_units ≡ 4) → sectors_at (Layout.Old space) o.entry.address (object_size (dir_form (Layout.Old space)) o.entry) ≡ Some o.sectors
     → has_sectors o ≡ true → IsOwnedAs space o p → body space.sector_units p ≡ o.sectors
 body_is space o p units lies some own = elim (row_or_none space o.entry.address (object_size (dir_form (Layout.Old space)) o.entry) o.sectors lies) [
   | inl none ↦ absurd (clash (has_sectors o) some (ap (λ (xs : List ℕ). nat_lt 0 (length xs)) none.1))
@@ -218,11 +218,11 @@ body_is space o p units lies some own = elim (row_or_none space o.entry.address 
       ∙ ap (range_with_len (o.entry.address / space.sector_units)) (as_many space.sector_units (length o.sectors) units ∙ row.long) ∙ sym row.row
 ]
 
-module _ (space : FreeSpace) (nodes : Nodes) (was : List Owned) (view : Opened) (kind : Kind) (read : Reader) (address size : ℕ)
+module _ (space : OldMapContent) (nodes : Nodes) (was : List Owned) (view : Opened) (kind : Kind) (read : Reader) (address size : ℕ)
     (walked : walk read (Layout.Old space) (reserved_in kind (Layout.Old space)) address size ≡ Ok view.listings) (sound : AreSound (Layout.Old space) view.listings) (held : HoldObjects nodes view.listings)
     (units : (space.sector_units ≡ 1) ⊎ (space.sector_units ≡ 4)) (owned : AreOwned space (objects_of view.listings) was)
-    (slides : (space' : FreeSpace) (now : List Owned) → KeepsBodies space space' was now → Squashed space space' was now → IsSlide (slide_by space space' was now) (objects_of view.listings))
-    (same_map : (space' : FreeSpace) (now : List Owned) → KeepsBodies space space' was now → space' ≡ space_after (slide_by space space' was now)) where
+    (slides : (space' : OldMapContent) (now : List Owned) → KeepsBodies space space' was now → Squashed space space' was now → IsSlide (slide_by space space' was now) (objects_of view.listings))
+    (same_map : (space' : OldMapContent) (now : List Owned) → KeepsBodies space space' was now → space' ≡ space_after (slide_by space space' was now)) where
   lies : (o : Object) → Contains (objects_of view.listings) o → sectors_at (Layout.Old space) o.entry.address (object_size (dir_form (Layout.Old space)) o.entry) ≡ Some o.sectors
   lies o at = (Each-contains (Lies (Layout.Old space) (reserved_in kind (Layout.Old space))) (objects_of view.listings) o
       (Each-objects (Lies (Layout.Old space) (reserved_in kind (Layout.Old space))) view.listings (walk_lies read (Layout.Old space) (reserved_in kind (Layout.Old space)) address size view.listings walked)) at).placed
@@ -239,12 +239,12 @@ module _ (space : FreeSpace) (nodes : Nodes) (was : List Owned) (view : Opened) 
         (let s = slide_by space space' was now in
         let e : Start = record { kind = kind; read = read; address = address; size = size; listings = view.listings; s = s; walked = walked; is = slides space' now kept squashed } in
         let o = slid_row s nodes nodes' view.listings sound held moved n node dir is in
-        lies_in e o.0 t o.1 (ap (λ (xs : List ℕ). is_among xs t) (sym o.2) ∙ ap (λ (m : FreeSpace). is_among (row_of m node.entry) t) (sym (same_map space' now kept)) ∙ h));
+        lies_in e o.0 t o.1 (ap (λ (xs : List ℕ). is_among xs t) (sym o.2) ∙ ap (λ (m : OldMapContent). is_among (row_of m node.entry) t) (sym (same_map space' now kept)) ∙ h));
   }
 
 -- ---- at an exit after the objects have slid
 
-pub after_slide : {D : Type 0} (d : Ghosts D) (space space' : FreeSpace) (nodes nodes' : Nodes) (was now : List Owned) (old mid new : D) → KeepsBodies space space' was now → Squashed space space' was now
+pub after_slide : {D : Type 0} (d : Ghosts D) (space space' : OldMapContent) (nodes nodes' : Nodes) (was now : List Owned) (old mid new : D) → KeepsBodies space space' was now → Squashed space space' was now
     → AreMoved (slide_by space space' was now) nodes nodes' → Leaves d old mid (ChangesRoom space was) → ((sectors : List ℕ) → HaveDirectories space' nodes' sectors → Leaves d mid new (IsWritten space' sectors))
     → (sectors : List ℕ) → IsRoom space nodes was sectors → Leaves d old new (IsWritten space sectors)
 after_slide d space space' nodes nodes' was now old mid new kept squashed moved slid rewritten sectors room =

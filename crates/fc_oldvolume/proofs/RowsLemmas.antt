@@ -8,7 +8,7 @@ use Rattle.std.proofs.lemmas.List.{append-nil}
 use Rattle.std.proofs.lemmas.List.FromFn.{get_or-range_with_len, length-range_with_len}
 use Rattle.fc_device.specs.declared.disk.Extent.{Extent}
 use Rattle.fc_device.specs.Sectors.{sector_at}
-use Rattle.fc_oldmap.specs.OldMap.{FreeSpace}
+use Rattle.fc_oldmap.specs.OldMap.{OldMapContent}
 use Rattle.fc_dirs.specs.Small.{SmallDir, tail_of}
 use Rattle.fc_dirs.specs.SmallBytes.{IsWrittenSmall}
 use Rattle.fc_image.specs.Layout.{Layout, bytes_in, dir_form, is_among, is_apart, sector_bytes}
@@ -85,7 +85,7 @@ bytes_same size was image xs n same = ap (λ (bs : List ℕ). take n bs) (flat_s
 
 -- ---- the directory of a number
 
-module _ (space : FreeSpace) (nodes : Nodes) (placed : AreDirectoriesPlaced space nodes) where
+module _ (space : OldMapContent) (nodes : Nodes) (placed : AreDirectoriesPlaced space nodes) where
   abbrev size : ℕ
   size = sector_bytes (Layout.Old space)
 

@@ -3,7 +3,7 @@ use Rattle.std.proofs.Common.{◌≡◌, ◌<◌, ◌||◌, ℕ, Bool, true, fal
 use Rattle.std.specs.Prelude.{Contains}
 use Rattle.fc_names.specs.Names.{Path, is_same_path}
 use Rattle.fc_record.specs.declared.Kind.{Kind}
-use Rattle.fc_oldmap.specs.OldMap.{FreeSpace, IsOldMap}
+use Rattle.fc_oldmap.specs.OldMap.{OldMapContent, IsOldMap}
 use Rattle.fc_alloc.specs.declared.owner.Owner.{Owner}
 use Rattle.fc_model.specs.Command.{Command}
 use Rattle.fc_dirs.specs.declared.Entry.{Entry}
@@ -53,14 +53,14 @@ set_own path load exec access o same =
 -- ---- the edit
 
 -- What is known before anything is written.
-pub record IsReady (space : FreeSpace) (nodes : Nodes) (path : Path) (load exec access : ℕ) (t : Target) (r : Rewording) : Type 0 where
+pub record IsReady (space : OldMapContent) (nodes : Nodes) (path : Path) (load exec access : ℕ) (t : Target) (r : Rewording) : Type 0 where
   pub is_map : IsOldMap space
   pub behind : LieBehind space
   pub low : access < 8
   pub targets : (layout : Layout) (listings : List Listing) → AreSound layout listings → HoldObjects nodes listings → IsTarget nodes listings path t
   pub ready : IsSetReady nodes (Layout.Old space) t load exec access r
 
-module _ (laws : OldLaws) (space : FreeSpace) (nodes : Nodes) (path : Path) (load exec access : ℕ) (t : Target) (r : Rewording) (is : IsReady space nodes path load exec access t r) where
+module _ (laws : OldLaws) (space : OldMapContent) (nodes : Nodes) (path : Path) (load exec access : ℕ) (t : Target) (r : Rewording) (is : IsReady space nodes path load exec access t r) where
   abbrev pub layout : Layout
   layout = Layout.Old space
 

@@ -7,7 +7,7 @@ use Rattle.fc_device.specs.declared.disk.Disk.{Ghosts}
 use Rattle.fc_device.specs.Calls.{SameForm, StopsAndExitsLeave}
 use Rattle.fc_record.specs.declared.Kind.{Kind}
 use Rattle.fc_names.specs.Names.{Path}
-use Rattle.fc_oldmap.specs.OldMap.{FreeSpace, IsOldMap}
+use Rattle.fc_oldmap.specs.OldMap.{OldMapContent, IsOldMap}
 use Rattle.fc_model.specs.Command.{Command}
 use Rattle.fc_image.specs.Layout.{Layout, dir_form, disc_sectors, sector_bytes}
 use Rattle.fc_image.specs.Opening.{Opened}
@@ -47,18 +47,18 @@ use Rattle.fc_oldvolume.proofs.TargetLemmas.{holds_entry}
 
 -- A map that a volume has is one.
 abbrev pub HasMap : Volume → Type 0
-HasMap v = (space : FreeSpace) → layout_of v.space ≡ Layout.Old space → IsOldMap space
+HasMap v = (space : OldMapContent) → layout_of v.space ≡ Layout.Old space → IsOldMap space
 
 -- the holes of the map of a volume that stands for a disk
-pub lie_behind : {D : Type 0} (d : Ghosts D) (v : Volume) (disk : D) (space : FreeSpace) → layout_of v.space ≡ Layout.Old space → StandsFor d v disk → LieBehind space
+pub lie_behind : {D : Type 0} (d : Ghosts D) (v : Volume) (disk : D) (space : OldMapContent) → layout_of v.space ≡ Layout.Old space → StandsFor d v disk → LieBehind space
 lie_behind d v disk space layout stands = (subst (λ (l : Layout). HoldsMap l (d.sectors disk)) layout stands.map_room).1
 
-pub two_sectors : {D : Type 0} (d : Ghosts D) (v : Volume) (disk : D) (space : FreeSpace) → layout_of v.space ≡ Layout.Old space → StandsFor d v disk → 2 ≤ d.sectors disk
+pub two_sectors : {D : Type 0} (d : Ghosts D) (v : Volume) (disk : D) (space : OldMapContent) → layout_of v.space ≡ Layout.Old space → StandsFor d v disk → 2 ≤ d.sectors disk
 two_sectors d v disk space layout stands = (subst (λ (l : Layout). HoldsMap l (d.sectors disk)) layout stands.map_room).0
 
 -- ---- after the writing
 
-module _ {D : Type 0} (d : Ghosts D) (laws : OldLaws) (space : FreeSpace) (v v' : Volume) (old new : D) (path : Path) (load exec access : ℕ) (t : Target) (r : Rewording)
+module _ {D : Type 0} (d : Ghosts D) (laws : OldLaws) (space : OldMapContent) (v v' : Volume) (old new : D) (path : Path) (load exec access : ℕ) (t : Target) (r : Rewording)
     (layout : layout_of v.space ≡ Layout.Old space) (is : IsReady space (nodes_of v.tree) path load exec access t r) (stands : StandsFor d v old) where
   abbrev sectors : List ℕ
   sectors = sectors_in r.directory.place.items
@@ -80,7 +80,7 @@ module _ {D : Type 0} (d : Ghosts D) (laws : OldLaws) (space : FreeSpace) (v v' 
   map_unwritten exits was told image now other at =
       let s = stands.image was told in
       let part = subst (λ (l : Layout). IsPartWritten (sector_bytes l) sectors bytes was image) layout (kept_to d exits was image told now) in
-      subst (λ (x : FreeSpace). MapStays x was image) (one_space (layout_of v.space) space other layout at)
+      subst (λ (x : OldMapContent). MapStays x was image) (one_space (layout_of v.space) space other layout at)
       (laws.writes.step space sectors bytes was image
       (set.off_map laws space (nodes_of v.tree) path load exec access t r is s.0 was s.1 s.2 (sym s.3.layout ∙ layout) s.3.nodes) part).map_stays
 
@@ -143,7 +143,7 @@ abbrev pub IsAimed : Volume → Path → Target → Type 0
 IsAimed v path t = (layout : Layout) (listings : List Listing) → AreSound layout listings → HoldObjects (nodes_of v.tree) listings → IsTarget (nodes_of v.tree) listings path t
 
 -- `w` is the same volume as `v`, by its parts.
-module _ (w v : Volume) (same : w ≡ v) (space : FreeSpace) (layout : layout_of v.space ≡ Layout.Old space) (maps : HasMap w) (path : Path) (t : Target) (aimed : IsAimed w path t) where
+module _ (w v : Volume) (same : w ≡ v) (space : OldMapContent) (layout : layout_of v.space ≡ Layout.Old space) (maps : HasMap w) (path : Path) (t : Target) (aimed : IsAimed w path t) where
   pub is_map : IsOldMap space
   is_map = maps space (ap (λ (x : Volume). layout_of x.space) same ∙ layout)
 

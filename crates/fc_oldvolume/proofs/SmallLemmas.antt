@@ -12,7 +12,7 @@ use Rattle.fc_dirs.specs.Directory.{Directory}
 use Rattle.fc_dirs.specs.Small.{SmallDir}
 use Rattle.fc_drafts.specs.Draft.{CanBeCalled, CanHold, CanName, NumbersFit}
 use Rattle.fc_image.specs.Layout.{Layout, dir_form}
-use Rattle.fc_oldmap.specs.OldMap.{FreeSpace}
+use Rattle.fc_oldmap.specs.OldMap.{OldMapContent}
 use Rattle.fc_tree.specs.Agree.{HasForm}
 
 -- a form of small directories
@@ -21,7 +21,7 @@ IsSmallForm forms.Seven = Unit {0}
 IsSmallForm forms.Ten = Unit {0}
 IsSmallForm forms.Long = ⊥
 
-pub old_form : (space : FreeSpace) → IsSmallForm (dir_form (Layout.Old space))
+pub old_form : (space : OldMapContent) → IsSmallForm (dir_form (Layout.Old space))
 old_form space = by (space.sector_units == 4)
   where
     by : (b : Bool) → IsSmallForm (cond b forms.Ten forms.Seven)

@@ -3,7 +3,7 @@ use Rattle.std.proofs.Common.{◌≡◌, ◌≤◌, ℕ, List, sym, ap, subst, �
 use Rattle.fc_device.specs.declared.disk.Disk.{Ghosts}
 use Rattle.fc_device.specs.Calls.{SameForm, StopsAndExitsLeave}
 use Rattle.fc_record.specs.declared.Kind.{Kind}
-use Rattle.fc_oldmap.specs.OldMap.{FreeSpace}
+use Rattle.fc_oldmap.specs.OldMap.{OldMapContent}
 use Rattle.fc_model.specs.Command.{Command}
 use Rattle.fc_alloc.specs.declared.owner.Owner.{Owner}
 use Rattle.fc_image.specs.Layout.{Layout, disc_sectors, sector_bytes}
@@ -24,14 +24,14 @@ use Rattle.fc_oldvolume.specs.Spaces.{LieBehind}
 use Rattle.fc_oldvolume.proofs.DeleteVolumeLemmas.{same_disc, same_size}
 
 -- What the volume has afterwards: the map of the same disc with other holes, these nodes and owners, and no copies that differ.
-pub record HasNow (space space' : FreeSpace) (nodes : Nodes) (owners : List Owner) (now : Volume) : Type 0 where
+pub record HasNow (space space' : OldMapContent) (nodes : Nodes) (owners : List Owner) (now : Volume) : Type 0 where
   pub layout : layout_of now.space ≡ Layout.Old space'
   pub space_is : space' ≡ holding space space'.holes
   pub nodes_are : nodes_of now.tree ≡ nodes
   pub owners_are : now.owners ≡ owners
   pub copies : now.copies ≡ Equal
 
-module _ {D : Type 0} (d : Ghosts D) (c : Command) (space space' : FreeSpace) (nodes' : Nodes) (owners' : List Owner) (v v' : Volume) (old new : D) (sectors : List ℕ)
+module _ {D : Type 0} (d : Ghosts D) (c : Command) (space space' : OldMapContent) (nodes' : Nodes) (owners' : List Owner) (v v' : Volume) (old new : D) (sectors : List ℕ)
     (layout : layout_of v.space ≡ Layout.Old space) (stands : StandsFor d v old) (has : HasNow space space' nodes' owners' v') (exits : StopsAndExitsLeave d old new (IsWritten space sectors))
     (over : (kind : Kind) (view : Opened) (was image : List ℕ) → d.bytes old ≡ Some was → d.bytes new ≡ Some image → OpensAs was kind view → ArePartsOf (parts_of v) view
     → TakesOver kind was image view c space' nodes' owners') where

@@ -13,7 +13,7 @@ use Rattle.fc_oldmap.specs.declared.Hole.{Hole}
 use Rattle.fc_oldmap.specs.declared.OldMapFault.{OldMapFault}
 use Rattle.fc_oldmap.specs.Holes.{AreHoles, IsHole, hole_end}
 use Rattle.fc_oldmap.specs.Laws.{ReadsBack}
-use Rattle.fc_oldmap.specs.OldMap.{FreeSpace, IsOldMap, is_hole_right, map_units, old_map, with_holes, wrong_hole}
+use Rattle.fc_oldmap.specs.OldMap.{OldMapContent, IsOldMap, is_hole_right, map_units, old_map, with_holes, wrong_hole}
 use Rattle.fc_oldvolume.specs.Spaces.{LieBehind}
 
 -- ---- a map that is written and read
@@ -41,7 +41,7 @@ u24_put b at v within fits =
     ap (little_number 3) front ∙ little_from-bytes 3 0 v (drop (at + length (little_bytes 3 v)) b) ∙ ap (λ (n : ℕ). n % 2 ^ 24) (div-one v) ∙ mod-eq_of_lt fits
 
 -- A map whose holes lie behind it is read as it was written.
-pub copied : ReadsBack → (space : FreeSpace) (blank mid bytes : List ℕ) (disc units : ℕ) → 252 ≤ length blank → IsOldMap space → LieBehind space → disc ≡ space.disc_units
+pub copied : ReadsBack → (space : OldMapContent) (blank mid bytes : List ℕ) (disc units : ℕ) → 252 ≤ length blank → IsOldMap space → LieBehind space → disc ≡ space.disc_units
     → mid ≡ overwritten blank 252 (little_bytes 3 disc) → length mid ≡ 512 → bytes ≡ with_holes mid space.holes → units ≡ space.sector_units → old_map bytes units ≡ Ok space
 copied back space blank mid bytes disc units long is behind disc_is mid_is whole written units_is =
     let at : u24_at mid 252 ≡ space.disc_units =
@@ -49,8 +49,8 @@ copied back space blank mid bytes disc units long is behind disc_is mid_is whole
     ap₂ (λ (bs : List ℕ) (n : ℕ). old_map bs n) written units_is
     ∙ back space mid whole at is (none_wrong space.disc_units space.sector_units 0 (map_units space.sector_units) space.holes behind)
 
-pub same_ok : (a b : FreeSpace) → (let r : Result FreeSpace OldMapFault = Ok a in r) ≡ Ok b → a ≡ b
+pub same_ok : (a b : OldMapContent) → (let r : Result OldMapContent OldMapFault = Ok a in r) ≡ Ok b → a ≡ b
 same_ok a b e = cc
 
-pub never_err : (a : FreeSpace) (f : OldMapFault) → (let r : Result FreeSpace OldMapFault = Ok a in r) ≡ Err f → ⊥
+pub never_err : (a : OldMapContent) (f : OldMapFault) → (let r : Result OldMapContent OldMapFault = Ok a in r) ≡ Err f → ⊥
 never_err a f e = cc

@@ -13,7 +13,7 @@ use Rattle.fc_oldmap.specs.declared.Hole.{Hole}
 use Rattle.fc_oldmap.specs.declared.TakeError.{TakeError}
 use Rattle.fc_oldmap.specs.declared.TakeError.TheVariants.{DiscFull, CompactionRequired}
 use Rattle.fc_oldmap.specs.Holes.{after_take, first_fit_place, hole_limit, hole_sum, take_answer}
-use Rattle.fc_oldmap.specs.OldMap.{FreeSpace, IsOldMap, map_units}
+use Rattle.fc_oldmap.specs.OldMap.{OldMapContent, IsOldMap, map_units}
 use Rattle.fc_oldmap.proofs.MapLemmas.{length-after_take, take_answer-none, take_answer-some}
 use Rattle.fc_oldmap.proofs.SpaceLemmas.{AreHoles-after_take, sum-inside}
 use Rattle.fc_model.specs.Answer.{first_of, when}
@@ -63,7 +63,7 @@ abbrev shortage : Bool → Result ℕ TakeError
 shortage b = cond b (Err DiscFull) (Err CompactionRequired)
 
 -- More units than any disc has are never there.
-pub never_so_many : (space : FreeSpace) (n : ℕ) → IsOldMap space → 2 ^ 24 ≤ n → take_answer n space.holes ≡ Err DiscFull
+pub never_so_many : (space : OldMapContent) (n : ℕ) → IsOldMap space → 2 ^ 24 ≤ n → take_answer n space.holes ≡ Err DiscFull
 never_so_many space n is many =
     let sum = sum-inside space.disc_units space.sector_units 0 space.holes (omega arith) is.holes in
     let disc = is.disc in
@@ -71,10 +71,10 @@ never_so_many space n is many =
     take_answer-none n space.holes (none_fits n space.holes less) ∙ ap shortage (lt-ltb (hole_sum space.holes) n less)
 
 -- What is taken is whole sectors.
-pub whole_need : (space : FreeSpace) (n : ℕ) → IsOldMap space → old_need space n % space.sector_units ≡ 0
+pub whole_need : (space : OldMapContent) (n : ℕ) → IsOldMap space → old_need space n % space.sector_units ≡ 0
 whole_need space n is = none_over space.sector_units is.units (div_ceil n (256 * space.sector_units))
 
-pub some_need : (space : FreeSpace) (n : ℕ) → IsOldMap space → 0 < n → 0 < old_need space n
+pub some_need : (space : OldMapContent) (n : ℕ) → IsOldMap space → 0 < n → 0 < old_need space n
 some_need space n is some = let e = need_some space n is.units some in positive (old_need space n) e
   where
     positive : (k : ℕ) → (k == 0) ≡ false → 0 < k
@@ -99,7 +99,7 @@ refusal_for : (a b : TakeError) → a ≡ b → (let o : Option Refusal = Some (
 refusal_for a b same = ap (λ (e : TakeError). let o : Option Refusal = Some (refused_take e) in o) same
 
 -- Where the map answers an error, the command is refused for it.
-pub lacks : (space : FreeSpace) (n : ℕ) (e : TakeError) → IsOldMap space → 0 < n → take_answer (old_need space n) space.holes ≡ Err e → taking_refusal space n ≡ Some (refused_take e)
+pub lacks : (space : OldMapContent) (n : ℕ) (e : TakeError) → IsOldMap space → 0 < n → take_answer (old_need space n) space.holes ≡ Err e → taking_refusal space n ≡ Some (refused_take e)
 lacks space n e is some answer = by (first_fit_place (old_need space n) space.holes) (nat_lt (hole_sum space.holes) (old_need space n)) refl refl
   where
     by : (o : Option ℕ) (b : Bool) → first_fit_place (old_need space n) space.holes ≡ o → nat_lt (hole_sum space.holes) (old_need space n) ≡ b → taking_refusal space n ≡ Some (refused_take e)
@@ -123,7 +123,7 @@ fits_at n start holes answer = by (first_fit_place n holes) (nat_lt (hole_sum ho
     by None false at t = absurd (never_both start CompactionRequired (sym answer ∙ take_answer-none n holes at ∙ ap shortage t))
 
 -- and the command isn't refused.
-pub no_lack : (space : FreeSpace) (n start : ℕ) → first_fit_place (old_need space n) space.holes ≡ Some start → taking_refusal space n ≡ None
+pub no_lack : (space : OldMapContent) (n start : ℕ) → first_fit_place (old_need space n) space.holes ≡ Some start → taking_refusal space n ≡ None
 no_lack space n start at =
     ap (λ (x : Bool). lack x (nat_lt 0 (old_need space n)) (first_fit_place (old_need space n) space.holes)) (enough (old_need space n) (hole_sum space.holes) (within_sum (old_need space n) start space.holes at))
     ∙ ap (lack false (nat_lt 0 (old_need space n))) at ∙ by (nat_lt 0 (old_need space n))
@@ -137,11 +137,11 @@ no_lack space n start at =
 
 -- ---- the place
 
-nowhere : (space : FreeSpace) (address : ℕ) → sectors_at (Layout.Old space) address 0 ≡ Some []
+nowhere : (space : OldMapContent) (address : ℕ) → sectors_at (Layout.Old space) address 0 ≡ Some []
 unfolding sectors_at
 nowhere space address = refl
 
-module _ (space : FreeSpace) (is : IsOldMap space) (behind : LieBehind space) where
+module _ (space : OldMapContent) (is : IsOldMap space) (behind : LieBehind space) where
   -- no sector of the map lies in a hole
   off_map : (u s : ℕ) → (u ≡ 1) ⊎ (u ≡ 4) → map_units u ≤ u * s → s < map_units u / u → ⊥
   off_map u s units low high = ⊎_elim
@@ -169,7 +169,7 @@ module _ (space : FreeSpace) (is : IsOldMap space) (behind : LieBehind space) wh
       (some, refl, omega (arith, long, few), left_behind n)
 
   -- what is taken for n bytes, some
-  pub is_taken : (spaces : SpaceLaw) (n : ℕ) (t : Taken) (now : FreeSpace) → 0 < n → take_answer (old_need space n) space.holes ≡ Ok t.address
+  pub is_taken : (spaces : SpaceLaw) (n : ℕ) (t : Taken) (now : OldMapContent) → 0 < n → take_answer (old_need space n) space.holes ≡ Ok t.address
       → sectors_at (Layout.Old space) t.address n ≡ Some (sectors_in t.place.items) → t.map ≡ Some now → now ≡ holding space (after_take (old_need space n) space.holes) → IsTaken space n t
   is_taken spaces n t now some answer place map now_is =
       let at = fits_at (old_need space n) t.address space.holes answer in
@@ -182,11 +182,11 @@ module _ (space : FreeSpace) (is : IsOldMap space) (behind : LieBehind space) wh
         place = place;
         free = free;
         no_map = free_no_map (sectors_in t.place.items) free;
-        map = subst (HasTaken space n) (ap (λ (m : FreeSpace). let o : Option FreeSpace = Some m in o) (sym now_is) ∙ sym map) (has_taken n some);
+        map = subst (HasTaken space n) (ap (λ (m : OldMapContent). let o : Option OldMapContent = Some m in o) (sym now_is) ∙ sym map) (has_taken n some);
       }
 
 -- what is taken for none
-pub nothing_taken : (space : FreeSpace) (t : Taken) → t.address ≡ 0 → sectors_in t.place.items ≡ [] → t.map ≡ None → IsTaken space 0 t
+pub nothing_taken : (space : OldMapContent) (t : Taken) → t.address ≡ 0 → sectors_in t.place.items ≡ [] → t.map ≡ None → IsTaken space 0 t
 nothing_taken space t address none map = record {
   address = inr (refl, address);
   short = omega (arith, address);
@@ -198,32 +198,32 @@ nothing_taken space t address none map = record {
 
 -- ---- what the taken space makes of the map
 
-pub taken_edit : (space : FreeSpace) (n : ℕ) (map : Option FreeSpace) → HasTaken space n map → IsEditOf space map
+pub taken_edit : (space : OldMapContent) (n : ℕ) (map : Option OldMapContent) → HasTaken space n map → IsEditOf space map
 taken_edit space n None none = tt
-taken_edit space n (Some now) has = has.1 ∙ ap (λ (m : FreeSpace). holding space m.holes) (sym has.1)
+taken_edit space n (Some now) has = has.1 ∙ ap (λ (m : OldMapContent). holding space m.holes) (sym has.1)
 
-pub taken_after : (space : FreeSpace) (n : ℕ) (map : Option FreeSpace) → HasTaken space n map → map_after space map ≡ holding space (map_after space map).holes
+pub taken_after : (space : OldMapContent) (n : ℕ) (map : Option OldMapContent) → HasTaken space n map → map_after space map ≡ holding space (map_after space map).holes
 taken_after space n None none = refl
-taken_after space n (Some now) has = has.1 ∙ ap (λ (m : FreeSpace). holding space m.holes) (sym has.1)
+taken_after space n (Some now) has = has.1 ∙ ap (λ (m : OldMapContent). holding space m.holes) (sym has.1)
 
-pub taken_holes : (space : FreeSpace) (n : ℕ) (map : Option FreeSpace) → IsOldMap space → HasTaken space n map → (map_after space map).holes ≡ holes_without (old_need space n) space.holes
+pub taken_holes : (space : OldMapContent) (n : ℕ) (map : Option OldMapContent) → IsOldMap space → HasTaken space n map → (map_after space map).holes ≡ holes_without (old_need space n) space.holes
 taken_holes space n None is none =
     ap (λ (k : ℕ). cond (k == 0) space.holes (after_take k space.holes)) (sym (none_needed space is.units)) ∙ ap (λ (k : ℕ). holes_without (old_need space k) space.holes) (sym none)
 taken_holes space n (Some now) is has =
-    ap (λ (m : FreeSpace). m.holes) has.1
+    ap (λ (m : OldMapContent). m.holes) has.1
     ∙ ap (λ (b : Bool). cond b space.holes (after_take (old_need space n) space.holes)) (sym (need_some space n is.units has.0))
 
 -- the same of some bytes
-pub taken_only : (space : FreeSpace) (n : ℕ) (map : Option FreeSpace) → 0 < n → HasTaken space n map → (map_after space map).holes ≡ after_take (old_need space n) space.holes
+pub taken_only : (space : OldMapContent) (n : ℕ) (map : Option OldMapContent) → 0 < n → HasTaken space n map → (map_after space map).holes ≡ after_take (old_need space n) space.holes
 taken_only space n None some none = absurd (omega (arith, some, none))
-taken_only space n (Some now) some has = ap (λ (m : FreeSpace). m.holes) has.1
+taken_only space n (Some now) some has = ap (λ (m : OldMapContent). m.holes) has.1
 
-pub taken_behind : (space : FreeSpace) (n : ℕ) (map : Option FreeSpace) → LieBehind space → HasTaken space n map → LieBehind (map_after space map)
+pub taken_behind : (space : OldMapContent) (n : ℕ) (map : Option OldMapContent) → LieBehind space → HasTaken space n map → LieBehind (map_after space map)
 taken_behind space n None behind none = behind
 taken_behind space n (Some now) behind has = has.3
 
 -- the step that writes the map
-pub taken_step : (space : FreeSpace) (n : ℕ) (map : Option FreeSpace) (mid image : List ℕ) → IsOldMap space → HasTaken space n map → IsMapDone map mid image
+pub taken_step : (space : OldMapContent) (n : ℕ) (map : Option OldMapContent) (mid image : List ℕ) → IsOldMap space → HasTaken space n map → IsMapDone map mid image
     → IsMapStep space (map_after space map).holes mid image
 taken_step space n None mid image is none done = record {
   written = record { length_stays = ap length done; writes = λ s apart out. ap (λ (x : List ℕ). sector_at (sector_bytes (Layout.Old space)) x s) done };
@@ -234,9 +234,9 @@ taken_step space n None mid image is none done = record {
   };
 }
 taken_step space n (Some now) mid image is has done =
-    subst (λ (m : FreeSpace). IsMapWritten m mid image → IsMapStep space m.holes mid image) (sym has.1)
+    subst (λ (m : OldMapContent). IsMapWritten m mid image → IsMapStep space m.holes mid image) (sym has.1)
     (λ w. record {
       written = record { length_stays = w.written.length_stays; writes = w.written.writes };
-      map = record { few = subst (λ (m : FreeSpace). length m.holes ≤ hole_limit) has.1 has.2; bytes = inr w.front; rest = w.rest };
+      map = record { few = subst (λ (m : OldMapContent). length m.holes ≤ hole_limit) has.1 has.2; bytes = inr w.front; rest = w.rest };
     })
     done

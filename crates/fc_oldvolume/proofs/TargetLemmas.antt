@@ -5,7 +5,7 @@ use Rattle.std.specs.Ordering.{nat_cmp}
 use Rattle.std.specs.FinMap.{FinMap}
 use Rattle.std.proofs.lemmas.Option.{slice_get_within}
 use Rattle.fc_names.specs.declared.name.NameForm.TheVariants as forms
-use Rattle.fc_oldmap.specs.OldMap.{FreeSpace, IsOldMap}
+use Rattle.fc_oldmap.specs.OldMap.{OldMapContent, IsOldMap}
 use Rattle.fc_dirs.specs.Directory.{Directory, entries_of}
 use Rattle.fc_drafts.specs.Draft.{CanAddress}
 use Rattle.fc_image.specs.Layout.{Layout, sectors_at}
@@ -26,7 +26,7 @@ below_disc : (u d a : ℕ) → (u ≡ 1) ⊎ (u ≡ 4) → a % u ≡ 0 → a / u
 below_disc u d a (inl one) whole low = let w = subst (λ (k : ℕ). a % k ≡ 0) one whole in let l = subst (λ (k : ℕ). a / k ≤ d / k) one low in omega (arith, w, l)
 below_disc u d a (inr four) whole low = let w = subst (λ (k : ℕ). a % k ≡ 0) four whole in let l = subst (λ (k : ℕ). a / k ≤ d / k) four low in omega (arith, w, l)
 
-pub low_address : (space : FreeSpace) (address bytes : ℕ) (xs : List ℕ) → IsOldMap space → (bytes == 0) ≡ false → sectors_at (Layout.Old space) address bytes ≡ Some xs → address < 2 ^ 24
+pub low_address : (space : OldMapContent) (address bytes : ℕ) (xs : List ℕ) → IsOldMap space → (bytes == 0) ≡ false → sectors_at (Layout.Old space) address bytes ≡ Some xs → address < 2 ^ 24
 low_address space address bytes xs is some at = elim (row_or_none space address bytes xs at) [
   | inl none ↦ absurd (let zero' = none.0 in let no' = subst (λ (n : ℕ). (n == 0) ≡ false) zero' some in cc)
   | inr row ↦ (let inside = row.inside in
@@ -35,7 +35,7 @@ low_address space address bytes xs is some at = elim (row_or_none space address 
 ]
 
 -- the head of a directory can name one that lies on the disc
-pub addressed : (space : FreeSpace) (content : Directory) (o : Object) → IsOldMap space → is_directory_object o ≡ true → IsAt (Layout.Old space) o → CanAddress content o.entry.address
+pub addressed : (space : OldMapContent) (content : Directory) (o : Object) → IsOldMap space → is_directory_object o ≡ true → IsAt (Layout.Old space) o → CanAddress content o.entry.address
 addressed space (Directory.Big dir) o is dirs at = tt
 addressed space (Directory.Small dir) o is dirs at = by (space.sector_units == 4) at
   where
@@ -44,7 +44,7 @@ addressed space (Directory.Small dir) o is dirs at = by (space.sector_units == 4
     by false h = low_address space o.entry.address 1280 o.sectors is refl (ap (λ (b : Bool). sectors_at (Layout.Old space) o.entry.address (cond b 1280 o.entry.len)) (sym dirs) ∙ h)
 
 -- what is asked of a target's directory
-pub holds_entry : (space : FreeSpace) (nodes : FinMap nat_cmp Node) (listings : List Listing) (sound : AreSound (Layout.Old space) listings) (held : HoldObjects nodes listings) (l : Listing) (listed : Contains listings l)
+pub holds_entry : (space : OldMapContent) (nodes : FinMap nat_cmp Node) (listings : List Listing) (sound : AreSound (Layout.Old space) listings) (held : HoldObjects nodes listings) (l : Listing) (listed : Contains listings l)
     (n : ℕ) (number : number_of nodes l.object.path ≡ Some n) (i : ℕ) (o : Object) → IsOldMap space → EntriesLaw → slice_get l.children i ≡ Some o → HoldsEntry nodes (Layout.Old space) n i
 holds_entry space nodes listings sound held l listed n number i o is law at =
     let layout = Layout.Old space in

@@ -10,7 +10,7 @@ use Rattle.fc_image.specs.Layout.{Layout, dir_form, is_apart, map_place, sector_
 use Rattle.fc_image.specs.Walk.{Listing, Object, is_directory_object, object_bytes, object_size}
 use Rattle.fc_objects.specs.Bytes.{first_bytes}
 use Rattle.fc_objects.specs.Written.{AreApart, IsPartWritten}
-use Rattle.fc_oldmap.specs.OldMap.{FreeSpace, IsOldMap}
+use Rattle.fc_oldmap.specs.OldMap.{OldMapContent, IsOldMap}
 use Rattle.fc_oldlaws.specs.takeover.Writes.{IsObjectStep, WrittenBytesLaw}
 use Rattle.fc_volume.specs.declared.changes.rewrite.Rewrite.{Rewrite}
 use Rattle.fc_volume.specs.Relocating.{more_sectors}
@@ -19,11 +19,11 @@ use Rattle.fc_volume.proofs.TurnedLemmas.{Turns, now_of, sectors_turned}
 use Rattle.fc_oldvolume.specs.Relocating.{AreMoreStored}
 
 -- What is written of the object: nothing of a file.
-pub record IsOwnWritten (space : FreeSpace) (o : Object) (now : Directory) (named turned : List ℕ) : Type 0 where
+pub record IsOwnWritten (space : OldMapContent) (o : Object) (now : Directory) (named turned : List ℕ) : Type 0 where
   pub step : IsObjectStep space (if is_directory_object o then o.sectors else []) named turned
   pub bytes : is_directory_object o ≡ true → AreWritten (object_bytes turned (Layout.Old space) o) now
 
-pub own_written : (writes : WrittenBytesLaw) (space : FreeSpace) (listings : List Listing) (o : Object) (n parent : ℕ) (name : List ℕ) (other : Directory) (own : Option Rewrite) (named turned : List ℕ)
+pub own_written : (writes : WrittenBytesLaw) (space : OldMapContent) (listings : List Listing) (o : Object) (n parent : ℕ) (name : List ℕ) (other : Directory) (own : Option Rewrite) (named turned : List ℕ)
     → IsOldMap space → IsAt (Layout.Old space) o → is_apart o.sectors (map_place (Layout.Old space)) ≡ true → Turns listings o n parent name own
     → (is_directory_object o ≡ true → IsLongOwn own (object_size (dir_form (Layout.Old space)) o.entry)) → AreMoreStored (sector_bytes (Layout.Old space)) own named turned
     → IsOwnWritten space o (now_of other own) named turned
@@ -47,7 +47,7 @@ own_written writes space listings o n parent name other (Some x) named turned is
     }
 
 -- it lies apart from the map, as its object does
-pub turned_off : (space : FreeSpace) (listings : List Listing) (o : Object) (n parent : ℕ) (name : List ℕ) (own : Option Rewrite) → Turns listings o n parent name own
+pub turned_off : (space : OldMapContent) (listings : List Listing) (o : Object) (n parent : ℕ) (name : List ℕ) (own : Option Rewrite) → Turns listings o n parent name own
     → is_apart o.sectors (map_place (Layout.Old space)) ≡ true → is_apart (more_sectors own) (map_place (Layout.Old space)) ≡ true
 turned_off space listings o n parent name None file apart = refl
 turned_off space listings o n parent name (Some x) t apart = subst (λ (xs : List ℕ). is_apart xs (map_place (Layout.Old space)) ≡ true) (sym t.place) apart

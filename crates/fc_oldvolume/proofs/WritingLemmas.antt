@@ -19,7 +19,7 @@ use Rattle.fc_objects.specs.Bytes.{first_bytes}
 use Rattle.fc_objects.specs.Extents.{sectors_in}
 use Rattle.fc_objects.specs.Written.{AreApart, IsPartWritten}
 use Rattle.fc_objects.proofs.BlockLemmas.{row_bytes}
-use Rattle.fc_oldmap.specs.OldMap.{FreeSpace, map_units, with_holes}
+use Rattle.fc_oldmap.specs.OldMap.{OldMapContent, map_units, with_holes}
 use Rattle.fc_oldchanges.specs.Owed.{IsWritten, holding}
 use Rattle.fc_oldvolume.specs.Writing.{ChangesFront, IsFrontWritten, IsMapWritten}
 
@@ -46,7 +46,7 @@ first_front size image n =
 
 -- ---- the map
 
-module _ (space : FreeSpace) (len : ℕ) (was image : List ℕ) (long : 512 ≤ len) (is : IsFrontWritten space len was image) where
+module _ (space : OldMapContent) (len : ℕ) (was image : List ℕ) (long : 512 ≤ len) (is : IsFrontWritten space len was image) where
   abbrev new : List ℕ
   new = with_holes (take 512 (take len was)) space.holes
 
@@ -70,7 +70,7 @@ module _ (space : FreeSpace) (len : ℕ) (was image : List ℕ) (long : 512 ≤ 
       ∙ ap (λ (n : ℕ). take k (drop n (new ++ drop 512 (take len was)))) (sym is.long) ∙ ap (take k) (drop-append_seam new (drop 512 (take len was)))
       ∙ tail_of was k fits
 
-pub map_written : (space : FreeSpace) (len : ℕ) (was image : List ℕ) → 512 ≤ len → 256 * space.sector_units ≤ len → IsFrontWritten space len was image → IsWritten space [] was image → IsMapWritten space was image
+pub map_written : (space : OldMapContent) (len : ℕ) (was image : List ℕ) → 512 ≤ len → 256 * space.sector_units ≤ len → IsFrontWritten space len was image → IsWritten space [] was image → IsMapWritten space was image
 map_written space len was image long fits is written = record {
   written = written;
   front = front space len was image long is;
@@ -108,7 +108,7 @@ front_part size count row bytes was image first many part = record {
         omega (arith, below, long, at, is, high)
 
 -- they are those of the map
-pub front_of_map : (space : FreeSpace) (size count : ℕ) → size ≡ 256 * space.sector_units → count ≡ map_units space.sector_units / space.sector_units → (was image : List ℕ) → ChangesFront size count was image
+pub front_of_map : (space : OldMapContent) (size count : ℕ) → size ≡ 256 * space.sector_units → count ≡ map_units space.sector_units / space.sector_units → (was image : List ℕ) → ChangesFront size count was image
     → IsWritten space [] was image
 front_of_map space size count size_is count_is was image front = record {
   length_stays = front.length_stays;
@@ -129,7 +129,7 @@ pub row_long : (row : Extent) → row.first ≡ 0 → length (sectors_in (row �
 row_long row first = ap (λ (xs : List ℕ). length xs) (row_is row first) ∙ length-range_with_len 0 row.sectors
 
 -- what was read, patched and written back
-pub front_written : (space : FreeSpace) (size : ℕ) (row : Extent) (was image first second : List ℕ) → row.first ≡ 0 → first ≡ row_at size was row.first row.sectors
+pub front_written : (space : OldMapContent) (size : ℕ) (row : Extent) (was image first second : List ℕ) → row.first ≡ 0 → first ≡ row_at size was row.first row.sectors
     → second ≡ with_holes (take 512 first) space.holes ++ drop 512 first → length (with_holes (take 512 first) space.holes) ≡ 512 → length second ≡ row.sectors * size
     → first_bytes size image (sectors_in (row ∷ [])) (length second) ≡ second → IsFrontWritten space (row.sectors * size) was image
 front_written space size row was image first second at filled patched whole long back =
@@ -149,7 +149,7 @@ kept_to d {R = R} keeps was image told now = let there = keeps.exit was told in 
     same a b e = cc
 
 -- a map of the same disc has its sectors in the same place
-pub edited_written : (space now : FreeSpace) → now ≡ holding space now.holes → (was image : List ℕ) → IsWritten now [] was image → IsWritten space [] was image
+pub edited_written : (space now : OldMapContent) → now ≡ holding space now.holes → (was image : List ℕ) → IsWritten now [] was image → IsWritten space [] was image
 edited_written space now is was image w =
-    let x : IsWritten (holding space now.holes) [] was image = subst (λ (s : FreeSpace). IsWritten s [] was image) is w in
+    let x : IsWritten (holding space now.holes) [] was image = subst (λ (s : OldMapContent). IsWritten s [] was image) is w in
     record { length_stays = x.length_stays; writes = x.writes }

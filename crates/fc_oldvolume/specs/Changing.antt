@@ -7,7 +7,7 @@ use Rattle.fc_device.specs.Calls.{SameForm}
 use Rattle.fc_device.specs.Faults.{Rose}
 use Rattle.fc_device.specs.Stops.{LeavesOnly}
 use Rattle.fc_record.specs.declared.Kind.{Kind}
-use Rattle.fc_oldmap.specs.OldMap.{FreeSpace}
+use Rattle.fc_oldmap.specs.OldMap.{OldMapContent}
 use Rattle.fc_model.specs.Command.{Command}
 use Rattle.fc_image.specs.Layout.{Layout}
 use Rattle.fc_image.specs.Opening.{Opened}
@@ -29,7 +29,7 @@ IsOldLayout (Layout.Old space) = Unit {0}
 
 -- Some sectors were written, and besides them only those of the map. Each was free, or lies in a directory that the command may rewrite:
 -- so none lies in a file, in another directory, in lost space or behind the disc.
-pub record WritesPlaces (view : Opened) (space : FreeSpace) (c : Command) (image other : List ℕ) : Type 0 where
+pub record WritesPlaces (view : Opened) (space : OldMapContent) (c : Command) (image other : List ℕ) : Type 0 where
   pub sectors : List ℕ
   pub written : IsWritten space sectors image other
   pub may : MayBeWritten view space c sectors
@@ -38,11 +38,11 @@ pub record WritesPlaces (view : Opened) (space : FreeSpace) (c : Command) (image
 -- It is so if the disk tells its bytes.
 abbrev pub WritesOnlyPlaces : {D : Type 0} → Ghosts D → Command → Parts → D → D → Type 0
 WritesOnlyPlaces d c was old new = ForSome (d.bytes old) (λ image. (other : List ℕ) × (d.bytes new ≡ Some other)
-    × ((kind : Kind) (view : Opened) (space : FreeSpace) → OpensAs image kind view → ArePartsOf was view → view.layout ≡ Layout.Old space → WritesPlaces view space c image other))
+    × ((kind : Kind) (view : Opened) (space : OldMapContent) → OpensAs image kind view → ArePartsOf was view → view.layout ≡ Layout.Old space → WritesPlaces view space c image other))
 
 -- No sector of the map is another than before, if the disk tells its bytes.
 abbrev pub WritesNoMap : {D : Type 0} → Ghosts D → Parts → D → D → Type 0
-WritesNoMap d was old new = ForSome (d.bytes old) (λ image. ForSome (d.bytes new) (λ other. (space : FreeSpace) → was.layout ≡ Layout.Old space → MapStays space image other))
+WritesNoMap d was old new = ForSome (d.bytes old) (λ image. ForSome (d.bytes new) (λ other. (space : OldMapContent) → was.layout ≡ Layout.Old space → MapStays space image other))
 
 -- ---- what stays, whatever is known of the disk's bytes
 

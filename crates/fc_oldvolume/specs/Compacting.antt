@@ -23,7 +23,7 @@ use Rattle.fc_tree.specs.declared.node.Body.TheVariants as bodies
 use Rattle.fc_tree.specs.declared.node.Node.{Node}
 use Rattle.fc_tree.specs.Counts.{address_in}
 use Rattle.fc_oldlaws.specs.moves.After.{Slide, entry_after, readdressed}
-use Rattle.fc_oldmap.specs.OldMap.{FreeSpace}
+use Rattle.fc_oldmap.specs.OldMap.{OldMapContent}
 use Rattle.fc_oldchanges.specs.Owed.{IsWritten}
 use Rattle.fc_record.specs.declared.Kind.{Kind}
 use Rattle.fc_tree.specs.Parts.{ArePartsOf, Parts}
@@ -134,7 +134,7 @@ pub record AreAddressed (form : NameForm) (move : ℕ → ℕ) (nodes nodes' : F
 -- ---- owners
 
 -- Owner number k has been made anew.
-abbrev pub IsRemade : FreeSpace → FinMap nat_cmp Node → List Owner → List Owner → ℕ → Type 0
+abbrev pub IsRemade : OldMapContent → FinMap nat_cmp Node → List Owner → List Owner → ℕ → Type 0
 IsRemade space nodes old new k = (o : Owner) → slice_get old k ≡ Some o → new ≡ slice_set old k (remade space nodes o)
 
 -- the first ones changed
@@ -160,59 +160,59 @@ DirWrittenBy d old new first sectors dir =
     ForSome (d.bytes old) (λ was. (image : List ℕ) × (d.bytes new ≡ Some image) × IsDirWritten (d.sector_size old) first sectors dir was image)
 
 -- The directory of one number is written.
-pub record IsNumberWritten (space : FreeSpace) (nodes : FinMap nat_cmp Node) (n : ℕ) (was image : List ℕ) : Type 0 where
+pub record IsNumberWritten (space : OldMapContent) (nodes : FinMap nat_cmp Node) (n : ℕ) (was image : List ℕ) : Type 0 where
   pub length_stays : length image ≡ length was
   pub written : (node : Node) (dir : SmallDir) → IsDirAt nodes n node dir
       → IsWrittenSmall (bytes_in (sector_bytes (Layout.Old space)) image (row_of space node.entry) (object_size (dir_form (Layout.Old space)) node.entry)) dir
   pub others : (t : ℕ) → ((node : Node) (dir : SmallDir) → IsDirAt nodes n node dir → is_among (row_of space node.entry) t ≡ false)
       → sector_at (sector_bytes (Layout.Old space)) image t ≡ sector_at (sector_bytes (Layout.Old space)) was t
 
-abbrev pub AreRowsWritten : {D : Type 0} → Ghosts D → D → D → FreeSpace → FinMap nat_cmp Node → ℕ → Type 0
+abbrev pub AreRowsWritten : {D : Type 0} → Ghosts D → D → D → OldMapContent → FinMap nat_cmp Node → ℕ → Type 0
 AreRowsWritten d old new space nodes n = ForSome (d.bytes old) (λ was. (image : List ℕ) × (d.bytes new ≡ Some image) × IsNumberWritten space nodes n was image)
 
 -- All that are marked are written.
-abbrev pub DirectoriesWrittenBy : {D : Type 0} → Ghosts D → D → D → FreeSpace → FinMap nat_cmp Node → (ℕ → Bool) → ℕ → Type 0
+abbrev pub DirectoriesWrittenBy : {D : Type 0} → Ghosts D → D → D → OldMapContent → FinMap nat_cmp Node → (ℕ → Bool) → ℕ → Type 0
 DirectoriesWrittenBy d old new space nodes changed bound =
     ForSome (d.bytes old) (λ was. (image : List ℕ) × (d.bytes new ≡ Some image) × AreDirectoriesWritten space nodes changed bound was image)
 
 -- ---- which sectors are written
 
 -- the slide of a volume, by its map before and after and by the objects
-abbrev pub slide_by : FreeSpace → FreeSpace → List Owned → List Owned → Slide
+abbrev pub slide_by : OldMapContent → OldMapContent → List Owned → List Owned → Slide
 slide_by space space' was now = record { space = space; holes = space'.holes; was = was; now = now }
 
 -- These sectors have the directories of the nodes.
-abbrev pub HaveDirectories : FreeSpace → FinMap nat_cmp Node → List ℕ → Type 0
+abbrev pub HaveDirectories : OldMapContent → FinMap nat_cmp Node → List ℕ → Type 0
 HaveDirectories space nodes sectors = (n : ℕ) (node : Node) (dir : SmallDir) → IsDirAt nodes n node dir → (t : ℕ) → is_among (row_of space node.entry) t ≡ true → is_among sectors t ≡ true
 
 -- They have all holes, the objects that slide, and the directories wherever those slide to.
-pub record IsRoom (space : FreeSpace) (nodes : FinMap nat_cmp Node) (was : List Owned) (sectors : List ℕ) : Type 0 where
+pub record IsRoom (space : OldMapContent) (nodes : FinMap nat_cmp Node) (was : List Owned) (sectors : List ℕ) : Type 0 where
   pub holes : (t : ℕ) → is_in_hole space.sector_units space.holes t ≡ true → is_among sectors t ≡ true
   pub objects : (t : ℕ) → is_in_body space.sector_units was t ≡ true → is_among sectors t ≡ true
-  pub directories : (space' : FreeSpace) (now : List Owned) (nodes' : FinMap nat_cmp Node) → KeepsBodies space space' was now → Squashed space space' was now
+  pub directories : (space' : OldMapContent) (now : List Owned) (nodes' : FinMap nat_cmp Node) → KeepsBodies space space' was now → Squashed space space' was now
       → AreMoved (slide_by space space' was now) nodes nodes' → HaveDirectories space' nodes' sectors
 
 -- the sectors of all holes and of all objects
-abbrev pub room_of : Opened → FreeSpace → List ℕ
+abbrev pub room_of : Opened → OldMapContent → List ℕ
 room_of view space = hole_sectors (Layout.Old space) ++ flat_map (λ (o : Object). o.sectors) (objects_of view.listings)
 
 -- At every exit, also after an I/O error: no sectors are written but those of the map, of holes and of objects. So lost space stays.
-pub record WritesOnlyRoom (view : Opened) (space : FreeSpace) (image other : List ℕ) : Type 0 where
+pub record WritesOnlyRoom (view : Opened) (space : OldMapContent) (image other : List ℕ) : Type 0 where
   pub written : IsWritten space (room_of view space) image other
   pub lost : HasSectorsOf (sector_bytes (Layout.Old space)) (lost_sectors space (objects_of view.listings)) image other
 
 -- It is so if the disk tells its bytes.
 abbrev pub CompactsOnlyRoom : {D : Type 0} → Ghosts D → Parts → D → D → Type 0
 CompactsOnlyRoom d was old new = ForSome (d.bytes old) (λ image. (other : List ℕ) × (d.bytes new ≡ Some other)
-    × ((kind : Kind) (view : Opened) (space : FreeSpace) → OpensAs image kind view → ArePartsOf was view → view.layout ≡ Layout.Old space → WritesOnlyRoom view space image other))
+    × ((kind : Kind) (view : Opened) (space : OldMapContent) → OpensAs image kind view → ArePartsOf was view → view.layout ≡ Layout.Old space → WritesOnlyRoom view space image other))
 
 -- ---- all of it
 
-abbrev pub slide_of : FreeSpace → FreeSpace → Moves → Slide
+abbrev pub slide_of : OldMapContent → OldMapContent → Moves → Slide
 slide_of space space' moves = slide_by space space' moves.before.items moves.after.items
 
 -- All is done in memory: the objects have slid, the nodes say so, and marked is each directory in which something changes.
-pub record HasSlidInMemory (space space' : FreeSpace) (was : List Owned) (moves : Moves) (nodes nodes' : FinMap nat_cmp Node) (changed : ℕ → Bool) : Type 0 where
+pub record HasSlidInMemory (space space' : OldMapContent) (was : List Owned) (moves : Moves) (nodes nodes' : FinMap nat_cmp Node) (changed : ℕ → Bool) : Type 0 where
   pub before : moves.before.items ≡ was
   pub squashed : Squashed space space' was moves.after.items
   pub kept : KeepsBodies space space' was moves.after.items
@@ -220,25 +220,25 @@ pub record HasSlidInMemory (space space' : FreeSpace) (was : List Owned) (moves 
   pub marked : MarkChanges (slide_by space space' was moves.after.items) nodes changed
 
 -- And on the disk, if it tells its bytes: the objects, the directories, the map.
-abbrev pub HasSlidOnDisk : {D : Type 0} → Ghosts D → D → D → FreeSpace → FreeSpace → Moves → FinMap nat_cmp Node → (ℕ → Bool) → ℕ → Type 0
+abbrev pub HasSlidOnDisk : {D : Type 0} → Ghosts D → D → D → OldMapContent → OldMapContent → Moves → FinMap nat_cmp Node → (ℕ → Bool) → ℕ → Type 0
 HasSlidOnDisk d old new space space' moves nodes changed bound =
     ForSome (d.bytes old) (λ was. (slid : List ℕ) × (mid : List ℕ) × (image : List ℕ) × (d.bytes new ≡ Some image) × SquashedBytes was slid space moves.before.items moves.after.items
     × AreDirectoriesWritten space' nodes changed bound slid mid × IsMapWritten space' mid image)
 
 -- All memory is there, and the objects are sorted by where they begin.
 pub record IsReadyToCompact (layout : Layout) (nodes : FinMap nat_cmp Node) (bound : ℕ) (r : Ready) : Type 0 where
-  pub all : (space : FreeSpace) → layout ≡ Layout.Old space → IsPermutation (sliding_below space nodes bound) r.moves.before.items
+  pub all : (space : OldMapContent) → layout ≡ Layout.Old space → IsPermutation (sliding_below space nodes bound) r.moves.before.items
   pub sorted : AreSorted r.moves.before.items
   pub resting : r.moves.after.items ≡ r.moves.before.items
   pub spares : AreSpares nodes bound r.spares.items
 
 -- The directories are written, and then the map.
-abbrev pub IsRewrittenBy : {D : Type 0} → Ghosts D → D → D → FreeSpace → FinMap nat_cmp Node → (ℕ → Bool) → ℕ → Type 0
+abbrev pub IsRewrittenBy : {D : Type 0} → Ghosts D → D → D → OldMapContent → FinMap nat_cmp Node → (ℕ → Bool) → ℕ → Type 0
 IsRewrittenBy d old new space nodes changed bound =
     ForSome (d.bytes old) (λ was. (mid : List ℕ) × (image : List ℕ) × (d.bytes new ≡ Some image) × AreDirectoriesWritten space nodes changed bound was mid × IsMapWritten space mid image)
 
 -- The volume has this map, and the owners are those of its nodes.
-pub record HasSquashed (v v' : Volume) (map : FreeSpace) : Type 0 where
+pub record HasSquashed (v v' : Volume) (map : OldMapContent) : Type 0 where
   pub layout : layout_of v'.space ≡ Layout.Old map
   pub copies : v'.copies ≡ Equal
   pub owners : AreRemade map (nodes_of v.tree) v.owners v'.owners

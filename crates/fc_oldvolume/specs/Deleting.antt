@@ -10,7 +10,7 @@ use Rattle.fc_drafts.specs.Rewriting.{HasLeft}
 use Rattle.fc_image.specs.Layout.{Layout, sector_bytes}
 use Rattle.fc_laws.specs.nodes.Edits.{with_body}
 use Rattle.fc_objects.specs.Extents.{sectors_in}
-use Rattle.fc_oldmap.specs.OldMap.{FreeSpace}
+use Rattle.fc_oldmap.specs.OldMap.{OldMapContent}
 use Rattle.fc_oldlaws.specs.agree.Spaces.{CanGive}
 use Rattle.fc_names.specs.declared.refusal.Refusal.{Refusal}
 use Rattle.fc_refusals.specs.declared.target.Target.{Target}
@@ -41,8 +41,8 @@ pub record LeavesOut (nodes : FinMap nat_cmp Node) (layout : Layout) (t : Target
 pub record CanFree (nodes : FinMap nat_cmp Node) (layout : Layout) (n : ℕ) : Type 0 where
   pub object : Node
   pub there : get nodes n ≡ Some object
-  pub behind : (space : FreeSpace) → layout ≡ Layout.Old space → LieBehind space
-  pub free : (space : FreeSpace) → layout ≡ Layout.Old space → 0 < units_of space object.entry → CanGive space space.holes (space_at space object.entry)
+  pub behind : (space : OldMapContent) → layout ≡ Layout.Old space → LieBehind space
+  pub free : (space : OldMapContent) → layout ≡ Layout.Old space → 0 < units_of space object.entry → CanGive space space.holes (space_at space object.entry)
 
 -- The directory is ready, and so is the map with the space of the target's object.
 pub record IsDeleteReady (nodes : FinMap nat_cmp Node) (layout : Layout) (t : Target) (r : Removal) : Type 0 where
@@ -50,17 +50,17 @@ pub record IsDeleteReady (nodes : FinMap nat_cmp Node) (layout : Layout) (t : Ta
   pub number : r.node ≡ t.node
   pub object : Node
   pub is : get nodes t.node ≡ Some object
-  pub map : (space : FreeSpace) → layout ≡ Layout.Old space → GivesBack space object.entry (Ok r.map)
+  pub map : (space : OldMapContent) → layout ≡ Layout.Old space → GivesBack space object.entry (Ok r.map)
 
 -- The refusal is MapFull, and there would be too many holes with the space of the node's object.
 abbrev pub RefusesFull : FinMap nat_cmp Node → Layout → ℕ → CommandError → Type 0
 RefusesFull nodes layout n (Refused r) = (r ≡ Refusal.MapFull)
-    × ((object : Node) × (get nodes n ≡ Some object) × ((space : FreeSpace) → layout ≡ Layout.Old space → IsTooFull space object.entry))
+    × ((object : Node) × (get nodes n ≡ Some object) × ((space : OldMapContent) → layout ≡ Layout.Old space → IsTooFull space object.entry))
 RefusesFull nodes layout n NoMemory = Unit {0}
 RefusesFull nodes layout n DiskFault = ⊥
 
 -- the map that is written, if any
-abbrev pub IsMapDone : Option FreeSpace → List ℕ → List ℕ → Type 0
+abbrev pub IsMapDone : Option OldMapContent → List ℕ → List ℕ → Type 0
 IsMapDone None was image = image ≡ was
 IsMapDone (Some space) was image = IsMapWritten space was image
 
@@ -71,13 +71,13 @@ pub record IsWrittenWithout (layout : Layout) (r : Removal) (was image : List �
   pub map : IsMapDone r.map mid image
 
 -- the map afterwards
-abbrev pub map_after : FreeSpace → Option FreeSpace → FreeSpace
+abbrev pub map_after : OldMapContent → Option OldMapContent → OldMapContent
 map_after space None = space
 map_after space (Some now) = now
 
 -- The volume is without the object, and has the map that was written.
 pub record HasRemoved (was now : Volume) (r : Removal) : Type 0 where
-  pub layout : (space : FreeSpace) → (parts_of was).layout ≡ Layout.Old space → (parts_of now).layout ≡ Layout.Old (map_after space r.map)
+  pub layout : (space : OldMapContent) → (parts_of was).layout ≡ Layout.Old space → (parts_of now).layout ≡ Layout.Old (map_after space r.map)
   pub copies : now.copies ≡ Equal
   pub nodes : nodes_of now.tree ≡ remove (with_body r.directory.node (body_in (directory_in r.directory.draft)) (nodes_of was.tree)) r.node
   pub owner_gone : (o : Owner) → Contains was.owners o → o.node ≡ r.node → IsPermutation was.owners (o ∷ now.owners)

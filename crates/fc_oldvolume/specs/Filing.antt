@@ -13,7 +13,7 @@ use Rattle.fc_image.specs.Opening.{Opened}
 use Rattle.fc_model.specs.Command.{Command}
 use Rattle.fc_laws.specs.nodes.Edits.{with_body}
 use Rattle.fc_objects.specs.Extents.{sectors_in}
-use Rattle.fc_oldmap.specs.OldMap.{FreeSpace}
+use Rattle.fc_oldmap.specs.OldMap.{OldMapContent}
 use Rattle.fc_tree.specs.declared.node.Node.{Node}
 use Rattle.fc_tree.specs.declared.node.Body.TheVariants.{File}
 use Rattle.fc_tree.specs.Counts.{address_in}
@@ -34,12 +34,12 @@ use Rattle.fc_oldvolume.specs.Taking.{IsTaken}
 -- ---- what is written
 
 -- The maps that are written are of the same disc.
-pub record CanFile (space : FreeSpace) (f : Filing) : Type 0 where
+pub record CanFile (space : OldMapContent) (f : Filing) : Type 0 where
   pub taken : IsEditOf space f.taken.map
   pub given : IsEditOf space f.given
 
 -- the map afterwards
-abbrev pub space_after : FreeSpace → Filing → FreeSpace
+abbrev pub space_after : OldMapContent → Filing → OldMapContent
 space_after space f = map_after (map_after space f.taken.map) f.given
 
 -- The bytes of a file were written, and then the map without its space, if it has any.
@@ -72,14 +72,14 @@ pub record IsFileReady (nodes : FinMap nat_cmp Node) (layout : Layout) (n : ℕ)
   pub content : Directory
   pub there : get nodes n ≡ Some node
   pub says : node.body ≡ body_in content
-  pub taken : (space : FreeSpace) → layout ≡ Layout.Old space → IsTaken space words.len r.filing.taken
+  pub taken : (space : OldMapContent) → layout ≡ Layout.Old space → IsTaken space words.len r.filing.taken
   pub given : r.filing.given ≡ None
   pub entry : r.entry ≡ file_entry name words.load words.exec words.len r.filing.taken.address
   pub entered : HasEntered (address_in nodes node.holder) r.entry content (directory_in r.filing.directory.draft)
   pub prepared : IsPrepared layout n node.entry (directory_in r.filing.directory.draft) r.filing.directory
 
 -- The command wants a new file of n bytes, of this name, in a directory that says `content`.
-pub record WantsFile (space : FreeSpace) (n : ℕ) (content : Directory) (name : List ℕ) (v : Opened) (c : Command) : Type 0 where
+pub record WantsFile (space : OldMapContent) (n : ℕ) (content : Directory) (name : List ℕ) (v : Opened) (c : Command) : Type 0 where
   pub gain : Gain
   pub at : v.layout ≡ Layout.Old space
   pub len : new_length v c ≡ n
@@ -96,7 +96,7 @@ nodes_put r n nodes = put (with_body r.filing.directory.node (body_in (directory
 
 -- The volume has the new file, and the map that was written.
 pub record HasPut (was now : Volume) (r : NewFile) : Type 0 where
-  pub layout : (space : FreeSpace) → (parts_of was).layout ≡ Layout.Old space → (parts_of now).layout ≡ Layout.Old (space_after space r.filing)
+  pub layout : (space : OldMapContent) → (parts_of was).layout ≡ Layout.Old space → (parts_of now).layout ≡ Layout.Old (space_after space r.filing)
   pub copies : now.copies ≡ Equal
   pub nodes : nodes_of now.tree ≡ nodes_put r (next_number was.tree) (nodes_of was.tree)
   pub owners : now.owners ≡ was.owners

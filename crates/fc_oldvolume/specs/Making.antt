@@ -2,7 +2,7 @@
 use Rattle.std.specs.Prelude.{◌≡◌, ◌<◌, ◌^◌, ℕ, List, Some, length, IsFalse, IsSome}
 use Rattle.std.specs.Ordering.{nat_cmp}
 use Rattle.std.specs.FinMap.{FinMap, get, insert}
-use Rattle.fc_oldmap.specs.OldMap.{FreeSpace}
+use Rattle.fc_oldmap.specs.OldMap.{OldMapContent}
 use Rattle.fc_dirs.specs.Directory.{Directory, entries_of}
 use Rattle.fc_dirs.specs.Entries.{has_name}
 use Rattle.fc_drafts.specs.Draft.{CanAddress, CanBeCalled, CanName, IsSayable, directory_in, size_of}
@@ -51,7 +51,7 @@ pub record IsMakingReady (nodes : FinMap nat_cmp Node) (layout : Layout) (n : �
   pub content : Directory
   pub there : get nodes n ≡ Some node
   pub says : node.body ≡ body_in content
-  pub taken : (space : FreeSpace) → layout ≡ Layout.Old space → IsTaken space (new_dir_size (dir_form layout)) r.taken
+  pub taken : (space : OldMapContent) → layout ≡ Layout.Old space → IsTaken space (new_dir_size (dir_form layout)) r.taken
   pub entry : r.entry ≡ directory_entry (dir_form layout) name r.taken.address
   pub new_says : directory_in r.draft ≡ new_directory (dir_form layout) node.entry.address name
   pub new_sayable : IsSayable (directory_in r.draft)
@@ -75,7 +75,7 @@ nodes_made r n nodes =
 
 -- The volume has the new directory, and the map that was written.
 pub record HasMade (was now : Volume) (r : Making) : Type 0 where
-  pub layout : (space : FreeSpace) → (parts_of was).layout ≡ Layout.Old space → (parts_of now).layout ≡ Layout.Old (map_after space r.taken.map)
+  pub layout : (space : OldMapContent) → (parts_of was).layout ≡ Layout.Old space → (parts_of now).layout ≡ Layout.Old (map_after space r.taken.map)
   pub copies : now.copies ≡ Equal
   pub nodes : nodes_of now.tree ≡ nodes_made r (next_number was.tree) (nodes_of was.tree)
   pub owners : now.owners ≡ was.owners

@@ -2,7 +2,7 @@
 use Rattle.std.specs.Prelude.{◌≡◌, ℕ, true, List, [], Option, None, Some}
 use Rattle.fc_image.specs.Layout.{Layout, is_apart, map_place}
 use Rattle.fc_oldchanges.specs.Owed.{IsWritten, MapStays}
-use Rattle.fc_oldmap.specs.OldMap.{FreeSpace}
+use Rattle.fc_oldmap.specs.OldMap.{OldMapContent}
 use Rattle.fc_objects.specs.Extents.{sectors_in}
 use Rattle.fc_volume.specs.declared.changes.rewrite.Rewrite.{Rewrite}
 use Rattle.fc_volume.specs.declared.changes.relocate.Relocation.{Relocation}
@@ -28,12 +28,12 @@ pub record IsRelocationWritten (size : ℕ) (r : Relocation) (was image : List �
   pub source : AreMoreStored size r.source turned image
 
 -- The directories that are rewritten lie apart from the map.
-pub record LieOffMap (space : FreeSpace) (r : Relocation) : Type 0 where
+pub record LieOffMap (space : OldMapContent) (r : Relocation) : Type 0 where
   pub holder : is_apart (sectors_in r.holder.place.items) (map_place (Layout.Old space)) ≡ true
   pub own : is_apart (more_sectors r.own) (map_place (Layout.Old space)) ≡ true
   pub source : is_apart (more_sectors r.source) (map_place (Layout.Old space)) ≡ true
 
 -- What every exit leaves: no sectors but those of the directories were written, and no sector of the map if they lie apart from it.
-pub record WritesRelocation (space : FreeSpace) (r : Relocation) (was image : List ℕ) : Type 0 where
+pub record WritesRelocation (space : OldMapContent) (r : Relocation) (was image : List ℕ) : Type 0 where
   pub written : IsWritten space (sectors_of_relocation r) was image
   pub map_stays : LieOffMap space r → MapStays space was image

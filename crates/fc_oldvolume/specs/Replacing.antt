@@ -13,7 +13,7 @@ use Rattle.fc_image.specs.Walk.{Object}
 use Rattle.fc_model.specs.Command.{Command}
 use Rattle.fc_laws.specs.nodes.Edits.{with_body, with_entry}
 use Rattle.fc_oldlaws.specs.agree.Spaces.{CanGive}
-use Rattle.fc_oldmap.specs.OldMap.{FreeSpace}
+use Rattle.fc_oldmap.specs.OldMap.{OldMapContent}
 use Rattle.fc_refusals.specs.declared.target.Target.{Target}
 use Rattle.fc_tree.specs.declared.node.Node.{Node}
 use Rattle.fc_tree.specs.Nodes.{body_in, nodes_of}
@@ -31,20 +31,20 @@ use Rattle.fc_oldvolume.specs.Taking.{IsTaken}
 pub record CanReplace (nodes : FinMap nat_cmp Node) (layout : Layout) (number n : ℕ) : Type 0 where
   pub object : Node
   pub there : get nodes number ≡ Some object
-  pub free : (space : FreeSpace) → layout ≡ Layout.Old space → 0 < units_of space object.entry
+  pub free : (space : OldMapContent) → layout ≡ Layout.Old space → 0 < units_of space object.entry
       → CanGive space (holes_without (old_need space n) space.holes) (space_at space object.entry)
 
 -- A file is ready in the place of the target: its new space is taken first, and then that of the target's object goes back.
 pub record IsReplacing (nodes : FinMap nat_cmp Node) (layout : Layout) (t : Target) (words : FileWords) (r : Replacement) : Type 0 where
   pub saved : IsSaved nodes layout t words r.filing.taken.address (record { directory = r.filing.directory; node = r.node; entry = r.entry })
-  pub taken : (space : FreeSpace) → layout ≡ Layout.Old space → IsTaken space words.len r.filing.taken
+  pub taken : (space : OldMapContent) → layout ≡ Layout.Old space → IsTaken space words.len r.filing.taken
   pub object : Node
   pub is : get nodes t.node ≡ Some object
-  pub given : (space : FreeSpace) → layout ≡ Layout.Old space → GivesBack (map_after space r.filing.taken.map) object.entry (Ok r.filing.given)
+  pub given : (space : OldMapContent) → layout ≡ Layout.Old space → GivesBack (map_after space r.filing.taken.map) object.entry (Ok r.filing.given)
   pub owner : r.owner ≡ owner_if layout t.node t.holder r.entry
 
 -- The command wants a file of n bytes in the place of the object of an entry.
-pub record WantsOver (space : FreeSpace) (n : ℕ) (e : Entry) (v : Opened) (c : Command) : Type 0 where
+pub record WantsOver (space : OldMapContent) (n : ℕ) (e : Entry) (v : Opened) (c : Command) : Type 0 where
   pub object : Object
   pub at : v.layout ≡ Layout.Old space
   pub len : new_length v c ≡ n
@@ -66,7 +66,7 @@ pub record IsOwnerAdmitted (was now : Volume) (owner : Option Owner) : Type 0 wh
 
 -- The volume has the file in the place of the other, and the map that was written.
 pub record HasReplacedFile (was now : Volume) (r : Replacement) : Type 0 where
-  pub layout : (space : FreeSpace) → (parts_of was).layout ≡ Layout.Old space → (parts_of now).layout ≡ Layout.Old (space_after space r.filing)
+  pub layout : (space : OldMapContent) → (parts_of was).layout ≡ Layout.Old space → (parts_of now).layout ≡ Layout.Old (space_after space r.filing)
   pub copies : now.copies ≡ Equal
   pub nodes : nodes_of now.tree ≡ with_entry r.node r.entry (with_body r.filing.directory.node (body_in (directory_in r.filing.directory.draft)) (nodes_of was.tree))
   pub owners : HasOwnerNow r.owner r.node was.owners now.owners

@@ -8,7 +8,7 @@ ghost use Rattle.fc_image.specs.declared.effects.Owned.{Owned};
 ghost use Rattle.fc_image.specs.Layout.{Layout, dir_form, disc_sectors};
 ghost use Rattle.fc_names.specs.declared.refusal.Refusal.{Refusal};
 ghost use Rattle.fc_laws.specs.nodes.Edits.{Nodes};
-ghost use Rattle.fc_oldmap.specs.OldMap.{FreeSpace};
+ghost use Rattle.fc_oldmap.specs.OldMap.{OldMapContent};
 ghost use Rattle.fc_oldlaws.specs.moves.After.{start_after};
 ghost use Rattle.fc_oldlaws.specs.moves.Nodes.{AreMoved};
 ghost use Rattle.fc_oldlaws.specs.moves.Writes.{AreDirectoriesPlaced, MarkChanges};
@@ -105,10 +105,10 @@ fn rewrite<D: Disk>(
     requires sorted { AreSorted ready.old.moves.before.items }
     requires low { IsLow (start_after ready.old.moves.before.items ready.old.moves.after.items) }
     requires small { (n : ℕ) (node : Node) → get (nodes_of tree.old) n ≡ Some node → IsNotBig node.body }
-    requires placed { (disc : FreeSpace) (nodes : Nodes) → layout_of space.now ≡ Layout.Old disc
+    requires placed { (disc : OldMapContent) (nodes : Nodes) → layout_of space.now ≡ Layout.Old disc
         → AreMoved (slide_of disc map.now ready.old.moves) (nodes_of tree.old) nodes → AreDirectoriesPlaced map.now nodes }
-    ensures moved { (disc : FreeSpace) → layout_of space.now ≡ Layout.Old disc → AreMoved (slide_of disc map.now ready.old.moves) (nodes_of tree.old) (nodes_of tree.new) }
-    ensures marked { (disc : FreeSpace) → layout_of space.now ≡ Layout.Old disc → MarkChanges (slide_of disc map.now ready.old.moves) (nodes_of tree.old) (marks ready.new.spares.items) }
+    ensures moved { (disc : OldMapContent) → layout_of space.now ≡ Layout.Old disc → AreMoved (slide_of disc map.now ready.old.moves) (nodes_of tree.old) (nodes_of tree.new) }
+    ensures marked { (disc : OldMapContent) → layout_of space.now ≡ Layout.Old disc → MarkChanges (slide_of disc map.now ready.old.moves) (nodes_of tree.old) (marks ready.new.spares.items) }
     ensures moves { ready.new.moves ≡ ready.old.moves }
     ensures bound { bound_of tree.new ≡ bound_of tree.old }
     ensures written { OnOk result (IsRewrittenBy D.Disk disk.old disk.new map.now (nodes_of tree.new) (marks ready.new.spares.items) (bound_of tree.old)) }
@@ -143,7 +143,7 @@ fn write_compacted<D: Disk>(
     requires ready { IsReadyToCompact (layout_of space.now) (nodes_of tree.old) (bound_of tree.old) ready.old }
     requires bodies { AreBodies map.old ready.old.moves.before.items }
     requires small { (n : ℕ) (node : Node) → get (nodes_of tree.old) n ≡ Some node → IsNotBig node.body }
-    requires placed { (holes : FreeSpace) (now : List Owned) (nodes : Nodes) → KeepsBodies map.old holes ready.old.moves.before.items now → Squashed map.old holes ready.old.moves.before.items now
+    requires placed { (holes : OldMapContent) (now : List Owned) (nodes : Nodes) → KeepsBodies map.old holes ready.old.moves.before.items now → Squashed map.old holes ready.old.moves.before.items now
         → AreMoved (slide_by map.old holes ready.old.moves.before.items now) (nodes_of tree.old) nodes → AreDirectoriesPlaced holes nodes }
     ensures done { OnOk result (HasSlidInMemory map.old map.new ready.old.moves.before.items ready.new.moves (nodes_of tree.old) (nodes_of tree.new) (marks ready.new.spares.items)) }
     ensures bytes { OnOk result (HasSlidOnDisk D.Disk disk.old disk.new map.old map.new ready.new.moves (nodes_of tree.new) (marks ready.new.spares.items) (bound_of tree.old)) }
@@ -175,8 +175,8 @@ fn move_laws()
 // A copy of the volume's map.
 fn map_of(places: &Places) -> OldMap
     requires old_map { IsOldLayout (layout_of places.now) }
-    requires behind { (space : FreeSpace) → layout_of places.now ≡ Layout.Old space → LieBehind space }
-    ensures { (space : FreeSpace) → layout_of places.now ≡ Layout.Old space → result ≡ space }
+    requires behind { (space : OldMapContent) → layout_of places.now ≡ Layout.Old space → LieBehind space }
+    ensures { (space : OldMapContent) → layout_of places.now ≡ Layout.Old space → result ≡ space }
 {
     match places.space() {
         Space::OldMapped(map) => copy_of(map),

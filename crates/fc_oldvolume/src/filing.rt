@@ -7,7 +7,7 @@ ghost use Rattle.fc_image.specs.Layout.{Layout, sector_bytes};
 ghost use Rattle.fc_objects.specs.Extents.{sectors_in};
 ghost use Rattle.fc_objects.specs.Written.{IsPartWritten};
 ghost use Rattle.fc_oldchanges.specs.Owed.{IsWritten};
-ghost use Rattle.fc_oldmap.specs.OldMap.{FreeSpace};
+ghost use Rattle.fc_oldmap.specs.OldMap.{OldMapContent};
 ghost use Rattle.fc_space.specs.Space.{layout_of};
 ghost use Rattle.fc_volume.specs.Storing.{AreStored};
 ghost use Rattle.fc_oldvolume.specs.Filing.{CanFile, IsFileWritten, IsNamedAndGiven, IsStoredAndTaken};
@@ -62,8 +62,8 @@ fn store_and_take<D: Disk>(
     requires size { D.sector_size disk.old ≡ sector_bytes (layout_of places.now) }
     requires two { 2 ≤ D.sectors disk.old }
     requires on_disk { All (λ n. n < D.sectors disk.old) (sectors_in f.now.taken.place.items) }
-    requires map { (space : FreeSpace) × (layout_of places.now ≡ Layout.Old space) × CanFile space f.now }
-    ensures exits { (space : FreeSpace) → layout_of places.now ≡ Layout.Old space → StopsAndExitsLeave D.Disk disk.old disk.new (IsWritten space (sectors_in f.now.taken.place.items)) }
+    requires map { (space : OldMapContent) × (layout_of places.now ≡ Layout.Old space) × CanFile space f.now }
+    ensures exits { (space : OldMapContent) → layout_of places.now ≡ Layout.Old space → StopsAndExitsLeave D.Disk disk.old disk.new (IsWritten space (sectors_in f.now.taken.place.items)) }
     ensures done { OnOk result (ForSome (D.bytes disk.old) (λ was. ForSome (D.bytes disk.new) (IsStoredAndTaken (sector_bytes (layout_of places.now)) f.now bytes.now was))) }
     ensures durable { OnOk result (IsFalse (D.pending disk.new)) }
     ensures form { SameForm D.Disk disk.old disk.new }
@@ -81,8 +81,8 @@ fn name_and_give<D: Disk>(disk: &mut D, places: &Places, f: &Filing) -> Result<(
     requires size { D.sector_size disk.old ≡ sector_bytes (layout_of places.now) }
     requires two { 2 ≤ D.sectors disk.old }
     requires on_disk { All (λ n. n < D.sectors disk.old) (sectors_in f.now.directory.place.items) }
-    requires map { (space : FreeSpace) × (layout_of places.now ≡ Layout.Old space) × CanFile space f.now }
-    ensures exits { (space : FreeSpace) → layout_of places.now ≡ Layout.Old space → StopsAndExitsLeave D.Disk disk.old disk.new (IsWritten space (sectors_in f.now.directory.place.items)) }
+    requires map { (space : OldMapContent) × (layout_of places.now ≡ Layout.Old space) × CanFile space f.now }
+    ensures exits { (space : OldMapContent) → layout_of places.now ≡ Layout.Old space → StopsAndExitsLeave D.Disk disk.old disk.new (IsWritten space (sectors_in f.now.directory.place.items)) }
     ensures done { OnOk result (ForSome (D.bytes disk.old) (λ was. ForSome (D.bytes disk.new) (IsNamedAndGiven (sector_bytes (layout_of places.now)) f.now was))) }
     ensures durable { OnOk result (IsFalse (D.pending disk.new)) }
     ensures form { SameForm D.Disk disk.old disk.new }
@@ -107,8 +107,8 @@ pub fn write_file<D: Disk>(
     requires two { 2 ≤ D.sectors disk.old }
     requires file_on_disk { All (λ n. n < D.sectors disk.old) (sectors_in f.now.taken.place.items) }
     requires on_disk { All (λ n. n < D.sectors disk.old) (sectors_in f.now.directory.place.items) }
-    requires map { (space : FreeSpace) × (layout_of places.now ≡ Layout.Old space) × CanFile space f.now }
-    ensures exits { (space : FreeSpace) → layout_of places.now ≡ Layout.Old space
+    requires map { (space : OldMapContent) × (layout_of places.now ≡ Layout.Old space) × CanFile space f.now }
+    ensures exits { (space : OldMapContent) → layout_of places.now ≡ Layout.Old space
         → StopsAndExitsLeave D.Disk disk.old disk.new (IsWritten space (sectors_in f.now.directory.place.items ++ sectors_in f.now.taken.place.items)) }
     ensures done { OnOk result (ForSome (D.bytes disk.old) (λ was. ForSome (D.bytes disk.new) (IsFileWritten (layout_of places.now) f.now bytes.now was))) }
     ensures durable { OnOk result (IsFalse (D.pending disk.new)) }

@@ -1,7 +1,7 @@
 // Laws for commands that change a volume with an old map.
 ghost use Rattle.std.specs.Prelude.{◌≡◌};
 ghost use Rattle.fc_image.specs.Layout.{Layout};
-ghost use Rattle.fc_oldmap.specs.OldMap.{FreeSpace, IsOldMap};
+ghost use Rattle.fc_oldmap.specs.OldMap.{OldMapContent, IsOldMap};
 ghost use Rattle.fc_space.specs.Space.{layout_of};
 ghost use Rattle.fc_oldvolume.specs.FilingLaws.{FilingLaws};
 ghost use Rattle.fc_oldvolume.specs.Laws.{OldLaws};
@@ -33,7 +33,7 @@ pub fn old_laws()
 
 /// A law: an old map in memory is one.
 pub fn is_old_map(places: &Places)
-    ensures { (space : FreeSpace) → layout_of places.now ≡ Layout.Old space → IsOldMap space }
+    ensures { (space : OldMapContent) → layout_of places.now ≡ Layout.Old space → IsOldMap space }
 {
     match places.space() {
         Space::NewMapped(_) => {}

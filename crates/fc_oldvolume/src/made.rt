@@ -8,7 +8,7 @@ ghost use Rattle.fc_image.specs.Layout.{Layout, sector_bytes};
 ghost use Rattle.fc_objects.specs.Extents.{sectors_in};
 ghost use Rattle.fc_objects.specs.Written.{IsPartWritten};
 ghost use Rattle.fc_oldchanges.specs.Owed.{IsWritten};
-ghost use Rattle.fc_oldmap.specs.OldMap.{FreeSpace};
+ghost use Rattle.fc_oldmap.specs.OldMap.{OldMapContent};
 ghost use Rattle.fc_space.specs.Space.{layout_of};
 ghost use Rattle.fc_tree.specs.Nodes.{nodes_of};
 ghost use Rattle.fc_volume.specs.Volume.{parts_of};
@@ -57,8 +57,8 @@ fn write_making<D: Disk>(disk: &mut D, places: &Places, r: &Making) -> Result<()
     requires two { 2 ≤ D.sectors disk.old }
     requires object_on_disk { All (λ n. n < D.sectors disk.old) (sectors_in r.now.taken.place.items) }
     requires on_disk { All (λ n. n < D.sectors disk.old) (sectors_in r.now.directory.place.items) }
-    requires map { (space : FreeSpace) × (layout_of places.now ≡ Layout.Old space) × IsEditOf space r.now.taken.map }
-    ensures exits { (space : FreeSpace) → layout_of places.now ≡ Layout.Old space
+    requires map { (space : OldMapContent) × (layout_of places.now ≡ Layout.Old space) × IsEditOf space r.now.taken.map }
+    ensures exits { (space : OldMapContent) → layout_of places.now ≡ Layout.Old space
         → StopsAndExitsLeave D.Disk disk.old disk.new (IsWritten space (sectors_in r.now.directory.place.items ++ sectors_in r.now.taken.place.items)) }
     ensures done { OnOk result (ForSome (D.bytes disk.old) (λ was. ForSome (D.bytes disk.new) (IsWrittenWith (layout_of places.now) r.now was))) }
     ensures durable { OnOk result (IsFalse (D.pending disk.new)) }
@@ -108,12 +108,12 @@ pub fn make<D: Disk>(volume: &mut Volume, disk: &mut D, change: Making) -> Resul
     requires two { 2 ≤ D.sectors disk.old }
     requires object_on_disk { All (λ n. n < D.sectors disk.old) (sectors_in change.taken.place.items) }
     requires on_disk { All (λ n. n < D.sectors disk.old) (sectors_in change.directory.place.items) }
-    requires map { (space : FreeSpace) × ((parts_of volume.old).layout ≡ Layout.Old space) × IsEditOf space change.taken.map }
+    requires map { (space : OldMapContent) × ((parts_of volume.old).layout ≡ Layout.Old space) × IsEditOf space change.taken.map }
     requires directory { IsSome (get (nodes_of volume.old.tree) change.directory.node) }
     requires room { 0 < volume.old.tree.room }
     ensures volume { OnOk result (HasMade volume.old volume.new change) }
     ensures done { OnOk result (ForSome (D.bytes disk.old) (λ was. ForSome (D.bytes disk.new) (IsWrittenWith (parts_of volume.old).layout change was))) }
-    ensures exits { (space : FreeSpace) → (parts_of volume.old).layout ≡ Layout.Old space
+    ensures exits { (space : OldMapContent) → (parts_of volume.old).layout ≡ Layout.Old space
         → StopsAndExitsLeave D.Disk disk.old disk.new (IsWritten space (sectors_in change.directory.place.items ++ sectors_in change.taken.place.items)) }
     ensures durable { OnOk result (IsFalse (D.pending disk.new)) }
     ensures error { IfErr result (λ error. error ≡ CommandError.DiskFault) }

@@ -10,7 +10,7 @@ ghost use Rattle.fc_image.specs.Opening.{Opened};
 ghost use Rattle.fc_model.specs.Command.{Command};
 ghost use Rattle.fc_model.specs.Tree.{last_name};
 ghost use Rattle.fc_names.specs.Names.{Path};
-ghost use Rattle.fc_oldmap.specs.OldMap.{FreeSpace};
+ghost use Rattle.fc_oldmap.specs.OldMap.{OldMapContent};
 ghost use Rattle.fc_space.specs.Space.{layout_of};
 ghost use Rattle.fc_tree.specs.Nodes.{body_in, nodes_of};
 ghost use Rattle.fc_tree.specs.declared.node.Node.{Node};
@@ -68,8 +68,8 @@ fn place_cdir(
     name: &Name,
 ) -> Result<Taken, CommandError>
     requires old_map { IsOldLayout (layout_of places.now) }
-    requires behind { (space : FreeSpace) → layout_of places.now ≡ Layout.Old space → LieBehind space }
-    ensures taken { IfOk result (λ taken. (space : FreeSpace) → layout_of places.now ≡ Layout.Old space → IsTaken space (new_dir_size (dir_form (layout_of places.now))) taken) }
+    requires behind { (space : OldMapContent) → layout_of places.now ≡ Layout.Old space → LieBehind space }
+    ensures taken { IfOk result (λ taken. (space : OldMapContent) → layout_of places.now ≡ Layout.Old space → IsTaken space (new_dir_size (dir_form (layout_of places.now))) taken) }
     ensures refused { (v : Opened) (path : Path) (gain : Gain) → v.layout ≡ layout_of places.now → gain_in v (Command.Cdir path) ≡ Some gain → GetsName (directory_in draft.now) name.now gain
         → gain.listing.content ≡ directory_in draft.now → AnswersSpace result (short v (Command.Cdir path)) }
 {
@@ -94,7 +94,7 @@ fn prepare_cdir(
     requires old_map { IsOldLayout (layout_of places.now) }
     requires held { CanMakeIn (nodes_of tree.now) (layout_of places.now) dir name }
     requires draft { (node : Node) → get (nodes_of tree.now) dir ≡ Some node → node.body ≡ body_in (directory_in draft) }
-    requires taken { (space : FreeSpace) → layout_of places.now ≡ Layout.Old space → IsTaken space (new_dir_size (dir_form (layout_of places.now))) taken }
+    requires taken { (space : OldMapContent) → layout_of places.now ≡ Layout.Old space → IsTaken space (new_dir_size (dir_form (layout_of places.now))) taken }
     ensures { IfOk result (IsMakingReady (nodes_of tree.now) (layout_of places.now) dir name) }
 {
     fc_drafts::made_entries();
@@ -127,7 +127,7 @@ fn draft_cdir(
     p: &Path,
 ) -> Result<Making, CommandError>
     requires old_map { IsOldLayout (layout_of places.now) }
-    requires behind { (space : FreeSpace) → layout_of places.now ≡ Layout.Old space → LieBehind space }
+    requires behind { (space : OldMapContent) → layout_of places.now ≡ Layout.Old space → LieBehind space }
     requires some { 0 < length p.now }
     requires held { CanMakeIn (nodes_of tree.now) (layout_of places.now) dir (last_name p.now) }
     ensures ready { IfOk result (IsMakingReady (nodes_of tree.now) (layout_of places.now) dir (last_name p.now)) }

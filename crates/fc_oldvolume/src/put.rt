@@ -7,7 +7,7 @@ ghost use Rattle.fc_device.specs.Faults.{Rose};
 ghost use Rattle.fc_image.specs.Layout.{Layout, sector_bytes};
 ghost use Rattle.fc_objects.specs.Extents.{sectors_in};
 ghost use Rattle.fc_oldchanges.specs.Owed.{IsWritten};
-ghost use Rattle.fc_oldmap.specs.OldMap.{FreeSpace};
+ghost use Rattle.fc_oldmap.specs.OldMap.{OldMapContent};
 ghost use Rattle.fc_tree.specs.Nodes.{nodes_of};
 ghost use Rattle.fc_volume.specs.Volume.{parts_of};
 ghost use Rattle.fc_oldvolume.specs.Filing.{CanFile, HasPut, IsFileWritten};
@@ -61,14 +61,14 @@ pub fn put_new<D: Disk>(
     requires settled { IsFalse (D.pending disk.old) }
     requires size { D.sector_size disk.old ≡ sector_bytes (parts_of volume.old).layout }
     requires two { 2 ≤ D.sectors disk.old }
-    requires map { (space : FreeSpace) × ((parts_of volume.old).layout ≡ Layout.Old space) × CanFile space change.filing }
+    requires map { (space : OldMapContent) × ((parts_of volume.old).layout ≡ Layout.Old space) × CanFile space change.filing }
     requires file_on_disk { All (λ n. n < D.sectors disk.old) (sectors_in change.filing.taken.place.items) }
     requires on_disk { All (λ n. n < D.sectors disk.old) (sectors_in change.filing.directory.place.items) }
     requires directory { IsSome (get (nodes_of volume.old.tree) change.filing.directory.node) }
     requires room { 0 < volume.old.tree.room }
     ensures volume { OnOk result (HasPut volume.old volume.new change) }
     ensures done { OnOk result (ForSome (D.bytes disk.old) (λ was. ForSome (D.bytes disk.new) (IsFileWritten (parts_of volume.old).layout change.filing bytes.now was))) }
-    ensures exits { (space : FreeSpace) → (parts_of volume.old).layout ≡ Layout.Old space
+    ensures exits { (space : OldMapContent) → (parts_of volume.old).layout ≡ Layout.Old space
         → StopsAndExitsLeave D.Disk disk.old disk.new (IsWritten space (sectors_in change.filing.directory.place.items ++ sectors_in change.filing.taken.place.items)) }
     ensures durable { OnOk result (IsFalse (D.pending disk.new)) }
     ensures error { IfErr result (λ error. error ≡ CommandError.DiskFault) }

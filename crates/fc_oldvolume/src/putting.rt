@@ -8,7 +8,7 @@ ghost use Rattle.fc_image.specs.Layout.{Layout};
 ghost use Rattle.fc_image.specs.Opening.{Opened};
 ghost use Rattle.fc_model.specs.Command.{Command};
 ghost use Rattle.fc_model.specs.Tree.{last_name};
-ghost use Rattle.fc_oldmap.specs.OldMap.{FreeSpace};
+ghost use Rattle.fc_oldmap.specs.OldMap.{OldMapContent};
 ghost use Rattle.fc_space.specs.Space.{layout_of};
 ghost use Rattle.fc_tree.specs.declared.node.Node.{Node};
 ghost use Rattle.fc_tree.specs.Nodes.{body_in, nodes_of};
@@ -49,9 +49,9 @@ fn place_file(
     len: u32,
 ) -> Result<Taken, CommandError>
     requires old_map { IsOldLayout (layout_of places.now) }
-    requires behind { (space : FreeSpace) → layout_of places.now ≡ Layout.Old space → LieBehind space }
-    ensures taken { IfOk result (λ taken. (space : FreeSpace) → layout_of places.now ≡ Layout.Old space → IsTaken space len taken) }
-    ensures refused { (space : FreeSpace) (v : Opened) (c : Command) → layout_of places.now ≡ Layout.Old space → WantsFile space len (directory_in draft.now) name.now v c → AnswersSpace result (short v c) }
+    requires behind { (space : OldMapContent) → layout_of places.now ≡ Layout.Old space → LieBehind space }
+    ensures taken { IfOk result (λ taken. (space : OldMapContent) → layout_of places.now ≡ Layout.Old space → IsTaken space len taken) }
+    ensures refused { (space : OldMapContent) (v : Opened) (c : Command) → layout_of places.now ≡ Layout.Old space → WantsFile space len (directory_in draft.now) name.now v c → AnswersSpace result (short v c) }
 {
     is_old_map(places);
     if !has_room(draft, name) {
@@ -74,7 +74,7 @@ fn prepare_file(
     requires old_map { IsOldLayout (layout_of places.now) }
     requires held { CanPutIn (nodes_of tree.now) (layout_of places.now) dir name }
     requires draft { (node : Node) → get (nodes_of tree.now) dir ≡ Some node → node.body ≡ body_in (directory_in draft) }
-    requires taken { (space : FreeSpace) → layout_of places.now ≡ Layout.Old space → IsTaken space words.len taken }
+    requires taken { (space : OldMapContent) → layout_of places.now ≡ Layout.Old space → IsTaken space words.len taken }
     ensures { IfOk result (IsFileReady (nodes_of tree.now) (layout_of places.now) dir name words) }
 {
     fc_drafts::made_entries();
@@ -104,11 +104,11 @@ pub fn draft_file(
     words: FileWords,
 ) -> Result<NewFile, CommandError>
     requires old_map { IsOldLayout (layout_of places.now) }
-    requires behind { (space : FreeSpace) → layout_of places.now ≡ Layout.Old space → LieBehind space }
+    requires behind { (space : OldMapContent) → layout_of places.now ≡ Layout.Old space → LieBehind space }
     requires some { 0 < length p.now }
     requires held { CanPutIn (nodes_of tree.now) (layout_of places.now) dir (last_name p.now) }
     ensures ready { IfOk result (IsFileReady (nodes_of tree.now) (layout_of places.now) dir (last_name p.now) words) }
-    ensures refused { (space : FreeSpace) (v : Opened) (c : Command) (node : Node) (content : Directory) → layout_of places.now ≡ Layout.Old space → get (nodes_of tree.now) dir ≡ Some node
+    ensures refused { (space : OldMapContent) (v : Opened) (c : Command) (node : Node) (content : Directory) → layout_of places.now ≡ Layout.Old space → get (nodes_of tree.now) dir ≡ Some node
         → node.body ≡ body_in content → WantsFile space words.len content (last_name p.now) v c → AnswersSpace result (short v c) }
 {
     let node = tree.node(dir).unwrap();

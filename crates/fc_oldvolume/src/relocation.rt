@@ -5,7 +5,7 @@ ghost use Rattle.fc_device.specs.Calls.{FailsByFault, SameForm, StopsAndExitsLea
 ghost use Rattle.fc_device.specs.Faults.{Rose};
 ghost use Rattle.fc_image.specs.Layout.{Layout, sector_bytes};
 ghost use Rattle.fc_objects.specs.Written.{IsPartWritten};
-ghost use Rattle.fc_oldmap.specs.OldMap.{FreeSpace};
+ghost use Rattle.fc_oldmap.specs.OldMap.{OldMapContent};
 ghost use Rattle.fc_space.specs.Space.{layout_of};
 ghost use Rattle.fc_tree.specs.Nodes.{nodes_of};
 ghost use Rattle.fc_volume.specs.Relocating.{CanTakeOver, HasRelocated, LieWithin, more_sectors};
@@ -52,7 +52,7 @@ fn write_relocation<D: Disk>(
     requires settled { IsFalse (D.pending disk.old) }
     requires size { D.sector_size disk.old ≡ sector_bytes (layout_of places.now) }
     requires on_disk { LieWithin (D.sectors disk.old) change.now }
-    ensures exits { (space : FreeSpace) → layout_of places.now ≡ Layout.Old space → StopsAndExitsLeave D.Disk disk.old disk.new (WritesRelocation space change.now) }
+    ensures exits { (space : OldMapContent) → layout_of places.now ≡ Layout.Old space → StopsAndExitsLeave D.Disk disk.old disk.new (WritesRelocation space change.now) }
     ensures written { OnOk result (ForSome (D.bytes disk.old) (λ was. ForSome (D.bytes disk.new) (IsRelocationWritten (sector_bytes (layout_of places.now)) change.now was))) }
     ensures durable { OnOk result (IsFalse (D.pending disk.new)) }
     ensures form { SameForm D.Disk disk.old disk.new }
@@ -78,7 +78,7 @@ pub fn relocate<D: Disk>(
     requires there { CanTakeOver (nodes_of volume.old.tree) volume.old.owners change }
     ensures volume { OnOk result (HasRelocated volume.old volume.new change) }
     ensures written { OnOk result (ForSome (D.bytes disk.old) (λ was. ForSome (D.bytes disk.new) (IsRelocationWritten (sector_bytes (parts_of volume.old).layout) change was))) }
-    ensures exits { (space : FreeSpace) → (parts_of volume.old).layout ≡ Layout.Old space → StopsAndExitsLeave D.Disk disk.old disk.new (WritesRelocation space change) }
+    ensures exits { (space : OldMapContent) → (parts_of volume.old).layout ≡ Layout.Old space → StopsAndExitsLeave D.Disk disk.old disk.new (WritesRelocation space change) }
     ensures durable { OnOk result (IsFalse (D.pending disk.new)) }
     ensures error { IfErr result (λ error. error ≡ CommandError.DiskFault) }
     ensures unfit { result ≡ Err CommandError.DiskFault → volume.new.fit ≡ false }

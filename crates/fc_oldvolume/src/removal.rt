@@ -10,7 +10,7 @@ ghost use Rattle.fc_laws.specs.nodes.Edits.{with_body};
 ghost use Rattle.fc_objects.specs.Extents.{sectors_in};
 ghost use Rattle.fc_objects.specs.Written.{IsPartWritten};
 ghost use Rattle.fc_oldchanges.specs.Owed.{IsWritten};
-ghost use Rattle.fc_oldmap.specs.OldMap.{FreeSpace};
+ghost use Rattle.fc_oldmap.specs.OldMap.{OldMapContent};
 ghost use Rattle.fc_squash.specs.Places.{Leaves};
 ghost use Rattle.fc_space.specs.Space.{layout_of};
 ghost use Rattle.fc_tree.specs.Nodes.{body_in, nodes_of};
@@ -41,8 +41,8 @@ pub struct Removal {
 pub fn write_some<D: Disk>(disk: &mut D, map: &Option<OldMap>) -> Result<(), DiskFault>
     requires attached { IsTrue (D.attached disk.old) }
     requires settled { IsFalse (D.pending disk.old) }
-    requires map { (space : FreeSpace) → map.now ≡ Some space → (D.sector_size disk.old ≡ 256 * space.sector_units) × (2 ≤ D.sectors disk.old) }
-    ensures keeps { (space : FreeSpace) → IsEditOf space map.now → StopsAndExitsLeave D.Disk disk.old disk.new (IsWritten space []) }
+    requires map { (space : OldMapContent) → map.now ≡ Some space → (D.sector_size disk.old ≡ 256 * space.sector_units) × (2 ≤ D.sectors disk.old) }
+    ensures keeps { (space : OldMapContent) → IsEditOf space map.now → StopsAndExitsLeave D.Disk disk.old disk.new (IsWritten space []) }
     ensures none { map.now ≡ None → D.bytes disk.new ≡ D.bytes disk.old }
     ensures done { OnOk result (ForSome (D.bytes disk.old) (λ was. ForSome (D.bytes disk.new) (IsMapDone map.now was))) }
     ensures durable { OnOk result (IsFalse (D.pending disk.new)) }
@@ -62,8 +62,8 @@ fn write_removal<D: Disk>(disk: &mut D, places: &Places, r: &Removal) -> Result<
     requires size { D.sector_size disk.old ≡ sector_bytes (layout_of places.now) }
     requires two { 2 ≤ D.sectors disk.old }
     requires on_disk { All (λ n. n < D.sectors disk.old) (sectors_in r.now.directory.place.items) }
-    requires map { (space : FreeSpace) × (layout_of places.now ≡ Layout.Old space) × IsEditOf space r.now.map }
-    ensures exits { (space : FreeSpace) → layout_of places.now ≡ Layout.Old space → StopsAndExitsLeave D.Disk disk.old disk.new (IsWritten space (sectors_in r.now.directory.place.items)) }
+    requires map { (space : OldMapContent) × (layout_of places.now ≡ Layout.Old space) × IsEditOf space r.now.map }
+    ensures exits { (space : OldMapContent) → layout_of places.now ≡ Layout.Old space → StopsAndExitsLeave D.Disk disk.old disk.new (IsWritten space (sectors_in r.now.directory.place.items)) }
     ensures spares { r.now.map ≡ None → Leaves D.Disk disk.old disk.new (IsPartWritten (sector_bytes (layout_of places.now)) (sectors_in r.now.directory.place.items) r.now.directory.bytes.items) }
     ensures done { OnOk result (ForSome (D.bytes disk.old) (λ was. ForSome (D.bytes disk.new) (IsWrittenWithout (layout_of places.now) r.now was))) }
     ensures durable { OnOk result (IsFalse (D.pending disk.new)) }
@@ -92,7 +92,7 @@ fn take_over(tree: &mut Tree, directory: Rewrite, n: u64)
 
 /// The map becomes another one, if there is one.
 pub fn hold_map(places: &mut Places, map: Option<OldMap>)
-    ensures { (space : FreeSpace) → layout_of places.old ≡ Layout.Old space → layout_of places.new ≡ Layout.Old (map_after space map) }
+    ensures { (space : OldMapContent) → layout_of places.old ≡ Layout.Old space → layout_of places.new ≡ Layout.Old (map_after space map) }
 {
     let Some(map) = map else {
         return;
@@ -128,12 +128,12 @@ pub fn remove<D: Disk>(
     requires settled { IsFalse (D.pending disk.old) }
     requires stands { StandsFor D.Disk volume.old disk.old }
     requires on_disk { All (λ n. n < D.sectors disk.old) (sectors_in change.directory.place.items) }
-    requires map { (space : FreeSpace) × ((parts_of volume.old).layout ≡ Layout.Old space) × IsEditOf space change.map }
+    requires map { (space : OldMapContent) × ((parts_of volume.old).layout ≡ Layout.Old space) × IsEditOf space change.map }
     requires directory { IsSome (get (nodes_of volume.old.tree) change.directory.node) }
     requires object { IsSome (get (nodes_of volume.old.tree) change.node) }
     ensures volume { OnOk result (HasRemoved volume.old volume.new change) }
     ensures done { OnOk result (ForSome (D.bytes disk.old) (λ was. ForSome (D.bytes disk.new) (IsWrittenWithout (parts_of volume.old).layout change was))) }
-    ensures exits { (space : FreeSpace) → (parts_of volume.old).layout ≡ Layout.Old space → StopsAndExitsLeave D.Disk disk.old disk.new (IsWritten space (sectors_in change.directory.place.items)) }
+    ensures exits { (space : OldMapContent) → (parts_of volume.old).layout ≡ Layout.Old space → StopsAndExitsLeave D.Disk disk.old disk.new (IsWritten space (sectors_in change.directory.place.items)) }
     ensures spares { change.map ≡ None → Leaves D.Disk disk.old disk.new (IsPartWritten (sector_bytes (parts_of volume.old).layout) (sectors_in change.directory.place.items) change.directory.bytes.items) }
     ensures durable { OnOk result (IsFalse (D.pending disk.new)) }
     ensures error { IfErr result (λ error. error ≡ CommandError.DiskFault) }

@@ -5,7 +5,7 @@ ghost use Rattle.fc_image.specs.effects.Short.{short};
 ghost use Rattle.fc_image.specs.Layout.{Layout};
 ghost use Rattle.fc_image.specs.Opening.{Opened};
 ghost use Rattle.fc_model.specs.Command.{Command};
-ghost use Rattle.fc_oldmap.specs.OldMap.{FreeSpace};
+ghost use Rattle.fc_oldmap.specs.OldMap.{OldMapContent};
 ghost use Rattle.fc_space.specs.Space.{layout_of};
 ghost use Rattle.fc_tree.specs.declared.node.Node.{Node};
 ghost use Rattle.fc_tree.specs.Nodes.{nodes_of};
@@ -56,9 +56,9 @@ fn prepare_replacing(
     given: Option<OldMap>,
 ) -> Result<Replacement, NoMemory>
     requires held { CanSaveOver (nodes_of tree.now) (layout_of places.now) target taken.address }
-    requires taken { (space : FreeSpace) → layout_of places.now ≡ Layout.Old space → IsTaken space words.len taken }
+    requires taken { (space : OldMapContent) → layout_of places.now ≡ Layout.Old space → IsTaken space words.len taken }
     requires given { (object : Node) × (get (nodes_of tree.now) target.node ≡ Some object)
-        × ((space : FreeSpace) → layout_of places.now ≡ Layout.Old space → GivesBack (map_after space taken.map) object.entry (Ok given)) }
+        × ((space : OldMapContent) → layout_of places.now ≡ Layout.Old space → GivesBack (map_after space taken.map) object.entry (Ok given)) }
     ensures { IfOk result (IsReplacing (nodes_of tree.now) (layout_of places.now) target words) }
 {
     let Rewording {
@@ -90,11 +90,11 @@ pub fn draft_replacing(
     words: FileWords,
 ) -> Result<Replacement, CommandError>
     requires old_map { IsOldLayout (layout_of places.now) }
-    requires behind { (space : FreeSpace) → layout_of places.now ≡ Layout.Old space → LieBehind space }
+    requires behind { (space : OldMapContent) → layout_of places.now ≡ Layout.Old space → LieBehind space }
     requires held { (address : ℕ) → address < 2 ^ 24 → CanSaveOver (nodes_of tree.now) (layout_of places.now) target address }
     requires object { CanReplace (nodes_of tree.now) (layout_of places.now) target.node words.len }
     ensures ready { IfOk result (IsReplacing (nodes_of tree.now) (layout_of places.now) target words) }
-    ensures refused { (space : FreeSpace) (v : Opened) (c : Command) (object : Node) → layout_of places.now ≡ Layout.Old space → get (nodes_of tree.now) target.node ≡ Some object
+    ensures refused { (space : OldMapContent) (v : Opened) (c : Command) (object : Node) → layout_of places.now ≡ Layout.Old space → get (nodes_of tree.now) target.node ≡ Some object
         → WantsOver space words.len object.entry v c → AnswersSpace result (short v c) }
 {
     fc_oldlaws::agree::spaces();

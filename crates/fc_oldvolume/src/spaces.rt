@@ -4,7 +4,7 @@ ghost use Rattle.fc_image.specs.Layout.{Layout, dir_form};
 ghost use Rattle.fc_image.specs.Walk.{object_size};
 ghost use Rattle.fc_image.specs.effects.Short.{old_need};
 ghost use Rattle.fc_oldlaws.specs.agree.Spaces.{CanGive};
-ghost use Rattle.fc_oldmap.specs.OldMap.{FreeSpace};
+ghost use Rattle.fc_oldmap.specs.OldMap.{OldMapContent};
 ghost use Rattle.fc_space.specs.Space.{layout_of};
 ghost use Rattle.fc_oldvolume.specs.Changing.{IsOldLayout};
 ghost use Rattle.fc_oldvolume.specs.Deleting.{map_after};
@@ -61,9 +61,9 @@ fn with_space(map: &OldMap, e: &Entry, bytes: u64) -> Result<Option<OldMap>, Map
 /// The map with the space of an entry's object given back, if it has any. `MapFull` if there would be too many holes.
 pub fn map_without(places: &Places, e: &Entry) -> Result<Option<OldMap>, MapFull>
     requires old_map { IsOldLayout (layout_of places.now) }
-    requires behind { (space : FreeSpace) → layout_of places.now ≡ Layout.Old space → LieBehind space }
-    requires space { (space : FreeSpace) → layout_of places.now ≡ Layout.Old space → 0 < units_of space e.now → CanGive space space.holes (space_at space e.now) }
-    ensures { (space : FreeSpace) → layout_of places.now ≡ Layout.Old space → GivesBack space e.now result }
+    requires behind { (space : OldMapContent) → layout_of places.now ≡ Layout.Old space → LieBehind space }
+    requires space { (space : OldMapContent) → layout_of places.now ≡ Layout.Old space → 0 < units_of space e.now → CanGive space space.holes (space_at space e.now) }
+    ensures { (space : OldMapContent) → layout_of places.now ≡ Layout.Old space → GivesBack space e.now result }
 {
     let bytes = object_bytes(places.space(), e);
     match places.space() {
@@ -79,10 +79,10 @@ pub fn map_given(
     e: &Entry,
 ) -> Result<Option<OldMap>, MapFull>
     requires old_map { IsOldLayout (layout_of places.now) }
-    requires edit { (space : FreeSpace) → layout_of places.now ≡ Layout.Old space → IsEditOf space taken.now }
-    requires behind { (space : FreeSpace) → layout_of places.now ≡ Layout.Old space → LieBehind (map_after space taken.now) }
-    requires space { (space : FreeSpace) → layout_of places.now ≡ Layout.Old space → 0 < units_of space e.now → CanGive space (map_after space taken.now).holes (space_at space e.now) }
-    ensures { (space : FreeSpace) → layout_of places.now ≡ Layout.Old space → GivesBack (map_after space taken.now) e.now result }
+    requires edit { (space : OldMapContent) → layout_of places.now ≡ Layout.Old space → IsEditOf space taken.now }
+    requires behind { (space : OldMapContent) → layout_of places.now ≡ Layout.Old space → LieBehind (map_after space taken.now) }
+    requires space { (space : OldMapContent) → layout_of places.now ≡ Layout.Old space → 0 < units_of space e.now → CanGive space (map_after space taken.now).holes (space_at space e.now) }
+    ensures { (space : OldMapContent) → layout_of places.now ≡ Layout.Old space → GivesBack (map_after space taken.now) e.now result }
 {
     match taken {
         Some(map) => with_space(map, e, object_bytes(places.space(), e)),

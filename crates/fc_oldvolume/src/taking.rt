@@ -5,7 +5,7 @@ ghost use Rattle.fc_image.specs.effects.Short.{old_need};
 ghost use Rattle.fc_image.specs.Layout.{Layout};
 ghost use Rattle.fc_oldchanges.specs.Owed.{holding};
 ghost use Rattle.fc_oldmap.specs.Holes.{after_take, take_answer};
-ghost use Rattle.fc_oldmap.specs.OldMap.{FreeSpace};
+ghost use Rattle.fc_oldmap.specs.OldMap.{OldMapContent};
 ghost use Rattle.fc_space.specs.Space.{layout_of};
 ghost use Rattle.fc_volume.specs.Making.{AnswersSpace};
 ghost use Rattle.fc_oldvolume.specs.Changing.{IsOldLayout};
@@ -91,9 +91,9 @@ fn take_some(
 /// `CompactionRequired` if they have enough, but no hole has.
 pub fn take_place(alloc: Global, places: &Places, bytes: u64) -> Result<Taken, CommandError>
     requires old_map { IsOldLayout (layout_of places.now) }
-    requires behind { (space : FreeSpace) → layout_of places.now ≡ Layout.Old space → LieBehind space }
-    ensures taken { IfOk result (λ taken. (space : FreeSpace) → layout_of places.now ≡ Layout.Old space → IsTaken space bytes taken) }
-    ensures refused { (space : FreeSpace) → layout_of places.now ≡ Layout.Old space → AnswersSpace result (taking_refusal space bytes) }
+    requires behind { (space : OldMapContent) → layout_of places.now ≡ Layout.Old space → LieBehind space }
+    ensures taken { IfOk result (λ taken. (space : OldMapContent) → layout_of places.now ≡ Layout.Old space → IsTaken space bytes taken) }
+    ensures refused { (space : OldMapContent) → layout_of places.now ≡ Layout.Old space → AnswersSpace result (taking_refusal space bytes) }
 {
     if bytes == 0 {
         return Ok(Taken {

@@ -5,14 +5,13 @@ use Rattle.std.specs.FinMap.{get}
 use Rattle.fc_names.specs.declared.name.NameForm.{NameForm}
 use Rattle.fc_names.specs.declared.refusal.Refusal.{Refusal}
 use Rattle.fc_names.specs.declared.refusal.Refusal.TheVariants as refusals
-use Rattle.fc_model.specs.Tree.{Tree, node_at}
+use Rattle.fc_model.specs.Tree.{Tree, bytes_of_node, node_at}
 use Rattle.fc_model.specs.Command.{Command}
 use Rattle.fc_model.specs.Answer.{answer}
 use Rattle.fc_image.specs.Layout.{dir_form}
 use Rattle.fc_image.specs.Stays.{IsNewLayout}
 use Rattle.fc_image.specs.effects.Effect.{State, tree_in}
 use Rattle.fc_script.specs.HostLines.{HostLine, host_line_of}
-use Rattle.fc_runs.specs.Replies.{bytes_of}
 use Rattle.fc_runs.specs.Run.{Mode}
 use Rattle.fc_runs.specs.HostRun.{Files, HostRefuses, PutsBytes, PutsFile, Puts, Gets, HostTakes, HostSteps, answer_in, file_in}
 use Rattle.fc_runs.specs.RepliesLaw.{RepliesLaw}
@@ -95,7 +94,7 @@ host_same mode x y x' y' files f g reply (Ok (HostLine.Put host path load exec))
     (subst (λ (r : Result Tree Refusal). Puts mode y files (Command.Save path load exec) (get files host) r reply y' g)
     (answers_same mode x y (Command.Save path load exec []) same form) b)
 host_same mode x y x' y' files f g reply (Ok (HostLine.Get path host)) same form a b =
-    (let bytes : file_in y path ≡ file_in x path = ap (λ (t : Tree). bytes_of (node_at t path)) (sym same) in
+    (let bytes : file_in y path ≡ file_in x path = ap (λ (t : Tree). bytes_of_node (node_at t path)) (sym same) in
     let there = is_some (get files host) in
     let moved = subst (λ (r : Result Tree Refusal). Gets y files host (file_in y path) there r reply y' g) (answers_same mode x y (Command.Load path) same form) b in
     get_same x y x' y' files f g host (file_in x path) there (answer_in mode x (Command.Load path)) reply same a

@@ -4,7 +4,7 @@
 use Rattle.std.specs.Prelude.{◌≡◌, ℕ, Bool, false, List, [], ◌∷◌, map, Option, Some, None, Result, Ok, Err}
 use Rattle.fc_names.specs.declared.name.NameForm.{NameForm}
 use Rattle.fc_names.specs.declared.refusal.Refusal.{Refusal}
-use Rattle.fc_model.specs.Tree.{Tree, children, node_at}
+use Rattle.fc_model.specs.Tree.{Tree, bytes_of_node, children, node_at}
 use Rattle.fc_model.specs.Command.{Command}
 use Rattle.fc_model.specs.Answer.{answer, first_of}
 use Rattle.fc_image.specs.Layout.{dir_form}
@@ -14,7 +14,6 @@ use Rattle.fc_image.specs.effects.Short.{short}
 use Rattle.fc_image.specs.effects.Effect.{State, tree_in}
 use Rattle.fc_script.specs.Lines.{command_of}
 use Rattle.fc_script.specs.Texts.{cat_reply, digest_reply, load_reply, ok_line, refusal_line}
-use Rattle.fc_runs.specs.Replies.{bytes_of}
 use Rattle.fc_runs.specs.Run.{Mode, Step, Steps, layout_reason}
 
 -- ---- one line
@@ -22,8 +21,8 @@ use Rattle.fc_runs.specs.Run.{Mode, Step, Steps, layout_reason}
 -- the reply to an accepted command: the map's, but of three commands that tell of the layout
 abbrev pub map_reply : Tree → Command → Option (List ℕ)
 map_reply t (Command.Cat path) = Some (cat_reply (map (λ e. e.1) (children t path)))
-map_reply t (Command.Load path) = Some (load_reply (bytes_of (node_at t path)))
-map_reply t (Command.Digest path) = Some (digest_reply (bytes_of (node_at t path)))
+map_reply t (Command.Load path) = Some (load_reply (bytes_of_node (node_at t path)))
+map_reply t (Command.Digest path) = Some (digest_reply (bytes_of_node (node_at t path)))
 map_reply t Command.Free = None
 map_reply t Command.Check = None
 map_reply t Command.Reclaim = None

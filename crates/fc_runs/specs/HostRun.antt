@@ -6,7 +6,7 @@ use Rattle.std.specs.FinMap.{FinMap, get, insert}
 use Rattle.fc_names.specs.declared.refusal.Refusal.{Refusal}
 use Rattle.fc_names.specs.declared.refusal.Refusal.TheVariants as refusals
 use Rattle.fc_names.specs.Names.{Path}
-use Rattle.fc_model.specs.Tree.{Tree, node_at}
+use Rattle.fc_model.specs.Tree.{Tree, bytes_of_node, node_at}
 use Rattle.fc_model.specs.Command.{Command}
 use Rattle.fc_model.specs.Answer.{answer}
 use Rattle.fc_image.specs.Layout.{dir_form}
@@ -14,7 +14,6 @@ use Rattle.fc_image.specs.effects.Effect.{State, tree_in}
 use Rattle.fc_image.specs.safe.SafeEffect.{HasTree, HasTreeBeforeOrAfter}
 use Rattle.fc_script.specs.HostLines.{HostLine, host_line_of}
 use Rattle.fc_script.specs.Texts.{refusal_line, ok_line}
-use Rattle.fc_runs.specs.Replies.{bytes_of}
 use Rattle.fc_runs.specs.Run.{Mode, Refuses, Takes, commands_in, script_for, text_for, each_line, keeps_tree, tree_after, line_begun}
 
 -- the files of the host by their names
@@ -52,7 +51,7 @@ answer_in mode s c = answer (tree_in s) (dir_form s.view.layout) mode.read_only 
 
 -- the bytes of the file at a path
 abbrev pub file_in : State → Path → List ℕ
-file_in s path = bytes_of (node_at (tree_in s) path)
+file_in s path = bytes_of_node (node_at (tree_in s) path)
 
 -- a line: no command, a file to be moved, or a command
 abbrev pub HostTakes : Mode → State → Files → Result HostLine Refusal → List ℕ → State → Files → Type 0

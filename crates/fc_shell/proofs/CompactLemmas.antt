@@ -13,7 +13,7 @@ use Rattle.fc_names.specs.declared.refusal.Refusal.TheVariants as refusals
 use Rattle.fc_record.specs.declared.DiscRecord.{DiscRecord}
 use Rattle.fc_record.specs.declared.Kind.{Kind}
 use Rattle.fc_record.specs.declared.Kind.TheVariants.{Boot, OneZone, DiscD, DiscL}
-use Rattle.fc_oldmap.specs.OldMap.{FreeSpace, free_space, hole_fault}
+use Rattle.fc_oldmap.specs.OldMap.{OldMapContent, free_space, hole_fault}
 use Rattle.fc_oldmap.specs.Holes.{hole_limit}
 use Rattle.fc_newmap.specs.Map.{Map, bits_in, hole_runs}
 use Rattle.fc_model.specs.Tree.{Tree}
@@ -53,7 +53,7 @@ use Rattle.fc_shell.proofs.WritingLemmas.{wrote_nothing}
 
 -- ---- kinds
 
-old_never : (space : FreeSpace) (address size : ℕ) (fault : Option ℕ) (found : MapAndRoot) (m : Map) → holes_or (Layout.Old space, address, size) fault ≡ Ok found → found.0 ≡ Layout.New m → ⊥
+old_never : (space : OldMapContent) (address size : ℕ) (fault : Option ℕ) (found : MapAndRoot) (m : Map) → holes_or (Layout.Old space, address, size) fault ≡ Ok found → found.0 ≡ Layout.New m → ⊥
 old_never space address size None found m e new =
     let is : Layout.Old space ≡ found.0 = first (Layout.Old space, address, size) found e in
     let both : Layout.Old space ≡ Layout.New m = is ∙ new in
@@ -86,7 +86,7 @@ unfolding answer
 answer_writable t form = refl
 
 -- It takes no space.
-space_enough : (v : Opened) (layout : Layout) → ((space : FreeSpace) → layout ≡ Layout.Old space → length space.holes ≤ hole_limit) → first_of (space_reasons layout v Command.Compact) ≡ None
+space_enough : (v : Opened) (layout : Layout) → ((space : OldMapContent) → layout ≡ Layout.Old space → length space.holes ≤ hole_limit) → first_of (space_reasons layout v Command.Compact) ≡ None
 space_enough v (Layout.New m) few = new_enough (length (new_ids m)) (bits_in (hole_runs m)) (needed_ids m v Command.Compact) (needed_bits m v Command.Compact) refl refl
 space_enough v (Layout.Old space) few = old_enough space (old_need space 0) (no_need space) (few space refl)
 

@@ -1,5 +1,5 @@
 -- The reply of a command, by what a volume answers.
-use Rattle.std.proofs.Common.{◌≡◌, ℕ, Bool, true, false, not, List, [], ◌∷◌, ◌++◌, map, refl, sym, ap, ap₂, ◌∙◌, Some, None, Option, Ok, Err}
+use Rattle.std.proofs.Common.{◌≡◌, ℕ, Bool, true, false, not, List, [], ◌∷◌, ◌++◌, map, refl, sym, ap, ap₂, ◌∙◌, Some, Option, Ok, Err}
 use Rattle.std.specs.List.{flat_map}
 use Rattle.std.specs.Option.{option_map_or, unwrap_or}
 use Rattle.fc_device.specs.declared.disk.Extent.{Extent}
@@ -19,11 +19,11 @@ use Rattle.fc_script.specs.Reading.{command}
 use Rattle.fc_script.specs.declared.command.Command.{Command as Told}
 use Rattle.fc_script.specs.Texts.{cat_reply, node_line, ok_line, refusal_line}
 use Rattle.fc_runs.specs.ReadLaw.{answered_reply, is_reading, served_reply}
-use Rattle.fc_runs.specs.Replies.{bytes_of, reply_to}
+use Rattle.fc_runs.specs.Replies.{reply_to}
 use Rattle.fc_tree.specs.declared.node.Node.{Node}
 use Rattle.fc_volume.specs.declared.lines.FileRef.{FileRef}
 use Rattle.fc_volume.specs.declared.lines.Line.{Line}
-use Rattle.fc_volume.specs.Answers.{IsPlace, IsRef, bytes_in_node, file_bytes, line_in, lines_in, ref_bytes}
+use Rattle.fc_volume.specs.Answers.{IsPlace, IsRef, file_bytes, line_in, lines_in, ref_bytes}
 use Rattle.fc_volume.specs.Volume.{Volume, parts_of}
 use Rattle.fc_shell.specs.Built.{is_built}
 use Rattle.fc_shell.specs.Answered.{IsReply, volume_reply}
@@ -134,15 +134,6 @@ cat_told t path lines is = ap told_lines is ∙ ap (λ text. text ++ ok_line) (a
     all (e ∷ es) = ap₂ (λ (a b : List ℕ). a ++ b) (entry_same e.1) (all es)
 
 -- ---- files
-
--- the bytes of a node
-pub bytes_same : (node : Option ModelNode) → bytes_in_node node ≡ bytes_of node
-bytes_same None = refl
-bytes_same (Some n) = by n.body refl
-  where
-    by : (body : Body) → n.body ≡ body → bytes_in_node (Some n) ≡ bytes_of (Some n)
-    by (Body.File bytes) is = rw is refl
-    by Body.Directory is = rw is refl
 
 same_node : (x y : Node) → (let o : Option Node = Some x in o) ≡ Some y → x ≡ y
 same_node x y e = cc

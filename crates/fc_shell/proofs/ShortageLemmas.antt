@@ -12,7 +12,7 @@ use Rattle.fc_record.specs.declared.Kind.{Kind}
 use Rattle.fc_record.specs.declared.Kind.TheVariants.{Boot, OneZone, DiscD, DiscL}
 use Rattle.fc_record.specs.Kinds.{old_units}
 use Rattle.fc_oldmap.specs.Holes.{first_fit_place, hole_limit, hole_sum}
-use Rattle.fc_oldmap.specs.OldMap.{FreeSpace, free_end, free_space, hole_fault, holes_of, is_free_end, map_units, stored_hole, stored_holes, wrong_hole}
+use Rattle.fc_oldmap.specs.OldMap.{OldMapContent, free_end, free_space, hole_fault, holes_of, is_free_end, map_units, stored_hole, stored_holes, wrong_hole}
 use Rattle.fc_newmap.specs.Map.{Map, bits_in, hole_runs}
 use Rattle.fc_model.specs.Command.{Command}
 use Rattle.fc_model.specs.Answer.{first_of, when}
@@ -34,10 +34,10 @@ both : (a b : Bool) → (a && b) ≡ true → (a ≡ true) × (b ≡ true)
 both true b e = (refl, e)
 both false b e = absurd (cc)
 
-old_same : (x y : FreeSpace) → Layout.Old x ≡ Layout.Old y → x ≡ y
+old_same : (x y : OldMapContent) → Layout.Old x ≡ Layout.Old y → x ≡ y
 old_same x y e = cc
 
-not_old : (m : Map) (space : FreeSpace) → Layout.New m ≡ Layout.Old space → ⊥
+not_old : (m : Map) (space : OldMapContent) → Layout.New m ≡ Layout.Old space → ⊥
 not_old m space e = cc
 
 few_stored : (image : List ℕ) (units : ℕ) → hole_fault image units ≡ None → length (stored_holes image) ≤ hole_limit
@@ -52,17 +52,17 @@ few_stored image units e = by (is_free_end (free_end image)) refl e
         omega (arith, most, long)
     by false right f = absurd (cc)
 
-few_found : (image : List ℕ) (units root : ℕ) (found : MapAndRoot) (space : FreeSpace) (fault : Option ℕ) → hole_fault image units ≡ fault
+few_found : (image : List ℕ) (units root : ℕ) (found : MapAndRoot) (space : OldMapContent) (fault : Option ℕ) → hole_fault image units ≡ fault
     → holes_or (Layout.Old (free_space image units), root, 0) fault ≡ Ok found → found.0 ≡ Layout.Old space → length space.holes ≤ hole_limit
 few_found image units root found space None right e is =
-    subst (λ (s : FreeSpace). length s.holes ≤ hole_limit) (old_same (free_space image units) space (ap (λ (f : MapAndRoot). f.0) (ok_same (Layout.Old (free_space image units), root, 0) found e) ∙ is))
+    subst (λ (s : OldMapContent). length s.holes ≤ hole_limit) (old_same (free_space image units) space (ap (λ (f : MapAndRoot). f.0) (ok_same (Layout.Old (free_space image units), root, 0) found e) ∙ is))
     (few_stored image units right)
   where
     ok_same : (x y : MapAndRoot) → (let r : Result MapAndRoot ImageFault = Ok x in r) ≡ Ok y → x ≡ y
     ok_same x y f = cc
 few_found image units root found space (Some index) wrong e is = absurd (cc)
 
-few_disc : (image : List ℕ) (kind : Kind) (found : MapAndRoot) (space : FreeSpace) → map_and_root image kind ≡ Ok found → found.0 ≡ Layout.Old space → length space.holes ≤ hole_limit
+few_disc : (image : List ℕ) (kind : Kind) (found : MapAndRoot) (space : OldMapContent) → map_and_root image kind ≡ Ok found → found.0 ≡ Layout.Old space → length space.holes ≤ hole_limit
 few_disc image (Boot r) found space e is =
     let f = found_map image (Boot r) r found refl e in absurd (not_old _ space (ap (λ (x : MapAndRoot). x.0) f.is ∙ is))
 few_disc image (OneZone r) found space e is =
@@ -70,7 +70,7 @@ few_disc image (OneZone r) found space e is =
 few_disc image DiscD found space e is = few_found image 4 4 found space (hole_fault image 4) refl e is
 few_disc image (DiscL n) found space e is = few_found image 1 2 found space (hole_fault image 1) refl e is
 
-pub few_holes : (image : List ℕ) (kind : Kind) (v : Opened) (space : FreeSpace) → OpensAs image kind v → v.layout ≡ Layout.Old space → length space.holes ≤ hole_limit
+pub few_holes : (image : List ℕ) (kind : Kind) (v : Opened) (space : OldMapContent) → OpensAs image kind v → v.layout ≡ Layout.Old space → length space.holes ≤ hole_limit
 few_holes image kind v space opens is =
     let parts = parts_of image kind v opens.opened in
     few_disc image kind parts.0 space parts.1.1 (ap (λ (w : Opened). w.layout) parts.1.4 ∙ is)
@@ -78,7 +78,7 @@ few_holes image kind v space opens is =
 -- ---- nothing is short
 
 -- no bytes need no units
-pub no_need : (space : FreeSpace) → old_need space 0 ≡ 0
+pub no_need : (space : OldMapContent) → old_need space 0 ≡ 0
 no_need space =
     let none : div_ceil 0 (256 * space.sector_units) ≡ 0 = ap₂ (λ (a b : ℕ). a + min 1 b) (zero-div (256 * space.sector_units)) (zero-mod (256 * space.sector_units)) in
     ap (λ (n : ℕ). n * space.sector_units) none ∙ (let zero : 0 * space.sector_units ≡ 0 = omega arith in zero)
@@ -95,7 +95,7 @@ new_enough ids bits some need none nought =
     let second : nat_lt bits need ≡ false = ap (nat_lt bits) nought ∙ none_below bits in
     ap₂ (λ (a b : Bool). first_of (when a refusals.IdsFull ∷ when b refusals.DiscFull ∷ [])) first second
 
-pub old_enough : (space : FreeSpace) (need : ℕ) → need ≡ 0 → length space.holes ≤ hole_limit
+pub old_enough : (space : OldMapContent) (need : ℕ) → need ≡ 0 → length space.holes ≤ hole_limit
     → first_of (when (nat_lt (hole_sum space.holes) need) refusals.DiscFull
     ∷ when (nat_lt 0 need && is_none (first_fit_place need space.holes)) refusals.CompactionRequired
     ∷ when (nat_lt hole_limit (length (with_space_of space None (holes_without need space.holes)))) refusals.MapFull ∷ []) ≡ None
@@ -126,7 +126,7 @@ reason_none layout (Command.Mark path attrs) reads = absurd (cc)
 reason_none layout Command.Compact reads = absurd (cc)
 reason_none layout Command.Reclaim reads = absurd (cc)
 
-module _ (v : Opened) (few : (space : FreeSpace) → v.layout ≡ Layout.Old space → length space.holes ≤ hole_limit) where
+module _ (v : Opened) (few : (space : OldMapContent) → v.layout ≡ Layout.Old space → length space.holes ≤ hole_limit) where
   space_enough : (c : Command) (layout : Layout) → is_reading c ≡ true → v.layout ≡ layout → first_of (space_reasons layout v c) ≡ None
   space_enough (Command.Cat path) (Layout.New m) reads is = new_enough (length (new_ids m)) (bits_in (hole_runs m)) (needed_ids m v (Command.Cat path)) (needed_bits m v (Command.Cat path)) refl refl
   space_enough (Command.Cat path) (Layout.Old space) reads is = old_enough space (old_need space 0) (no_need space) (few space is)

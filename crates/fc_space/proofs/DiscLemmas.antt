@@ -10,7 +10,7 @@ use Rattle.std.proofs.lemmas.List.{length-take-le}
 use Rattle.std.proofs.lemmas.List.FromFn.{length-range_with_len}
 use Rattle.fc_device.specs.declared.disk.Extent.{Extent}
 use Rattle.fc_record.specs.declared.Geometry.{Geometry}
-use Rattle.fc_oldmap.specs.OldMap.{FreeSpace}
+use Rattle.fc_oldmap.specs.OldMap.{OldMapContent}
 use Rattle.fc_newmap.specs.Map.{Map, id_runs}
 use Rattle.fc_newmap.specs.NewMap.{IsNewMap}
 use Rattle.fc_newmap.specs.RunsLaw.{IsGeometry}
@@ -79,7 +79,7 @@ module _ (m : Map) (is : IsNewMap m) where
       (low, (let l = div-le_self (disc_bits * bit_bytes) sector in omega (arith, low, l)))
 
 -- a row of sectors that ends on the disc of an old map
-pub old_suffice : (space : FreeSpace) (bytes first count : ℕ) (sectors : List ℕ) → 0 < space.sector_units → sectors ≡ range_with_len first count → count ≡ div_ceil bytes (256 * space.sector_units)
+pub old_suffice : (space : OldMapContent) (bytes first count : ℕ) (sectors : List ℕ) → 0 < space.sector_units → sectors ≡ range_with_len first count → count ≡ div_ceil bytes (256 * space.sector_units)
     → first + count ≤ space.disc_units / space.sector_units → Suffice (Layout.Old space) bytes sectors
 old_suffice space bytes first count sectors some is counted ends =
     let long : length sectors ≡ count = ap length is ∙ length-range_with_len first count in

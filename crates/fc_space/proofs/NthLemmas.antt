@@ -12,7 +12,7 @@ use Rattle.std.proofs.lemmas.List.{length-take-le}
 use Rattle.std.proofs.lemmas.List.FromFn.{get_or-range_with_len, length-range_with_len}
 use Rattle.std.proofs.lemmas.Option.{slice_get_within, slice_get-get_or}
 use Rattle.fc_device.specs.declared.disk.Extent.{Extent}
-use Rattle.fc_oldmap.specs.OldMap.{FreeSpace}
+use Rattle.fc_oldmap.specs.OldMap.{OldMapContent}
 use Rattle.fc_newmap.specs.declared.runs.RunCursor.{RunCursor}
 use Rattle.fc_newmap.specs.Map.{Map, ZoneRun, extent_of, run_sectors, sectors_of}
 use Rattle.fc_newmap.specs.NewMap.{IsNewMap}
@@ -88,7 +88,7 @@ nth_some layout address bytes n s e =
       | inr some ↦ (c.0, some, c.2)
     ]
 
-old_part : (space : FreeSpace) (address bytes : ℕ) (xs : List ℕ) → old_sectors space address bytes ≡ Some xs
+old_part : (space : OldMapContent) (address bytes : ℕ) (xs : List ℕ) → old_sectors space address bytes ≡ Some xs
     → (address / space.sector_units + div_ceil bytes (256 * space.sector_units) ≤ space.disc_units / space.sector_units)
     × (xs ≡ range_with_len (address / space.sector_units) (div_ceil bytes (256 * space.sector_units)))
 old_part space address bytes xs e =
@@ -104,7 +104,7 @@ old_part space address bytes xs e =
     by false b h f = absurd (cc)
 
 -- on an old map sectors stand in a row
-pub old_nth : (space : FreeSpace) (address bytes n s : ℕ) → nth_sector (Layout.Old space) address bytes n ≡ Some s
+pub old_nth : (space : OldMapContent) (address bytes n s : ℕ) → nth_sector (Layout.Old space) address bytes n ≡ Some s
     → (s ≡ address / space.sector_units + n) × (s < space.disc_units / space.sector_units)
 old_nth space address bytes n s e =
     let c = nth_some (Layout.Old space) address bytes n s e in
@@ -189,7 +189,7 @@ module _ (m : Map) (id number : ℕ) (old new : RunCursor) (left' : ℕ) (result
 -- ---- by the map of a disc
 
 -- on an old map
-pub old_is : (layout : Layout) (space : FreeSpace) (address bytes n first : ℕ) → layout ≡ Layout.Old space → first ≡ address / space.sector_units → IsSome (nth_sector layout address bytes n)
+pub old_is : (layout : Layout) (space : OldMapContent) (address bytes n first : ℕ) → layout ≡ Layout.Old space → first ≡ address / space.sector_units → IsSome (nth_sector layout address bytes n)
     → (nth_sector layout address bytes n ≡ Some (first + n)) × (first + n < disc_sectors layout)
 old_is layout space address bytes n first is at some =
     let s = some_number (nth_sector layout address bytes n) some in
@@ -212,7 +212,7 @@ new_is layout m address bytes n is map low some =
     record { sector = s.0; is = s.1; at = o.0; on_disc = subst (λ (l : Layout). s.0 < disc_sectors l) (sym is) o.1; few = o.2 }
 
 -- Few numbers are in use on an old map too.
-pub old_few : (layout : Layout) (space : FreeSpace) (address bytes n units : ℕ) → layout ≡ Layout.Old space → units ≡ space.sector_units → (units ≡ 1) ⊎ (units ≡ 4) → bytes < 2 ^ 64
+pub old_few : (layout : Layout) (space : OldMapContent) (address bytes n units : ℕ) → layout ≡ Layout.Old space → units ≡ space.sector_units → (units ≡ 1) ⊎ (units ≡ 4) → bytes < 2 ^ 64
     → IsSome (nth_sector layout address bytes n) → n < 2 ^ 63
 old_few layout space address bytes n units is u either low some =
     let s = some_number (nth_sector layout address bytes n) some in
@@ -252,7 +252,7 @@ new_places m is address bytes sectors e = elim (either_way (Layout.New m) addres
   | inr some ↦ part_suffices m is (id_of address) (low_start m (low_of address)) (div_ceil bytes m.geometry.sector) m.geometry.sector bytes sectors refl refl (new_part m address bytes sectors some)
 ]
 
-pub old_places : (space : FreeSpace) → 0 < space.sector_units → PlacesSuffice (Layout.Old space)
+pub old_places : (space : OldMapContent) → 0 < space.sector_units → PlacesSuffice (Layout.Old space)
 old_places space units address bytes sectors e = elim (either_way (Layout.Old space) address bytes sectors e) [
   | inl none ↦ empty_suffices (Layout.Old space) bytes sectors none.0 none.1
   | inr some ↦ (

@@ -7,7 +7,7 @@ use Rattle.std.proofs.lemmas.Bool.Decides.{nat_tests}
 use Rattle.std.proofs.lemmas.List.Folds.{list_any-append}
 use Rattle.fc_oldmap.specs.declared.Hole.{Hole}
 use Rattle.fc_oldmap.specs.Holes.{hole, hole_end, IsHole, AreHoles}
-use Rattle.fc_oldmap.specs.OldMap.{FreeSpace}
+use Rattle.fc_oldmap.specs.OldMap.{OldMapContent}
 use Rattle.fc_bytes.specs.Words.{bytes_at}
 use Rattle.fc_device.specs.Sectors.{sector_at}
 use Rattle.fc_device.specs.declared.disk.Disk.{Ghosts}
@@ -30,7 +30,7 @@ bytes_stay old [] = tt
 bytes_stay old (o ∷ was) = (refl, bytes_stay old was)
 
 -- the bytes of an image after some objects have slid, where the sectors have u units
-pub record Carried (u : ℕ) (space : FreeSpace) (was now : List Owned) (old image : List ℕ) : Type 0 where
+pub record Carried (u : ℕ) (space : OldMapContent) (was now : List Owned) (old image : List ℕ) : Type 0 where
   pub long : length image ≡ length old
   pub bodies : SameBytes old image was now
   pub others : (s : ℕ) → covers (places was) (u * s) ≡ false → covers space.holes (u * s) ≡ false → sector_at (256 * u) image s ≡ sector_at (256 * u) old s
@@ -130,7 +130,7 @@ module _ (d u : ℕ) (units : (u ≡ 1) ⊎ (u ≡ 4)) (front rest : List Owned)
       slid.others s (⊎_elim (λ lt. inl (sector_before u units start s of_new.here.begins lt))
       (λ past. inr (subst (λ n. n ≤ s) (quotient-sum u units start o.len of_new.here.begins whole) (sector_behind u units (start + o.len) s of_new.here.ends past))) off)
 
-pub carried_more : (old space space' : FreeSpace) (was now : List Owned) (k start : ℕ) (bytes image next : List ℕ) → k < length now
+pub carried_more : (old space space' : OldMapContent) (was now : List Owned) (k start : ℕ) (bytes image next : List ℕ) → k < length now
     → Standing old space was now k → Standing old space' was (with_start now k start) (k + 1) → Carried space.sector_units old was now bytes image
     → IsSlid (256 * space.sector_units) ((get_or now k no_object).start / space.sector_units) (start / space.sector_units) ((get_or now k no_object).len / space.sector_units) image next
     → Carried space.sector_units old was (with_start now k start) bytes next
@@ -165,13 +165,13 @@ carried_more old space space' was now k start bytes image next lt stand stand' c
 
 module _ {D : Type 0} (d : Ghosts D) where
   -- so it is of the bytes that the disk tells
-  abbrev pub CarriedBy : D → D → ℕ → FreeSpace → List Owned → List Owned → Type 0
+  abbrev pub CarriedBy : D → D → ℕ → OldMapContent → List Owned → List Owned → Type 0
   CarriedBy old new u space was now = ForSome (d.bytes old) (λ bytes. (image : List ℕ) × (d.bytes new ≡ Some image) × Carried u space was now bytes image)
 
-  pub carried_start : (old : D) (u : ℕ) (space : FreeSpace) (was : List Owned) → CarriedBy old old u space was was
+  pub carried_start : (old : D) (u : ℕ) (space : OldMapContent) (was : List Owned) → CarriedBy old old u space was was
   carried_start old u space was = λ bytes told. (bytes, told, record { long = refl; bodies = bytes_stay bytes was; others = λ s body free. refl })
 
-  pub carried_by_more : (start_disk mid new : D) (old space space' : FreeSpace) (was now : List Owned) (k start : ℕ) → k < length now
+  pub carried_by_more : (start_disk mid new : D) (old space space' : OldMapContent) (was now : List Owned) (k start : ℕ) → k < length now
       → Standing old space was now k → Standing old space' was (with_start now k start) (k + 1)
       → d.sector_size mid ≡ 256 * space.sector_units → CarriedBy start_disk mid old.sector_units old was now
       → IsSlidBy d mid new ((get_or now k no_object).start / space.sector_units) (start / space.sector_units) ((get_or now k no_object).len / space.sector_units)

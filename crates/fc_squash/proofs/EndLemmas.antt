@@ -6,7 +6,7 @@ use Rattle.std.proofs.lemmas.Bool.{eqb-true}
 use Rattle.std.proofs.lemmas.Bool.Decides.{nat_tests}
 use Rattle.fc_oldmap.specs.declared.Hole.{Hole}
 use Rattle.fc_oldmap.specs.Holes.{hole_end, IsHole, AreHoles, AreApart}
-use Rattle.fc_oldmap.specs.OldMap.{FreeSpace, IsOldMap}
+use Rattle.fc_oldmap.specs.OldMap.{OldMapContent, IsOldMap}
 use Rattle.fc_device.specs.declared.disk.Disk.{Ghosts}
 use Rattle.fc_image.specs.Layout.{hole_sectors_in, is_among}
 use Rattle.fc_image.specs.effects.Settled.{are_apart}
@@ -45,7 +45,7 @@ none_follows_any now (h ∷ holes) off =
     let rest = none_follows_any now holes (every-map (λ b. Every (λ g. hole_end g ≢ b.start) (h ∷ holes)) (λ b. Every (λ g. hole_end g ≢ b.start) holes) (λ b p. p.1) (places now) off) in
     ap₂ (λ a b. not a && b) here rest
 
-all_settled : (old space : FreeSpace) (was now : List Owned) (k : ℕ) → Standing old space was now k → length now ≤ k
+all_settled : (old space : OldMapContent) (was now : List Owned) (k : ℕ) → Standing old space was now k → length now ≤ k
     → Every (λ b. Every (λ h. hole_end h ≢ b.start) space.holes) (places now)
 all_settled old space was now k stand end =
     subst (λ l. Every (λ b. Every (λ h. hole_end h ≢ b.start) space.holes) (places l)) (whole now k end) stand.settled
@@ -56,7 +56,7 @@ all_settled old space was now k stand end =
     whole (x ∷ l) zero le = absurd (omega (arith, le))
     whole (x ∷ l) (suc k) le = ap (λ m. x ∷ m) (whole l k (omega (arith, le)))
 
-pub is_settled : (old space : FreeSpace) (was now : List Owned) (k : ℕ) → Standing old space was now k → length now ≤ k → IsSettled space now
+pub is_settled : (old space : OldMapContent) (was now : List Owned) (k : ℕ) → Standing old space was now k → length now ≤ k → IsSettled space now
 is_settled old space was now k stand end = record {
   apart = are_apart-gapped space.holes stand.gaps;
   settled = none_follows_any now space.holes (all_settled old space was now k stand end);
@@ -130,7 +130,7 @@ pub not_true : (b : Bool) → (b ≡ true → ⊥) → b ≡ false
 not_true true f = absurd (f refl)
 not_true false f = refl
 
-module _ (old space : FreeSpace) (was now : List Owned) (k : ℕ) (bodies : AreBodies old was) (map : IsOldMap old) (stand : Standing old space was now k) (end : length now ≤ k) where
+module _ (old space : OldMapContent) (was now : List Owned) (k : ℕ) (bodies : AreBodies old was) (map : IsOldMap old) (stand : Standing old space was now k) (end : length now ≤ k) where
   was_holes : Every (IsHole old.disc_units old.sector_units 0) (places was)
   was_holes = every_hole old.disc_units old.sector_units 0 (places was) bodies.rise
 

@@ -6,7 +6,7 @@ use Rattle.fc_device.specs.Sectors.{sector_at}
 use Rattle.fc_device.specs.declared.disk.Disk.{Ghosts}
 use Rattle.fc_oldmap.specs.declared.Hole.{Hole}
 use Rattle.fc_oldmap.specs.Holes.{hole, hole_end, joined_with, tidied, IsHole}
-use Rattle.fc_oldmap.specs.OldMap.{FreeSpace, IsOldMap}
+use Rattle.fc_oldmap.specs.OldMap.{OldMapContent, IsOldMap}
 use Rattle.fc_image.specs.declared.effects.Owned.{Owned}
 use Rattle.fc_image.specs.effects.Moves.{is_in_body, is_in_hole}
 use Rattle.fc_squash.specs.Places.{ChangesRoom, ChangesRow, Leaves}
@@ -63,7 +63,7 @@ there_above n index holes h at all =
     let a = around_hole holes index 0 h at in
     (every-right (λ (x : Hole). n < x.start) a.front (h ∷ a.rest) (subst (Above n) a.is all)).0
 
-pub room_of_row : (space : FreeSpace) (o : Owned) (index : ℕ) (h : Hole) (was image : List ℕ) → IsOldMap space → IsHole space.disc_units space.sector_units 0 (place o)
+pub room_of_row : (space : OldMapContent) (o : Owned) (index : ℕ) (h : Hole) (was image : List ℕ) → IsOldMap space → IsHole space.disc_units space.sector_units 0 (place o)
     → slice_get space.holes index ≡ Some h → hole_end h ≡ o.start → ChangesRow (256 * space.sector_units) (h.start / space.sector_units) (o.len / space.sector_units) was image
     → ChangesRoom space (o ∷ []) was image
 room_of_row space o index h was image map is at ends row =
@@ -93,10 +93,10 @@ room_of_row space o index h was image map is at ends row =
     first : (a : Bool) → (a || false) ≡ false → a ≡ false
     first a e = grind arith
 
-pub room_same : (space : FreeSpace) (owned : List Owned) (image : List ℕ) → ChangesRoom space owned image image
+pub room_same : (space : OldMapContent) (owned : List Owned) (image : List ℕ) → ChangesRoom space owned image image
 room_same space owned image = record { long = refl; others = λ s body free. refl; low = λ s above. refl }
 
-pub room_then : (space : FreeSpace) (owned : List Owned) (a b c : List ℕ) → ChangesRoom space owned a b → ChangesRoom space owned b c → ChangesRoom space owned a c
+pub room_then : (space : OldMapContent) (owned : List Owned) (a b c : List ℕ) → ChangesRoom space owned a b → ChangesRoom space owned b c → ChangesRoom space owned a c
 room_then space owned a b c first second = record {
   long = second.long ∙ first.long;
   others = λ s body free. second.others s body free ∙ first.others s body free;
@@ -105,7 +105,7 @@ room_then space owned a b c first second = record {
 
 -- ---- all of them
 
-module _ (old space : FreeSpace) (was now : List Owned) (k : ℕ) (image next : List ℕ) (map : IsOldMap old) (bodies : AreBodies old was) (stand : Standing old space was now k) (lt : k < length now)
+module _ (old space : OldMapContent) (was now : List Owned) (k : ℕ) (image next : List ℕ) (map : IsOldMap old) (bodies : AreBodies old was) (stand : Standing old space was now k) (lt : k < length now)
     (up : (n : ℕ) → Above n old.holes → Above n space.holes) (one : ChangesRoom space (get_or now k no_object ∷ []) image next) where
   abbrev d : ℕ
   d = space.disc_units
@@ -176,7 +176,7 @@ module _ {D : Type 0} (d : Ghosts D) where
       (then.0, then.1, more was there.0 then.0 there.2 then.2)
 
   -- an object that slides
-  pub pulled_room : (old new : D) (space : FreeSpace) (o : Owned) (index : ℕ) (h : Hole) (first count : ℕ) → IsOldMap space → IsHole space.disc_units space.sector_units 0 (place o)
+  pub pulled_room : (old new : D) (space : OldMapContent) (o : Owned) (index : ℕ) (h : Hole) (first count : ℕ) → IsOldMap space → IsHole space.disc_units space.sector_units 0 (place o)
       → slice_get space.holes index ≡ Some h → hole_end h ≡ o.start → d.sector_size old ≡ 256 * space.sector_units → first ≡ h.start / space.sector_units → count ≡ o.len / space.sector_units
       → Leaves d old new (ChangesRow (d.sector_size old) first count) → Leaves d old new (ChangesRoom space (o ∷ []))
   pulled_room old new space o index h first count map is at ends size first_is count_is row = λ was told.
@@ -190,7 +190,7 @@ module _ {D : Type 0} (d : Ghosts D) where
       )
 
   -- one object more
-  pub room_by_more : (start mid new : D) (old space : FreeSpace) (was now : List Owned) (k : ℕ) → IsOldMap old → AreBodies old was → Standing old space was now k → k < length now
+  pub room_by_more : (start mid new : D) (old space : OldMapContent) (was now : List Owned) (k : ℕ) → IsOldMap old → AreBodies old was → Standing old space was now k → k < length now
       → ((n : ℕ) → Above n old.holes → Above n space.holes) → Leaves d start mid (ChangesRoom old was) → Leaves d mid new (ChangesRoom space (get_or now k no_object ∷ [])) → Leaves d start new (ChangesRoom old was)
   room_by_more start mid new old space was now k map bodies stand lt up =
       leaves_then (ChangesRoom old was) (ChangesRoom space (get_or now k no_object ∷ []))

@@ -3,7 +3,7 @@ use Rattle.std.proofs.Common.{◌≡◌, ◌≢◌, ◌<◌, ◌≤◌, ◌⊎�
 use Rattle.std.specs.Prelude.{◌||◌, All, slice_set}
 use Rattle.fc_oldmap.specs.declared.Hole.{Hole}
 use Rattle.fc_oldmap.specs.Holes.{hole, hole_end, hole_sum, tidied, IsHole, AreHoles, AreApart}
-use Rattle.fc_oldmap.specs.OldMap.{FreeSpace, IsOldMap}
+use Rattle.fc_oldmap.specs.OldMap.{OldMapContent, IsOldMap}
 use Rattle.fc_image.specs.declared.effects.Owned.{Owned}
 use Rattle.fc_image.specs.effects.Moves.{SameButStarts}
 use Rattle.fc_squash.specs.Squashing.{place, places, moved_to, no_object, with_start, covers, AreBodies, IsPulled}
@@ -29,7 +29,7 @@ positive d u floor (x ∷ xs) (h, rest) = (h.positive, positive d u (hole_end x)
 -- ---- the state of the loop
 
 -- after the first k objects
-pub record Standing (old space : FreeSpace) (was now : List Owned) (k : ℕ) : Type 0 where
+pub record Standing (old space : OldMapContent) (was now : List Owned) (k : ℕ) : Type 0 where
   pub map : IsOldMap space
   pub disc : space.disc_units ≡ old.disc_units
   pub units : space.sector_units ≡ old.sector_units
@@ -54,7 +54,7 @@ pub apart_all : (holes : List Hole) (bodies : List Hole) → Every (λ b. Every 
 apart_all holes bodies all =
     every_all (λ b. All (AreApart b) holes) bodies (every-map (λ b. Every (AreApart b) holes) (λ b. All (AreApart b) holes) (λ b a. every_all (AreApart b) holes a) bodies all)
 
-pub stand_start : (old space : FreeSpace) (was : List Owned) → IsOldMap old → AreBodies old was → space ≡ record old { holes = tidied old.holes } → Standing old space was was 0
+pub stand_start : (old space : OldMapContent) (was : List Owned) → IsOldMap old → AreBodies old was → space ≡ record old { holes = tidied old.holes } → Standing old space was was 0
 stand_start old space was map bodies tidy =
     subst (λ s. Standing old s was was 0) (sym tidy)
     record {
@@ -109,11 +109,11 @@ stays_moved (w ∷ was) [] rest o start (e, stays) = (ap (moved_to start) e, sta
 stays_moved (w ∷ was) (f ∷ front) rest o start (e, stays) = (e, stays_moved was front rest o start stays)
 
 -- what is known of the object that comes next
-pub record Comes (space : FreeSpace) (o : Owned) : Type 0 where
+pub record Comes (space : OldMapContent) (o : Owned) : Type 0 where
   pub here : IsHole space.disc_units space.sector_units 0 (place o)
   pub apart : All (AreApart (place o)) space.holes
 
-pub comes : (old space : FreeSpace) (was now : List Owned) (k : ℕ) → Standing old space was now k → k < length now → Comes space (get_or now k no_object)
+pub comes : (old space : OldMapContent) (was now : List Owned) (k : ℕ) → Standing old space was now k → k < length now → Comes space (get_or now k no_object)
 comes old space was now k stand lt =
     let at = at_place now k lt in
     let o = get_or now k no_object in
@@ -129,7 +129,7 @@ pub same_disc : (d u d' u' : ℕ) (xs : List Hole) → d' ≡ d → u' ≡ u →
 same_disc d u d' u' xs disc units rise = subst (λ n. AreHoles n u' 0 xs) (sym disc) (subst (λ n. AreHoles d n 0 xs) (sym units) rise)
 
 -- one object more
-pub stand_more : (old space space' : FreeSpace) (was now : List Owned) (k start : ℕ) → Standing old space was now k → k < length now
+pub stand_more : (old space space' : OldMapContent) (was now : List Owned) (k start : ℕ) → Standing old space was now k → k < length now
     → space'.disc_units ≡ space.disc_units → space'.sector_units ≡ space.sector_units → IsPulled space.holes space'.holes (place (get_or now k no_object)) start
     → Standing old space' was (with_start now k start) (k + 1)
 stand_more old space space' was now k start stand lt disc units pulled =

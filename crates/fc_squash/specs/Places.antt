@@ -5,7 +5,7 @@ use Rattle.fc_device.specs.Sectors.{sector_at}
 use Rattle.fc_device.specs.declared.disk.Disk.{Ghosts}
 use Rattle.fc_image.specs.declared.effects.Owned.{Owned}
 use Rattle.fc_image.specs.effects.Moves.{is_in_body, is_in_hole}
-use Rattle.fc_oldmap.specs.OldMap.{FreeSpace}
+use Rattle.fc_oldmap.specs.OldMap.{OldMapContent}
 
 -- R leads from the bytes of the disk before to those after, if it tells them.
 abbrev pub Leaves : {D : Type 0} → Ghosts D → D → D → (List ℕ → List ℕ → Type 0) → Type 0
@@ -17,7 +17,7 @@ pub record ChangesRow (size first n : ℕ) (was image : List ℕ) : Type 0 where
   pub others : (s : ℕ) → (s < first) ⊎ (first + n ≤ s) → sector_at size image s ≡ sector_at size was s
 
 -- Only sectors of objects and of holes have changed, and none that lies before all holes.
-pub record ChangesRoom (space : FreeSpace) (owned : List Owned) (was image : List ℕ) : Type 0 where
+pub record ChangesRoom (space : OldMapContent) (owned : List Owned) (was image : List ℕ) : Type 0 where
   pub long : length image ≡ length was
   pub others : (s : ℕ) → is_in_body space.sector_units owned s ≡ false → is_in_hole space.sector_units space.holes s ≡ false
       → sector_at (256 * space.sector_units) image s ≡ sector_at (256 * space.sector_units) was s

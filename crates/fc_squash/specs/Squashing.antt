@@ -5,7 +5,7 @@ use Rattle.std.specs.Option.{ForSome}
 use Rattle.fc_device.specs.declared.disk.Disk.{Ghosts}
 use Rattle.fc_oldmap.specs.declared.Hole.{Hole}
 use Rattle.fc_oldmap.specs.Holes.{hole, hole_end, hole_sum, shifted, AreHoles, AreApart}
-use Rattle.fc_oldmap.specs.OldMap.{FreeSpace, IsOldMap}
+use Rattle.fc_oldmap.specs.OldMap.{OldMapContent, IsOldMap}
 use Rattle.fc_image.specs.effects.Settled.{are_apart}
 use Rattle.fc_image.specs.effects.Moves.{SameButStarts, SquashedBytes}
 use Rattle.fc_image.specs.declared.effects.Owned.{Owned}
@@ -18,7 +18,7 @@ abbrev pub places : List Owned → List Hole
 places owned = map place owned
 
 -- The objects are some whole sectors of the disc each, in their order, and apart from each other and from every hole.
-pub record AreBodies (space : FreeSpace) (owned : List Owned) : Type 0 where
+pub record AreBodies (space : OldMapContent) (owned : List Owned) : Type 0 where
   pub rise : AreHoles space.disc_units space.sector_units 0 (places owned)
   pub apart : All (λ b. All (AreApart b) space.holes) (places owned)
 
@@ -57,7 +57,7 @@ covers holes n = list_any (λ h. nat_le h.start n && nat_lt n (hole_end h)) hole
 
 -- At every exit, whatever the disk tells: the objects are as they were but for their starts, and lie as before. Together
 -- with the holes they take the units that they took, and as much is free.
-pub record KeepsBodies (space space' : FreeSpace) (was now : List Owned) : Type 0 where
+pub record KeepsBodies (space space' : OldMapContent) (was now : List Owned) : Type 0 where
   pub map : IsOldMap space'
   pub disc : (space'.disc_units ≡ space.disc_units) × (space'.sector_units ≡ space.sector_units)
   pub objects : SameButStarts was now
@@ -66,10 +66,10 @@ pub record KeepsBodies (space space' : FreeSpace) (was now : List Owned) : Type 
   pub sum : hole_sum space'.holes ≡ hole_sum space.holes
 
 -- No hole is directly followed by an object or by another hole.
-pub record IsSettled (space : FreeSpace) (owned : List Owned) : Type 0 where
+pub record IsSettled (space : OldMapContent) (owned : List Owned) : Type 0 where
   pub apart : are_apart space.holes ≡ true
   pub settled : list_all (λ h. not (list_any (λ o. o.start == hole_end h) owned)) space.holes ≡ true
 
 -- If the disk tells its bytes, they are squashed.
-abbrev pub SquashedBy : {D : Type 0} → Ghosts D → D → D → FreeSpace → List Owned → List Owned → Type 0
+abbrev pub SquashedBy : {D : Type 0} → Ghosts D → D → D → OldMapContent → List Owned → List Owned → Type 0
 SquashedBy d old new space was now = ForSome (d.bytes old) (λ bytes. (image : List ℕ) × (d.bytes new ≡ Some image) × SquashedBytes bytes image space was now)

@@ -16,7 +16,7 @@ use std::alloc::Global;
 
 /// Why an object has no sectors of its own.
 #[derive(Clone, Copy)]
-pub enum Unclaimed {
+pub enum ClaimError {
     /// Its address leads nowhere.
     Outside,
     /// One of its sectors is taken.
@@ -59,13 +59,13 @@ pub fn claim(
     places: &Places,
     taken: &mut Taken,
     entry: &Entry,
-) -> Result<(), Unclaimed>
+) -> Result<(), ClaimError>
     requires disc { taken.old.sectors ≡ disc_sectors (layout_of places.now) }
     ensures sectors { taken.new.sectors ≡ taken.old.sectors }
     ensures ok { OnOk result ((path : Path) (before : List ℕ) → AreTaken taken.old before
         → (o : Object) × (object_of (layout_of places.now) before path entry.now ≡ Ok o) × AreTaken taken.new (o.sectors ++ before)) }
-    ensures outside { result ≡ Err Unclaimed.Outside → (path : Path) (before : List ℕ) → object_of (layout_of places.now) before path entry.now ≡ Err (faults.Place path) }
-    ensures overlap { result ≡ Err Unclaimed.Overlap → (path : Path) (before : List ℕ) → AreTaken taken.old before
+    ensures outside { result ≡ Err ClaimError.Outside → (path : Path) (before : List ℕ) → object_of (layout_of places.now) before path entry.now ≡ Err (faults.Place path) }
+    ensures overlap { result ≡ Err ClaimError.Overlap → (path : Path) (before : List ℕ) → AreTaken taken.old before
         → object_of (layout_of places.now) before path entry.now ≡ Err (faults.Overlap path) }
 {
     let bytes = u64::from(object_size(places.dir_form(), entry));
@@ -74,8 +74,8 @@ pub fn claim(
             taken.take(&place);
             Ok(())
         }
-        Ok(_) => Err(Unclaimed::Overlap),
-        Err(PlaceError::Outside) => Err(Unclaimed::Outside),
-        Err(PlaceError::NoMemory) => Err(Unclaimed::NoMemory),
+        Ok(_) => Err(ClaimError::Overlap),
+        Err(PlaceError::Outside) => Err(ClaimError::Outside),
+        Err(PlaceError::NoMemory) => Err(ClaimError::NoMemory),
     }
 }

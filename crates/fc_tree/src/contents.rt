@@ -7,7 +7,7 @@ ghost use Rattle.fc_tree.specs.declared.node.Body.TheVariants as bodies;
 ghost use Rattle.fc_tree.specs.Taken.{AreTaken};
 ghost use Rattle.fc_tree.specs.Walking.{FailsAs, StandsFor, new_node};
 
-use crate::claim::{Unclaimed, claim};
+use crate::claim::{ClaimError, claim};
 use crate::node::{Body, Node, TreeError};
 use crate::paths::path_in;
 use crate::taken::Taken;
@@ -79,9 +79,9 @@ fn add_child(
         return Err(TreeError::NoMemory);
     };
     match unclaimed {
-        Unclaimed::Outside => Err(TreeError::Image(ImageFault::Place { path })),
-        Unclaimed::Overlap => Err(TreeError::Image(ImageFault::Overlap { path })),
-        Unclaimed::NoMemory => Err(TreeError::NoMemory),
+        ClaimError::Outside => Err(TreeError::Image(ImageFault::Place { path })),
+        ClaimError::Overlap => Err(TreeError::Image(ImageFault::Overlap { path })),
+        ClaimError::NoMemory => Err(TreeError::NoMemory),
     }
 }
 

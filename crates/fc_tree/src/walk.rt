@@ -16,7 +16,7 @@ ghost use Rattle.fc_tree.specs.Loaded.{not_free};
 ghost use Rattle.fc_tree.specs.Taken.{AreTaken};
 ghost use Rattle.fc_tree.specs.Walking.{FailsAs, IsDirectoryAt, IsFileAt, IsFound, IsOverlap, Leads};
 
-use crate::claim::{Unclaimed, claim, directory_size, is_directory};
+use crate::claim::{ClaimError, claim, directory_size, is_directory};
 use crate::contents::push_node;
 use crate::directory::visit;
 use crate::node::{Body, Node, TreeError};
@@ -94,9 +94,9 @@ fn claim_root(
     let path = Path::root(alloc);
     match claim(alloc, places, taken, entry) {
         Ok(()) => Ok(()),
-        Err(Unclaimed::Outside) => Err(TreeError::Image(ImageFault::Place { path })),
-        Err(Unclaimed::Overlap) => Err(TreeError::Image(ImageFault::Overlap { path })),
-        Err(Unclaimed::NoMemory) => Err(TreeError::NoMemory),
+        Err(ClaimError::Outside) => Err(TreeError::Image(ImageFault::Place { path })),
+        Err(ClaimError::Overlap) => Err(TreeError::Image(ImageFault::Overlap { path })),
+        Err(ClaimError::NoMemory) => Err(TreeError::NoMemory),
     }
 }
 

@@ -15,7 +15,7 @@ use Rattle.fc_record.specs.Kinds.{disc_size}
 use Rattle.fc_record.specs.Record.{base, geometry}
 use Rattle.fc_zone.specs.declared.RunKind.{RunKind}
 use Rattle.fc_zone.specs.declared.RunKind.TheVariants as kinds
-use Rattle.fc_oldmap.specs.OldMap.{FreeSpace, free_space, hole_fault}
+use Rattle.fc_oldmap.specs.OldMap.{OldMapContent, free_space, hole_fault}
 use Rattle.fc_newmap.specs.Map.{Map, ZoneRun, all_runs, map_sectors, sector_of, sectors_of}
 use Rattle.fc_newmap.proofs.CoverLemmas.{run_on_disc}
 use Rattle.fc_newmap.proofs.PlaceLemmas.{filter_in, held_in, holder_of, in_back, in_filter, range_in}
@@ -71,7 +71,7 @@ module _ (size : ℕ) (some : 0 < size) (xs ys : List ℕ) (long : length xs ≡
 
 -- ---- the kind
 
-old_never : (space : FreeSpace) (address size : ℕ) (fault : Option ℕ) (found : MapAndRoot) (m : Map) → holes_or (Layout.Old space, address, size) fault ≡ Ok found → found.0 ≡ Layout.New m → ⊥
+old_never : (space : OldMapContent) (address size : ℕ) (fault : Option ℕ) (found : MapAndRoot) (m : Map) → holes_or (Layout.Old space, address, size) fault ≡ Ok found → found.0 ≡ Layout.New m → ⊥
 old_never space address size None found m e new =
     let is : Layout.Old space ≡ found.0 = first (Layout.Old space, address, size) found e in
     let both : Layout.Old space ≡ Layout.New m = is ∙ new in

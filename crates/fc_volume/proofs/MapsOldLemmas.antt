@@ -12,7 +12,7 @@ use Rattle.fc_record.specs.declared.Kind.TheVariants.{DiscL}
 use Rattle.fc_record.specs.Kinds.{fits_kind, is_old_map, old_units}
 use Rattle.fc_oldmap.specs.declared.Hole.{Hole}
 use Rattle.fc_oldmap.specs.declared.OldMapFault.TheVariants.{Check, Bad}
-use Rattle.fc_oldmap.specs.OldMap.{FreeSpace, free_end, free_space, hole_fault, holes_of, is_free_end, map_units, old_map, stored_hole, stored_holes, wrong_hole}
+use Rattle.fc_oldmap.specs.OldMap.{OldMapContent, free_end, free_space, hole_fault, holes_of, is_free_end, map_units, old_map, stored_hole, stored_holes, wrong_hole}
 use Rattle.fc_oldmap.specs.Holes.{AreHoles, hole}
 use Rattle.fc_oldmap.proofs.ReadLemmas.{AreHoles-right}
 use Rattle.fc_image.specs.declared.ImageFault.{ImageFault}
@@ -43,7 +43,7 @@ module _ (bytes : List ℕ) (units : ℕ) where
   unfolding old_map
   all_right first second none = rw (first, second, none) refl
 
-  pub map_read : (m : FreeSpace) → old_map bytes units ≡ Ok m → (m ≡ free_space bytes units) × (hole_fault bytes units ≡ None)
+  pub map_read : (m : OldMapContent) → old_map bytes units ≡ Ok m → (m ≡ free_space bytes units) × (hole_fault bytes units ≡ None)
   map_read m e = go (is_half_right (bytes_at bytes 0 256)) (is_half_right (bytes_at bytes 256 256)) (hole_fault bytes units) refl refl refl
     where
       go : (first second : Bool) (fault : Option ℕ) → is_half_right (bytes_at bytes 0 256) ≡ first → is_half_right (bytes_at bytes 256 256) ≡ second → hole_fault bytes units ≡ fault
@@ -124,7 +124,7 @@ space_front : (image : List ℕ) (units : ℕ) → is_free_end (free_end image) 
 space_front image units right =
     let ends = end_front image in
     let holes : stored_holes (take 512 image) ≡ stored_holes image = ap (λ n. holes_of (take 512 image) (n / 3)) ends ∙ holes_front image (free_end image / 3) (few (free_end image) right) in
-    ap₂ (λ hs n. let s : FreeSpace = record { holes = hs; disc_units = n; sector_units = units } in s) holes (u24_front image 252 (omega arith))
+    ap₂ (λ hs n. let s : OldMapContent = record { holes = hs; disc_units = n; sector_units = units } in s) holes (u24_front image 252 (omega arith))
 
 abbrev fault_by : Bool → ℕ → ℕ → List Hole → ℕ → Option ℕ
 fault_by right disc units holes last = if right then wrong_hole disc units 0 (map_units units) holes else Some (last / 3)
@@ -138,7 +138,7 @@ fault_front image units = go (is_free_end (free_end image)) refl
         let s = space_front image units right in
         let there : is_free_end (free_end (take 512 image)) ≡ true = ap is_free_end ends ∙ right in
         ap (λ b. fault_by b (u24_at (take 512 image) 252) units (stored_holes (take 512 image)) (free_end (take 512 image))) there
-        ∙ ap (λ (x : FreeSpace). wrong_hole x.disc_units units 0 (map_units units) x.holes) s
+        ∙ ap (λ (x : OldMapContent). wrong_hole x.disc_units units 0 (map_units units) x.holes) s
         ∙ sym (ap (λ b. fault_by b (u24_at image 252) units (stored_holes image) (free_end image)) right)
     go false wrong =
         let ends = end_front image in
@@ -158,7 +158,7 @@ module _ (image front : List ℕ) (units root : ℕ) (same : front ≡ take 512 
   there : hole_fault front units ≡ hole_fault image units
   there = ap (λ bs. hole_fault bs units) same ∙ fault_front image units
 
-  pub old_found : (m : FreeSpace) → m ≡ free_space front units → hole_fault front units ≡ None → old_layout image units root ≡ Ok (Layout.Old m, root, 0)
+  pub old_found : (m : OldMapContent) → m ≡ free_space front units → hole_fault front units ≡ None → old_layout image units root ≡ Ok (Layout.Old m, root, 0)
   old_found m is none =
       let right = sym there ∙ none in
       ap (λ o. holes_or (Layout.Old (free_space image units), root, 0) o) right

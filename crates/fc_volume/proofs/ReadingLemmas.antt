@@ -12,7 +12,7 @@ use Rattle.fc_dirs.specs.declared.Entry.{Entry}
 use Rattle.fc_dirs.specs.Directory.{Directory, directory_size, entries_of}
 use Rattle.fc_model.specs.Command.{Command}
 use Rattle.fc_model.specs.Answer.{answer, answer_or, first_of, found, refusal_of, is_directory_at, is_file_at, when}
-use Rattle.fc_model.specs.Tree.{Tree, Node as ModelNode, Body as ModelBody, node_at, is_directory_body}
+use Rattle.fc_model.specs.Tree.{Tree, Node as ModelNode, Body as ModelBody, bytes_of_body, bytes_of_node, node_at, is_directory_body}
 use Rattle.fc_image.specs.Layout.{Layout, bytes_in, dir_form, sector_bytes, sectors_at}
 use Rattle.fc_image.specs.Walk.{Object, Listing, is_directory_object, object_bytes, object_size}
 use Rattle.fc_image.specs.Objects.{objects_of, node_of, tree_of, listing_at}
@@ -36,7 +36,7 @@ use Rattle.fc_tree.proofs.WalkedLemmas.{directories_listed, follows_each, given,
 use Rattle.fc_volume.specs.declared.lines.CommandError.{CommandError}
 use Rattle.fc_volume.specs.declared.lines.CommandError.TheVariants.{Refused}
 use Rattle.fc_volume.specs.declared.lines.FileRef.{FileRef}
-use Rattle.fc_volume.specs.Answers.{IsRefusalOf, bytes_in_body, bytes_in_node, file_bytes, ref_bytes}
+use Rattle.fc_volume.specs.Answers.{IsRefusalOf, file_bytes, ref_bytes}
 use Rattle.fc_volume.specs.Volume.{Volume, parts_of}
 use Rattle.fc_volume.specs.Reading.{entries_at, entries_from, entries_in, entries_in_body, file_at, file_from, file_of, number_found}
 
@@ -199,10 +199,10 @@ module _ (image : List ℕ) (layout : Layout) (listings : List Listing) (nodes :
       ap (λ (m : Option ModelNode). option_map_or (λ (n : ModelNode). not (is_directory_body n.body)) m false) (node_of_object image layout listings sound path o at same) ∙ ap not (body_test image layout o b e)
 
   bytes_there : (o : Object) (n : ℕ) (node : Node) → Contains (objects_of listings) o → is_same_path path o.path ≡ true → is_directory_object o ≡ false → get nodes n ≡ Some node → node.entry ≡ o.entry
-      → bytes_in_node (node_at tree path) ≡ bytes_named n
+      → bytes_of_node (node_at tree path) ≡ bytes_named n
   bytes_there o n node at same file g entry =
-      ap bytes_in_node (node_of_object image layout listings sound path o at same)
-      ∙ ap (λ (c : Bool). bytes_in_body (if c then ModelBody.Directory else ModelBody.File (object_bytes image layout o))) file
+      ap bytes_of_node (node_of_object image layout listings sound path o at same)
+      ∙ ap (λ (c : Bool). bytes_of_body (if c then ModelBody.Directory else ModelBody.File (object_bytes image layout o))) file
       ∙ sym (file_object image layout o (each_at layout listings sound o at) file)
       ∙ ap (file_bytes image layout) (sym entry)
       ∙ ap (λ (m : Option Node). option_map_or (λ (x : Node). file_bytes image layout x.entry) m []) (sym g)
@@ -210,7 +210,7 @@ module _ (image : List ℕ) (layout : Layout) (listings : List Listing) (nodes :
   -- ---- files
 
   abbrev LoadIs : Result FileRef CommandError → Type 0
-  LoadIs result = MatchResult result (λ (f : FileRef). (load_answer ≡ Ok tree) × (bytes_in_node (node_at tree path) ≡ bytes_named f.node)) (IsRefusalOf load_answer)
+  LoadIs result = MatchResult result (λ (f : FileRef). (load_answer ≡ Ok tree) × (bytes_of_node (node_at tree path) ≡ bytes_named f.node)) (IsRefusalOf load_answer)
 
   load_node : (n : ℕ) (o : Object) (m : Option Node) (node : ModelNode) → get nodes n ≡ m → Contains (objects_of listings) o → is_same_path path o.path ≡ true
       → option_map (λ (x : Node). x.entry) (get nodes n) ≡ Some o.entry → found tree path ≡ Ok node → LoadIs (file_of n m)
@@ -336,15 +336,15 @@ pub load_answers : (image : List ℕ) (kind : Kind) (view : Opened) → OpensAs 
     → result ≡ file_at (nodes_of v.tree) path
     → MatchResult result
     (λ (f : FileRef). (answer (tree_of image view.layout view.listings) (dir_form view.layout) v.read_only (Command.Load path) ≡ Ok (tree_of image view.layout view.listings))
-    × (bytes_in_node (node_at (tree_of image view.layout view.listings) path) ≡ ref_bytes image v f))
+    × (bytes_of_node (node_at (tree_of image view.layout view.listings) path) ≡ ref_bytes image v f))
     (IsRefusalOf (answer (tree_of image view.layout view.listings) (dir_form view.layout) v.read_only (Command.Load path)))
 load_answers image kind view opens v path result parts e =
     let is = load_is image view.layout view.listings (nodes_of v.tree) (sound_law image kind view opens) parts.nodes (dir_form view.layout) v.read_only path in
     subst (λ (layout : Layout). MatchResult result
     (λ (f : FileRef). (answer (tree_of image view.layout view.listings) (dir_form view.layout) v.read_only (Command.Load path) ≡ Ok (tree_of image view.layout view.listings))
-    × (bytes_in_node (node_at (tree_of image view.layout view.listings) path) ≡ option_map_or (λ (node : Node). file_bytes image layout node.entry) (get (nodes_of v.tree) f.node) []))
+    × (bytes_of_node (node_at (tree_of image view.layout view.listings) path) ≡ option_map_or (λ (node : Node). file_bytes image layout node.entry) (get (nodes_of v.tree) f.node) []))
     (IsRefusalOf (answer (tree_of image view.layout view.listings) (dir_form view.layout) v.read_only (Command.Load path)))) (sym parts.layout)
     (subst (λ (r : Result FileRef CommandError). MatchResult r
     (λ (f : FileRef). (answer (tree_of image view.layout view.listings) (dir_form view.layout) v.read_only (Command.Load path) ≡ Ok (tree_of image view.layout view.listings))
-    × (bytes_in_node (node_at (tree_of image view.layout view.listings) path) ≡ option_map_or (λ (node : Node). file_bytes image view.layout node.entry) (get (nodes_of v.tree) f.node) []))
+    × (bytes_of_node (node_at (tree_of image view.layout view.listings) path) ≡ option_map_or (λ (node : Node). file_bytes image view.layout node.entry) (get (nodes_of v.tree) f.node) []))
     (IsRefusalOf (answer (tree_of image view.layout view.listings) (dir_form view.layout) v.read_only (Command.Load path)))) (sym e) is)

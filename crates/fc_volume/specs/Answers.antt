@@ -48,16 +48,6 @@ line_in n = record { name = n.name; attrs = n.attrs; load = n.load; exec = n.exe
 abbrev pub lines_in : Tree → Path → List Line
 lines_in t path = map (λ e. line_in e.1) (children t path)
 
--- the bytes of a file's node; a directory has none
-abbrev pub bytes_in_body : Body → List ℕ
-bytes_in_body (Body.File bytes) = bytes
-bytes_in_body Body.Directory = []
-
--- the bytes of the file there
-abbrev pub bytes_in_node : Option ModelNode → List ℕ
-bytes_in_node None = []
-bytes_in_node (Some n) = bytes_in_body n.body
-
 -- ---- files
 
 -- the bytes of a file's entry

@@ -4,7 +4,7 @@ ghost use Rattle.std.specs.Option.{ForSome};
 ghost use Rattle.fc_device.specs.Faults.{Rose};
 ghost use Rattle.fc_record.specs.declared.Kind.{Kind};
 ghost use Rattle.fc_record.specs.Front.{HasMapOf};
-ghost use Rattle.fc_record.specs.Kinds.{IsKind, disc_size, fits_kind, kind_of, sector_size};
+ghost use Rattle.fc_record.specs.Kinds.{IsKind, disc_size, fits_kind, kind_calls, kind_of, sector_size};
 ghost use Rattle.fc_device.specs.Calls.{OnlyReads};
 ghost use Rattle.fc_image.specs.Layout.{disc_sectors, sector_bytes};
 ghost use Rattle.fc_image.specs.Opening.{Opened, open_image};
@@ -40,7 +40,7 @@ fn find_kind<D: Disk>(disk: &mut D, front: &mut Front) -> Result<Kind, MountErro
     ensures map { IfOk result (λ kind. ForSome (D.bytes disk.old) (λ image. HasMapOf image kind front.new)) }
     ensures fault { IfErr result (λ e. ForSome (D.bytes disk.old) (λ image. IsFaultOf (open_image image) e)) }
     ensures reads { OnlyReads D.Disk disk.old disk.new }
-    ensures few { D.read_calls disk.new ≤ D.read_calls disk.old + 10 }
+    ensures few { IfOk result (λ kind. D.read_calls disk.new ≤ D.read_calls disk.old + kind_calls kind) }
     ensures cause { result ≡ Err MountError.DiskFault → Rose (D.faults disk.old) (D.faults disk.new) }
 {
     fc_record::found_fits();
@@ -138,7 +138,7 @@ fn volume_of<D: Disk>(
 impl Volume {
     /// Opens the image of a disk that has sectors of 256 bytes and nothing pending; afterwards the disk has the volume's
     /// sectors. Nothing is written. `Image` exactly where the image isn't accepted, with its first fault; `DiskFault` only
-    /// where the disk's count of faults rose. A disc that opens takes at most 10 read calls for its kind, then one for each
+    /// where the disk's count of faults rose. A disc that opens takes at most 10 read calls for its kind, 2 if it has a boot block, then one for each
     /// sector of the map, none if it has one zone or is an old one, and one for each sector of a directory.
     pub fn mount<D: Disk>(
         alloc: Global,
@@ -154,7 +154,7 @@ impl Volume {
         ensures fault { ForSome (D.bytes disk.old) (λ image. IfErr result (IsFaultOf (open_image image))) }
         ensures shapes { OnlyShapes D.Disk disk.old disk.new }
         ensures few { IfOk result (λ v. (kind : Kind) × ForSome (D.bytes disk.old) (λ image. kind_of image ≡ Some kind)
-            × (D.read_calls disk.new ≤ D.read_calls disk.old + (10 + map_reads kind (parts_of v).layout v.copies + all_directory_sectors (parts_of v).layout (parts_of v).nodes))) }
+            × (D.read_calls disk.new ≤ D.read_calls disk.old + (kind_calls kind + map_reads kind (parts_of v).layout v.copies + all_directory_sectors (parts_of v).layout (parts_of v).nodes))) }
         ensures cause { result ≡ Err MountError.DiskFault → Rose (D.faults disk.old) (D.faults disk.new) }
     {
         fc_image::opens();

@@ -9,7 +9,7 @@ ghost use Rattle.fc_record.specs.declared.Kind.{Kind};
 ghost use Rattle.fc_dirs.specs.declared.Entry.{Entry};
 ghost use Rattle.fc_model.specs.Command.{Command};
 ghost use Rattle.fc_model.specs.Answer.{answer};
-ghost use Rattle.fc_model.specs.Tree.{node_at};
+ghost use Rattle.fc_model.specs.Tree.{bytes_of_node, node_at};
 ghost use Rattle.fc_image.specs.Layout.{Layout, dir_form};
 ghost use Rattle.fc_image.specs.Report.{free_bytes, largest_hole};
 ghost use Rattle.fc_image.specs.Objects.{tree_of};
@@ -17,7 +17,7 @@ ghost use Rattle.fc_image.specs.Opening.{Opened};
 ghost use Rattle.fc_image.specs.Stays.{OpensAs};
 ghost use Rattle.fc_tree.specs.Nodes.{found_in, nodes_of};
 ghost use Rattle.fc_tree.specs.Parts.{ArePartsOf};
-ghost use Rattle.fc_volume.specs.Answers.{IsRef, IsRefusalOf, bytes_in_node, lines_in, ref_bytes};
+ghost use Rattle.fc_volume.specs.Answers.{IsRef, IsRefusalOf, lines_in, ref_bytes};
 ghost use Rattle.fc_volume.specs.Reading.{AreLines, entries_at, entries_in, entries_in_body, file_at, file_of, line_of, number_found};
 ghost use Rattle.fc_volume.specs.Volume.{StandsFor, parts_of};
 
@@ -227,7 +227,7 @@ impl Volume {
         ensures answer { (image : List ℕ) (kind : Kind) (view : Opened) → OpensAs image kind view → ArePartsOf (parts_of self.now) view
             → MatchResult result
             (λ f. (answer (tree_of image view.layout view.listings) (dir_form view.layout) self.now.read_only (Command.Load p.now) ≡ Ok (tree_of image view.layout view.listings))
-            × (bytes_in_node (node_at (tree_of image view.layout view.listings) p.now) ≡ ref_bytes image self.now f))
+            × (bytes_of_node (node_at (tree_of image view.layout view.listings) p.now) ≡ ref_bytes image self.now f))
             (IsRefusalOf (answer (tree_of image view.layout view.listings) (dir_form view.layout) self.now.read_only (Command.Load p.now))) }
         ensures named { IfOk result (λ f. IsRef self.now f) }
         ensures exact { result ≡ file_at (nodes_of self.now.tree) p.now }

@@ -1,7 +1,7 @@
 -- What compaction of old maps does not do, and one thing that it does, worked out.
 use Rattle.std.specs.Prelude.{◌≡◌, ℕ, List, [], ◌∷◌, codes}
 use Rattle.fc_oldmap.specs.Holes.{hole}
-use Rattle.fc_oldmap.specs.OldMap.{FreeSpace}
+use Rattle.fc_oldmap.specs.OldMap.{OldMapContent}
 use Rattle.fc_oldmap.specs.declared.Hole.{Hole}
 use Rattle.fc_names.specs.Names.{Path}
 use Rattle.fc_dirs.specs.declared.SmallForm.TheVariants.{Bytes1280}
@@ -15,7 +15,7 @@ use Rattle.fc_image.specs.declared.effects.Owned.{Owned}
 use Rattle.fc_image.specs.effects.Moves.{Squashed}
 
 -- an old map of sectors of 256 bytes
-abbrev pub space_of : ℕ → List Hole → FreeSpace
+abbrev pub space_of : ℕ → List Hole → OldMapContent
 space_of units holes = record { holes = holes; disc_units = units; sector_units = 1 }
 
 -- an object
@@ -42,7 +42,7 @@ empty_root = empty_small Bytes1280 2 (codes "$")
 pub record CompactionRows : Type 0 where
   -- a hole that is said to lie inside an object, two objects at one place, and the map of another disc
   pub inside : Squashed (space_of 40 (hole 11 2 ∷ [])) (space_of 40 (hole 8 2 ∷ [])) (owned_at 1 7 4 ∷ []) (owned_at 1 7 4 ∷ []) → ⊥
-  pub at_one_place : (space : FreeSpace) (was : List Owned)
+  pub at_one_place : (space : OldMapContent) (was : List Owned)
       → Squashed space space was (owned_at 1 7 2 ∷ owned_at 2 7 2 ∷ []) → ⊥
   pub other_disc : (owned : List Owned) → Squashed (space_of 40 (hole 11 2 ∷ [])) (space_of 30 (hole 11 2 ∷ [])) owned owned → ⊥
   -- lost sectors that change places with a hole's

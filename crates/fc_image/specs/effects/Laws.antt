@@ -3,7 +3,7 @@ use Rattle.std.specs.Prelude.{◌≡◌, ◌≤◌, ◌%◌, ℕ, true, List, []
 use Rattle.fc_record.specs.declared.Geometry.{Geometry}
 use Rattle.fc_record.specs.declared.Kind.{Kind}
 use Rattle.fc_names.specs.declared.refusal.Refusal.TheVariants.{CompactionRequired}
-use Rattle.fc_oldmap.specs.OldMap.{FreeSpace}
+use Rattle.fc_oldmap.specs.OldMap.{OldMapContent}
 use Rattle.fc_newmap.specs.Map.{ZoneRun}
 use Rattle.fc_model.specs.Command.{Command}
 use Rattle.fc_image.specs.Layout.{Layout}
@@ -36,11 +36,11 @@ pub record LeftLaw : Type 0 where
 -- A settled old map without lost sectors has at most one hole.
 abbrev pub OneHoleLaw : Type 0
 OneHoleLaw =
-    (space : FreeSpace) (objects : List Object) → IsOldDisc space objects → lost_sectors space objects ≡ [] → is_settled_space space objects ≡ true
+    (space : OldMapContent) (objects : List Object) → IsOldDisc space objects → lost_sectors space objects ≡ [] → is_settled_space space objects ≡ true
     → length space.holes ≤ 1
 
 -- So has an opened image with such a map, and then no command needs compaction.
 pub record OldMapCompactedLaw : Type 0 where
-  pub one_hole : (image : List ℕ) (kind : Kind) (v : Opened) (space : FreeSpace) → OpensAs image kind v → v.layout ≡ Layout.Old space
+  pub one_hole : (image : List ℕ) (kind : Kind) (v : Opened) (space : OldMapContent) → OpensAs image kind v → v.layout ≡ Layout.Old space
       → lost_sectors space (objects_of v.listings) ≡ [] → is_settled v ≡ true → length space.holes ≤ 1
-  pub none_required : (v : Opened) (space : FreeSpace) (c : Command) → v.layout ≡ Layout.Old space → length space.holes ≤ 1 → short v c ≡ Some CompactionRequired → ⊥
+  pub none_required : (v : Opened) (space : OldMapContent) (c : Command) → v.layout ≡ Layout.Old space → length space.holes ≤ 1 → short v c ≡ Some CompactionRequired → ⊥

@@ -8,7 +8,7 @@ use Rattle.fc_zone.specs.declared.RunKind.{RunKind}
 use Rattle.fc_zone.specs.declared.RunKind.TheVariants as kinds
 use Rattle.fc_oldmap.specs.declared.Hole.{Hole}
 use Rattle.fc_oldmap.specs.Holes.{hole_end, hole_sum}
-use Rattle.fc_oldmap.specs.OldMap.{FreeSpace, IsOldMap}
+use Rattle.fc_oldmap.specs.OldMap.{OldMapContent, IsOldMap}
 use Rattle.fc_newmap.specs.Map.{Map, ZoneRun, runs_of, id_runs, hole_runs, bits_in, is_hole, has_id}
 use Rattle.fc_image.specs.Layout.{hole_sectors_in, is_among}
 use Rattle.fc_image.specs.declared.effects.Owned.{Owned}
@@ -106,7 +106,7 @@ is_in_hole units holes s = list_any (λ h. is_among (hole_sectors_in units h) s)
 -- Objects and holes of an old map after each object has slid down. The objects lie apart in their order, and apart from the holes;
 -- together they take the same sectors as before. No hole is directly followed by an object or another hole, and as much is free
 -- as before. No bytes are spoken of, so it holds of every disk.
-pub record Squashed (space space' : FreeSpace) (was now : List Owned) : Type 0 where
+pub record Squashed (space space' : OldMapContent) (was now : List Owned) : Type 0 where
   pub disc : (space'.disc_units ≡ space.disc_units) × (space'.sector_units ≡ space.sector_units)
   pub map : IsOldMap space'
   pub objects : SameButStarts was now
@@ -121,7 +121,7 @@ pub record Squashed (space space' : FreeSpace) (was now : List Owned) : Type 0 w
 
 -- And of the bytes: each object has its bytes at its new start, sectors that lay in no object and in no hole keep theirs, and the
 -- image keeps its length.
-pub record SquashedBytes (old new : List ℕ) (space : FreeSpace) (was now : List Owned) : Type 0 where
+pub record SquashedBytes (old new : List ℕ) (space : OldMapContent) (was now : List Owned) : Type 0 where
   pub len : length new ≡ length old
   pub bodies : SameBodies old new was now
   pub others : (s : ℕ) → is_in_body space.sector_units was s ≡ false → is_in_hole space.sector_units space.holes s ≡ false

@@ -6,7 +6,7 @@ use Rattle.std.specs.Int.{next_multiple_of}
 use Rattle.fc_names.specs.Names.{Path}
 use Rattle.fc_record.specs.declared.Geometry.{Geometry}
 use Rattle.fc_oldmap.specs.Holes.{first_fit_place}
-use Rattle.fc_oldmap.specs.OldMap.{FreeSpace}
+use Rattle.fc_oldmap.specs.OldMap.{OldMapContent}
 use Rattle.fc_newmap.specs.Map.{Map, ZoneRun, hole_runs, id_runs, bits_in, is_used}
 use Rattle.fc_model.specs.Command.{Command}
 use Rattle.fc_image.specs.Layout.{Layout, id_of, low_of}
@@ -127,7 +127,7 @@ NewObjectPlaced m m' n (Some share) o = HasAddress o (256 * share.0 + share.1)
 NewObjectPlaced m m' n None o = 0 < n → IsSomeAnd o (StandsInNewSpace m m' n)
 
 -- on an old map: at the front of the first hole that is long enough
-abbrev pub OldObjectPlaced : FreeSpace → ℕ → Option Object → Type 0
+abbrev pub OldObjectPlaced : OldMapContent → ℕ → Option Object → Type 0
 OldObjectPlaced space n o = 0 < n → IsSomeAnd o (λ o. first_fit_place (old_need space n) space.holes ≡ Some o.entry.address)
 
 -- where a new object lies

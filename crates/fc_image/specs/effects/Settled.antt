@@ -8,7 +8,7 @@ use Rattle.fc_zone.specs.declared.RunKind.{RunKind}
 use Rattle.fc_zone.specs.declared.RunKind.TheVariants as kinds
 use Rattle.fc_oldmap.specs.declared.Hole.{Hole}
 use Rattle.fc_oldmap.specs.Holes.{hole_end, hole_sum}
-use Rattle.fc_oldmap.specs.OldMap.{FreeSpace}
+use Rattle.fc_oldmap.specs.OldMap.{OldMapContent}
 use Rattle.fc_newmap.specs.Map.{Map, runs_of, zone_numbers, id_runs, hole_runs, bits_in, longest, is_used}
 use Rattle.fc_dirs.specs.declared.Entry.{Entry}
 use Rattle.fc_dirs.specs.Directory.{Directory}
@@ -72,7 +72,7 @@ are_apart (h ∷ []) = true
 are_apart (h ∷ next ∷ holes) = not (hole_end h == next.start) && are_apart (next ∷ holes)
 
 -- No hole is followed by an object other than the root, or by a hole.
-abbrev pub is_settled_space : FreeSpace → List Object → Bool
+abbrev pub is_settled_space : OldMapContent → List Object → Bool
 is_settled_space space objects = are_apart space.holes && list_all (λ h. not (is_object_start objects (hole_end h))) space.holes
 
 -- ---- both

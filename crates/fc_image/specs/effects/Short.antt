@@ -11,7 +11,7 @@ use Rattle.fc_names.specs.declared.refusal.Refusal.TheVariants as refusals
 use Rattle.fc_names.specs.Names.{Path, is_same_path, is_same_name}
 use Rattle.fc_oldmap.specs.declared.Hole.{Hole}
 use Rattle.fc_oldmap.specs.Holes.{hole, hole_sum, hole_limit, after_take, after_give, first_fit_place}
-use Rattle.fc_oldmap.specs.OldMap.{FreeSpace}
+use Rattle.fc_oldmap.specs.OldMap.{OldMapContent}
 use Rattle.fc_newmap.specs.Map.{Map, hole_runs, bits_in}
 use Rattle.fc_model.specs.Tree.{holder, last_name}
 use Rattle.fc_model.specs.Command.{Command}
@@ -178,11 +178,11 @@ needed_ids m v c =
     + option_map_or (λ growth. one_if (not (is_alone (objects_of v.listings) growth.0))) (moved_growth v c) 0
 
 -- the units of whole sectors that so many bytes take on an old map
-abbrev pub old_need : FreeSpace → ℕ → ℕ
+abbrev pub old_need : OldMapContent → ℕ → ℕ
 old_need space bytes = div_ceil bytes (256 * space.sector_units) * space.sector_units
 
 -- the space that an object takes on an old map
-abbrev pub space_of : FreeSpace → Object → Hole
+abbrev pub space_of : OldMapContent → Object → Hole
 space_of space o = hole o.entry.address (length o.sectors * space.sector_units)
 
 -- the object whose space the command gives back on an old map
@@ -193,7 +193,7 @@ replaced_object v (Command.Delete path) = object_at v.listings path
 replaced_object v _ = None
 
 -- the holes with the space of an object, if it has any
-abbrev pub with_space_of : FreeSpace → Option Object → List Hole → List Hole
+abbrev pub with_space_of : OldMapContent → Option Object → List Hole → List Hole
 with_space_of space None holes = holes
 with_space_of space (Some o) holes = if has_sectors o then after_give (space_of space o) holes else holes
 
@@ -202,7 +202,7 @@ abbrev pub holes_without : ℕ → List Hole → List Hole
 holes_without n holes = if n == 0 then holes else after_take n holes
 
 -- the holes of an old map after the command: new space is taken first, and then the old is given back
-abbrev pub old_holes_after : FreeSpace → Opened → Command → List Hole
+abbrev pub old_holes_after : OldMapContent → Opened → Command → List Hole
 old_holes_after space v c = with_space_of space (replaced_object v c) (holes_without (old_need space (new_length v c)) space.holes)
 
 -- ---- refusals

@@ -14,7 +14,7 @@ use Rattle.fc_record.specs.Record.{first_bit, end_bit}
 use Rattle.fc_record.specs.Kinds.{disc_size}
 use Rattle.fc_oldmap.specs.declared.Hole.{Hole}
 use Rattle.fc_oldmap.specs.Holes.{hole, after_give}
-use Rattle.fc_oldmap.specs.OldMap.{with_holes, FreeSpace}
+use Rattle.fc_oldmap.specs.OldMap.{with_holes, OldMapContent}
 use Rattle.fc_zone.specs.declared.RunKind.{RunKind}
 use Rattle.fc_zone.specs.declared.RunKind.TheVariants as kinds
 use Rattle.fc_zone.specs.Edits.{KeepsLinks}
@@ -387,7 +387,7 @@ idle_sectors v m =
     (sectors_of m.geometry (filter (λ p. is_idle (objects_of v.listings) p.1.kind) (all_runs m)))
 
 -- the sectors of lost space on an old map
-abbrev pub lost_sectors : FreeSpace → List Object → List ℕ
+abbrev pub lost_sectors : OldMapContent → List Object → List ℕ
 lost_sectors space objects = filter (is_lost_sector (Layout.Old space) objects) (range_with_len 0 (disc_sectors (Layout.Old space)))
 
 -- Each link of a zone is kept with all its bits, or written in full: FreeLink with its top bit, a hole's field with its link alone.
@@ -404,7 +404,7 @@ pub record MapOutside (old new : List ℕ) (kind : Kind) (expected : ℕ → Lis
   pub kept_stay : SameSectors m.geometry.sector kept old new
 
 -- An old map stays as it is, or is written anew with its holes.
-abbrev pub OldMapOutside : List ℕ → List ℕ → FreeSpace → FreeSpace → Type 0
+abbrev pub OldMapOutside : List ℕ → List ℕ → OldMapContent → OldMapContent → Type 0
 OldMapOutside old new space space' =
     ((space'.holes ≡ space.holes) × (bytes_at new 0 512 ≡ bytes_at old 0 512)) ⊎ (bytes_at new 0 512 ≡ with_holes (bytes_at old 0 512) space'.holes)
 

@@ -4,7 +4,7 @@ use Rattle.std.specs.List.{range_with_len}
 use Rattle.fc_names.specs.declared.name.NameForm.{NameForm}
 use Rattle.fc_oldmap.specs.declared.Hole.{Hole}
 use Rattle.fc_oldmap.specs.Holes.{AreHoles}
-use Rattle.fc_oldmap.specs.OldMap.{FreeSpace, IsOldMap, map_units}
+use Rattle.fc_oldmap.specs.OldMap.{OldMapContent, IsOldMap, map_units}
 use Rattle.fc_dirs.specs.declared.Entry.{Entry}
 use Rattle.fc_dirs.specs.Directory.{Directory}
 use Rattle.fc_dirs.specs.Small.{SmallDir, next_sequence}
@@ -65,13 +65,13 @@ is_steady form move holder (Directory.Big dir) = true
 
 -- The objects of a disc slide down: its map before and its holes afterwards, and the objects with their places before and after.
 pub record Slide : Type 0 where
-  pub space : FreeSpace
+  pub space : OldMapContent
   pub holes : List Hole
   pub was : List Owned
   pub now : List Owned
 
 -- its map afterwards
-abbrev pub space_after : Slide → FreeSpace
+abbrev pub space_after : Slide → OldMapContent
 space_after s = holding s.space s.holes
 
 abbrev pub move_of : Slide → ℕ → ℕ
@@ -102,12 +102,12 @@ listings_after s listings = map (listing_after s listings) listings
 -- ---- which objects slide
 
 -- The object has these units.
-pub record IsOwnedAs (space : FreeSpace) (o : Object) (p : Owned) : Type 0 where
+pub record IsOwnedAs (space : OldMapContent) (o : Object) (p : Owned) : Type 0 where
   pub begins : p.start ≡ o.entry.address
   pub long : p.len ≡ length o.sectors * space.sector_units
 
 -- All objects with sectors but the root, and nothing else.
-pub record AreOwned (space : FreeSpace) (objects : List Object) (owned : List Owned) : Type 0 where
+pub record AreOwned (space : OldMapContent) (objects : List Object) (owned : List Owned) : Type 0 where
   pub each : (o : Object) → Contains objects o → has_sectors o ≡ true → (length o.path ≡ 0 → ⊥) → (p : Owned) × Contains owned p × IsOwnedAs space o p
   pub only : (p : Owned) → Contains owned p → (o : Object) × Contains objects o × (has_sectors o ≡ true) × (length o.path ≡ 0 → ⊥) × IsOwnedAs space o p
 

@@ -18,7 +18,7 @@ use Rattle.fc_image.specs.Sound.{AreSound}
 use Rattle.fc_laws.specs.nodes.Edits.{Nodes}
 use Rattle.fc_oldlaws.specs.agree.Laws.{AgreeOn, parts_with}
 use Rattle.fc_oldmap.specs.Holes.{AreHoles}
-use Rattle.fc_oldmap.specs.OldMap.{FreeSpace, map_units}
+use Rattle.fc_oldmap.specs.OldMap.{OldMapContent, map_units}
 use Rattle.fc_image.specs.declared.effects.Owned.{Owned}
 use Rattle.fc_oldlaws.specs.moves.Nodes.{AreMoved, AreReady, AreRemade, AreSliding, sliding_below}
 use Rattle.fc_oldlaws.specs.moves.After.{AreOwned, IsSlide, Slide, listings_after, space_after}
@@ -42,12 +42,12 @@ CompactedLaw = (kind : Kind) (image slid rewritten image' : List ℕ) (v : Opene
 
 -- The nodes that slide are the objects that do.
 abbrev pub SlidingLaw : Type 0
-SlidingLaw = (space : FreeSpace) (nodes : Nodes) (listings : List Listing) (owned : List Owned) → (space.sector_units ≡ 1) ⊎ (space.sector_units ≡ 4)
+SlidingLaw = (space : OldMapContent) (nodes : Nodes) (listings : List Listing) (owned : List Owned) → (space.sector_units ≡ 1) ⊎ (space.sector_units ≡ 4)
     → AreSound (Layout.Old space) listings → HoldObjects nodes listings → AreSliding space nodes owned → AreOwned space (objects_of listings) owned
 
 -- The list of all nodes that slide, sorted by their starts, is ready to be squashed.
 abbrev pub ReadyLaw : Type 0
-ReadyLaw = (kind : Kind) (space : FreeSpace) (nodes : Nodes) (owners : List Owner) (root : Node) (listings : List Listing) (bound : ℕ) (owned : List Owned)
+ReadyLaw = (kind : Kind) (space : OldMapContent) (nodes : Nodes) (owners : List Owner) (root : Node) (listings : List Listing) (bound : ℕ) (owned : List Owned)
     → AgreeOn kind space nodes owners root listings → ((n : ℕ) → bound ≤ n → get nodes n ≡ None) → IsPermutation (sliding_below space nodes bound) owned
     → IsNonDecreasingBy (λ o. o.start) owned → AreReady space nodes owned
 
@@ -69,7 +69,7 @@ BehindLaw = (kind : Kind) (s : Slide) (nodes : Nodes) (owners : List Owner) (roo
 
 -- The directories of parts that agree lie on the disc, apart from each other.
 abbrev pub DirectoriesLaw : Type 0
-DirectoriesLaw = (kind : Kind) (space : FreeSpace) (nodes : Nodes) (owners : List Owner) → Agree kind (parts_with space nodes owners) → AreDirectoriesPlaced space nodes
+DirectoriesLaw = (kind : Kind) (space : OldMapContent) (nodes : Nodes) (owners : List Owner) → Agree kind (parts_with space nodes owners) → AreDirectoriesPlaced space nodes
 
 -- If the directories that change are written by their nodes, they are written.
 abbrev pub RewrittenLaw : Type 0

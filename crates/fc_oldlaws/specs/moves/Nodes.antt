@@ -6,7 +6,7 @@ use Rattle.std.specs.Option.{option_map, option_map_or}
 use Rattle.std.specs.FinMap.{get, len}
 use Rattle.fc_names.specs.Names.{is_directory}
 use Rattle.fc_names.specs.declared.name.NameForm.{NameForm}
-use Rattle.fc_oldmap.specs.OldMap.{FreeSpace}
+use Rattle.fc_oldmap.specs.OldMap.{OldMapContent}
 use Rattle.fc_dirs.specs.declared.Entry.{Entry}
 use Rattle.fc_alloc.specs.declared.owner.Owner.{Owner}
 use Rattle.fc_image.specs.Layout.{Layout, dir_form, id_of, low_of}
@@ -45,7 +45,7 @@ pub record AreMoved (s : Slide) (nodes nodes' : Nodes) : Type 0 where
 -- ---- owners
 
 -- the owner that a node is, by its number
-abbrev pub node_owner : FreeSpace → ℕ → Node → Owner
+abbrev pub node_owner : OldMapContent → ℕ → Node → Owner
 node_owner space n node = record {
   id = id_of node.entry.address;
   dir = node.holder;
@@ -57,20 +57,20 @@ node_owner space n node = record {
 }
 
 -- an owner as its node is now
-abbrev pub remade : FreeSpace → Nodes → Owner → Owner
+abbrev pub remade : OldMapContent → Nodes → Owner → Owner
 remade space nodes owner = option_map_or (node_owner space owner.node) (get nodes owner.node) owner
 
-abbrev pub AreRemade : FreeSpace → Nodes → List Owner → List Owner → Type 0
+abbrev pub AreRemade : OldMapContent → Nodes → List Owner → List Owner → Type 0
 AreRemade space nodes owners owners' = owners' ≡ map (remade space nodes) owners
 
 -- ---- which nodes slide
 
 -- the units that the object of an entry takes
-abbrev pub units_in : FreeSpace → Entry → ℕ
+abbrev pub units_in : OldMapContent → Entry → ℕ
 units_in space e = old_need space (object_size (dir_form (Layout.Old space)) e)
 
 -- The node slides: it isn't the root's, and its object has space.
-pub record Slides (space : FreeSpace) (nodes : Nodes) (p : Owned) : Type 0 where
+pub record Slides (space : OldMapContent) (nodes : Nodes) (p : Owned) : Type 0 where
   pub node : Node
   pub there : get nodes p.node ≡ Some node
   pub below : p.node ≡ 0 → ⊥
@@ -79,21 +79,21 @@ pub record Slides (space : FreeSpace) (nodes : Nodes) (p : Owned) : Type 0 where
   pub some : 0 < p.len
 
 -- All nodes that slide, and nothing else.
-pub record AreSliding (space : FreeSpace) (nodes : Nodes) (owned : List Owned) : Type 0 where
+pub record AreSliding (space : OldMapContent) (nodes : Nodes) (owned : List Owned) : Type 0 where
   pub each : (n : ℕ) (node : Node) → get nodes n ≡ Some node → (n ≡ 0 → ⊥) → 0 < units_in space node.entry → (p : Owned) × Contains owned p × (p.node ≡ n)
   pub only : (p : Owned) → Contains owned p → Slides space nodes p
 
 -- what of a number's node slides, if it has one
-abbrev pub sliding_at : FreeSpace → ℕ → Option Node → List Owned
+abbrev pub sliding_at : OldMapContent → ℕ → Option Node → List Owned
 sliding_at space n None = []
 sliding_at space n (Some node) =
     if not (n == 0) && nat_lt 0 (units_in space node.entry) then record { node = n; start = node.entry.address; len = units_in space node.entry } ∷ [] else []
 
 -- all that slide of the nodes below a number
-abbrev pub sliding_below : FreeSpace → Nodes → ℕ → List Owned
+abbrev pub sliding_below : OldMapContent → Nodes → ℕ → List Owned
 sliding_below space nodes bound = flat_map (λ n. sliding_at space n (get nodes n)) (range_with_len 0 bound)
 
 -- The list is ready to be squashed: it has all nodes that slide, and as objects they lie in their order, apart from each other and from the holes.
-pub record AreReady (space : FreeSpace) (nodes : Nodes) (owned : List Owned) : Type 0 where
+pub record AreReady (space : OldMapContent) (nodes : Nodes) (owned : List Owned) : Type 0 where
   pub sliding : AreSliding space nodes owned
   pub bodies : AreBodies space owned

@@ -4,7 +4,7 @@ use Rattle.std.specs.List.{range_with_len}
 use Rattle.std.specs.Int.{div_ceil}
 use Rattle.std.specs.FinMap.{get}
 use Rattle.fc_device.specs.Sectors.{sector_at}
-use Rattle.fc_oldmap.specs.OldMap.{FreeSpace}
+use Rattle.fc_oldmap.specs.OldMap.{OldMapContent}
 use Rattle.fc_dirs.specs.declared.Entry.{Entry}
 use Rattle.fc_dirs.specs.Small.{SmallDir, tail_of}
 use Rattle.fc_dirs.specs.SmallBytes.{IsWrittenSmall}
@@ -20,11 +20,11 @@ use Rattle.fc_oldlaws.specs.moves.After.{Slide, form_of, move_of, readdressed}
 -- ---- places
 
 -- how many sectors an entry's object has
-abbrev pub count_of : FreeSpace → Entry → ℕ
+abbrev pub count_of : OldMapContent → Entry → ℕ
 count_of space e = div_ceil (object_size (dir_form (Layout.Old space)) e) (256 * space.sector_units)
 
 -- an entry's object: a row of sectors from its address on
-abbrev pub row_of : FreeSpace → Entry → List ℕ
+abbrev pub row_of : OldMapContent → Entry → List ℕ
 row_of space e = range_with_len (e.address / space.sector_units) (count_of space e)
 
 -- The node is that of a small directory.
@@ -33,7 +33,7 @@ pub record IsDirAt (nodes : Nodes) (n : ℕ) (node : Node) (dir : SmallDir) : Ty
   pub says : node.body ≡ bodies.Small dir
 
 -- Each directory lies on the disc, as many bytes as its form has, and apart from the others.
-pub record AreDirectoriesPlaced (space : FreeSpace) (nodes : Nodes) : Type 0 where
+pub record AreDirectoriesPlaced (space : OldMapContent) (nodes : Nodes) : Type 0 where
   pub inside : (n : ℕ) (node : Node) (dir : SmallDir) → IsDirAt nodes n node dir → node.entry.address / space.sector_units + count_of space node.entry ≤ disc_sectors (Layout.Old space)
   pub size : (n : ℕ) (node : Node) (dir : SmallDir) → IsDirAt nodes n node dir → object_size (dir_form (Layout.Old space)) node.entry ≡ (tail_of dir.form).size
   pub apart : (m n : ℕ) (a b : Node) (k l : SmallDir) → IsDirAt nodes m a k → IsDirAt nodes n b l → (m ≡ n → ⊥) → is_apart (row_of space a.entry) (row_of space b.entry) ≡ true
@@ -46,7 +46,7 @@ MarkChanges s nodes changed = (n : ℕ) (node : Node) (dir : SmallDir) → IsDir
     → changed n ≡ not (has_same_places dir (readdressed (form_of s) (move_of s) (address_in nodes node.holder) dir))
 
 -- Of the directories whose numbers are below a bound those that are marked have been written where they lie, and nothing else has.
-pub record AreDirectoriesWritten (space : FreeSpace) (nodes : Nodes) (changed : ℕ → Bool) (bound : ℕ) (was image : List ℕ) : Type 0 where
+pub record AreDirectoriesWritten (space : OldMapContent) (nodes : Nodes) (changed : ℕ → Bool) (bound : ℕ) (was image : List ℕ) : Type 0 where
   pub length_stays : length image ≡ length was
   pub written : (n : ℕ) (node : Node) (dir : SmallDir) → n < bound → changed n ≡ true → IsDirAt nodes n node dir
       → IsWrittenSmall (bytes_in (sector_bytes (Layout.Old space)) image (row_of space node.entry) (object_size (dir_form (Layout.Old space)) node.entry)) dir

@@ -2,7 +2,7 @@
 use Rattle.std.specs.Prelude.{◌≡◌, ◌<◌, ◌⊎◌, ℕ, true, false, List, [], ◌∷◌, ◌++◌, if◌then◌else◌, Contains, IsPermutation}
 use Rattle.fc_names.specs.Names.{Path, is_same_path}
 use Rattle.fc_record.specs.declared.Kind.{Kind}
-use Rattle.fc_oldmap.specs.OldMap.{FreeSpace}
+use Rattle.fc_oldmap.specs.OldMap.{OldMapContent}
 use Rattle.fc_model.specs.Tree.{holder}
 use Rattle.fc_model.specs.Command.{Command}
 use Rattle.fc_image.specs.Layout.{Layout, disc_sectors, hole_sectors, is_among, is_apart, map_place}
@@ -19,22 +19,22 @@ use Rattle.fc_oldchanges.specs.Changed.{IsFileAt, IsFirstFitted}
 
 pub record ObjectsLaw : Type 0 where
   -- A listed directory is an object, and its bytes say what is listed.
-  pub listed : (kind : Kind) (image : List ℕ) (view : Opened) (space : FreeSpace) (l : Listing) → IsBefore kind image view space → Contains view.listings l → Contains (objects_of view.listings) l.object
-  pub says : (kind : Kind) (image : List ℕ) (view : Opened) (space : FreeSpace) (l : Listing) → IsBefore kind image view space → Contains view.listings l
+  pub listed : (kind : Kind) (image : List ℕ) (view : Opened) (space : OldMapContent) (l : Listing) → IsBefore kind image view space → Contains view.listings l → Contains (objects_of view.listings) l.object
+  pub says : (kind : Kind) (image : List ℕ) (view : Opened) (space : OldMapContent) (l : Listing) → IsBefore kind image view space → Contains view.listings l
       → IsListing (reader_of image (Layout.Old space)) (Layout.Old space) l
-  pub child : (kind : Kind) (image : List ℕ) (view : Opened) (space : FreeSpace) (l : Listing) (o : Object) → IsBefore kind image view space → Contains view.listings l → Contains l.children o
+  pub child : (kind : Kind) (image : List ℕ) (view : Opened) (space : OldMapContent) (l : Listing) (o : Object) → IsBefore kind image view space → Contains view.listings l → Contains l.children o
       → Contains (objects_of view.listings) o
   -- A path of what it holds lies in it.
-  pub holds : (kind : Kind) (image : List ℕ) (view : Opened) (space : FreeSpace) (l : Listing) (o : Object) (path : Path) → IsBefore kind image view space → Contains view.listings l
+  pub holds : (kind : Kind) (image : List ℕ) (view : Opened) (space : OldMapContent) (l : Listing) (o : Object) (path : Path) → IsBefore kind image view space → Contains view.listings l
       → Contains l.children o → is_same_path path o.path ≡ true → is_same_path (holder path) l.object.path ≡ true
   -- Objects lie at their addresses, and apart from the map and the holes.
-  pub placed : (kind : Kind) (image : List ℕ) (view : Opened) (space : FreeSpace) (o : Object) → IsBefore kind image view space → Contains (objects_of view.listings) o → IsAt (Layout.Old space) o
-  pub no_map : (kind : Kind) (image : List ℕ) (view : Opened) (space : FreeSpace) (o : Object) → IsBefore kind image view space → Contains (objects_of view.listings) o
+  pub placed : (kind : Kind) (image : List ℕ) (view : Opened) (space : OldMapContent) (o : Object) → IsBefore kind image view space → Contains (objects_of view.listings) o → IsAt (Layout.Old space) o
+  pub no_map : (kind : Kind) (image : List ℕ) (view : Opened) (space : OldMapContent) (o : Object) → IsBefore kind image view space → Contains (objects_of view.listings) o
       → is_apart o.sectors (map_place (Layout.Old space)) ≡ true
-  pub no_hole : (kind : Kind) (image : List ℕ) (view : Opened) (space : FreeSpace) (o : Object) → IsBefore kind image view space → Contains (objects_of view.listings) o
+  pub no_hole : (kind : Kind) (image : List ℕ) (view : Opened) (space : OldMapContent) (o : Object) → IsBefore kind image view space → Contains (objects_of view.listings) o
       → is_apart o.sectors (hole_sectors (Layout.Old space)) ≡ true
   -- A directory is apart from the others.
-  pub others : (kind : Kind) (image : List ℕ) (view : Opened) (space : FreeSpace) (l k : Listing) (rest : List Listing) → IsBefore kind image view space → IsPermutation view.listings (l ∷ rest)
+  pub others : (kind : Kind) (image : List ℕ) (view : Opened) (space : OldMapContent) (l k : Listing) (rest : List Listing) → IsBefore kind image view space → IsPermutation view.listings (l ∷ rest)
       → Contains rest k → is_apart k.object.sectors l.object.sectors ≡ true
 
 -- ---- what may be written
@@ -48,33 +48,33 @@ pub record IsOfRewritten (view : Opened) (c : Command) (s : ℕ) : Type 0 where
   pub within : is_among object.sectors s ≡ true
 
 -- Each of these sectors was free, or lies in a directory that the command may rewrite.
-abbrev pub MayBeWritten : Opened → FreeSpace → Command → List ℕ → Type 0
+abbrev pub MayBeWritten : Opened → OldMapContent → Command → List ℕ → Type 0
 MayBeWritten view space c sectors = (s : ℕ) → is_among sectors s ≡ true → (is_among (hole_sectors (Layout.Old space)) s ≡ true) ⊎ IsOfRewritten view c s
 
 -- These sectors lie on the disc. They are none of an object other than a directory that the command may rewrite, and none of lost
 -- space.
-pub record AreSpared (view : Opened) (space : FreeSpace) (c : Command) (sectors : List ℕ) : Type 0 where
+pub record AreSpared (view : Opened) (space : OldMapContent) (c : Command) (sectors : List ℕ) : Type 0 where
   pub files : (o : Object) → Contains (objects_of view.listings) o → is_directory_object o ≡ false → is_apart o.sectors sectors ≡ true
   pub dirs : (o : Object) → Contains (objects_of view.listings) o → may_be_rewritten view c o.path ≡ false → is_apart o.sectors sectors ≡ true
   pub lost : is_apart (lost_sectors space (objects_of view.listings)) sectors ≡ true
   pub inside : (s : ℕ) → is_among sectors s ≡ true → s < disc_sectors (Layout.Old space)
 
 pub record PlacesLaw : Type 0 where
-  pub none : (view : Opened) (space : FreeSpace) (c : Command) → MayBeWritten view space c []
-  pub both : (view : Opened) (space : FreeSpace) (c : Command) (xs ys : List ℕ) → MayBeWritten view space c xs → MayBeWritten view space c ys → MayBeWritten view space c (xs ++ ys)
-  pub within : (view : Opened) (space : FreeSpace) (c : Command) (xs ys : List ℕ) → ((s : ℕ) → is_among xs s ≡ true → is_among ys s ≡ true) → MayBeWritten view space c ys
+  pub none : (view : Opened) (space : OldMapContent) (c : Command) → MayBeWritten view space c []
+  pub both : (view : Opened) (space : OldMapContent) (c : Command) (xs ys : List ℕ) → MayBeWritten view space c xs → MayBeWritten view space c ys → MayBeWritten view space c (xs ++ ys)
+  pub within : (view : Opened) (space : OldMapContent) (c : Command) (xs ys : List ℕ) → ((s : ℕ) → is_among xs s ≡ true → is_among ys s ≡ true) → MayBeWritten view space c ys
       → MayBeWritten view space c xs
   -- a directory that the command may rewrite
-  pub directory : (kind : Kind) (image : List ℕ) (view : Opened) (space : FreeSpace) (c : Command) (l : Listing) → IsBefore kind image view space → Contains view.listings l
+  pub directory : (kind : Kind) (image : List ℕ) (view : Opened) (space : OldMapContent) (c : Command) (l : Listing) → IsBefore kind image view space → Contains view.listings l
       → may_be_rewritten view c l.object.path ≡ true → MayBeWritten view space c l.object.sectors
   -- an object that is renamed, if it is a directory
-  pub own : (view : Opened) (space : FreeSpace) (c : Command) (o : Object) → Contains (objects_of view.listings) o
+  pub own : (view : Opened) (space : OldMapContent) (c : Command) (o : Object) → Contains (objects_of view.listings) o
       → may_be_rewritten view c o.path ≡ true → MayBeWritten view space c (if is_directory_object o then o.sectors else [])
   -- a new directory of n bytes, and a new file
-  pub fitted : (kind : Kind) (image : List ℕ) (view : Opened) (space : FreeSpace) (c : Command) (n : ℕ) (o : Object) → IsBefore kind image view space
+  pub fitted : (kind : Kind) (image : List ℕ) (view : Opened) (space : OldMapContent) (c : Command) (n : ℕ) (o : Object) → IsBefore kind image view space
       → object_size (dir_form (Layout.Old space)) o.entry ≡ n → IsAt (Layout.Old space) o → IsFirstFitted space n o → MayBeWritten view space c o.sectors
-  pub file : (kind : Kind) (image : List ℕ) (view : Opened) (space : FreeSpace) (c : Command) (n : ℕ) (o : Object) → IsBefore kind image view space
+  pub file : (kind : Kind) (image : List ℕ) (view : Opened) (space : OldMapContent) (c : Command) (n : ℕ) (o : Object) → IsBefore kind image view space
       → object_size (dir_form (Layout.Old space)) o.entry ≡ n → IsAt (Layout.Old space) o → IsFileAt space n o → MayBeWritten view space c o.sectors
   -- what such sectors are apart from
-  pub spared : (kind : Kind) (image : List ℕ) (view : Opened) (space : FreeSpace) (c : Command) (sectors : List ℕ) → IsBefore kind image view space → MayBeWritten view space c sectors
+  pub spared : (kind : Kind) (image : List ℕ) (view : Opened) (space : OldMapContent) (c : Command) (sectors : List ℕ) → IsBefore kind image view space → MayBeWritten view space c sectors
       → AreSpared view space c sectors

@@ -4,7 +4,7 @@ use Rattle.std.specs.Option.{option_to_list}
 use Rattle.fc_names.specs.Names.{Path, folded_path, is_same_path}
 use Rattle.fc_record.specs.declared.Kind.{Kind}
 use Rattle.fc_oldmap.specs.declared.Hole.{Hole}
-use Rattle.fc_oldmap.specs.OldMap.{FreeSpace}
+use Rattle.fc_oldmap.specs.OldMap.{OldMapContent}
 use Rattle.fc_model.specs.Tree.{is_prefix, last_name}
 use Rattle.fc_model.specs.Command.{Command}
 use Rattle.fc_dirs.specs.Entries.{has_name, with_entry, without_entry}
@@ -29,14 +29,14 @@ use Rattle.fc_oldlaws.specs.takeover.Laws.{TakesOver}
 use Rattle.fc_oldlaws.specs.takeover.Writes.{IsMapStep, IsObjectStep}
 
 -- One step: directory l, which says `content` from now on, is written to its old place.
-pub record IsDirectoryStep (space : FreeSpace) (v : Opened) (c : Command) (l : Listing) (content : Directory) (image image' : List ℕ) : Type 0 where
+pub record IsDirectoryStep (space : OldMapContent) (v : Opened) (c : Command) (l : Listing) (content : Directory) (image image' : List ℕ) : Type 0 where
   pub says : IsRewritten c l.object.path (holder_address v.listings l.object.path) l.content content
   pub step : IsObjectStep space l.object.sectors image image'
   pub bytes : AreWritten (object_bytes image' (Layout.Old space) l.object) content
 
 -- ---- set, mark
 
-pub record IsRewordedInSteps (image image' : List ℕ) (v : Opened) (space : FreeSpace) (c : Command) (rest : List Listing) (l : Listing) (content : Directory) (i : ℕ) (o : Object)
+pub record IsRewordedInSteps (image image' : List ℕ) (v : Opened) (space : OldMapContent) (c : Command) (rest : List Listing) (l : Listing) (content : Directory) (i : ℕ) (o : Object)
     (g : Object → Object) : Type 0 where
   pub found : IsPermutation v.listings (l ∷ rest)
   pub at : slice_get l.children i ≡ Some o
@@ -46,7 +46,7 @@ pub record IsRewordedInSteps (image image' : List ℕ) (v : Opened) (space : Fre
 -- ---- delete
 
 -- The directory is written first, and then the map with the old space.
-pub record IsDeletedInSteps (image mid image' : List ℕ) (v : Opened) (space : FreeSpace) (holes : List Hole) (path : Path) (out rest : List Listing) (l : Listing) (content : Directory) (i : ℕ)
+pub record IsDeletedInSteps (image mid image' : List ℕ) (v : Opened) (space : OldMapContent) (holes : List Hole) (path : Path) (out rest : List Listing) (l : Listing) (content : Directory) (i : ℕ)
     (o : Object) (stay : List Object) : Type 0 where
   pub found : IsPermutation v.listings (out ++ l ∷ rest)
   pub at : slice_get l.children i ≡ Some o
@@ -61,11 +61,11 @@ pub record IsDeletedInSteps (image mid image' : List ℕ) (v : Opened) (space : 
 -- ---- save, create
 
 -- the holes after n bytes are taken
-abbrev pub holes_taken : FreeSpace → ℕ → List Hole
+abbrev pub holes_taken : OldMapContent → ℕ → List Hole
 holes_taken space n = holes_without (old_need space n) space.holes
 
 -- The bytes are written first, then the map without the new space, the directory, and the map with the old space.
-pub record IsFiledInSteps (image stored taken named image' : List ℕ) (v : Opened) (space : FreeSpace) (holes : List Hole) (c : Command) (path : Path) (load exec : ℕ) (bytes : List ℕ)
+pub record IsFiledInSteps (image stored taken named image' : List ℕ) (v : Opened) (space : OldMapContent) (holes : List Hole) (c : Command) (path : Path) (load exec : ℕ) (bytes : List ℕ)
     (rest : List Listing) (l : Listing) (content : Directory) (i : ℕ) (old : Option Object) (o : Object) (stay : List Object) : Type 0 where
   pub command : MakesFile c path load exec bytes
   pub found : IsPermutation v.listings (l ∷ rest)
@@ -89,7 +89,7 @@ pub record IsFiledInSteps (image stored taken named image' : List ℕ) (v : Open
 -- ---- cdir
 
 -- The new directory is written first, then the map without its space, and then the directory that holds it.
-pub record IsMadeInSteps (image stored taken image' : List ℕ) (v : Opened) (space : FreeSpace) (holes : List Hole) (path : Path) (rest : List Listing) (l : Listing) (content : Directory)
+pub record IsMadeInSteps (image stored taken image' : List ℕ) (v : Opened) (space : OldMapContent) (holes : List Hole) (path : Path) (rest : List Listing) (l : Listing) (content : Directory)
     (d : Listing) : Type 0 where
   pub found : IsPermutation v.listings (l ∷ rest)
   pub free : object_at v.listings path ≡ None
@@ -115,7 +115,7 @@ pub record IsMadeInSteps (image stored taken image' : List ℕ) (v : Opened) (sp
 -- ---- rename
 
 -- The directory is written first, and then the object, if it is a directory.
-pub record IsRenamedInSteps (image named image' : List ℕ) (v : Opened) (space : FreeSpace) (from to : Path) (rest : List Listing) (l : Listing) (content : Directory) (i : ℕ) (o : Object)
+pub record IsRenamedInSteps (image named image' : List ℕ) (v : Opened) (space : OldMapContent) (from to : Path) (rest : List Listing) (l : Listing) (content : Directory) (i : ℕ) (o : Object)
     (now : Directory) : Type 0 where
   pub found : IsPermutation v.listings (l ∷ rest)
   pub at : slice_get l.children i ≡ Some o
@@ -129,7 +129,7 @@ pub record IsRenamedInSteps (image named image' : List ℕ) (v : Opened) (space 
       × AreWritten (object_bytes image' (Layout.Old space) d.object) now × (entries_of now ≡ entries_of d.content)
 
 -- Directory l is written first, then the object, if it is a directory, and then directory k, from which it goes.
-pub record IsMovedInSteps (image named turned image' : List ℕ) (v : Opened) (space : FreeSpace) (from to : Path) (rest : List Listing) (k l : Listing) (k_content l_content : Directory) (i : ℕ)
+pub record IsMovedInSteps (image named turned image' : List ℕ) (v : Opened) (space : OldMapContent) (from to : Path) (rest : List Listing) (k l : Listing) (k_content l_content : Directory) (i : ℕ)
     (o : Object) (now : Directory) : Type 0 where
   pub found : IsPermutation v.listings (k ∷ l ∷ rest)
   pub at : slice_get k.children i ≡ Some o
@@ -148,44 +148,44 @@ pub record IsMovedInSteps (image named turned image' : List ℕ) (v : Opened) (s
 -- ---- after the steps
 
 pub record StepsLaw : Type 0 where
-  pub set : (kind : Kind) (image image' : List ℕ) (v : Opened) (space : FreeSpace) (rest : List Listing) (l : Listing) (content : Directory) (i : ℕ) (o : Object) (path : Path)
+  pub set : (kind : Kind) (image image' : List ℕ) (v : Opened) (space : OldMapContent) (rest : List Listing) (l : Listing) (content : Directory) (i : ℕ) (o : Object) (path : Path)
       (load exec access : ℕ) (nodes nodes' : Nodes) (listings' : List Listing) (owners' : List Owner) (dir number : ℕ) → access < 8 → is_same_path path o.path ≡ true → IsBefore kind image v space
       → IsRewordedInSteps image image' v space (Command.Set path load exec access) rest l content i o (set_object o.path load exec access)
       → IsReworded nodes nodes' v.listings listings' rest l content i o dir number (set_object o.path load exec access)
       → PartsFollow nodes' owners' (Layout.Old space) listings' → TakesOver kind image image' v (Command.Set path load exec access) space nodes' owners'
-  pub mark : (kind : Kind) (image image' : List ℕ) (v : Opened) (space : FreeSpace) (rest : List Listing) (l : Listing) (content : Directory) (i : ℕ) (o : Object) (path : Path) (attrs : ℕ)
+  pub mark : (kind : Kind) (image image' : List ℕ) (v : Opened) (space : OldMapContent) (rest : List Listing) (l : Listing) (content : Directory) (i : ℕ) (o : Object) (path : Path) (attrs : ℕ)
       (nodes nodes' : Nodes) (listings' : List Listing) (owners' : List Owner) (dir number : ℕ) → is_same_path path o.path ≡ true → IsBefore kind image v space
       → IsRewordedInSteps image image' v space (Command.Mark path attrs) rest l content i o (mark_object o.path attrs)
       → IsReworded nodes nodes' v.listings listings' rest l content i o dir number (mark_object o.path attrs)
       → PartsFollow nodes' owners' (Layout.Old space) listings' → TakesOver kind image image' v (Command.Mark path attrs) space nodes' owners'
-  pub deleted : (kind : Kind) (image mid image' : List ℕ) (v : Opened) (space : FreeSpace) (holes : List Hole) (path : Path) (out rest : List Listing) (l : Listing) (content : Directory) (i : ℕ)
+  pub deleted : (kind : Kind) (image mid image' : List ℕ) (v : Opened) (space : OldMapContent) (holes : List Hole) (path : Path) (out rest : List Listing) (l : Listing) (content : Directory) (i : ℕ)
       (o : Object) (stay : List Object) (nodes nodes' : Nodes) (listings' : List Listing) (owners' : List Owner) (dir number : ℕ) → IsBefore kind image v space
       → IsDeletedInSteps image mid image' v space holes path out rest l content i o stay
       → IsRemoved nodes nodes' v.listings listings' out rest l content i o dir number
       → PartsFollow nodes' owners' (Layout.Old (holding space holes)) listings' → TakesOver kind image image' v (Command.Delete path) (holding space holes) nodes' owners'
-  pub added : (kind : Kind) (image stored taken named image' : List ℕ) (v : Opened) (space : FreeSpace) (holes : List Hole) (c : Command) (path : Path) (load exec : ℕ) (bytes : List ℕ)
+  pub added : (kind : Kind) (image stored taken named image' : List ℕ) (v : Opened) (space : OldMapContent) (holes : List Hole) (c : Command) (path : Path) (load exec : ℕ) (bytes : List ℕ)
       (rest : List Listing) (l : Listing) (content : Directory) (i j : ℕ) (o : Object) (stay : List Object) (nodes nodes' : Nodes) (listings' : List Listing) (owners' : List Owner)
       (dir number : ℕ) → IsBefore kind image v space
       → IsFiledInSteps image stored taken named image' v space holes c path load exec bytes rest l content i None o stay
       → IsAdded nodes nodes' v.listings listings' rest l content j o dir number
       → PartsFollow nodes' owners' (Layout.Old (holding space holes)) listings' → TakesOver kind image image' v c (holding space holes) nodes' owners'
-  pub replaced : (kind : Kind) (image stored taken named image' : List ℕ) (v : Opened) (space : FreeSpace) (holes : List Hole) (c : Command) (path : Path) (load exec : ℕ) (bytes : List ℕ)
+  pub replaced : (kind : Kind) (image stored taken named image' : List ℕ) (v : Opened) (space : OldMapContent) (holes : List Hole) (c : Command) (path : Path) (load exec : ℕ) (bytes : List ℕ)
       (rest : List Listing) (l : Listing) (content : Directory) (i : ℕ) (p o : Object) (stay : List Object) (nodes nodes' : Nodes) (listings' : List Listing) (owners' : List Owner)
       (dir number : ℕ) → IsBefore kind image v space
       → IsFiledInSteps image stored taken named image' v space holes c path load exec bytes rest l content i (Some p) o stay
       → IsReplaced nodes nodes' v.listings listings' rest l content i p o dir number
       → PartsFollow nodes' owners' (Layout.Old (holding space holes)) listings' → TakesOver kind image image' v c (holding space holes) nodes' owners'
-  pub made : (kind : Kind) (image stored taken image' : List ℕ) (v : Opened) (space : FreeSpace) (holes : List Hole) (path : Path) (rest : List Listing) (l : Listing) (content : Directory)
+  pub made : (kind : Kind) (image stored taken image' : List ℕ) (v : Opened) (space : OldMapContent) (holes : List Hole) (path : Path) (rest : List Listing) (l : Listing) (content : Directory)
       (j : ℕ) (d : Listing) (nodes nodes' : Nodes) (listings' : List Listing) (owners' : List Owner) (dir number : ℕ) → IsBefore kind image v space
       → IsMadeInSteps image stored taken image' v space holes path rest l content d
       → IsDirectoryAdded nodes nodes' v.listings listings' rest l content j d dir number
       → PartsFollow nodes' owners' (Layout.Old (holding space holes)) listings' → TakesOver kind image image' v (Command.Cdir path) (holding space holes) nodes' owners'
-  pub renamed : (kind : Kind) (image named image' : List ℕ) (v : Opened) (space : FreeSpace) (from to : Path) (rest : List Listing) (l : Listing) (content : Directory) (i j : ℕ) (o : Object)
+  pub renamed : (kind : Kind) (image named image' : List ℕ) (v : Opened) (space : OldMapContent) (from to : Path) (rest : List Listing) (l : Listing) (content : Directory) (i j : ℕ) (o : Object)
       (now : Directory) (nodes nodes' : Nodes) (listings' : List Listing) (owners' : List Owner) (dir number : ℕ) → IsBefore kind image v space
       → IsRenamedInSteps image named image' v space from to rest l content i o now
       → IsRenamed nodes nodes' v.listings listings' rest l content i j o dir number (last_name to) now
       → PartsFollow nodes' owners' (Layout.Old space) listings' → TakesOver kind image image' v (Command.Rename from to) space nodes' owners'
-  pub moved : (kind : Kind) (image named turned image' : List ℕ) (v : Opened) (space : FreeSpace) (from to : Path) (rest : List Listing) (k l : Listing) (k_content l_content : Directory)
+  pub moved : (kind : Kind) (image named turned image' : List ℕ) (v : Opened) (space : OldMapContent) (from to : Path) (rest : List Listing) (k l : Listing) (k_content l_content : Directory)
       (i j : ℕ) (o : Object) (now : Directory) (nodes nodes' : Nodes) (listings' : List Listing) (owners' : List Owner) (from_dir dir number : ℕ) → IsBefore kind image v space
       → IsMovedInSteps image named turned image' v space from to rest k l k_content l_content i o now
       → IsTransferred nodes nodes' v.listings listings' rest k l k_content l_content i j o from_dir dir number (last_name to) now

@@ -2,7 +2,7 @@
 ghost use Rattle.std.specs.Prelude.{◌≡◌, ◌<◌, ◌^◌, ◌++◌, IfOk, IsPermutation, OnOk};
 ghost use Rattle.std.specs.FinMap.{get};
 ghost use Rattle.fc_image.specs.Layout.{Layout};
-ghost use Rattle.fc_oldmap.specs.OldMap.{FreeSpace};
+ghost use Rattle.fc_oldmap.specs.OldMap.{OldMapContent};
 ghost use Rattle.fc_oldlaws.specs.moves.After.{start_after};
 ghost use Rattle.fc_oldlaws.specs.moves.Nodes.{sliding_at, sliding_below, units_in};
 ghost use Rattle.fc_space.specs.Space.{layout_of};
@@ -58,7 +58,7 @@ impl Moves {
 // The units that the object of an entry takes.
 fn units_of(space: &Space, e: &Entry) -> u64
     requires { IsOldLayout (layout_of space.now) }
-    ensures units { (disc : FreeSpace) → layout_of space.now ≡ Layout.Old disc → result ≡ units_in disc e.now }
+    ensures units { (disc : OldMapContent) → layout_of space.now ≡ Layout.Old disc → result ≡ units_in disc e.now }
     ensures few { result < 2 ^ 32 }
 {
     let _len = e.len;
@@ -75,7 +75,7 @@ fn units_of(space: &Space, e: &Entry) -> u64
 // Adds the object of a node, if it slides.
 fn add(owned: &mut Vec<Owned>, space: &Space, n: u64, node: &Node) -> Result<(), NoMemory>
     requires { IsOldLayout (layout_of space.now) }
-    ensures { OnOk result ((disc : FreeSpace) → layout_of space.now ≡ Layout.Old disc → owned.new.items ≡ owned.old.items ++ sliding_at disc n (Some node.now)) }
+    ensures { OnOk result ((disc : OldMapContent) → layout_of space.now ≡ Layout.Old disc → owned.new.items ≡ owned.old.items ++ sliding_at disc n (Some node.now)) }
 {
     let len = units_of(space, &node.entry);
     if n == 0 || len == 0 {
@@ -95,7 +95,7 @@ fn add(owned: &mut Vec<Owned>, space: &Space, n: u64, node: &Node) -> Result<(),
 // Adds the object of a number's node, if one has it and it slides.
 fn add_number(owned: &mut Vec<Owned>, space: &Space, tree: &Tree, n: u64) -> Result<(), NoMemory>
     requires { IsOldLayout (layout_of space.now) }
-    ensures { OnOk result ((disc : FreeSpace) → layout_of space.now ≡ Layout.Old disc → owned.new.items ≡ owned.old.items ++ sliding_at disc n (get (nodes_of tree.now) n)) }
+    ensures { OnOk result ((disc : OldMapContent) → layout_of space.now ≡ Layout.Old disc → owned.new.items ≡ owned.old.items ++ sliding_at disc n (get (nodes_of tree.now) n)) }
 {
     match tree.node(n) {
         None => Ok(()),
@@ -106,7 +106,7 @@ fn add_number(owned: &mut Vec<Owned>, space: &Space, tree: &Tree, n: u64) -> Res
 // All objects that slide, in the order of their nodes.
 fn sliding(alloc: Global, tree: &Tree, space: &Space) -> Result<Vec<Owned>, NoMemory>
     requires { IsOldLayout (layout_of space.now) }
-    ensures { IfOk result (λ owned. (disc : FreeSpace) → layout_of space.now ≡ Layout.Old disc → owned.items ≡ sliding_below disc (nodes_of tree.now) (bound_of tree.now)) }
+    ensures { IfOk result (λ owned. (disc : OldMapContent) → layout_of space.now ≡ Layout.Old disc → owned.items ≡ sliding_below disc (nodes_of tree.now) (bound_of tree.now)) }
 {
     let mut owned = Vec::new(alloc);
     for n in 0..tree.bound() {
@@ -118,7 +118,7 @@ fn sliding(alloc: Global, tree: &Tree, space: &Space) -> Result<Vec<Owned>, NoMe
 /// All objects with sectors but the root, sorted by where they begin.
 pub fn sorted_objects(alloc: Global, tree: &Tree, space: &Space) -> Result<Vec<Owned>, NoMemory>
     requires { IsOldLayout (layout_of space.now) }
-    ensures all { IfOk result (λ owned. (disc : FreeSpace) → layout_of space.now ≡ Layout.Old disc → IsPermutation (sliding_below disc (nodes_of tree.now) (bound_of tree.now)) owned.items) }
+    ensures all { IfOk result (λ owned. (disc : OldMapContent) → layout_of space.now ≡ Layout.Old disc → IsPermutation (sliding_below disc (nodes_of tree.now) (bound_of tree.now)) owned.items) }
     ensures sorted { IfOk result (λ owned. AreSorted owned.items) }
 {
     let mut owned = sliding(alloc, tree, space)?;

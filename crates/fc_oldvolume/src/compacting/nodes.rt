@@ -2,7 +2,7 @@
 ghost use Rattle.std.specs.Prelude.{◌≡◌, ◌<◌, Some, length, slice_get};
 ghost use Rattle.fc_image.specs.Layout.{Layout, dir_form};
 ghost use Rattle.fc_laws.specs.nodes.Edits.{with_edited};
-ghost use Rattle.fc_oldmap.specs.OldMap.{FreeSpace};
+ghost use Rattle.fc_oldmap.specs.OldMap.{OldMapContent};
 ghost use Rattle.fc_oldlaws.specs.moves.After.{start_after};
 ghost use Rattle.fc_oldlaws.specs.moves.Nodes.{AreRemade};
 ghost use Rattle.fc_space.specs.Space.{layout_of};
@@ -60,7 +60,7 @@ fn owner_at(owners: &Owners, k: usize) -> Owner
 fn remake(owners: &mut Owners, k: usize, tree: &Tree, space: &Space)
     requires old_map { IsOldLayout (layout_of space.now) }
     requires there { k < length owners.old }
-    ensures made { (disc : FreeSpace) → layout_of space.now ≡ Layout.Old disc → IsRemade disc (nodes_of tree.now) owners.old owners.new k }
+    ensures made { (disc : OldMapContent) → layout_of space.now ≡ Layout.Old disc → IsRemade disc (nodes_of tree.now) owners.old owners.new k }
     ensures long { length owners.new ≡ length owners.old }
 {
     let owner = owner_at(owners, k);
@@ -73,7 +73,7 @@ fn remake(owners: &mut Owners, k: usize, tree: &Tree, space: &Space)
 /// Each owner is as its node is now.
 pub fn remake_owners(owners: &mut Owners, tree: &Tree, space: &Space)
     requires { IsOldLayout (layout_of space.now) }
-    ensures { (disc : FreeSpace) → layout_of space.now ≡ Layout.Old disc → AreRemade disc (nodes_of tree.now) owners.old owners.new }
+    ensures { (disc : OldMapContent) → layout_of space.now ≡ Layout.Old disc → AreRemade disc (nodes_of tree.now) owners.old owners.new }
 {
     for k in 0..owners.list().len() {
         remake(owners, k, tree, space);

@@ -7,7 +7,7 @@ use Rattle.std.proofs.lemmas.List.Sums.{sum_by-cons}
 use Rattle.fc_names.specs.declared.refusal.Refusal.TheVariants as refusals
 use Rattle.fc_oldmap.specs.declared.Hole.{Hole}
 use Rattle.fc_oldmap.specs.Holes.{hole_limit, hole_sum, first_fit_place}
-use Rattle.fc_oldmap.specs.OldMap.{FreeSpace}
+use Rattle.fc_oldmap.specs.OldMap.{OldMapContent}
 use Rattle.fc_model.specs.Command.{Command}
 use Rattle.fc_model.specs.Answer.{when, first_of}
 use Rattle.fc_image.specs.Layout.{Layout}
@@ -19,7 +19,7 @@ use Rattle.fc_image.specs.effects.Settled.{is_settled, is_settled_space}
 use Rattle.fc_image.specs.effects.Laws.{OldMapCompactedLaw}
 use Rattle.fc_image.proofs.lemmas.effects.OneHoleLemmas.{one_hole_law}
 
-settled_old : (v : Opened) (space : FreeSpace) → v.layout ≡ Layout.Old space → is_settled v ≡ true → is_settled_space space (objects_of v.listings) ≡ true
+settled_old : (v : Opened) (space : OldMapContent) → v.layout ≡ Layout.Old space → is_settled v ≡ true → is_settled_space space (objects_of v.listings) ≡ true
 settled_old v space is e = subst (λ (l : Layout). is_settled (record v { layout = l }) ≡ true) is e
 
 -- one hole that isn't long enough is too short in all
@@ -48,7 +48,7 @@ too_short need (h ∷ []) few e = by (nat_le need h.len) refl e
 too_short need (h ∷ g ∷ holes) few e = absurd (omega (arith, few))
 
 -- the refusals in their order
-not_required : (full : Bool) (space : FreeSpace) (need : ℕ) (after : List Hole) → length space.holes ≤ 1
+not_required : (full : Bool) (space : OldMapContent) (need : ℕ) (after : List Hole) → length space.holes ≤ 1
     → first_of (when full refusals.DirFull ∷ when (nat_lt (hole_sum space.holes) need) refusals.DiscFull
     ∷ when (nat_lt 0 need && is_none (first_fit_place need space.holes)) refusals.CompactionRequired
     ∷ when (nat_lt hole_limit (length after)) refusals.MapFull ∷ []) ≡ Some refusals.CompactionRequired → ⊥
@@ -63,7 +63,7 @@ not_required full space need after few e =
     by false false false true f g e = cc
     by false false false false f g e = cc
 
-none_required : (v : Opened) (space : FreeSpace) (c : Command) → v.layout ≡ Layout.Old space → length space.holes ≤ 1 → short v c ≡ Some refusals.CompactionRequired → ⊥
+none_required : (v : Opened) (space : OldMapContent) (c : Command) → v.layout ≡ Layout.Old space → length space.holes ≤ 1 → short v c ≡ Some refusals.CompactionRequired → ⊥
 unfolding short
 none_required v space c is few e =
     not_required (option_map_or (λ gain. is_full_with gain.listing.content gain) (gain_in v c) false) space (old_need space (new_length v c)) (old_holes_after space v c) few

@@ -7,7 +7,7 @@ use Rattle.std.proofs.lemmas.Bool.Decides.{nat_tests}
 use Rattle.std.proofs.lemmas.List.Folds.{list_any-append}
 use Rattle.fc_oldmap.specs.declared.Hole.{Hole}
 use Rattle.fc_oldmap.specs.Holes.{hole_end, IsHole, AreHoles}
-use Rattle.fc_oldmap.specs.OldMap.{FreeSpace, map_units}
+use Rattle.fc_oldmap.specs.OldMap.{OldMapContent, map_units}
 use Rattle.fc_image.specs.Layout.{Layout, hole_sectors, hole_sectors_in, is_among, map_place}
 use Rattle.fc_image.specs.Walk.{Object}
 use Rattle.fc_image.specs.Objects.{has_sectors}
@@ -206,7 +206,7 @@ has_some (x ∷ l) s e = lt-ltb 0 (length (x ∷ l)) (omega arith)
 
 -- ---- the sector behind a hole, if another hole comes later and none touches it
 
-module _ (space : FreeSpace) (h : Hole) (rest : List Hole) (units : (space.sector_units ≡ 1) ⊎ (space.sector_units ≡ 4))
+module _ (space : OldMapContent) (h : Hole) (rest : List Hole) (units : (space.sector_units ≡ 1) ⊎ (space.sector_units ≡ 4))
     (is : IsHole space.disc_units space.sector_units 0 h) (all : Every (IsHole space.disc_units space.sector_units 0) rest)
     (same : space.holes ≡ h ∷ rest) (low : map_units space.sector_units ≤ h.start) (far : Every (λ g. hole_end h < g.start) rest) where
   abbrev u : ℕ
@@ -267,7 +267,7 @@ module _ (space : FreeSpace) (h : Hole) (rest : List Hole) (units : (space.secto
 
 -- ---- the law
 
-one_hole_of : (space : FreeSpace) (objects : List Object) (holes : List Hole) → space.holes ≡ holes → (space.sector_units ≡ 1) ⊎ (space.sector_units ≡ 4)
+one_hole_of : (space : OldMapContent) (objects : List Object) (holes : List Hole) → space.holes ≡ holes → (space.sector_units ≡ 1) ⊎ (space.sector_units ≡ 4)
     → AreHoles space.disc_units space.sector_units (map_units space.sector_units) holes
     → Every (λ o. has_sectors o ≡ true → LiesOnOldMap space o) objects
     → lost_sectors space objects ≡ [] → are_apart holes ≡ true → list_all (λ h. not (is_object_start objects (hole_end h))) holes ≡ true → length holes ≤ 1

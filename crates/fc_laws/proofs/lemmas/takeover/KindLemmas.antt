@@ -7,7 +7,7 @@ use Rattle.fc_device.specs.Sectors.{sector_at}
 use Rattle.fc_record.specs.declared.DiscRecord.{DiscRecord}
 use Rattle.fc_record.specs.declared.Kind.{Kind}
 use Rattle.fc_record.specs.declared.Kind.TheVariants.{Boot, OneZone, DiscD, DiscL}
-use Rattle.fc_oldmap.specs.OldMap.{FreeSpace, free_space, hole_fault}
+use Rattle.fc_oldmap.specs.OldMap.{OldMapContent, free_space, hole_fault}
 use Rattle.fc_newmap.specs.Map.{Map, map_sectors}
 use Rattle.fc_newmap.proofs.PlaceLemmas.{in_back, in_range}
 use Rattle.fc_copies.specs.Copies.{ChangesCopies}
@@ -22,7 +22,7 @@ use Rattle.fc_changes.proofs.BasicLemmas.{clash}
 
 -- ---- the kind
 
-pub old_never : (space : FreeSpace) (address size : ℕ) (fault : Option ℕ) (found : MapAndRoot) (m : Map) → holes_or (Layout.Old space, address, size) fault ≡ Ok found → found.0 ≡ Layout.New m → ⊥
+pub old_never : (space : OldMapContent) (address size : ℕ) (fault : Option ℕ) (found : MapAndRoot) (m : Map) → holes_or (Layout.Old space, address, size) fault ≡ Ok found → found.0 ≡ Layout.New m → ⊥
 old_never space address size None found m e new =
     let is : Layout.Old space ≡ found.0 = first (Layout.Old space, address, size) found e in
     let both : Layout.Old space ≡ Layout.New m = is ∙ new in

@@ -7,7 +7,7 @@ use Rattle.std.proofs.lemmas.List.Sorted.{Contains-permutation, IsPermutation-re
 use Rattle.fc_record.specs.declared.Kind.{Kind}
 use Rattle.fc_oldmap.specs.declared.Hole.{Hole}
 use Rattle.fc_oldmap.specs.Holes.{after_take}
-use Rattle.fc_oldmap.specs.OldMap.{FreeSpace}
+use Rattle.fc_oldmap.specs.OldMap.{OldMapContent}
 use Rattle.fc_dirs.specs.declared.Entry.{Entry}
 use Rattle.fc_dirs.specs.Directory.{directory_size, entries_of}
 use Rattle.fc_alloc.specs.declared.owner.Owner.{Owner}
@@ -44,7 +44,7 @@ none_object : (b : Object) → (let q : Option Object = None in q) ≡ Some b �
 none_object b h = cc
 
 -- where a file of n bytes lies
-file_place : (kind : Kind) (space : FreeSpace) (objects : List Object) (s : AreSpaced kind space objects) (n : ℕ) (o : Object) → object_size (dir_form (Layout.Old space)) o.entry ≡ n → IsAt (Layout.Old space) o
+file_place : (kind : Kind) (space : OldMapContent) (objects : List Object) (s : AreSpaced kind space objects) (n : ℕ) (o : Object) → object_size (dir_form (Layout.Old space)) o.entry ≡ n → IsAt (Layout.Old space) o
     → IsFileAt space n o → IsNewPlace kind space objects s o (holes_without (old_need space n) space.holes)
 file_place kind space objects s n o size at (inl new) =
     subst (λ (b : Bool). IsNewPlace kind space objects s o (cond b space.holes (after_take (old_need space n) space.holes))) (sym (need_some space n s.units new.0)) (new_place kind space objects s n o size at new.1)
@@ -62,7 +62,7 @@ file_place kind space objects s n o size at (inr empty) =
 
 -- ---- the directory with a new object, in the place of another or beside all
 
-module _ (kind : Kind) (space : FreeSpace) (holes : List Hole) (nodes : Nodes) (owners : List Owner) (root : Node) (listings rest : List Listing) (l : Listing) (a : AgreeOn kind space nodes owners root listings)
+module _ (kind : Kind) (space : OldMapContent) (holes : List Hole) (nodes : Nodes) (owners : List Owner) (root : Node) (listings rest : List Listing) (l : Listing) (a : AgreeOn kind space nodes owners root listings)
     (found : IsPermutation listings (l ∷ rest)) (old : Option Object) (kids : List Object) (holds : IsPermutation l.children (option_to_list old ++ kids)) (old_file : [] ≡ directories (option_to_list old))
     (old_in : (p : Object) → old ≡ Some p → Contains (objects_of listings) p) (n : ℕ) (o : Object)
     (place : IsNewPlace kind space (objects_of listings) (spaced_parts kind space nodes owners root listings a) o (holes_without (old_need space n) space.holes))

@@ -7,7 +7,7 @@ use Rattle.std.proofs.lemmas.List.Sorted.{Contains-permutation, IsPermutation-ap
 use Rattle.fc_record.specs.declared.Kind.{Kind}
 use Rattle.fc_newmap.proofs.PlaceLemmas.{in_back, in_either, in_front}
 use Rattle.fc_oldmap.specs.declared.Hole.{Hole}
-use Rattle.fc_oldmap.specs.OldMap.{FreeSpace}
+use Rattle.fc_oldmap.specs.OldMap.{OldMapContent}
 use Rattle.fc_dirs.specs.declared.Entry.{Entry}
 use Rattle.fc_dirs.specs.Directory.{Directory, entries_of}
 use Rattle.fc_alloc.specs.declared.owner.Owner.{Owner}
@@ -38,13 +38,13 @@ use Rattle.fc_laws.proofs.lemmas.agree.WalkedLemmas.{Had, had, object_lies, says
 use Rattle.fc_oldlaws.proofs.lemmas.agree.EditLemmas.{agreed_after}
 use Rattle.fc_laws.proofs.lemmas.agree.RemovedLemmas.{gone_held, gone_listed}
 
-pub spaced_parts : (kind : Kind) (space : FreeSpace) (nodes : Nodes) (owners : List Owner) (root : Node) (listings : List Listing) → AgreeOn kind space nodes owners root listings → AreSpaced kind space (objects_of listings)
+pub spaced_parts : (kind : Kind) (space : OldMapContent) (nodes : Nodes) (owners : List Owner) (root : Node) (listings : List Listing) → AgreeOn kind space nodes owners root listings → AreSpaced kind space (objects_of listings)
 spaced_parts kind space nodes owners root listings a = record { units = a.is_map.units; holes = a.holes; lies = object_lies kind (Layout.Old space) nodes root listings a.walked }
 
 -- The objects `gone` leave directory l and `come` enter it; what holes there are now were holes or are of `gone`.
 pub record Cut : Type 0 where
   pub kind : Kind
-  pub space : FreeSpace
+  pub space : OldMapContent
   pub holes : List Hole
   pub nodes : Nodes
   pub owners : List Owner
@@ -212,7 +212,7 @@ module _ (e : Cut) where
 some_object : (a b : Object) → (let q : Option Object = Some a in q) ≡ Some b → a ≡ b
 some_object a b h = cc
 
-pub child_object : (kind : Kind) (space : FreeSpace) (nodes : Nodes) (owners : List Owner) (root : Node) (listings : List Listing) → AgreeOn kind space nodes owners root listings
+pub child_object : (kind : Kind) (space : OldMapContent) (nodes : Nodes) (owners : List Owner) (root : Node) (listings : List Listing) → AgreeOn kind space nodes owners root listings
     → (l : Listing) (i : ℕ) (o : Object) → Contains listings l → slice_get l.children i ≡ Some o → Contains (objects_of listings) o
 child_object kind space nodes owners root listings a l i o at child =
     subst (λ (os : List Object). Contains os o) (sym (had kind (Layout.Old space) nodes root listings a.walked).objects)

@@ -3,7 +3,7 @@ use Rattle.std.proofs.Common.{◌≡◌, ◌≤◌, ◌+◌, List, ◌∷◌, �
 use Rattle.std.specs.Prelude.{Contains}
 use Rattle.fc_record.specs.declared.Kind.{Kind}
 use Rattle.fc_oldmap.specs.declared.Hole.{Hole}
-use Rattle.fc_oldmap.specs.OldMap.{FreeSpace}
+use Rattle.fc_oldmap.specs.OldMap.{OldMapContent}
 use Rattle.fc_alloc.specs.declared.owner.Owner.{Owner}
 use Rattle.fc_image.specs.Layout.{Layout, dir_form}
 use Rattle.fc_image.specs.Walk.{Listing, Object}
@@ -21,7 +21,7 @@ use Rattle.fc_laws.proofs.lemmas.agree.WalkedLemmas.{Had, had, root_size}
 use Rattle.fc_laws.proofs.lemmas.agree.WalkEditLemmas.{walked_after}
 use Rattle.fc_oldlaws.proofs.lemmas.agree.RoomLemmas.{room}
 
-module _ (kind : Kind) (space : FreeSpace) (holes : List Hole) (nodes nodes' : Nodes) (owners owners' : List Owner) (root : Node) (listings listings' : List Listing)
+module _ (kind : Kind) (space : OldMapContent) (holes : List Hole) (nodes nodes' : Nodes) (owners owners' : List Owner) (root : Node) (listings listings' : List Listing)
     (a : AgreeOn kind space nodes owners root listings) (g : Object → Object) (gone come kept : List Object) where
   abbrev before : Had kind (Layout.Old space) nodes root listings a.walked
   before = had kind (Layout.Old space) nodes root listings a.walked

@@ -9,7 +9,7 @@ use Rattle.std.proofs.lemmas.List.Elements.{All-cons, All-head, All-tail}
 use Rattle.fc_record.specs.declared.Kind.{Kind}
 use Rattle.fc_oldmap.specs.declared.Hole.{Hole}
 use Rattle.fc_oldmap.specs.Holes.{AreApart, AreHoles, after_take, first_fit_place, hole, hole_end, rest_after_take}
-use Rattle.fc_oldmap.specs.OldMap.{FreeSpace, IsOldMap, map_units}
+use Rattle.fc_oldmap.specs.OldMap.{OldMapContent, IsOldMap, map_units}
 use Rattle.fc_alloc.specs.declared.owner.Owner.{Owner}
 use Rattle.fc_image.specs.Layout.{Layout, dir_form, hole_sectors, is_among, map_place, sectors_at}
 use Rattle.fc_image.specs.Edits.{IsAt}
@@ -35,7 +35,7 @@ use Rattle.fc_oldlaws.proofs.lemmas.agree.DirectoryLemmas.{spaced_parts}
 
 -- ---- the parts
 
-named' : (kind : Kind) (parts : Parts) (space : FreeSpace) → parts.layout ≡ Layout.Old space → IsOldMap space
+named' : (kind : Kind) (parts : Parts) (space : OldMapContent) → parts.layout ≡ Layout.Old space → IsOldMap space
     → AreHoles space.disc_units space.sector_units (map_units space.sector_units) space.holes
     → (a : Agree kind parts) → AgreeOn kind space parts.nodes parts.owners a.root a.listings
 named' kind parts space layout is holes a = record {
@@ -56,7 +56,7 @@ none_needed (suc u) = by (div_ceil 0 (256 * suc u)) (div_ceil_times 0 (256 * suc
     by zero low = omega arith
     by (suc k) low = let more : suc k * (256 * suc u) ≡ 256 * suc u + k * (256 * suc u) = grind arith in absurd (omega (arith, more, low))
 
-size' : (space : FreeSpace) (o : Object) → IsAt (Layout.Old space) o → length o.sectors * space.sector_units ≡ old_need space (object_size (dir_form (Layout.Old space)) o.entry)
+size' : (space : OldMapContent) (o : Object) → IsAt (Layout.Old space) o → length o.sectors * space.sector_units ≡ old_need space (object_size (dir_form (Layout.Old space)) o.entry)
 size' space o at =
     let n = object_size (dir_form (Layout.Old space)) o.entry in
     let nothing : 0 * space.sector_units ≡ 0 = omega arith in
@@ -88,7 +88,7 @@ apart_without x n holes all = by (n == 0)
     by true = all
     by false = apart_taken x n holes all
 
-given' : (kind : Kind) (space : FreeSpace) (nodes : Nodes) (owners : List Owner) (root : Node) (listings : List Listing) (o : Object) (n : ℕ) → AgreeOn kind space nodes owners root listings
+given' : (kind : Kind) (space : OldMapContent) (nodes : Nodes) (owners : List Owner) (root : Node) (listings : List Listing) (o : Object) (n : ℕ) → AgreeOn kind space nodes owners root listings
     → Contains (objects_of listings) o → has_sectors o ≡ true → CanGive space (holes_without n space.holes) (space_of space o)
 given' kind space nodes owners root listings o n a at has =
     let facts = spaced_parts kind space nodes owners root listings a in
@@ -141,14 +141,14 @@ some_need u n (inr four) some = subst (λ (v : ℕ). 0 < div_ceil n (256 * v) * 
     by : (k : ℕ) → n ≤ k * 1024 → 0 < k * 4
     by k up = omega (arith, up, some)
 
-placed : (space : FreeSpace) (n start : ℕ) → 0 < n → (none : Bool) → (n == 0) ≡ none → (start % space.sector_units == 0) ≡ true
+placed : (space : OldMapContent) (n start : ℕ) → 0 < n → (none : Bool) → (n == 0) ≡ none → (start % space.sector_units == 0) ≡ true
     → nat_le (start / space.sector_units + div_ceil n (256 * space.sector_units)) (space.disc_units / space.sector_units) ≡ true
     → sectors_at (Layout.Old space) start n ≡ Some (range_with_len (start / space.sector_units) (div_ceil n (256 * space.sector_units)))
 unfolding sectors_at
 placed space n start some true e f g = absurd (let zero = eqb-true n 0 e in omega (arith, zero, some))
 placed space n start some false e f g = rw (e, f, g) refl
 
-fitted' : (space : FreeSpace) (n start : ℕ) → IsOldMap space → 0 < n → first_fit_place (old_need space n) space.holes ≡ Some start → IsFitted space start n
+fitted' : (space : OldMapContent) (n start : ℕ) → IsOldMap space → 0 < n → first_fit_place (old_need space n) space.holes ≡ Some start → IsFitted space start n
 fitted' space n start is some fits =
     let u = space.sector_units in
     let count = div_ceil n (256 * u) in

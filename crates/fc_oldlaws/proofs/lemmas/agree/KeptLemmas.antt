@@ -1,7 +1,7 @@
 -- Edits in which no object comes or goes, and each keeps its place, on an old map.
 use Rattle.std.proofs.Common.{List, []}
 use Rattle.fc_record.specs.declared.Kind.{Kind}
-use Rattle.fc_oldmap.specs.OldMap.{FreeSpace}
+use Rattle.fc_oldmap.specs.OldMap.{OldMapContent}
 use Rattle.fc_alloc.specs.declared.owner.Owner.{Owner}
 use Rattle.fc_image.specs.Layout.{Layout}
 use Rattle.fc_image.specs.Walk.{Listing}
@@ -15,7 +15,7 @@ use Rattle.fc_laws.proofs.lemmas.agree.TransferredLemmas.{transferred_edit}
 use Rattle.fc_oldlaws.specs.agree.Laws.{AgreeOn, RenamedLaw, RewordedLaw, TransferredLaw, parts_with}
 use Rattle.fc_oldlaws.proofs.lemmas.agree.EditLemmas.{agreed_after}
 
-kept_agree : (kind : Kind) (space : FreeSpace) (nodes nodes' : Nodes) (owners owners' : List Owner) (root : Node) (listings : List Listing) (a : AgreeOn kind space nodes owners root listings)
+kept_agree : (kind : Kind) (space : OldMapContent) (nodes nodes' : Nodes) (owners owners' : List Owner) (root : Node) (listings : List Listing) (a : AgreeOn kind space nodes owners root listings)
     → KeptEdit kind (Layout.Old space) nodes nodes' owners' root listings a.walked → Agree kind (parts_with space nodes' owners')
 kept_agree kind space nodes nodes' owners owners' root listings a e =
     agreed_after kind space space.holes nodes nodes' owners owners' root listings e.0 a e.1 [] [] e.2

@@ -3,7 +3,7 @@ use Rattle.std.proofs.Common.{◌≡◌, ◌<◌, ◌≤◌, ◌⊎◌, inl, inr
 use Rattle.std.specs.Prelude.{Contains}
 use Rattle.std.specs.Int.{div_ceil}
 use Rattle.fc_record.specs.declared.Kind.{Kind}
-use Rattle.fc_oldmap.specs.OldMap.{FreeSpace}
+use Rattle.fc_oldmap.specs.OldMap.{OldMapContent}
 use Rattle.fc_alloc.specs.declared.owner.Owner.{Owner}
 use Rattle.fc_image.specs.Layout.{Layout, disc_sectors, is_among, sectors_at}
 use Rattle.fc_image.specs.Walk.{Listing, Object}
@@ -18,7 +18,7 @@ use Rattle.fc_oldchanges.proofs.PlaceLemmas.{in_disc, row_or_none}
 use Rattle.fc_oldlaws.specs.agree.Laws.{AgreeOn}
 
 -- some bytes have a sector
-a_sector : (space : FreeSpace) (address bytes : ℕ) (sectors : List ℕ) → 0 < bytes → (space.sector_units ≡ 1) ⊎ (space.sector_units ≡ 4) → sectors_at (Layout.Old space) address bytes ≡ Some sectors
+a_sector : (space : OldMapContent) (address bytes : ℕ) (sectors : List ℕ) → 0 < bytes → (space.sector_units ≡ 1) ⊎ (space.sector_units ≡ 4) → sectors_at (Layout.Old space) address bytes ≡ Some sectors
     → (s : ℕ) × (is_among sectors s ≡ true)
 a_sector space address bytes sectors some units e = ⊎_elim
     (λ none. absurd (let zero' = none.0 in omega (arith, zero', some)))
@@ -32,7 +32,7 @@ a_sector space address bytes sectors some units e = ⊎_elim
     size_some (inl one) = omega (arith, one)
     size_some (inr four) = omega (arith, four)
 
-module _ (kind : Kind) (space : FreeSpace) (nodes : Nodes) (owners : List Owner) (root : Node) (listings : List Listing) (a : AgreeOn kind space nodes owners root listings) where
+module _ (kind : Kind) (space : OldMapContent) (nodes : Nodes) (owners : List Owner) (root : Node) (listings : List Listing) (a : AgreeOn kind space nodes owners root listings) where
   on_disc : (o : Object) → Contains (objects_of listings) o → (s : ℕ) → is_among o.sectors s ≡ true → s < disc_sectors (Layout.Old space)
   on_disc o at s i =
       let r = in_disc space o.entry.address _ o.sectors s (object_lies kind (Layout.Old space) nodes root listings a.walked o at).placed i in

@@ -6,7 +6,7 @@ use Rattle.std.proofs.lemmas.List.FromFn.{length-range_with_len}
 use Rattle.fc_names.specs.Names.{Path, is_same_path}
 use Rattle.fc_names.specs.declared.name.NameForm.TheVariants.{Seven, Ten}
 use Rattle.fc_oldmap.specs.Laws.{ReadsBack}
-use Rattle.fc_oldmap.specs.OldMap.{FreeSpace}
+use Rattle.fc_oldmap.specs.OldMap.{OldMapContent}
 use Rattle.fc_model.specs.Tree.{holder}
 use Rattle.fc_dirs.specs.declared.Entry.{Entry}
 use Rattle.fc_dirs.specs.Directory.{Directory, directory_size}
@@ -45,7 +45,7 @@ same_places [] f = tt
 same_places (d ∷ entries) f = (refl, same_places entries f)
 
 -- A directory has bytes.
-pub dir_bytes : (space : FreeSpace) (o : Object) → is_directory_object o ≡ true → (object_size (dir_form (Layout.Old space)) o.entry == 0) ≡ false
+pub dir_bytes : (space : OldMapContent) (o : Object) → is_directory_object o ≡ true → (object_size (dir_form (Layout.Old space)) o.entry == 0) ≡ false
 dir_bytes space o is = by (space.sector_units == 4) (is_directory_object o) is
   where
     by : (four dir : Bool) → dir ≡ true → (cond dir (directory_size (cond four Ten Seven) o.entry.len) o.entry.len == 0) ≡ false

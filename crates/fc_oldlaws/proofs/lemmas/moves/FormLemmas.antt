@@ -3,7 +3,7 @@ use Rattle.std.proofs.Common.{◌≡◌, ℕ, Bool, true, false, cond, List, ref
 use Rattle.std.specs.Prelude.{Ok, ◌==◌}
 use Rattle.fc_names.specs.declared.name.NameForm.{NameForm}
 use Rattle.fc_names.specs.declared.name.NameForm.TheVariants.{Seven, Ten, Long}
-use Rattle.fc_oldmap.specs.OldMap.{FreeSpace}
+use Rattle.fc_oldmap.specs.OldMap.{OldMapContent}
 use Rattle.fc_dirs.specs.declared.DirFault.{DirFault}
 use Rattle.fc_dirs.specs.declared.SmallForm.TheVariants.{Bytes1280, Bytes2048}
 use Rattle.fc_dirs.specs.Small.{SmallDir, small_dir, small_fault}
@@ -20,7 +20,7 @@ no_big Seven bytes dir e not = never_big (small_fault Bytes1280 bytes) (small_di
 no_big Ten bytes dir e not = never_big (small_fault Bytes2048 bytes) (small_dir Bytes2048 bytes) dir e
 no_big Long bytes dir e not = not refl
 
-pub not_long : (space : FreeSpace) → dir_form (Layout.Old space) ≡ Long → ⊥
+pub not_long : (space : OldMapContent) → dir_form (Layout.Old space) ≡ Long → ⊥
 not_long space e = by (space.sector_units == 4) e
   where
     by : (b : Bool) → cond b Ten Seven ≡ Long → ⊥

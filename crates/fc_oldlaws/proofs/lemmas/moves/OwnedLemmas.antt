@@ -4,7 +4,7 @@ use Rattle.std.specs.Prelude.{Contains}
 use Rattle.std.specs.FinMap.{get}
 use Rattle.std.proofs.lemmas.Bool.{lt-ltb, ltb-true}
 use Rattle.fc_names.specs.Names.{Path}
-use Rattle.fc_oldmap.specs.OldMap.{FreeSpace}
+use Rattle.fc_oldmap.specs.OldMap.{OldMapContent}
 use Rattle.fc_dirs.specs.declared.Entry.{Entry}
 use Rattle.fc_image.specs.Layout.{Layout, dir_form, sectors_at}
 use Rattle.fc_image.specs.Sound.{AreSound}
@@ -24,7 +24,7 @@ use Rattle.fc_oldlaws.specs.moves.After.{AreOwned, IsOwnedAs}
 use Rattle.fc_oldlaws.specs.moves.Laws.{SlidingLaw}
 use Rattle.fc_oldlaws.specs.moves.Nodes.{AreSliding, units_in}
 
-module _ (space : FreeSpace) (nodes : Nodes) (listings : List Listing) (owned : List Owned) (units : (space.sector_units ≡ 1) ⊎ (space.sector_units ≡ 4))
+module _ (space : OldMapContent) (nodes : Nodes) (listings : List Listing) (owned : List Owned) (units : (space.sector_units ≡ 1) ⊎ (space.sector_units ≡ 4))
     (sound : AreSound (Layout.Old space) listings) (held : HoldObjects nodes listings) (sliding : AreSliding space nodes owned) where
   abbrev layout : Layout
   layout = Layout.Old space

@@ -11,7 +11,7 @@ use Rattle.fc_record.specs.declared.Kind.{Kind}
 use Rattle.fc_newmap.proofs.PlaceLemmas.{in_back, in_either, in_front}
 use Rattle.fc_oldmap.specs.declared.Hole.{Hole}
 use Rattle.fc_oldmap.specs.Holes.{AreHoles, IsHole, hole_end}
-use Rattle.fc_oldmap.specs.OldMap.{FreeSpace, map_units}
+use Rattle.fc_oldmap.specs.OldMap.{OldMapContent, map_units}
 use Rattle.fc_dirs.specs.Directory.{directory_size, entries_of}
 use Rattle.fc_dirs.specs.declared.Entry.{Entry}
 use Rattle.fc_image.specs.Layout.{Layout, dir_form, hole_sectors, hole_sectors_in, is_among, is_apart, map_place, old_sectors, sectors_at}
@@ -88,18 +88,18 @@ remapped taken taken' g (o ∷ os) off pairs a = (
       (λ x p at there. pairs x p (next_in o x os at) (next_in o p os there)) a.1,
 )
 
-no_bytes : (space : FreeSpace) (address n : ℕ) (sectors : List ℕ) → sectors_at (Layout.Old space) address n ≡ Some sectors → (n == 0) ≡ true → sectors ≡ []
+no_bytes : (space : OldMapContent) (address n : ℕ) (sectors : List ℕ) → sectors_at (Layout.Old space) address n ≡ Some sectors → (n == 0) ≡ true → sectors ≡ []
 unfolding sectors_at
 no_bytes space address n sectors e none = some_same sectors [] (sym e ∙ ap (λ (b : Bool). cond b (Some []) (old_sectors space address n)) none)
   where
     some_same : (x z : List ℕ) → Some x ≡ Some z → x ≡ z
     some_same x z f = cc
 
-none_at : (space : FreeSpace) (address n : ℕ) → (n == 0) ≡ true → sectors_at (Layout.Old space) address n ≡ Some []
+none_at : (space : OldMapContent) (address n : ℕ) → (n == 0) ≡ true → sectors_at (Layout.Old space) address n ≡ Some []
 unfolding sectors_at
 none_at space address n none = ap (λ (b : Bool). cond b (Some []) (old_sectors space address n)) none
 
-row_at : (space : FreeSpace) (address n : ℕ) → (n == 0) ≡ false → address % space.sector_units ≡ 0
+row_at : (space : OldMapContent) (address n : ℕ) → (n == 0) ≡ false → address % space.sector_units ≡ 0
     → address / space.sector_units + div_ceil n (256 * space.sector_units) ≤ space.disc_units / space.sector_units
     → sectors_at (Layout.Old space) address n ≡ Some (range_with_len (address / space.sector_units) (div_ceil n (256 * space.sector_units)))
 unfolding sectors_at
@@ -123,10 +123,10 @@ pub record Start : Type 0 where
   pub is : IsSlide s (objects_of listings)
 
 module _ (e : Start) where
-  abbrev pub space : FreeSpace
+  abbrev pub space : OldMapContent
   space = e.s.space
 
-  abbrev pub after : FreeSpace
+  abbrev pub after : OldMapContent
   after = space_after e.s
 
   abbrev pub u : ℕ

@@ -10,7 +10,7 @@ use Rattle.std.proofs.lemmas.List.Sorted.{Contains-permutation, IsNonDecreasingB
 use Rattle.fc_record.specs.declared.Kind.{Kind}
 use Rattle.fc_oldmap.specs.declared.Hole.{Hole}
 use Rattle.fc_oldmap.specs.Holes.{AreApart, AreHoles, IsHole, hole_end}
-use Rattle.fc_oldmap.specs.OldMap.{FreeSpace}
+use Rattle.fc_oldmap.specs.OldMap.{OldMapContent}
 use Rattle.fc_alloc.specs.declared.owner.Owner.{Owner}
 use Rattle.fc_image.specs.Layout.{Layout, dir_form, is_among}
 use Rattle.fc_image.specs.Walk.{Listing, Object, object_size}
@@ -48,7 +48,7 @@ some_none : (node : Node) → Some node ≡ None → ⊥
 some_none node e = cc
 
 -- what stands in it of a number
-at_number : (space : FreeSpace) (n : ℕ) (o : Option Node) (p : Owned) → Contains (sliding_at space n o) p
+at_number : (space : OldMapContent) (n : ℕ) (o : Option Node) (p : Owned) → Contains (sliding_at space n o) p
     → (node : Node) × (o ≡ Some node) × (p.node ≡ n) × (n ≡ 0 → ⊥) × (p.start ≡ node.entry.address) × (p.len ≡ units_in space node.entry) × (0 < p.len)
 at_number space n None p at = absurd (nothing_in p at)
 at_number space n (Some node) p at = by (n == 0) (nat_lt 0 (units_in space node.entry)) refl refl at
@@ -73,7 +73,7 @@ at_number space n (Some node) p at = by (n == 0) (nat_lt 0 (units_in space node.
       | inr none ↦ absurd (nothing_in p none)
     ]
 
-stands_at : (space : FreeSpace) (n : ℕ) (node : Node) → (n ≡ 0 → ⊥) → 0 < units_in space node.entry → (p : Owned) × Contains (sliding_at space n (Some node)) p × (p.node ≡ n)
+stands_at : (space : OldMapContent) (n : ℕ) (node : Node) → (n ≡ 0 → ⊥) → 0 < units_in space node.entry → (p : Owned) × Contains (sliding_at space n (Some node)) p × (p.node ≡ n)
 stands_at space n node lower some =
     let q : Owned = record { node = n; start = node.entry.address; len = units_in space node.entry } in
     (q, subst (λ (b : Bool). Contains (cond b (q ∷ []) []) q) (sym (ap₂ (λ (a b : Bool). not a && b) (not_zero n lower) (lt-ltb 0 (units_in space node.entry) some))) (first_in q []), refl)
@@ -96,7 +96,7 @@ in_range from (suc n) k low high = elim (cases_eq from k) [
 ]
 
 -- the number of each node of it
-numbers_from : (space : FreeSpace) (nodes : Nodes) (from n : ℕ) (p : Owned) → Contains (flat_map (λ k. sliding_at space k (get nodes k)) (range_with_len from n)) p → from ≤ p.node
+numbers_from : (space : OldMapContent) (nodes : Nodes) (from n : ℕ) (p : Owned) → Contains (flat_map (λ k. sliding_at space k (get nodes k)) (range_with_len from n)) p → from ≤ p.node
 numbers_from space nodes from zero p at = absurd (nothing_in p at)
 numbers_from space nodes from (suc n) p at = elim (Contains-append_cases (sliding_at space from (get nodes from)) (flat_map (λ k. sliding_at space k (get nodes k)) (range_with_len (from + 1) n)) p at) [
   | inl here ↦ (let x = at_number space from (get nodes from) p here in let is = x.2 in omega (arith, is))
@@ -109,7 +109,7 @@ none_pass t [] none = refl
 none_pass t (x ∷ xs) none = let here = none x (first_in x xs) in let rest = none_pass t xs (λ k at. none k (next_in x k xs at)) in rw (here, rest) refl
 
 -- No two are of one node.
-once_below : (space : FreeSpace) (nodes : Nodes) (from n k : ℕ) → many (λ (p : Owned). p.node == k) (flat_map (λ m. sliding_at space m (get nodes m)) (range_with_len from n)) ≤ 1
+once_below : (space : OldMapContent) (nodes : Nodes) (from n k : ℕ) → many (λ (p : Owned). p.node == k) (flat_map (λ m. sliding_at space m (get nodes m)) (range_with_len from n)) ≤ 1
 unfolding many
 once_below space nodes from zero k = omega arith
 once_below space nodes from (suc n) k =
@@ -137,7 +137,7 @@ once_below space nodes from (suc n) k =
     at_most None = omega arith
     at_most (Some node) = one_pass (not (from == 0) && nat_lt 0 (units_in space node.entry)) (record { node = from; start = node.entry.address; len = units_in space node.entry })
 
-module _ (kind : Kind) (space : FreeSpace) (nodes : Nodes) (owners : List Owner) (root : Node) (listings : List Listing) (bound : ℕ) (owned : List Owned)
+module _ (kind : Kind) (space : OldMapContent) (nodes : Nodes) (owners : List Owner) (root : Node) (listings : List Listing) (bound : ℕ) (owned : List Owned)
     (a : AgreeOn kind space nodes owners root listings) (above : (n : ℕ) → bound ≤ n → get nodes n ≡ None) (same : IsPermutation (sliding_below space nodes bound) owned)
     (sorted : IsNonDecreasingBy (λ (o : Owned). o.start) owned) where
   abbrev layout : Layout

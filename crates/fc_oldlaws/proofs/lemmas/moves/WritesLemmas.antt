@@ -8,7 +8,7 @@ use Rattle.std.proofs.lemmas.Bool.{cases_lt}
 use Rattle.fc_names.specs.declared.name.NameForm.{NameForm}
 use Rattle.fc_names.specs.declared.name.NameForm.TheVariants as forms
 use Rattle.fc_record.specs.declared.Kind.{Kind}
-use Rattle.fc_oldmap.specs.OldMap.{FreeSpace}
+use Rattle.fc_oldmap.specs.OldMap.{OldMapContent}
 use Rattle.fc_dirs.specs.declared.Entry.{Entry}
 use Rattle.fc_dirs.specs.declared.SmallForm.{SmallForm}
 use Rattle.fc_dirs.specs.Directory.{Directory, directory_size}
@@ -75,7 +75,7 @@ by_form forms.Long len dir h = absurd h
 
 -- ---- directories by their numbers
 
-module _ (space : FreeSpace) (nodes : Nodes) (listings : List Listing) (sound : AreSound (Layout.Old space) listings) (held_all : HoldObjects nodes listings) where
+module _ (space : OldMapContent) (nodes : Nodes) (listings : List Listing) (sound : AreSound (Layout.Old space) listings) (held_all : HoldObjects nodes listings) where
   abbrev layout : Layout
   layout = Layout.Old space
 
@@ -135,7 +135,7 @@ module _ (space : FreeSpace) (nodes : Nodes) (listings : List Listing) (sound : 
     pub body : node.body ≡ body_in l.content
     pub address : address_in nodes node.holder ≡ holder_address listings l.object.path
 
-module _ (space : FreeSpace) (nodes : Nodes) (owners : List Owner) (kind : Kind) (a : Agree kind (parts_with space nodes owners)) where
+module _ (space : OldMapContent) (nodes : Nodes) (owners : List Owner) (kind : Kind) (a : Agree kind (parts_with space nodes owners)) where
   sound_of : AreSound (Layout.Old space) a.listings
   sound_of = record {
     read = reader_of_nodes nodes;

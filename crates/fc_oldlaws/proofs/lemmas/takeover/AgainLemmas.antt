@@ -7,7 +7,7 @@ use Rattle.byteorder.specs.Endian.{little_bytes}
 use Rattle.fc_bytes.specs.Words.{bytes_at}
 use Rattle.fc_checks.specs.Checks.{old_check}
 use Rattle.fc_oldmap.specs.declared.Hole.{Hole}
-use Rattle.fc_oldmap.specs.OldMap.{FreeSpace, IsOldMap, checked_half, triples, with_holes}
+use Rattle.fc_oldmap.specs.OldMap.{OldMapContent, IsOldMap, checked_half, triples, with_holes}
 use Rattle.fc_oldchanges.specs.Owed.{IsMapAfter, MapStays, holding}
 use Rattle.fc_oldchanges.proofs.MapLemmas.{front_same}
 
@@ -104,7 +104,7 @@ again holes later bytes size = alike later (with_holes bytes holes) bytes (keeps
 
 -- ---- the map of an image
 
-module _ (space : FreeSpace) (a b c : List ℕ) where
+module _ (space : OldMapContent) (a b c : List ℕ) where
   -- written once, and then again
   pub map_twice : (mid holes : List Hole) → 512 ≤ length a → IsMapAfter space mid a b → IsMapAfter (holding space mid) holes b c → IsMapAfter space holes a c
   map_twice mid holes long first second = record {

@@ -10,7 +10,7 @@ use Rattle.fc_record.specs.declared.Kind.{Kind}
 use Rattle.fc_newmap.proofs.PlaceLemmas.{in_either}
 use Rattle.fc_dirs.specs.declared.Entry.{Entry}
 use Rattle.fc_dirs.specs.Directory.{entries_of}
-use Rattle.fc_oldmap.specs.OldMap.{FreeSpace, map_units}
+use Rattle.fc_oldmap.specs.OldMap.{OldMapContent, map_units}
 use Rattle.fc_model.specs.Command.{Command}
 use Rattle.fc_image.specs.Layout.{Layout, dir_form, disc_sectors, hole_sectors, is_among, is_apart, map_place, sectors_at}
 use Rattle.fc_image.specs.Report.{is_lost_sector}
@@ -90,7 +90,7 @@ no_bytes layout address sectors e = sym (same [] sectors e)
 
 -- ---- an opened image
 
-module _ (kind : Kind) (image : List ℕ) (view : Opened) (space : FreeSpace) (e : IsBefore kind image view space) where
+module _ (kind : Kind) (image : List ℕ) (view : Opened) (space : OldMapContent) (e : IsBefore kind image view space) where
   abbrev ls : List Listing
   ls = view.listings
 
@@ -261,7 +261,7 @@ places_law = record {
   spared = λ kind image view space c sectors e may. spared' kind image view space e c sectors may;
 }
   where
-    own_written : (view : Opened) (space : FreeSpace) (c : Command) (o : Object) → Contains (objects_of view.listings) o → may_be_rewritten view c o.path ≡ true
+    own_written : (view : Opened) (space : OldMapContent) (c : Command) (o : Object) → Contains (objects_of view.listings) o → may_be_rewritten view c o.path ≡ true
         → (b : Bool) → is_directory_object o ≡ b → MayBeWritten view space c (cond b o.sectors [])
     own_written view space c o at may true e s h = inr (record { object = o; there = at; directory = e; may = may; within = h })
     own_written view space c o at may false e s h = absurd (cc)

@@ -16,7 +16,7 @@ use Rattle.fc_newmap.proofs.PlaceLemmas.{in_back, in_either, in_front}
 use Rattle.fc_oldmap.specs.declared.Hole.{Hole}
 use Rattle.fc_oldmap.specs.Holes.{after_take}
 use Rattle.fc_oldmap.specs.Laws.{ReadsBack}
-use Rattle.fc_oldmap.specs.OldMap.{FreeSpace, IsOldMap}
+use Rattle.fc_oldmap.specs.OldMap.{OldMapContent, IsOldMap}
 use Rattle.fc_model.specs.Tree.{is_prefix}
 use Rattle.fc_model.specs.Command.{Command}
 use Rattle.fc_dirs.specs.Directory.{Directory, directory_size, entries_of}
@@ -59,7 +59,7 @@ is_file : (old : Option Object) (path : Path) (l : Listing) (content : Directory
 is_file None path l content i o made = ap is_directory made.2
 is_file (Some p) path l content i o made = ap is_directory made.4 ∙ made.2
 
-module _ (space : FreeSpace) where
+module _ (space : OldMapContent) where
   abbrev y : Layout
   y = Layout.Old space
 
@@ -109,7 +109,7 @@ module _ (space : FreeSpace) where
       by zero low = omega (arith, low, some)
       by (suc k) low = omega arith
 
-module _ (kind : Kind) (image : List ℕ) (v : Opened) (space : FreeSpace) (was : IsBefore kind image v space) where
+module _ (kind : Kind) (image : List ℕ) (v : Opened) (space : OldMapContent) (was : IsBefore kind image v space) where
   long : 512 ≤ length image
   long =
       let old = (disc kind image v space was).old in

@@ -4,7 +4,7 @@ use Rattle.std.specs.Prelude.{Ok, Some, None, Contains, IsPermutation, insert, r
 use Rattle.std.proofs.lemmas.List.Sorted.{Contains-permutation, IsPermutation-sym}
 use Rattle.fc_record.specs.declared.Kind.{Kind}
 use Rattle.fc_oldmap.specs.Laws.{ReadsBack}
-use Rattle.fc_oldmap.specs.OldMap.{FreeSpace}
+use Rattle.fc_oldmap.specs.OldMap.{OldMapContent}
 use Rattle.fc_model.specs.Tree.{last_name}
 use Rattle.fc_model.specs.Command.{Command}
 use Rattle.fc_dirs.specs.Entries.{entry_place}
@@ -36,7 +36,7 @@ use Rattle.fc_oldchanges.proofs.RenamedLemmas.{renamed_law, tells_moved as tells
 use Rattle.fc_oldchanges.proofs.MovedLemmas.{moved_law, tells_moved as tells_across}
 use Rattle.fc_oldlaws.specs.takeover.Laws.{DeletedTakesOver, DirectoryMadeTakesOver, FiledTakesOver, MovedTakesOver, RenamedTakesOver, RewordedTakesOver, TakesOver}
 
-pub taken : (kind : Kind) (image image' : List ℕ) (v : Opened) (space' : FreeSpace) (c : Command) (listings listings' : List Listing) (nodes' : Nodes) (owners' : List Owner)
+pub taken : (kind : Kind) (image image' : List ℕ) (v : Opened) (space' : OldMapContent) (c : Command) (listings listings' : List Listing) (nodes' : Nodes) (owners' : List Owner)
     → IsChanged kind image image' v space' listings c → listings' ≡ listings → PartsFollow nodes' owners' (Layout.Old space') listings' → TakesOver kind image image' v c space' nodes' owners'
 taken kind image image' v space' c listings listings' nodes' owners' changed same follow =
     let after : Opened = record { kind = kind; layout = Layout.Old space'; listings = changed.found } in
@@ -52,20 +52,20 @@ taken kind image image' v space' c listings listings' nodes' owners' changed sam
     )
 
 -- a listed directory says so
-says_before : (kind : Kind) (image : List ℕ) (v : Opened) (space : FreeSpace) (l : Listing) → OpensAs image kind v → v.layout ≡ Layout.Old space → Contains v.listings l
+says_before : (kind : Kind) (image : List ℕ) (v : Opened) (space : OldMapContent) (l : Listing) → OpensAs image kind v → v.layout ≡ Layout.Old space → Contains v.listings l
     → IsListing (reader_of image (Layout.Old space)) (Layout.Old space) l
 says_before kind image v space l opens layout at =
     says_old kind image (Layout.Old space) v.listings (subst (λ (u : Opened). OpensAs image kind u) (sym (opened_as kind image v (Layout.Old space) opens layout)) opens) l at
 
 -- each directory that is found says what its bytes say
-found_says : (kind : Kind) (image image' : List ℕ) (v : Opened) (space : FreeSpace) (listings : List Listing) (c : Command) (k : Listing)
+found_says : (kind : Kind) (image image' : List ℕ) (v : Opened) (space : OldMapContent) (listings : List Listing) (c : Command) (k : Listing)
     → IsChanged kind image image' v space listings c → Contains listings k → reader_of image' (Layout.Old space) k.object ≡ Ok k.content
 found_says kind image image' v space listings c k changed at =
     (says_old kind image' (Layout.Old space) changed.found changed.changes.opens.opens k (Contains-permutation listings changed.found k changed.order at)).0
 
 -- ---- set, mark
 
-reworded_of : (back : ReadsBack) (kind : Kind) (image image' : List ℕ) (v : Opened) (space : FreeSpace) (c : Command) (rest : List Listing) (l : Listing) (content : Directory) (i : ℕ) (o : Object)
+reworded_of : (back : ReadsBack) (kind : Kind) (image image' : List ℕ) (v : Opened) (space : OldMapContent) (c : Command) (rest : List Listing) (l : Listing) (content : Directory) (i : ℕ) (o : Object)
     (g : Object → Object) (nodes nodes' : Nodes) (listings' : List Listing) (owners' : List Owner) (dir number : ℕ) → IsRewording o.path g
     → (rest' : List Listing) × AreListedBy g rest rest' × IsChanged kind image image' v space (says_now l content (slice_set l.children i (g o)) ∷ rest') c
     → IsRewordChange kind image image' v space c rest l content i o g

@@ -4,7 +4,7 @@ use Rattle.std.specs.Int.{div_ceil}
 use Rattle.std.specs.List.{flat_map, range_with_len}
 use Rattle.std.proofs.lemmas.List.FromFn.{get_or-range_with_len, length-range_with_len}
 use Rattle.fc_device.specs.Sectors.{sector_at}
-use Rattle.fc_oldmap.specs.OldMap.{FreeSpace, IsOldMap}
+use Rattle.fc_oldmap.specs.OldMap.{OldMapContent, IsOldMap}
 use Rattle.fc_image.specs.Layout.{Layout, bytes_in, dir_form, is_among, is_apart, map_place, sector_bytes}
 use Rattle.fc_image.specs.Walk.{Object, object_bytes, object_size}
 use Rattle.fc_image.specs.Edits.{IsAt}
@@ -26,7 +26,7 @@ use Rattle.fc_oldlaws.specs.takeover.Writes.{IsObjectStep, IsObjectWritten, IsUn
 written_in : (sectors : List ℕ) (i s : ℕ) → i < length sectors → get_or sectors i 0 ≡ s → is_among sectors s ≡ true
 written_in sectors i s low is = subst (λ (t : ℕ). is_among sectors t ≡ true) is (among_at sectors i low)
 
-module _ (space : FreeSpace) where
+module _ (space : OldMapContent) where
   abbrev size : ℕ
   size = sector_bytes (Layout.Old space)
 

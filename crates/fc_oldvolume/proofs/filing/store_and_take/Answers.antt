@@ -2,7 +2,7 @@ use Rattle.std.proofs.Common.{subst}
 use Rattle.fc_device.proofs.DiskLaws.{laws}
 use Rattle.fc_device.proofs.StopLemmas.{keeps_then, keeps_weaker, led}
 use Rattle.fc_objects.specs.Extents.{sectors_in}
-use Rattle.fc_oldmap.specs.OldMap.{FreeSpace}
+use Rattle.fc_oldmap.specs.OldMap.{OldMapContent}
 use Rattle.fc_space.specs.Space.{layout_of}
 use Rattle.fc_volume.proofs.ChangeLemmas.{ok_then}
 use Rattle.fc_oldvolume.specs.Spaces.{IsEditOf}
@@ -21,7 +21,7 @@ returns-clause-exits g c = λ space at.
     keeps_then (laws g.met.D.Disk) (written_then space xs)
     (keeps_weaker (laws g.met.D.Disk) c.write_bytes.ensures.keeps (part_written c.writes.ensures (layout_of c.args.places.now) space xs c.args.bytes.now at))
     (keeps_weaker (laws g.met.D.Disk)
-    (c.write_some.ensures.keeps space (subst (λ (s : FreeSpace). IsEditOf s c.args.f.now.taken.map) (one_space (layout_of c.args.places.now) own.0 space own.1 at) own.2.taken))
+    (c.write_some.ensures.keeps space (subst (λ (s : OldMapContent). IsEditOf s c.args.f.now.taken.map) (one_space (layout_of c.args.places.now) own.0 space own.1 at) own.2.taken))
     (written_more space xs))
 
 pub returns-clause-done : goal.returns-clause-done

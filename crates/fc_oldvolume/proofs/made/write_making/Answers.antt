@@ -2,7 +2,7 @@ use Rattle.std.proofs.Common.{◌++◌, subst}
 use Rattle.fc_device.proofs.DiskLaws.{laws}
 use Rattle.fc_device.proofs.StopLemmas.{keeps_then, keeps_weaker, led}
 use Rattle.fc_objects.specs.Extents.{sectors_in}
-use Rattle.fc_oldmap.specs.OldMap.{FreeSpace}
+use Rattle.fc_oldmap.specs.OldMap.{OldMapContent}
 use Rattle.fc_space.specs.Space.{layout_of}
 use Rattle.fc_volume.proofs.ChangeLemmas.{ok_then}
 use Rattle.fc_oldvolume.specs.Spaces.{IsEditOf}
@@ -23,7 +23,7 @@ returns-in_err-write_some-clause-exits g c = λ space at.
     (keeps_weaker (laws g.met.D.Disk) c.store_object.ensures.keeps
     (wider_last c.writes.ensures (layout_of c.args.places.now) space at (sectors_in c.args.r.now.directory.place.items) (sectors_in c.args.r.now.taken.place.items) c.args.r.now.bytes.items))
     (keeps_weaker (laws g.met.D.Disk)
-    (c.write_some.ensures.keeps space (subst (λ (s : FreeSpace). IsEditOf s c.args.r.now.taken.map) (one_space (layout_of c.args.places.now) own.0 space own.1 at) own.2))
+    (c.write_some.ensures.keeps space (subst (λ (s : OldMapContent). IsEditOf s c.args.r.now.taken.map) (one_space (layout_of c.args.places.now) own.0 space own.1 at) own.2))
     (written_more space all))
 
 pub returns-clause-exits : goal.returns-clause-exits
@@ -35,7 +35,7 @@ returns-clause-exits g c = λ space at.
     (keeps_weaker (laws g.met.D.Disk) c.store_object.ensures.keeps
     (wider_last c.writes.ensures (layout_of c.args.places.now) space at (sectors_in c.args.r.now.directory.place.items) (sectors_in c.args.r.now.taken.place.items) c.args.r.now.bytes.items))
     (keeps_weaker (laws g.met.D.Disk)
-    (c.write_some.ensures.keeps space (subst (λ (s : FreeSpace). IsEditOf s c.args.r.now.taken.map) (one_space (layout_of c.args.places.now) own.0 space own.1 at) own.2))
+    (c.write_some.ensures.keeps space (subst (λ (s : OldMapContent). IsEditOf s c.args.r.now.taken.map) (one_space (layout_of c.args.places.now) own.0 space own.1 at) own.2))
     (written_more space all)))
     (keeps_weaker (laws g.met.D.Disk) c.write_directory.ensures.keeps
     (wider_first c.writes.ensures (layout_of c.args.places.now) space at (sectors_in c.args.r.now.directory.place.items) (sectors_in c.args.r.now.taken.place.items) c.args.r.now.directory.bytes.items))

@@ -1,6 +1,6 @@
 use Rattle.std.proofs.Common.{◌≡◌, ℕ, sym, ap, subst, ◌∙◌}
 use Rattle.std.specs.Prelude.{not, IfOk}
-use Rattle.fc_oldmap.specs.OldMap.{FreeSpace}
+use Rattle.fc_oldmap.specs.OldMap.{OldMapContent}
 use Rattle.fc_drafts.specs.Draft.{directory_in}
 use Rattle.fc_image.specs.effects.Short.{new_dir_size}
 use Rattle.fc_image.specs.Layout.{Layout, dir_form}
@@ -25,5 +25,5 @@ returns-clause-refused c = λ v path gain at g gets same.
 
 pub returns-clause-taken : goal.returns-clause-taken
 returns-clause-taken c =
-    subst (λ (n : ℕ). IfOk c.take_place.result (λ taken. (space : FreeSpace) → layout_of c.args.places.now ≡ Layout.Old space → IsTaken space n taken)) (c.new_dir_size.ensures ∙ ap new_dir_size c.dir_form.ensures)
+    subst (λ (n : ℕ). IfOk c.take_place.result (λ taken. (space : OldMapContent) → layout_of c.args.places.now ≡ Layout.Old space → IsTaken space n taken)) (c.new_dir_size.ensures ∙ ap new_dir_size c.dir_form.ensures)
     c.take_place.ensures.taken

@@ -2,7 +2,7 @@ use Rattle.std.proofs.Common.{◌≡◌, ℕ, ap, subst, ◌∙◌}
 use Rattle.std.specs.Prelude.{IfOk, not}
 use Rattle.fc_drafts.specs.Draft.{directory_in}
 use Rattle.fc_image.specs.Layout.{Layout}
-use Rattle.fc_oldmap.specs.OldMap.{FreeSpace}
+use Rattle.fc_oldmap.specs.OldMap.{OldMapContent}
 use Rattle.fc_space.specs.Space.{layout_of}
 use Rattle.fc_volume.specs.Making.{AnswersSpace}
 use Rattle.fc_oldvolume.specs.declared.taking.Taken.{Taken}
@@ -21,4 +21,4 @@ returns-clause-refused c = λ space v k at w.
 
 pub returns-clause-taken : goal.returns-clause-taken
 returns-clause-taken c =
-    subst (λ (n : ℕ). IfOk c.take_place.result (λ taken. (space : FreeSpace) → layout_of c.args.places.now ≡ Layout.Old space → IsTaken space n taken)) c.from.ensures c.take_place.ensures.taken
+    subst (λ (n : ℕ). IfOk c.take_place.result (λ taken. (space : OldMapContent) → layout_of c.args.places.now ≡ Layout.Old space → IsTaken space n taken)) c.from.ensures c.take_place.ensures.taken

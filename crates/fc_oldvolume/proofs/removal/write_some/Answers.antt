@@ -1,5 +1,5 @@
 use Rattle.std.proofs.Common.{◌≡◌, ◌∙◌, None, Some, subst, sym}
-use Rattle.fc_oldmap.specs.OldMap.{FreeSpace}
+use Rattle.fc_oldmap.specs.OldMap.{OldMapContent}
 use Rattle.fc_device.proofs.DiskLaws.{laws}
 use Rattle.fc_device.proofs.StopLemmas.{keeps_weaker}
 use Rattle.fc_oldvolume.specs.Spaces.{IsEditOf}
@@ -13,5 +13,5 @@ returns-in-Some-clause-keeps g c = λ space edit.
 pub returns-in-Some-clause-none : goal.returns-in-Some-clause-none
 returns-in-Some-clause-none g c = λ none. absurd (other (sym none ∙ c.in-Some.is))
   where
-    other : {m : FreeSpace} → None ≡ Some m → ⊥
+    other : {m : OldMapContent} → None ≡ Some m → ⊥
     other e = cc

@@ -2,7 +2,7 @@ use Rattle.std.proofs.Common.{◌≡◌, ℕ, None, sym, ap, subst, ◌∙◌}
 use Rattle.std.specs.Option.{option_map}
 use Rattle.std.specs.Prelude.{Err, Ok}
 use Rattle.fc_image.specs.Layout.{Layout}
-use Rattle.fc_oldmap.specs.OldMap.{FreeSpace}
+use Rattle.fc_oldmap.specs.OldMap.{OldMapContent}
 use Rattle.fc_space.specs.Space.{layout_of}
 use Rattle.fc_tree.specs.declared.node.Node.{Node}
 use Rattle.fc_tree.proofs.WalkedLemmas.{same_some}
@@ -39,7 +39,7 @@ prepare_replacing-requires-clause-held c =
 
 pub prepare_replacing-requires-clause-taken : goal.prepare_replacing-requires-clause-taken
 prepare_replacing-requires-clause-taken c =
-    subst (λ (n : ℕ). (space : FreeSpace) → layout_of c.args.places.now ≡ Layout.Old space → IsTaken space n c.in-Ok.taken) c.from.ensures c.in-Ok.ensures.taken
+    subst (λ (n : ℕ). (space : OldMapContent) → layout_of c.args.places.now ≡ Layout.Old space → IsTaken space n c.in-Ok.taken) c.from.ensures c.in-Ok.ensures.taken
 
 pub returns-in-Ok-prepare_replacing-clause-refused : goal.returns-in-Ok-prepare_replacing-clause-refused
 returns-in-Ok-prepare_replacing-clause-refused c = λ space v k object at there w.

@@ -6,13 +6,12 @@ use Rattle.fc_image.specs.effects.Effect.{State, tree_in}
 use Rattle.fc_image.specs.Layout.{dir_form}
 use Rattle.fc_model.specs.Answer.{answer}
 use Rattle.fc_model.specs.Command.{Command}
-use Rattle.fc_model.specs.Tree.{node_at}
 use Rattle.fc_script.specs.Texts.{load_reply, refusal_line}
 use Rattle.fc_volume.specs.Answers.{IsRefusalOf, ref_bytes}
 use Rattle.fc_volume.specs.Volume.{StandsFor}
 use Rattle.fc_shell.specs.Answered.{IsCaused, volume_reply}
 use Rattle.fc_shell.proofs.AnsweredLemmas.{answered_same, caused_alone}
-use Rattle.fc_shell.proofs.ReplyLemmas.{accepted, bytes_same, refused}
+use Rattle.fc_shell.proofs.ReplyLemmas.{accepted, refused}
 use Rattle.fc_shell.proofs.WritingLemmas.{wrote_nothing}
 use Rattle.fc_shell.proofs.load.load.Goals as goal
 
@@ -29,7 +28,7 @@ returns-in-Ok-clause-answered g c = λ image told kind view opens parts.
     let s : State = record { image = image; view = view } in
     let h = c.in-Ok.ensures.answer image kind view opens parts in
     answered_same (load_reply (ref_bytes image v c.in-Ok.file)) (volume_reply kind v s (Command.Load path)) (g.K.Sink.taken c.args.out.now) (g.K.Sink.taken c.tell_file.new.out) c.tell_file.result
-    (accepted kind v image view (Command.Load path) (tree_in s) opens refl (h.0) ∙ ap load_reply (sym (bytes_same (node_at (tree_in s) path)) ∙ h.1))
+    (accepted kind v image view (Command.Load path) (tree_in s) opens refl (h.0) ∙ ap load_reply h.1)
     (c.tell_file.ensures.answered image (ap g.D.Disk.bytes c.in-Ok.ensures.disk ∙ told))
 
 pub returns-in-Ok-clause-reads : goal.returns-in-Ok-clause-reads

@@ -3,7 +3,7 @@ use Rattle.std.proofs.Math.ListN.{length-set}
 use Rattle.fc_device.proofs.DiskLaws.{laws, form_same, form_then}
 use Rattle.fc_device.proofs.StopLemmas.{started, goes_on}
 use Rattle.fc_image.specs.declared.effects.Owned.{Owned}
-use Rattle.fc_oldmap.specs.OldMap.{FreeSpace}
+use Rattle.fc_oldmap.specs.OldMap.{OldMapContent}
 use Rattle.fc_squash.specs.Places.{ChangesRoom}
 use Rattle.fc_squash.specs.Squashing.{no_object, moved_to, place, with_start}
 use Rattle.fc_squash.proofs.StandLemmas.{Standing, comes, stand_start, stand_more}
@@ -19,7 +19,7 @@ loop-k-init g c = record {
   stand = stand_start c.args.map.now c.tidy.new.self c.args.owned.now c.requires.map c.requires.bodies c.tidy.ensures.holes;
   carried = carried_start g.D.Disk c.args.disk.now c.args.map.now.sector_units c.args.map.now c.args.owned.now;
   room = leaves_same g.D.Disk (ChangesRoom c.args.map.now c.args.owned.now) (room_same c.args.map.now c.args.owned.now) c.args.disk.now;
-  above = λ n all. subst (Above n) (sym (ap (λ (m : FreeSpace). m.holes) c.tidy.ensures.holes)) (above-tidied n c.args.map.now.holes all);
+  above = λ n all. subst (Above n) (sym (ap (λ (m : OldMapContent). m.holes) c.tidy.ensures.holes)) (above-tidied n c.args.map.now.holes all);
   stops = started (laws g.met.D.Disk) c.args.disk.now (λ image. Unit {0}) (λ image left. tt);
   told = told_start g.D.Disk c.args.disk.now;
   faults = omega arith;

@@ -2,7 +2,7 @@ use Rattle.std.proofs.Common.{take, sym, ap, ap₂, ◌∙◌, ◌/◌}
 use Rattle.std.specs.Prelude.{Result, Err}
 use Rattle.fc_image.specs.declared.ImageFault.{ImageFault}
 use Rattle.fc_image.specs.Opening.{MapAndRoot}
-use Rattle.fc_oldmap.specs.OldMap.{FreeSpace}
+use Rattle.fc_oldmap.specs.OldMap.{OldMapContent}
 use Rattle.fc_volume.proofs.MapsOldLemmas.{old_found, old_wrong, old_front}
 use Rattle.fc_volume.proofs.maps.map_of_old.Goals as goal
 
@@ -14,7 +14,7 @@ returns-in-Ok-clause-found c = λ image has.
 
 pub returns-in-Ok-clause-room : goal.returns-in-Ok-clause-room
 returns-in-Ok-clause-room c =
-    ap₂ (λ m n. m / n) c.in-Ok.ensures.map.1 (ap (λ (m : FreeSpace). m.sector_units) c.in-Ok.ensures.map.0)
+    ap₂ (λ m n. m / n) c.in-Ok.ensures.map.1 (ap (λ (m : OldMapContent). m.sector_units) c.in-Ok.ensures.map.0)
 
 pub returns-in-Err-clause-fault : goal.returns-in-Err-clause-fault
 returns-in-Err-clause-fault c = λ image has.

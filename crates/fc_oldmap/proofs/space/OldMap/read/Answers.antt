@@ -3,7 +3,7 @@ use Rattle.std.proofs.lemmas.List.{length-take}
 use Rattle.fc_bytes.specs.Words.{u24_at}
 use Rattle.fc_oldmap.specs.declared.Hole.{Hole}
 use Rattle.fc_oldmap.specs.Holes.{AreHoles}
-use Rattle.fc_oldmap.specs.OldMap.{FreeSpace, holes_of, map_units, wrong_hole}
+use Rattle.fc_oldmap.specs.OldMap.{OldMapContent, holes_of, map_units, wrong_hole}
 use Rattle.fc_oldmap.proofs.SpaceLemmas.{AreHoles-lower}
 use Rattle.fc_oldmap.proofs.ReadLemmas.{old_map-first, old_map-second, old_map-end, old_map-wrong, old_map-right, AreHoles-right, length-holes_of, bad, read_as, few_holes, u24_fits}
 use Rattle.fc_oldmap.proofs.space.OldMap.read.Goals as goal
@@ -59,7 +59,7 @@ pub returns-in-Ok : goal.returns-in-Ok
 returns-in-Ok c =
     let r = right c in
     let b = c.args.b.now in
-    let made : List Hole → ℕ → FreeSpace = λ l d. record { holes = l; disc_units = d; sector_units = c.args.sector_units } in
+    let made : List Hole → ℕ → OldMapContent = λ l d. record { holes = l; disc_units = d; sector_units = c.args.sector_units } in
     ap (λ l. read_as (made l c.le24-disc_units.result)) r.0 ∙ ap (λ d. read_as (made (holes_of b (slice_index b 510 / 3)) d)) c.le24-disc_units.ensures.bytes
     ∙ sym (old_map-right b c.args.sector_units (sym c.is_half_right.ensures ∙ c.if-not-is_half_right.false) (sym c.is_half_right-2.ensures ∙ c.if-not-is_half_right-2.false) (sym c.is_free_end.ensures ∙ c.if-not-is_free_end.false) r.1)
 

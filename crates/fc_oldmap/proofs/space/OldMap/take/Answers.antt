@@ -2,7 +2,7 @@ use Rattle.std.proofs.Common.{◌≡◌, ◌%◌, List, sym, ap, subst, ◌∙�
 use Rattle.fc_oldmap.specs.declared.Hole.{Hole}
 use Rattle.std.specs.Prelude.{nat_lt, if◌then◌else◌}
 use Rattle.fc_oldmap.specs.declared.TakeError.TheVariants.{DiscFull, CompactionRequired}
-use Rattle.fc_oldmap.specs.OldMap.{FreeSpace, IsOldMap}
+use Rattle.fc_oldmap.specs.OldMap.{OldMapContent, IsOldMap}
 use Rattle.fc_oldmap.specs.Holes.{after_take, hole_sum, take_answer, AreHoles}
 use Rattle.fc_oldmap.proofs.SpaceLemmas.{AreHoles-after_take, sum-inside}
 use Rattle.fc_oldmap.proofs.MapLemmas.{with_list, length-after_take, after_take-same, take_answer-some, take_answer-none, refused-if}
@@ -12,7 +12,7 @@ use Rattle.fc_oldmap.proofs.space.OldMap.take.Goals.{After-take_from, in-Some, i
 -- what is left are holes of the disc
 left : (c : After-take_from) → AreHoles c.self.inside.disc_units c.self.inside.sector_units 0 (after_take c.args.n c.self.inside.holes.items)
 left c =
-    let W : FreeSpace → Type 0 = λ v. c.args.n % v.sector_units ≡ 0 in
+    let W : OldMapContent → Type 0 = λ v. c.args.n % v.sector_units ≡ 0 in
     AreHoles-after_take c.self.inside.disc_units c.self.inside.sector_units 0 c.args.n c.self.inside.holes.items (subst W (sym c.self.view_is) c.requires) c.self.invariant.holes
 
 pub shortage-requires : goal.shortage-requires
@@ -22,7 +22,7 @@ shortage-requires c =
 
 pub invariant_of-self : goal.invariant_of-self
 invariant_of-self c =
-    let space : FreeSpace = record { holes = c.self.inside.holes.items; disc_units = c.self.inside.disc_units; sector_units = c.self.inside.sector_units } in
+    let space : OldMapContent = record { holes = c.self.inside.holes.items; disc_units = c.self.inside.disc_units; sector_units = c.self.inside.sector_units } in
     let map = c.self.invariant in
     let M : List Hole → Type 0 = λ l. IsOldMap (record space { holes = l }) in
     subst M (sym c.take_from.ensures.holes)
@@ -31,7 +31,7 @@ invariant_of-self c =
 pub returns-clause-answer : goal.returns-clause-answer
 returns-clause-answer c =
     let holes = c.self.inside.holes.items in
-    let view = ap (λ (v : FreeSpace). take_answer c.args.n v.holes) c.self.view_is in
+    let view = ap (λ (v : OldMapContent). take_answer c.args.n v.holes) c.self.view_is in
     elim c.match-take_from.branch [
       | in-Some w ↦ w.result-is ∙ sym (take_answer-some c.args.n w.in-Some.start holes (sym c.take_from.ensures.start ∙ w.in-Some.is)) ∙ view
       | in-None w ↦
