@@ -11,6 +11,10 @@ is_node node o = o.node == node
 abbrev pub owns : ℕ → Owner → Bool
 owns id o = o.id == id
 
+-- whether an owner's object is held by the directory of this node
+abbrev pub is_held : ℕ → Owner → Bool
+is_held dir o = o.dir == dir
+
 -- whether this node has an owner in the list
 abbrev pub has_node : List Owner → ℕ → Bool
 has_node owners node = list_any (is_node node) owners

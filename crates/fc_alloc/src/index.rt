@@ -91,3 +91,10 @@ pub fn count_down(counts: &mut Vec<usize>, id: u32)
         counts[id] -= 1;
     }
 }
+
+// How many owners have an identifier.
+pub fn count_in(list: &[Owner], id: u32) -> usize
+    ensures { result ≡ count_by (owns id) list.now }
+{
+    list.iter().filter(|o| o.id == id).count()
+}

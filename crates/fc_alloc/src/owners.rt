@@ -1,12 +1,13 @@
 // The owners of a disc's identifiers.
-ghost use Rattle.std.specs.Prelude.{◌≡◌, [], ◌∷◌, ◌++◌, Contains, IsPermutation, IsFalse, IsTrue, OnErr, OnOk};
-ghost use Rattle.fc_alloc.specs.Owners.{HaveOwnNodes, has_node, is_id_owned, with_changed};
+ghost use Rattle.std.specs.Prelude.{◌≡◌, [], ◌∷◌, ◌++◌, Contains, IsPermutation, IfOk, IsFalse, IsTrue, OnErr, OnOk, count_by, filter};
+ghost use Rattle.std.specs.List.{find};
+ghost use Rattle.fc_alloc.specs.Owners.{HaveOwnNodes, has_node, is_held, is_id_owned, is_node, owns, with_changed};
 ghost use Rattle.fc_alloc.specs.declared.owner.Owner.{Owner};
 
 use crate::Owner;
-use crate::index::{count_down, count_up, grow_counts, grow_places, place_of};
+use crate::index::{count_down, count_in, count_up, grow_counts, grow_places, place_of};
 use fc_device::NoMemory;
-use std::alloc::Global;
+use std::alloc::{AllocError, Global};
 use std::marker::Model;
 
 /// The owners of a disc's identifiers, at most one for each node. Contracts see the list of them.
@@ -97,6 +98,34 @@ impl Owners {
         ensures nodes { HaveOwnNodes self.now }
     {
         &self.list
+    }
+
+    /// The owner of a node, if it has one.
+    pub fn of(&self, node: u64) -> Option<Owner>
+        ensures { result ≡ find (is_node node) self.now }
+    {
+        self.list.iter().copied().find(|o| o.node == node)
+    }
+
+    /// How many owners have an identifier.
+    pub fn count(&self, id: u32) -> usize
+        ensures { result ≡ count_by (owns id) self.now }
+    {
+        match self.counts.get(id as usize) {
+            Some(count) => *count,
+            None => count_in(&self.list, id),
+        }
+    }
+
+    /// The owners of the objects that a directory holds, in any order. The directory is given by the number of its node.
+    pub fn held_by(&self, alloc: Global, dir: u64) -> Result<Vec<Owner>, AllocError>
+        ensures { IfOk result (λ found. IsPermutation (filter (is_held dir) self.now) found.items) }
+    {
+        self.list
+            .iter()
+            .copied()
+            .filter(|o| o.dir == dir)
+            .collect(alloc)
     }
 
     /// Whether an owner has this identifier.

@@ -2,8 +2,6 @@
 
 ghost use Rattle.std.specs.Prelude.{◌≡◌};
 ghost use Rattle.std.specs.Option.{option_to_list};
-ghost use Rattle.std.specs.List.{find};
-ghost use Rattle.fc_alloc.specs.Owners.{is_node};
 ghost use Rattle.fc_growing.specs.Gone.{LeavesGrown, has_third, left_with};
 
 use fc_alloc::{Owner, Owners};
@@ -18,18 +16,11 @@ fn has_third(owners: &[Owner], node: u64, file: u64, id: u32) -> bool
         .any(|o| o.id == id && o.node != node && o.node != file)
 }
 
-// The owner of a node.
-fn owner_of(owners: &[Owner], node: u64) -> Option<Owner>
-    ensures { result ≡ find (is_node node) owners.now }
-{
-    owners.iter().copied().find(|o| o.node == node)
-}
-
 // The identifier of a node's object, unless it is the map's, or a third owner has it.
 fn left_with(owners: &Owners, node: u64, file: u64) -> Option<u32>
     ensures { result ≡ left_with owners.now node file }
 {
-    let own = owner_of(owners.list(), node)?;
+    let own = owners.of(node)?;
     let id = own.id;
     if id == 2 || has_third(owners.list(), node, file, id) {
         return None;
@@ -38,8 +29,7 @@ fn left_with(owners: &Owners, node: u64, file: u64) -> Option<u32>
 }
 
 // The identifier that goes back if the object of a node gets another one, or goes: its own, if no other object has it, and it
-// isn't the map's. The object of `copied` goes too, if that is a node, and doesn't count. The owners are gone over twice, and
-// no memory is taken.
+// isn't the map's. The object of `copied` goes too, if that is a node, and doesn't count. No memory is taken.
 pub(crate) fn left_by_grown(owners: &Owners, node: u64, copied: Option<u64>) -> Option<u32>
     ensures { LeavesGrown owners.now node copied (option_to_list result) }
 {

@@ -152,18 +152,11 @@ pub fn prepare_named(
     })
 }
 
-// The owner of a node.
-fn owner_of(owners: &[Owner], node: u64) -> Option<Owner>
-    ensures { result ≡ find (is_node node) owners.now }
-{
-    owners.iter().copied().find(|o| o.node == node)
-}
-
 // The owner of a node, held by another directory.
-fn moved_owner(owners: &[Owner], node: u64, dir: u64) -> Option<Owner>
+fn moved_owner(owners: &Owners, node: u64, dir: u64) -> Option<Owner>
     ensures { result ≡ option_map (held_by dir) (find (is_node node) owners.now) }
 {
-    match owner_of(owners, node) {
+    match owners.of(node) {
         Some(o) => Some(Owner { dir, ..o }),
         None => None,
     }
@@ -210,7 +203,7 @@ pub fn prepare_moved(
         moved: true,
         node: target.node,
         entry: own_entry,
-        owner: moved_owner(owners.list(), target.node, dir),
+        owner: moved_owner(owners, target.node, dir),
     })
 }
 

@@ -76,7 +76,7 @@ pub fn is_alone(owners: &Owners, dir: u64, address: u32) -> bool
     ensures { result ≡ is_alone_by owners.now dir address }
 {
     let id = address / 256;
-    id != 2 && !has_other(owners.list(), dir, id) && address % 256 <= 1
+    id != 2 && !has_other(owners, dir, id) && address % 256 <= 1
 }
 
 /// Room and being alone are the same by the owners as by the objects.

@@ -3,6 +3,7 @@ pub mod CommitLemmas
 pub mod CopyingLemmas
 pub mod ExtentLemmas
 pub mod LeavingLemmas
+mod OtherLemmas
 pub mod PlacedLemmas
 pub mod PlacesLemmas
 pub mod SlackLemmas

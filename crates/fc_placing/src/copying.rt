@@ -3,14 +3,14 @@
 ghost use Rattle.std.specs.Prelude.{◌≡◌, List, ℕ};
 ghost use Rattle.fc_placing.specs.Copying.{CopiesLaw, SaysCopied, copied_among};
 
-use crate::leaving::{has_other, owner_of};
-use fc_alloc::{Owner, Owners};
+use crate::leaving::has_other;
+use fc_alloc::Owners;
 
 // Whether a node's object is copied if it goes to a directory.
-fn copied_among(owners: &[Owner], node: u64, dir: u64) -> bool
+fn copied_among(owners: &Owners, node: u64, dir: u64) -> bool
     ensures { result ≡ copied_among owners.now node dir }
 {
-    match owner_of(owners, node) {
+    match owners.of(node) {
         Some(own) => {
             own.file && own.dir != dir && (own.id == 2 || has_other(owners, node, own.id))
         }
@@ -19,12 +19,11 @@ fn copied_among(owners: &[Owner], node: u64, dir: u64) -> bool
 }
 
 /// Whether `rename` copies a node's object if it puts it into the directory of node `dir`: if it is a file, lies in
-/// another directory now, and shares its identifier with another object or the map. The owners are gone over twice, and no
-/// memory is taken.
+/// another directory now, and shares its identifier with another object or the map. No memory is taken.
 pub fn is_copied(owners: &Owners, node: u64, dir: u64) -> bool
     ensures { SaysCopied owners.now node dir result }
 {
-    copied_among(owners.list(), node, dir)
+    copied_among(owners, node, dir)
 }
 
 /// What a rename wants of space.

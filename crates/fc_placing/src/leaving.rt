@@ -1,12 +1,12 @@
 // Which identifier goes back if an object goes.
 
-ghost use Rattle.std.specs.Prelude.{◌≡◌, None};
-ghost use Rattle.std.specs.Option.{option_to_list};
+ghost use Rattle.std.specs.Prelude.{◌≡◌, None, if◌then◌else◌};
+ghost use Rattle.std.specs.Option.{option_map_or, option_to_list};
 ghost use Rattle.std.specs.List.{find};
-ghost use Rattle.fc_alloc.specs.Owners.{is_node};
+ghost use Rattle.fc_alloc.specs.Owners.{is_node, owns};
 ghost use Rattle.fc_placing.specs.Leaving.{LeavesIds, LeavesUsed, has_other, is_kept, left_among};
 
-use fc_alloc::{Owner, Owners};
+use fc_alloc::Owners;
 
 // Whether an identifier is the one that is kept.
 fn is_kept(kept: Option<u32>, id: u32) -> bool
@@ -18,34 +18,39 @@ fn is_kept(kept: Option<u32>, id: u32) -> bool
     }
 }
 
-/// Whether an owner of another node has an identifier.
-pub fn has_other(owners: &[Owner], node: u64, id: u32) -> bool
-    ensures { result ≡ has_other owners.now node id }
+// How many owners a node has with an identifier, at most one.
+fn own_count(owners: &Owners, node: u64, id: u32) -> usize
+    ensures { result ≡ (if option_map_or (owns id) (find (is_node node) owners.now) false then 1 else 0) }
 {
-    owners.iter().any(|o| o.id == id && o.node != node)
+    match owners.of(node) {
+        Some(own) if own.id == id => 1,
+        _ => 0,
+    }
 }
 
-/// The owner of a node.
-pub fn owner_of(owners: &[Owner], node: u64) -> Option<Owner>
-    ensures { result ≡ find (is_node node) owners.now }
+/// Whether an owner of another node has an identifier.
+pub fn has_other(owners: &Owners, node: u64, id: u32) -> bool
+    ensures { result ≡ has_other owners.now node id }
 {
-    owners.iter().copied().find(|o| o.node == node)
+    // Contracts see by this that no two owners are of one node.
+    let _ = owners.list();
+    owners.count(id) > own_count(owners, node, id)
 }
 
 // The identifier of a node's object, unless it is the map's, or the one that is kept, or another owner has it.
 fn left_among(owners: &Owners, node: u64, kept: Option<u32>) -> Option<u32>
     ensures { result ≡ left_among owners.now node kept }
 {
-    let own = owner_of(owners.list(), node)?;
+    let own = owners.of(node)?;
     let id = own.id;
-    if id == 2 || is_kept(kept, id) || has_other(owners.list(), node, id) {
+    if id == 2 || is_kept(kept, id) || has_other(owners, node, id) {
         return None;
     }
     Some(id)
 }
 
 /// The identifier that goes back if the object of a node goes: its own, if no other object has it, and it isn't the map's.
-/// The owners are gone over twice, and no memory is taken.
+/// No memory is taken.
 pub fn left_by(owners: &Owners, node: u64) -> Option<u32>
     ensures exactly { LeavesIds owners.now node None (option_to_list result) }
     ensures used { LeavesUsed owners.now (option_to_list result) }

@@ -40,18 +40,11 @@ pub struct Leaving {
     pub own: Entry,
 }
 
-// The owner of a node.
-fn owner_of(owners: &[Owner], node: u64) -> Option<Owner>
-    ensures { result ≡ find (is_node node) owners.now }
-{
-    owners.iter().copied().find(|o| o.node == node)
-}
-
 // The owner of a node, held by another directory.
-fn moved_owner(owners: &[Owner], node: u64, dir: u64) -> Option<Owner>
+fn moved_owner(owners: &Owners, node: u64, dir: u64) -> Option<Owner>
     ensures { result ≡ option_map (held_by dir) (find (is_node node) owners.now) }
 {
-    match owner_of(owners, node) {
+    match owners.of(node) {
         Some(o) => Some(Owner { dir, ..o }),
         None => None,
     }
@@ -180,6 +173,6 @@ pub fn prepare_move(
         source: Some(source),
         node: target.node,
         entry: own_entry,
-        owner: moved_owner(owners.list(), target.node, dir),
+        owner: moved_owner(owners, target.node, dir),
     })
 }

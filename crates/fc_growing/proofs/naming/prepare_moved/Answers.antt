@@ -1,13 +1,9 @@
-use Rattle.std.proofs.Common.{List, find, refl, sym, ap, subst, ◌∙◌}
-use Rattle.std.specs.Prelude.{option_map}
+use Rattle.std.proofs.Common.{List, refl, sym, ap, subst, ◌∙◌}
 use Rattle.std.specs.Option.{option_map as map_option}
-use Rattle.fc_alloc.specs.declared.owner.Owner.{Owner}
-use Rattle.fc_alloc.specs.Owners.{is_node}
 use Rattle.fc_device.specs.declared.disk.Extent.{Extent}
 use Rattle.fc_drafts.specs.Draft.{directory_in}
 use Rattle.fc_image.specs.Layout.{Layout}
 use Rattle.fc_tree.specs.Nodes.{nodes_of}
-use Rattle.fc_volume.specs.Moving.{held_by}
 use Rattle.fc_volume.specs.Renaming.{IsTurned}
 use Rattle.fc_growing.specs.Growing.{IsGrowingReady, regrowth}
 use Rattle.fc_growing.specs.Leaving.{IsLeavingGrown}
@@ -35,5 +31,5 @@ returns c =
       moved = refl;
       number = refl;
       entry = refl;
-      owner = c.moved_owner.ensures ∙ ap (λ (os : List Owner). option_map (held_by c.args.dir) (find (is_node c.args.target.node) os)) c.list.ensures.same;
+      owner = c.moved_owner.ensures;
     }
