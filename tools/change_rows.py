@@ -4,7 +4,7 @@ import hashlib
 import damaged_images
 from filecore import BIG_LIMIT
 from fragmented import hard_disc
-from images import full_identifiers, named_files, two_holes, user_disc
+from images import full_identifiers, named_files, small_tree, two_holes, user_disc
 from volumes import FRESH, File, NewVolume, OldVolume, record_bytes
 
 LONG = "n" * 255
@@ -34,10 +34,39 @@ def holes_of_four_and_eight():
 
 
 class Worn:
-    """A fresh F disc whose first copy of the map has another total than it may have, and right checks."""
+    """A fresh F disc in which bytes of the map's copies were changed."""
+
+    def __init__(self, change):
+        self.change = change
 
     def image(self):
-        return damaged_images.Damage(FRESH["F"]()).zone(0, {3: 0xFE}, (0,)).data
+        return self.change(damaged_images.Damage(FRESH["F"]())).data
+
+
+WORN = [  # a copy with another total than it may have and right checks, one with a wrong check, and a second copy that says something else
+    lambda damage: damage.zone(0, {3: 0xFE}, (0,)), lambda damage: damage.zone(0, {3: 0xFE}, (1,)),
+    lambda damage: damage.wrong_check(1, (0,)), lambda damage: damage.wrong_check(3, (1,)),
+    lambda damage: damage.zone(1, {1: 0x28, 4: 3, 5: 0x80}, (1,)),
+]
+
+
+def holes_of(*lengths):
+    """A disc of one zone with these holes and lost runs of 16 bits between them: 256 bytes a bit, sectors of 512, runs of 16 bits at least."""
+    size = 256 * (22 + sum(lengths) + 16 * (len(lengths) - 1))
+    volume = NewVolume(record_bytes(9, 15, 8, 1, 32, 0x208, size), True)
+    volume.take(2, 0, 22)
+    for before in lengths[:-1]:
+        volume.take(99, 0, 16, skip=before)
+    return volume
+
+
+def after_four_units():
+    """An old map whose hole of 4 units is shorter than the file after it, so that this slides over itself."""
+    volume = OldVolume("D", 3200)
+    volume.hole(4)
+    volume.root.insert(volume.file(b"A", sectors(24)))
+    volume.rest_is_hole()
+    return volume
 
 
 def sectors(count):
@@ -73,6 +102,15 @@ def digest(count):
     return hashlib.sha256(sectors(count)).hexdigest() + " / ok"
 
 
+def saved(name, count):
+    return "save $.%s Z Z %s\n" % (name, sectors(count).hex())
+
+
+def listed(*names):
+    """The reply of `cat` for files of 0 bytes."""
+    return "".join(name + " 00000003 00000000 00000000 0 / " for name in names) + "ok"
+
+
 def listed_docs():
     """What `cat` answers of the forty files of the user's disc."""
     volume = user_disc()
@@ -105,6 +143,24 @@ ON_ALL = [  # answered alike on all discs
     ("save $.L Z Z 01\nset $.L Z Z RL\ndelete $.L\nrename $.L $.M\nsave $.L Z Z 02\ncat $\nload $.L",
      "ok / ok / error 9 Locked / error 9 Locked / error 9 Locked / L 00000005 00000000 00000000 1 / ok / 01 / ok"),
 ]
+# names of ten and of eleven bytes, with a byte above 127, a space, punctuation, and byte 127
+WRITABLE = "".join("create $.%s Z Z 0\n" % name for name in ("ABCDEFGHIJ", "ABCDEFGHIJK", "%E9", "A%20B", "!Boot~", "%7F"))[:-1]
+# letters count as capitals, and other bytes as they are
+UNORDERED = ("_", "%E9", "{", "Ac", "AB", "[", "a", "%C9", "`")
+ORDER = "".join("create $.%s Z Z 0\n" % name for name in UNORDERED) + "cat $\ncdir $.ab\ncreate $.%e9 Z Z 0"
+ORDERED = "ok / " * len(UNORDERED) + listed("a", "AB", "Ac", "[", "_", "`", "{", "%C9", "%E9") + " / error 6 Exists / ok"
+
+
+def slides(most):
+    """Three files whose runs begin at any bit: the first goes, and the others slide into its place."""
+    return (saved("A", most) + saved("B", most - 2) + saved("C", most - 1) + "delete $.A\ncompact\ndigest $.B\ndigest $.C\ncheck")
+
+
+def slid(most, free):
+    return ("ok / ok / ok / ok / ok / " + digest(most - 2) + " / " + digest(most - 1)
+            + " / files 2 dirs 1 lost 0 holes 2 free %d unsorted 0 parents 0 / ok" % free)
+
+
 ROWS = [(make, script, wanted) for make in FRESH.values() for script, wanted in ON_ALL] + [
     (FRESH["E"], "create $.A Z Z 815105\ncreate $.A Z Z 815104\nfree\ncreate $.B Z Z 1\ncreate $.C Z Z 0",
      "error 14 DiscFull / ok / free 0 0 / ok / error 14 DiscFull / ok"),
@@ -141,7 +197,24 @@ ROWS = [(make, script, wanted) for make in FRESH.values() for script, wanted in 
     (FRESH["E+"], "save $.Notes_of_the_second_year Z Z 4142\ncat $", "ok / Notes_of_the_second_year 00000003 00000000 00000000 2 / ok"),
     (FRESH["E"], "save $.Notes_of_the_second_year Z Z 4142\ncat $", "error 2 BadName / ok"),
     (FRESH["E"], "create $.error Z Z 0\ncat $", "ok / error 00000003 00000000 00000000 0 / ok"),
-    (Worn, "cdir $.D\ncat $", "ok / D 00000008 00000000 00000000 dir / ok"),
+    *((lambda change=change: Worn(change), "cdir $.D\ncat $", "ok / D 00000008 00000000 00000000 dir / ok") for change in WORN),
+    (lambda: holes_of(16, 16, 64), "create $.A Z Z 17920\nfree", "ok / free 4096 4096 / ok"),
+    (lambda: holes_of(18, 18), "create $.A Z Z 4096\nfree", "ok / free 4608 4608 / ok"),
+    (lambda: holes_of(18, 18), "create $.A Z Z 1\nfree", "ok / free 4608 4608 / ok"),
+    (lambda: holes_of(16, 40, 64), "create $.A Z Z 4352\ncheck",
+     "ok / files 1 dirs 1 lost 8192 holes 3 free 26112 unsorted 0 parents 0 / ok"),
+    *((lambda idlen=idlen: hard_disc(8, idlen, 8, 2, big=idlen > 15), slides(idlen + 4), slid(idlen + 4, free))
+      for idlen, free in ((11, 892672), (12, 891648), (15, 888064), (19, 882944))),
+    (after_four_units, "digest $.A\nfree\ncompact\ndigest $.A\nfree",
+     digest(24) + " / free 809984 808960 / ok / ok / " + digest(24) + " / free 809984 809984 / ok"),
+    (small_tree, "rename $.D $.D\nrename $.D $.d\nrename $.d.E $.F\ncdir $.d.G\nset $.l Z Z R\nset $.A%20B Z Z RL\nset $.A%20B Z Z -\n"
+     "delete $.A%20B\ndelete $.F\ncat $", "ok / " * 9 + "d 00000008 00000000 00000000 dir / L 00000001 00000000 00000000 1 / ok"),
+    (FRESH["E"], WRITABLE, "ok / error 2 BadName / ok / error 2 BadName / ok / error 2 BadName"),
+    (FRESH["L"], WRITABLE, "ok / error 2 BadName / error 2 BadName / error 2 BadName / ok / error 2 BadName"),
+    (FRESH["E+"], WRITABLE, "ok / ok / ok / error 2 BadName / ok / error 2 BadName"),
+    *((FRESH[form], ORDER, ORDERED) for form in ("E", "D", "E+")),
+    (FRESH["E+"], names(63) + "free\nrename $.N00 $.%s\nfree" % ("a" * 200),
+     "ok / " * 63 + "free 813056 811008 / ok / ok / free 813056 811008 / ok"),
     (lambda: after_a_hole(40), "digest $.A\nfree\ncompact\nfree\ndigest $.A",
      digest(5) + " / free 105728 61440 / ok / ok / free 105728 61440 / ok / " + digest(5)),
     (lambda: after_a_hole(24), "digest $.A\nfree\ncompact\nfree\ndigest $.A",

@@ -1,6 +1,6 @@
 #!/usr/bin/env python3
 """Runs the built program where the system fails it: streams that are closed, no /dev, calls that fail, are interrupted or move a
-part of their bytes, no memory, limits, kills.
+part of their bytes, no memory, limits, kills. It also looks at what is read: kept sectors once, and no directory of a wrong length.
 
 usage: tools/check_outside.py PROGRAM
 
@@ -19,6 +19,7 @@ import subprocess
 import sys
 import tempfile
 
+from damaged_images import sized
 from volumes import FRESH
 
 TOOLS = os.path.dirname(os.path.realpath(__file__))
@@ -163,6 +164,24 @@ def undisturbed(place):
         place.note("makes: the length, each sector, one sync of the file, one of the folder",
                    order == ["truncate"] + ["pwrite"] * sectors + ["fsync file", "fsync folder"], order[-4:])
     return reading, making
+
+
+def reads(place):
+    """What is read how often: sectors are kept, and what can't be a directory by its length isn't read."""
+    volume = FRESH["F"]()
+    volume.root.insert(volume.file(b"A", b"A" * 1000))
+    for name, content in (("thousand.adf", volume.image()), ("loads", b"load $.A\n" * 100), ("size-0.adf", sized(0)), ("size-4096.adf", sized(4096))):
+        write(place.path(name), content)
+    ended = place.run([place.path("thousand.adf")], "loads")
+    place.expect("loads 1,000 bytes a hundred times", ended, 0, output=(b"41" * 1000 + b"\nok\n") * 100)
+    count = len(ended.kind("pread"))
+    place.note("loads 1,000 bytes a hundred times: fewer than a hundred reads", count < 100, "%d reads" % count)
+    for name, word, is_read in (("size-0.adf", b"Size", False), ("size-4096.adf", b"Magic", True)):
+        ended = place.run([place.path(name)])
+        place.expect("a directory of " + name, ended, 3, output=b"bad-image Directory $.D %s\n" % word)
+        spans = [[int(number) for number in call[3].split()] for call in ended.kind("pread")]
+        # before it lie the map and the root, of 2048 bytes each
+        place.note("a directory of " + name + ": whether it is read", is_read == any(at + length > 4096 for fd, at, length in spans), spans)
 
 
 STATUSES = [
@@ -451,6 +470,7 @@ def main(program):
         try:
             shutil.copy(shim, place.path("shim.so"))
             reading, making = undisturbed(place)
+            reads(place)
             statuses(place)
             closed_streams(place)
             no_dev(place)

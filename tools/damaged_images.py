@@ -109,8 +109,12 @@ def kinds():
     yield "e-checks", Damage(fresh_e()).wrong_check(0, (0, 1)).data, "NoKind"
     yield "e-cross", Damage(fresh_e()).zone(0, {3: 0xFE}).data, "NoKind"
     yield "e-record", Damage(fresh_e()).zone(0, {4 + 4: 12}).data, "NoKind"
+    yield "e-two-zones", Damage(fresh_e()).zone(0, {4 + 9: 2}).data, "NoKind"
+    yield "e-sectors-of-512", Damage(fresh_e()).zone(0, {4: 9}).data, "NoKind"
+    yield "e-second-copy-cut", Damage(fresh_e()).wrong_check(0, (0,)).cut(2047).data, "NoKind"
     yield "d-check-0", Damage(fresh_old("D")).patch(255, b"\x97").data, "NoKind"
     yield "d-check-1", Damage(fresh_old("D")).patch(511, b"\x80").data, "NoKind"
+    yield "l-check-of-no-holes", Damage(OldVolume("L", 7)).patch(511, b"\x01").data, "NoKind"
     for units in (0, 6, 2561, 3199, 3201):
         yield "old-%d-units" % units, old_of_size(units), "NoKind"
     yield "f-boot-check", Damage(fresh_f()).patch(BOOT_BLOCK + 511, b"\x9F").data, "NoKind"
@@ -143,6 +147,7 @@ def lengths():
     yield "e-cut", Damage(fresh_e()).cut(819199).data, "Short 819200 819199"
     yield "e-one-sector", Damage(fresh_e()).cut(1024).data, "Short 819200 1024"
     yield "l-map-alone", Damage(fresh_old("L")).cut(512).data, "Short 655360 512"
+    yield "e-on-a-short-l", Damage(fresh_old("L")).patch(1024, fresh_e().zone_sector(0)).data, "Short 819200 655360"
     # a boot block counts before an old map, and before a single zone
     yield "d-with-boot", Damage(fresh_old("D")).patch(BOOT_BLOCK, boot_block(fresh_f().raw)).data, "Short 1638400 819200"
     yield "e-with-boot", Damage(fresh_e()).patch(BOOT_BLOCK, boot_block(tiny().raw)).data, "Copies 0 0"
@@ -155,6 +160,7 @@ def copies():
     yield "f-both-copies", Damage(fresh_f()).wrong_check(1, (0,)).wrong_check(3, (1,)).data, "Copies 1 3"
     yield "f-both-totals", Damage(fresh_f()).zone(2, {3: 1}).data, "Copies 4 4"
     yield "f-total-and-check", Damage(fresh_f()).zone(0, {3: 0xFE}, (0,)).wrong_check(0, (1,)).data, "Copies 4 0"
+    yield "f-check-and-total", Damage(fresh_f()).wrong_check(3, (0,)).zone(0, {3: 0xFE}, (1,)).data, "Copies 3 4"
     yield "f-first-zone", Damage(fresh_f()).wrong_check(1, (0, 1)).wrong_check(2, (0, 1)).data, "Copies 1 1"
     both = Damage(tiny()).zone(0, {4 + 9: 2}).wrong_check(0, (0, 1))
     yield "copies-before-differs", both.data, "Copies 0 0"
@@ -192,7 +198,9 @@ def zones():
     no_run = Damage(tiny()).zone(0, no_end)
     yield "zone-without-bits", no_run.data, "Zone 0 512"
     yield "zone-1-without-bits", Damage(fresh_f()).zone(1, {at: 0 for at in range(4, 1024)}).data, "Zone 1 32"
+    yield "zone-3-without-bits", Damage(fresh_f()).zone(3, {at: 0 for at in range(4, 1024)}).data, "Zone 3 32"
     yield "chain-1-further", Damage(fresh_e()).zone(0, {1: 0x19}).data, "Zone 0 545"
+    yield "zone-3-chain-1-further", Damage(fresh_f()).zone(3, {1: 0x19}).data, "Zone 3 33"
     yield "chain-past-end", Damage(fresh_e()).zone(0, {1: 0xFF, 2: 0xFF}).data, "Zone 0 32775"
     yield "chain-past-hole", Damage(fresh_e()).zone(0, {68: 5}).data, "Zone 0 549"
     odd = with_runs(fresh_f, 1, lambda bits: [(32, 5), (24, 6), (bits - 56, None)])
@@ -297,10 +305,20 @@ def big_directories():
         for at, changed in changes.items():
             yield name, big_rechecked(damage({at: changed}), inner), fault + wrong
     yield "big-root-word", damage({4: b"X"}, volume.root).data, "Directory $ Magic"
+    for name, changes, wrong in BIG_FRAMES:
+        yield "big-frame-" + name, Damage(e_plus()).patch(2048, b"").directory(volume.root, changes).data, "Directory $ " + wrong
     yield "big-directory-size-0", sized(0), "Directory $.D Size"
     yield "big-directory-size-odd", sized(2049), "Directory $.D Size"
     yield "big-directory-longer", sized(4096), "Directory $.D Magic"
     yield "big-first-form-first", twice_right(), "Directory $.Docs BadEntry 0"
+
+
+# the root of a fresh E+, which has no entries: the longest name and the most entries for which there is room
+BIG_FRAMES = [
+    ("first-byte", {1: b"\1"}, "Magic"), ("top-bit", {3: b"\x80"}, "Magic"), ("size-of-4096", {13: b"\x10"}, "Size"),
+    ("name-too-long", {8: b"\xdd\7"}, "Size"), ("longest-name", {8: b"\xdc\7"}, "Check"), ("too-many-entries", {16: b"\x48"}, "Size"),
+    ("heap-of-2", {20: b"\2"}, "Size"), ("check", {2047: b"\x7a"}, "Check"), ("behind-the-name", {31: b"\1"}, "Check"),
+]
 
 
 def big_entries(entry):

@@ -13,6 +13,7 @@ import sys
 import damaged_images
 import read_image
 import script_cases
+from filecore import (BAD_NAME, EXISTS, INTO_ITSELF, IS_DIRECTORY, LOCKED, NOT_DIRECTORY, NOT_EMPTY, NOT_FOUND, READ_ONLY, ROOT_REFUSED)
 from volumes import FRESH, Directory, File, NewVolume, OldVolume, fresh_e, fresh_f, record_bytes
 
 HARD_DISC = dict(log2_sector=9, idlen=13, log2_bit=7, zones=20, spare=32, root=0x300, size=79200 * 128, share=1)
@@ -286,6 +287,18 @@ def many_holes():
     return volume
 
 
+def small_tree():
+    """An L disc of 40 sectors: a file `A B`, a directory D with an empty directory E in it, and a locked file L."""
+    volume = OldVolume("L", 40)
+    root = volume.root
+    inner = root.insert(volume.directory(root, b"D"))
+    inner.insert(volume.directory(inner, b"E"))
+    root.insert(volume.file(b"A B", b"\1"))
+    root.insert(volume.file(b"L", b"\1", attributes=7))
+    volume.rest_is_hole()
+    return volume
+
+
 VOLUMES = {
     "hello": hello, "e-files": lambda: new_volume(fresh_e), "f-files": files_f, "d-files": lambda: old_volume("D", 3200),
     "l-files": lambda: old_volume("L", 2560), "e-plus-files": lambda: big_volume(lambda: fresh_e(True)),
@@ -294,7 +307,7 @@ VOLUMES = {
     "small-sectors": small_sectors, "large-sectors": large_sectors, "wide-disc": wide_disc, "two-holes": two_holes,
     "full-identifiers": full_identifiers,
     "l-7-units": lambda: small_disc(7), "l-8-units": lambda: small_disc(8), "l-640-units": lambda: small_disc(640),
-    "l-82-holes": many_holes,
+    "l-82-holes": many_holes, "small-tree": small_tree,
 }
 
 
@@ -310,6 +323,8 @@ def variants():
     yield "e-links-without-top-bit", volume, damaged_images.Damage(volume).zone(0, {2: 0x02}).data
     volume = files_f()
     yield "f-second-copy", volume, damaged_images.Damage(volume).zone(0, {3: 0xFE}, (0,)).data
+    yield "f-wrong-check-in-first-copy", volume, damaged_images.Damage(volume).wrong_check(1, (0,)).data
+    yield "f-wrong-check-in-second-copy", volume, damaged_images.Damage(volume).wrong_check(3, (1,)).data
     yield "f-first-copy", volume, damaged_images.Damage(volume).zone(2, {900: 0x11, 3: 4}, (1,)).zone(3, {3: 4}, (1,)).data
     yield "f-other-root-in-boot", volume, damaged_images.Damage(volume).boot({12: 2}).data
     volume = damaged_images.tiny()
@@ -320,6 +335,11 @@ def variants():
     yield "lost-identifier", volume, volume.image()
     volume = map_in_lost_run()
     yield "f-map-in-lost-run", volume, volume.image()
+    volume = OldVolume("L", 7)  # half a map of zeros has the check 0 or 255
+    yield "l-no-holes-check-0", volume, damaged_images.Damage(volume).patch(511, b"\0").data
+    yield "l-no-holes-check-255", volume, damaged_images.Damage(volume).patch(511, b"\xff").data
+    volume, inner = damaged_images.with_directory(lambda: OldVolume("L", 2560))  # a place after the first empty one isn't read
+    yield "l-bytes-after-the-entries", volume, damaged_images.Damage(volume).directory(inner, {5 + 26 * 5: b"\x1f"}).data
     volume, inner = damaged_images.with_directory(lambda: OldVolume("D", 3200))
     damage = damaged_images.Damage(volume).directory(inner, {7: b"\n", 33: b"\0x"})
     yield "d-names-end-otherwise", volume, damage.checked(inner).data
@@ -357,6 +377,23 @@ def named_cases():
     yield script_cases.Case("name-of-error", ["named.adf"], "cat $.d\n", 0, "error 00000003 00000000 00000000 0\nok\n")
 
 
+def first_reasons():
+    """The first of several reasons is the refusal."""
+    words = "%s 00000000 00000000"
+    save, create, access = "save " + words + " 01", "create " + words + " 1", "set " + words + " R"
+    yield script_cases.lines_case("first-reasons", "small-tree.adf", [
+        ("rename $.D $.D.E.X", INTO_ITSELF), ("rename $.D $.D.Q.X", NOT_FOUND), ("rename $ $.X", ROOT_REFUSED), ("rename $.D $", EXISTS),
+        ("rename $ $", ROOT_REFUSED), ("rename $.None $", NOT_FOUND), ("rename $.D.E $.L", EXISTS), ("rename $.D $.L.X", NOT_DIRECTORY),
+        ("rename $.L $.M", LOCKED), ("rename $.None $.A%20C", BAD_NAME), ("delete $.D", NOT_EMPTY), ("delete $", ROOT_REFUSED),
+        ("delete $.L", LOCKED), (save % "$.l", LOCKED), (save % "$.A%20B", BAD_NAME), (save % "$", IS_DIRECTORY),
+        (create % "$.D", IS_DIRECTORY), (save % "$.A%20B.C", NOT_DIRECTORY), (save % "$.Q.C", NOT_FOUND), ("cdir $.A%20B", BAD_NAME),
+        ("cdir $", EXISTS), (access % "$", ROOT_REFUSED), (access % "$.L.C", NOT_DIRECTORY)])
+    yield script_cases.lines_case("first-reasons-read-only", "small-tree.adf", [
+        ("delete $.None", NOT_FOUND), ("delete $.L", LOCKED), ("delete $.D.E", READ_ONLY), (access % "$", ROOT_REFUSED),
+        (access % "$.L", READ_ONLY), (save % "$.New", READ_ONLY), (save % "$.Q.A%20B", BAD_NAME), ("cdir $.D", EXISTS),
+        ("cdir $.D.F", READ_ONLY), ("rename $.D.E $.F", READ_ONLY), ("compact", READ_ONLY)], ["--read-only"])
+
+
 # ---- the table
 
 
@@ -389,6 +426,7 @@ def table():
     for name in ("locked.adf", "a folder/hello.adf", "h\u00e9llo.adf"):
         files[name] = files["hello.adf"]
     cases += named_cases()
+    cases += first_reasons()
     cases += script_cases.all_cases()
     return files, cases
 
@@ -429,27 +467,51 @@ def write_table(folder):
         write_case(os.path.join(folder, "cases", "%03d-%s" % (at, case.name)), case)
 
 
-# bytes of fresh volumes that were worked out by hand
+# Bytes of fresh volumes that were worked out by hand or by other programs. Both copies of a map on one zone are given; of the others
+# the second is compared with the first.
+RECORD_E = "0A050202 0F070100 00012005 03020000 00800C"
+RECORD_F = "0A0A0204 0F060100 00044006 09020000 000019"
+RECORD_E_PLUS = "0A050202 0F070100 00012005 01030000 00800C"
+RECORD_F_PLUS = "0A0A0204 0F060100 00044006 01030000 000019"
+PLUS = "01000000 0008"
+ROOT_NICK = {0: "004E69636B00", 2032: "240D", 2042: "004E69636B"}
+ROOT_SBPR = {0: "00000000 53425072 01000000 00080000 00000000 00000000 01030000 240D0000", 2040: "6F76656E 0000007B"}
+
+
+def placed(at, known):
+    return {at + place: text for place, text in known.items()}
+
+
+MAP_E = {0: "0F1882FF" + RECORD_E, 64: "02000080", 863: "80"}
+MAP_E_PLUS = {0: "9D1882FF" + RECORD_E_PLUS, 48: PLUS, 64: "02800380", 863: "80"}
 KNOWN_BYTES = {
-    "E": {0: "0F1882FF 0A050202 0F070100 00012005 03020000 00800C00", 64: "02000080", 863: "80", 2048: "004E69636B00", 4095: "6A"},
-    "F": {0xC6800: "BC3882FF", 0xC6C00: "18188000", 0xC7000: "3BB880000200", 0xC7400: "18188000", 0xDFF: "9E"},
-    "D": {255: "98", 511: "83"},
-    "L": {255: "11", 511: "05"},
-    "E+": {0: "9D1882FF 0A050202 0F070100 00012005 01030000 00800C00", 48: "0100000000080000", 64: "02800380", 863: "80",
-           2048: "00000000 53425072 01000000 00080000 00000000 00000000 01030000 240D0000", 4088: "6F76656E 0000007B"},
+    "E": {**MAP_E, **placed(1024, MAP_E), **placed(2048, {**ROOT_NICK, 2010: "0302 00240D", 2047: "6A"})},
+    "E+": {**MAP_E_PLUS, **placed(1024, MAP_E_PLUS), **placed(2048, ROOT_SBPR)},
+    "L": {0: "07", 252: "000A0011", 256: "F909", 510: "0305", 512: "004875676F00", 1740: "240D", 1750: "0200 00240D", 1786: "004875676F00"},
+    "D": {0: "0C0000", 252: "800C0098", 256: "740C00", 510: "0383", **placed(1024, {**ROOT_NICK, 2010: "0400 00240D"})},
+    "F": {0xDC0: RECORD_F, 0xDFF: "9E", **placed(0xC6800, {0: "BC3882FF" + RECORD_F, 64: "02000000 00000080", 827: "80"}),
+          0xC6C00: "18188000", 0xC6F3B: "80", 0xC7000: "3BB880000200", 0xC7017: "80", 0xC733B: "80", 0xC7400: "18188000", 0xC7717: "80",
+          **placed(0xC8800, {**ROOT_NICK, 2010: "0902 00240D"})},
+    "F+": {0xDC0: RECORD_F_PLUS, 0xDEC: PLUS, 0xDFF: "A0", 0xC7010: "00000080 03000080", **placed(0xC8800, ROOT_SBPR)},
 }
+WHOLE = ("E", "E+", "L")  # every other byte of these is 0
+COPIES = {"F": (0xC6800, 0xC7800, 0xC8800), "F+": (0xC6800, 0xC7800, 0xC8800)}
 
 
 def check_fresh():
-    wrong = 0
+    wrong = []
     for form, known in KNOWN_BYTES.items():
         image = FRESH[form]().image()
+        wanted = bytearray(len(image)) if form in WHOLE else bytearray(image)
         for at, text in known.items():
             content = bytes.fromhex(text)
-            if image[at:at + len(content)] != content:
-                wrong += 1
-                print("fresh %s: other bytes at %d" % (form, at))
-    return wrong == 0
+            wanted[at:at + len(content)] = content
+        wrong += ["fresh %s: another byte at %d" % (form, at) for at in range(len(image)) if image[at] != wanted[at]]
+    for form, (one, two, end) in COPIES.items():
+        image = FRESH[form]().image()
+        wrong += [] if image[one:two] == image[two:end] else ["fresh %s: the copies of the map differ" % form]
+    print("".join(line + "\n" for line in wrong[:20]), end="")
+    return not wrong
 
 
 def check_table():

@@ -37,11 +37,14 @@ WRONG_LINES = [
     f"save $.A {ZEROS} --", f"create $.A {ZEROS} 01", f"create $.A {ZEROS} 4294967296",
     f"create $.A {ZEROS} " + "9" * 5000, f"create $.A {ZEROS} -1",
     f"set $.A {ZEROS} WR", f"set $.A {ZEROS} RR", f"set $.A {ZEROS} r", f"set $.A {ZEROS}", "rename $.A", "delete", "cdir $.A $.B",
-    "compact $", "reclaim $", "load x $", "lod x",
+    "compact $", "reclaim $", "load x $", "lod x", "Load $", "load $.caf\u00e9", "rename $.A $.B $.C", f"save $.A {ZEROS} - -",
+    "save $.A 0000000 00000000 -", "save $.A 00000000 000000000 -", "save $.A +0000000 00000000 -", "save $.A* 0 0 -",
+    f"create $.A {ZEROS} 00", f"create $.A {ZEROS} +1", f"create $.A {ZEROS} 1a", f"create $.A {ZEROS} -", f"set $.A {ZEROS} LR",
+    f"put a $.A {ZEROS}",
 ]
 WRONG_PATHS = [
     "Hello", "$Hello", "$.", "$..A", "$.A.", "$.A%", "$.A%2", "$.A%zz", "$.%1F", "$.%00", "$.a:b", "$.a*", "$.&", "@", "$.$",
-    "$." + "n" * 256, "$.a|b", '$."',
+    "$." + "n" * 256, "$.a|b", '$."', ".A", "A.$", "$.A%", "$.A%G0", "$$",
 ]
 
 
@@ -51,7 +54,9 @@ def grammar():
     yield lines_case("wrong-paths", "hello.adf", [("load " + path, BAD_NAME) for path in WRONG_PATHS])
     yield lines_case("wrong-paths-of-changes", "hello.adf", [
         ("delete $.", BAD_NAME), ("cdir A", BAD_NAME), ("rename $.A B", BAD_NAME), ("rename A $.B", BAD_NAME),
-        (f"save $. {ZEROS} -", BAD_NAME), (f"create % {ZEROS} 1", BAD_NAME), (f"set x {ZEROS} RWL", BAD_NAME)])
+        (f"save $. {ZEROS} -", BAD_NAME), (f"create % {ZEROS} 1", BAD_NAME), (f"set x {ZEROS} RWL", BAD_NAME),
+        ("rename $.A $.B*", BAD_NAME), ("rename $.A* $.B", BAD_NAME), (f"save $.A* {ZEROS} -", BAD_NAME),
+        (f"create .A {ZEROS} 1", BAD_NAME), (f"set $$ {ZEROS} R", BAD_NAME)])
     yield lines_case("spelled-paths", "hello.adf", [
         ("load $.hello", hello), ("load $.%48%65LLO", hello), ("load $.%48%65%6c%6C%6f", hello), ("load $.%20", NOT_FOUND),
         ("load $." + "n" * 255, NOT_FOUND), ("load $.None.Deeper", NOT_FOUND), ("load $.Hello.X.Y", NOT_DIRECTORY),
@@ -153,6 +158,13 @@ BAD_WORDS = [
     ["--demo", "-1", "hello.adf"], ["--demo=+5", "hello.adf"], ["--new", "--", "x.adf"], ["--new=E=", "x.adf"],
     ["--", "hello.adf", "--"], ["hello.adf", ""], ["--read-only", "--read-only", "hello.adf"], ["--read-only=1", "hello.adf"],
     ["--read", "hello.adf"], ["-r", "hello.adf"], ["--safe", "--safe", "hello.adf"], ["--"],
+    ["hello.adf", "--", "x.adf"], ["--", "hello.adf", "x.adf"], ["--", ""], ["hello.adf", "--new"], ["--new", "", "x.adf"],
+    ["--new", "-", "x.adf"], ["--new", "-E", "x.adf"], ["--new=-E", "x.adf"], ["--new", "--", "E", "x.adf"],
+    ["--new", "--read-only", "x.adf"], ["--new", "EE", "x.adf"], ["--new=E", "--new=F", "x.adf"], ["--read-only=", "hello.adf"],
+    ["--read-only=x", "hello.adf"], ["--demo", "007", "hello.adf"], ["--demo", "9" * 20, "hello.adf"], ["--demo", "+7", "hello.adf"],
+    ["--demo=-1", "hello.adf"], ["--demo", "7x", "hello.adf"], ["--demo", " 7", "hello.adf"], ["--ne", "E", "x.adf"],
+    ["--Safe", "hello.adf"], ["--", "--safe", "hello.adf"], ["---", "hello.adf"], ["--=x", "hello.adf"], ["--=", "hello.adf"],
+    ["-x", "hello.adf"], ["-s", "hello.adf"], ["-\u00e9", "hello.adf"], ["--help"], ["--version", "hello.adf"], ["-V", "hello.adf"],
 ]
 
 
@@ -171,6 +183,12 @@ def words():
     yield Case("no-such-image", ["nothing.adf"], "load $.hello\n", 12)
     yield Case("image-of-a-dash", ["-"], "load $.hello\n", 12)
     yield Case("option-behind-dashes", ["--", "--safe"], "load $.hello\n", 12)
+    for at, image in enumerate((["--", "--new"], ["--", "-x"], ["help"], ["a=b"], ["a=b", "--read-only"])):
+        yield Case("no-such-image-%d" % at, image, "load $.hello\n", 12)
+    yield Case("new-behind-dashes", ["--new", "D", "--", "nowhere/-x"], "free\n", 4)
+    for at, all_options in enumerate((["--safe", "a folder/hello.adf", "--demo", "10000", "--read-only"], ["--safe", "--", "--"],
+                                      ["--demo=1", "--safe", "nothing.adf", "--new", "E+"])):
+        yield Case("options-%d" % at, all_options, "load $.hello\n", 9, absent="nothing.adf")
 
 
 # ---- fresh volumes

@@ -9,6 +9,3 @@ mod owners;
 pub use fc_device::NoMemory;
 pub use owner::Owner;
 pub use owners::Owners;
-
-#[cfg(test)]
-mod tests;

@@ -30,6 +30,3 @@ pub use space::size_for;
 pub fn reads_back()
     ensures { ReadsBack }
 {}
-
-#[cfg(test)]
-mod tests;

@@ -6,6 +6,3 @@ mod cached;
 mod kept;
 
 pub use cached::CachedDisk;
-
-#[cfg(test)]
-mod tests;

@@ -40,6 +40,3 @@ pub fn report(tree: &Tree, space: &Space, owners: &Owners) -> Report
         parents: nodes.parents,
     }
 }
-
-#[cfg(test)]
-mod tests;

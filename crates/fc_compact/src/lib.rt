@@ -44,6 +44,3 @@ fn laws()
 pub fn by_owners()
     ensures { ByOwnersLaw }
 {}
-
-#[cfg(test)]
-mod tests;

@@ -48,6 +48,3 @@ pub fn mix()
 pub fn copies_fit()
     ensures { CopiesLaw }
 {}
-
-#[cfg(test)]
-mod tests;

@@ -26,6 +26,3 @@ pub fn demo_script(alloc: Global, n: u32) -> Result<Vec<u8>, NoMemory>
     append(&mut script, b"check\nfree\n")?;
     Ok(script)
 }
-
-#[cfg(test)]
-mod tests;

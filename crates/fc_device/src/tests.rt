@@ -1,4 +1,5 @@
-// That the calls which take memory succeed, and what stops leave on a worked case.
+// What a crash leaves of a disk in memory, on a worked case: the program has no such disk, and the crashes in the tests of fcore
+// rest on it.
 
 use super::*;
 use std::alloc::Global;
@@ -55,23 +56,5 @@ fn stops_leave_what_is_kept(rt: HostRuntime) -> Result<(), Fail> {
         let image = disk.stopped(alloc, calls, kept)?;
         assert!(rt; has_sectors(&image, values), "after {calls}");
     }
-    Ok(())
-}
-
-#[test]
-fn memory_is_found(rt: HostRuntime) -> Result<(), Fail> {
-    let alloc = rt.alloc();
-    let name = String::from_str(alloc, "disc")?;
-    let inner = PlainDisk::new(name, vec![in alloc; 7; 256]?, 768)?;
-    let mut disk = Untold { inner };
-    assert!(rt; !disk.attach("disc", Some(769))?);
-    assert!(rt; disk.attach("disc", Some(768))?);
-    assert!(rt; disk.length() == 768 && has_sectors(disk.inner.bytes(), &[0, 0, 0]));
-    let mut source = ListSource::new(vec![in alloc; 7; 256]?, Vec::new(alloc), 200);
-    let mut into = [0; 256];
-    assert!(rt; source.read(&mut into)? == 200);
-    let mut sink = ListSink::new(alloc, Vec::new(alloc), 100)?;
-    assert!(rt; sink.write(&into)? == 100);
-    assert!(rt; sink.bytes().iter().all(|b| *b == 7));
     Ok(())
 }

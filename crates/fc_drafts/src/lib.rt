@@ -19,6 +19,3 @@ pub use entries::{
 };
 pub use laws::{edited, free_names, made_entries};
 pub use room::Room;
-
-#[cfg(test)]
-mod tests;

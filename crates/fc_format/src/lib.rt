@@ -59,6 +59,3 @@ pub fn opens()
 {
     fc_image::opens();
 }
-
-#[cfg(test)]
-mod tests;

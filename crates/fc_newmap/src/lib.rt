@@ -58,6 +58,3 @@ pub fn ids()
 pub fn one_zone()
     ensures { ZoneSectorsLaw }
 {}
-
-#[cfg(test)]
-mod tests;

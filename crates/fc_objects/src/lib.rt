@@ -5,8 +5,6 @@
 mod pieces;
 mod reader;
 mod sectors;
-#[cfg(test)]
-mod tests;
 mod writer;
 
 pub use fc_device::{Disk, DiskFault, Extent};

@@ -19,6 +19,3 @@ pub use fc_slack::Share;
 pub use leaving::{has_other, left_by, left_by_replaced};
 pub use placing::{Placing, place_alone, place_directory, place_file, places, slack_by_owners};
 pub use space::{give_space, steps, take_space};
-
-#[cfg(test)]
-mod tests;

@@ -21,6 +21,3 @@ pub use laws::{
 pub use plan::{Part, Plan};
 pub use supply::{PlanError, Supply, id_limit};
 pub use taking::take;
-
-#[cfg(test)]
-mod tests;

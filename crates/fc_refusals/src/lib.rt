@@ -10,8 +10,6 @@ mod rename;
 mod save;
 mod set;
 mod target;
-#[cfg(test)]
-mod tests;
 
 pub use cdir::judge_cdir;
 pub use delete::judge_delete;

@@ -5,8 +5,6 @@
 mod command;
 mod line;
 mod numbers;
-#[cfg(test)]
-mod tests;
 mod texts;
 mod words;
 

@@ -21,6 +21,3 @@ pub use small::SmallDir;
 pub fn reads_back()
     ensures { ReadsBack }
 {}
-
-#[cfg(test)]
-mod tests;

@@ -14,9 +14,6 @@ pub use new::{is_object_id, low_start, sector_of_id};
 pub use places::Places;
 pub use space::Space;
 
-#[cfg(test)]
-mod tests;
-
 /// Why the bytes at an address have no place.
 #[derive(Clone, Copy, Debug, PartialEq, Eq)]
 pub enum PlaceError {

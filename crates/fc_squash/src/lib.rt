@@ -14,6 +14,3 @@ pub use squashing::squash;
 pub fn settles()
     ensures { SettledLaw }
 {}
-
-#[cfg(test)]
-mod tests;

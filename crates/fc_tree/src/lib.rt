@@ -19,9 +19,6 @@ ghost use Rattle.fc_tree.specs.Agree.{NodesLaw};
 ghost use Rattle.fc_tree.specs.Counts.{CountsLaw, HolderLaw, TallyLaw};
 ghost use Rattle.fc_tree.specs.Laws.{ChildrenLaw, EntriesLaw, FindLaw, NodeLaw, NumbersLaw, SoundLaw};
 
-#[cfg(test)]
-mod load_tests;
-
 pub use loading::load;
 pub use node::{Body, Found, Node, TreeError};
 pub use tree::Tree;

@@ -1,3 +1,0 @@
-// Bytes from outside, and calls that succeed with ample memory.
-mod reading;
-mod writing;
