@@ -1,6 +1,6 @@
 // Which identifier goes back if an object goes.
 
-ghost use Rattle.std.specs.Prelude.{◌≡◌, None, if◌then◌else◌};
+ghost use Rattle.std.specs.Prelude.{◌≡◌, None, false, if◌then◌else◌};
 ghost use Rattle.std.specs.Option.{option_map_or, option_to_list};
 ghost use Rattle.std.specs.List.{find};
 ghost use Rattle.fc_alloc.specs.Owners.{is_node, owns};
