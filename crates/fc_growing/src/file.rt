@@ -101,7 +101,7 @@ pub fn plan_file(
         (if has_room_by map.now owners.now dir address len then 0 else len)) }
 {
     map.is_map();
-    let share = slack(alloc, map, owners.list(), dir, u64::from(bytes))?;
+    let share = slack(alloc, map, owners, dir, u64::from(bytes))?;
     let own = own_bytes(&share, bytes);
     let planned = plan_growth(alloc, places, map, owners, dir, None, address, len, own)?;
     let (at, object) = address_with(map, share, planned.object, bytes);

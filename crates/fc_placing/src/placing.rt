@@ -75,7 +75,7 @@ pub fn place_file(
     if bytes == 0 {
         return Ok(Placing::Nowhere);
     }
-    if let Some(share) = slack(alloc, map, owners.list(), dir, bytes)? {
+    if let Some(share) = slack(alloc, map, owners, dir, bytes)? {
         return Ok(Placing::Shared(share));
     }
     match place_alone(alloc, map, bytes) {

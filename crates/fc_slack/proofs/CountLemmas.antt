@@ -1,11 +1,11 @@
 -- The sectors of an identifier are those of its runs, in any order of the zones.
-use Rattle.std.proofs.Common.{◌≡◌, ◌<◌, ◌==◌, ℕ, ◌+◌, ◌-◌, Bool, true, false, cond, List, [], ◌∷◌, ◌++◌, length, get_or, set, replicate, refl, sym, ap, ap₂, subst, ◌∙◌, inl, inr, arith, eq-eqb}
-use Rattle.std.specs.Prelude.{filter, sum_by}
+use Rattle.std.proofs.Common.{◌≡◌, ◌<◌, ◌==◌, ◌≤◌, ℕ, ◌+◌, ◌-◌, ◌^◌, Bool, true, false, cond, List, [], ◌∷◌, ◌++◌, length, length-take-le, get_or, set, replicate, take, refl, sym, ap, ap₂, subst, ◌∙◌, inl, inr, arith, eq-eqb}
+use Rattle.std.specs.Prelude.{count_by, filter, sum_by}
 use Rattle.std.specs.List.{range_with_len}
 use Rattle.std.proofs.lemmas.Bool.{cases_eq, ne_eqb}
 use Rattle.std.proofs.lemmas.List.{get_or-replicate, get_or-set_other, get_or-set_same, length-append, length-replicate, length-set}
 use Rattle.std.proofs.lemmas.List.FromFn.{length-range_with_len}
-use Rattle.std.proofs.lemmas.List.Sums.{sum_by-append, sum_by-cons}
+use Rattle.std.proofs.lemmas.List.Sums.{count_by-le-length, sum_by-append, sum_by-cons, sum_by_more}
 use Rattle.fc_record.specs.declared.Geometry.{Geometry}
 use Rattle.fc_zone.specs.declared.RunKind.{RunKind}
 use Rattle.fc_zone.specs.declared.RunKind.TheVariants.{Hole, Id}
@@ -16,7 +16,9 @@ use Rattle.fc_newmap.proofs.CoverLemmas.{range_cut}
 use Rattle.fc_newmap.proofs.HeldLemmas.{geometry_facts}
 use Rattle.fc_newmap.proofs.PlaceLemmas.{home_low}
 use Rattle.fc_image.specs.Layout.{id_sectors}
-use Rattle.fc_slack.specs.Counts.{AreCounted, IsCount, added, counted, sectors_of_id}
+use Rattle.fc_alloc.specs.declared.owner.Owner.{Owner}
+use Rattle.fc_alloc.specs.Owners.{owns}
+use Rattle.fc_slack.specs.Counts.{AreCounted, IsCount, OwnersAreCounted, added, counted, sectors_of_id}
 
 -- ---- one run more
 
@@ -125,3 +127,37 @@ all_counted m limit counts is count = record {
   len = count.len;
   each = λ id low. count.each id low ∙ ap counted (sectors_counted m id is);
 }
+
+-- ---- owners
+
+pub no_owners : (owners : List Owner) (limit : ℕ) (counts : List ℕ) → counts ≡ replicate limit 0 → OwnersAreCounted (take 0 owners) limit counts
+no_owners owners limit counts e = record {
+  len = ap length e ∙ length-replicate limit 0;
+  each = λ id low. ap (λ (cs : List ℕ). get_or cs id 0) e ∙ get_or-replicate limit id 0 0 low ∙ none owners id;
+}
+  where
+    none : (owners : List Owner) (id : ℕ) → 0 ≡ count_by (owns id) (take 0 owners)
+    none [] id = refl
+    none (o ∷ owners) id = refl
+
+pub one_owner_more : (owners : List Owner) (limit i : ℕ) (o : Owner) (old new : List ℕ) → i < length owners → i + 1 < 2 ^ 64 → get_or owners i o ≡ o → new ≡ added old (Id o.id) 1
+    → OwnersAreCounted (take i owners) limit old → OwnersAreCounted (take (i + 1) owners) limit new
+one_owner_more owners limit i o old new in' few is e count = record {
+  len = ap length e ∙ length-added old (Id o.id) 1 ∙ count.len;
+  each = λ id low. (
+      let n = count_by (owns id) (take i owners) in
+      let n' = count_by (owns id) (take (i + 1) owners) in
+      let most : n ≤ length (take i owners) = count_by-le-length (owns id) (take i owners) in
+      let most' : n' ≤ length (take (i + 1) owners) = count_by-le-length (owns id) (take (i + 1) owners) in
+      let size : length (take i owners) ≡ i = length-take-le i owners (omega arith) in
+      let size' : length (take (i + 1) owners) ≡ i + 1 = length-take-le (i + 1) owners (omega arith) in
+      let so_far : get_or old id 0 ≡ counted n = count.each id low ∙ exact n (omega (arith, most, size)) in
+      let more : n' ≡ n + cond (o.id == id) 1 0 = sum_by_more (λ (p : Owner). cond (owns id p) 1 0) owners i o in' ∙ ap (λ (p : Owner). n + cond (owns id p) 1 0) is in
+      ap (λ (cs : List ℕ). get_or cs id 0) e
+      ∙ added_at old (Id o.id) 1 id n (let l = count.len in omega arith) so_far
+      ∙ ap counted (sym more)
+      ∙ sym (exact n' (omega (arith, most', size'))));
+}
+  where
+    exact : (n : ℕ) → n < 2 ^ 64 → n ≡ counted n
+    exact n less = omega arith

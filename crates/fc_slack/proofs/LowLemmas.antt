@@ -105,7 +105,7 @@ kept id need f f' bound d (x ∷ xs) (suc i) before near le e =
     parts true false h = absurd (cc)
     parts false b h = absurd (cc)
 
-and_false : (b : Bool) → (b && false) ≡ false
+pub and_false : (b : Bool) → (b && false) ≡ false
 and_false true = refl
 and_false false = refl
 

@@ -1,10 +1,12 @@
--- How many sectors an identifier has, by a pass over all runs.
-use Rattle.std.specs.Prelude.{◌≡◌, ◌<◌, ℕ, ◌+◌, min, List, length, slice_index_or, slice_set, sum_by, if◌then◌else◌}
+-- How many sectors an identifier has, by a pass over all runs, and how many owners.
+use Rattle.std.specs.Prelude.{◌≡◌, ◌<◌, ℕ, ◌+◌, min, List, length, slice_index_or, slice_set, sum_by, count_by, if◌then◌else◌}
 use Rattle.fc_record.specs.declared.Geometry.{Geometry}
 use Rattle.fc_zone.specs.declared.RunKind.{RunKind}
 use Rattle.fc_zone.specs.declared.RunKind.TheVariants.{Hole, Id}
 use Rattle.fc_newmap.specs.Map.{Map, ZoneRun, has_id, sector_count}
 use Rattle.fc_image.specs.Layout.{id_sectors}
+use Rattle.fc_alloc.specs.declared.owner.Owner.{Owner}
+use Rattle.fc_alloc.specs.Owners.{owns}
 
 -- a count of 64 bits holds no more
 abbrev pub counted : ℕ → ℕ
@@ -28,3 +30,8 @@ pub record IsCount (g : Geometry) (runs : List ZoneRun) (limit : ℕ) (counts : 
 pub record AreCounted (m : Map) (limit : ℕ) (counts : List ℕ) : Type 0 where
   pub len : length counts ≡ limit
   pub each : (id : ℕ) → id < limit → slice_index_or counts id 0 ≡ counted (length (id_sectors m id))
+
+-- the owners of each identifier are counted
+pub record OwnersAreCounted (owners : List Owner) (limit : ℕ) (counts : List ℕ) : Type 0 where
+  pub len : length counts ≡ limit
+  pub each : (id : ℕ) → id < limit → slice_index_or counts id 0 ≡ count_by (owns id) owners

@@ -1,6 +1,5 @@
-use Rattle.std.proofs.Common.{◌≡◌, ◌∙◌, ℕ, List, Option, ap, ap₂, subst, sym, None}
+use Rattle.std.proofs.Common.{◌≡◌, ◌∙◌, ℕ, Option, ap, subst, sym, None}
 use Rattle.std.specs.Option.{option_map}
-use Rattle.fc_alloc.specs.declared.owner.Owner.{Owner}
 use Rattle.fc_plan.specs.declared.plan.Plan.{Plan}
 use Rattle.fc_slack.specs.Slack.{place_in}
 use Rattle.fc_objects.specs.Extents.{sectors_in}
@@ -13,7 +12,7 @@ use Rattle.fc_growing.proofs.file.plan_file.Goals.{In_ok-planned}
 
 -- what slack there is
 shared : (c : In_ok-planned) → option_map place_in c.in_ok-share.share ≡ slack_left c.args.map.now c.args.owners.now c.args.dir c.args.bytes
-shared c = c.in_ok-share.ensures ∙ ap₂ (λ (owners : List Owner) (n : ℕ). slack_left c.args.map.now owners c.args.dir n) c.list.ensures.same c.from.ensures
+shared c = c.in_ok-share.ensures ∙ ap (λ (n : ℕ). slack_left c.args.map.now c.args.owners.now c.args.dir n) c.from.ensures
 
 -- the bytes that need space of their own
 own_is : (c : In_ok-planned) → c.own_bytes-own.result ≡ own_bytes (slack_left c.args.map.now c.args.owners.now c.args.dir c.args.bytes) c.args.bytes

@@ -1,12 +1,16 @@
-use Rattle.std.proofs.Common.{◌≡◌, ◌∙◌, Bool, List, ap, false, replicate}
-use Rattle.std.specs.Prelude.{fold}
-use Rattle.fc_slack.specs.Slack.{closed_unmarked, owned_marked}
-use Rattle.fc_slack.proofs.Searches.{are_open}
+use Rattle.std.proofs.Common.{◌≡◌, ◌∙◌, Bool, List, false, fold, replicate, sym}
+use Rattle.std.proofs.lemmas.List.{at_drop_all}
+use Rattle.fc_alloc.specs.declared.owner.Owner.{Owner}
+use Rattle.fc_slack.specs.Slack.{counted_marked}
+use Rattle.fc_slack.proofs.Marks.{are_open}
 use Rattle.fc_slack.proofs.share.open_ids.Goals as goal
 
 pub returns : goal.returns
-returns c =
-    let owners = c.args.owners.now in
-    let blank : c.in_ok-marks.marks.items ≡ replicate c.args.limit false = c.in_ok-marks.ensures.items_if_clones_equal (λ y e. e) in
-    are_open owners c.args.dir c.args.limit c.unmark_closed.new.marks.items
-    (c.unmark_closed.ensures ∙ ap (λ (ms : List Bool). fold (closed_unmarked c.args.dir) ms owners) (c.mark_owned.ensures ∙ ap (λ (ms : List Bool). fold owned_marked ms owners) blank))
+returns c = λ dir moved.
+    let owners : List Owner = c.args.owners.now in
+    let found : List Owner = c.args.found.now in
+    let counts = c.in_ok-counts.counts.items in
+    let marks : List Bool = c.loop-o.marks.items in
+    let marked : marks ≡ fold (counted_marked owners counts) (replicate c.args.limit false) found =
+    sym (at_drop_all (λ (os : List Owner). fold (counted_marked owners counts) marks os) found c.loop-o.o-index c.loop-o-test.false) ∙ c.loop-o.invariant in
+    are_open owners found dir c.args.limit counts marks moved c.in_ok-counts.ensures marked
