@@ -1,8 +1,10 @@
--- What is kept beside a list of owners: where the owner of a node stands, and how many have an identifier.
+-- What is kept beside a list of owners: where the owner of a node stands, how many have an identifier, and whom each directory holds.
 use Rattle.std.specs.Prelude.{◌≡◌, ◌<◌, ◌≤◌, ℕ, List, length, slice_index, slice_index_or, count_by}
 use Rattle.std.specs.List.{All}
 use Rattle.fc_alloc.specs.declared.owner.Owner.{Owner}
+use Rattle.fc_alloc.specs.declared.held.Held.{Held}
 use Rattle.fc_alloc.specs.Owners.{owns}
+use Rattle.fc_alloc.specs.Held.{AreHeld}
 
 -- each owner's place in the list, by its node; other nodes may have any number
 abbrev pub ArePlaces : List Owner → List ℕ → Type 0
@@ -17,7 +19,8 @@ abbrev pub IsTop : List Owner → ℕ → Type 0
 IsTop owners top = All (λ o. o.id ≤ top) owners
 
 -- all that is kept
-pub record IsIndexed (owners : List Owner) (places counts : List ℕ) (top : ℕ) : Type 0 where
+pub record IsIndexed (owners : List Owner) (places counts : List ℕ) (top : ℕ) (held : Held) : Type 0 where
   pub placed : ArePlaces owners places
   pub counted : AreCounts owners counts
   pub highest : IsTop owners top
+  pub held_by_dir : AreHeld owners held

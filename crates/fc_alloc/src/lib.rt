@@ -2,6 +2,7 @@
 //! object of a directory may share one identifier.
 #![tactic(auto)]
 
+mod held;
 mod index;
 mod owner;
 mod owners;

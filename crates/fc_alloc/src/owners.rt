@@ -5,7 +5,8 @@ ghost use Rattle.fc_alloc.specs.Owners.{HaveOwnNodes, has_node, is_held, is_id_o
 ghost use Rattle.fc_alloc.specs.declared.owner.Owner.{Owner};
 
 use crate::Owner;
-use crate::index::{count_down, count_in, count_up, grow_counts, grow_places, place_of};
+use crate::held::Held;
+use crate::index::{count_down, count_in, count_up, grow_counts, grow_places, owner_of, owners_of, place_of};
 use fc_device::NoMemory;
 use std::alloc::{AllocError, Global};
 use std::marker::Model;
@@ -18,6 +19,8 @@ pub struct Owners {
     places: Vec<usize>,
     // By identifier, how many owners have it. `change` may bring identifiers past the table's end.
     counts: Vec<usize>,
+    // By directory, the nodes of the owners that it holds.
+    held: Held,
     // No owner has a greater identifier.
     top: u32,
 }
@@ -31,7 +34,7 @@ impl Model for Owners {
 
     ghost view = { λ a. a.list.items };
 
-    ghost invariant = { λ a. IsIndexed a.list.items a.places.items a.counts.items a.top };
+    ghost invariant = { λ a. IsIndexed a.list.items a.places.items a.counts.items a.top a.held };
 }
 
 impl Owners {
@@ -43,6 +46,7 @@ impl Owners {
             list: Vec::new(alloc),
             places: Vec::new(alloc),
             counts: Vec::new(alloc),
+            held: Held::new(alloc),
             top: 0,
         }
     }
@@ -60,6 +64,7 @@ impl Owners {
         }
         self.places[o.node as usize] = self.list.len() - 1;
         count_up(&mut self.counts, o.id);
+        self.held.put(o);
         self.top = self.top.max(o.id);
         Ok(())
     }
@@ -74,6 +79,7 @@ impl Owners {
         };
         let removed = self.list.swap_remove(place);
         count_down(&mut self.counts, removed.id);
+        self.held.take(removed);
         if place < self.list.len() {
             let moved = self.list[place].node;
             self.places[moved as usize] = place;
@@ -86,8 +92,10 @@ impl Owners {
         ensures { self.new ≡ with_changed o self.old }
     {
         let place = self.places[o.node as usize];
-        count_down(&mut self.counts, self.list[place].id);
+        let was = self.list[place];
+        count_down(&mut self.counts, was.id);
         count_up(&mut self.counts, o.id);
+        self.held.change(was, o);
         self.list[place] = o;
         self.top = self.top.max(o.id);
     }
@@ -104,7 +112,7 @@ impl Owners {
     pub fn of(&self, node: u64) -> Option<Owner>
         ensures { result ≡ find (is_node node) self.now }
     {
-        self.list.iter().copied().find(|o| o.node == node)
+        owner_of(&self.list, &self.places, node)
     }
 
     /// How many owners have an identifier.
@@ -121,11 +129,15 @@ impl Owners {
     pub fn held_by(&self, alloc: Global, dir: u64) -> Result<Vec<Owner>, AllocError>
         ensures { IfOk result (λ found. IsPermutation (filter (is_held dir) self.now) found.items) }
     {
-        self.list
-            .iter()
-            .copied()
-            .filter(|o| o.dir == dir)
-            .collect(alloc)
+        match self.held.get(dir) {
+            Some(nodes) => owners_of(alloc, &self.list, &self.places, nodes),
+            None => self
+                .list
+                .iter()
+                .copied()
+                .filter(|o| o.dir == dir)
+                .collect(alloc),
+        }
     }
 
     /// Whether an owner has this identifier.

@@ -1,5 +1,6 @@
 use Rattle.std.proofs.Common.{◌≡◌, ◌+◌, ◌-◌, ◌++◌, ◌∷◌, [], refl, length, length-append, arith}
 use Rattle.std.proofs.lemmas.Grind.{common_steps}
+use Rattle.std.proofs.lemmas.List.Sorted.{IsPermutation-to_front}
 use Rattle.fc_alloc.specs.Index.{ArePlaces, AreCounts}
 use Rattle.fc_alloc.proofs.PlaceLemmas.{places_push, places_grown}
 use Rattle.fc_alloc.proofs.CountLemmas.{counts_push, top_push}
@@ -16,5 +17,6 @@ invariant_of-self-2 c =
     record {
       placed = rw (pushed, size) (places_push list c.grow_places.new.places.items o grown (rw (← c.self.view_is) at c.requires) (omega (arith, c.in_ok-grow_places.ensures.room)));
       counted = rw pushed (counts_push list c.grow_counts.new.counts.items c.count_up.new.counts.items o counted c.count_up.ensures);
+      held_by_dir = rw pushed (c.put.ensures list (list ++ o ∷ []) (IsPermutation-to_front list o) c.self.invariant.held_by_dir);
       highest = rw pushed (top_push list c.self.inside.top c.max-self-inside.result o c.self.invariant.highest (omega arith) (omega arith));
     }

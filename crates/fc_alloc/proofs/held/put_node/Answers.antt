@@ -1,0 +1,20 @@
+use Rattle.std.proofs.Common.{◌≡◌, ◌<◌, ◌++◌, ◌∷◌, [], ◌∙◌, List, ℕ, length, ap, sym, arith}
+use Rattle.fc_alloc.specs.Held.{nodes_at}
+use Rattle.fc_alloc.proofs.HeldLemmas.{nodes_kept, nodes_read, nodes_written}
+use Rattle.fc_alloc.proofs.held.put_node.Goals as goal
+
+pub returns-in_err-push-clause-elsewhere : goal.returns-in_err-push-clause-elsewhere
+returns-in_err-push-clause-elsewhere c d other = nodes_kept c.grow.new.table.items c.args.dir d c.push.new.self other ∙ c.grow.ensures.same d
+
+pub returns-clause-here : goal.returns-clause-here
+returns-clause-here c ok =
+    let table = c.grow.new.table.items in
+    let dir = c.args.dir in
+    let was = c.index_mut.result.now in
+    let room : dir < length table = omega (arith, c.in_ok-grow.ensures.room, c.grow.new.table.ok.0) in
+    nodes_written table dir c.push.new.self room
+    ∙ (c.in_ok-push.ensures.items
+    ∙ ap (λ (xs : List ℕ). xs ++ c.args.node ∷ []) (sym (nodes_read table dir was room c.index_mut.ensures.value) ∙ c.grow.ensures.same dir))
+
+pub returns-clause-elsewhere : goal.returns-clause-elsewhere
+returns-clause-elsewhere c d other = nodes_kept c.grow.new.table.items c.args.dir d c.push.new.self other ∙ c.grow.ensures.same d
