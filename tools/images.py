@@ -13,7 +13,8 @@ import sys
 import damaged_images
 import read_image
 import script_cases
-from filecore import (BAD_NAME, EXISTS, INTO_ITSELF, IS_DIRECTORY, LOCKED, NOT_DIRECTORY, NOT_EMPTY, NOT_FOUND, READ_ONLY, ROOT_REFUSED)
+from filecore import (BAD_NAME, EXISTS, INTO_ITSELF, IS_DIRECTORY, LOCKED, NOT_DIRECTORY, NOT_EMPTY, NOT_FOUND, READ_ONLY,
+                      ROOT_REFUSED)
 from volumes import FRESH, Directory, File, NewVolume, OldVolume, fresh_e, fresh_f, record_bytes
 
 HARD_DISC = dict(log2_sector=9, idlen=13, log2_bit=7, zones=20, spare=32, root=0x300, size=79200 * 128, share=1)
