@@ -6,19 +6,8 @@ ghost use Rattle.fc_dirs.specs.Entries.{padded_name};
 ghost use Rattle.fc_bigdir.specs.Laws.{AreBytes, HasWords};
 ghost use Rattle.fc_dirs.specs.BigBytes.{entries_bytes, entry_bytes};
 
+use fc_bytes::put;
 use fc_dirs::Entry;
-
-// Writes bytes from byte `at` on, and answers the place behind them.
-pub fn put(b: &mut [u8], at: usize, new: &[u8]) -> usize
-    requires { at + length new.now ≤ length b.old }
-    ensures end { result ≡ at + length new.now }
-    ensures bytes { take result b.new ≡ take at b.old ++ new.now }
-    ensures of_bytes { AreBytes new.now }
-{
-    let end = at + new.len();
-    b[at..end].copy_from_slice(new);
-    end
-}
 
 // Writes bytes 0 from byte `at` up to byte `end`.
 pub fn put_zeros(b: &mut [u8], at: usize, end: usize)

@@ -6,7 +6,8 @@ ghost use Rattle.fc_dirs.specs.BigBytes.{IsWrittenBig, big_bytes, checked_bytes,
 
 use crate::BigDir;
 use crate::frame::is_check_right;
-use crate::put::{put, put_entries, put_name, put_word, put_zeros};
+use crate::put::{put_entries, put_name, put_word, put_zeros};
+use fc_bytes::put;
 use fc_checks::big_dir_check;
 
 impl BigDir {

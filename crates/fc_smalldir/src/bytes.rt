@@ -26,17 +26,6 @@ pub fn padded<const N: usize>(name: &[u8]) -> [u8; N]
     field
 }
 
-// Writes bytes from byte `at` on, and answers the place behind them.
-pub fn put(b: &mut [u8], at: usize, new: &[u8]) -> usize
-    requires { at + length new.now ≤ length b.old }
-    ensures end { result ≡ at + length new.now }
-    ensures bytes { take result b.new ≡ take at b.old ++ new.now }
-{
-    let end = at + new.len();
-    b[at..end].copy_from_slice(new);
-    end
-}
-
 // Writes bytes 0 from byte `at` up to byte `end`.
 pub fn put_zeros(b: &mut [u8], at: usize, end: usize)
     requires order { at ≤ end }

@@ -6,9 +6,9 @@ ghost use Rattle.fc_dirs.specs.Small.{FitsSmall, name_in, small_entry};
 ghost use Rattle.fc_smalldir.specs.Fields.{attrs_in, last_in, plain_field};
 ghost use Rattle.fc_dirs.specs.SmallBytes.{entry_bytes, last_byte, name_bytes, with_tops};
 
-use crate::bytes::{array_at, padded, put};
+use crate::bytes::{array_at, padded};
 use byteorder::{ByteOrder, LittleEndian};
-use fc_bytes::le24;
+use fc_bytes::{le24, put};
 use fc_device::NoMemory;
 use fc_dirs::{Entry, SmallForm};
 use fc_names::Name;

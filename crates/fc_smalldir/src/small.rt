@@ -8,7 +8,7 @@ ghost use Rattle.fc_dirs.specs.Faults.{IsFaultOf};
 ghost use Rattle.fc_smalldir.specs.Fields.{names_of_form};
 ghost use Rattle.fc_dirs.specs.SmallBytes.{IsWrittenSmall, small_bytes};
 
-use crate::bytes::{padded, put, put_zeros};
+use crate::bytes::{padded, put_zeros};
 use crate::entries::{count_entries, first_twin, place_of, put_entries, read_entries};
 use crate::entry::words_fit;
 use crate::head::{
@@ -16,6 +16,7 @@ use crate::head::{
     put_head, put_tail, read_head,
 };
 use crate::{DirError, InsertError};
+use fc_bytes::put;
 use fc_dirs::{DirFault, Entry, SmallForm};
 use fc_names::Name;
 use std::alloc::Global;
