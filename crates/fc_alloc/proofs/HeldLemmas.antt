@@ -1,6 +1,6 @@
 -- The nodes of the owners that each directory holds, and the owners of these nodes.
 use Rattle.std.proofs.Common.{◌≡◌, ◌≢◌, ◌<◌, ◌≤◌, ℕ, zero, suc, ◌+◌, inl, inr, Bool, true, false, ◌||◌, List, [], ◌∷◌, ◌++◌, length, refl, sym, ap, subst, ◌∙◌, get_or, set, eqb, nat_lt, arith, count_by, sum_by, cond, map, filter, Contains, IsPermutation, All, Option, Some, None, unwrap_or, take, drop, append-nil, Vec, Global}
-use Rattle.std.specs.List.{cons_option, list_any, filter_map, find, position, position_or_len, remove, slice_get}
+use Rattle.std.specs.List.{cons_option, filter_map, find, position, position_or_len, remove, slice_get}
 use Rattle.std.proofs.lemmas.Bool.{cases_eq, eqb-true, eq-eqb, cases_lt, ne_eqb, lt-ltb, true≢false}
 use Rattle.std.proofs.lemmas.List.{get_or-set_same, get_or-set_other, length-map, get_or-map, get_or_default, map-set, set_split, take_more}
 use Rattle.std.proofs.lemmas.List.Elements.{All-cons, All-nil, All-head, All-tail, filter_map-append}
@@ -46,11 +46,11 @@ from_times (x ∷ xs) ys same =
     let once : one x x ≡ 1 = one_here x in
     let first = brought ys x (omega (arith, here, more, once)) in
     let rest = from_times xs first.0 (λ n.
-        let all = same n in
-        let left = times-cons n x xs in
-        let right = times-cons n x first.0 in
-        let moved = sum_by-IsPermutation (λ y. cond (eqb y n) 1 0) ys (x ∷ first.0) first.1 in
-        omega (arith, all, left, right, moved)) in
+    let all = same n in
+    let left = times-cons n x xs in
+    let right = times-cons n x first.0 in
+    let moved = sum_by-IsPermutation (λ y. cond (eqb y n) 1 0) ys (x ∷ first.0) first.1 in
+    omega (arith, all, left, right, moved)) in
     IsPermutation-trans _ _ _ (IsPermutation-cons x xs first.0 rest) (IsPermutation-sym _ _ first.1)
 
 -- a number that both begin with may be left out
@@ -231,9 +231,9 @@ pub owner_found : (owners : List Owner) (places : List ℕ) (place node : ℕ) (
 owner_found owners places place node d placed within is =
     let first : position_or_len (is_node node) owners ≡ place =
     position_or_len_is (is_node node) owners place d (omega (arith, within))
-        (λ k below. ne_eqb (get_or owners k d).node node (λ e.
-        let one : k ≡ place = place_unique owners places k place d d placed (omega (arith, below, within)) within (e ∙ sym is) in absurd (omega (arith, one, below))))
-        (λ _. eq-eqb (get_or owners place d).node node is) in
+    (λ k below. ne_eqb (get_or owners k d).node node (λ e.
+    let one : k ≡ place = place_unique owners places k place d d placed (omega (arith, below, within)) within (e ∙ sym is) in absurd (omega (arith, one, below))))
+    (λ _. eq-eqb (get_or owners place d).node node is) in
     find_at (is_node node) owners ∙ (ap (slice_get owners) first ∙ slice_get-get_or owners place d within)
 
 pub no_owner : (owners : List Owner) (node : ℕ) → has_node owners node ≡ false → find (is_node node) owners ≡ None

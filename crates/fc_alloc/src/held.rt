@@ -12,7 +12,7 @@ use std::alloc::{AllocError, Global};
 pub struct Held {
     // By directory, in any order. A directory past the end holds none.
     table: Vec<Vec<u64>>,
-    // Whether the table was not given up. If it was, it may have anything.
+    // Whether the table was not given up. If it was, it may lack nodes.
     complete: bool,
 }
 
@@ -31,8 +31,9 @@ impl Held {
     pub fn put(&mut self, o: Owner)
         ensures { (owners more : List Owner) → IsPermutation more (o ∷ owners) → AreHeld owners self.old → AreHeld more self.new }
     {
-        if self.complete {
-            self.complete = put_node(&mut self.table, o.dir, o.node).is_ok();
+        if self.complete && put_node(&mut self.table, o.dir, o.node).is_err() {
+            self.complete = false;
+            self.table.clear();
         }
     }
 

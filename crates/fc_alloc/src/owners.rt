@@ -6,7 +6,9 @@ ghost use Rattle.fc_alloc.specs.declared.owner.Owner.{Owner};
 
 use crate::Owner;
 use crate::held::Held;
-use crate::index::{count_down, count_in, count_up, grow_counts, grow_places, owner_of, owners_of, place_of};
+use crate::index::{
+    count_down, count_in, count_up, grow_counts, grow_places, owner_of, owners_of, place_of,
+};
 use fc_device::NoMemory;
 use std::alloc::{AllocError, Global};
 use std::marker::Model;

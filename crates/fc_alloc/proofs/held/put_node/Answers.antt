@@ -1,5 +1,4 @@
-use Rattle.std.proofs.Common.{◌≡◌, ◌<◌, ◌++◌, ◌∷◌, [], ◌∙◌, List, ℕ, length, ap, sym, arith}
-use Rattle.fc_alloc.specs.Held.{nodes_at}
+use Rattle.std.proofs.Common.{◌<◌, ◌++◌, ◌∷◌, [], ◌∙◌, List, ℕ, length, ap, sym, arith}
 use Rattle.fc_alloc.proofs.HeldLemmas.{nodes_kept, nodes_read, nodes_written}
 use Rattle.fc_alloc.proofs.held.put_node.Goals as goal
 

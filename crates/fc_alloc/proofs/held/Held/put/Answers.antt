@@ -1,8 +1,20 @@
-use Rattle.std.proofs.Common.{◌≡◌, ◌∙◌, true, is_ok, sym}
+use Rattle.std.proofs.Common.{◌≡◌, ◌∙◌, true, false, ap, arith, is_ok, subst, sym, IsPermutation}
+use Rattle.std.proofs.lemmas.Grind.{common_steps}
+use Rattle.fc_alloc.specs.declared.held.Held.{Held}
+use Rattle.fc_alloc.specs.Held.{nodes_at, nodes_held}
 use Rattle.fc_alloc.proofs.HeldLemmas.{held_put}
 use Rattle.fc_alloc.proofs.held.Held.put.Goals as goal
+use Rattle.fc_alloc.proofs.held.Held.put.Goals.{else-self-via-then-self+else-is_err, else-self-via-else-self}
 
-pub returns-then-self : goal.returns-then-self
-returns-then-self c owners more order had complete =
-    let put : is_ok c.put_node.result ≡ true = sym c.is_ok-self.ensures.value ∙ complete in
-    held_put owners more c.args.o c.args.self.now.table.items c.put_node.new.table.items order (had c.if-self.true) (c.put_node.ensures.here put) c.put_node.ensures.elsewhere
+-- the node was put, or the table had been given up before
+pub returns-else-self : goal.returns-else-self
+returns-else-self c owners more order had complete dir =
+    elim c.else-self.branch [
+      | else-self-via-then-self+else-is_err w ↦
+          let put : is_ok w.put_node.result ≡ true = grind (arith, common_steps, w.if-is_err.false, w.is_err.ensures.value) in
+          subst (λ (h : Held). IsPermutation (nodes_held more dir) (nodes_at h.table.items dir)) (sym w.self-is)
+          (held_put owners more c.args.o c.args.self.now.table.items w.put_node.new.table.items order (had w.if-self.true) (w.put_node.ensures.here put) w.put_node.ensures.elsewhere dir)
+      | else-self-via-else-self w ↦
+          let bad : true ≡ false = sym complete ∙ (ap (λ (h : Held). h.complete) w.self-is ∙ w.if-self.false) in
+          absurd (cc)
+    ]

@@ -12,12 +12,12 @@ returns-then-o-len c owners left order had complete dir =
     let read : nodes_at old o.dir ≡ c.index_mut.result.now.items = nodes_read old o.dir c.index_mut.result.now room c.index_mut.ensures.value in
     let written : nodes_at (set old o.dir nodes) o.dir ≡ nodes.items = nodes_written old o.dir nodes room in
     held_take owners left o old (set old o.dir nodes) order (had complete)
-        (λ has.
-        subst (λ (xs : List ℕ). IsPermutation xs (o.node ∷ nodes_at (set old o.dir nodes) o.dir)) (sym read)
-        (subst (λ (xs : List ℕ). IsPermutation c.index_mut.result.now.items (o.node ∷ xs)) (sym written)
-        (c.take_out.ensures (subst (λ (xs : List ℕ). Contains xs o.node) read has))))
-        (λ d other. nodes_kept old o.dir d nodes other)
-        dir
+    (λ has.
+    subst (λ (xs : List ℕ). IsPermutation xs (o.node ∷ nodes_at (set old o.dir nodes) o.dir)) (sym read)
+    (subst (λ (xs : List ℕ). IsPermutation c.index_mut.result.now.items (o.node ∷ xs)) (sym written)
+    (c.take_out.ensures (subst (λ (xs : List ℕ). Contains xs o.node) read has))))
+    (λ d other. nodes_kept old o.dir d nodes other)
+    dir
 
 -- no owner's directory is past the table
 pub returns-else-o-len : goal.returns-else-o-len
