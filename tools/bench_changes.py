@@ -5,22 +5,22 @@ usage: tools/bench_changes.py PROGRAM [FILES [OBJECTS]]    10,000 files, and 50,
 
 Files of 100 bytes are saved in one script into 100 directories of a disc with big directories. At a tenth of the files and at all of
 them, and then over discs of 1,000 directories and 50,000 files (tools/large_image.py), with small directories and with big ones,
-each command is run LINES times in one script: the time beside that of an empty script, and the calls of the system beside its calls,
-by strace or, without it, by the recorder of tools/check_outside.c, both a command. Between them files are made in one directory,
-which grows, and files are moved into one.
+each command is run LINES times in one script: the processor time beside that of an empty script, each the least of ROUNDS rounds,
+and the calls of the system beside its calls, by strace or, without it, by the recorder of tools/check_outside.c, both a command.
+Between them files are made in one directory, which grows, and files are moved into one.
 """
 import os
+import resource
 import shutil
 import subprocess
 import sys
 import tempfile
-import time
 
 from check_crash import TOOLS
 from fragmented import hard_disc
 from large_image import SparseFile, with_directories
 
-DIRECTORIES, LINES = 100, 500
+DIRECTORIES, LINES, ROUNDS = 100, 500, 5
 WORDS = "00000000 00000000"
 
 
@@ -36,13 +36,13 @@ class Bench:
                            check=True)
 
     def seconds(self, image, script):
-        """How long a script takes over the image, which it changes."""
-        start = time.monotonic()
+        """How many seconds of a processor a script takes over the image, which it changes."""
+        before = resource.getrusage(resource.RUSAGE_CHILDREN)
         ran = subprocess.run([self.program, image], input=script, stdout=subprocess.PIPE, check=False)
-        taken = time.monotonic() - start
+        after = resource.getrusage(resource.RUSAGE_CHILDREN)
         if ran.returncode:
             sys.exit("status %d: %s" % (ran.returncode, ran.stdout[-200:].decode()))
-        return taken
+        return after.ru_utime + after.ru_stime - before.ru_utime - before.ru_stime
 
     def calls(self, image, script):
         """How many calls of the system it makes."""
@@ -57,15 +57,19 @@ class Bench:
         return int(next(line for line in lines if line.endswith("total")).split()[3]) if traced else len(lines) - 1
 
     def a_command(self, image, lines):
-        """Microseconds and calls of one of the lines. The image stays."""
-        script, found = "".join(line + "\n" for line in lines).encode(), []
-        for measure in (self.seconds, self.calls):
+        """Microseconds, the least of ROUNDS rounds, and calls of one of the lines. The image stays."""
+        script, found = script_of(lines), []
+        for measure, rounds in ((self.seconds, ROUNDS), (self.calls, 1)):
             taken = []
             for one in (b"", script):
-                subprocess.run(["cp", "--sparse=always", image, self.work], check=True)
-                taken.append(measure(self.work, one))
+                taken.append(min(self.over_copy(measure, image, one) for _ in range(rounds)))
             found.append((taken[1] - taken[0]) / len(lines))
         return found[0] * 1e6, found[1]
+
+    def over_copy(self, measure, image, script):
+        """What is measured of a script over a copy of the image."""
+        subprocess.run(["cp", "--sparse=always", image, self.work], check=True)
+        return measure(self.work, script)
 
     def table(self, image, title, lines):
         """A row for each command."""
