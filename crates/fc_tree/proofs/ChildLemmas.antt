@@ -9,7 +9,7 @@ use Rattle.fc_image.specs.Walk.{◌>>=◌, Object, children_of, object_of}
 use Rattle.fc_tree.specs.declared.node.Node.{Node}
 use Rattle.fc_tree.specs.declared.node.TreeError.{TreeError}
 use Rattle.fc_tree.specs.Taken.{AreTaken, Marks}
-use Rattle.fc_tree.specs.Walking.{FailsAs, Leads, StandsFor, new_node}
+use Rattle.fc_tree.specs.Walking.{FailsAs, HoldsObject, Leads, new_node}
 
 -- ---- nodes come at the end
 
@@ -22,7 +22,7 @@ pub leads_more : (nodes more : List Node) (at : ℕ) (names : Path) → Leads no
 leads_more nodes more at [] l = l
 leads_more nodes more at (x ∷ names) l = (l.0, get_front nodes more at l.0 l.1, l.2, l.3, leads_more nodes more l.0.holder names l.4)
 
-pub stands_more : (layout : Layout) (nodes more : List Node) (at : ℕ) (o : Object) → StandsFor layout nodes at o → StandsFor layout (nodes ++ more) at o
+pub stands_more : (layout : Layout) (nodes more : List Node) (at : ℕ) (o : Object) → HoldsObject layout nodes at o → HoldsObject layout (nodes ++ more) at o
 stands_more layout nodes more at o s = record {
   node = s.node;
   is = get_front nodes more at s.node s.is;
@@ -61,9 +61,9 @@ so_far_none layout before dir at entries nodes marks taken = record {
 }
 
 pub so_far_stands : (layout : Layout) (before : List ℕ) (dir : Object) (at : ℕ) (entries left : List Entry) (was nodes : List Node) (marks : Marks) → SoFar layout before dir at entries left was nodes marks
-    → StandsFor layout was at dir → StandsFor layout nodes at dir
+    → HoldsObject layout was at dir → HoldsObject layout nodes at dir
 so_far_stands layout before dir at entries left was nodes marks s stands =
-    subst (λ (ns : List Node). StandsFor layout ns at dir) (sym s.nodes_are) (stands_more layout was (map (new_node at) s.objects) at dir stands)
+    subst (λ (ns : List Node). HoldsObject layout ns at dir) (sym s.nodes_are) (stands_more layout was (map (new_node at) s.objects) at dir stands)
 
 map_more : (at : ℕ) (xs : List Object) (o : Object) → map (new_node at) (xs ++ o ∷ []) ≡ map (new_node at) xs ++ new_node at o ∷ []
 map_more at [] o = refl

@@ -29,7 +29,7 @@ use Rattle.fc_tree.specs.Agree.{HasForm, IsDirectory}
 use Rattle.fc_tree.specs.Nodes.{body_in}
 use Rattle.fc_tree.specs.Reading.{may_have_size}
 use Rattle.fc_tree.specs.Taken.{AreTaken, Marks}
-use Rattle.fc_tree.specs.Walking.{FailsAs, IsDamaged, IsVisited, StandsFor, new_node, said_children}
+use Rattle.fc_tree.specs.Walking.{FailsAs, HoldsObject, IsDamaged, IsVisited, new_node, said_children}
 use Rattle.fc_tree.proofs.LengthLemmas.{object_long}
 use Rattle.fc_tree.proofs.PathLemmas.{same_node}
 use Rattle.fc_tree.proofs.ChildLemmas.{get_front}
@@ -114,7 +114,7 @@ damaged path said fault TreeError.NoMemory e is = tt
 
 -- ---- a node's directory
 
-module _ (layout : Layout) (nodes : List Node) (at : ℕ) (o : Object) (stands : StandsFor layout nodes at o) (node : Node) (is : slice_get nodes at ≡ Some node) where
+module _ (layout : Layout) (nodes : List Node) (at : ℕ) (o : Object) (stands : HoldsObject layout nodes at o) (node : Node) (is : slice_get nodes at ≡ Some node) where
   pub node_entry : node.entry ≡ o.entry
   node_entry = ap (λ (n : Node). n.entry) (same_node nodes at node stands.node is stands.is) ∙ stands.entry
 
@@ -171,7 +171,7 @@ children_fail layout before path s dir entries TreeError.DiskFault is same h = t
 children_fail layout before path s dir entries TreeError.NoMemory is same h = tt
 
 pub visited : (layout : Layout) (told : Option (List ℕ)) (was grown nodes : List Node) (at : ℕ) (o : Object) (before : List ℕ) (marks : Marks) (dir : Directory) (entries : List Entry) (body : Body) (n d : Node)
-    → StandsFor layout was at o → HasForm (dir_form layout) o.entry.len dir → IsDirectory dir → ForSome told (λ image. reader_of image layout o ≡ Ok dir) → body ≡ body_in dir → entries ≡ entries_of dir
+    → HoldsObject layout was at o → HasForm (dir_form layout) o.entry.len dir → IsDirectory dir → ForSome told (λ image. reader_of image layout o ≡ Ok dir) → body ≡ body_in dir → entries ≡ entries_of dir
     → (objects : List Object) × (after : List ℕ) × (children_of layout before o.path entries ≡ Ok (objects, after)) × AreTaken marks after × (grown ≡ was ++ map (new_node at) objects)
     → n ≡ get_or grown at d → nodes ≡ slice_set grown at (record { holder = n.holder; entry = n.entry; body = body })
     → IsVisited layout told was nodes at o before marks
@@ -193,6 +193,6 @@ visited layout told was grown nodes at o before marks dir entries body n d stand
           (ap₂ (λ (m : Node) (b : Body). let r : Node = record { holder = m.holder; entry = m.entry; body = b } in r) node body_is);
     }
 
-pub at_there : (layout : Layout) (was grown : List Node) (at : ℕ) (o : Object) → StandsFor layout was at o → (more : List Node) × (grown ≡ was ++ more) → at < length grown
+pub at_there : (layout : Layout) (was grown : List Node) (at : ℕ) (o : Object) → HoldsObject layout was at o → (more : List Node) × (grown ≡ was ++ more) → at < length grown
 at_there layout was grown at o stands more =
     slice_get_within grown at stands.node (subst (λ (ns : List Node). slice_get ns at ≡ Some stands.node) (sym more.1) (get_front was more.0 at stands.node stands.is))

@@ -18,7 +18,7 @@ use Rattle.fc_tree.specs.declared.node.Node.{Node}
 use Rattle.fc_tree.specs.declared.node.TreeError.{TreeError}
 use Rattle.fc_tree.specs.Numbered.{HasBody}
 use Rattle.fc_tree.specs.Taken.{AreTaken, Marks}
-use Rattle.fc_tree.specs.Walking.{FailsAs, IsDirectoryAt, IsFileAt, IsOverlap, IsVisited, Leads, StandsFor, new_node, said_children, with_body}
+use Rattle.fc_tree.specs.Walking.{FailsAs, HoldsObject, IsDirectoryAt, IsFileAt, IsOverlap, IsVisited, Leads, new_node, said_children, with_body}
 use Rattle.fc_tree.proofs.ChildLemmas.{get_front, stands_more}
 use Rattle.fc_tree.proofs.ClaimLemmas.{object_is}
 use Rattle.fc_tree.proofs.PlaceInLists.{contains_front, contains_last, contains_more, contains_at, get_cases, get_back, get_set, some_same}
@@ -86,7 +86,7 @@ past_files layout reserved address size told nodes from left (suc n) marks w low
 pub record IsNext (layout : Layout) (nodes : List Node) (root : Object) (done : List Listing) (at : ℕ) : Type 0 where
   pub object : Object
   pub is : slice_get (found_by root done) at ≡ Some object
-  pub stands : StandsFor layout nodes at object
+  pub stands : HoldsObject layout nodes at object
   pub dir : is_directory_object object ≡ true
   pub waits : waiting_from at (found_by root done) ≡ object ∷ waiting_from (suc at) (found_by root done)
 
@@ -146,9 +146,9 @@ module _ (layout : Layout) (reserved : List ℕ) (address size : ℕ) (told : Op
   at_low : at < length nodes
   at_low = slice_get_within nodes at v.node v.node_is
 
-  step_stand : (i : ℕ) (p : Object) → slice_get (found_by w.root done') i ≡ Some p → StandsFor layout nodes' i p
+  step_stand : (i : ℕ) (p : Object) → slice_get (found_by w.root done') i ≡ Some p → HoldsObject layout nodes' i p
   step_stand i p is =
-      subst (λ (ns : List Node). StandsFor layout ns i p) (sym v.nodes_are)
+      subst (λ (ns : List Node). HoldsObject layout ns i p) (sym v.nodes_are)
       (stands_set layout grown at v.node m there refl refl i p
       (elim (get_cases objects v.children i p (ap (λ (os : List Object). slice_get os i) (sym (found_more w.root w.done l)) ∙ is)) [
         | inl old ↦ stands_more layout nodes news i p (w.stand i p old)
@@ -327,7 +327,7 @@ walk_starts layout reserved address size told nodes node left marks nodes_are no
       low = omega arith;
       root_is = dir;
       all = ap length nodes_are;
-      stand = λ i p e. subst (λ (ns : List Node). StandsFor layout ns i p) (sym nodes_are) (only i p e is.0 is.1 is.2);
+      stand = λ i p e. subst (λ (ns : List Node). HoldsObject layout ns i p) (sym nodes_are) (only i p e is.0 is.1 is.2);
       counted = λ i p n e g. one i p n e (ap (λ (ns : List Node). slice_get ns i) (sym nodes_are) ∙ g);
       queue = refl;
       apart = (is.3, tt);
@@ -342,8 +342,8 @@ walk_starts layout reserved address size told nodes node left marks nodes_are no
     none k (i, h, e) = omega arith
 
     only : (i : ℕ) (o : Object) → slice_get (found.0 ∷ []) i ≡ Some o → found.0.path ≡ [] → found.0.entry ≡ root_entry address (directory_size (dir_form layout) size) → IsAt layout found.0
-        → StandsFor layout (node ∷ []) i o
-    only zero p e path entry placed = subst (StandsFor layout (node ∷ []) zero) (some_same found.0 p e)
+        → HoldsObject layout (node ∷ []) i o
+    only zero p e path entry placed = subst (HoldsObject layout (node ∷ []) zero) (some_same found.0 p e)
         (record { node = node; is = refl; entry = ap (λ (n : Node). n.entry) node_is ∙ sym entry; names = []; leads = refl; path = path; placed = placed })
     only (suc i) p e path entry placed = absurd (cc)
 
@@ -366,11 +366,11 @@ module _ (layout : Layout) (reserved : List ℕ) (address size : ℕ) (told : Op
       (λ i from_le lt. subst (λ (ns : List Node). IsFileAt ns i) same (files i from_le (omega (arith, lt, le)))) at (omega (arith, le)) in
       (w, next_is layout reserved address size told nodes at left marks w low (subst (λ (ns : List Node). IsDirectoryAt ns at) same some.2))
 
-  pub there_is : (o : Object) × StandsFor layout nodes at o × (is_directory_object o ≡ true)
+  pub there_is : (o : Object) × HoldsObject layout nodes at o × (is_directory_object o ≡ true)
   there_is = let next = come_to.1 in (next.object, next.stands, next.dir)
 
   pub on_visited : (nodes' : List Node) (marks' : Marks) (left' to : ℕ) → left ≡ suc left' → to ≡ at + 1
-      → ((o : Object) (taken : List ℕ) → StandsFor layout nodes at o → AreTaken marks taken → IsVisited layout told nodes nodes' at o taken marks')
+      → ((o : Object) (taken : List ℕ) → HoldsObject layout nodes at o → AreTaken marks taken → IsVisited layout told nodes nodes' at o taken marks')
       → IsWalking layout reserved address size told nodes' to left' marks'
   on_visited nodes' marks' left' to is to_is visit =
       let w : IsWalking layout reserved address size told nodes at (suc left') marks = subst (λ (n : ℕ). IsWalking layout reserved address size told nodes at n marks) is come_to.0 in
@@ -380,7 +380,7 @@ module _ (layout : Layout) (reserved : List ℕ) (address size : ℕ) (told : Op
       (visited_on layout reserved address size told nodes nodes' at left' marks marks' w next (visit next.object w.taken next.stands w.marked))
 
   pub on_failed : (fuel : ℕ) (e : TreeError) → left ≡ suc fuel
-      → ((o : Object) (taken : List ℕ) → StandsFor layout nodes at o → AreTaken marks taken → ForSome told (λ image. FailsAs (said_children layout taken o.path (reader_of image layout o)) e))
+      → ((o : Object) (taken : List ℕ) → HoldsObject layout nodes at o → AreTaken marks taken → ForSome told (λ image. FailsAs (said_children layout taken o.path (reader_of image layout o)) e))
       → ForSome told (λ image. FailsAs (walk (reader_of image layout) layout reserved address size) e)
   on_failed fuel e is fails = λ image t.
       (let w = come_to.0 in

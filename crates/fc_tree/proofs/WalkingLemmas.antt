@@ -21,7 +21,7 @@ use Rattle.fc_tree.specs.declared.node.TreeError.{TreeError}
 use Rattle.fc_tree.specs.Agree.{HasForm, IsDirectory}
 use Rattle.fc_tree.specs.Numbered.{HasBody}
 use Rattle.fc_tree.specs.Taken.{AreTaken, Marks}
-use Rattle.fc_tree.specs.Walking.{FailsAs, Leads, StandsFor, new_node, said_children}
+use Rattle.fc_tree.specs.Walking.{FailsAs, HoldsObject, Leads, new_node, said_children}
 use Rattle.fc_tree.proofs.PlaceInLists.{get_set, some_same}
 
 -- ---- the state
@@ -66,7 +66,7 @@ pub record IsWalking (layout : Layout) (reserved : List ℕ) (address size : ℕ
   pub low : from ≤ length nodes
   pub root_is : is_directory_object root ≡ true
   pub all : length nodes ≡ length (found_by root done)
-  pub stand : (i : ℕ) (o : Object) → slice_get (found_by root done) i ≡ Some o → StandsFor layout nodes i o
+  pub stand : (i : ℕ) (o : Object) → slice_get (found_by root done) i ≡ Some o → HoldsObject layout nodes i o
   pub counted : (i : ℕ) (o : Object) (n : Node) → slice_get (found_by root done) i ≡ Some o → slice_get nodes i ≡ Some n → IsCounted root done from i o n
   pub queue : map (λ (l : Listing). l.object) done ++ waiting_from from (found_by root done) ≡ filter is_directory_object (found_by root done)
   pub apart : Apart reserved (found_by root done)
@@ -91,8 +91,8 @@ leads_set nodes at n m is entry holder i (x ∷ names) l = elim (get_set nodes a
   | inr other ↦ (l.0, other.1 ∙ l.1, l.2, l.3, leads_set nodes at n m is entry holder l.0.holder names l.4)
 ]
 
-pub stands_set : (layout : Layout) (nodes : List Node) (at : ℕ) (n m : Node) → slice_get nodes at ≡ Some n → m.entry ≡ n.entry → m.holder ≡ n.holder → (i : ℕ) (o : Object) → StandsFor layout nodes i o
-    → StandsFor layout (slice_set nodes at m) i o
+pub stands_set : (layout : Layout) (nodes : List Node) (at : ℕ) (n m : Node) → slice_get nodes at ≡ Some n → m.entry ≡ n.entry → m.holder ≡ n.holder → (i : ℕ) (o : Object) → HoldsObject layout nodes i o
+    → HoldsObject layout (slice_set nodes at m) i o
 stands_set layout nodes at n m is entry holder i o s = elim (get_set nodes at i n m is) [
   | inl here ↦ (
       let same : s.node ≡ n = some_same s.node n (sym s.is ∙ ap (slice_get nodes) here.0 ∙ is) in
@@ -101,8 +101,8 @@ stands_set layout nodes at n m is entry holder i o s = elim (get_set nodes at i 
 ]
 
 -- the node of an object that a directory holds
-pub new_stands : (layout : Layout) (nodes : List Node) (at i : ℕ) (o k : Object) → StandsFor layout nodes at o → slice_get nodes i ≡ Some (new_node at k) → at < i → k.path ≡ o.path ++ k.entry.name ∷ [] → IsAt layout k
-    → StandsFor layout nodes i k
+pub new_stands : (layout : Layout) (nodes : List Node) (at i : ℕ) (o k : Object) → HoldsObject layout nodes at o → slice_get nodes i ≡ Some (new_node at k) → at < i → k.path ≡ o.path ++ k.entry.name ∷ [] → IsAt layout k
+    → HoldsObject layout nodes i k
 new_stands layout nodes at i o k s is above path placed = record {
   node = new_node at k;
   is = is;

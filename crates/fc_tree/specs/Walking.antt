@@ -29,7 +29,7 @@ Leads nodes at [] = at ≡ 0
 Leads nodes at (name ∷ names) = (n : Node) × (slice_get nodes at ≡ Some n) × (n.entry.name ≡ name) × (n.holder < at) × Leads nodes n.holder names
 
 -- the node of a number has the object's entry, its names lead to the object's path, and the object has its place
-pub record StandsFor (layout : Layout) (nodes : List Node) (at : ℕ) (o : Object) : Type 0 where
+pub record HoldsObject (layout : Layout) (nodes : List Node) (at : ℕ) (o : Object) : Type 0 where
   pub node : Node
   pub is : slice_get nodes at ≡ Some node
   pub entry : node.entry ≡ o.entry

@@ -5,7 +5,7 @@ ghost use Rattle.fc_image.specs.Walk.{Object, children_of, object_of};
 ghost use Rattle.fc_space.specs.Space.{layout_of};
 ghost use Rattle.fc_tree.specs.declared.node.Body.TheVariants as bodies;
 ghost use Rattle.fc_tree.specs.Taken.{AreTaken};
-ghost use Rattle.fc_tree.specs.Walking.{FailsAs, StandsFor, new_node};
+ghost use Rattle.fc_tree.specs.Walking.{FailsAs, HoldsObject, new_node};
 
 use crate::claim::{ClaimError, claim};
 use crate::node::{Body, Node, TreeError};
@@ -61,14 +61,14 @@ fn add_child(
     entry: &Entry,
 ) -> Result<(), TreeError>
     requires disc { taken.old.sectors ≡ disc_sectors (layout_of places.now) }
-    requires held { (dir : Object) × StandsFor (layout_of places.now) nodes.old.items at dir }
+    requires held { (dir : Object) × HoldsObject (layout_of places.now) nodes.old.items at dir }
     ensures sectors { taken.new.sectors ≡ taken.old.sectors }
-    ensures ok { OnOk result ((dir : Object) (before : List ℕ) → StandsFor (layout_of places.now) nodes.old.items at dir → AreTaken taken.old before
+    ensures ok { OnOk result ((dir : Object) (before : List ℕ) → HoldsObject (layout_of places.now) nodes.old.items at dir → AreTaken taken.old before
         → (o : Object) × (object_of (layout_of places.now) before (dir.path ++ entry.now.name ∷ []) entry.now ≡ Ok o)
         × AreTaken taken.new (o.sectors ++ before) × (nodes.new.items ≡ nodes.old.items ++ new_node at o ∷ [])) }
     ensures more { OnOk result ((node : Node) × (nodes.new.items ≡ nodes.old.items ++ node ∷ [])) }
     ensures no_fault { result ≡ Err TreeError.DiskFault → ⊥ }
-    ensures err { IfErr result (λ e. (dir : Object) (before : List ℕ) → StandsFor (layout_of places.now) nodes.old.items at dir → AreTaken taken.old before
+    ensures err { IfErr result (λ e. (dir : Object) (before : List ℕ) → HoldsObject (layout_of places.now) nodes.old.items at dir → AreTaken taken.old before
         → FailsAs (object_of (layout_of places.now) before (dir.path ++ entry.now.name ∷ []) entry.now) e) }
 {
     let unclaimed = match claim(alloc, places, taken, entry) {
@@ -95,14 +95,14 @@ pub fn add_children(
     entries: &[Entry],
 ) -> Result<(), TreeError>
     requires disc { taken.old.sectors ≡ disc_sectors (layout_of places.now) }
-    requires held { (dir : Object) × StandsFor (layout_of places.now) nodes.old.items at dir }
+    requires held { (dir : Object) × HoldsObject (layout_of places.now) nodes.old.items at dir }
     ensures sectors { taken.new.sectors ≡ taken.old.sectors }
-    ensures ok { OnOk result ((dir : Object) (before : List ℕ) → StandsFor (layout_of places.now) nodes.old.items at dir → AreTaken taken.old before
+    ensures ok { OnOk result ((dir : Object) (before : List ℕ) → HoldsObject (layout_of places.now) nodes.old.items at dir → AreTaken taken.old before
         → (objects : List Object) × (after : List ℕ) × (children_of (layout_of places.now) before dir.path entries.now ≡ Ok (objects, after))
         × AreTaken taken.new after × (nodes.new.items ≡ nodes.old.items ++ map (new_node at) objects)) }
     ensures more { OnOk result ((more : List Node) × (nodes.new.items ≡ nodes.old.items ++ more)) }
     ensures no_fault { result ≡ Err TreeError.DiskFault → ⊥ }
-    ensures err { IfErr result (λ e. (dir : Object) (before : List ℕ) → StandsFor (layout_of places.now) nodes.old.items at dir → AreTaken taken.old before
+    ensures err { IfErr result (λ e. (dir : Object) (before : List ℕ) → HoldsObject (layout_of places.now) nodes.old.items at dir → AreTaken taken.old before
         → FailsAs (children_of (layout_of places.now) before dir.path entries.now) e) }
 {
     for entry in entries {

@@ -14,7 +14,7 @@ ghost use Rattle.fc_tree.specs.declared.node.Node.{Node};
 ghost use Rattle.fc_tree.specs.Nodes.{body_in};
 ghost use Rattle.fc_tree.specs.Reading.{may_have_size};
 ghost use Rattle.fc_tree.specs.Taken.{AreTaken};
-ghost use Rattle.fc_tree.specs.Walking.{FailsAs, IsDamaged, IsSaidBy, IsVisited, Leads, StandsFor, said_children};
+ghost use Rattle.fc_tree.specs.Walking.{FailsAs, HoldsObject, IsDamaged, IsSaidBy, IsVisited, Leads, said_children};
 
 use crate::contents::add_children;
 use crate::node::{Body, Node, TreeError};
@@ -89,11 +89,11 @@ fn read_directory<D: Disk>(
     requires attached { IsTrue (D.attached disk.old) }
     requires size { D.sector_size disk.old ≡ sector_bytes (layout_of places.now) }
     requires room { disc_sectors (layout_of places.now) ≤ D.sectors disk.old }
-    requires there { (o : Object) × StandsFor (layout_of places.now) nodes.now at o × IsTrue (is_directory_object o) }
-    ensures ok { IfOk result (λ body. (o : Object) → StandsFor (layout_of places.now) nodes.now at o
+    requires there { (o : Object) × HoldsObject (layout_of places.now) nodes.now at o × IsTrue (is_directory_object o) }
+    ensures ok { IfOk result (λ body. (o : Object) → HoldsObject (layout_of places.now) nodes.now at o
         → (dir : Directory) × (body ≡ body_in dir) × HasForm (dir_form (layout_of places.now)) o.entry.len dir
         × ForSome (D.bytes disk.old) (λ image. reader_of image (layout_of places.now) o ≡ Ok dir)) }
-    ensures err { IfErr result (λ e. (o : Object) → StandsFor (layout_of places.now) nodes.now at o
+    ensures err { IfErr result (λ e. (o : Object) → HoldsObject (layout_of places.now) nodes.now at o
         → ForSome (D.bytes disk.old) (λ image. FailsAs (at_path o.path (reader_of image (layout_of places.now) o)) e)) }
     ensures reads { OnlyReads D.Disk disk.old disk.new }
     ensures few { (n : Node) → slice_get nodes.now at ≡ Some n → D.read_calls disk.new ≤ D.read_calls disk.old + entry_sectors (layout_of places.now) n.entry }
@@ -135,11 +135,11 @@ pub fn visit<D: Disk>(
     requires size { D.sector_size disk.old ≡ sector_bytes (layout_of places.now) }
     requires room { disc_sectors (layout_of places.now) ≤ D.sectors disk.old }
     requires disc { taken.old.sectors ≡ disc_sectors (layout_of places.now) }
-    requires there { (o : Object) × StandsFor (layout_of places.now) nodes.old.items at o × IsTrue (is_directory_object o) }
+    requires there { (o : Object) × HoldsObject (layout_of places.now) nodes.old.items at o × IsTrue (is_directory_object o) }
     ensures sectors { taken.new.sectors ≡ taken.old.sectors }
-    ensures ok { OnOk result ((o : Object) (before : List ℕ) → StandsFor (layout_of places.now) nodes.old.items at o → AreTaken taken.old before
+    ensures ok { OnOk result ((o : Object) (before : List ℕ) → HoldsObject (layout_of places.now) nodes.old.items at o → AreTaken taken.old before
         → IsVisited (layout_of places.now) (D.bytes disk.old) nodes.old.items nodes.new.items at o before taken.new) }
-    ensures err { IfErr result (λ e. (o : Object) (before : List ℕ) → StandsFor (layout_of places.now) nodes.old.items at o → AreTaken taken.old before
+    ensures err { IfErr result (λ e. (o : Object) (before : List ℕ) → HoldsObject (layout_of places.now) nodes.old.items at o → AreTaken taken.old before
         → ForSome (D.bytes disk.old) (λ image. FailsAs (said_children (layout_of places.now) before o.path (reader_of image (layout_of places.now) o)) e)) }
     ensures reads { OnlyReads D.Disk disk.old disk.new }
     ensures few { (n : Node) → slice_get nodes.old.items at ≡ Some n → D.read_calls disk.new ≤ D.read_calls disk.old + entry_sectors (layout_of places.now) n.entry }

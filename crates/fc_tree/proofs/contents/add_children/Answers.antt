@@ -4,7 +4,7 @@ use Rattle.std.proofs.lemmas.List.{drop_more}
 use Rattle.std.proofs.Math.ListN.{drop_of_length-le}
 use Rattle.fc_space.specs.Space.{layout_of}
 use Rattle.fc_tree.specs.declared.node.Node.{Node}
-use Rattle.fc_tree.specs.Walking.{StandsFor}
+use Rattle.fc_tree.specs.Walking.{HoldsObject}
 use Rattle.fc_tree.proofs.ChildLemmas.{so_far_all, so_far_fails, so_far_more, so_far_none, so_far_stands, stands_more}
 use Rattle.fc_tree.proofs.contents.add_children.Goals as goal
 
@@ -49,7 +49,7 @@ loop-entry-preserved c =
       );
       held = (
         c.loop-entry.invariant.held.0,
-        subst (λ (ns : List Node). StandsFor layout ns c.args.at c.loop-entry.invariant.held.0) (sym c.in_ok-add_child.ensures.more.1)
+        subst (λ (ns : List Node). HoldsObject layout ns c.args.at c.loop-entry.invariant.held.0) (sym c.in_ok-add_child.ensures.more.1)
             (stands_more layout c.loop-entry.nodes.items (c.in_ok-add_child.ensures.more.0 ∷ []) c.args.at c.loop-entry.invariant.held.0 c.loop-entry.invariant.held.1),
       );
     }
