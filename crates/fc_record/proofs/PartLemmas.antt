@@ -62,7 +62,7 @@ pub taken : (r a : DiscRecord) (fits : Bool) → Some r ≡ cond fits (Some a) N
 taken r a true e = (refl, cc)
 taken r a false e = absurd (cc)
 
-passed : (a : DiscRecord) (fits : Bool) → None ≡ cond fits (Some a) None → fits ≡ false
+pub passed : (a : DiscRecord) (fits : Bool) → None ≡ cond fits (Some a) None → fits ≡ false
 passed a true e = absurd (cc)
 passed a false e = refl
 

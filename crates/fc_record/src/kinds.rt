@@ -7,7 +7,7 @@ ghost use Rattle.fc_device.specs.Faults.{Rose};
 ghost use Rattle.fc_device.specs.Stops.{StillLeaves};
 ghost use Rattle.fc_checks.specs.Checks.{is_half_right};
 ghost use Rattle.fc_record.specs.Front.{HasMapOf};
-ghost use Rattle.fc_record.specs.Kinds.{is_boot, boot_record, is_old_map, kind_calls, kind_of, IsKind, Answers, FitsLength};
+ghost use Rattle.fc_record.specs.Kinds.{is_boot, boot_record, is_old_map, kind_calls, kind_of, IsKind, Answers, FitsLength, front_reads, sectors_there};
 ghost use Rattle.fc_record.specs.Parts.{record_in_boot, record_in_map, kind_in_old_map};
 ghost use Rattle.fc_record.specs.Record.{IsRecord};
 
@@ -92,6 +92,7 @@ fn boot_record<D: Disk>(disk: &mut D) -> Result<Option<DiscRecord>, DiskFault>
     ensures valid { IfOk result (λ found. IfSome found IsRecord) }
     ensures reads { OnlyReads D.Disk disk.old disk.new }
     ensures few { D.read_calls disk.new ≤ D.read_calls disk.old + 2 }
+    ensures most { ForSome (D.bytes disk.old) (λ image. D.read_calls disk.new ≤ D.read_calls disk.old + sectors_there image 0xE00 2) }
     ensures cause { FailsByFault D.Disk disk.old disk.new result }
 {
     let mut block = [0u8; 512];
@@ -116,6 +117,7 @@ fn map_record<D: Disk>(
     ensures filled { OnOk result (ForSome (D.bytes disk.old) (λ image. 256 * first + 1024 ≤ length image → sector.new ≡ bytes_at image (256 * first) 1024)) }
     ensures reads { OnlyReads D.Disk disk.old disk.new }
     ensures few { D.read_calls disk.new ≤ D.read_calls disk.old + 4 }
+    ensures most { ForSome (D.bytes disk.old) (λ image. D.read_calls disk.new ≤ D.read_calls disk.old + sectors_there image (256 * first + 1024) 4) }
     ensures cause { FailsByFault D.Disk disk.old disk.new result }
 {
     if !fetch(disk, first, sector)? {
@@ -135,6 +137,7 @@ fn old_kind<D: Disk>(disk: &mut D, first: &mut [u8; 1024]) -> Result<Option<Kind
     ensures map { IfOk result (λ found. ForSome (D.bytes disk.old) (λ image. (kind : Kind) → found ≡ Some kind → bytes_at first.new 0 512 ≡ bytes_at image 0 512)) }
     ensures reads { OnlyReads D.Disk disk.old disk.new }
     ensures few { D.read_calls disk.new ≤ D.read_calls disk.old + 2 }
+    ensures most { ForSome (D.bytes disk.old) (λ image. D.read_calls disk.new ≤ D.read_calls disk.old + sectors_there image 512 2) }
     ensures cause { FailsByFault D.Disk disk.old disk.new result }
 {
     let map = &mut first[..OLD_MAP];
@@ -153,7 +156,8 @@ fn first_kind<D: Disk>(disk: &mut D, front: &mut Front) -> Result<Option<Kind>, 
     ensures map { IfOk result (λ found. ForSome (D.bytes disk.old) (λ image. (kind : Kind) → found ≡ Some kind → HasMapOf image kind front.new)) }
     ensures reads { OnlyReads D.Disk disk.old disk.new }
     ensures few { IfOk result (λ found. IfSome found (λ kind. D.read_calls disk.new ≤ D.read_calls disk.old + kind_calls kind)) }
-    ensures most { D.read_calls disk.new ≤ D.read_calls disk.old + 10 }
+    ensures ten { D.read_calls disk.new ≤ D.read_calls disk.old + 10 }
+    ensures most { ForSome (D.bytes disk.old) (λ image. D.read_calls disk.new ≤ D.read_calls disk.old + front_reads image) }
     ensures cause { FailsByFault D.Disk disk.old disk.new result }
 {
     if let Some(record) = boot_record(disk)? {
@@ -172,8 +176,9 @@ fn first_kind<D: Disk>(disk: &mut D, front: &mut Front) -> Result<Option<Kind>, 
 }
 
 /// The kind of an image: the first of four that fits (docs/FORMAT.md, "Kinds"). The disk is attached and has sectors
-/// of 256 bytes. At most 10 read calls are made, 2 if the kind is that of a boot block, and nothing is written. What was read
-/// of a map of one zone, or of an old map, stands in `front` afterwards, so that no one has to read it again.
+/// of 256 bytes. No sector is read twice, whatever is answered: at most 10 read calls are made, 2 if the boot block has a disc
+/// record, and nothing is written. What was read of a map of one zone, or of an old map, stands in `front` afterwards, so that
+/// no one has to read it again.
 ///
 /// The answer is `NoKind` exactly where none fits, `Short` exactly where the image is shorter than the disc of the
 /// kind that fits, and `DiskFault` only where the disk's count of faults rose.
@@ -190,6 +195,7 @@ pub fn kind<D: Disk>(disk: &mut D, front: &mut Front) -> Result<Kind, KindError>
     ensures still { StillLeaves D.moment D.left_since disk.old disk.new }
     ensures read_calls { (D.read_calls disk.old ≤ D.read_calls disk.new) × (D.read_calls disk.new ≤ D.read_calls disk.old + 10) }
     ensures few { IfOk result (λ kind. D.read_calls disk.new ≤ D.read_calls disk.old + kind_calls kind) }
+    ensures most { ForSome (D.bytes disk.old) (λ image. D.read_calls disk.new ≤ D.read_calls disk.old + front_reads image) }
     ensures later { D.faults disk.old ≤ D.faults disk.new }
     ensures cause { result ≡ Err KindError.DiskFault → Rose (D.faults disk.old) (D.faults disk.new) }
 {

@@ -3,6 +3,7 @@ ghost use Rattle.std.specs.Prelude.{◌≡◌, ◌≤◌, ◌+◌, ◌*◌, ◌/
 ghost use Rattle.std.specs.Option.{ForSome};
 ghost use Rattle.fc_bytes.specs.Words.{bytes_at};
 ghost use Rattle.fc_device.specs.Calls.{FailsByFault, OnlyReads};
+ghost use Rattle.fc_record.specs.Kinds.{sectors_there};
 
 use fc_device::{Disk, DiskFault, Extent};
 
@@ -20,6 +21,7 @@ pub fn fetch<D: Disk>(disk: &mut D, first: u64, into: &mut [u8]) -> Result<bool,
     ensures filled { result ≡ Ok true → ForSome (D.bytes disk.old) (λ image. into.new ≡ bytes_at image (256 * first) (length into.old)) }
     ensures reads { OnlyReads D.Disk disk.old disk.new }
     ensures few { D.read_calls disk.new ≤ D.read_calls disk.old + length into.old / 256 }
+    ensures most { ForSome (D.bytes disk.old) (λ image. D.read_calls disk.new ≤ D.read_calls disk.old + sectors_there image (256 * first + length into.old) (length into.old / 256)) }
     ensures cause { FailsByFault D.Disk disk.old disk.new result }
 {
     let sectors = (into.len() / SECTOR) as u64;

@@ -3,6 +3,7 @@ use Rattle.std.proofs.lemmas.Result.{IfOk-weaker}
 use Rattle.fc_device.proofs.DiskLaws.{laws}
 use Rattle.fc_device.proofs.StopLemmas.{reads_then}
 use Rattle.fc_record.proofs.CallLemmas.{few_calls}
+use Rattle.fc_record.proofs.FewLemmas.{boot_within, first_within, old_within, second_within}
 use Rattle.fc_record.proofs.FrontLemmas.{IfOk-both, first_read, map_read, old_in_front, old_read, second_read}
 use Rattle.fc_record.proofs.PartLemmas.{boot_first, first_zone, old_last, second_zone, too_short}
 use Rattle.fc_record.proofs.kinds.first_kind.Goals as goal
@@ -109,3 +110,66 @@ pub returns-clause-few : goal.returns-clause-few
 returns-clause-few g c =
     few_calls _ _ c.kind_in_old_map.result c.kind_in_old_map.ensures.calls
     (omega (arith, c.boot_record.ensures.few, c.map_record.ensures.few, c.map_record-2.ensures.few))
+
+pub returns-in_err-record-clause-most : goal.returns-in_err-record-clause-most
+returns-in_err-record-clause-most g c = λ image told. omega (arith, c.boot_record.ensures.most image told, boot_within image)
+
+pub returns-in-Some-clause-most : goal.returns-in-Some-clause-most
+returns-in-Some-clause-most g c = λ image told. omega (arith, c.boot_record.ensures.most image told, boot_within image)
+
+pub returns-then-length-lt-MAP-clause-most : goal.returns-then-length-lt-MAP-clause-most
+returns-then-length-lt-MAP-clause-most g c = λ image told.
+    let now = c.boot_record.ensures.reads.bytes ∙ told in
+    let short : length image < 1024 = omega (arith, g.met.D.Disk.told_length c.boot_record.new.disk image now, c.length.ensures, c.if-length-lt-MAP.true) in
+    omega (arith, c.boot_record.ensures.most image told, c.old_kind.ensures.most image now, old_within image (sym c.in_default.is ∙ c.in_ok-record.ensures.found image told) short)
+
+pub returns-in_err-record-2-clause-most : goal.returns-in_err-record-2-clause-most
+returns-in_err-record-2-clause-most g c = λ image told.
+    let now = c.boot_record.ensures.reads.bytes ∙ told in
+    let enough : 1024 ≤ length image = omega (arith, g.met.D.Disk.told_length c.boot_record.new.disk image now, c.length.ensures, c.if-length-lt-MAP.false) in
+    omega (arith, c.boot_record.ensures.most image told, c.map_record.ensures.most image now, first_within image (sym c.in_default.is ∙ c.in_ok-record.ensures.found image told) enough)
+
+pub returns-in-Some-2-clause-most : goal.returns-in-Some-2-clause-most
+returns-in-Some-2-clause-most g c = λ image told.
+    let now = c.boot_record.ensures.reads.bytes ∙ told in
+    let enough : 1024 ≤ length image = omega (arith, g.met.D.Disk.told_length c.boot_record.new.disk image now, c.length.ensures, c.if-length-lt-MAP.false) in
+    omega (arith, c.boot_record.ensures.most image told, c.map_record.ensures.most image now, first_within image (sym c.in_default.is ∙ c.in_ok-record.ensures.found image told) enough)
+
+pub returns-in_err-record-3-clause-most : goal.returns-in_err-record-3-clause-most
+returns-in_err-record-3-clause-most g c = λ image told.
+    let now = c.boot_record.ensures.reads.bytes ∙ told in
+    let enough : 1024 ≤ length image = omega (arith, g.met.D.Disk.told_length c.boot_record.new.disk image now, c.length.ensures, c.if-length-lt-MAP.false) in
+    let later = (reads_then (laws g.met.D.Disk) c.boot_record.ensures.reads c.map_record.ensures.reads).bytes ∙ told in
+    omega (
+      arith,
+      c.boot_record.ensures.most image told,
+      c.map_record.ensures.most image now,
+      c.map_record-2.ensures.most image later,
+      second_within image (sym c.in_default.is ∙ c.in_ok-record.ensures.found image told) enough (sym c.in_default-2.is ∙ c.in_ok-record-2.ensures.found image now),
+    )
+
+pub returns-in-Some-3-clause-most : goal.returns-in-Some-3-clause-most
+returns-in-Some-3-clause-most g c = λ image told.
+    let now = c.boot_record.ensures.reads.bytes ∙ told in
+    let enough : 1024 ≤ length image = omega (arith, g.met.D.Disk.told_length c.boot_record.new.disk image now, c.length.ensures, c.if-length-lt-MAP.false) in
+    let later = (reads_then (laws g.met.D.Disk) c.boot_record.ensures.reads c.map_record.ensures.reads).bytes ∙ told in
+    omega (
+      arith,
+      c.boot_record.ensures.most image told,
+      c.map_record.ensures.most image now,
+      c.map_record-2.ensures.most image later,
+      second_within image (sym c.in_default.is ∙ c.in_ok-record.ensures.found image told) enough (sym c.in_default-2.is ∙ c.in_ok-record-2.ensures.found image now),
+    )
+
+pub returns-clause-most : goal.returns-clause-most
+returns-clause-most g c = λ image told.
+    let now = c.boot_record.ensures.reads.bytes ∙ told in
+    let enough : 1024 ≤ length image = omega (arith, g.met.D.Disk.told_length c.boot_record.new.disk image now, c.length.ensures, c.if-length-lt-MAP.false) in
+    let later = (reads_then (laws g.met.D.Disk) c.boot_record.ensures.reads c.map_record.ensures.reads).bytes ∙ told in
+    omega (
+      arith,
+      c.boot_record.ensures.most image told,
+      c.map_record.ensures.most image now,
+      c.map_record-2.ensures.most image later,
+      second_within image (sym c.in_default.is ∙ c.in_ok-record.ensures.found image told) enough (sym c.in_default-2.is ∙ c.in_ok-record-2.ensures.found image now),
+    )
