@@ -1,5 +1,5 @@
 -- Edits of a map one after another, and what they leave of other zones.
-use Rattle.std.proofs.Common.{◌≡◌, ◌<◌, ℕ, List, ◌∷◌, ◌++◌, refl, sym, ap, ap₂, subst, ◌∙◌, inl, inr}
+use Rattle.std.proofs.Common.{◌≡◌, ◌<◌, ℕ, List, refl, sym, ap₂, subst, ◌∙◌, inl, inr}
 use Rattle.std.proofs.lemmas.Bool.{cases_eq}
 use Rattle.fc_bytes.specs.Bits.{bits}
 use Rattle.fc_record.specs.declared.Geometry.{Geometry}
@@ -7,7 +7,6 @@ use Rattle.fc_zone.specs.declared.Run.{Run}
 use Rattle.fc_zone.specs.Edits.{KeepsBytes, KeepsLinks, KeepsOutside}
 use Rattle.fc_zone.specs.Reading.{runs_of as runs_read}
 use Rattle.fc_zone.specs.Zone.{Zone}
-use Rattle.fc_zone.proofs.ReadingLemmas.{runs_of_zone}
 use Rattle.fc_zone.proofs.WrittenLemmas.{keeps_none, keeps_then}
 use Rattle.fc_newmap.specs.Edits.{AreEdits, IsEdit, KeepsRuns}
 use Rattle.fc_newmap.specs.Map.{Map, runs_of, sector_of, shape}

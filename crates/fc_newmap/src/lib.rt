@@ -10,6 +10,7 @@ mod places;
 mod runs;
 mod shapes;
 mod sums;
+mod tally;
 mod walk;
 
 ghost use Rattle.fc_newmap.specs.Rows.{MapRows};

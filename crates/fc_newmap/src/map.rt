@@ -18,6 +18,7 @@ ghost use Rattle.fc_newmap.specs.RunsLaw.{HasZones};
 
 use crate::MapError;
 use crate::shapes::{place_of, sector_in, shape_of};
+use crate::tally::{IdTally, count, uncount};
 use byteorder::{ByteOrder, LittleEndian};
 use fc_record::Geometry;
 use fc_zone::{Run, ZoneFault, check_zone};
@@ -31,17 +32,20 @@ use std::marker::Model;
 pub struct NewMap {
     geometry: Geometry,
     zones: Vec<u8>,
+    // What the runs of each identifier come to. `None`: it was not made, or memory was short.
+    pub(crate) tally: Option<Vec<IdTally>>,
 }
 
 impl Model for NewMap {
     ghost use Rattle.fc_newmap.specs.Map.{Map};
-    ghost use Rattle.fc_newmap.specs.NewMap.{IsHeld, map_in};
+    ghost use Rattle.fc_newmap.specs.NewMap.{map_in};
+    ghost use Rattle.fc_newmap.specs.Tally.{IsTallied};
 
     ghost Value = { Map };
 
     ghost view = { λ m. map_in m.geometry m.zones.items };
 
-    ghost invariant = { λ m. IsHeld m.geometry m.zones.items };
+    ghost invariant = { λ m. IsTallied m.geometry m.zones.items m.tally };
 }
 
 // Whether a zone of a copy has runs.
@@ -81,7 +85,11 @@ impl NewMap {
         ensures map { IfOk result IsNewMap }
     {
         match first_fault(&zones, &g) {
-            None => Ok(NewMap { geometry: g, zones }),
+            None => Ok(NewMap {
+                geometry: g,
+                zones,
+                tally: None,
+            }),
             Some(fault) => Err(MapError::Zone(fault)),
         }
     }
@@ -128,7 +136,9 @@ impl NewMap {
         let shape = shape_of(&self.geometry, z);
         let from = place_of(&self.geometry, z);
         let size = self.geometry.sector as usize;
+        let hole = self.run_from(z, start);
         fc_zone::label(&mut self.zones[from..from + size], &shape, start, id);
+        count(&mut self.tally, &self.geometry, z, id, hole.len);
     }
 
     /// Turns the run of a zone that begins at `start` into a hole, and joins it with none.
@@ -142,7 +152,9 @@ impl NewMap {
         let shape = shape_of(&self.geometry, z);
         let from = place_of(&self.geometry, z);
         let size = self.geometry.sector as usize;
+        let run = self.run_from(z, start);
         fc_zone::release(&mut self.zones[from..from + size], &shape, start);
+        uncount(&mut self.tally, run.kind, run.len);
     }
 
     /// Cuts the run of a zone that begins at `start` into two of its kind, the first of `len` bits. Both parts have at least
