@@ -16,6 +16,7 @@ pub mod Composed
 pub mod FirstFit
 pub mod Fronts
 pub mod Moved
+pub mod NoIds
 pub mod Applies
 pub mod Changes
 pub mod InOrder

@@ -1,5 +1,5 @@
 -- Unused identifiers, and what a pass over a map's runs finds.
-use Rattle.std.proofs.Common.{◌≡◌, ◌<◌, ◌≤◌, ◌||◌, ◌==◌, ◌^◌, ℕ, zero, suc, ◌+◌, ◌-◌, Bool, true, false, cond, List, [], ◌∷◌, ◌++◌, length, get_or, set, refl, sym, ap, ap₂, subst, ◌∙◌, inl, inr, arith, eq-eqb, replicate}
+use Rattle.std.proofs.Common.{◌≡◌, ◌<◌, ◌≤◌, ◌||◌, ◌==◌, ◌^◌, ℕ, zero, suc, ◌+◌, ◌-◌, Bool, true, false, cond, List, [], ◌∷◌, ◌++◌, drop, length, get_or, set, refl, sym, ap, ap₂, subst, ◌∙◌, inl, inr, arith, eq-eqb, replicate}
 use Rattle.std.specs.Prelude.{filter, not}
 use Rattle.std.specs.List.{list_any, range_with_len}
 use Rattle.std.proofs.Math.Nat.{pow-le-pow_right}
@@ -38,6 +38,25 @@ unused_later used id in' e = unused_step used id in' ∙ ap (λ (b : Bool). cond
 
 pub unused_none : (used : List Bool) (id : ℕ) → length used ≤ id → unused_from used id ≡ []
 unused_none used id past = ap (λ (n : ℕ). filter (is_unused used) (range_with_len id n)) (let e : length used - id ≡ 0 = omega arith in e)
+
+-- what is left behind the first that is unused
+unused_on : (used : List Bool) (n from id : ℕ) (rest : List ℕ) → length used - from ≡ n → unused_from used from ≡ id ∷ rest → unused_from used (id + 1) ≡ rest
+unused_on used zero from id rest e is = absurd (none_first id rest (sym (unused_none used from (omega arith)) ∙ is))
+  where
+    none_first : (x : ℕ) (xs : List ℕ) → [] ≡ x ∷ xs → ⊥
+    none_first x xs e = cc
+unused_on used (suc n) from id rest e is = by (is_unused used from) (sym (unused_step used from (omega arith)) ∙ is) (unused_on used n (from + 1) id rest (omega arith))
+  where
+    by : (b : Bool) → cond b (from ∷ unused_from used (from + 1)) (unused_from used (from + 1)) ≡ id ∷ rest → (unused_from used (from + 1) ≡ id ∷ rest → unused_from used (id + 1) ≡ rest) → unused_from used (id + 1) ≡ rest
+    by true same later = ap (λ (k : ℕ). unused_from used (k + 1)) (sym (ap (λ (xs : List ℕ). get_or xs 0 0) same)) ∙ ap (drop 1) same
+    by false same later = later same
+
+-- Where the marks change and the same is left, the least one comes first, and the others are behind it by the new marks.
+pub unused_behind : (used marks : List Bool) (from next id : ℕ) (ids : List ℕ) → unused_from used from ≡ ids → unused_from used from ≡ id ∷ unused_from used (id + 1) → unused_from marks next ≡ ids
+    → ids ≡ id ∷ unused_from marks (id + 1)
+unused_behind used marks from next id ids is least same =
+    let first = sym is ∙ least in
+    first ∙ ap (λ (rest : List ℕ). id ∷ rest) (sym (unused_on marks (length marks - next) next id (unused_from used (id + 1)) refl (same ∙ first)))
 
 -- ---- a pass over the runs
 

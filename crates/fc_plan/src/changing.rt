@@ -30,6 +30,9 @@ fn has_run_of(map: &NewMap, z: u16, ids: &[u32]) -> bool
     requires { z < map.now.geometry.zones }
     ensures { result ≡ has_run_of ids.now (runs_of map.now z) }
 {
+    if ids.is_empty() {
+        return false;
+    }
     let mut walk = Walk::from_zone(map, z, 0);
     while let Some((_, run)) = walk.next(map) {
         if is_of(ids, run.kind) {

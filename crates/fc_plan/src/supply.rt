@@ -239,12 +239,11 @@ impl Supply {
         let Some(id) = next_unused(&self.used, self.next) else {
             return Err(PlanError::IdsFull);
         };
-        let cut = cut_from(alloc, &self.holes, &self.geometry, bytes)?;
-        self.holes = cut.left;
+        let parts = self.take_parts(alloc, bytes)?;
         self.next = id + 1;
         Ok(Plan {
             id: id as u32,
-            parts: cut.parts,
+            parts,
         })
     }
 
@@ -280,12 +279,11 @@ impl Supply {
         let Some(id) = next_unused(&self.used, self.next) else {
             return Err(PlanError::IdsFull);
         };
-        let cut = cut_first(alloc, &self.holes, &self.geometry, bytes)?;
-        self.holes = cut.left;
+        let parts = self.take_first(alloc, bytes)?;
         self.next = id + 1;
         Ok(Plan {
             id: id as u32,
-            parts: cut.parts,
+            parts,
         })
     }
 }
