@@ -3,9 +3,9 @@
 
 usage: tools/bench_changes.py PROGRAM [FILES [OBJECTS]]    10,000 files, and 50,000 objects on the other discs
 
-Files of 100 bytes are saved in one script into 100 directories of a disc with big directories. At a tenth of the files and at all of
-them, and then over discs of 1,000 directories and 50,000 files (tools/large_image.py), with small directories and with big ones,
-each command is run LINES times in one script: the processor time beside that of an empty script, each the least of ROUNDS rounds,
+Files of 100 bytes are saved in one script into 100 directories of a disc with big directories, into one after another, and then, on
+another disc, into all in turn. At a tenth of the files and at all of them, and then over discs of 1,000 directories and 50,000 files
+(tools/large_image.py), with small directories and with big ones, each command is run LINES times in one script: the processor time beside that of an empty script, each the least of ROUNDS rounds,
 and the calls of the system beside its calls, by strace or, without it, by the recorder of tools/check_outside.c, both a command.
 Between them files are made in one directory, which grows, and files are moved into one.
 """
@@ -77,9 +77,9 @@ class Bench:
             print("%s, %s: %.0f microseconds, %.1f calls a command" % (title, word, *self.a_command(image, found)), flush=True)
 
 
-def saving(first, last):
-    """Lines that save so many files of 100 bytes in turn into the directories."""
-    return ["save $.D%d.File%d %s %s" % (at % DIRECTORIES, at, WORDS, ("%08x" % at) * 25) for at in range(first, last)]
+def saving(numbers, directory_of):
+    """Lines that save files of 100 bytes with these numbers."""
+    return ["save $.D%d.File%d %s %s" % (directory_of(at), at, WORDS, ("%08x" % at) * 25) for at in numbers]
 
 
 def commands(paths, fresh, others):
@@ -111,18 +111,34 @@ def empty_disc(path):
 
 
 def many_files(bench, image, files):
-    """Files of 100 bytes in 100 directories."""
+    """Files of 100 bytes saved in turn into 100 directories, which so get ten times as long."""
     empty_disc(image)
     done = 0
     for count in (files // 10, files):
-        taken = bench.seconds(image, script_of(saving(done, count)))
-        print("%d files saved in one script: %.2f s" % (count - done, taken), flush=True)
+        lines = saving(range(done, count), lambda at: at % DIRECTORIES)
+        print("%d files saved in one script: %.2f s" % (count - done, bench.seconds(image, script_of(lines))), flush=True)
         done = count
         step = max(1, count // LINES)
         paths = ["$.D%d.File%d" % (at % DIRECTORIES, at) for at in range(0, count, step)][:LINES]
         fresh = ["$.D%d.New%d" % (at % DIRECTORIES, at) for at in range(LINES)]
         others = ["$.D%d.File%d" % ((at + 1) % DIRECTORIES, at) for at in range(0, count, step)][:LINES]
         bench.table(image, "%d files" % count, commands(paths, fresh, others))
+
+
+def full_directories(bench, image, files):
+    """Files of 100 bytes saved into one of 100 directories after another, and the commands in ten directories that have all of theirs:
+    only the disc has more files then, not a directory."""
+    empty_disc(image)
+    each, done = files // DIRECTORIES, 0
+    for count in (files // 10, files):
+        bench.seconds(image, script_of(saving(range(done, count), lambda at: at // each)))
+        done, full = count, count // each
+        chosen = [at * full // 10 for at in range(10)]
+        numbers = [(at, directory * each + number) for number in range(min(each, LINES // 10)) for at, directory in enumerate(chosen)]
+        paths = ["$.D%d.File%d" % (chosen[at], number) for at, number in numbers]
+        fresh = ["$.D%d.New%d" % (chosen[at], number) for at, number in numbers]
+        others = ["$.D%d.File%d" % (chosen[at - 1], number) for at, number in numbers]
+        bench.table(image, "%d files, %d a directory" % (count, each), commands(paths, fresh, others))
 
 
 def one_directory(bench, image, files):
@@ -159,6 +175,7 @@ def script_of(lines):
 def main(program, files=10000, objects=50000):
     with tempfile.TemporaryDirectory(dir=os.getcwd()) as folder:
         image, bench = os.path.join(folder, "image"), Bench(program, folder)
+        full_directories(bench, image, files)
         many_files(bench, image, files)
         one_directory(bench, image, files)
         for big in (False, True):
