@@ -83,7 +83,7 @@ module _ (dir id : ℕ) where
       by false e true h rest = ap (λ (b : Bool). has_id id o || b) (rest h)
       by false e false h rest = rest h ∙ sym (ap (λ (b : Bool). b || list_any (has_id id) owners) e)
 
-  shared_if : (owners : List Owner) → (list_any (has_id id) (filter (is_open dir) owners) && (number (filter (is_open dir) owners) == number owners)) ≡ may_share owners dir id
+  pub shared_if : (owners : List Owner) → (list_any (has_id id) (filter (is_open dir) owners) && (number (filter (is_open dir) owners) == number owners)) ≡ may_share owners dir id
   shared_if owners =
       ap (λ (b : Bool). list_any (has_id id) (filter (is_open dir) owners) && b) (sym (all_open owners))
       ∙ by (list_all (allows dir id) owners) refl
