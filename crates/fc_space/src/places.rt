@@ -43,18 +43,18 @@ impl Places {
         Places { space, index: None }
     }
 
-    /// Makes the index of a new map, unless there is one. If memory is short, places are found as before.
+    /// Makes the index of a new map and the map's tally, unless it has them. If memory is short, places are found as before;
+    /// for the tally alone that is no error.
     pub fn index(&mut self, alloc: Global) -> Result<(), NoMemory>
         ensures { self.new ≡ self.old }
     {
-        if self.index.is_some() {
-            return Ok(());
-        }
-        let Space::NewMapped(map) = &self.space else {
+        let Space::NewMapped(map) = &mut self.space else {
             return Ok(());
         };
-        let rows = index_of(alloc, map)?;
-        self.index = Some(rows);
+        if self.index.is_none() {
+            self.index = Some(index_of(alloc, map)?);
+        }
+        let _ = map.tally(alloc);
         Ok(())
     }
 
