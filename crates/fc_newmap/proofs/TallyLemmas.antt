@@ -1,12 +1,13 @@
 -- The tally of a map's runs, and what edits make of it.
-use Rattle.std.proofs.Common.{◌≡◌, ◌<◌, ◌≤◌, ℕ, zero, suc, ◌+◌, ◌-◌, ◌*◌, ◌^◌, Bool, true, false, cond, Option, Some, None, List, [], ◌∷◌, ◌++◌, length, replicate, refl, sym, ap, ap₂, subst, ◌∙◌, inl, inr, arith, eq-eqb, min}
-use Rattle.std.specs.Prelude.{filter, sum_by}
-use Rattle.std.specs.List.{range_with_len}
+use Rattle.std.proofs.Common.{◌≡◌, ◌<◌, ◌≤◌, ℕ, zero, suc, ◌+◌, ◌-◌, ◌*◌, ◌^◌, Bool, true, false, cond, Option, Some, None, List, [], ◌∷◌, ◌++◌, length, replicate, set, refl, sym, ap, ap₂, subst, ◌∙◌, inl, inr, arith, eq-eqb, min}
+use Rattle.std.specs.Prelude.{◌||◌, Contains, Ok, Err, filter, sum_by}
+use Rattle.std.specs.List.{list_any, range_with_len}
 use Rattle.std.specs.Option.{IfSome, option_map, unwrap_or}
 use Rattle.std.specs.Global.{Vec}
 use Rattle.std.proofs.Math.Nat.{pow-le-pow_right}
-use Rattle.std.proofs.lemmas.Bool.{cases_eq, ne_eqb, cases_lt}
+use Rattle.std.proofs.lemmas.Bool.{eqb-true, cases_eq, ne_eqb, cases_lt}
 use Rattle.std.proofs.lemmas.List.{append_assoc, append-nil, get_or-replicate, get_or_past, get_or-set_other, get_or-set_same, length-replicate, length-set, map-append}
+use Rattle.std.proofs.lemmas.List.Elements.{Contains-append_cases}
 use Rattle.std.proofs.lemmas.List.Sums.{sum_by-append, sum_by-cons}
 use Rattle.fc_record.specs.declared.Geometry.{Geometry}
 use Rattle.fc_record.specs.Record.{first_bit, end_bit}
@@ -22,12 +23,12 @@ use Rattle.fc_newmap.specs.Map.{Map, ZoneRun, all_runs, bits_in, has_id, home_zo
 use Rattle.fc_newmap.specs.Edits.{IsEdit, KeepsRuns, MergesIn, RelabelsIn, SplitsIn}
 use Rattle.fc_newmap.specs.NewMap.{IsNewMap, IsOfRecord}
 use Rattle.fc_newmap.specs.RunsLaw.{placed}
-use Rattle.fc_newmap.specs.Tally.{HasBits, HasRoom, IsTally, IsTallyOf, counted, no_row, row_of, uncounted, zones_before}
+use Rattle.fc_newmap.specs.Tally.{HasBits, HasRoom, IsAhead, IsTally, IsTallyOf, counted, has_run_of, no_row, row_of, uncounted, zones_before}
 use Rattle.fc_newmap.proofs.ComposeLemmas.{runs_other}
 use Rattle.fc_newmap.proofs.CoverLemmas.{range_cut}
 use Rattle.fc_newmap.proofs.GeometryLemmas.{facts_of_valid}
 use Rattle.fc_newmap.proofs.HeldLemmas.{end_within, geometry_facts, sector_high}
-use Rattle.fc_newmap.proofs.PlaceLemmas.{home_low, id_runs_by_zones}
+use Rattle.fc_newmap.proofs.PlaceLemmas.{contains_cases, contains_here, contains_later, contains_none, home_low, id_runs_by_zones, in_range, in_zone}
 
 -- ---- sums
 
@@ -268,25 +269,122 @@ uncounted_bits rows (Id k) len id low = elim (cases_eq k id) [
     none : (n : ℕ) → n ≡ n - 0
     none n = omega arith
 
+counted_ahead : (g : Geometry) (rows : List IdTally) (z : ℕ) (kind : RunKind) (len id k : ℕ) → id < length rows → k < (row_of (counted g rows z kind len) id).ahead
+    → (k < (row_of rows id).ahead) × (has_id id kind ≡ true → k < zones_before g id z)
+counted_ahead g rows z Hole len id k low h = (h, λ e. absurd (cc))
+counted_ahead g rows z (Id j) len id k low h = elim (cases_eq j id) [
+  | inl same ↦ (
+      let row : IdTally = record { bits = (row_of rows id).bits + len; ahead = min (row_of rows id).ahead (zones_before g id z) } in
+      let there : k < (row_of (set rows id row) id).ahead = subst (λ (i : ℕ). k < (row_of (counted g rows z (Id i) len) id).ahead) same h in
+      let is : (row_of (set rows id row) id).ahead ≡ min (row_of rows id).ahead (zones_before g id z) = ap (λ (r : IdTally). r.ahead) (get_or-set_same rows id row no_row low) in
+      let both = less_of_both k (row_of rows id).ahead (zones_before g id z) (subst (λ (n : ℕ). k < n) is there) in
+      (both.0, λ e. both.1))
+  | inr other ↦ (
+      let is = ap (λ (r : IdTally). r.ahead) (get_or-set_other rows j id (record { bits = (row_of rows j).bits + len; ahead = min (row_of rows j).ahead (zones_before g j z) }) no_row (λ e. other (sym e))) in
+      (subst (λ (n : ℕ). k < n) is h, λ e. absurd (other (eqb-true j id e))))
+]
+  where
+    less_of_both : (k a b : ℕ) → k < min a b → (k < a) × (k < b)
+    less_of_both k a b h = (omega arith, omega arith)
+
+uncounted_ahead : (rows : List IdTally) (kind : RunKind) (len id : ℕ) → id < length rows → (row_of (uncounted rows kind len) id).ahead ≡ (row_of rows id).ahead
+uncounted_ahead rows Hole len id low = refl
+uncounted_ahead rows (Id k) len id low = elim (cases_eq k id) [
+  | inl same ↦
+      subst (λ (j : ℕ). (row_of (uncounted rows (Id j) len) id).ahead ≡ (row_of rows id).ahead) (sym same)
+      (ap (λ (r : IdTally). r.ahead) (get_or-set_same rows id (record (row_of rows id) { bits = (row_of rows id).bits - len }) no_row low))
+  | inr other ↦ ap (λ (r : IdTally). r.ahead) (get_or-set_other rows k id (record (row_of rows k) { bits = (row_of rows k).bits - len }) no_row (λ h. other (sym h)))
+]
+
+not_below : (n : ℕ) → n < n → ⊥
+not_below n h = omega arith
+
+-- ---- zones with no run of an identifier
+
+abbrev pub any_of : ℕ → List Run → Bool
+any_of id runs = list_any (λ run. has_id id run.kind) runs
+
+pub neither : (a b : Bool) → (a || b) ≡ false → (a ≡ false) × (b ≡ false)
+neither true b e = absurd (cc)
+neither false b e = (refl, e)
+
+none_of_both : (a b : Bool) → a ≡ false → b ≡ false → (a || b) ≡ false
+none_of_both true b e f = absurd (cc)
+none_of_both false b e f = f
+
+any_cut : (id : ℕ) (xs ys : List Run) → any_of id (xs ++ ys) ≡ false → (any_of id xs ≡ false) × (any_of id ys ≡ false)
+any_cut id [] ys e = (refl, e)
+any_cut id (x ∷ xs) ys e =
+    let r = neither (has_id id x.kind) (any_of id (xs ++ ys)) e in
+    let rest = any_cut id xs ys r.1 in
+    (none_of_both (has_id id x.kind) (any_of id xs) r.0 rest.0, rest.1)
+
+any_join : (id : ℕ) (xs ys : List Run) → any_of id xs ≡ false → any_of id ys ≡ false → any_of id (xs ++ ys) ≡ false
+any_join id [] ys e f = f
+any_join id (x ∷ xs) ys e f =
+    let r = neither (has_id id x.kind) (any_of id xs) e in
+    none_of_both (has_id id x.kind) (any_of id (xs ++ ys)) r.0 (any_join id xs ys r.1 f)
+
+-- runs of one zone become others, among which are none of an identifier that it had not
+pub none_edited : (m n : Map) (z id : ℕ) (front olds news rest : List Run) → IsEdit m n z → runs_of m z ≡ front ++ (olds ++ rest) → runs_of n z ≡ front ++ (news ++ rest)
+    → (any_of id olds ≡ false → any_of id news ≡ false) → (y : ℕ) → has_run_of m id y ≡ false → has_run_of n id y ≡ false
+none_edited m n z id front olds news rest edit was now keeps y none = elim (cases_eq y z) [
+  | inl same ↦ (
+      let all : any_of id (front ++ (olds ++ rest)) ≡ false = ap (any_of id) (sym was) ∙ subst (λ (k : ℕ). has_run_of m id k ≡ false) same none in
+      let one = any_cut id front (olds ++ rest) all in
+      let two = any_cut id olds rest one.1 in
+      let there = any_join id front (news ++ rest) one.0 (any_join id news rest (keeps two.0) two.1) in
+      subst (λ (k : ℕ). has_run_of n id k ≡ false) (sym same) (ap (any_of id) now ∙ there))
+  | inr other ↦ ap (any_of id) (runs_other m n z y edit other) ∙ none
+]
+
+-- no run of a zone is of an identifier
+any_none : (id z : ℕ) (runs : List Run) → ((run : Run) → Contains (placed z runs) (z, run) → has_id id run.kind ≡ false) → any_of id runs ≡ false
+any_none id z [] each = refl
+any_none id z (run ∷ runs) each =
+    none_of_both (has_id id run.kind) (any_of id runs) (each run (contains_here (z, run) (placed z runs)))
+    (any_none id z runs (λ other c. each other (contains_later (z, run) (placed z runs) (z, other) c)))
+
 -- ---- the pass over all runs
 
 -- these runs are counted
 pub record CountsRuns (m : Map) (runs : List ZoneRun) (rows : List IdTally) : Type 0 where
   pub bits : (id : ℕ) → id < length rows → (row_of rows id).bits ≡ sum_by (bits_of_id id) runs
+  pub ahead : (id : ℕ) → id < length rows → (p : ZoneRun) → Contains runs p → zones_before m.geometry id p.0 < (row_of rows id).ahead → has_id id p.1.kind ≡ false
 
 pub none_counted : (m : Map) (n : ℕ) (rows : List IdTally) (none : IdTally) → none.bits ≡ 0 → rows ≡ replicate n none → CountsRuns m [] rows
 none_counted m n rows none zero_bits e = record {
   bits = λ id low.
       (let low' : id < n = omega (arith, low, ap length e, length-replicate n none) in
       ap (λ (r : IdTally). r.bits) (ap (λ (rs : List IdTally). row_of rs id) e ∙ get_or-replicate n id none no_row low') ∙ zero_bits);
+  ahead = λ id low p c h. absurd (contains_none p c);
 }
 
-pub one_counted : (m : Map) (runs : List ZoneRun) (run : ZoneRun) (g : Geometry) (old new : List IdTally) → new ≡ counted g old run.0 run.1.kind run.1.len → CountsRuns m runs old → CountsRuns m (runs ++ run ∷ []) new
-one_counted m runs run g old new e counts = record {
+pub one_counted : (m : Map) (runs : List ZoneRun) (run : ZoneRun) (g : Geometry) (old new : List IdTally) → g ≡ m.geometry → new ≡ counted g old run.0 run.1.kind run.1.len → CountsRuns m runs old
+    → CountsRuns m (runs ++ run ∷ []) new
+one_counted m runs run g old new same e counts = record {
   bits = λ id low.
       (let low' : id < length old = omega (arith, low, ap length e, counted_long g old run.0 run.1.kind run.1.len) in
       omega (arith, ap (λ (rs : List IdTally). (row_of rs id).bits) e, counted_bits g old run.0 run.1.kind run.1.len id low', counts.bits id low', sum_by-append (bits_of_id id) runs (run ∷ []), sum_by-cons (bits_of_id id) run []));
+  ahead = λ id low p c h.
+      (let low' : id < length old = omega (arith, low, ap length e, counted_long g old run.0 run.1.kind run.1.len) in
+      let a = counted_ahead g old run.0 run.1.kind run.1.len id (zones_before m.geometry id p.0) low' (subst (λ (rs : List IdTally). zones_before m.geometry id p.0 < (row_of rs id).ahead) e h) in
+      elim (Contains-append_cases runs (run ∷ []) p c) [
+        | inl before ↦ counts.ahead id low' p before a.0
+        | inr here ↦ elim (contains_cases run [] p here) [
+          | Ok last ↦ newest m g id run p same last (has_id id run.1.kind) refl a.1
+          | Err none ↦ absurd (contains_none p none)
+        ]
+      ]);
 }
+  where
+    newest : (m : Map) (g : Geometry) (id : ℕ) (run p : ZoneRun) → g ≡ m.geometry → run ≡ p → (b : Bool) → has_id id run.1.kind ≡ b
+        → (has_id id run.1.kind ≡ true → zones_before m.geometry id p.0 < zones_before g id run.0) → has_id id p.1.kind ≡ false
+    newest m g id run p same last false is later = ap (λ (q : ZoneRun). has_id id q.1.kind) (sym last) ∙ is
+    newest m g id run p same last true is later =
+        absurd (not_below (zones_before m.geometry id p.0)
+        (subst (λ (q : ZoneRun). zones_before m.geometry id p.0 < zones_before m.geometry id q.0) last
+        (subst (λ (h : Geometry). zones_before m.geometry id p.0 < zones_before h id run.0) same (later is))))
 
 pub walked_on : (passed left rest all : List ZoneRun) (run : ZoneRun) → passed ++ left ≡ all → left ≡ run ∷ rest → (passed ++ run ∷ []) ++ rest ≡ all
 walked_on passed left rest all run so_far e = append_assoc passed (run ∷ []) rest ∙ ap (λ (l : List ZoneRun). passed ++ l) (sym e) ∙ so_far
@@ -317,9 +415,18 @@ pub all_counted : (m : Map) (passed left : List ZoneRun) (rows : List IdTally) �
 all_counted m passed left rows is none so_far counts =
     let facts = geometry_facts m.geometry is.of_record in
     let all : passed ≡ all_runs m = sym (append-nil passed) ∙ ap (λ (l : List ZoneRun). passed ++ l) (sym none) ∙ so_far in
-    λ id low. record { bits = counts.bits id low ∙ ap (sum_by (bits_of_id id)) all ∙ all_bits m id facts.zones }
+    λ id low. record {
+      bits = counts.bits id low ∙ ap (sum_by (bits_of_id id)) all ∙ all_bits m id facts.zones;
+      ahead = λ z in' h. any_none id z (runs_of m z) (λ run c. counts.ahead id low (z, run)
+          (subst (λ (l : List ZoneRun). Contains l (z, run)) (sym all) (in_zone m (zone_numbers m.geometry) (z, run) (in_range 0 m.geometry.zones z (omega arith) (omega arith)) c)) h);
+    }
 
 -- ---- a tally after an edit
+
+-- no zone gets a run of an identifier of which it had none
+pub ahead_kept : (m n : Map) (id k : ℕ) → n.geometry ≡ m.geometry → ((y : ℕ) → has_run_of m id y ≡ false → has_run_of n id y ≡ false) → IsAhead m id k → IsAhead n id k
+ahead_kept m n id k same keeps ahead = λ y low h.
+    keeps y (ahead y (subst (λ (g : Geometry). y < g.zones) same low) (subst (λ (g : Geometry). zones_before g id y < k) same h))
 
 -- all runs stay
 pub same_tally : (m n : Map) (tally : Option (Vec IdTally)) → KeepsRuns m n → IsTallyOf tally m → IsTallyOf tally n
@@ -329,6 +436,7 @@ same_tally m n (Some rows) keeps is = λ id low. (
     let old = is id low in
     record {
       bits = old.bits ∙ ap bits_in (sym (id_runs_by_zones m n id keeps.geometry facts.zones (λ z h. ap (λ (rs : List Run). filter (λ p. has_id id p.1.kind) (placed z rs)) (keeps.runs z))));
+      ahead = ahead_kept m n id (row_of rows.items id).ahead keeps.geometry (λ y none. ap (any_of id) (keeps.runs y) ∙ none) old.ahead;
     })
 
 tally_on : (m n : Map) (old new : Option (Vec IdTally)) (f : List IdTally → List IdTally) → option_map (λ (rows : Vec IdTally). rows.items) new ≡ option_map (λ (rows : Vec IdTally). f rows.items) old
@@ -376,12 +484,34 @@ module _ (m n : Map) (z start : ℕ) (edit : IsEdit m n z) (low : z < m.geometry
           | inr past ↦ omega (arith, ap (λ (r : IdTally). r.bits) (get_or_past rows.items id no_row (omega arith)), more, mine, high, zones)
         ]
 
-    pub label_tally : (g : Geometry) (old new : Option (Vec IdTally)) → option_map (λ (rows : Vec IdTally). rows.items) new ≡ option_map (λ (rows : Vec IdTally). counted g rows.items z (Id id) hole.len) old
+    label_ahead : (g : Geometry) (rows : List IdTally) (k : ℕ) → g ≡ m.geometry → k < length rows → IsAhead m k (row_of rows k).ahead → IsAhead n k (row_of (counted g rows z (Id id) hole.len) k).ahead
+    label_ahead g rows k same in' ahead = λ y low' h.
+        let a = counted_ahead g rows z (Id id) hole.len k (zones_before m.geometry k y) in' (subst (λ (h' : Geometry). zones_before h' k y < (row_of (counted g rows z (Id id) hole.len) k).ahead) edit.geometry h) in
+        let was = ahead y (subst (λ (h' : Geometry). y < h'.zones) edit.geometry low') a.0 in
+        elim (cases_eq y z) [
+          | inl here ↦ by y was here (has_id k (Id id)) refl a.1
+          | inr other ↦ ap (any_of k) (runs_other m n z y edit other) ∙ was
+        ]
+      where
+        by : (y : ℕ) → has_run_of m k y ≡ false → y ≡ z → (b : Bool) → has_id k (Id id) ≡ b → (has_id k (Id id) ≡ true → zones_before m.geometry k y < zones_before g k z) → has_run_of n k y ≡ false
+        by y was here false is later =
+            let r = has.1.2 in
+            let cut = cut_of has.0 r in
+            none_edited m n z k r.0 (has.0 ∷ []) (record has.0 { kind = Id id } ∷ []) r.1.0 edit cut (relabels r.0 r.1.0 has.0 cut has.1.0) (λ e. none_of_both (has_id k (Id id)) false is refl) y was
+        by y was here true is later =
+            absurd (not_below (zones_before m.geometry k y)
+            (subst (λ (x : ℕ). zones_before m.geometry k y < zones_before m.geometry k x) (sym here)
+            (subst (λ (h' : Geometry). zones_before m.geometry k y < zones_before h' k z) same (later is))))
+
+    pub label_tally : (g : Geometry) (old new : Option (Vec IdTally)) → g ≡ m.geometry → option_map (λ (rows : Vec IdTally). rows.items) new ≡ option_map (λ (rows : Vec IdTally). counted g rows.items z (Id id) hole.len) old
         → IsTallyOf old m → IsTallyOf new n
-    label_tally g old new e = tally_on m n old new (λ rows. counted g rows z (Id id) hole.len) e (λ rows tallied k in'.
+    label_tally g old new same e = tally_on m n old new (λ rows. counted g rows z (Id id) hole.len) e (λ rows tallied k in'.
         let in'' : k < length rows = omega (arith, in', counted_long g rows z (Id id) hole.len) in
         let row = tallied k in'' in
-        record { bits = omega (arith, counted_bits g rows z (Id id) hole.len k in'', row.bits, bits_more k) })
+        record {
+          bits = omega (arith, counted_bits g rows z (Id id) hole.len k in'', row.bits, bits_more k);
+          ahead = label_ahead g rows k same in'' row.ahead;
+        })
 
   -- a run becomes a hole
   module _ (run : Run) (has : HasRunAt (shape m.geometry z) (sector_of m z) start) (is : IsRunFrom m z start run) (relabels : RelabelsIn m n z start Hole) where
@@ -404,7 +534,14 @@ module _ (m n : Map) (z start : ℕ) (edit : IsEdit m n z) (low : z < m.geometry
     release_tally old new e = tally_on m n old new (λ rows. uncounted rows run.kind run.len) e (λ rows tallied k in'.
         let in'' : k < length rows = omega (arith, in', uncounted_long rows run.kind run.len) in
         let row = tallied k in'' in
-        record { bits = omega (arith, uncounted_bits rows run.kind run.len k in'', row.bits, bits_less k) })
+        let r = has.1.1 in
+        let cut = cut_of has.0 r in
+        record {
+          bits = omega (arith, uncounted_bits rows run.kind run.len k in'', row.bits, bits_less k);
+          ahead = subst (IsAhead n k) (sym (uncounted_ahead rows run.kind run.len k in''))
+              (ahead_kept m n k (row_of rows k).ahead edit.geometry
+              (none_edited m n z k r.0 (has.0 ∷ []) (record has.0 { kind = Hole } ∷ []) r.1.0 edit cut (relabels r.0 r.1.0 has.0 cut has.1.0) (λ e. refl)) row.ahead);
+        })
 
   -- a run is cut in two
   pub split_tally : (len : ℕ) (tally : Option (Vec IdTally)) → HasRunToSplit (shape m.geometry z) (sector_of m z) start len → SplitsIn m n z start len → IsTallyOf tally m → IsTallyOf tally n
@@ -414,8 +551,14 @@ module _ (m n : Map) (z start : ℕ) (edit : IsEdit m n z) (low : z < m.geometry
       let can = has.1.1 in
       let room = can.rest_room in
       let row = tallied k in' in
+      let cut = cut_of has.0 r in
+      let here = subst (λ (s : ℕ). SplitsIn m n z s len) (sym has.1.0) splits in
+      let two : List Run = record has.0 { len = len } ∷ record has.0 { start = has.0.start + len; len = has.0.len - len } ∷ [] in
+      let b = has_id k has.0.kind in
       record {
-        bits = row.bits ∙ sym (bits_split m n z k len r.0 r.1.0 has.0 edit low (cut_of has.0 r) (omega (arith, room)) (subst (λ (s : ℕ). SplitsIn m n z s len) (sym has.1.0) splits));
+        bits = row.bits ∙ sym (bits_split m n z k len r.0 r.1.0 has.0 edit low cut (omega (arith, room)) here);
+        ahead = ahead_kept m n k (row_of rows.items k).ahead edit.geometry
+            (none_edited m n z k r.0 (has.0 ∷ []) two r.1.0 edit cut (here r.0 r.1.0 has.0 cut refl) (λ e. none_of_both b (b || false) ((neither b false e).0) e)) row.ahead;
       }
 
   -- two runs are joined
@@ -425,4 +568,12 @@ module _ (m n : Map) (z start : ℕ) (edit : IsEdit m n z) (low : z < m.geometry
       let r = has.4 in
       let cut = runs_of_zone (shape m.geometry z) (sector_of m z) (r.0 ++ has.0 ∷ has.1 ∷ r.1.0) r.1.1 in
       let row = tallied k in' in
-      record { bits = row.bits ∙ sym (bits_merged m n z k r.0 r.1.0 has.0 has.1 edit low cut has.3 (subst (λ (s : ℕ). MergesIn m n z s) (sym has.2) merges)) }
+      let here = subst (λ (s : ℕ). MergesIn m n z s) (sym has.2) merges in
+      let all : List Run = record has.0 { len = has.0.len + has.1.len } ∷ [] in
+      let b = has_id k has.0.kind in
+      record {
+        bits = row.bits ∙ sym (bits_merged m n z k r.0 r.1.0 has.0 has.1 edit low cut has.3 here);
+        ahead = ahead_kept m n k (row_of rows.items k).ahead edit.geometry
+            (none_edited m n z k r.0 (has.0 ∷ has.1 ∷ []) all r.1.0 edit cut (here r.0 r.1.0 has.0 has.1 cut refl)
+            (λ e. none_of_both b false ((neither b (has_id k has.1.kind || false) e).0) refl)) row.ahead;
+      }

@@ -13,6 +13,11 @@ use Rattle.fc_newmap.specs.RunsLaw.{placed}
 abbrev pub zone_after : Geometry → ℕ → ℕ
 zone_after g z = if z + 1 == g.zones then 0 else z + 1
 
+-- the zone n zones above zone z, and round
+abbrev pub zone_up : Geometry → ℕ → ℕ → ℕ
+zone_up g z zero = z
+zone_up g z (suc n) = zone_up g (zone_after g z) n
+
 -- n zones from zone z upwards, and round
 abbrev pub zones_from : Geometry → ℕ → ℕ → List ℕ
 zones_from g z zero = []

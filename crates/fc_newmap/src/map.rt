@@ -28,6 +28,8 @@ use std::marker::Model;
 ///
 /// Contracts see its geometry and the list of its sectors. The geometry is that of a valid record, and each zone has
 /// runs. A zone's number, where a call takes one, is less than the geometry's number of zones.
+///
+/// `tally` counts the runs of each identifier, so that searches for them are short. Every edit keeps the counts right.
 #[derive(Drop)]
 pub struct NewMap {
     geometry: Geometry,

@@ -3,7 +3,7 @@
 ghost use Rattle.std.specs.Prelude.{◌≡◌, ◌<◌, ◌++◌, ◌∷◌, [], List, Contains, IfSome, MatchOption, OnSome, slice_get};
 ghost use Rattle.fc_newmap.specs.Map.{ZoneRun, has_id, home_zone, id_runs};
 ghost use Rattle.fc_newmap.specs.NewMap.{IsNewMap, IsOfRecord};
-ghost use Rattle.fc_newmap.specs.Walk.{IsBehind};
+ghost use Rattle.fc_newmap.specs.Walk.{IsBehind, zone_up};
 
 use crate::NewMap;
 use crate::walk::Walk;
@@ -12,7 +12,7 @@ use fc_zone::{Run, RunKind};
 
 /// A place between two runs of an identifier, for a walk over all of them that can stop early. It costs a pass over
 /// the words of the zones that it comes to, and begins in the zone in which the identifier's runs are looked for
-/// first.
+/// first, or after zones that are known by the map's tally to have none.
 ///
 /// It borrows nothing, and is right as long as the map's runs stay as they are.
 #[derive(Clone, Copy, Debug)]
@@ -38,6 +38,17 @@ pub fn home_zone(g: &Geometry, id: u32) -> u16
     } else {
         (id / g.ids_per_zone % u32::from(zones)) as u16
     }
+}
+
+// The zone so many zones above a zone, and round.
+fn zone_up(g: &Geometry, z: u16, n: u16) -> u16
+    requires zone { z < g.now.zones }
+    requires few { n < g.now.zones }
+    ensures value { result ≡ zone_up g.now z n }
+    ensures low { result < g.now.zones }
+{
+    let above = g.zones - z;
+    if n < above { z + n } else { n - above }
 }
 
 // How many zones come after a zone in a search that begins at zone `home`.
@@ -72,7 +83,9 @@ impl RunCursor {
         ensures map { IsNewMap map.now }
     {
         let g = map.geometry();
-        let walk = Walk::from_zone(map, home_zone(g, id), g.zones - 1);
+        let ahead = map.ahead(id);
+        let first = zone_up(g, home_zone(g, id), ahead);
+        let walk = Walk::from_zone(map, first, g.zones - 1 - ahead);
         RunCursor { id, walk }
     }
 

@@ -6,7 +6,7 @@ ghost use Rattle.fc_zone.specs.declared.RunKind.TheVariants.{Id};
 ghost use Rattle.fc_record.specs.Record.{id_limit};
 ghost use Rattle.fc_newmap.specs.Map.{bits_in, id_runs};
 ghost use Rattle.fc_newmap.specs.NewMap.{IsOfRecord};
-ghost use Rattle.fc_newmap.specs.Tally.{HasBits, HasRoom, IsTally, counted, uncounted, zones_before};
+ghost use Rattle.fc_newmap.specs.Tally.{HasBits, HasRoom, IsAhead, IsRow, IsTally, counted, uncounted, zones_before};
 
 use crate::NewMap;
 use crate::runs::home_zone;
@@ -128,6 +128,26 @@ pub fn tally_of(alloc: Global, map: &NewMap) -> Result<Vec<IdTally>, NoMemory>
 }
 
 impl NewMap {
+    // What the tally says of an identifier, if it reaches so far.
+    fn row(&self, id: u32) -> Option<IdTally>
+        ensures { IfSome result (IsRow self.now id) }
+    {
+        let rows = self.tally.as_ref()?;
+        rows.get(id as usize).copied()
+    }
+
+    // So many zones at the beginning of the search for an identifier are known to have none of its runs; never all.
+    pub(crate) fn ahead(&self, id: u32) -> u16
+        ensures none { IsAhead self.now id result }
+        ensures low { result < self.now.geometry.zones }
+    {
+        let last = self.geometry().zones - 1;
+        match self.row(id) {
+            Some(row) => row.ahead.min(last),
+            None => 0,
+        }
+    }
+
     /// Makes the tally of the runs of all identifiers, in one pass over the runs, unless there is one. If memory is short,
     /// the map is searched as before.
     pub fn tally(&mut self, alloc: Global) -> Result<(), NoMemory>
@@ -145,8 +165,7 @@ impl NewMap {
     pub fn bits_of(&self, id: u32) -> Option<u64>
         ensures { IfSome result (λ bits. bits ≡ bits_in (id_runs self.now id)) }
     {
-        let rows = self.tally.as_ref()?;
-        let row = rows.get(id as usize)?;
+        let row = self.row(id)?;
         Some(u64::from(row.bits))
     }
 }

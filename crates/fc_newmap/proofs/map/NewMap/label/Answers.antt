@@ -62,7 +62,7 @@ invariant_of-self c =
     let before = (goal.at.invariant_of-self c).After-label in
     record {
       held = held_by c.self.inside.geometry c.args.self.now c.args.z (lent c.self.inside.geometry c.place_of-from.result c.deref_mut.result.now) c.label.new.b (new_items c.self.inside.geometry c.self.inside.zones c.deref_mut.result.now c.label.new.b c.place_of-from.result) c.shape_of-shape.result w c.shape_of-shape.ensures.value (relabelled c.shape_of-shape.result (lent c.self.inside.geometry c.place_of-from.result c.deref_mut.result.now) c.label.new.b c.args.start (Id c.args.id) (was_run c.shape_of-shape.result (lent c.self.inside.geometry c.place_of-from.result c.deref_mut.result.now) c.label.new.b c.args.start req) c.label.ensures.runs);
-      tally = label_tally c.args.self.now (edited before) c.args.z c.args.start (is_edit before) c.requires.zone c.args.id c.run_from-hole.result c.requires.hole c.run_from-hole.ensures.value (has_runs before) c.self.inside.geometry c.self.inside.tally c.count.new.tally c.count.ensures (tally_was before);
+      tally = label_tally c.args.self.now (edited before) c.args.z c.args.start (is_edit before) c.requires.zone c.args.id c.run_from-hole.result c.requires.hole c.run_from-hole.ensures.value (has_runs before) c.self.inside.geometry c.self.inside.tally c.count.new.tally (sym w.geometry) c.count.ensures (tally_was before);
     }
 
 pub returns-clause-runs : goal.returns-clause-runs
