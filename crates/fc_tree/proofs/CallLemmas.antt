@@ -1,11 +1,8 @@
 -- Sums over the directories that a walk has read.
-use Rattle.std.proofs.Common.{◌≡◌, ◌<◌, ◌≤◌, ℕ, zero, suc, ◌+◌, List, [], ◌∷◌, ◌++◌, length, map, take, refl, sym, ap, subst, ◌∙◌, arith, true, Some, Option}
+use Rattle.std.proofs.Common.{◌≡◌, ◌≤◌, ℕ, zero, suc, ◌+◌, List, [], ◌∷◌, ◌++◌, map, take, refl, sym, ap, subst, ◌∙◌, arith, Some, Option}
 use Rattle.std.specs.Prelude.{slice_get, slice_set}
 use Rattle.std.specs.List.{sum_by}
 use Rattle.std.proofs.lemmas.List.Sums.{sum_by-cons}
-use Rattle.std.specs.Ordering.{nat_cmp}
-use Rattle.std.specs.FinMap.{FinMap, entries}
-use Rattle.fc_names.specs.Names.{is_directory}
 use Rattle.fc_image.specs.Layout.{Layout}
 use Rattle.fc_tree.specs.declared.node.Node.{Node}
 use Rattle.fc_tree.specs.Calls.{all_directory_sectors, directory_sectors, entry_sectors}
@@ -13,10 +10,11 @@ use Rattle.fc_tree.specs.Nodes.{Numbers, nodes_of, numbered_from}
 use Rattle.fc_tree.specs.Taken.{Marks}
 use Rattle.fc_tree.specs.Walking.{IsDirectoryAt, IsVisited, new_node, with_body}
 use Rattle.fc_image.specs.Walk.{Object}
+use Rattle.fc_tree.proofs.PlaceInLists.{some_same}
 use Rattle.fc_tree.proofs.SlotLemmas.{entries-nodes_of}
 
 -- more nodes, no less
-upto_grows : {X : Type 0} (w : X → ℕ) (xs : List X) (i j : ℕ) → i ≤ j → sum_by w (take i xs) ≤ sum_by w (take j xs)
+pub upto_grows : {X : Type 0} (w : X → ℕ) (xs : List X) (i j : ℕ) → i ≤ j → sum_by w (take i xs) ≤ sum_by w (take j xs)
 upto_grows w [] zero j le = omega arith
 upto_grows w [] (suc i) zero le = absurd (omega (arith, le))
 upto_grows w [] (suc i) (suc j) le = omega arith
@@ -24,8 +22,14 @@ upto_grows w (x ∷ xs) zero j le = omega arith
 upto_grows w (x ∷ xs) (suc i) zero le = absurd (omega (arith, le))
 upto_grows w (x ∷ xs) (suc i) (suc j) le = let more = upto_grows w xs i j (omega (arith, le)) in omega (arith, more, sum_by-cons w x (take i xs), sum_by-cons w x (take j xs))
 
+-- one node more
+pub upto_more : {X : Type 0} (w : X → ℕ) (xs : List X) (at : ℕ) (x : X) → slice_get xs at ≡ Some x → sum_by w (take (suc at) xs) ≡ sum_by w (take at xs) + w x
+upto_more w [] at x is = absurd (cc)
+upto_more w (y ∷ xs) zero x is = let same : w y ≡ w x = ap w (some_same y x is) in omega (arith, same)
+upto_more w (y ∷ xs) (suc at) x is = let more = upto_more w xs at x is in omega (arith, more, sum_by-cons w y (take at xs), sum_by-cons w y (take (suc at) xs))
+
 -- one node is set, and others come behind
-upto_set : {X : Type 0} (w : X → ℕ) (was news : List X) (at : ℕ) (n m : X) → slice_get was at ≡ Some n → sum_by w (take at was) + w m ≤ sum_by w (take (suc at) (slice_set (was ++ news) at m))
+pub upto_set : {X : Type 0} (w : X → ℕ) (was news : List X) (at : ℕ) (n m : X) → slice_get was at ≡ Some n → sum_by w (take (suc at) (slice_set (was ++ news) at m)) ≡ sum_by w (take at was) + w m
 upto_set w [] news at n m is = absurd (cc)
 upto_set w (x ∷ xs) news zero n m is = omega arith
 upto_set w (x ∷ xs) news (suc at) n m is =

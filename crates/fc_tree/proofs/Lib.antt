@@ -27,4 +27,5 @@ pub mod WalkingLemmas
 pub mod StepLemmas
 pub mod EndLemmas
 pub mod CallLemmas
+pub mod SectorLemmas
 pub mod LoadedLemmas

@@ -1,20 +1,14 @@
 -- Sectors that are read one after another.
-use Rattle.std.proofs.Common.{All, min, ◌≤◌, ◌≡◌, ◌<◌, ℕ, zero, suc, ◌+◌, ◌*◌, ◌^◌, true, List, [], ◌∷◌, ◌++◌, length, take, get_or, length-append, append_assoc, sym, ap, ap₂, subst, ◌∙◌, arith, Option, Some}
-use Rattle.std.specs.List.{flat_map, range_with_len}
+use Rattle.std.proofs.Common.{All, min, ◌≤◌, ◌≡◌, ◌<◌, ℕ, ◌+◌, ◌*◌, ◌^◌, true, List, [], ◌∷◌, ◌++◌, length, sym, ap, ap₂, subst, ◌∙◌, arith, Option, Some}
 use Rattle.std.specs.Option.{ForSome}
 use Rattle.std.proofs.Math.Nat.{div-le_self}
-use Rattle.std.proofs.lemmas.Grind.{flat_map-append}
 use Rattle.fc_device.specs.declared.disk.Disk.{Ghosts}
-use Rattle.fc_device.specs.declared.disk.Extent.{Extent}
-use Rattle.fc_device.specs.Sectors.{sector_at}
 use Rattle.fc_device.proofs.DiskLaws.{Laws}
-use Rattle.fc_newmap.proofs.PlaceLemmas.{in_front, in_back}
-use Rattle.fc_newmap.proofs.CoverLemmas.{range_cut}
+use Rattle.fc_newmap.proofs.PlaceLemmas.{in_back}
 use Rattle.fc_image.specs.Layout.{Layout, bytes_in, dir_form, is_among, sector_bytes, sectors_at}
 use Rattle.fc_image.specs.Edits.{IsAt}
 use Rattle.fc_image.specs.Walk.{Object, object_bytes, object_size}
 use Rattle.fc_dirs.specs.declared.Entry.{Entry}
-use Rattle.fc_objects.specs.Extents.{extent_sectors, sectors_in}
 use Rattle.fc_objects.specs.Bytes.{first_bytes}
 use Rattle.std.proofs.lemmas.List.Elements.{All-cons, All-nil}
 use Rattle.fc_tree.proofs.LengthLemmas.{first_among}

@@ -1,6 +1,7 @@
 -- Steps of a walk over directories, and its end.
-use Rattle.std.proofs.Common.{◌≡◌, ◌<◌, ◌≤◌, ℕ, zero, suc, ◌+◌, ◌-◌, inl, inr, true, false, List, [], ◌∷◌, ◌++◌, length, map, drop, length-append, append_assoc, refl, sym, ap, ap₂, subst, ◌∙◌, arith, Some, Option}
+use Rattle.std.proofs.Common.{◌≡◌, ◌<◌, ◌≤◌, ℕ, zero, suc, ◌+◌, ◌-◌, inl, inr, true, false, List, [], ◌∷◌, ◌++◌, length, map, drop, take, length-append, append_assoc, refl, sym, ap, ap₂, subst, ◌∙◌, arith, Some, Option}
 use Rattle.std.specs.Prelude.{Contains, Result, Ok, Err, filter, reverse, slice_get, slice_set}
+use Rattle.std.specs.List.{sum_by}
 use Rattle.std.specs.Option.{ForSome}
 use Rattle.std.proofs.lemmas.Bool.{cases_lt}
 use Rattle.std.proofs.lemmas.Option.{slice_get_within}
@@ -16,9 +17,13 @@ use Rattle.fc_image.proofs.EditLemmas.{children_have, taken_by}
 use Rattle.fc_tree.specs.declared.node.Body.TheVariants as bodies
 use Rattle.fc_tree.specs.declared.node.Node.{Node}
 use Rattle.fc_tree.specs.declared.node.TreeError.{TreeError}
+use Rattle.fc_tree.specs.Calls.{directory_sectors, entry_sectors}
+use Rattle.fc_tree.specs.Reads.{sectors_from, walk_sectors}
 use Rattle.fc_tree.specs.Numbered.{HasBody}
 use Rattle.fc_tree.specs.Taken.{AreTaken, Marks}
 use Rattle.fc_tree.specs.Walking.{FailsAs, HoldsObject, IsDirectoryAt, IsFileAt, IsOverlap, IsVisited, Leads, new_node, said_children, with_body}
+use Rattle.fc_tree.proofs.CallLemmas.{upto_grows, upto_more, upto_set}
+use Rattle.fc_tree.proofs.SectorLemmas.{of_directory, sectors_here, sectors_of_walk, sectors_on}
 use Rattle.fc_tree.proofs.ChildLemmas.{get_front, stands_more}
 use Rattle.fc_tree.proofs.ClaimLemmas.{object_is}
 use Rattle.fc_tree.proofs.PlaceInLists.{contains_front, contains_last, contains_more, contains_at, get_cases, get_back, get_set, some_same}
@@ -66,6 +71,11 @@ past_file layout reserved address size told nodes from left marks w low file =
       apart = w.apart;
       taken_is = w.taken_is;
       walks = λ read tells. w.walks read tells ∙ ap (λ (os : List Object). after w.done (listings_from read layout left w.taken os)) same;
+      reads = λ read tells.
+          (let more = upto_more (directory_sectors layout) nodes from stands.node stands.is in
+          let none : directory_sectors layout stands.node ≡ 0 = rw (file stands.node stands.is) refl in
+          let rest = ap (λ (os : List Object). sectors_from read layout left w.taken os) same in
+          omega (arith, w.reads read tells, more, none, rest));
       listed = w.listed;
     }
 
@@ -247,6 +257,20 @@ module _ (layout : Layout) (reserved : List ℕ) (address size : ℕ) (told : Op
       ∙ after_more w.done l (listings_from read layout left v.after (waiting_from (suc at) objects ++ filter is_directory_object v.children))
       ∙ ap (λ (os : List Object). after done' (listings_from read layout left v.after os)) (sym waits_after)
 
+  step_reads : (read : Reader) → Tells read done'
+      → walk_sectors read layout reserved address size ≡ sum_by (directory_sectors layout) (take (suc at) nodes') + sectors_from read layout left v.after (waiting_from (suc at) (found_by w.root done'))
+  step_reads read tells =
+      let before : Tells read w.done = λ k c. tells k (contains_front w.done (l ∷ []) k c) in
+      let here : read o ≡ Ok v.dir = tells l (contains_last w.done l) in
+      let rest = ap (λ (os : List Object). sectors_from read layout (suc left) w.taken os) next.waits
+      ∙ sectors_on read layout left w.taken o (waiting_from (suc at) objects) v.dir v.children v.after here v.held
+      ∙ ap (λ (os : List Object). entry_sectors layout o.entry + sectors_from read layout left v.after os) (sym waits_after) in
+      let entry : m.entry ≡ o.entry = ap (λ (n : Node). n.entry) (some_same v.node next.stands.node (sym v.node_is ∙ next.stands.is)) ∙ next.stands.entry in
+      let counts = of_directory layout m o entry next.dir in
+      let set = upto_set (directory_sectors layout) nodes news at v.node m v.node_is in
+      let sum = ap (λ (ns : List Node). sum_by (directory_sectors layout) (take (suc at) ns)) v.nodes_are in
+      omega (arith, w.reads read before, rest, counts, set, sum)
+
   step_listed : (k : Listing) → Contains done' k → IsListed layout told k
   step_listed k c = elim (contains_more w.done l k c) [
     | Ok old ↦ w.listed k old
@@ -279,6 +303,7 @@ module _ (layout : Layout) (reserved : List ℕ) (address size : ℕ) (told : Op
             (Apart-append reserved objects v.children w.apart (subst (λ (t : List ℕ). Apart t v.children) w.taken_is have.1));
         taken_is = sym have.2 ∙ ap (λ (t : List ℕ). taken_by t v.children) w.taken_is ∙ sym (taken_by-append reserved objects v.children) ∙ ap (taken_by reserved) (sym (found_more w.root w.done l));
         walks = step_walks;
+        reads = step_reads;
         listed = step_listed;
       }
 
@@ -306,6 +331,12 @@ module _ (layout : Layout) (reserved : List ℕ) (address size : ℕ) (told : Op
       ∙ after_fault w.done f
   too_many none TreeError.DiskFault h = absurd h
   too_many none TreeError.NoMemory h = tt
+
+-- what was read so far is of the walk
+pub read_so_far : (layout : Layout) (reserved : List ℕ) (address size : ℕ) (told : Option (List ℕ)) (nodes : List Node) (from left : ℕ) (marks : Marks)
+    → IsWalking layout reserved address size told nodes from left marks → (start now : ℕ) → now ≤ start + sum_by (directory_sectors layout) (take from nodes)
+    → ForSome told (λ image. now ≤ start + walk_sectors (reader_of image layout) layout reserved address size)
+read_so_far layout reserved address size told nodes from left marks w start now few = λ image t. omega (arith, few, w.reads (reader_of image layout) (λ k c. (w.listed k c).tells image t))
 
 -- ---- the start
 
@@ -335,6 +366,10 @@ walk_starts layout reserved address size told nodes node left marks nodes_are no
       walks = λ read tells. root_step read layout reserved address size root found.1 ∙ ap (λ (n : ℕ). listings_from read layout n (root.sectors ++ reserved) (root ∷ [])) (sym left_is)
           ∙ after_none (listings_from read layout left (root.sectors ++ reserved) (root ∷ []))
           ∙ ap (λ (os : List Object). after [] (listings_from read layout left (root.sectors ++ reserved) os)) (sym waits);
+      reads = λ read tells.
+          (let rest = sectors_of_walk read layout reserved address size root found.1 ∙ ap (λ (n : ℕ). sectors_from read layout n (root.sectors ++ reserved) (root ∷ [])) (sym left_is)
+          ∙ ap (λ (os : List Object). sectors_from read layout left (root.sectors ++ reserved) os) (sym waits) in
+          omega (arith, rest));
       listed = λ k c. absurd (none k c);
     }
   where
@@ -386,6 +421,22 @@ module _ (layout : Layout) (reserved : List ℕ) (address size : ℕ) (told : Op
       (let w = come_to.0 in
       let next = come_to.1 in
       visit_fails layout reserved address size told nodes at left marks w next image t fuel is e (fails next.object w.taken next.stands w.marked image t))
+
+  -- what was read before, and the next directory, are of the walk
+  pub on_read : (fuel start old now : ℕ) → left ≡ suc fuel → old ≤ start + sum_by (directory_sectors layout) (take from nodes)
+      → ((n : Node) → slice_get nodes at ≡ Some n → now ≤ old + entry_sectors layout n.entry)
+      → ForSome told (λ image. now ≤ start + walk_sectors (reader_of image layout) layout reserved address size)
+  on_read fuel start old now is few read = λ image t.
+      (let w = come_to.0 in
+      let next = come_to.1 in
+      let le = some.0 in
+      let grows = upto_grows (directory_sectors layout) nodes from at (omega (arith, le)) in
+      let entry = ap (λ (e : Entry). entry_sectors layout e) next.stands.entry in
+      let here = read next.stands.node next.stands.is in
+      let waits = ap (λ (os : List Object). sectors_from (reader_of image layout) layout left w.taken os) next.waits
+      ∙ ap (λ (n : ℕ). sectors_from (reader_of image layout) layout n w.taken (next.object ∷ waiting_from (suc at) (found_by w.root w.done))) is in
+      let within = sectors_here (reader_of image layout) layout fuel w.taken next.object (waiting_from (suc at) (found_by w.root w.done)) in
+      omega (arith, few, grows, entry, here, waits, within, w.reads (reader_of image layout) (λ k c. (w.listed k c).tells image t)))
 
   pub on_too_many : (e : TreeError) → left ≡ 0 → ((names : Path) → Leads nodes at names → IsOverlap (reverse names) e)
       → ForSome told (λ image. FailsAs (walk (reader_of image layout) layout reserved address size) e)

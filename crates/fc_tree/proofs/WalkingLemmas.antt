@@ -1,7 +1,7 @@
 -- The state of a walk over directories, one directory after another.
-use Rattle.std.proofs.Common.{◌≡◌, ◌<◌, ◌≤◌, ℕ, zero, suc, ◌+◌, ◌⊎◌, inl, inr, Bool, true, false, cond, List, [], ◌∷◌, ◌++◌, length, map, drop, append_assoc, append-nil, refl, sym, ap, subst, ◌∙◌, arith, Some, Option}
+use Rattle.std.proofs.Common.{◌≡◌, ◌<◌, ◌≤◌, ℕ, zero, suc, ◌+◌, ◌⊎◌, inl, inr, Bool, true, false, cond, List, [], ◌∷◌, ◌++◌, length, map, drop, take, append_assoc, append-nil, refl, sym, ap, subst, ◌∙◌, arith, Some, Option}
 use Rattle.std.specs.Prelude.{Contains, Result, Ok, Err, filter, slice_get, slice_set}
-use Rattle.std.specs.List.{flat_map}
+use Rattle.std.specs.List.{flat_map, sum_by}
 use Rattle.std.specs.Option.{ForSome}
 use Rattle.std.proofs.lemmas.Grind.{flat_map-append, reverse_onto}
 use Rattle.fc_names.specs.Names.{Path}
@@ -20,6 +20,8 @@ use Rattle.fc_tree.specs.declared.node.Node.{Node}
 use Rattle.fc_tree.specs.declared.node.TreeError.{TreeError}
 use Rattle.fc_tree.specs.Agree.{HasForm, IsDirectory}
 use Rattle.fc_tree.specs.Numbered.{HasBody}
+use Rattle.fc_tree.specs.Calls.{directory_sectors}
+use Rattle.fc_tree.specs.Reads.{sectors_from, walk_sectors}
 use Rattle.fc_tree.specs.Taken.{AreTaken, Marks}
 use Rattle.fc_tree.specs.Walking.{FailsAs, HoldsObject, Leads, new_node, said_children}
 use Rattle.fc_tree.proofs.PlaceInLists.{get_set, some_same}
@@ -72,6 +74,8 @@ pub record IsWalking (layout : Layout) (reserved : List ℕ) (address size : ℕ
   pub apart : Apart reserved (found_by root done)
   pub taken_is : taken ≡ taken_by reserved (found_by root done)
   pub walks : (read : Reader) → Tells read done → walk read layout reserved address size ≡ after done (listings_from read layout left taken (waiting_from from (found_by root done)))
+  pub reads : (read : Reader) → Tells read done
+      → walk_sectors read layout reserved address size ≡ sum_by (directory_sectors layout) (take from nodes) + sectors_from read layout left taken (waiting_from from (found_by root done))
   pub listed : (l : Listing) → Contains done l → IsListed layout told l
 
 -- ---- nodes that are changed in their bodies

@@ -10,6 +10,7 @@ ghost use Rattle.fc_space.specs.Space.{layout_of};
 ghost use Rattle.fc_tree.specs.Calls.{all_directory_sectors};
 ghost use Rattle.fc_tree.specs.Nodes.{nodes_of};
 ghost use Rattle.fc_tree.specs.Loaded.{IsFaultOf, IsLoaded, not_free};
+ghost use Rattle.fc_tree.specs.Reads.{walk_sectors};
 
 use crate::node::TreeError;
 use crate::tree::Tree;
@@ -22,7 +23,8 @@ use std::alloc::Global;
 /// objects in that order. `root` is the root's address, and `root_size` its size in bytes, which counts for big
 /// directories alone. `reserved` has the sectors of the map and of a boot block; no object may take them, nor a hole of
 /// an old map. The disk is attached, has the map's sectors, and is at least as long as its disc. Each directory is read
-/// once: if the walk meets no fault, it takes at most a read call for each sector of a directory.
+/// once, whatever is answered: at most a read call is taken for each sector of the directories that the walk comes to, up to
+/// its end or the first fault.
 ///
 /// The answer is `Image` exactly where the walk meets a fault, with the first, and `DiskFault` only where the disk's count
 /// of faults rose.
@@ -42,6 +44,8 @@ pub fn load<D: Disk>(
         (IsFaultOf (walk (reader_of image (layout_of places.now)) (layout_of places.now) (not_free (layout_of places.now) (sectors_in reserved.now)) root root_size))) }
     ensures reads { OnlyReads D.Disk disk.old disk.new }
     ensures few { IfOk result (λ tree. D.read_calls disk.new ≤ D.read_calls disk.old + all_directory_sectors (layout_of places.now) (nodes_of tree)) }
+    ensures most { ForSome (D.bytes disk.old) (λ image. D.read_calls disk.new ≤ D.read_calls disk.old
+        + walk_sectors (reader_of image (layout_of places.now)) (layout_of places.now) (not_free (layout_of places.now) (sectors_in reserved.now)) root root_size) }
     ensures cause { result ≡ Err TreeError.DiskFault → Rose (D.faults disk.old) (D.faults disk.new) }
 {
     let nodes = walk_disk(alloc, disk, places, root, root_size, reserved)?;

@@ -13,6 +13,7 @@ ghost use Rattle.fc_space.specs.Space.{layout_of};
 ghost use Rattle.fc_tree.specs.Calls.{directory_sectors};
 ghost use Rattle.fc_tree.specs.declared.node.Body.TheVariants as bodies;
 ghost use Rattle.fc_tree.specs.Loaded.{not_free};
+ghost use Rattle.fc_tree.specs.Reads.{walk_sectors};
 ghost use Rattle.fc_tree.specs.Taken.{AreTaken};
 ghost use Rattle.fc_tree.specs.Walking.{FailsAs, IsDirectoryAt, IsFileAt, IsFound, IsOverlap, Leads};
 
@@ -126,7 +127,7 @@ fn overlap_at(alloc: Global, nodes: &[Node], at: usize) -> TreeError
 }
 
 /// The nodes of the objects of a disk, in the order in which the walk over its directories finds them. It takes at most
-/// a read call for each sector of a directory, so no directory is read twice.
+/// a read call for each sector of the directories that the walk comes to, whatever is answered, so no directory is read twice.
 pub fn walk_disk<D: Disk>(
     alloc: Global,
     disk: &mut D,
@@ -143,6 +144,8 @@ pub fn walk_disk<D: Disk>(
         FailsAs (walk (reader_of image (layout_of places.now)) (layout_of places.now) (not_free (layout_of places.now) (sectors_in reserved.now)) root root_size) e)) }
     ensures reads { OnlyReads D.Disk disk.old disk.new }
     ensures few { IfOk result (λ nodes. D.read_calls disk.new ≤ D.read_calls disk.old + sum_by (directory_sectors (layout_of places.now)) nodes.items) }
+    ensures most { ForSome (D.bytes disk.old) (λ image. D.read_calls disk.new ≤ D.read_calls disk.old
+        + walk_sectors (reader_of image (layout_of places.now)) (layout_of places.now) (not_free (layout_of places.now) (sectors_in reserved.now)) root root_size) }
     ensures cause { result ≡ Err TreeError.DiskFault → Rose (D.faults disk.old) (D.faults disk.new) }
 {
     let space = places.space();

@@ -1,4 +1,4 @@
-use Rattle.std.proofs.Common.{rules, ◌∙◌, ◌++◌, ◌+◌, List, ℕ, take, length, ap, sym, append_assoc, length-append, ◌≡◌, arith}
+use Rattle.std.proofs.Common.{◌∙◌, ◌++◌, List, ℕ, take, length, ap, sym, append_assoc, length-append, ◌≡◌, arith}
 use Rattle.std.proofs.lemmas.List.{length-take-le}
 use Rattle.fc_device.proofs.DiskLaws.{laws}
 use Rattle.fc_device.proofs.StopLemmas.{reads_then}

@@ -1,7 +1,7 @@
-use Rattle.std.proofs.Common.{◌≡◌, ◌≤◌, ◌<◌, get_or, ◌*◌, ◌++◌, ◌∙◌, List, ℕ, length, ap, subst, sym, arith, Some}
+use Rattle.std.proofs.Common.{◌≡◌, ◌≤◌, ◌<◌, get_or, ◌*◌, ◌++◌, ◌∙◌, List, ℕ, length, ap, subst, sym, arith}
 use Rattle.std.specs.Option.{ForSome}
 use Rattle.fc_device.specs.declared.disk.Extent.{Extent}
-use Rattle.fc_image.specs.Layout.{dir_form, sector_bytes, sectors_at}
+use Rattle.fc_image.specs.Layout.{dir_form, sector_bytes}
 use Rattle.fc_image.specs.Walk.{object_size}
 use Rattle.fc_objects.specs.Bytes.{first_bytes}
 use Rattle.fc_objects.specs.Extents.{sectors_in}

@@ -15,7 +15,7 @@ use Rattle.fc_tree.specs.Walking.{FailsAs, IsDirectoryAt, IsFileAt, IsVisited, L
 use Rattle.fc_tree.specs.Calls.{directory_sectors}
 use Rattle.fc_tree.proofs.CallLemmas.{visited_upto}
 use Rattle.fc_tree.proofs.WalkingLemmas.{root_fails}
-use Rattle.fc_tree.proofs.StepLemmas.{come_to, no_disk_fault, on_failed, on_too_many, on_visited, there_is, walk_starts}
+use Rattle.fc_tree.proofs.StepLemmas.{come_to, no_disk_fault, on_failed, on_read, on_too_many, on_visited, read_so_far, there_is, walk_starts}
 use Rattle.fc_tree.proofs.EndLemmas.{walk_ends}
 use Rattle.fc_tree.proofs.walk.walk_disk.Goals as goal
 
@@ -109,3 +109,16 @@ pub returns-clause-ok : goal.returns-clause-ok
 returns-clause-ok g c =
     walk_ends (layout_of c.args.places.now) _ _ _ (g.D.Disk.bytes c.args.disk.now) c.loop-at.nodes.items c.loop-at.from c.loop-at.left c.loop-at.taken c.loop-at.invariant.walking
     (λ i le. subst (λ ns. IsFileAt ns i) c.deref.ensures.value (c.in_default-next_directory.ensures.none refl i le))
+
+pub returns-then-left-eq0-clause-most : goal.returns-then-left-eq0-clause-most
+returns-then-left-eq0-clause-most g c =
+    read_so_far (layout_of c.args.places.now) _ _ _ (g.D.Disk.bytes c.args.disk.now) c.loop-at.nodes.items c.loop-at.from c.loop-at.left c.loop-at.taken c.loop-at.invariant.walking _ _ c.loop-at.invariant.few
+
+pub returns-in_err-visit-clause-most : goal.returns-in_err-visit-clause-most
+returns-in_err-visit-clause-most g c =
+    on_read (layout_of c.args.places.now) _ _ _ (g.D.Disk.bytes c.args.disk.now) c.loop-at.nodes.items c.deref.result.now c.loop-at.from c.in-Some.at c.loop-at.left c.loop-at.taken c.loop-at.invariant.walking c.deref.ensures.value
+    c.in-Some.ensures.some c.in-Some.ensures.first (c.loop-at.left - 1) _ _ _ (omega (arith, c.if-left-eq0.false)) c.loop-at.invariant.few c.visit.ensures.few
+
+pub returns-clause-most : goal.returns-clause-most
+returns-clause-most g c =
+    read_so_far (layout_of c.args.places.now) _ _ _ (g.D.Disk.bytes c.args.disk.now) c.loop-at.nodes.items c.loop-at.from c.loop-at.left c.loop-at.taken c.loop-at.invariant.walking _ _ c.loop-at.invariant.few
