@@ -21,6 +21,7 @@ use fc_zone::ZoneFault;
 pub use map::NewMap;
 pub use runs::{MAP_ID, RunCursor, home_zone};
 pub use sums::HoleSums;
+pub use tally::id_limit;
 pub use walk::Walk;
 
 /// Why a copy of a map is not loaded.

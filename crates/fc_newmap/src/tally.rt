@@ -25,8 +25,8 @@ pub struct IdTally {
     pub ahead: u16,
 }
 
-// A tally reaches as far as the identifiers that objects can have.
-fn id_limit(g: &Geometry) -> u32
+/// The identifiers of objects are below it. A tally reaches as far.
+pub fn id_limit(g: &Geometry) -> u32
     requires { IsOfRecord g.now }
     ensures { result ≡ id_limit g.now }
 {

@@ -19,5 +19,5 @@ pub use laws::{
     plans_exist, same_rest, second_taking, two_plans, whole_units,
 };
 pub use plan::{Part, Plan};
-pub use supply::{PlanError, Supply, id_limit};
+pub use supply::{PlanError, Supply};
 pub use taking::take;

@@ -2,7 +2,6 @@
 
 ghost use Rattle.std.specs.Prelude.{◌≡◌, ◌<◌, ◌+◌, ◌^◌, ◌++◌, ◌∷◌, [], filter, length, map, None, Some, IfOk, IfSome, IsErrOf, MatchOption, OnErr, OnOk};
 ghost use Rattle.std.specs.Option.{option_map};
-ghost use Rattle.fc_record.specs.Record.{id_limit};
 ghost use Rattle.fc_newmap.specs.Map.{all_runs, bits_in, is_hole};
 ghost use Rattle.fc_newmap.specs.NewMap.{IsOfRecord};
 ghost use Rattle.fc_image.specs.effects.Placed.{IsPlan, holes_left};
@@ -18,7 +17,7 @@ use crate::plan::as_parts;
 use crate::planning::fewest;
 use crate::{Part, Plan};
 use fc_device::NoMemory;
-use fc_newmap::{NewMap, Walk};
+use fc_newmap::{NewMap, Walk, id_limit};
 use fc_record::Geometry;
 use fc_zone::{Run, RunKind};
 use std::alloc::Global;
@@ -64,15 +63,6 @@ impl Model for Supply {
     ghost view = { λ s. record { geometry = s.geometry; holes = s.holes.items; ids = unused_from s.used.items s.next } };
 
     ghost invariant = { λ s. IsStocked s.geometry s.holes.items s.used.items };
-}
-
-/// The identifiers of objects are below it.
-pub fn id_limit(g: &Geometry) -> u32
-    requires { IsOfRecord g.now }
-    ensures { result ≡ id_limit g.now }
-{
-    let ids = u64::from(g.ids_per_zone) * u64::from(g.zones);
-    ids.min(1 << g.idlen) as u32
 }
 
 // The bits that so many bytes take.
