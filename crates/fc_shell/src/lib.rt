@@ -1,7 +1,8 @@
 //! The top of the filing system: a run of a script over an image.
 //!
 //! Every command but `reclaim` is served, over images of every kind and over fresh volumes. `reclaim` and the option `--safe` aren't
-//! built: a run that asks for one ends as `End::NotBuilt`, before an image is asked for.
+//! implemented: a run that asks for one ends as `End::NotBuilt`, before an image is asked for, if neither memory nor the script
+//! ended it before.
 #![tactic(auto)]
 
 mod answer;
@@ -153,8 +154,9 @@ fn run_request<D: Disk, S: Source, K: Sink>(
 /// has a script of its own: the source isn't read, and one line that counts the replies is written in their place.
 ///
 /// `words` are the arguments, without the program's name. In this order: the words, the whole script, the image, the fresh volume
-/// where one is asked for, opening, and the commands in turn. The first that fails ends the run. An image that is there
-/// is written by commands that change the disc alone, and never where the words forbid it.
+/// if one is asked for, opening, and the lines in turn. The first of these that fails ends the run. A line that is refused doesn't:
+/// its reply is an error line, and the script goes on. Without `--new`, the image is written only by commands that change the disc,
+/// and never if the words forbid it.
 ///
 /// If the source's content is known, two ends don't depend on the disk. If the words are right and ask for nothing that isn't
 /// implemented, a script that is too long ends as `ScriptTooLong`, any other with a command that isn't implemented as `NotBuilt`,
@@ -171,24 +173,26 @@ pub fn run<D: Disk, S: Source, K: Sink>(
     // disk; `pending`, whether a write isn't synced; `faults`, the I/O errors so far. `ForSome x p`: if x is known, p holds of it.
     // `request_of (..) ≡ Some r`: the words are right, and ask for r.
 
-    // If all contents are known: for each end, what was written and what the disk has then (`Promise`). At Done and Refused the
-    // lines are steps from the image as it opened, or from the fresh one, to the one that the disk has; their replies were
-    // written; and a crash at any moment leaves what `Stops` of fc_runs says.
+    // If all contents are known: for each end, what was written, and what the disk has then, unless it failed (`Promise`). At Done
+    // and Refused the lines are steps from the image as it opened, or from the fresh one, to the one that the disk has, and their
+    // replies were written. If all writes were synced before, `Stops` of fc_runs says what a crash leaves. Over a new map, a crash
+    // at any moment of a run whose lines are refused, read or compact leaves an image that opens as before, with the same tree.
     ensures promise { ForSome (D.gives disk.old) (λ gives. ForSome (asked_script (request_of (map string_bytes words.now.items)) (S.left script.old)) (λ lines. ForSome (D.bytes disk.old) (λ image.
         (text : List ℕ) × Wrote (K.taken out.old) (K.taken out.new) text
         × Promise D.Disk disk.old disk.new gives image lines text (request_of (map string_bytes words.now.items)) result))) }
 
-    // The headline. If all lines were done (`Done`, or `Refused`) and the contents are known: the image opens, and its tree is a
-    // map from paths to attributes and bytes. Each line is answered by this map (`answer`): by a refusal, which leaves it, or by
-    // the map after the command and its reply. How the disc lies decides two things alone: which commands that the map accepts
-    // lack space or room in a directory (`short`), and what `free` and `check` reply. The replies were written in order, and the
-    // image holds the last map.
+    // The headline. If all lines were done (`Done`, or `Refused` if some got an error line) and the contents are known: the image
+    // opens, and its tree is a map from paths to attributes and bytes. Each line is answered by this map and the form of the disc's
+    // names (`answer`): by a refusal, which leaves it, or by the map after the command and its reply. Where things lie on the disc
+    // decides two things alone: which commands that the map accepts lack space or room in a directory (`short`), and what `free`
+    // and `check` reply. The replies were written in order, and the image, opened as the kind that it was, holds the last map.
     ensures headline { (r : Request) → request_of (map string_bytes words.now.items) ≡ Some r → (result ≡ End.Done) ⊎ (result ≡ End.Refused)
         → ForSome (D.gives disk.old) (λ gives. ForSome (told_script r.demo (S.left script.old)) (λ lines. ForSome (D.bytes disk.old) (λ image.
         (text : List ℕ) × Wrote (K.taken out.old) (K.taken out.new) text × IsAnsweredByMap D.Disk disk.new r image lines text))) }
 
     // If the script only reads, or asks for what isn't implemented, and is no demo's, end and text are even a function of words,
-    // script and image (`run_reply`); after an I/O error or out of memory the text is a part of that, from its front.
+    // script, image and the names that can be opened (`run_reply`); after an I/O error or out of memory the text is a part of that,
+    // from its front.
     ensures reply { AsksNoDemo (request_of (map string_bytes words.now.items)) → ForSome (D.gives disk.old) (λ gives. ForSome (S.left script.old) (λ text. ForSome (D.bytes disk.old) (λ image. (has_unbuilt text ≡ true) ⊎ (only_reads text ≡ true) →
         EndsAs (run_reply (map string_bytes words.now.items) gives text image) result (K.taken out.old) (K.taken out.new)))) }
 
@@ -217,7 +221,7 @@ pub fn run<D: Disk, S: Source, K: Sink>(
     ensures disk_fault { result ≡ End.DiskFault → Rose (D.faults disk.old) (D.faults disk.new) }
     ensures out_fault { result ≡ End.OutFault → Rose (K.faults out.old) (K.faults out.new) }
 
-    // After `NoImage` nothing has changed, and a crash shows nothing new. It comes only if the disk can't open the name, and an end
+    // After `NoImage` the disk is as it was, but that it was asked, and a crash shows nothing new. It comes only if the disk can't open the name, and an end
     // over an image only if it can, as far as that is known.
     ensures no_image { result ≡ End.NoImage → Untouched D.Disk disk.old disk.new
         × IsUnwritten D.Disk disk.old disk.new }
@@ -227,7 +231,7 @@ pub fn run<D: Disk, S: Source, K: Sink>(
     ensures silent { (result ≡ End.NotBuilt) ⊎ ((result ≡ End.NoImage) ⊎ ((result ≡ End.ScriptFault) ⊎ (result ≡ End.ScriptTooLong))) → out.new ≡ out.old }
 
     // If the run may not change the image, or the script only reads, an image that is there keeps its bytes, and a crash leaves
-    // only what a crash before the run could have left. With `--new` the disk has the fresh one at each end over an image
+    // only what a crash before the run could have left. With `--new` the disk then has the fresh one at each end over an image
     // (`is_over_image`).
     ensures unwritten { (r : Request) → request_of (map string_bytes words.now.items) ≡ Some r → RunSpares r (told_script r.demo (S.left script.old)) → r.new ≡ None → IsUnwritten D.Disk disk.old disk.new }
     ensures made { (r : Request) → request_of (map string_bytes words.now.items) ≡ Some r → RunSpares r (told_script r.demo (S.left script.old)) → is_over_image result ≡ true
