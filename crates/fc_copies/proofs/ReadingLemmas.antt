@@ -202,3 +202,7 @@ module _ (g : Geometry) (image : List ℕ) where
       which true b e = absurd (cc)
       which false true e = (refl, refl)
       which false false e = absurd (cc)
+
+-- a copy 1 that is wrong doesn't count
+pub not_counted : (g : Geometry) (image : List ℕ) → is_sound (copy_of g One image) ≡ false → chosen g image ≡ Ok One → ⊥
+not_counted g image wrong counts = let same : true ≡ false = sym (one_was g image counts) ∙ wrong in cc

@@ -5,7 +5,7 @@ ghost use Rattle.fc_device.specs.Calls.{FailsByFault, OnlyReads};
 ghost use Rattle.fc_device.specs.Faults.{Rose};
 ghost use Rattle.fc_device.specs.Sectors.{IsSectorSize};
 ghost use Rattle.fc_newmap.specs.Map.{zones_in};
-ghost use Rattle.fc_copies.specs.Copies.{copy_of, copy_start};
+ghost use Rattle.fc_copies.specs.Copies.{chosen, copy_of, copy_start};
 ghost use Rattle.fc_copies.specs.Choosing.{Answers, copy_fault, cross_if_right};
 
 use crate::{CopyError, Which};
@@ -85,7 +85,7 @@ fn read_copy<D: Disk>(
 /// Reads the copy that counts, and answers which it is: copy 1 where it is sound, else copy 2 where that is
 /// (docs/FORMAT.md, "Two copies"). `into` has the bytes of all its zones, which stand in it one after another
 /// afterwards. The disk is attached, has the geometry's sectors and holds both copies. Only they are read, with at most
-/// a read call for each sector, and copy 2 isn't read where copy 1 is sound; nothing is written.
+/// a read call for each sector, and copy 2 isn't read where copy 1 is sound, whatever is answered; nothing is written.
 ///
 /// The answer is `BothBad` exactly where neither is sound, and `DiskFault` only where the disk's count of faults rose.
 pub fn fetch<D: Disk>(disk: &mut D, g: &Geometry, into: &mut [u8]) -> Result<Which, CopyError>
@@ -98,6 +98,7 @@ pub fn fetch<D: Disk>(disk: &mut D, g: &Geometry, into: &mut [u8]) -> Result<Whi
     ensures reads { OnlyReads D.Disk disk.old disk.new }
     ensures few { D.read_calls disk.new ≤ D.read_calls disk.old + 2 * g.now.zones }
     ensures one_alone { result ≡ Ok Which.One → D.read_calls disk.new ≤ D.read_calls disk.old + g.now.zones }
+    ensures first_alone { ForSome (D.bytes disk.old) (λ image. chosen g.now image ≡ Ok Which.One → D.read_calls disk.new ≤ D.read_calls disk.old + g.now.zones) }
     ensures cause { result ≡ Err CopyError.DiskFault → Rose (D.faults disk.old) (D.faults disk.new) }
 {
     let c1 = match read_copy(disk, g, Which::One, into) {

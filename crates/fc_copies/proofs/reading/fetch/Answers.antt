@@ -1,7 +1,7 @@
 use Rattle.std.proofs.Common.{◌∙◌}
 use Rattle.fc_copies.specs.declared.Which.TheVariants.{One, Two}
 use Rattle.fc_copies.specs.Copies.{copy_of}
-use Rattle.fc_copies.proofs.ReadingLemmas.{chooses_none, chooses_one, chooses_two, sound_copy, wrong_copy}
+use Rattle.fc_copies.proofs.ReadingLemmas.{chooses_none, chooses_one, chooses_two, not_counted, sound_copy, wrong_copy}
 use Rattle.fc_copies.proofs.reading.fetch.Goals as goal
 
 pub returns-in-Ok-None-clause-answer : goal.returns-in-Ok-None-clause-answer
@@ -25,3 +25,15 @@ returns-in-Ok-Some-read_copy-clause-answer g c = λ image told.
 
 pub returns-in-Ok-None-read_copy-clause-filled : goal.returns-in-Ok-None-read_copy-clause-filled
 returns-in-Ok-None-read_copy-clause-filled g c = λ image told. c.in-Ok-None-read_copy.ensures.filled image (c.read_copy.ensures.reads.bytes ∙ told)
+
+pub returns-in-Ok-None-read_copy-clause-first_alone : goal.returns-in-Ok-None-read_copy-clause-first_alone
+returns-in-Ok-None-read_copy-clause-first_alone g c = λ image told counts.
+    absurd (not_counted c.args.g.now image (wrong_copy (copy_of c.args.g.now One image) c.in-Ok-Some.field-0 c.in-Ok-Some.zone (c.in-Ok-Some.ensures.found image told) c.in-Ok-Some.field-0-is).0 counts)
+
+pub returns-in-Ok-Some-read_copy-clause-first_alone : goal.returns-in-Ok-Some-read_copy-clause-first_alone
+returns-in-Ok-Some-read_copy-clause-first_alone g c = λ image told counts.
+    absurd (not_counted c.args.g.now image (wrong_copy (copy_of c.args.g.now One image) c.in-Ok-Some.field-0 c.in-Ok-Some.zone (c.in-Ok-Some.ensures.found image told) c.in-Ok-Some.field-0-is).0 counts)
+
+pub returns-in-Err-read_copy-clause-first_alone : goal.returns-in-Err-read_copy-clause-first_alone
+returns-in-Err-read_copy-clause-first_alone g c = λ image told counts.
+    absurd (not_counted c.args.g.now image (wrong_copy (copy_of c.args.g.now One image) c.in-Ok-Some.field-0 c.in-Ok-Some.zone (c.in-Ok-Some.ensures.found image told) c.in-Ok-Some.field-0-is).0 counts)
