@@ -25,6 +25,7 @@ use Rattle.fc_tree.proofs.PlaceLemmas.{one_path}
 use Rattle.fc_tree.proofs.SoundLemmas.{same_by_folds}
 use Rattle.fc_tree.proofs.WalkedLemmas.{few_objects}
 use Rattle.fc_laws.specs.nodes.Edits.{Nodes}
+use Rattle.fc_placing.specs.Leaving.{has_other}
 use Rattle.fc_placing.proofs.CopyingLemmas.{shared_is}
 use Rattle.fc_placing.proofs.LeavingLemmas.{any_owner, any_same, owner_is}
 use Rattle.fc_growing.specs.Gone.{LeavesWith, but_node, has_third, left_of, left_with}
@@ -241,3 +242,15 @@ module _ (grown o : Object) (stay left : List Object) (rest : IsPermutation stay
   -- The same identifiers go back as if it stayed.
   pub given_same : (objects : List Object) (k : ℕ) → is_given_back objects (grown ∷ stay) k ≡ is_given_back objects (grown ∷ left) k
   given_same objects k = ap (λ (b : Bool). is_owned objects k && not b) (owned_too k)
+
+-- ---- an identifier that no other node has
+
+pub no_other_third : (owners : List Owner) (node file id : ℕ) → has_other owners node id ≡ false → has_third owners node file id ≡ false
+no_other_third [] node file id none = refl
+no_other_third (o ∷ owners) node file id none = by (o.id == id) (o.node == node) none (no_other_third owners node file id)
+  where
+    by : (same here : Bool) → ((same && not here) || has_other owners node id) ≡ false → (has_other owners node id ≡ false → has_third owners node file id ≡ false)
+        → ((same && (not here && not (o.node == file))) || has_third owners node file id) ≡ false
+    by true true none more = more none
+    by true false none more = absurd (cc)
+    by false here none more = more none

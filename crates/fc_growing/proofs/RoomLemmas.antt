@@ -29,6 +29,7 @@ use Rattle.fc_slack.proofs.Shares.{some_sectors}
 use Rattle.fc_tree.specs.Nodes.{number_of}
 use Rattle.fc_tree.specs.Parts.{owner_of}
 use Rattle.fc_tree.proofs.WalkedLemmas.{same_some}
+use Rattle.fc_placing.specs.Leaving.{has_other}
 use Rattle.fc_placing.proofs.CopyingLemmas.{dirs_same, shared_is}
 use Rattle.fc_placing.proofs.LeavingLemmas.{others_are}
 use Rattle.fc_placing.proofs.SlackLemmas.{list_all-IsPermutation, own_part}
@@ -254,3 +255,16 @@ room_law = record {
   room = λ m nodes owners listings o node bytes n more. room_is m nodes owners listings o node n bytes more;
   alone = λ m nodes owners listings o node n some. alone_is m nodes owners listings o node n some;
 }
+
+-- ---- an identifier that no other node has
+
+pub no_other_leaves : (owners : List Owner) (node id first need : ℕ) → has_other owners node id ≡ false → others_leave_free owners node id first need ≡ true
+no_other_leaves [] node id first need none = refl
+no_other_leaves (o ∷ owners) node id first need none = by (o.id == id) (o.node == node) none (no_other_leaves owners node id first need)
+  where
+    by : (same here : Bool) → ((same && not here) || has_other owners node id) ≡ false → (has_other owners node id ≡ false → others_leave_free owners node id first need ≡ true)
+        → ((here || (not same || (nat_le (first + need) o.first || (nat_le (o.first + o.sectors) first || (o.sectors == 0))))) && others_leave_free owners node id first need) ≡ true
+    by true true none more = more none
+    by true false none more = absurd (cc)
+    by false true none more = more none
+    by false false none more = more none

@@ -4,14 +4,19 @@ ghost use Rattle.std.specs.Prelude.{◌≡◌};
 ghost use Rattle.std.specs.Option.{option_to_list};
 ghost use Rattle.fc_growing.specs.Gone.{LeavesGrown, has_third, left_with};
 
-use fc_alloc::{Owner, Owners};
-use fc_placing::left_by;
+use fc_alloc::Owners;
+use fc_placing::{has_other, left_by};
 
-// Whether an owner of another node than these two has an identifier.
-fn has_third(owners: &[Owner], node: u64, file: u64, id: u32) -> bool
+// Whether an owner of another node than these two has an identifier. The owners are gone over only if one of another node
+// than the first has it.
+fn has_third(owners: &Owners, node: u64, file: u64, id: u32) -> bool
     ensures { result ≡ has_third owners.now node file id }
 {
+    if !has_other(owners, node, id) {
+        return false;
+    }
     owners
+        .list()
         .iter()
         .any(|o| o.id == id && o.node != node && o.node != file)
 }
@@ -22,7 +27,7 @@ fn left_with(owners: &Owners, node: u64, file: u64) -> Option<u32>
 {
     let own = owners.of(node)?;
     let id = own.id;
-    if id == 2 || has_third(owners.list(), node, file, id) {
+    if id == 2 || has_third(owners, node, file, id) {
         return None;
     }
     Some(id)

@@ -28,16 +28,23 @@ fn leaves_free(o: &Owner, node: u64, id: u32, first: u64, need: u64) -> bool
     o.node == node || o.id != id || first + need <= o.first || ends_by(o, first) || o.sectors == 0
 }
 
-// Whether no owner of another node has any of them.
-fn others_leave_free(owners: &[Owner], node: u64, id: u32, first: u64, need: u64) -> bool
+// Whether no owner of another node has any of them. The owners are gone over only if one of another node has the identifier.
+fn others_leave_free(owners: &Owners, node: u64, id: u32, first: u64, need: u64) -> bool
     requires few { first + need < 2 ^ 64 }
     ensures { result ≡ others_leave_free owners.now node id first need }
 {
-    owners.iter().all(|o| leaves_free(o, node, id, first, need))
+    if !has_other(owners, node, id) {
+        return true;
+    }
+    owners
+        .list()
+        .iter()
+        .all(|o| leaves_free(o, node, id, first, need))
 }
 
 /// The sectors that the directory of a node takes if it gets so many bytes and stays at its address, or `None` if the
-/// identifier hasn't so many, or another object has some of them. The owners are gone over once.
+/// identifier hasn't so many, or another object has some of them. The owners are gone over only if another object has the
+/// identifier too.
 pub fn room_for(
     alloc: Global,
     places: &Places,
@@ -64,7 +71,7 @@ pub fn room_for(
     };
     let first = low_start(map, address % 256);
     let need = bytes.div_ceil(u64::from(map.geometry().sector));
-    if others_leave_free(owners.list(), dir, id, first, need) {
+    if others_leave_free(owners, dir, id, first, need) {
         Ok(Some(place))
     } else {
         Ok(None)

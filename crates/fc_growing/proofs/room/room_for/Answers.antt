@@ -1,7 +1,6 @@
-use Rattle.std.proofs.Common.{◌∙◌, ℕ, List, ap, ap₂, sym}
+use Rattle.std.proofs.Common.{◌∙◌, ℕ, ap, ap₂, sym}
 use Rattle.std.specs.Prelude.{Err}
 use Rattle.std.specs.Int.{div_ceil}
-use Rattle.fc_alloc.specs.declared.owner.Owner.{Owner}
 use Rattle.fc_record.specs.declared.Geometry.{Geometry}
 use Rattle.fc_image.specs.Layout.{Layout, id_of, sectors_at}
 use Rattle.fc_objects.specs.Extents.{sectors_in}
@@ -20,7 +19,7 @@ returns-then-others_leave_free c =
     room_there m c.args.owners.now c.args.dir c.args.address c.args.len (sectors_in c.in-Ok.place.items) c.requires.some
     (ap₂ (λ (l : Layout) (n : ℕ). sectors_at l c.args.address n) (sym c.requires.map) (sym c.from-bytes.ensures) ∙ c.in-Ok.ensures.place)
     c.if-id-eq2.false
-    (ap₂ (λ (owners : List Owner) (first : ℕ). others_leave_free owners c.args.dir (id_of c.args.address) first (div_ceil c.args.len m.geometry.sector)) (sym c.list.ensures.same) (sym c.low_start-first.ensures.value)
-    ∙ ap (λ (need : ℕ). others_leave_free c.list.result.now c.args.dir (id_of c.args.address) c.low_start-first.result need)
+    (ap (λ (first : ℕ). others_leave_free c.args.owners.now c.args.dir (id_of c.args.address) first (div_ceil c.args.len m.geometry.sector)) (sym c.low_start-first.ensures.value)
+    ∙ ap (λ (need : ℕ). others_leave_free c.args.owners.now c.args.dir (id_of c.args.address) c.low_start-first.result need)
     (sym (c.div_ceil-need.ensures ∙ ap₂ div_ceil c.from-bytes.ensures (c.from.ensures ∙ ap (λ (g : Geometry). g.sector) c.geometry.ensures.value)))
     ∙ sym c.others_leave_free.ensures ∙ c.if-others_leave_free.true)
