@@ -1,7 +1,7 @@
 // The room that a directory has for a name, before anything is edited.
-ghost use Rattle.std.specs.Prelude.{◌≡◌, ◌<◌, length};
+ghost use Rattle.std.specs.Prelude.{◌≡◌, ◌<◌, ℕ, List, length};
 ghost use Rattle.fc_dirs.specs.declared.Entry.{Entry};
-ghost use Rattle.fc_dirs.specs.Directory.{entries_of};
+ghost use Rattle.fc_dirs.specs.Directory.{Directory, entries_of};
 ghost use Rattle.fc_dirs.specs.Small.{tail_of};
 ghost use Rattle.fc_image.specs.effects.Short.{Gain};
 ghost use Rattle.fc_drafts.specs.Draft.{directory_in};
@@ -9,6 +9,7 @@ ghost use Rattle.fc_drafts.specs.Gains.{GetsName, GetsNameFor, HasRoom, room_of_
 ghost use Rattle.fc_drafts.specs.Rewriting.{IsAt};
 
 use crate::Draft;
+use fc_bigdir::BigDir;
 use fc_dirs::SmallForm;
 use fc_names::Name;
 use fc_smalldir::SmallDir;
@@ -58,15 +59,32 @@ fn small_room(dir: &SmallDir) -> Room
     }
 }
 
+impl Room {
+    /// The room that a small directory has for a name that is not there.
+    pub fn in_small(dir: &SmallDir) -> Room
+        ensures { (name : List ℕ) (gain : Gain) → GetsName (Directory.Small dir.now) name gain → HasRoom (Directory.Small dir.now) gain result }
+    {
+        // Contracts see by this that there are no more entries than places.
+        let _ = dir.entries();
+        small_room(dir)
+    }
+
+    /// The room that a big directory has for a name that is not there.
+    pub fn in_big(dir: &BigDir, name: &Name) -> Room
+        ensures { (gain : Gain) → GetsName (Directory.Big dir.now) name.now gain → HasRoom (Directory.Big dir.now) gain result }
+    {
+        room_of_size(dir.size(), dir.needed_with(name))
+    }
+}
+
 impl Draft {
     /// The room for a name that is not there.
     pub fn room_for(&self, name: &Name) -> Room
         ensures { (gain : Gain) → GetsName (directory_in self.now) name.now gain → HasRoom (directory_in self.now) gain result }
     {
-        self.entries();
         match self {
-            Draft::Small(dir) => small_room(dir),
-            Draft::Big(dir) => room_of_size(dir.size(), dir.needed_with(name)),
+            Draft::Small(dir) => Room::in_small(dir),
+            Draft::Big(dir) => Room::in_big(dir, name),
         }
     }
 
