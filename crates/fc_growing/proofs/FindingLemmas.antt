@@ -1,6 +1,7 @@
 -- Which directory grows by a new file, by the judge and by what the directory says.
 use Rattle.std.proofs.Common.{◌≡◌, ℕ, Bool, true, false, cond, List, [], ◌∷◌, ◌++◌, length, Option, Some, None, refl, sym, ap, subst, ◌∙◌}
 use Rattle.std.specs.Prelude.{Err, IfErr, IfOk, IfSome, IsTrue, Ok, OnOk, Result, is_some, option_map}
+use Rattle.std.specs.FinMap.{get}
 use Rattle.std.specs.Option.{option_and_then, option_map_or}
 use Rattle.fc_names.specs.declared.name.NameForm.{NameForm}
 use Rattle.fc_names.specs.declared.refusal.Refusal.{Refusal}
@@ -28,7 +29,7 @@ use Rattle.fc_refusals.specs.Targets.{IsVacant, refusal_of}
 use Rattle.fc_space.specs.Space.{layout_of}
 use Rattle.fc_tree.specs.declared.node.Node.{Node}
 use Rattle.fc_tree.specs.Agree.{Agree}
-use Rattle.fc_tree.specs.Nodes.{HoldObjects, nodes_of}
+use Rattle.fc_tree.specs.Nodes.{HoldObjects, body_in, nodes_of}
 use Rattle.fc_tree.specs.Parts.{ArePartsOf}
 use Rattle.fc_tree.proofs.WalkedLemmas.{child_is_object, contained, same_some}
 use Rattle.fc_volume.specs.declared.lines.CommandError.{CommandError}
@@ -54,10 +55,12 @@ use Rattle.fc_growing.proofs.AskedLemmas.{no_memory}
 pub one_said : (nodes : Nodes) (n : ℕ) (a b : Directory) → IsDirectoryAt nodes n a → IsDirectoryAt nodes n b → a ≡ b
 one_said nodes n a b x y = one_content a b (sym x.says ∙ ap (λ (node : Node). node.body) (same_some x.node y.node (sym x.there ∙ y.there)) ∙ y.says)
 
--- the room that it has, by a draft of it
-pub room_as : (content drafted : Directory) (name named : List ℕ) (room found : Room) → content ≡ drafted → named ≡ name → found ≡ room → HasRoomWith drafted named found → HasRoomWith content name room
-room_as content drafted name named room found same is here has =
-    subst (λ (d : Directory). HasRoomWith d name room) (sym same) (subst (λ (n : List ℕ). HasRoomWith drafted n room) is (subst (λ (r : Room). HasRoomWith drafted named r) here has))
+pub said_at : (nodes : Nodes) (n : ℕ) (content : Directory) (node : Node) → IsDirectoryAt nodes n content → get nodes n ≡ Some node → node.body ≡ body_in content
+said_at nodes n content node at there = ap (λ (x : Node). x.body) (sym (same_some at.node node (sym at.there ∙ there))) ∙ at.says
+
+-- the room that it has, by its name as it was read
+pub room_as : (content : Directory) (name named : List ℕ) (room found : Room) → named ≡ name → found ≡ room → HasRoomWith content named found → HasRoomWith content name room
+room_as content name named room found is here has = subst (λ (n : List ℕ). HasRoomWith content n room) is (subst (λ (r : Room). HasRoomWith content named r) here has)
 
 -- a listed directory is that of its node
 pub listed_at : (nodes : Nodes) (layout : Layout) (listings : List Listing) → AreSound layout listings → HoldObjects nodes listings → (path : Path) (dir : ℕ) (spot : IsVacant nodes listings path dir)

@@ -6,16 +6,16 @@ ghost use Rattle.fc_model.specs.Command.{Command};
 ghost use Rattle.fc_model.specs.Tree.{last_name};
 ghost use Rattle.fc_record.specs.declared.Kind.{Kind};
 ghost use Rattle.fc_tree.specs.Agree.{Agree};
-ghost use Rattle.fc_tree.specs.Nodes.{nodes_of};
+ghost use Rattle.fc_tree.specs.Nodes.{body_in, nodes_of};
 ghost use Rattle.fc_volume.specs.Changing.{AnswersOver};
 ghost use Rattle.fc_volume.specs.Roomy.{IsRoomyFor};
 ghost use Rattle.fc_volume.specs.Volume.{parts_of};
-ghost use Rattle.fc_growing.specs.Finding.{AnswersRoom, IsDirectoryAt, IsGrowthFound};
+ghost use Rattle.fc_growing.specs.Finding.{AnswersRoom, HasRoomWith, IsDirectoryAt, IsGrowthFound};
 
 use fc_drafts::{Draft, Room};
 use fc_names::{Name, Path, Refusal};
 use fc_refusals::{Slot, judge_save};
-use fc_tree::Tree;
+use fc_tree::{Body, Tree};
 use fc_volume::changes::making::last_name;
 use fc_volume::changes::rewrite::draft_of;
 use fc_volume::{CommandError, Volume};
@@ -30,7 +30,24 @@ pub struct Outgrown {
     pub len: u32,
 }
 
-// The directory of a node, if it grows by the last name of a path. `DirFull` if it has no room for the name.
+// The room that a directory has for a name that is not there. Nothing is copied.
+pub fn room_in(body: &Body, name: &Name) -> Room
+    requires { (content : Directory) × (body.now ≡ body_in content) }
+    ensures { (content : Directory) → body.now ≡ body_in content → HasRoomWith content name.now result }
+{
+    match body {
+        Body::Small(dir) => Room::in_small(dir),
+        Body::Big(dir) => Room::in_big(dir, name),
+        Body::File => {
+            // It is a directory's.
+            prove!(false);
+            Room::Full
+        }
+    }
+}
+
+// The directory of a node, if it grows by the last name of a path. `DirFull` if it has no room for the name. It is copied only
+// if it grows.
 fn growth_at(
     alloc: Global,
     tree: &Tree,
@@ -45,19 +62,20 @@ fn growth_at(
     let Ok(name) = last_name(alloc, p) else {
         return Err(CommandError::NoMemory);
     };
+    let len = match room_in(&node.body, &name) {
+        Room::Full => return Err(CommandError::Refused(Refusal::DirFull)),
+        Room::Fits => return Ok(None),
+        Room::Grows(len) => len,
+    };
     let Ok(draft) = draft_of(alloc, &node.body) else {
         return Err(CommandError::NoMemory);
     };
-    match draft.room_for(&name) {
-        Room::Full => Err(CommandError::Refused(Refusal::DirFull)),
-        Room::Fits => Ok(None),
-        Room::Grows(len) => Ok(Some(Outgrown {
-            dir,
-            draft,
-            name,
-            len,
-        })),
-    }
+    Ok(Some(Outgrown {
+        dir,
+        draft,
+        name,
+        len,
+    }))
 }
 
 /// The directory that grows by a file at a path, if one does, or why there can be no file. Space isn't looked for.

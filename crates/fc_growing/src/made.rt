@@ -32,6 +32,7 @@ ghost use Rattle.fc_growing.specs.Needs.{short_of};
 ghost use Rattle.fc_growing.specs.Room.{has_room_by, is_alone_by};
 ghost use Rattle.fc_growing.specs.Writing.{CanWriteGrowth};
 
+use crate::finding::room_in;
 use crate::growing::{admit_object, is_new_map, take_over_with, write_growing};
 use crate::making::{GrownMaking, prepare_grown};
 use crate::place::plan_growth;
@@ -58,8 +59,7 @@ fn room_at(alloc: Global, tree: &Tree, dir: u64, p: &Path) -> Result<Room, NoMem
 {
     let node = tree.node(dir).unwrap();
     let name = last_name(alloc, p)?;
-    let draft = draft_of(alloc, &node.body)?;
-    Ok(draft.room_for(&name))
+    Ok(room_in(&node.body, &name))
 }
 
 // Why there is no space, as a command answers it.
