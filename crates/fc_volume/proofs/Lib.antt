@@ -4,6 +4,7 @@ mod MapsOldLemmas
 mod MisplacedLemmas
 pub mod OwnersLemmas
 mod MountLemmas
+mod OpenReadsLemmas
 mod ReadingLemmas
 mod BlockLemmas
 mod CatLemmas

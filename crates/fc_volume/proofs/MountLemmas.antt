@@ -61,7 +61,7 @@ is_short law image need have is =
     ∙ ap (λ n. let r : Result Opened ImageFault = Err (faults.Short n (length image)) in r) (sym is.2)
     ∙ ap (λ n. let r : Result Opened ImageFault = Err (faults.Short need n) in r) (sym is.3)
 
-not_short : (b : Bool) (m n : ℕ) → nat_lt m n ≡ b → n ≤ m → b ≡ false
+pub not_short : (b : Bool) (m n : ℕ) → nat_lt m n ≡ b → n ≤ m → b ≡ false
 not_short false m n e long = refl
 not_short true m n e long = absurd (let lt = ltb-true m n e in omega arith)
 

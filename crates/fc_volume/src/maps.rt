@@ -17,7 +17,7 @@ ghost use Rattle.fc_image.specs.Layout.{Layout, disc_sectors, sector_bytes};
 ghost use Rattle.fc_image.specs.Opening.{agreement, byte_compared, copy_or, difference, map_and_root, new_layout, old_layout};
 ghost use Rattle.fc_space.specs.Space.{layout_of};
 ghost use Rattle.fc_volume.specs.Answers.{IsFaultOf};
-ghost use Rattle.fc_volume.specs.Calls.{copy_reads, layout_reads, map_reads};
+ghost use Rattle.fc_volume.specs.Calls.{chosen_reads, copies_reads, copy_reads, layout_reads, map_reads};
 ghost use Rattle.fc_volume.specs.Maps.{Finds, HasOldMap, found_of, zone_fault, zones_layout};
 ghost use Rattle.fc_volume.specs.Volume.{HasCopies, HoldsMap};
 
@@ -140,6 +140,7 @@ fn read_copy<D: Disk>(alloc: Global, disk: &mut D, g: &Geometry) -> Result<CopyR
     ensures fault { IfErr result (λ e. ForSome (D.bytes disk.old) (λ image. IsFaultOf (copy_or (chosen g.now image)) e)) }
     ensures reads { OnlyReads D.Disk disk.old disk.new }
     ensures few { IfOk result (λ copy. D.read_calls disk.new ≤ D.read_calls disk.old + copy_reads copy.which g.now.zones) }
+    ensures most { ForSome (D.bytes disk.old) (λ image. D.read_calls disk.new ≤ D.read_calls disk.old + chosen_reads (chosen g.now image) g.now.zones) }
     ensures cause { result ≡ Err MountError.DiskFault → Rose (D.faults disk.old) (D.faults disk.new) }
 {
     let Ok(mut zones) = vec![in alloc; 0u8; usize::from(g.zones) * g.sector as usize] else {
@@ -168,6 +169,7 @@ fn read_new<D: Disk>(alloc: Global, disk: &mut D, r: &DiscRecord) -> Result<MapF
     ensures fault { IfErr result (λ e. ForSome (D.bytes disk.old) (λ image. IsFaultOf (new_layout image r.now) e)) }
     ensures reads { OnlyReads D.Disk disk.old disk.new }
     ensures few { IfOk result (λ found. D.read_calls disk.new ≤ D.read_calls disk.old + layout_reads (layout_of found.space) found.copies) }
+    ensures most { ForSome (D.bytes disk.old) (λ image. D.read_calls disk.new ≤ D.read_calls disk.old + chosen_reads (chosen (geometry r.now) image) (geometry r.now).zones) }
     ensures cause { result ≡ Err MountError.DiskFault → Rose (D.faults disk.old) (D.faults disk.new) }
 {
     let g = geometry(r);
@@ -282,7 +284,7 @@ fn map_of_old(
 /// The map of a disk and where its root is, as a disc of a kind whose test the image passes. The disk is attached, has
 /// the kind's sectors and is as long as the disc; `front` has what was read of a map of one zone, or of an old map, to find
 /// the kind, so that none of it is read again. Of other maps each sector of a copy is read once, and copy 2 only if copy 1
-/// isn't sound.
+/// isn't sound, whatever is answered.
 ///
 /// The answer is `Image` exactly where the copies of a new map, its record or its zones are wrong, or a hole of an
 /// old map, with the first fault; and `DiskFault` only where the disk's count of faults rose.
@@ -306,6 +308,7 @@ pub fn read_map<D: Disk>(
     ensures fault { IfErr result (λ e. ForSome (D.bytes disk.old) (λ image. IsFaultOf (map_and_root image kind.now) e)) }
     ensures reads { OnlyReads D.Disk disk.old disk.new }
     ensures few { IfOk result (λ found. D.read_calls disk.new ≤ D.read_calls disk.old + map_reads kind.now (layout_of found.space) found.copies) }
+    ensures most { ForSome (D.bytes disk.old) (λ image. D.read_calls disk.new ≤ D.read_calls disk.old + copies_reads image kind.now) }
     ensures cause { result ≡ Err MountError.DiskFault → Rose (D.faults disk.old) (D.faults disk.new) }
 {
     match kind {

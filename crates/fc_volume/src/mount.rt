@@ -4,7 +4,7 @@ ghost use Rattle.std.specs.Option.{ForSome};
 ghost use Rattle.fc_device.specs.Faults.{Rose};
 ghost use Rattle.fc_record.specs.declared.Kind.{Kind};
 ghost use Rattle.fc_record.specs.Front.{HasMapOf};
-ghost use Rattle.fc_record.specs.Kinds.{IsKind, disc_size, fits_kind, kind_calls, kind_of, sector_size};
+ghost use Rattle.fc_record.specs.Kinds.{IsKind, disc_size, fits_kind, front_reads, kind_calls, kind_of, sector_size};
 ghost use Rattle.fc_device.specs.Calls.{OnlyReads};
 ghost use Rattle.fc_image.specs.Layout.{disc_sectors, sector_bytes};
 ghost use Rattle.fc_image.specs.Opening.{Opened, open_image};
@@ -12,7 +12,7 @@ ghost use Rattle.fc_space.specs.Space.{layout_of};
 ghost use Rattle.fc_tree.specs.Calls.{all_directory_sectors};
 ghost use Rattle.fc_tree.specs.Parts.{ArePartsOf};
 ghost use Rattle.fc_volume.specs.Answers.{IsFaultOf};
-ghost use Rattle.fc_volume.specs.Calls.{map_reads};
+ghost use Rattle.fc_volume.specs.Calls.{map_reads, open_reads, walk_reads};
 ghost use Rattle.fc_volume.specs.Maps.{found_of};
 ghost use Rattle.fc_volume.specs.Mounting.{AreMounted, mount_error, opened_with};
 ghost use Rattle.fc_volume.specs.Volume.{OnlyShapes, StandsFor, parts_of};
@@ -41,6 +41,7 @@ fn find_kind<D: Disk>(disk: &mut D, front: &mut Front) -> Result<Kind, MountErro
     ensures fault { IfErr result (λ e. ForSome (D.bytes disk.old) (λ image. IsFaultOf (open_image image) e)) }
     ensures reads { OnlyReads D.Disk disk.old disk.new }
     ensures few { IfOk result (λ kind. D.read_calls disk.new ≤ D.read_calls disk.old + kind_calls kind) }
+    ensures most { ForSome (D.bytes disk.old) (λ image. D.read_calls disk.new ≤ D.read_calls disk.old + front_reads image) }
     ensures cause { result ≡ Err MountError.DiskFault → Rose (D.faults disk.old) (D.faults disk.new) }
 {
     fc_record::found_fits();
@@ -107,6 +108,7 @@ fn volume_of<D: Disk>(
     ensures fault { IfErr result (λ e. ForSome (D.bytes disk.old) (λ image. IsFaultOf (opened_with image kind.now (found_of found)) e)) }
     ensures reads { OnlyReads D.Disk disk.old disk.new }
     ensures few { IfOk result (λ v. D.read_calls disk.new ≤ D.read_calls disk.old + all_directory_sectors (parts_of v).layout (parts_of v).nodes) }
+    ensures most { ForSome (D.bytes disk.old) (λ image. D.read_calls disk.new ≤ D.read_calls disk.old + walk_reads image kind.now (found_of found)) }
     ensures cause { result ≡ Err MountError.DiskFault → Rose (D.faults disk.old) (D.faults disk.new) }
 {
     fc_image::walking();
@@ -140,6 +142,10 @@ impl Volume {
     /// sectors. Nothing is written. `Image` exactly where the image isn't accepted, with its first fault; `DiskFault` only
     /// where the disk's count of faults rose. A disc that opens takes at most 10 read calls for its kind, 2 if it has a boot block, then one for each
     /// sector of the map, none if it has one zone or is an old one, and one for each sector of a directory.
+    ///
+    /// Nothing is read twice, whatever is answered: at most those calls are taken that find the kind, and then, only if the
+    /// image is long enough for it, those of the map's copies, and, only if the map has no fault, one for each sector of the
+    /// directories that the walk comes to, up to its end or its first fault.
     pub fn mount<D: Disk>(
         alloc: Global,
         disk: &mut D,
@@ -155,6 +161,7 @@ impl Volume {
         ensures shapes { OnlyShapes D.Disk disk.old disk.new }
         ensures few { IfOk result (λ v. (kind : Kind) × ForSome (D.bytes disk.old) (λ image. kind_of image ≡ Some kind)
             × (D.read_calls disk.new ≤ D.read_calls disk.old + (kind_calls kind + map_reads kind (parts_of v).layout v.copies + all_directory_sectors (parts_of v).layout (parts_of v).nodes))) }
+        ensures most { ForSome (D.bytes disk.old) (λ image. D.read_calls disk.new ≤ D.read_calls disk.old + open_reads image) }
         ensures cause { result ≡ Err MountError.DiskFault → Rose (D.faults disk.old) (D.faults disk.new) }
     {
         fc_image::opens();

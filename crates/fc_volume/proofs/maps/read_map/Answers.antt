@@ -82,3 +82,6 @@ returns-in-DiscL-clause-map_room g c =
 pub returns-in-DiscL-clause-fault : goal.returns-in-DiscL-clause-fault
 returns-in-DiscL-clause-fault g c =
     rw c.in-DiscL.is (err_weaker c.map_of_old-in-DiscL.result _ _ (λ e here image told. here image (old_fits image c.in-DiscL.units (rw c.in-DiscL.is at (c.requires.fits image told)), rw c.in-DiscL.is at (c.requires.held image told))) c.map_of_old-in-DiscL.ensures.fault)
+
+pub returns-in-Boot-clause-most : goal.returns-in-Boot-clause-most
+returns-in-Boot-clause-most g c = rw c.in-Boot.is c.read_new.ensures.most

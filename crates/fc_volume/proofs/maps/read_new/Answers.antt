@@ -49,3 +49,12 @@ pub returns-in-Err-map_in-clause-fault : goal.returns-in-Err-map_in-clause-fault
 returns-in-Err-map_in-clause-fault g c = λ image told.
     let copy = rw c.geometry-g.ensures at (c.in-Ok.ensures.copy image told) in
     new_is image c.args.r.now c.in-Ok.copy.which (zones_in (geometry c.args.r.now) c.in-Ok.copy.zones.items) copy.0 copy.1 ∙ c.in-Err-map_in.ensures.found
+
+pub returns-in-Err-clause-most : goal.returns-in-Err-clause-most
+returns-in-Err-clause-most g c = λ image told. (let most = c.read_copy.ensures.most image told in rw c.geometry-g.ensures at most)
+
+pub returns-in-Ok-map_in-clause-most : goal.returns-in-Ok-map_in-clause-most
+returns-in-Ok-map_in-clause-most g c = λ image told. (let most = c.read_copy.ensures.most image told in rw c.geometry-g.ensures at most)
+
+pub returns-in-Err-map_in-clause-most : goal.returns-in-Err-map_in-clause-most
+returns-in-Err-map_in-clause-most g c = λ image told. (let most = c.read_copy.ensures.most image told in rw c.geometry-g.ensures at most)

@@ -1,9 +1,11 @@
-use Rattle.std.proofs.Common.{List, ℕ, ◌≡◌, subst, sym, ◌∙◌}
+use Rattle.std.proofs.Common.{List, ℕ, ◌≡◌, ap, subst, sym, ◌∙◌}
 use Rattle.fc_image.specs.Objects.{objects_of}
 use Rattle.fc_tree.specs.Agree.{AreWalked, reader_of_nodes}
 use Rattle.fc_tree.specs.Nodes.{nodes_of}
 use Rattle.fc_space.specs.Space.{layout_of}
 use Rattle.fc_volume.proofs.MountLemmas.{misplaced_fault}
+use Rattle.fc_volume.specs.Maps.{found_of}
+use Rattle.fc_volume.proofs.OpenReadsLemmas.{walk_most}
 use Rattle.fc_volume.proofs.mount.volume_of.Goals as goal
 
 pub returns-in-None-clause-parts : goal.returns-in-None-clause-parts
@@ -32,3 +34,23 @@ returns-in-Some-clause-fault g c = λ image told.
     let owned = (rw same at c.in-Ok-owners_of.ensures) _ _ _ loaded.listings loaded.walked loaded.in_order in
     misplaced_fault c.walking.ensures image c.args.kind.now layout c.args.found.root c.args.found.root_size (reader_of_nodes nodes) loaded.listings c.in-Some.sector walked.walked (loaded.tells image told)
     (sym ((rw same at c.misplaced_sector.ensures) nodes (objects_of loaded.listings) owned) ∙ c.in-Some.is)
+
+pub returns-in-Err-clause-most : goal.returns-in-Err-clause-most
+returns-in-Err-clause-most g c = λ image told.
+    let same : c.space-space.result.now ≡ c.in-Ok.places = c.space-space.ensures in
+    walk_most image c.args.kind.now (found_of c.args.found) (layout_of c.in-Ok.places) _ _ _ (ap layout_of c.in-Ok.ensures) (rw same at c.reserved_rows-rows.ensures.reserved) (c.load.ensures.most image told)
+
+pub returns-in-None-clause-most : goal.returns-in-None-clause-most
+returns-in-None-clause-most g c = λ image told.
+    let same : c.space-space.result.now ≡ c.in-Ok.places = c.space-space.ensures in
+    walk_most image c.args.kind.now (found_of c.args.found) (layout_of c.in-Ok.places) _ _ _ (ap layout_of c.in-Ok.ensures) (rw same at c.reserved_rows-rows.ensures.reserved) (c.load.ensures.most image told)
+
+pub returns-in-Some-clause-most : goal.returns-in-Some-clause-most
+returns-in-Some-clause-most g c = λ image told.
+    let same : c.space-space.result.now ≡ c.in-Ok.places = c.space-space.ensures in
+    walk_most image c.args.kind.now (found_of c.args.found) (layout_of c.in-Ok.places) _ _ _ (ap layout_of c.in-Ok.ensures) (rw same at c.reserved_rows-rows.ensures.reserved) (c.load.ensures.most image told)
+
+pub returns-in-default-clause-most : goal.returns-in-default-clause-most
+returns-in-default-clause-most g c = λ image told.
+    let same : c.space-space.result.now ≡ c.in-Ok.places = c.space-space.ensures in
+    walk_most image c.args.kind.now (found_of c.args.found) (layout_of c.in-Ok.places) _ _ _ (ap layout_of c.in-Ok.ensures) (rw same at c.reserved_rows-rows.ensures.reserved) (c.load.ensures.most image told)

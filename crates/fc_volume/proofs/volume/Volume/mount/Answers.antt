@@ -11,6 +11,7 @@ use Rattle.fc_volume.specs.Maps.{found_of}
 use Rattle.fc_volume.specs.declared.copies.Copies.{Copies}
 use Rattle.fc_volume.specs.Volume.{HasCopies, HoldsMap, parts_of}
 use Rattle.fc_volume.proofs.MountLemmas.{agrees, are_parts, no_map, no_parts, opens, opens_as, shapes_then, view}
+use Rattle.fc_volume.proofs.OpenReadsLemmas.{of_kind, of_map, of_walk}
 use Rattle.fc_volume.proofs.volume.Volume.mount.Goals as goal
 
 pub returns-in-Err-read_map-clause-fault : goal.returns-in-Err-read_map-clause-fault
@@ -88,3 +89,25 @@ returns-in-Ok-volume_of-clause-stands g c =
           subst (λ (k : Copies). HasCopies k (layout_of v.space) image) (sym c.in-Ok-volume_of.ensures.copies)
           (subst (λ (s : Space). HasCopies c.in-Ok-read_map.found.copies (layout_of s) image) (sym space) (c.in-Ok-read_map.ensures.copies image shaped));
     }
+
+pub returns-in-Err-clause-most : goal.returns-in-Err-clause-most
+returns-in-Err-clause-most g c = λ image told. of_kind image _ _ (c.find_kind.ensures.most image told)
+
+pub returns-in-Err-read_map-clause-most : goal.returns-in-Err-read_map-clause-most
+returns-in-Err-read_map-clause-most g c = λ image told.
+    let found = c.in-Ok.ensures.found image told in
+    of_map image c.in-Ok.kind _ _ _ _ found.0 found.1 (c.find_kind.ensures.most image told) c.shape.ensures.read_calls (c.read_map.ensures.most image (c.shape.ensures.bytes ∙ c.find_kind.ensures.reads.bytes ∙ told))
+
+pub returns-in-Ok-volume_of-clause-most : goal.returns-in-Ok-volume_of-clause-most
+returns-in-Ok-volume_of-clause-most g c = λ image told.
+    let found = c.in-Ok.ensures.found image told in
+    let shaped = c.shape.ensures.bytes ∙ c.find_kind.ensures.reads.bytes ∙ told in
+    of_walk image c.in-Ok.kind (found_of c.in-Ok-read_map.found) _ _ _ _ _ found.0 found.1 (c.in-Ok-read_map.ensures.found image shaped) (c.find_kind.ensures.most image told) c.shape.ensures.read_calls
+    (c.read_map.ensures.most image shaped) (c.volume_of.ensures.most image (c.read_map.ensures.reads.bytes ∙ shaped))
+
+pub returns-in-Err-volume_of-clause-most : goal.returns-in-Err-volume_of-clause-most
+returns-in-Err-volume_of-clause-most g c = λ image told.
+    let found = c.in-Ok.ensures.found image told in
+    let shaped = c.shape.ensures.bytes ∙ c.find_kind.ensures.reads.bytes ∙ told in
+    of_walk image c.in-Ok.kind (found_of c.in-Ok-read_map.found) _ _ _ _ _ found.0 found.1 (c.in-Ok-read_map.ensures.found image shaped) (c.find_kind.ensures.most image told) c.shape.ensures.read_calls
+    (c.read_map.ensures.most image shaped) (c.volume_of.ensures.most image (c.read_map.ensures.reads.bytes ∙ shaped))
