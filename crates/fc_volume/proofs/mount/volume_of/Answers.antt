@@ -49,8 +49,3 @@ pub returns-in-Some-clause-most : goal.returns-in-Some-clause-most
 returns-in-Some-clause-most g c = λ image told.
     let same : c.space-space.result.now ≡ c.in-Ok.places = c.space-space.ensures in
     walk_most image c.args.kind.now (found_of c.args.found) (layout_of c.in-Ok.places) _ _ _ (ap layout_of c.in-Ok.ensures) (rw same at c.reserved_rows-rows.ensures.reserved) (c.load.ensures.most image told)
-
-pub returns-in-default-clause-most : goal.returns-in-default-clause-most
-returns-in-default-clause-most g c = λ image told.
-    let same : c.space-space.result.now ≡ c.in-Ok.places = c.space-space.ensures in
-    walk_most image c.args.kind.now (found_of c.args.found) (layout_of c.in-Ok.places) _ _ _ (ap layout_of c.in-Ok.ensures) (rw same at c.reserved_rows-rows.ensures.reserved) (c.load.ensures.most image told)
