@@ -10,8 +10,8 @@ ghost use Rattle.fc_plan.specs.Supply.{IsSurvey, marked, unused_from};
 ghost use Rattle.fc_growing.specs.Needs.{ShortLaw, bits_for, ids_for, short_of};
 
 use fc_device::NoMemory;
-use fc_newmap::{NewMap, Walk};
-use fc_plan::{PlanError, id_limit};
+use fc_newmap::{NewMap, Walk, id_limit};
+use fc_plan::PlanError;
 use fc_record::Geometry;
 use fc_zone::RunKind;
 use std::alloc::Global;
