@@ -1,5 +1,5 @@
 -- Where a run stands among those of its identifier.
-use Rattle.std.proofs.Common.{◌≡◌, ◌≢◌, ◌<◌, ◌≤◌, ℕ, zero, suc, ◌+◌, ◌-◌, false, Some, None, List, [], ◌∷◌, ◌++◌, length, refl, sym, ap, ap₂, subst, ◌∙◌, inl, inr, arith, length-append, append_assoc}
+use Rattle.std.proofs.Common.{◌≡◌, ◌≢◌, ◌<◌, ◌≤◌, ℕ, zero, suc, ◌+◌, ◌-◌, false, Option, Some, None, List, [], ◌∷◌, ◌++◌, length, refl, sym, ap, ap₂, subst, ◌∙◌, inl, inr, arith, length-append, append_assoc}
 use Rattle.std.specs.Prelude.{filter, Contains}
 use Rattle.std.proofs.lemmas.Bool.{cases_eq, cases_lt}
 use Rattle.std.proofs.lemmas.List.Elements.{filter-append, Contains-append_cases}
@@ -175,67 +175,13 @@ run_cut m id p more some has c behind =
           ∙ ap (λ (zs : List ℕ). filter (of_id id) (placed z s.1 ++ runs_in m zs)) cut.5;
     }
 
--- ---- the walk to a run of a zone
+-- ---- the walk past a run
 
--- what is left before a walk on its way to a run: the last runs of its zone, that run among them
-pub record IsOnWay (m : Map) (z more : ℕ) (run : Run) (rest : List Run) (walk : Walk) : Type 0 where
-  pub passed : List Run
-  pub front : List Run
-  pub runs : runs_of m z ≡ passed ++ (front ++ run ∷ rest)
-  pub stands : StandsBefore m (placed z (front ++ run ∷ rest) ++ runs_in m (zones_from m.geometry (zone_after m.geometry z) more)) walk
-
-pub way_start : (m : Map) (z more : ℕ) (run : Run) (front rest : List Run) (walk : Walk) → runs_of m z ≡ front ++ run ∷ rest
-    → StandsBefore m (placed z (runs_of m z) ++ runs_in m (zones_from m.geometry (zone_after m.geometry z) more)) walk → IsOnWay m z more run rest walk
-way_start m z more run front rest walk runs stands = record {
-  passed = [];
-  front = front;
-  runs = runs;
-  stands = subst (λ (rs : List Run). StandsBefore m (placed z rs ++ runs_in m (zones_from m.geometry (zone_after m.geometry z) more)) walk) runs stands;
-}
-
--- the walk isn't at its end
-pub way_goes_on : (m : Map) (z more : ℕ) (run : Run) (rest : List Run) (old new : Walk) → IsOnWay m z more run rest old → IsStepOf m old new None → ⊥
-way_goes_on m z more run rest old new way step =
-    let r = step (placed z (way.front ++ run ∷ rest) ++ runs_in m (zones_from m.geometry (zone_after m.geometry z) more)) way.stands in
-    by way.front r.0
+pub past_run : (m : Map) (first : ZoneRun) (tail : List ZoneRun) (old new : Walk) (result : Option ZoneRun) → StandsBefore m (first ∷ tail) old → IsStepOf m old new result → StandsBefore m tail new
+past_run m first tail old new None stands step = absurd (some (step (first ∷ tail) stands).0)
   where
-    by : (front : List Run) → placed z (front ++ run ∷ rest) ++ runs_in m (zones_from m.geometry (zone_after m.geometry z) more) ≡ [] → ⊥
-    by [] e = absurd (cc)
-    by (x ∷ front) e = absurd (cc)
-
-module _ (m : Map) (z more : ℕ) (run : Run) (rest : List Run) (zone : Zone (shape m.geometry z) (sector_of m z) (runs_of m z)) (old new : Walk) (p : ZoneRun) (way : IsOnWay m z more run rest old)
-    (step : IsStepOf m old new (Some p)) where
-  abbrev tail : List ZoneRun
-  tail = runs_in m (zones_from m.geometry (zone_after m.geometry z) more)
-
-  -- a run before it begins elsewhere
-  earlier : (passed front : List Run) (x : Run) → runs_of m z ≡ passed ++ (x ∷ front ++ run ∷ rest) → x.start ≡ run.start → ⊥
-  earlier passed front x runs e =
-      let one = subst (λ (rs : List Run). Zone (shape m.geometry z) (sector_of m z) rs) runs zone in
-      let two = subst (λ (rs : List Run). Zone (shape m.geometry z) (sector_of m z) rs) (runs ∙ sym (append_assoc passed (x ∷ front) (run ∷ rest))) zone in
-      let same = same_cut (shape m.geometry z) (sector_of m z) passed (passed ++ x ∷ front) (front ++ run ∷ rest) rest x run one two e in
-      let long = sym (ap length same.2) ∙ length-append front (run ∷ rest) in
-      absurd (omega arith)
-
-  pub way_end : p.1.start ≡ run.start → StandsBefore m (placed z rest ++ tail) new
-  way_end e = by way.front way.runs (step (placed z (way.front ++ run ∷ rest) ++ tail) way.stands)
-    where
-      by : (front : List Run) → runs_of m z ≡ way.passed ++ (front ++ run ∷ rest)
-          → (left : List ZoneRun) × ((placed z (front ++ run ∷ rest) ++ tail ≡ p ∷ left) × StandsBefore m left new) → StandsBefore m (placed z rest ++ tail) new
-      by [] runs r = subst (λ (l : List ZoneRun). StandsBefore m l new) (sym ((cons_run (z, run) p (placed z rest ++ tail) r.0 r.1.0).1)) r.1.1
-      by (x ∷ front) runs r =
-          let first = (cons_run (z, x) p (placed z (front ++ run ∷ rest) ++ tail) r.0 r.1.0).0 in
-          absurd (earlier way.passed front x runs (ap (λ (q : ZoneRun). q.1.start) first ∙ e))
-
-  pub way_on : p.1.start ≢ run.start → IsOnWay m z more run rest new
-  way_on other = by way.front way.runs (step (placed z (way.front ++ run ∷ rest) ++ tail) way.stands)
-    where
-      by : (front : List Run) → runs_of m z ≡ way.passed ++ (front ++ run ∷ rest)
-          → (left : List ZoneRun) × ((placed z (front ++ run ∷ rest) ++ tail ≡ p ∷ left) × StandsBefore m left new) → IsOnWay m z more run rest new
-      by [] runs r = absurd (other (ap (λ (q : ZoneRun). q.1.start) (sym ((cons_run (z, run) p (placed z rest ++ tail) r.0 r.1.0).0))))
-      by (x ∷ front) runs r = record {
-        passed = way.passed ++ x ∷ [];
-        front = front;
-        runs = runs ∙ sym (append_assoc way.passed (x ∷ []) (front ++ run ∷ rest));
-        stands = subst (λ (l : List ZoneRun). StandsBefore m l new) (sym ((cons_run (z, x) p (placed z (front ++ run ∷ rest) ++ tail) r.0 r.1.0).1)) r.1.1;
-      }
+    some : first ∷ tail ≡ [] → ⊥
+    some e = absurd (cc)
+past_run m first tail old new (Some p) stands step =
+    let r = step (first ∷ tail) stands in
+    subst (λ (l : List ZoneRun). StandsBefore m l new) (sym ((cons_run first p tail r.0 r.1.0).1)) r.1.1

@@ -51,19 +51,19 @@ order_is g id n e =
 
 -- ---- a walk
 
--- before a zone's runs
-pub stands_from : (m : Map) (z more : ℕ) (walk : Walk) → z < m.geometry.zones → walk.shape ≡ shape m.geometry z → walk.more ≡ more → StandsBetween (shape m.geometry z) (sector_of m z) [] (runs_of m z) walk.place
-    → StandsBefore m (placed z (runs_of m z) ++ runs_in m (zones_from m.geometry (zone_after m.geometry z) more)) walk
-stands_from m z more walk low is last stands =
+-- between runs of a zone
+pub stands_in : (m : Map) (z more : ℕ) (done here : List Run) (walk : Walk) → z < m.geometry.zones → walk.shape ≡ shape m.geometry z → walk.more ≡ more → StandsBetween (shape m.geometry z) (sector_of m z) done here walk.place
+    → StandsBefore m (placed z here ++ runs_in m (zones_from m.geometry (zone_after m.geometry z) more)) walk
+stands_in m z more done here walk low is last stands =
     let k : z ≡ walk.shape.zone = sym (ap (λ (s : ZoneShape). s.zone) is) in
-    let at : StandsBetween walk.shape (sector_of m z) [] (runs_of m z) walk.place = subst (λ (s : ZoneShape). StandsBetween s (sector_of m z) [] (runs_of m z) walk.place) (sym is) stands in
+    let at : StandsBetween walk.shape (sector_of m z) done here walk.place = subst (λ (s : ZoneShape). StandsBetween s (sector_of m z) done here walk.place) (sym is) stands in
     record {
-      done = [];
-      here = runs_of m z;
+      done = done;
+      here = here;
       low = subst (λ (y : ℕ). y < m.geometry.zones) k low;
       shape = is ∙ ap (shape m.geometry) k;
-      place = subst (λ (y : ℕ). StandsBetween walk.shape (sector_of m y) [] (runs_of m z) walk.place) k at;
-      rest = ap₂ (λ (y n : ℕ). placed y (runs_of m z) ++ runs_in m (zones_from m.geometry (zone_after m.geometry y) n)) k (sym last);
+      place = subst (λ (y : ℕ). StandsBetween walk.shape (sector_of m y) done here walk.place) k at;
+      rest = ap₂ (λ (y n : ℕ). placed y here ++ runs_in m (zones_from m.geometry (zone_after m.geometry y) n)) k (sym last);
     }
 
 abbrev pub IsStep : ZoneShape → List ℕ → Cursor → Cursor → Option Run → Type 0
@@ -188,31 +188,8 @@ pub first_is : (m : Map) (left : List ZoneRun) (new : RunCursor) (result : Optio
 first_is m left new None h = ap (λ (l : List ZoneRun). slice_get l 0) (sym h.0)
 first_is m left new (Some p) h = ap (λ (l : List ZoneRun). slice_get l 0) (sym h.1.0)
 
--- ---- all runs, and the holes among them
+-- ---- all runs
 
 pub all_is : (m : Map) (more : ℕ) → m.geometry.zones ≡ suc more → placed 0 (runs_of m 0) ++ runs_in m (zones_from m.geometry (zone_after m.geometry 0) more) ≡ all_runs m
 all_is m more some =
     ap (runs_in m) (zones_up m.geometry 0 (suc more) (omega arith)) ∙ ap (λ (n : ℕ). runs_in m (range_with_len 0 n)) (sym some)
-
-hole_first : (p : ZoneRun) (rest : List ZoneRun) → is_hole p.1.kind ≡ true → holes_in (p ∷ rest) ≡ p ∷ holes_in rest
-hole_first p rest e = ap (λ (b : Bool). cond b (p ∷ holes_in rest) (holes_in rest)) e
-
-hole_later : (p : ZoneRun) (rest : List ZoneRun) → is_hole p.1.kind ≡ false → holes_in (p ∷ rest) ≡ holes_in rest
-hole_later p rest e = ap (λ (b : Bool). cond b (p ∷ holes_in rest) (holes_in rest)) e
-
--- past a hole
-pub hole_taken : (m : Map) (left now : List ZoneRun) (old new : Walk) (p : ZoneRun) → holes_in left ≡ holes_in now → StandsBefore m now old → IsStepOf m old new (Some p) → is_hole p.1.kind ≡ true
-    → (rest : List ZoneRun) × ((holes_in left ≡ p ∷ holes_in rest) × StandsBefore m rest new)
-hole_taken m left now old new p same stands step is =
-    let r = step now stands in
-    (r.0, (same ∙ ap holes_in r.1.0 ∙ hole_first p r.0 is, r.1.1))
-
--- past another run
-pub hole_passed : (m : Map) (left now : List ZoneRun) (old new : Walk) (p : ZoneRun) → holes_in left ≡ holes_in now → StandsBefore m now old → IsStepOf m old new (Some p) → is_hole p.1.kind ≡ false
-    → (rest : List ZoneRun) × ((holes_in left ≡ holes_in rest) × StandsBefore m rest new)
-hole_passed m left now old new p same stands step other =
-    let r = step now stands in
-    (r.0, (same ∙ ap holes_in r.1.0 ∙ hole_later p r.0 other, r.1.1))
-
-pub no_hole : (m : Map) (left now : List ZoneRun) (old new : Walk) → holes_in left ≡ holes_in now → StandsBefore m now old → IsStepOf m old new None → (holes_in left ≡ []) × StandsBefore m [] new
-no_hole m left now old new same stands step = let r = step now stands in (same ∙ ap holes_in r.0, r.1)

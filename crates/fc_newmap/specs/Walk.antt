@@ -1,5 +1,6 @@
 -- Where a walk over the runs of a map stands.
-use Rattle.std.specs.Prelude.{◌≡◌, ◌<◌, ◌≤◌, ℕ, zero, suc, ◌+◌, ◌-◌, ◌*◌, ◌==◌, if◌then◌else◌, List, [], ◌∷◌, ◌++◌, filter}
+use Rattle.std.specs.Prelude.{◌≡◌, ◌<◌, ◌≤◌, ℕ, zero, suc, ◌+◌, ◌-◌, ◌*◌, ◌==◌, if◌then◌else◌, Option, List, [], ◌∷◌, ◌++◌, filter}
+use Rattle.std.specs.Option.{MatchOption}
 use Rattle.fc_record.specs.declared.Geometry.{Geometry}
 use Rattle.fc_record.specs.Record.{first_bit, end_bit}
 use Rattle.fc_zone.specs.declared.Run.{Run}
@@ -41,6 +42,16 @@ pub record IsInZone (g : Geometry) (p : ZoneRun) : Type 0 where
 -- the holes among some runs
 abbrev pub holes_in : List ZoneRun → List ZoneRun
 holes_in runs = filter (λ p. is_hole p.1.kind) runs
+
+-- the runs of the zones that come after a walk's zone
+abbrev pub runs_after : Map → Walk → List ZoneRun
+runs_after m walk = runs_in m (zones_from m.geometry (zone_after m.geometry walk.shape.zone) walk.more)
+
+-- The walk has gone past the next hole of its zone, or, if none is left there, past all runs of the zone.
+abbrev pub HasPassedHole : Map → List ZoneRun → Walk → Walk → Option Run → Type 0
+HasPassedHole m left old new result =
+    MatchOption result ((holes_in left ≡ holes_in (runs_after m old)) × StandsBefore m (runs_after m old) new)
+    (λ run. (rest : List ZoneRun) × ((holes_in left ≡ (old.shape.zone, run) ∷ holes_in rest) × StandsBefore m rest new))
 
 -- at least the bits of all runs that are left before the walk
 abbrev pub bits_left : Walk → ℕ

@@ -2,15 +2,16 @@
 
 ghost use Rattle.std.specs.Prelude.{◌≡◌, ◌+◌, ◌-◌, ◌^◌, ◌<◌, ◌≤◌, ◌++◌, ◌∷◌, [], List, IfSome, MatchOption};
 ghost use Rattle.fc_zone.specs.Cursor.{StandsBetween};
+ghost use Rattle.fc_zone.specs.Edits.{HasRunAt};
 ghost use Rattle.fc_zone.specs.declared.Run.{Run};
-ghost use Rattle.fc_newmap.specs.Map.{ZoneRun, all_runs, is_hole, runs_in, runs_of, sector_of, shape};
+ghost use Rattle.fc_newmap.specs.Map.{ZoneRun, all_runs, runs_in, runs_of, sector_of, shape};
 ghost use Rattle.fc_newmap.specs.NewMap.{IsNewMap};
 ghost use Rattle.fc_newmap.specs.RunsLaw.{placed};
 
 use crate::NewMap;
 use crate::shapes::shape_of;
 use fc_record::Geometry;
-use fc_zone::{Cursor, Run, RunKind, ZoneShape};
+use fc_zone::{Cursor, Run, ZoneShape};
 
 /// A place before the runs that are left in a zone and in the zones after it, round to zone 0, for a walk in one pass
 /// over the words of the zones.
@@ -38,18 +39,8 @@ fn zone_after(g: &Geometry, z: u16) -> u16
     if z == last { 0 } else { z + 1 }
 }
 
-// Whether a run is a hole.
-fn is_hole(kind: RunKind) -> bool
-    ensures { result ≡ is_hole kind }
-{
-    match kind {
-        RunKind::Hole => true,
-        RunKind::Id(_) => false,
-    }
-}
-
 impl Walk {
-    ghost use Rattle.fc_newmap.specs.Walk.{IsInZone, StandsBefore, bits_left, holes_in, zones_from};
+    ghost use Rattle.fc_newmap.specs.Walk.{HasPassedHole, IsInZone, StandsBefore, bits_left, holes_in, zones_from};
 
     /// Before the runs of a zone and of `more` zones after it.
     pub fn from_zone(map: &NewMap, z: u16, more: u16) -> Self
@@ -65,23 +56,30 @@ impl Walk {
         Walk { shape, place, more }
     }
 
-    /// After the run of a zone that begins at `start`, and before `more` zones after that zone. It passes over the runs of
-    /// the zone up to that run.
+    /// Before the run of a zone that begins at `start`, and before the runs of `more` zones after that zone. Of the zone only
+    /// the links of the holes before the place are read.
+    pub fn at_run(map: &NewMap, z: u16, start: u32, more: u16) -> Self
+        requires zone { z < map.now.geometry.zones }
+        requires run { HasRunAt (shape map.now.geometry z) (sector_of map.now z) start }
+        ensures { (front rest : List Run) (run : Run) → runs_of map.now z ≡ front ++ run ∷ rest → run.start ≡ start
+            → StandsBefore map.now (placed z (run ∷ rest) ++ runs_in map.now (zones_from map.now.geometry (zone_after map.now.geometry z) more)) result }
+    {
+        let shape = shape_of(map.geometry(), z);
+        let place = Cursor::before_run(map.bytes(z), &shape, start);
+        Walk { shape, place, more }
+    }
+
+    /// After the run of a zone that begins at `start`, and before `more` zones after that zone.
     pub fn behind(map: &NewMap, z: u16, start: u32, more: u16) -> Self
         requires zone { z < map.now.geometry.zones }
         requires run { (run : Run) × ((front rest : List Run) × ((run.start ≡ start) × (runs_of map.now z ≡ front ++ run ∷ rest))) }
         ensures { (front rest : List Run) (run : Run) → run.start ≡ start → runs_of map.now z ≡ front ++ run ∷ rest
             → StandsBefore map.now (placed z rest ++ runs_in map.now (zones_from map.now.geometry (zone_after map.now.geometry z) more)) result }
     {
-        let mut walk = Walk::from_zone(map, z, more);
-        loop {
-            let Some((_, run)) = walk.next(map) else {
-                return walk;
-            };
-            if run.start == start {
-                return walk;
-            }
-        }
+        map.is_map();
+        let mut walk = Walk::at_run(map, z, start, more);
+        let _ = walk.next(map);
+        walk
     }
 
     /// Before all runs of a map, in the order of zones and places.
@@ -113,7 +111,8 @@ impl Walk {
         }
     }
 
-    /// Goes past the next hole and gives it, with its zone. `None` exactly where none is left.
+    /// Goes past the next hole and gives it, with its zone. `None` exactly where none is left. It costs a step for each hole and
+    /// each zone, by the links between the holes of a zone.
     pub fn next_hole(&mut self, map: &NewMap) -> Option<(u16, Run)>
         requires { (left : List ZoneRun) × StandsBefore map.now left self.old }
         ensures value { (left : List ZoneRun) → StandsBefore map.now left self.old
@@ -121,12 +120,28 @@ impl Walk {
         ensures onward { IfSome result (λ p. (0 < p.1.len) × (bits_left self.new + p.1.len ≤ bits_left self.old)) }
         ensures within { IfSome result (IsInZone map.now.geometry) }
     {
-        while let Some((z, run)) = self.next(map) {
-            if is_hole(run.kind) {
-                return Some((z, run));
+        loop {
+            if let Some(run) = self.next_hole_here(map) {
+                return Some((self.shape.zone, run));
             }
+            if self.more == 0 {
+                return None;
+            }
+            let z = zone_after(map.geometry(), self.shape.zone);
+            *self = Walk::from_zone(map, z, self.more - 1);
         }
-        None
+    }
+
+    // Goes past the next hole of the zone, or past all its runs.
+    fn next_hole_here(&mut self, map: &NewMap) -> Option<Run>
+        requires { (left : List ZoneRun) × StandsBefore map.now left self.old }
+        ensures value { (left : List ZoneRun) → StandsBefore map.now left self.old → HasPassedHole map.now left self.old self.new result }
+        ensures zone { (self.new.shape ≡ self.old.shape) × (self.new.more ≡ self.old.more) }
+        ensures onward { IfSome result (λ run. (0 < run.len) × (bits_left self.new + run.len ≤ bits_left self.old)) }
+        ensures within { IfSome result (λ run. IsInZone map.now.geometry (self.new.shape.zone, run)) }
+    {
+        self.place
+            .next_hole(map.bytes(self.shape.zone), &self.shape)
     }
 
     // Goes past the next run of the zone.

@@ -1,7 +1,7 @@
 -- What a walk over the runs of a zone knows.
-use Rattle.std.proofs.Common.{◌≡◌, ◌<◌, ◌≤◌, ◌≢◌, ℕ, ◌+◌, Option, Some, None, List, [], ◌∷◌, ◌++◌, refl, sym, ap, ◌∙◌, arith}
+use Rattle.std.proofs.Common.{◌≡◌, ◌<◌, ◌≤◌, ◌≢◌, ℕ, ◌+◌, Option, Some, None, List, [], ◌∷◌, ◌++◌, refl, sym, ap, subst, ◌∙◌, arith}
 use Rattle.std.specs.List.{slice_get, sum_by}
-use Rattle.std.proofs.lemmas.List.{append_assoc}
+use Rattle.std.proofs.lemmas.List.{append_assoc, append-nil}
 use Rattle.std.proofs.lemmas.List.Sums.{sum_by-append, sum_by-cons}
 use Rattle.fc_bytes.specs.Bits.{bits}
 use Rattle.fc_zone.specs.declared.ZoneShape.{ZoneShape}
@@ -123,3 +123,92 @@ stands_relabelled shape s t done rest run kind cursor stands relabels =
     let length_of = sum_by-append (λ (r : Run). r.len) done in
     let same : place_after shape (done ++ changed ∷ []) ≡ place_after shape (done ++ run ∷ []) = omega (arith, length_of (changed ∷ []), length_of (run ∷ [])) in
     stands_still shape s t (done ++ run ∷ []) (done ++ changed ∷ []) rest cursor stands (rw (append_assoc done (changed ∷ []) rest) zone) same
+
+-- ---- on to a run, and to the next hole
+
+-- before a run of the zone
+pub stands_before : (shape : ZoneShape) (s : List ℕ) (front rest : List Run) (run : Run) (cursor : Cursor) → Zone shape s (front ++ run ∷ rest) → cursor.at ≡ run.start → cursor.hole ≡ slice_get (hole_starts (run ∷ rest)) 0
+    → StandsBetween shape s front (run ∷ rest) cursor
+stands_before shape s front rest run cursor zone at hole =
+    let cut = cut_zone shape s front rest run zone in
+    record { zone = zone; place = at ∙ Spells-sum shape (bits s) front shape.first run.start cut.before; hole = hole }
+
+-- the chain from its holder names the first hole from a run on
+pub hole_ahead : (shape : ZoneShape) (s : List ℕ) (front rest : List Run) (run : Run) → Zone shape s (front ++ run ∷ rest) → hole_from shape (bits s) (holder_after front) ≡ slice_get (hole_starts (run ∷ rest)) 0
+hole_ahead shape s front rest run zone =
+    let cut = cut_zone shape s front rest run zone in
+    chain_first shape (bits s) (hole_from shape (bits s) (holder_after front)) (hole_starts (run ∷ rest)) cut.chain_after
+
+pub no_first : (places : List ℕ) → None ≡ slice_get places 0 → places ≡ []
+no_first [] e = refl
+no_first (p ∷ places) e = absurd (cc)
+
+-- no hole is left
+pub stands_at_end : (shape : ZoneShape) (s : List ℕ) (done left : List Run) (old new : Cursor) → StandsBetween shape s done left old → new.at ≡ shape.end → new.hole ≡ None → StandsBetween shape s (done ++ left) [] new
+stands_at_end shape s done left old new stands at none =
+    let all = done ++ left in
+    let zone = stands.zone in
+    record {
+      zone = subst (Zone shape s) (sym (append-nil all)) zone;
+      place = at ∙ Spells-sum shape (bits s) all shape.first shape.end zone.spelled;
+      hole = none;
+    }
+
+-- the first hole among runs
+abbrev pub HasFirstHole : List Run → ℕ → Type 0
+HasFirstHole left at =
+    (passed : List Run) × (run : Run) × (rest : List Run) × ((left ≡ passed ++ run ∷ rest) × (hole_starts passed ≡ []) × (run.kind ≡ Hole) × (run.start ≡ at))
+
+pub first_hole_in : (left : List Run) (at : ℕ) → Some at ≡ slice_get (hole_starts left) 0 → HasFirstHole left at
+first_hole_in [] at e = absurd (cc)
+first_hole_in (run ∷ rest) at e = by run.kind refl e (first_hole_in rest at)
+  where
+    by : (kind : RunKind) → run.kind ≡ kind → Some at ≡ slice_get (start_if_hole kind run.start (hole_starts rest)) 0 → (Some at ≡ slice_get (hole_starts rest) 0 → HasFirstHole rest at) → HasFirstHole (run ∷ rest) at
+    by Hole is e later = let same : run.start ≡ at = cc in ([], run, rest, (refl, refl, is, same))
+    by (Id id) is e later =
+        let r = later e in
+        (run ∷ r.0, r.1, r.2, (ap (λ (l : List Run). run ∷ l) r.3.0, ap (λ (k : RunKind). start_if_hole k run.start (hole_starts r.0)) is ∙ r.3.1, r.3.2, r.3.3))
+
+-- the hole that a cursor names is a run of the zone, and lies ahead of it
+pub hole_is_ahead : (shape : ZoneShape) (s : List ℕ) (done left : List Run) (cursor : Cursor) (at : ℕ) → StandsBetween shape s done left cursor → cursor.hole ≡ Some at
+    → ((end : ℕ) × IsRun shape (bits s) at end) × (cursor.at ≤ at)
+hole_is_ahead shape s done left cursor at stands named =
+    let r = first_hole_in left at (sym named ∙ stands.hole) in
+    let hole = r.1 in
+    let zone : Zone shape s ((done ++ r.0) ++ hole ∷ r.2) =
+    subst (Zone shape s) (ap (λ (l : List Run). done ++ l) r.3.0 ∙ sym (append_assoc done r.0 (hole ∷ r.2))) stands.zone in
+    let cut = cut_zone shape s (done ++ r.0) r.2 hole zone in
+    let sum = Spells-sum shape (bits s) (done ++ r.0) shape.first hole.start cut.before in
+    let more = sum_by-append (λ (u : Run). u.len) done r.0 in
+    let place = stands.place in
+    ((at + hole.len, subst (λ (n : ℕ). IsRun shape (bits s) n (n + hole.len)) r.3.3 cut.after.1), omega (arith, sum, more, place, r.3.3))
+
+-- the cursor goes past the next hole
+pub stands_past_hole : (shape : ZoneShape) (s : List ℕ) (done left : List Run) (old new : Cursor) (at : ℕ) (run : Run) → StandsBetween shape s done left old → old.hole ≡ Some at → IsRun shape (bits s) at (at + run.len)
+    → run ≡ run_of (Some at) at run.len (field_at shape (bits s) at) → new.at ≡ at + run.len → new.hole ≡ next_hole shape (bits s) at
+    → (passed : List Run) × (rest : List Run) × ((left ≡ passed ++ run ∷ rest) × (hole_starts passed ≡ []) × (run.kind ≡ Hole) × StandsBetween shape s ((done ++ passed) ++ run ∷ []) rest new)
+stands_past_hole shape s done left old new at run stands named is value end next =
+    let r = first_hole_in left at (sym named ∙ stands.hole) in
+    let passed = r.0 in
+    let hole = r.1 in
+    let rest = r.2 in
+    let zone : Zone shape s ((done ++ passed) ++ hole ∷ rest) =
+    subst (Zone shape s) (ap (λ (l : List Run). done ++ l) r.3.0 ∙ sym (append_assoc done passed (hole ∷ rest))) stands.zone in
+    let mid : Cursor = record { at = at; hole = Some at } in
+    let first : Some at ≡ slice_get (hole_starts (hole ∷ rest)) 0 = ap Some (sym r.3.3) ∙ sym (ap (λ (k : RunKind). slice_get (start_if_hole k hole.start (hole_starts rest)) 0) r.3.2) in
+    let here = stands_before shape s (done ++ passed) rest hole mid zone (sym r.3.3) first in
+    let ahead = left_of shape s (done ++ passed) (hole ∷ rest) mid here in
+    let found : Some run ≡ Some hole = left_given shape (bits s) (hole ∷ rest) at (Some at) run ahead (λ e. (let long = is.long in let within = is.within in omega (arith, e))) is value in
+    let same : run ≡ hole = cc in
+    let kind : run.kind ≡ Hole = ap (λ (u : Run). u.kind) same ∙ r.3.2 in
+    let start : run.start ≡ at = ap (λ (u : Run). u.start) same ∙ r.3.3 in
+    let stands' = subst (λ (u : Run). StandsBetween shape s (done ++ passed) (u ∷ rest) mid) (sym same) here in (
+      passed,
+      rest,
+      (
+        r.3.0 ∙ ap (λ (u : Run). passed ++ u ∷ rest) (sym same),
+        r.3.1,
+        kind,
+        stepped shape s (done ++ passed) rest run mid new stands' (omega (arith, end, start)) (λ e. next ∙ ap (next_hole shape (bits s)) (sym start)) (λ other. absurd (other kind)),
+      ),
+    )

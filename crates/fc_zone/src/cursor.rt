@@ -1,11 +1,13 @@
 // A walk over the runs of a zone.
 
-ghost use Rattle.std.specs.Prelude.{◌≡◌, ◌+◌, ◌-◌, ◌<◌, ◌++◌, ◌∷◌, [], List, IfSome, OnSome, MatchOption};
+ghost use Rattle.std.specs.Prelude.{◌≡◌, ◌+◌, ◌-◌, ◌<◌, ◌≤◌, ◌++◌, ◌∷◌, [], List, IfSome, OnSome, MatchOption};
 ghost use Rattle.fc_zone.specs.declared.Run.{Run};
-ghost use Rattle.fc_zone.specs.Zone.{IsShapeOf, IsZone, Zone};
+ghost use Rattle.fc_zone.specs.declared.RunKind.TheVariants.{Hole};
+ghost use Rattle.fc_zone.specs.Edits.{HasRunAt};
+ghost use Rattle.fc_zone.specs.Zone.{IsShapeOf, IsZone, Zone, hole_starts};
 
-use crate::links::{first_hole, next_hole};
-use crate::reading::run_from;
+use crate::links::{first_hole, holder_before, hole_from, next_hole};
+use crate::reading::{run_at, run_from};
 use crate::{Run, RunKind, ZoneShape};
 
 /// A place between two runs of a zone, for a walk over all of them in one pass over the zone's words.
@@ -35,6 +37,18 @@ impl Cursor {
         }
     }
 
+    /// Before the run of a zone that begins at `start`, where one does. The chain of holes is followed up to it; no run is
+    /// read.
+    pub fn before_run(b: &[u8], shape: &ZoneShape, start: u32) -> Self
+        requires shape { IsShapeOf b.now shape.now }
+        requires run { HasRunAt shape.now b.now start }
+        ensures { (front rest : List Run) (run : Run) → Zone shape.now b.now (front ++ run ∷ rest) → run.start ≡ start → StandsBetween shape.now b.now front (run ∷ rest) result }
+    {
+        let holder = holder_before(b, shape, start);
+        let hole = hole_from(b, shape, holder);
+        Cursor { at: start, hole }
+    }
+
     /// Goes past the next run and gives it, and stays where it is at the zone's end.
     pub fn next(&mut self, b: &[u8], shape: &ZoneShape) -> Option<Run>
         requires shape { IsShapeOf b.now shape.now }
@@ -49,6 +63,25 @@ impl Cursor {
             self.hole = next_hole(b, shape, run.start);
         }
         self.at = run.start + run.len;
+        Some(run)
+    }
+    /// Goes past the next hole and all runs before it, which aren't read, and gives it. `None` where no hole is left: then
+    /// it stands at the zone's end.
+    pub fn next_hole(&mut self, b: &[u8], shape: &ZoneShape) -> Option<Run>
+        requires shape { IsShapeOf b.now shape.now }
+        requires stands { (done left : List Run) × StandsBetween shape.now b.now done left self.old }
+        ensures value { (done left : List Run) → StandsBetween shape.now b.now done left self.old
+            → MatchOption result ((hole_starts left ≡ []) × StandsBetween shape.now b.now (done ++ left) [] self.new)
+            (λ run. (passed rest : List Run) × ((left ≡ passed ++ run ∷ rest) × (hole_starts passed ≡ []) × (run.kind ≡ Hole) × StandsBetween shape.now b.now ((done ++ passed) ++ run ∷ []) rest self.new)) }
+        ensures onward { IfSome result (λ run. (self.old.at ≤ run.start) × (self.new.at ≡ run.start + run.len)) }
+    {
+        let Some(at) = self.hole else {
+            self.at = shape.end;
+            return None;
+        };
+        let run = run_at(b, shape, at, Some(at));
+        self.hole = next_hole(b, shape, at);
+        self.at = at + run.len;
         Some(run)
     }
 }

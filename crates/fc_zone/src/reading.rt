@@ -83,7 +83,7 @@ pub fn end_of(b: &[u8], shape: &ZoneShape, at: u32) -> u32
 }
 
 // The run that begins at `at`, where the chain names `hole` as the first hole from there on.
-fn run_at(b: &[u8], shape: &ZoneShape, at: u32, hole: Option<u32>) -> Run
+pub fn run_at(b: &[u8], shape: &ZoneShape, at: u32, hole: Option<u32>) -> Run
     requires shape { IsShapeOf b.now shape.now }
     requires begins { (end : ℕ) × IsRun shape.now (bits b.now) at end }
     ensures run { IsRun shape.now (bits b.now) at (at + result.len) }

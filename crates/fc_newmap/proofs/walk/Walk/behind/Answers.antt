@@ -1,22 +1,28 @@
-use Rattle.std.proofs.Common.{sym, ◌∙◌}
-use Rattle.fc_newmap.proofs.NextLemmas.{way_end, way_goes_on, way_on, way_start}
+use Rattle.std.proofs.Common.{◌++◌, ◌∷◌, subst}
+use Rattle.fc_zone.specs.Zone.{Zone}
+use Rattle.fc_newmap.specs.Map.{ZoneRun, runs_in, sector_of, shape}
+use Rattle.fc_newmap.specs.RunsLaw.{placed}
+use Rattle.fc_newmap.specs.Walk.{zone_after, zones_from}
+use Rattle.fc_newmap.proofs.NextLemmas.{past_run}
 use Rattle.fc_newmap.proofs.walk.Walk.behind.Goals as goal
 
-pub loop-run-init : goal.loop-run-init
-loop-run-init c = λ front rest run at runs. way_start c.args.map.now c.args.z c.args.more run front rest c.from_zone-walk.result runs c.from_zone-walk.ensures.stands
+pub at_run-walk-requires-clause-run : goal.at_run-walk-requires-clause-run
+at_run-walk-requires-clause-run c =
+    let m = c.args.map.now in
+    let z = c.args.z in
+    let h = c.requires.run in
+    let is = c.is_map.ensures in
+    (h.0, (h.1.2.0, (h.1.0, (h.1.1, subst (Zone (shape m.geometry z) (sector_of m z)) h.1.2.1 (is.right z c.requires.zone)))))
 
-pub returns-in_default : goal.returns-in_default
-returns-in_default c = λ front rest run at runs.
-    absurd (way_goes_on c.args.map.now c.args.z c.args.more run rest c.loop-run.walk c.next.new.self (c.loop-run.invariant front rest run at runs) c.in_default.ensures.value)
+pub next-requires : goal.next-requires
+next-requires c =
+    let m = c.args.map.now in
+    let z = c.args.z in
+    let h = c.requires.run in
+    (placed z (h.0 ∷ h.1.1) ++ runs_in m (zones_from m.geometry (zone_after m.geometry z) c.args.more), c.at_run-walk.ensures h.1.0 h.1.1 h.0 h.1.2.1 h.1.2.0)
 
-pub returns-then-run-start : goal.returns-then-run-start
-returns-then-run-start c = λ front rest run at runs.
-    let is = c.from_zone-walk.ensures.map in
-    way_end c.args.map.now c.args.z c.args.more run rest (is.right c.args.z c.requires.zone) c.loop-run.walk c.next.new.self (c.in-Some.field-0-0, c.in-Some.run') (c.loop-run.invariant front rest run at runs)
-    c.in-Some.ensures.value (c.if-run-start.true ∙ sym at)
-
-pub loop-run-preserved : goal.loop-run-preserved
-loop-run-preserved c = λ front rest run at runs.
-    let is = c.from_zone-walk.ensures.map in
-    way_on c.args.map.now c.args.z c.args.more run rest (is.right c.args.z c.requires.zone) c.loop-run.walk c.next.new.self (c.in-Some.field-0-0, c.in-Some.run') (c.loop-run.invariant front rest run at runs)
-    c.in-Some.ensures.value (λ e. c.if-run-start.false (e ∙ at))
+pub returns : goal.returns
+returns c = λ front rest run at runs.
+    let m = c.args.map.now in
+    let z = c.args.z in
+    past_run m (z, run) (placed z rest ++ runs_in m (zones_from m.geometry (zone_after m.geometry z) c.args.more)) c.at_run-walk.result c.next.new.self c.next.result (c.at_run-walk.ensures front rest run runs at) c.next.ensures.value

@@ -5,7 +5,7 @@ use Rattle.fc_zone.specs.Cursor.{StandsBetween}
 use Rattle.fc_zone.specs.Zone.{IsShapeOf, Zone}
 use Rattle.fc_newmap.specs.Map.{runs_of, sector_of, shape}
 use Rattle.fc_newmap.proofs.HeldLemmas.{shape_fits}
-use Rattle.fc_newmap.proofs.WalkLemmas.{stands_from}
+use Rattle.fc_newmap.proofs.WalkLemmas.{stands_in}
 use Rattle.fc_newmap.proofs.walk.Walk.from_zone.Goals as goal
 use Rattle.fc_newmap.proofs.walk.Walk.from_zone.Goals.{After-bytes}
 
@@ -31,5 +31,5 @@ returns-clause-stands c =
     let before = (goal.at.returns-clause-stands c).After-bytes in
     let stands = c.start-place.ensures (runs_of c.args.map.now c.args.z) (zone_is before) in
     let here = subst (λ (s : List ℕ). StandsBetween c.shape_of-shape.result s [] (runs_of c.args.map.now c.args.z) c.start-place.result) c.bytes.ensures.value stands in
-    stands_from c.args.map.now c.args.z c.args.more (record { shape = c.shape_of-shape.result; place = c.start-place.result; more = c.args.more }) c.requires (shape_is before) refl
+    stands_in c.args.map.now c.args.z c.args.more [] (runs_of c.args.map.now c.args.z) (record { shape = c.shape_of-shape.result; place = c.start-place.result; more = c.args.more }) c.requires (shape_is before) refl
     (subst (λ (s : ZoneShape). StandsBetween s (sector_of c.args.map.now c.args.z) [] (runs_of c.args.map.now c.args.z) c.start-place.result) (shape_is before) here)
