@@ -11,6 +11,7 @@ mod runs;
 mod shapes;
 mod sums;
 mod tally;
+mod unused;
 mod walk;
 
 ghost use Rattle.fc_newmap.specs.Rows.{MapRows};
