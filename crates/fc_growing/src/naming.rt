@@ -1,8 +1,6 @@
 // A rename by which the directory that gets the name grows, made ready in memory.
-ghost use Rattle.std.specs.Prelude.{◌≡◌, ◌<◌, ◌++◌, IfOk, IsFalse, Option, is_some, length, option_map};
-ghost use Rattle.std.specs.List.{find};
+ghost use Rattle.std.specs.Prelude.{◌≡◌, ◌<◌, ◌++◌, IfOk, IsFalse, Option, is_some, length};
 ghost use Rattle.std.specs.Option.{option_to_list};
-ghost use Rattle.fc_alloc.specs.Owners.{is_node};
 ghost use Rattle.fc_dirs.specs.Directory.{entries_of};
 ghost use Rattle.fc_dirs.specs.Entries.{has_name, without_entry};
 ghost use Rattle.fc_drafts.specs.Draft.{CanAddress, CanHold, CanName, directory_in};
@@ -11,7 +9,6 @@ ghost use Rattle.fc_image.specs.Layout.{Layout};
 ghost use Rattle.fc_space.specs.Space.{layout_of};
 ghost use Rattle.fc_tree.specs.Nodes.{nodes_of};
 ghost use Rattle.fc_volume.specs.declared.changes.rewrite.Rewrite.{Rewrite};
-ghost use Rattle.fc_volume.specs.Moving.{held_by};
 ghost use Rattle.fc_growing.specs.Naming.{CanNameAcross, CanNameWithin, CanTakeName, HasTakenName, IsApart, IsNamedAcross, IsNamedWithin};
 
 use crate::around::{Regrowth, take_over_around};
@@ -30,7 +27,7 @@ use fc_space::Places;
 use fc_tree::Tree;
 use fc_volume::Volume;
 use fc_volume::changes::making::enter;
-use fc_volume::changes::moving::Leaving;
+use fc_volume::changes::moving::{Leaving, moved_owner};
 use fc_volume::changes::relocate::{Relocation, take_over};
 use fc_volume::changes::renaming::{entry_named, turn};
 use fc_volume::changes::rewrite::{Rewrite, draft_of};
@@ -150,16 +147,6 @@ pub fn prepare_named(
         entry: own_entry,
         owner: None,
     })
-}
-
-// The owner of a node, held by another directory.
-fn moved_owner(owners: &Owners, node: u64, dir: u64) -> Option<Owner>
-    ensures { result ≡ option_map (held_by dir) (find (is_node node) owners.now) }
-{
-    match owners.of(node) {
-        Some(o) => Some(Owner { dir, ..o }),
-        None => None,
-    }
 }
 
 /// Makes the directory of a node ready, which grows by a target's entry under a name, the target, and the directory that it leaves.

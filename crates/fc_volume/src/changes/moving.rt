@@ -40,8 +40,8 @@ pub struct Leaving {
     pub own: Entry,
 }
 
-// The owner of a node, held by another directory.
-fn moved_owner(owners: &Owners, node: u64, dir: u64) -> Option<Owner>
+/// The owner of a node, if it has one, held by another directory.
+pub fn moved_owner(owners: &Owners, node: u64, dir: u64) -> Option<Owner>
     ensures { result ≡ option_map (held_by dir) (find (is_node node) owners.now) }
 {
     match owners.of(node) {
