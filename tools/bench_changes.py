@@ -79,7 +79,7 @@ class Bench:
 
 def saving(numbers, directory_of):
     """Lines that save files of 100 bytes with these numbers."""
-    return ["save $.D%d.File%d %s %s" % (directory_of(at), at, WORDS, ("%08x" % at) * 25) for at in numbers]
+    return ["save $.D%d.File%05d %s %s" % (directory_of(at), at, WORDS, ("%08x" % at) * 25) for at in numbers]
 
 
 def commands(paths, fresh, others):
@@ -119,39 +119,40 @@ def many_files(bench, image, files):
         print("%d files saved in one script: %.2f s" % (count - done, bench.seconds(image, script_of(lines))), flush=True)
         done = count
         step = max(1, count // LINES)
-        paths = ["$.D%d.File%d" % (at % DIRECTORIES, at) for at in range(0, count, step)][:LINES]
-        fresh = ["$.D%d.New%d" % (at % DIRECTORIES, at) for at in range(LINES)]
-        others = ["$.D%d.File%d" % ((at + 1) % DIRECTORIES, at) for at in range(0, count, step)][:LINES]
+        paths = ["$.D%d.File%05d" % (at % DIRECTORIES, at) for at in range(0, count, step)][:LINES]
+        fresh = ["$.D%d.New%05d" % (at % DIRECTORIES, at) for at in range(LINES)]
+        others = ["$.D%d.File%05d" % ((at + 1) % DIRECTORIES, at) for at in range(0, count, step)][:LINES]
         bench.table(image, "%d files" % count, commands(paths, fresh, others))
 
 
 def full_directories(bench, image, files):
-    """Files of 100 bytes saved into one of 100 directories after another, and the commands in ten directories that have all of theirs:
-    only the disc has more files then, not a directory."""
+    """Files of 100 bytes saved into one of 100 directories after another, every tenth first, and the commands in those ten at a tenth of the
+    files and at all of them: only the disc has more files then, and no directory in which a command works."""
     empty_disc(image)
     each, done = files // DIRECTORIES, 0
+    chosen = list(range(0, DIRECTORIES, DIRECTORIES // 10))
+    order = chosen + [one for one in range(DIRECTORIES) if one not in chosen]
+    numbers = [(at, chosen[at] * each + number) for number in range(min(each, LINES // 10)) for at in range(10)]
+    paths = ["$.D%d.File%05d" % (chosen[at], number) for at, number in numbers]
+    fresh = ["$.D%d.New%05d" % (chosen[at], number) for at, number in numbers]
+    others = ["$.D%d.File%05d" % (chosen[at - 1], number) for at, number in numbers]
     for count in (files // 10, files):
-        bench.seconds(image, script_of(saving(range(done, count), lambda at: at // each)))
-        done, full = count, count // each
-        chosen = [at * full // 10 for at in range(10)]
-        numbers = [(at, directory * each + number) for number in range(min(each, LINES // 10)) for at, directory in enumerate(chosen)]
-        paths = ["$.D%d.File%d" % (chosen[at], number) for at, number in numbers]
-        fresh = ["$.D%d.New%d" % (chosen[at], number) for at, number in numbers]
-        others = ["$.D%d.File%d" % (chosen[at - 1], number) for at, number in numbers]
+        bench.seconds(image, script_of(saving([order[at // each] * each + at % each for at in range(done, count)], lambda at: at // each)))
         bench.table(image, "%d files, %d a directory" % (count, each), commands(paths, fresh, others))
+        done = count
 
 
 def one_directory(bench, image, files):
     """Files of 0 bytes in one directory, which grows at every fiftieth; and files that share identifiers, and so are copied, moved into one."""
     empty_disc(image)
     for first, last in ((0, files // 20), (files // 20, files // 5)):
-        lines = ["create $.D0.File%d %s 0" % (at, WORDS) for at in range(first, last)]
+        lines = ["create $.D0.File%05d %s 0" % (at, WORDS) for at in range(first, last)]
         taken = bench.seconds(image, script_of(lines))
         print("%d files of 0 bytes made in one directory that has %d: %.0f microseconds a command" % (
             last - first, first, taken / len(lines) * 1e6), flush=True)
     numbers = range(files // 20)
-    bench.seconds(image, script_of("save $.D1.File%d %s %s" % (at, WORDS, "5a" * 100) for at in numbers))
-    taken = bench.seconds(image, script_of("rename $.D1.File%d $.D2.File%d" % (at, at) for at in numbers))
+    bench.seconds(image, script_of("save $.D1.File%05d %s %s" % (at, WORDS, "5a" * 100) for at in numbers))
+    taken = bench.seconds(image, script_of("rename $.D1.File%05d $.D2.File%05d" % (at, at) for at in numbers))
     print("%d files that share identifiers moved into one empty directory: %.0f microseconds a command" % (
         len(numbers), taken / len(numbers) * 1e6), flush=True)
 
@@ -163,7 +164,7 @@ def many_objects(bench, image, objects, big):
     places = range(0, directories, max(1, directories // DIRECTORIES))
     chosen = [("$." + path, number) for path, number in directory_paths(directories, places)]
     paths = ["%s.F%02d" % (path, at) for at in range(5) for path, number in chosen][:LINES]
-    fresh = ["%s.New%d" % (path, at) for at in range(5) for path, number in chosen][:LINES]
+    fresh = ["%s.New%05d" % (path, at) for at in range(5) for path, number in chosen][:LINES]
     others = ["%s.Moved%d" % (chosen[(at + 1) % len(chosen)][0], at // len(chosen)) for at in range(len(paths))]
     bench.table(image, "%d objects%s" % (51 * directories, ", big directories" * big), commands(paths, fresh, others))
 

@@ -1,4 +1,6 @@
--- What a crash during a whole run, or at its end, leaves of the image.
+-- What a crash during a whole run, or at its end, leaves of the image. Two members of fc_device's `Disk` tell of crashes: `moment`
+-- numbers the moments of a disk's life, and `left_since new n image` says that a crash from moment n of it to now could have left
+-- this image.
 use Rattle.std.specs.Prelude.{◌≡◌, ℕ, Bool, true, false, ◌||◌, List, length, slice_get, Option, Some, None, Result, Ok, Err}
 use Rattle.fc_device.specs.declared.disk.Disk.{Ghosts}
 use Rattle.fc_names.specs.declared.refusal.Refusal.{Refusal}
