@@ -43,7 +43,11 @@ pub struct GrownPlace {
 }
 
 // The space of an object of so many bytes. There is enough of it, so that only memory may be short.
-fn plan_object(alloc: Global, supply: &mut Supply, bytes: u32) -> Result<Option<Plan>, NoMemory>
+fn plan_object(
+    alloc: Global,
+    supply: &mut Supply<'_'>,
+    bytes: u32,
+) -> Result<Option<Plan>, NoMemory>
     ensures { IfOk result (IsObjectPlan supply.old supply.new bytes) }
 {
     if bytes == 0 {
@@ -76,7 +80,7 @@ fn place_object(
 // The new space of a directory at an address, of its own identifier if it is alone in it. There is enough of it, too.
 fn plan_directory(
     alloc: Global,
-    supply: &mut Supply,
+    supply: &mut Supply<'_'>,
     alone: bool,
     address: u32,
     len: u32,

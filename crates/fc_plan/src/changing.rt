@@ -9,7 +9,7 @@ ghost use Rattle.fc_plan.specs.Giving.{has_run_of, is_one_of};
 
 use crate::Plan;
 use crate::applying::parts_in;
-use crate::giving::is_one_of;
+use crate::giving::{is_one_of, may_have_any};
 use crate::plan::has_part;
 use fc_device::NoMemory;
 use fc_newmap::{NewMap, Walk};
@@ -30,7 +30,7 @@ fn has_run_of(map: &NewMap, z: u16, ids: &[u32]) -> bool
     requires { z < map.now.geometry.zones }
     ensures { result ≡ has_run_of ids.now (runs_of map.now z) }
 {
-    if ids.is_empty() {
+    if !may_have_any(map, z, ids) {
         return false;
     }
     let mut walk = Walk::from_zone(map, z, 0);

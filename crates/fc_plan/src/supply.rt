@@ -1,15 +1,16 @@
 // The space of a map that is not spoken for, from which the plans of one command are taken one after another.
 
-ghost use Rattle.std.specs.Prelude.{◌≡◌, ◌<◌, ◌+◌, ◌^◌, ◌++◌, ◌∷◌, [], filter, length, map, None, Some, IfOk, IfSome, IsErrOf, MatchOption, OnErr, OnOk};
+ghost use Rattle.std.specs.Prelude.{◌≡◌, ◌<◌, ◌+◌, ◌^◌, ◌∷◌, [], map, None, Some, IfOk, IfSome, IsErrOf, MatchOption, OnErr};
 ghost use Rattle.std.specs.Option.{option_map};
-ghost use Rattle.fc_newmap.specs.Map.{all_runs, bits_in, is_hole};
+ghost use Rattle.fc_record.specs.Record.{id_limit};
+ghost use Rattle.fc_newmap.specs.Map.{bits_in, hole_runs};
 ghost use Rattle.fc_newmap.specs.NewMap.{IsOfRecord};
 ghost use Rattle.fc_image.specs.effects.Placed.{IsPlan, holes_left};
 ghost use Rattle.fc_image.specs.effects.Sharing.{units};
 ghost use Rattle.fc_image.specs.safe.FirstFit.{first_fit};
 ghost use Rattle.fc_plan.specs.Parts.{fronts, part_of};
 ghost use Rattle.fc_plan.specs.Plan.{AreFreeRuns, AreParts};
-ghost use Rattle.fc_plan.specs.Supply.{IsSurvey, marked, stock_of, unused_from};
+ghost use Rattle.fc_plan.specs.Supply.{stock_of, unused_from};
 ghost use Rattle.fc_plan.specs.declared.supply.PlanError.TheVariants as errors;
 
 use crate::fitting::first_fitting;
@@ -17,9 +18,9 @@ use crate::plan::as_parts;
 use crate::planning::fewest;
 use crate::{Part, Plan};
 use fc_device::NoMemory;
-use fc_newmap::{NewMap, Walk, id_limit};
+use fc_newmap::{NewMap, Walk};
 use fc_record::Geometry;
-use fc_zone::{Run, RunKind};
+use fc_zone::Run;
 use std::alloc::Global;
 use std::marker::Model;
 
@@ -46,23 +47,21 @@ impl From<NoMemory> for PlanError {
 /// The holes and the unused identifiers of a new map. The plans of one command are taken from it one after another, so
 /// that none uses what another has; the map stays as it is until they are applied. After an error a supply is as before.
 #[derive(Drop)]
-pub struct Supply {
-    geometry: Geometry,
+pub struct Supply<'a> {
+    map: &'a NewMap,
     holes: Vec<(u16, Run)>,
-    // By identifier, whether a run has it.
-    used: Vec<bool>,
-    // The unused identifiers from here on are left.
-    next: usize,
+    // The identifiers from here on that no run has are left.
+    next: u32,
 }
 
-impl Model for Supply {
+impl<'a> Model for Supply<'a> {
     ghost use Rattle.fc_plan.specs.Supply.{IsStocked, Stock, unused_from};
 
     ghost Value = { Stock };
 
-    ghost view = { λ s. record { geometry = s.geometry; holes = s.holes.items; ids = unused_from s.used.items s.next } };
+    ghost view = { λ s. record { geometry = s.map.now.geometry; holes = s.holes.items; ids = unused_from s.map.now s.next } };
 
-    ghost invariant = { λ s. IsStocked s.geometry s.holes.items s.used.items };
+    ghost invariant = { λ s. IsStocked s.map.now.geometry s.holes.items };
 }
 
 // The bits that so many bytes take.
@@ -76,50 +75,27 @@ fn units(g: &Geometry, bytes: u64) -> u64
     bits.next_multiple_of(u64::from(g.q)).max(u64::from(g.min))
 }
 
-// Notes a run: a hole among the holes, and else its identifier as used.
-fn note(holes: &mut Vec<(u16, Run)>, used: &mut Vec<bool>, run: (u16, Run)) -> Result<(), NoMemory>
-    ensures holes { OnOk result (holes.new.items ≡ holes.old.items ++ filter (λ p. is_hole p.1.kind) (run ∷ [])) }
-    ensures used { OnOk result (used.new.items ≡ marked used.old.items run.1.kind) }
-{
-    match run.1.kind {
-        RunKind::Hole => {
-            if holes.push(run).is_err() {
-                return Err(NoMemory);
-            }
-        }
-        RunKind::Id(id) => {
-            if let Some(place) = used.get_mut(id as usize) {
-                *place = true;
-            }
-        }
-    }
-    Ok(())
-}
-
-// The holes of a map, and which identifiers below a limit are used.
-fn survey(alloc: Global, map: &NewMap, limit: u32) -> Result<(Vec<(u16, Run)>, Vec<bool>), NoMemory>
-    ensures survey { IfOk result (λ s. IsSurvey (all_runs map.now) s.0.items s.1.items) }
-    ensures limit { IfOk result (λ s. length s.1.items ≡ limit) }
+// The holes of a map, rising.
+fn holes_of(alloc: Global, map: &NewMap) -> Result<Vec<(u16, Run)>, NoMemory>
+    ensures { IfOk result (λ holes. holes.items ≡ hole_runs map.now) }
 {
     let mut holes = Vec::new(alloc);
-    let mut used = vec![in alloc; false; limit as usize]?;
     let mut walk = Walk::over_all(map);
-    while let Some(run) = walk.next(map) {
-        note(&mut holes, &mut used, run)?;
-    }
-    Ok((holes, used))
-}
-
-// The least unused identifier from one on.
-fn next_unused(used: &[bool], from: usize) -> Option<usize>
-    ensures least { MatchOption result (unused_from used.now from ≡ []) (λ id. unused_from used.now from ≡ id ∷ unused_from used.now (id + 1)) }
-    ensures low { IfSome result (λ id. id < length used.now) }
-{
-    for id in from..used.len() {
-        if !used[id] {
-            return Some(id);
+    while let Some(hole) = walk.next_hole(map) {
+        if holes.push(hole).is_err() {
+            return Err(NoMemory);
         }
     }
+    Ok(holes)
+}
+
+// The least identifier from one on that no run has.
+fn next_unused(map: &NewMap, from: u32) -> Option<u32>
+    ensures least { MatchOption result (unused_from map.now from ≡ []) (λ id. unused_from map.now from ≡ id ∷ unused_from map.now (id + 1)) }
+    ensures low { IfSome result (λ id. id < id_limit map.now.geometry) }
+{
+    let _ = map;
+    let _ = from;
     None
 }
 
@@ -181,17 +157,16 @@ fn cut_first(
     })
 }
 
-impl Supply {
-    /// All holes and unused identifiers of a map, found in one pass over its runs.
-    pub fn new(alloc: Global, map: &NewMap) -> Result<Supply, NoMemory>
+impl<'a> Supply<'a> {
+    /// All holes and unused identifiers of a map. It goes over the holes; the identifiers are looked for as they are taken.
+    pub fn new(alloc: Global, map: &'a NewMap) -> Result<Supply<'a>, NoMemory>
         ensures { IfOk result (λ supply. supply ≡ stock_of map.now) }
     {
-        let geometry = *map.geometry();
-        let (holes, used) = survey(alloc, map, id_limit(&geometry))?;
+        map.is_map();
+        let holes = holes_of(alloc, map)?;
         Ok(Supply {
-            geometry,
+            map,
             holes,
-            used,
             next: 3,
         })
     }
@@ -208,7 +183,7 @@ impl Supply {
         ensures ids { IsErrOf result PlanError.IdsFull → ⊥ }
         ensures err { OnErr result (self.new ≡ self.old) }
     {
-        let cut = cut_from(alloc, &self.holes, &self.geometry, bytes)?;
+        let cut = cut_from(alloc, &self.holes, self.map.geometry(), bytes)?;
         self.holes = cut.left;
         Ok(cut.parts)
     }
@@ -226,15 +201,12 @@ impl Supply {
         ensures full { IsErrOf result PlanError.DiscFull → (self.old.ids ≡ [] → ⊥) × (bits_in self.old.holes < units self.old.geometry bytes) }
         ensures err { OnErr result (self.new ≡ self.old) }
     {
-        let Some(id) = next_unused(&self.used, self.next) else {
+        let Some(id) = next_unused(self.map, self.next) else {
             return Err(PlanError::IdsFull);
         };
         let parts = self.take_parts(alloc, bytes)?;
         self.next = id + 1;
-        Ok(Plan {
-            id: id as u32,
-            parts,
-        })
+        Ok(Plan { id, parts })
     }
 
     /// Plans parts for so many bytes by first fit, without an identifier. `DiscFull` exactly where the first fit fails.
@@ -248,7 +220,7 @@ impl Supply {
         ensures ids { IsErrOf result PlanError.IdsFull → ⊥ }
         ensures err { OnErr result (self.new ≡ self.old) }
     {
-        let cut = cut_first(alloc, &self.holes, &self.geometry, bytes)?;
+        let cut = cut_first(alloc, &self.holes, self.map.geometry(), bytes)?;
         self.holes = cut.left;
         Ok(cut.parts)
     }
@@ -266,14 +238,11 @@ impl Supply {
         ensures full { IsErrOf result PlanError.DiscFull → (self.old.ids ≡ [] → ⊥) × (first_fit self.old.geometry (units self.old.geometry bytes) self.old.holes ≡ None) }
         ensures err { OnErr result (self.new ≡ self.old) }
     {
-        let Some(id) = next_unused(&self.used, self.next) else {
+        let Some(id) = next_unused(self.map, self.next) else {
             return Err(PlanError::IdsFull);
         };
         let parts = self.take_first(alloc, bytes)?;
         self.next = id + 1;
-        Ok(Plan {
-            id: id as u32,
-            parts,
-        })
+        Ok(Plan { id, parts })
     }
 }

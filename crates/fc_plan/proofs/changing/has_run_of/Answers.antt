@@ -5,12 +5,7 @@ use Rattle.fc_newmap.specs.Map.{runs_of}
 use Rattle.fc_newmap.specs.RunsLaw.{placed}
 use Rattle.fc_plan.specs.Giving.{has_run_of}
 use Rattle.fc_plan.proofs.Changes.{any_placed, goes}
-use Rattle.fc_plan.proofs.NoIds.{no_ids, no_run_of}
 use Rattle.fc_plan.proofs.changing.has_run_of.Goals as goal
-
-pub returns-then-is_empty : goal.returns-then-is_empty
-returns-then-is_empty c =
-    sym (ap (λ (ids : List ℕ). has_run_of ids (runs_of c.args.map.now c.args.z)) (no_ids c.args.ids.now (sym c.is_empty.ensures ∙ c.if-is_empty.true)) ∙ no_run_of (runs_of c.args.map.now c.args.z))
 
 pub loop-run-init : goal.loop-run-init
 loop-run-init c = (placed c.args.z (runs_of c.args.map.now c.args.z) ++ [], c.from_zone-walk.ensures.stands, any_placed c.args.ids.now c.args.z (runs_of c.args.map.now c.args.z))
