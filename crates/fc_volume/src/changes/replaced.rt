@@ -27,10 +27,10 @@ use fc_device::{Disk, NoMemory};
 use fc_tree::Tree;
 
 // Whether a node has an owner.
-fn has_owner(owners: &[Owner], node: u64) -> bool
+fn has_owner(owners: &Owners, node: u64) -> bool
     ensures { result ≡ has_node owners.now node }
 {
-    owners.iter().any(|o| o.node == node)
+    owners.of(node).is_some()
 }
 
 /// Takes the memory for an owner, if there is one: it is added, unless its node has one already. After `NoMemory` the owners
@@ -42,7 +42,7 @@ pub fn make_room(owners: &mut Owners, owner: Option<Owner>) -> Result<(), NoMemo
     let Some(owner) = owner else {
         return Ok(());
     };
-    if has_owner(owners.list(), owner.node) {
+    if has_owner(owners, owner.node) {
         return Ok(());
     }
     owners.add(owner)
