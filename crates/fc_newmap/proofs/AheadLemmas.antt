@@ -1,18 +1,25 @@
--- A search for an identifier that begins after zones that have none of its runs.
+-- A search for an identifier that begins and ends where its runs can begin and end.
 use Rattle.std.proofs.Common.{◌≡◌, ◌<◌, ◌≤◌, ℕ, zero, suc, ◌+◌, ◌-◌, Bool, false, cond, List, [], ◌∷◌, ◌++◌, refl, sym, ap, ap₂, subst, ◌∙◌, inl, inr, arith}
-use Rattle.std.specs.Prelude.{filter}
+use Rattle.std.specs.Prelude.{Contains, filter}
 use Rattle.std.proofs.lemmas.Bool.{cases_lt, le-leb, lt-leb}
+use Rattle.std.proofs.lemmas.List.{append-nil, map-append}
 use Rattle.std.proofs.lemmas.List.Concat.{flat_map-append}
-use Rattle.std.proofs.lemmas.List.Elements.{filter-append}
+use Rattle.std.proofs.lemmas.List.Elements.{Contains-append_left, filter-append}
 use Rattle.fc_record.specs.declared.Geometry.{Geometry}
+use Rattle.fc_record.specs.Record.{end_bit, first_bit}
 use Rattle.fc_zone.specs.declared.Run.{Run}
-use Rattle.fc_newmap.specs.declared.runs.RunCursor.{RunCursor}
-use Rattle.fc_newmap.specs.Map.{Map, ZoneRun, has_id, home_zone, id_runs, runs_in, runs_of, search_order}
+use Rattle.fc_zone.specs.Edits.{HasRunAt}
+use Rattle.fc_newmap.specs.declared.tally.IdTally.{IdTally}
+use Rattle.fc_newmap.specs.declared.tally.Search.{Search}
+use Rattle.fc_newmap.specs.declared.walk.Walk.{Walk}
+use Rattle.fc_newmap.specs.Map.{Map, ZoneRun, has_id, home_zone, id_runs, runs_in, runs_of, search_order, sector_of, shape}
+use Rattle.fc_newmap.specs.NewMap.{IsNewMap}
 use Rattle.fc_newmap.specs.RunsLaw.{placed}
-use Rattle.fc_newmap.specs.Tally.{IsAhead, zones_before}
-use Rattle.fc_newmap.specs.Walk.{StandsAt, StandsBefore, zone_after, zone_up, zones_from}
+use Rattle.fc_newmap.specs.Tally.{IsFirstIn, IsRow, IsSearch, has_run_of, zones_before}
+use Rattle.fc_newmap.specs.Walk.{StandsAt, StandsBefore, StandsBeforeFirst, zone_after, zone_up, zones_from}
+use Rattle.fc_newmap.proofs.ComposeLemmas.{zone_cut}
 use Rattle.fc_newmap.proofs.PlaceLemmas.{home_low}
-use Rattle.fc_newmap.proofs.TallyLemmas.{any_of, neither}
+use Rattle.fc_newmap.proofs.RowLemmas.{any_none, any_of, contains_cut, front_before, neither, not_below}
 use Rattle.fc_newmap.proofs.WalkLemmas.{after_last, after_other, filter_later, of_id, order_is}
 
 -- ---- zones up, and round
@@ -77,36 +84,132 @@ none_placed id z (run ∷ runs) none =
     let r = neither (has_id id run.kind) (any_of id runs) none in
     filter_later id (z, run) (placed z runs) r.0 ∙ none_placed id z runs r.1
 
-none_first : (m : Map) (id ahead j n : ℕ) → IsAhead m id ahead → ahead < m.geometry.zones → j + n ≤ ahead
+-- between these places of the search
+none_between : (m : Map) (id j n : ℕ) → j + n ≤ m.geometry.zones → ((z : ℕ) → z < m.geometry.zones → j ≤ zones_before m.geometry id z → zones_before m.geometry id z < j + n → has_run_of m id z ≡ false)
     → filter (of_id id) (runs_in m (zones_from m.geometry (zone_up m.geometry (home_zone m.geometry id) j) n)) ≡ []
-none_first m id ahead j zero is few h = refl
-none_first m id ahead j (suc n) is few h =
+none_between m id j zero within none = refl
+none_between m id j (suc n) within none =
     let g = m.geometry in
     let home = home_zone g id in
     let z = zone_up g home j in
     let low = up_low g home j (home_low g id (omega arith)) (omega arith) in
-    let first : filter (of_id id) (placed z (runs_of m z)) ≡ [] =
-    none_placed id z (runs_of m z) (is z low (subst (λ (k : ℕ). k < ahead) (sym (before_up g id j (omega arith))) (omega arith))) in
+    let at : zones_before g id z ≡ j = before_up g id j (omega arith) in
+    let first : filter (of_id id) (placed z (runs_of m z)) ≡ [] = none_placed id z (runs_of m z) (none z low (omega (arith, at)) (omega (arith, at))) in
     let rest : filter (of_id id) (runs_in m (zones_from g (zone_after g z) n)) ≡ [] =
-    ap (λ (y : ℕ). filter (of_id id) (runs_in m (zones_from g y n))) (sym (up_after g home j)) ∙ none_first m id ahead (suc j) n is few (omega arith) in
+    ap (λ (y : ℕ). filter (of_id id) (runs_in m (zones_from g y n))) (sym (up_after g home j))
+    ∙ none_between m id (suc j) n (omega arith) (λ y in' from to. none y in' (omega (arith, from)) (omega (arith, to))) in
     filter-append (of_id id) (placed z (runs_of m z)) (runs_in m (zones_from g (zone_after g z) n)) ∙ ap₂ (λ (xs ys : List ZoneRun). xs ++ ys) first rest
 
--- a search that begins so many zones further
-pub started_ahead : (m : Map) (id ahead first more : ℕ) (cursor : RunCursor) → cursor.id ≡ id → IsAhead m id ahead → ahead < m.geometry.zones → first ≡ zone_up m.geometry (home_zone m.geometry id) ahead
-    → m.geometry.zones ≡ ahead + suc more → StandsBefore m (placed first (runs_of m first) ++ runs_in m (zones_from m.geometry (zone_after m.geometry first) more)) cursor.walk → StandsAt m (id_runs m id) cursor
-started_ahead m id ahead first more cursor same is few at all stands =
+-- the identifier's runs of zones one after another
+found_in : (m : Map) (id : ℕ) (xs ys : List ℕ) → filter (of_id id) (runs_in m (xs ++ ys)) ≡ filter (of_id id) (runs_in m xs) ++ filter (of_id id) (runs_in m ys)
+found_in m id xs ys = ap (filter (of_id id)) (flat_map-append (λ z. placed z (runs_of m z)) xs ys) ∙ filter-append (of_id id) (runs_in m xs) (runs_in m ys)
+
+-- a search comes to all of them
+all_found : (m : Map) (id : ℕ) (search : Search) → IsSearch m id search
+    → id_runs m id ≡ filter (of_id id) (runs_in m (zones_from m.geometry (zone_up m.geometry (home_zone m.geometry id) search.ahead) (suc search.more)))
+all_found m id search is =
     let g = m.geometry in
     let home = home_zone g id in
-    let order : search_order g id ≡ zones_from g home ahead ++ zones_from g first (suc more) =
-    sym (order_is g id (ahead + more) (omega arith)) ∙ ap (zones_from g home) (let e : suc (ahead + more) ≡ ahead + suc more = omega arith in e)
-    ∙ zones_cut g home ahead (suc more) ∙ ap (λ (y : ℕ). zones_from g home ahead ++ zones_from g y (suc more)) (sym at) in
-    let found : id_runs m id ≡ filter (of_id id) (runs_in m (zones_from g first (suc more))) =
+    let first = zone_up g home search.ahead in
+    let within = is.within in
+    let n = search.ahead + suc search.more in
+    let left = g.zones - n in
+    let order : search_order g id ≡ (zones_from g home search.ahead ++ zones_from g first (suc search.more)) ++ zones_from g (zone_up g home n) left =
+    sym (order_is g id (g.zones - 1) (omega (arith, within))) ∙ ap (zones_from g home) (let e : suc (g.zones - 1) ≡ n + left = omega (arith, within) in e)
+    ∙ zones_cut g home n left ∙ ap (λ (zs : List ℕ). zs ++ zones_from g (zone_up g home n) left) (zones_cut g home search.ahead (suc search.more)) in
+    let before : filter (of_id id) (runs_in m (zones_from g home search.ahead)) ≡ [] =
+    none_between m id 0 search.ahead (omega (arith, within)) (λ z low from to. is.ahead z low (omega (arith, to))) in
+    let after : filter (of_id id) (runs_in m (zones_from g (zone_up g home n) left)) ≡ [] = none_between m id n left (omega (arith, within)) (λ z low from to. is.reach z low (omega (arith, from))) in
+    let here = filter (of_id id) (runs_in m (zones_from g first (suc search.more))) in
     ap (λ (zs : List ℕ). filter (of_id id) (runs_in m zs)) order
-    ∙ ap (filter (of_id id)) (flat_map-append (λ z. placed z (runs_of m z)) (zones_from g home ahead) (zones_from g first (suc more)))
-    ∙ filter-append (of_id id) (runs_in m (zones_from g home ahead)) (runs_in m (zones_from g first (suc more)))
-    ∙ ap (λ (xs : List ZoneRun). xs ++ filter (of_id id) (runs_in m (zones_from g first (suc more)))) (none_first m id ahead 0 ahead is few (omega arith)) in
-    record {
-      all = placed first (runs_of m first) ++ runs_in m (zones_from g (zone_after g first) more);
-      walk = stands;
-      of_id = found ∙ ap (λ (i : ℕ). filter (of_id i) (runs_in m (zones_from g first (suc more)))) (sym same);
-    }
+    ∙ found_in m id (zones_from g home search.ahead ++ zones_from g first (suc search.more)) (zones_from g (zone_up g home n) left)
+    ∙ ap₂ (λ (xs ys : List ZoneRun). xs ++ ys) (found_in m id (zones_from g home search.ahead) (zones_from g first (suc search.more)) ∙ ap (λ (xs : List ZoneRun). xs ++ here) before) after ∙ append-nil here
+
+pub started_search : (m : Map) (id first : ℕ) (search : Search) (walk : Walk) → IsSearch m id search → first ≡ zone_up m.geometry (home_zone m.geometry id) search.ahead → StandsBeforeFirst m id first search.more walk
+    → StandsAt m (id_runs m id) (record { id = id; walk = walk })
+started_search m id first search walk is at stands = record {
+  all = stands.0;
+  walk = stands.1.0;
+  of_id = all_found m id search is ∙ ap (λ (y : ℕ). filter (of_id id) (runs_in m (zones_from m.geometry y (suc search.more)))) (sym at) ∙ sym stands.1.1;
+}
+
+-- where its first run begins
+pub start_there : (m : Map) (id first : ℕ) (search : Search) → IsSearch m id search → first ≡ zone_up m.geometry (home_zone m.geometry id) search.ahead → first < m.geometry.zones → (search.start ≡ 0 → ⊥)
+    → IsFirstIn m id first search.start
+start_there m id first search is at low some =
+    let within = is.within in
+    is.start first low (ap (zones_before m.geometry id) at ∙ before_up m.geometry id search.ahead (omega (arith, within))) some
+
+-- ---- the first run of the identifier in a zone
+
+first_cut : (m : Map) (id z start : ℕ) (first : IsFirstIn m id z start) → (front rest : List Run) × (runs_of m z ≡ front ++ first.run ∷ rest)
+first_cut m id z start first = contains_cut (runs_of m z) first.run first.among
+
+pub first_has : (m : Map) (id z start : ℕ) → IsNewMap m → z < m.geometry.zones → IsFirstIn m id z start → HasRunAt (shape m.geometry z) (sector_of m z) start
+first_has m id z start is low first =
+    let cut = first_cut m id z start first in
+    (first.run, (first.begins, (cut.0, (cut.1, zone_cut m z (cut.0 ++ first.run ∷ cut.1) is low cut.2))))
+
+-- the runs before it are of others
+none_before : (m : Map) (id z start : ℕ) (front rest : List Run) (first : IsFirstIn m id z start) → IsNewMap m → z < m.geometry.zones → runs_of m z ≡ front ++ first.run ∷ rest → any_of id front ≡ false
+none_before m id z start front rest first is low cut = any_none id front (λ run c of_id.
+    let zone = zone_cut m z (front ++ first.run ∷ rest) is low cut in
+    let before = front_before (shape m.geometry z) _ front rest (first_bit z) (end_bit m.geometry z) first.run run zone.spelled c in
+    let all : Contains (runs_of m z) run = subst (λ (runs : List Run). Contains runs run) (sym cut) (Contains-append_left front (first.run ∷ rest) run c) in
+    let least = first.least run all of_id in
+    let begins = first.begins in
+    not_below start run.start least (omega (arith, before, begins)))
+
+pub stands_first : (m : Map) (id z start more : ℕ) (walk : Walk) → IsNewMap m → z < m.geometry.zones → IsFirstIn m id z start
+    → ((front rest : List Run) (run : Run) → runs_of m z ≡ front ++ run ∷ rest → run.start ≡ start
+    → StandsBefore m (placed z (run ∷ rest) ++ runs_in m (zones_from m.geometry (zone_after m.geometry z) more)) walk) → StandsBeforeFirst m id z more walk
+stands_first m id z start more walk is low first stands =
+    let cut = first_cut m id z start first in
+    let here = placed z (first.run ∷ cut.1) in
+    let others = runs_in m (zones_from m.geometry (zone_after m.geometry z) more) in
+    let whole : filter (of_id id) (placed z (runs_of m z)) ≡ filter (of_id id) here =
+    ap (λ (runs : List Run). filter (of_id id) (placed z runs)) cut.2
+    ∙ ap (filter (of_id id)) (map-append (λ (run : Run). let p : ZoneRun = (z, run) in p) cut.0 (first.run ∷ cut.1))
+    ∙ filter-append (of_id id) (placed z cut.0) here
+    ∙ ap (λ (xs : List ZoneRun). xs ++ filter (of_id id) here) (none_placed id z cut.0 (none_before m id z start cut.0 cut.1 first is low cut.2)) in (
+      here ++ others,
+      (
+        stands cut.0 cut.1 first.run cut.2 first.begins,
+        filter-append (of_id id) here others ∙ ap (λ (xs : List ZoneRun). xs ++ filter (of_id id) others) (sym whole) ∙ sym (filter-append (of_id id) (placed z (runs_of m z)) others),
+      ),
+    )
+
+-- ---- the search that a row allows
+
+-- the search comes to fewer zones before one than there are
+pub before_low : (g : Geometry) (id z : ℕ) → z < g.zones → zones_before g id z < g.zones
+before_low g id z low =
+    let home = home_zone g id in
+    let home_in = home_low g id (omega arith) in
+    elim (cases_lt z home) [
+      | inl less ↦ subst (λ (n : ℕ). n < g.zones) (sym (ap (λ (b : Bool). cond b (z - home) (g.zones - home + z)) (lt-leb home z less))) (omega arith)
+      | inr more ↦ subst (λ (n : ℕ). n < g.zones) (sym (ap (λ (b : Bool). cond b (z - home) (g.zones - home + z)) (le-leb home z more))) (omega arith)
+    ]
+
+pub row_search : (m : Map) (id : ℕ) (row : IdTally) (search : Search) (last : ℕ) → last + 1 ≡ m.geometry.zones → IsRow m id row → search.ahead ≤ row.ahead → search.ahead + search.more ≤ last
+    → (search.ahead + search.more < last → row.reach ≤ search.ahead + search.more + 1) → ((search.start ≡ 0 → ⊥) → (search.ahead ≡ row.ahead) × (search.start ≡ row.start)) → IsSearch m id search
+row_search m id row search last all is ahead within reach start = record {
+  within = omega arith;
+  ahead = λ z low less. is.ahead z low (omega (arith, less));
+  reach = λ z low more.
+      elim (cases_lt (search.ahead + search.more) last) [
+        | inl early ↦ is.reach z low (omega (arith, more, reach early))
+        | inr late ↦ absurd (not_below (search.ahead + search.more + 1) (zones_before m.geometry id z) more (omega (arith, before_low m.geometry id z low)))
+      ];
+  start = λ z low e some.
+      (let known = start some in
+      subst (IsFirstIn m id z) (sym known.1) (is.start z low (e ∙ known.0) (λ none. some (known.1 ∙ none))));
+}
+
+pub whole_search : (m : Map) (id last : ℕ) → last + 1 ≡ m.geometry.zones → IsSearch m id (record { ahead = 0; more = last; start = 0 })
+whole_search m id last all = record {
+  within = omega arith;
+  ahead = λ z low less. absurd (omega (arith, less));
+  reach = λ z low more. absurd (not_below (last + 1) (zones_before m.geometry id z) (omega (arith, more)) (omega (arith, before_low m.geometry id z low)));
+  start = λ z low e some. absurd (some refl);
+}

@@ -59,17 +59,17 @@ range_in from (suc n) s e =
 
 -- ---- sectors of places
 
-pub contains_here : (p : ZoneRun) (places : List ZoneRun) → Contains (p ∷ places) p
-contains_here p places = (0, omega arith, refl)
+pub contains_here : {X : Type 0} (x : X) (xs : List X) → Contains (x ∷ xs) x
+contains_here x xs = (0, omega arith, refl)
 
-pub contains_later : (p : ZoneRun) (places : List ZoneRun) (q : ZoneRun) → Contains places q → Contains (p ∷ places) q
-contains_later p places q (k, h, e) = (suc k, omega arith, e)
+pub contains_later : {X : Type 0} (x : X) (xs : List X) (y : X) → Contains xs y → Contains (x ∷ xs) y
+contains_later x xs y (k, h, e) = (suc k, omega arith, e)
 
-pub contains_cases : (x : ZoneRun) (xs : List ZoneRun) (y : ZoneRun) → Contains (x ∷ xs) y → Result (x ≡ y) (Contains xs y)
+pub contains_cases : {X : Type 0} (x : X) (xs : List X) (y : X) → Contains (x ∷ xs) y → Result (x ≡ y) (Contains xs y)
 contains_cases x xs y (zero, h, e) = Ok e
 contains_cases x xs y (suc k, h, e) = Err (k, omega arith, e)
 
-pub contains_none : (y : ZoneRun) → Contains [] y → ⊥
+pub contains_none : {X : Type 0} (y : X) → Contains [] y → ⊥
 contains_none y (k, h, e) = omega arith
 
 pub holder_of : (g : Geometry) (places : List ZoneRun) (s : ℕ) → is_in (sectors_of g places) s ≡ true → (p : ZoneRun) × (Contains places p × HoldsSector g p s)

@@ -1,13 +1,13 @@
 -- The tally of a map's runs, and what edits make of it.
-use Rattle.std.proofs.Common.{◌≡◌, ◌<◌, ◌≤◌, ℕ, zero, suc, ◌+◌, ◌-◌, ◌*◌, ◌^◌, Bool, true, false, cond, Option, Some, None, List, [], ◌∷◌, ◌++◌, length, replicate, set, refl, sym, ap, ap₂, subst, ◌∙◌, inl, inr, arith, eq-eqb, min}
-use Rattle.std.specs.Prelude.{◌||◌, Contains, Ok, Err, filter, sum_by}
-use Rattle.std.specs.List.{list_any, range_with_len}
+use Rattle.std.proofs.Common.{◌≡◌, ◌<◌, ◌≤◌, ℕ, zero, suc, ◌+◌, ◌-◌, ◌*◌, ◌^◌, Bool, true, false, cond, Option, Some, None, List, [], ◌∷◌, ◌++◌, length, replicate, set, refl, sym, ap, ap₂, subst, ◌∙◌, inl, inr, arith, eq-eqb}
+use Rattle.std.specs.Prelude.{◌⊎◌, Contains, Ok, Err, filter, sum_by}
+use Rattle.std.specs.List.{range_with_len}
 use Rattle.std.specs.Option.{IfSome, option_map, unwrap_or}
 use Rattle.std.specs.Global.{Vec}
 use Rattle.std.proofs.Math.Nat.{pow-le-pow_right}
-use Rattle.std.proofs.lemmas.Bool.{eqb-true, cases_eq, ne_eqb, cases_lt}
+use Rattle.std.proofs.lemmas.Bool.{cases_eq, ne_eqb, cases_lt}
 use Rattle.std.proofs.lemmas.List.{append_assoc, append-nil, get_or-replicate, get_or_past, get_or-set_other, get_or-set_same, length-replicate, length-set, map-append}
-use Rattle.std.proofs.lemmas.List.Elements.{Contains-append_cases}
+use Rattle.std.proofs.lemmas.List.Elements.{Contains-append_cases, Contains-append_left, Contains-append_right}
 use Rattle.std.proofs.lemmas.List.Sums.{sum_by-append, sum_by-cons}
 use Rattle.fc_record.specs.declared.Geometry.{Geometry}
 use Rattle.fc_record.specs.Record.{first_bit, end_bit}
@@ -23,12 +23,13 @@ use Rattle.fc_newmap.specs.Map.{Map, ZoneRun, all_runs, bits_in, has_id, home_zo
 use Rattle.fc_newmap.specs.Edits.{IsEdit, KeepsRuns, MergesIn, RelabelsIn, SplitsIn}
 use Rattle.fc_newmap.specs.NewMap.{IsNewMap, IsOfRecord}
 use Rattle.fc_newmap.specs.RunsLaw.{placed}
-use Rattle.fc_newmap.specs.Tally.{HasBits, HasRoom, IsAhead, IsTally, IsTallyOf, counted, has_run_of, no_row, row_of, uncounted, zones_before}
+use Rattle.fc_newmap.specs.Tally.{HasBits, HasRoom, IsRow, IsTally, IsTallyOf, counted, no_row, no_runs, row_less, row_of, row_with, uncounted, zones_before}
 use Rattle.fc_newmap.proofs.ComposeLemmas.{runs_other}
 use Rattle.fc_newmap.proofs.CoverLemmas.{range_cut}
 use Rattle.fc_newmap.proofs.GeometryLemmas.{facts_of_valid}
 use Rattle.fc_newmap.proofs.HeldLemmas.{end_within, geometry_facts, sector_high}
-use Rattle.fc_newmap.proofs.PlaceLemmas.{contains_cases, contains_here, contains_later, contains_none, home_low, id_runs_by_zones, in_range, in_zone}
+use Rattle.fc_newmap.proofs.PlaceLemmas.{contains_cases, contains_here, contains_none, home_low, id_runs_by_zones, in_id_runs, in_range, in_zone, zone_in}
+use Rattle.fc_newmap.proofs.RowLemmas.{Covers, Fits, More, RunsOf, contains_placed, covers_cons, covers_edited, covers_nil, covers_none, fits_fewer, fits_kept, fits_more, fits_none, fits_row, more_back, more_there, next_after, not_both, placed_contains, row_fits, spelled_within}
 
 -- ---- sums
 
@@ -223,168 +224,174 @@ idlen_few g of = let facts = facts_of_valid of.0 of.1.0 in subst (λ (h : Geomet
 pub ids_few : (g : Geometry) → IsOfRecord g → 2 ^ g.idlen ≤ 2 ^ 19
 ids_few g of = pow-le-pow_right {n = 2} (omega arith) (idlen_few g of)
 
-counted_long : (g : Geometry) (rows : List IdTally) (z : ℕ) (kind : RunKind) (len : ℕ) → length (counted g rows z kind len) ≡ length rows
-counted_long g rows z Hole len = refl
-counted_long g rows z (Id id) len = length-set rows id (record { bits = (row_of rows id).bits + len; ahead = min (row_of rows id).ahead (zones_before g id z) })
+counted_long : (g : Geometry) (rows : List IdTally) (z : ℕ) (kind : RunKind) (start len : ℕ) → length (counted g rows z kind start len) ≡ length rows
+counted_long g rows z Hole start len = refl
+counted_long g rows z (Id id) start len = length-set rows id (row_with (row_of rows id) (zones_before g id z) start len)
 
-counted_bits : (g : Geometry) (rows : List IdTally) (z : ℕ) (kind : RunKind) (len id : ℕ) → id < length rows → (row_of (counted g rows z kind len) id).bits ≡ (row_of rows id).bits + share id kind len
-counted_bits g rows z Hole len id low = none (row_of rows id).bits
-  where
-    none : (n : ℕ) → n ≡ n + 0
-    none n = omega arith
-counted_bits g rows z (Id k) len id low = elim (cases_eq k id) [
-  | inl same ↦
-      subst (λ (j : ℕ). (row_of (counted g rows z (Id j) len) id).bits ≡ (row_of rows id).bits + share id (Id j) len) (sym same)
-      (ap (λ (r : IdTally). r.bits) (get_or-set_same rows id (record { bits = (row_of rows id).bits + len; ahead = min (row_of rows id).ahead (zones_before g id z) }) no_row low)
-      ∙ sym (ap (λ (b : Bool). (row_of rows id).bits + cond b len 0) (eq-eqb id id refl)))
-  | inr other ↦
-      ap (λ (r : IdTally). r.bits) (get_or-set_other rows k id (record { bits = (row_of rows k).bits + len; ahead = min (row_of rows k).ahead (zones_before g k z) }) no_row (λ h. other (sym h)))
-      ∙ none (row_of rows id).bits
-      ∙ sym (ap (λ (b : Bool). (row_of rows id).bits + cond b len 0) (ne_eqb k id other))
-]
-  where
-    none : (n : ℕ) → n ≡ n + 0
-    none n = omega arith
-
-uncounted_long : (rows : List IdTally) (kind : RunKind) (len : ℕ) → length (uncounted rows kind len) ≡ length rows
-uncounted_long rows Hole len = refl
-uncounted_long rows (Id id) len = length-set rows id (record (row_of rows id) { bits = (row_of rows id).bits - len })
-
-uncounted_bits : (rows : List IdTally) (kind : RunKind) (len id : ℕ) → id < length rows → (row_of (uncounted rows kind len) id).bits ≡ (row_of rows id).bits - share id kind len
-uncounted_bits rows Hole len id low = none (row_of rows id).bits
-  where
-    none : (n : ℕ) → n ≡ n - 0
-    none n = omega arith
-uncounted_bits rows (Id k) len id low = elim (cases_eq k id) [
-  | inl same ↦
-      subst (λ (j : ℕ). (row_of (uncounted rows (Id j) len) id).bits ≡ (row_of rows id).bits - share id (Id j) len) (sym same)
-      (ap (λ (r : IdTally). r.bits) (get_or-set_same rows id (record (row_of rows id) { bits = (row_of rows id).bits - len }) no_row low)
-      ∙ sym (ap (λ (b : Bool). (row_of rows id).bits - cond b len 0) (eq-eqb id id refl)))
-  | inr other ↦
-      ap (λ (r : IdTally). r.bits) (get_or-set_other rows k id (record (row_of rows k) { bits = (row_of rows k).bits - len }) no_row (λ h. other (sym h)))
-      ∙ none (row_of rows id).bits
-      ∙ sym (ap (λ (b : Bool). (row_of rows id).bits - cond b len 0) (ne_eqb k id other))
-]
-  where
-    none : (n : ℕ) → n ≡ n - 0
-    none n = omega arith
-
-counted_ahead : (g : Geometry) (rows : List IdTally) (z : ℕ) (kind : RunKind) (len id k : ℕ) → id < length rows → k < (row_of (counted g rows z kind len) id).ahead
-    → (k < (row_of rows id).ahead) × (has_id id kind ≡ true → k < zones_before g id z)
-counted_ahead g rows z Hole len id k low h = (h, λ e. absurd (cc))
-counted_ahead g rows z (Id j) len id k low h = elim (cases_eq j id) [
-  | inl same ↦ (
-      let row : IdTally = record { bits = (row_of rows id).bits + len; ahead = min (row_of rows id).ahead (zones_before g id z) } in
-      let there : k < (row_of (set rows id row) id).ahead = subst (λ (i : ℕ). k < (row_of (counted g rows z (Id i) len) id).ahead) same h in
-      let is : (row_of (set rows id row) id).ahead ≡ min (row_of rows id).ahead (zones_before g id z) = ap (λ (r : IdTally). r.ahead) (get_or-set_same rows id row no_row low) in
-      let both = less_of_both k (row_of rows id).ahead (zones_before g id z) (subst (λ (n : ℕ). k < n) is there) in
-      (both.0, λ e. both.1))
-  | inr other ↦ (
-      let is = ap (λ (r : IdTally). r.ahead) (get_or-set_other rows j id (record { bits = (row_of rows j).bits + len; ahead = min (row_of rows j).ahead (zones_before g j z) }) no_row (λ e. other (sym e))) in
-      (subst (λ (n : ℕ). k < n) is h, λ e. absurd (other (eqb-true j id e))))
-]
-  where
-    less_of_both : (k a b : ℕ) → k < min a b → (k < a) × (k < b)
-    less_of_both k a b h = (omega arith, omega arith)
-
-uncounted_ahead : (rows : List IdTally) (kind : RunKind) (len id : ℕ) → id < length rows → (row_of (uncounted rows kind len) id).ahead ≡ (row_of rows id).ahead
-uncounted_ahead rows Hole len id low = refl
-uncounted_ahead rows (Id k) len id low = elim (cases_eq k id) [
-  | inl same ↦
-      subst (λ (j : ℕ). (row_of (uncounted rows (Id j) len) id).ahead ≡ (row_of rows id).ahead) (sym same)
-      (ap (λ (r : IdTally). r.ahead) (get_or-set_same rows id (record (row_of rows id) { bits = (row_of rows id).bits - len }) no_row low))
-  | inr other ↦ ap (λ (r : IdTally). r.ahead) (get_or-set_other rows k id (record (row_of rows k) { bits = (row_of rows k).bits - len }) no_row (λ h. other (sym h)))
+-- the row of an identifier, with a run more
+counted_row : (g : Geometry) (rows : List IdTally) (z : ℕ) (kind : RunKind) (start len id : ℕ) → id < length rows
+    → ((has_id id kind ≡ false) × (row_of (counted g rows z kind start len) id ≡ row_of rows id))
+    ⊎ ((has_id id kind ≡ true) × (row_of (counted g rows z kind start len) id ≡ row_with (row_of rows id) (zones_before g id z) start len))
+counted_row g rows z Hole start len id low = inl (refl, refl)
+counted_row g rows z (Id k) start len id low = elim (cases_eq k id) [
+  | inl same ↦ inr (
+    eq-eqb k id same,
+    subst (λ (j : ℕ). row_of (counted g rows z (Id j) start len) id ≡ row_with (row_of rows id) (zones_before g id z) start len) (sym same)
+        (get_or-set_same rows id (row_with (row_of rows id) (zones_before g id z) start len) no_row low),
+  )
+  | inr other ↦ inl (ne_eqb k id other, get_or-set_other rows k id (row_with (row_of rows k) (zones_before g k z) start len) no_row (λ h. other (sym h)))
 ]
 
-not_below : (n : ℕ) → n < n → ⊥
-not_below n h = omega arith
+share_is : (id : ℕ) (kind : RunKind) (len : ℕ) (b : Bool) → has_id id kind ≡ b → share id kind len ≡ cond b len 0
+share_is id kind len b e = ap (λ (c : Bool). cond c len 0) e
 
--- ---- zones with no run of an identifier
-
-abbrev pub any_of : ℕ → List Run → Bool
-any_of id runs = list_any (λ run. has_id id run.kind) runs
-
-pub neither : (a b : Bool) → (a || b) ≡ false → (a ≡ false) × (b ≡ false)
-neither true b e = absurd (cc)
-neither false b e = (refl, e)
-
-none_of_both : (a b : Bool) → a ≡ false → b ≡ false → (a || b) ≡ false
-none_of_both true b e f = absurd (cc)
-none_of_both false b e f = f
-
-any_cut : (id : ℕ) (xs ys : List Run) → any_of id (xs ++ ys) ≡ false → (any_of id xs ≡ false) × (any_of id ys ≡ false)
-any_cut id [] ys e = (refl, e)
-any_cut id (x ∷ xs) ys e =
-    let r = neither (has_id id x.kind) (any_of id (xs ++ ys)) e in
-    let rest = any_cut id xs ys r.1 in
-    (none_of_both (has_id id x.kind) (any_of id xs) r.0 rest.0, rest.1)
-
-any_join : (id : ℕ) (xs ys : List Run) → any_of id xs ≡ false → any_of id ys ≡ false → any_of id (xs ++ ys) ≡ false
-any_join id [] ys e f = f
-any_join id (x ∷ xs) ys e f =
-    let r = neither (has_id id x.kind) (any_of id xs) e in
-    none_of_both (has_id id x.kind) (any_of id (xs ++ ys)) r.0 (any_join id xs ys r.1 f)
-
--- runs of one zone become others, among which are none of an identifier that it had not
-pub none_edited : (m n : Map) (z id : ℕ) (front olds news rest : List Run) → IsEdit m n z → runs_of m z ≡ front ++ (olds ++ rest) → runs_of n z ≡ front ++ (news ++ rest)
-    → (any_of id olds ≡ false → any_of id news ≡ false) → (y : ℕ) → has_run_of m id y ≡ false → has_run_of n id y ≡ false
-none_edited m n z id front olds news rest edit was now keeps y none = elim (cases_eq y z) [
-  | inl same ↦ (
-      let all : any_of id (front ++ (olds ++ rest)) ≡ false = ap (any_of id) (sym was) ∙ subst (λ (k : ℕ). has_run_of m id k ≡ false) same none in
-      let one = any_cut id front (olds ++ rest) all in
-      let two = any_cut id olds rest one.1 in
-      let there = any_join id front (news ++ rest) one.0 (any_join id news rest (keeps two.0) two.1) in
-      subst (λ (k : ℕ). has_run_of n id k ≡ false) (sym same) (ap (any_of id) now ∙ there))
-  | inr other ↦ ap (any_of id) (runs_other m n z y edit other) ∙ none
+counted_bits : (g : Geometry) (rows : List IdTally) (z : ℕ) (kind : RunKind) (start len id : ℕ) → id < length rows → (row_of (counted g rows z kind start len) id).bits ≡ (row_of rows id).bits + share id kind len
+counted_bits g rows z kind start len id low = elim (counted_row g rows z kind start len id low) [
+  | inl other ↦ (let is = ap (λ (r : IdTally). r.bits) other.1 in omega (arith, is, share_is id kind len false other.0))
+  | inr mine ↦ (let is = ap (λ (r : IdTally). r.bits) mine.1 in omega (arith, is, share_is id kind len true mine.0))
 ]
 
--- no run of a zone is of an identifier
-any_none : (id z : ℕ) (runs : List Run) → ((run : Run) → Contains (placed z runs) (z, run) → has_id id run.kind ≡ false) → any_of id runs ≡ false
-any_none id z [] each = refl
-any_none id z (run ∷ runs) each =
-    none_of_both (has_id id run.kind) (any_of id runs) (each run (contains_here (z, run) (placed z runs)))
-    (any_none id z runs (λ other c. each other (contains_later (z, run) (placed z runs) (z, other) c)))
+uncounted_long : (g : Geometry) (rows : List IdTally) (kind : RunKind) (len : ℕ) → length (uncounted g rows kind len) ≡ length rows
+uncounted_long g rows Hole len = refl
+uncounted_long g rows (Id id) len = length-set rows id (row_less g (row_of rows id) len)
+
+-- the row of an identifier, with a run less
+uncounted_row : (g : Geometry) (rows : List IdTally) (kind : RunKind) (len id : ℕ) → id < length rows
+    → ((has_id id kind ≡ false) × (row_of (uncounted g rows kind len) id ≡ row_of rows id))
+    ⊎ ((has_id id kind ≡ true) × (row_of (uncounted g rows kind len) id ≡ row_less g (row_of rows id) len))
+uncounted_row g rows Hole len id low = inl (refl, refl)
+uncounted_row g rows (Id k) len id low = elim (cases_eq k id) [
+  | inl same ↦ inr (
+    eq-eqb k id same,
+    subst (λ (j : ℕ). row_of (uncounted g rows (Id j) len) id ≡ row_less g (row_of rows id) len) (sym same) (get_or-set_same rows id (row_less g (row_of rows id) len) no_row low),
+  )
+  | inr other ↦ inl (ne_eqb k id other, get_or-set_other rows k id (row_less g (row_of rows k) len) no_row (λ h. other (sym h)))
+]
+
+-- it has bits left, or not
+less_none : (g : Geometry) (row : IdTally) (len : ℕ) → row.bits ≡ len → row_less g row len ≡ no_runs g
+less_none g row len e = ap (λ (b : Bool). cond b (no_runs g) (record row { bits = row.bits - len; start = 0 })) (eq-eqb row.bits len e)
+
+less_some : (g : Geometry) (row : IdTally) (len : ℕ) → (row.bits ≡ len → ⊥) → row_less g row len ≡ record row { bits = row.bits - len; start = 0 }
+less_some g row len other = ap (λ (b : Bool). cond b (no_runs g) (record row { bits = row.bits - len; start = 0 })) (ne_eqb row.bits len other)
+
+-- ---- runs have bits
+
+member_low : (p : ZoneRun) (runs : List ZoneRun) → Contains runs p → p.1.len ≤ bits_in runs
+member_low p [] c = absurd (contains_none p c)
+member_low p (q ∷ runs) c =
+    let sum = sum_by-cons (λ (r : ZoneRun). r.1.len) q runs in
+    elim (contains_cases q runs p c) [
+      | Ok here ↦ (let len = ap (λ (r : ZoneRun). r.1.len) here in omega (arith, sum, len))
+      | Err later ↦ omega (arith, sum, member_low p runs later)
+    ]
+
+-- an identifier with a run has bits
+some_bits : (m : Map) (id z : ℕ) (run : Run) → IsNewMap m → z < m.geometry.zones → Contains (runs_of m z) run → has_id id run.kind ≡ true → bits_in (id_runs m id) ≡ 0 → ⊥
+some_bits m id z run is low c of_id none =
+    let facts = geometry_facts m.geometry is.of_record in
+    let all = in_zone m (zone_numbers m.geometry) (z, run) (in_range 0 m.geometry.zones z (omega arith) (omega arith)) (placed_contains z (runs_of m z) run c) in
+    let among = member_low (z, run) (id_runs m id) (in_id_runs m id (z, run) facts.zones all of_id) in
+    let zone = is.right z low in
+    let within = spelled_within (shape m.geometry z) _ (runs_of m z) (first_bit z) (end_bit m.geometry z) run zone.spelled c in
+    omega (arith, among, within.1, none)
 
 -- ---- the pass over all runs
+
+abbrev pub Passed : List ZoneRun → ℕ → Run → Type 0
+Passed runs z run = Contains runs (z, run)
 
 -- these runs are counted
 pub record CountsRuns (m : Map) (runs : List ZoneRun) (rows : List IdTally) : Type 0 where
   pub bits : (id : ℕ) → id < length rows → (row_of rows id).bits ≡ sum_by (bits_of_id id) runs
-  pub ahead : (id : ℕ) → id < length rows → (p : ZoneRun) → Contains runs p → zones_before m.geometry id p.0 < (row_of rows id).ahead → has_id id p.1.kind ≡ false
+  pub fits : (id : ℕ) → id < length rows → Fits m.geometry id (Passed runs) (row_of rows id)
 
-pub none_counted : (m : Map) (n : ℕ) (rows : List IdTally) (none : IdTally) → none.bits ≡ 0 → rows ≡ replicate n none → CountsRuns m [] rows
-none_counted m n rows none zero_bits e = record {
-  bits = λ id low.
-      (let low' : id < n = omega (arith, low, ap length e, length-replicate n none) in
-      ap (λ (r : IdTally). r.bits) (ap (λ (rs : List IdTally). row_of rs id) e ∙ get_or-replicate n id none no_row low') ∙ zero_bits);
-  ahead = λ id low p c h. absurd (contains_none p c);
-}
-
-pub one_counted : (m : Map) (runs : List ZoneRun) (run : ZoneRun) (g : Geometry) (old new : List IdTally) → g ≡ m.geometry → new ≡ counted g old run.0 run.1.kind run.1.len → CountsRuns m runs old
-    → CountsRuns m (runs ++ run ∷ []) new
-one_counted m runs run g old new same e counts = record {
-  bits = λ id low.
-      (let low' : id < length old = omega (arith, low, ap length e, counted_long g old run.0 run.1.kind run.1.len) in
-      omega (arith, ap (λ (rs : List IdTally). (row_of rs id).bits) e, counted_bits g old run.0 run.1.kind run.1.len id low', counts.bits id low', sum_by-append (bits_of_id id) runs (run ∷ []), sum_by-cons (bits_of_id id) run []));
-  ahead = λ id low p c h.
-      (let low' : id < length old = omega (arith, low, ap length e, counted_long g old run.0 run.1.kind run.1.len) in
-      let a = counted_ahead g old run.0 run.1.kind run.1.len id (zones_before m.geometry id p.0) low' (subst (λ (rs : List IdTally). zones_before m.geometry id p.0 < (row_of rs id).ahead) e h) in
-      elim (Contains-append_cases runs (run ∷ []) p c) [
-        | inl before ↦ counts.ahead id low' p before a.0
-        | inr here ↦ elim (contains_cases run [] p here) [
-          | Ok last ↦ newest m g id run p same last (has_id id run.1.kind) refl a.1
-          | Err none ↦ absurd (contains_none p none)
-        ]
-      ]);
+pub none_counted : (m : Map) (n : ℕ) (rows : List IdTally) → rows ≡ replicate n (no_runs m.geometry) → CountsRuns m [] rows
+none_counted m n rows e = record {
+  bits = λ id low. ap (λ (r : IdTally). r.bits) (is id low);
+  fits = λ id low. subst (Fits m.geometry id (Passed [])) (sym (is id low)) (fits_none m.geometry id (Passed []) (λ z run in' c of_id. contains_none (let p : ZoneRun = (z, run) in p) c));
 }
   where
-    newest : (m : Map) (g : Geometry) (id : ℕ) (run p : ZoneRun) → g ≡ m.geometry → run ≡ p → (b : Bool) → has_id id run.1.kind ≡ b
-        → (has_id id run.1.kind ≡ true → zones_before m.geometry id p.0 < zones_before g id run.0) → has_id id p.1.kind ≡ false
-    newest m g id run p same last false is later = ap (λ (q : ZoneRun). has_id id q.1.kind) (sym last) ∙ is
-    newest m g id run p same last true is later =
-        absurd (not_below (zones_before m.geometry id p.0)
-        (subst (λ (q : ZoneRun). zones_before m.geometry id p.0 < zones_before m.geometry id q.0) last
-        (subst (λ (h : Geometry). zones_before m.geometry id p.0 < zones_before h id run.0) same (later is))))
+    is : (id : ℕ) → id < length rows → row_of rows id ≡ no_runs m.geometry
+    is id low =
+        let low' : id < n = omega (arith, low, ap length e, length-replicate n (no_runs m.geometry)) in
+        ap (λ (rs : List IdTally). row_of rs id) e ∙ get_or-replicate n id (no_runs m.geometry) no_row low'
+
+-- the runs that were passed, and one more
+pushed_there : (id : ℕ) (runs : List ZoneRun) (run : ZoneRun) (y : ℕ) → Covers id (More (Passed runs) run.0 run.1 y) (Passed (runs ++ run ∷ []) y)
+pushed_there id runs run y = λ other in' is. (
+  other,
+  (
+    elim in' [
+      | inl old ↦ Contains-append_left runs (run ∷ []) (y, other) old
+      | inr new ↦ Contains-append_right runs (run ∷ []) (y, other)
+          (subst (λ (u : Run). Contains (run ∷ []) (y, u)) (sym new.1) (subst (λ (k : ℕ). Contains (run ∷ []) (k, run.1)) (sym new.0) (contains_here run [])))
+    ],
+    is,
+    omega arith,
+  ),
+)
+
+pushed_back : (id : ℕ) (runs : List ZoneRun) (run : ZoneRun) (y : ℕ) → Covers id (Passed (runs ++ run ∷ []) y) (More (Passed runs) run.0 run.1 y)
+pushed_back id runs run y = λ other c is. (
+  other,
+  (
+    elim (Contains-append_cases runs (run ∷ []) (y, other) c) [
+      | inl old ↦ inl old
+      | inr here ↦ elim (contains_cases run [] (y, other) here) [
+        | Ok last ↦ inr (ap (λ (p : ZoneRun). p.0) (sym last), ap (λ (p : ZoneRun). p.1) (sym last))
+        | Err none ↦ absurd (contains_none (let p : ZoneRun = (y, other) in p) none)
+      ]
+    ],
+    is,
+    omega arith,
+  ),
+)
+
+pushed_none : (id : ℕ) (runs : List ZoneRun) (run : ZoneRun) → has_id id run.1.kind ≡ false → (y : ℕ) → Covers id (Passed (runs ++ run ∷ []) y) (Passed runs y)
+pushed_none id runs run none y = λ other c is. (
+  other,
+  (
+    elim (Contains-append_cases runs (run ∷ []) (y, other) c) [
+      | inl old ↦ old
+      | inr here ↦ elim (contains_cases run [] (y, other) here) [
+        | Ok last ↦ absurd (not_both (has_id id other.kind) is (ap (λ (p : ZoneRun). has_id id p.1.kind) (sym last) ∙ none))
+        | Err none' ↦ absurd (contains_none (let p : ZoneRun = (y, other) in p) none')
+      ]
+    ],
+    is,
+    omega arith,
+  ),
+)
+
+pushed_old : (id : ℕ) (runs : List ZoneRun) (run : ZoneRun) (y : ℕ) → Covers id (Passed runs y) (Passed (runs ++ run ∷ []) y)
+pushed_old id runs run y = λ other c is. (other, (Contains-append_left runs (run ∷ []) (y, other) c, is, omega arith))
+
+one_fits : (m : Map) (runs : List ZoneRun) (run : ZoneRun) (rows : List IdTally) (id : ℕ) → run.0 < m.geometry.zones → id < length rows → Fits m.geometry id (Passed runs) (row_of rows id)
+    → Fits m.geometry id (Passed (runs ++ run ∷ [])) (row_of (counted m.geometry rows run.0 run.1.kind run.1.start run.1.len) id)
+one_fits m runs run rows id zone low fits =
+    let g = m.geometry in
+    let In = Passed (runs ++ run ∷ []) in
+    elim (counted_row g rows run.0 run.1.kind run.1.start run.1.len id low) [
+      | inl other ↦ subst (Fits g id In) (sym other.1) (fits_kept g id (Passed runs) In (row_of rows id) (λ y in'. pushed_old id runs run y) (λ y in'. pushed_none id runs run other.0 y) fits)
+      | inr mine ↦ (
+          let row = row_with (row_of rows id) (zones_before g id run.0) run.1.start run.1.len in
+          subst (Fits g id In) (sym mine.1)
+          (fits_kept g id (More (Passed runs) run.0 run.1) In row (λ y in'. pushed_there id runs run y) (λ y in'. pushed_back id runs run y)
+          (fits_more g id run.0 (Passed runs) (row_of rows id) run.1 zone mine.0 fits run.1.len)))
+    ]
+
+pub one_counted : (m : Map) (runs : List ZoneRun) (run : ZoneRun) (g : Geometry) (old new : List IdTally) → run.0 < m.geometry.zones → g ≡ m.geometry → new ≡ counted g old run.0 run.1.kind run.1.start run.1.len → CountsRuns m runs old
+    → CountsRuns m (runs ++ run ∷ []) new
+one_counted m runs run g old new zone same e counts = record {
+  bits = λ id low.
+      (let low' : id < length old = omega (arith, low, ap length e, counted_long g old run.0 run.1.kind run.1.start run.1.len) in
+      omega (arith, ap (λ (rs : List IdTally). (row_of rs id).bits) e, counted_bits g old run.0 run.1.kind run.1.start run.1.len id low', counts.bits id low', sum_by-append (bits_of_id id) runs (run ∷ []), sum_by-cons (bits_of_id id) run []));
+  fits = λ id low.
+      (let low' : id < length old = omega (arith, low, ap length e, counted_long g old run.0 run.1.kind run.1.start run.1.len) in
+      let is : new ≡ counted m.geometry old run.0 run.1.kind run.1.start run.1.len = e ∙ ap (λ (h : Geometry). counted h old run.0 run.1.kind run.1.start run.1.len) same in
+      subst (λ (rs : List IdTally). Fits m.geometry id (Passed (runs ++ run ∷ [])) (row_of rs id)) (sym is) (one_fits m runs run old id zone low' (counts.fits id low')));
+}
 
 pub walked_on : (passed left rest all : List ZoneRun) (run : ZoneRun) → passed ++ left ≡ all → left ≡ run ∷ rest → (passed ++ run ∷ []) ++ rest ≡ all
 walked_on passed left rest all run so_far e = append_assoc passed (run ∷ []) rest ∙ ap (λ (l : List ZoneRun). passed ++ l) (sym e) ∙ so_far
@@ -411,22 +418,30 @@ has_room m passed left rest run g rows is same so_far e counts = by run.1.kind r
           | inr past ↦ omega (arith, ap (λ (r : IdTally). r.bits) (get_or_past rows id no_row (omega arith)))
         ]
 
+-- the runs of a zone are those of all with its number
+all_there : (m : Map) (id y : ℕ) → y < m.geometry.zones → Covers id (Passed (all_runs m) y) (RunsOf m y)
+all_there m id y low = λ run c is. (run, (contains_placed y (runs_of m y) run (zone_in m (zone_numbers m.geometry) (y, run) c).1, is, omega arith))
+
+all_back : (m : Map) (id y : ℕ) → y < m.geometry.zones → Covers id (RunsOf m y) (Passed (all_runs m) y)
+all_back m id y low = λ run c is. (
+  run,
+  (in_zone m (zone_numbers m.geometry) (y, run) (in_range 0 m.geometry.zones y (omega arith) (omega arith)) (placed_contains y (runs_of m y) run c), is, omega arith),
+)
+
 pub all_counted : (m : Map) (passed left : List ZoneRun) (rows : List IdTally) → IsNewMap m → left ≡ [] → passed ++ left ≡ all_runs m → CountsRuns m passed rows → IsTally m rows
 all_counted m passed left rows is none so_far counts =
     let facts = geometry_facts m.geometry is.of_record in
     let all : passed ≡ all_runs m = sym (append-nil passed) ∙ ap (λ (l : List ZoneRun). passed ++ l) (sym none) ∙ so_far in
-    λ id low. record {
-      bits = counts.bits id low ∙ ap (sum_by (bits_of_id id)) all ∙ all_bits m id facts.zones;
-      ahead = λ z in' h. any_none id z (runs_of m z) (λ run c. counts.ahead id low (z, run)
-          (subst (λ (l : List ZoneRun). Contains l (z, run)) (sym all) (in_zone m (zone_numbers m.geometry) (z, run) (in_range 0 m.geometry.zones z (omega arith) (omega arith)) c)) h);
-    }
+    λ id low.
+    fits_row m id (row_of rows id) (counts.bits id low ∙ ap (sum_by (bits_of_id id)) all ∙ all_bits m id facts.zones)
+    (fits_kept m.geometry id (Passed (all_runs m)) (RunsOf m) (row_of rows id) (all_there m id) (all_back m id)
+    (subst (λ (l : List ZoneRun). Fits m.geometry id (Passed l) (row_of rows id)) all (counts.fits id low)))
 
 -- ---- a tally after an edit
 
--- no zone gets a run of an identifier of which it had none
-pub ahead_kept : (m n : Map) (id k : ℕ) → n.geometry ≡ m.geometry → ((y : ℕ) → has_run_of m id y ≡ false → has_run_of n id y ≡ false) → IsAhead m id k → IsAhead n id k
-ahead_kept m n id k same keeps ahead = λ y low h.
-    keeps y (ahead y (subst (λ (g : Geometry). y < g.zones) same low) (subst (λ (g : Geometry). zones_before g id y < k) same h))
+-- a row that fits after it
+row_after : (m n : Map) (id : ℕ) (row : IdTally) → n.geometry ≡ m.geometry → row.bits ≡ bits_in (id_runs n id) → Fits m.geometry id (RunsOf n) row → IsRow n id row
+row_after m n id row same bits fits = fits_row n id row bits (subst (λ (g : Geometry). Fits g id (RunsOf n) row) (sym same) fits)
 
 -- all runs stay
 pub same_tally : (m n : Map) (tally : Option (Vec IdTally)) → KeepsRuns m n → IsTallyOf tally m → IsTallyOf tally n
@@ -434,10 +449,12 @@ same_tally m n None keeps is = tt
 same_tally m n (Some rows) keeps is = λ id low. (
     let facts = geometry_facts m.geometry keeps.was.of_record in
     let old = is id low in
-    record {
-      bits = old.bits ∙ ap bits_in (sym (id_runs_by_zones m n id keeps.geometry facts.zones (λ z h. ap (λ (rs : List Run). filter (λ p. has_id id p.1.kind) (placed z rs)) (keeps.runs z))));
-      ahead = ahead_kept m n id (row_of rows.items id).ahead keeps.geometry (λ y none. ap (any_of id) (keeps.runs y) ∙ none) old.ahead;
-    })
+    row_after m n id (row_of rows.items id) keeps.geometry
+    (old.bits ∙ ap bits_in (sym (id_runs_by_zones m n id keeps.geometry facts.zones (λ z h. ap (λ (rs : List Run). filter (λ p. has_id id p.1.kind) (placed z rs)) (keeps.runs z)))))
+    (fits_kept m.geometry id (RunsOf m) (RunsOf n) (row_of rows.items id)
+    (λ z in' run c of_id. (run, (subst (λ (rs : List Run). Contains rs run) (sym (keeps.runs z)) c, of_id, omega arith)))
+    (λ z in' run c of_id. (run, (subst (λ (rs : List Run). Contains rs run) (keeps.runs z) c, of_id, omega arith)))
+    (row_fits m id (row_of rows.items id) old)))
 
 tally_on : (m n : Map) (old new : Option (Vec IdTally)) (f : List IdTally → List IdTally) → option_map (λ (rows : Vec IdTally). rows.items) new ≡ option_map (λ (rows : Vec IdTally). f rows.items) old
     → ((rows : List IdTally) → IsTally m rows → IsTally n (f rows)) → IsTallyOf old m → IsTallyOf new n
@@ -484,34 +501,46 @@ module _ (m n : Map) (z start : ℕ) (edit : IsEdit m n z) (low : z < m.geometry
           | inr past ↦ omega (arith, ap (λ (r : IdTally). r.bits) (get_or_past rows.items id no_row (omega arith)), more, mine, high, zones)
         ]
 
-    label_ahead : (g : Geometry) (rows : List IdTally) (k : ℕ) → g ≡ m.geometry → k < length rows → IsAhead m k (row_of rows k).ahead → IsAhead n k (row_of (counted g rows z (Id id) hole.len) k).ahead
-    label_ahead g rows k same in' ahead = λ y low' h.
-        let a = counted_ahead g rows z (Id id) hole.len k (zones_before m.geometry k y) in' (subst (λ (h' : Geometry). zones_before h' k y < (row_of (counted g rows z (Id id) hole.len) k).ahead) edit.geometry h) in
-        let was = ahead y (subst (λ (h' : Geometry). y < h'.zones) edit.geometry low') a.0 in
-        elim (cases_eq y z) [
-          | inl here ↦ by y was here (has_id k (Id id)) refl a.1
-          | inr other ↦ ap (any_of k) (runs_other m n z y edit other) ∙ was
-        ]
-      where
-        by : (y : ℕ) → has_run_of m k y ≡ false → y ≡ z → (b : Bool) → has_id k (Id id) ≡ b → (has_id k (Id id) ≡ true → zones_before m.geometry k y < zones_before g k z) → has_run_of n k y ≡ false
-        by y was here false is later =
-            let r = has.1.2 in
-            let cut = cut_of has.0 r in
-            none_edited m n z k r.0 (has.0 ∷ []) (record has.0 { kind = Id id } ∷ []) r.1.0 edit cut (relabels r.0 r.1.0 has.0 cut has.1.0) (λ e. none_of_both (has_id k (Id id)) false is refl) y was
-        by y was here true is later =
-            absurd (not_below (zones_before m.geometry k y)
-            (subst (λ (x : ℕ). zones_before m.geometry k y < zones_before m.geometry k x) (sym here)
-            (subst (λ (h' : Geometry). zones_before m.geometry k y < zones_before h' k z) same (later is))))
+    -- no run of the others changes
+    label_other : (k : ℕ) (row : IdTally) → has_id k (Id id) ≡ false → Fits m.geometry k (RunsOf m) row → Fits m.geometry k (RunsOf n) row
+    label_other k row other fits =
+        let r = has.1.2 in
+        let cut = cut_of has.0 r in
+        let new : Run = record has.0 { kind = Id id } in
+        let made = relabels r.0 r.1.0 has.0 cut has.1.0 in
+        fits_kept m.geometry k (RunsOf m) (RunsOf n) row
+        (λ y in'. covers_edited k z (runs_of m) (runs_of n) r.0 (has.0 ∷ []) (new ∷ []) r.1.0 (λ u ne. runs_other m n z u edit ne) cut made (covers_none k has.0 (Contains (new ∷ [])) (ap (has_id k) has.1.1)) y)
+        (λ y in'. covers_edited k z (runs_of n) (runs_of m) r.0 (new ∷ []) (has.0 ∷ []) r.1.0 (λ u ne. sym (runs_other m n z u edit ne)) made cut (covers_none k new (Contains (has.0 ∷ [])) other) y)
+        fits
 
-    pub label_tally : (g : Geometry) (old new : Option (Vec IdTally)) → g ≡ m.geometry → option_map (λ (rows : Vec IdTally). rows.items) new ≡ option_map (λ (rows : Vec IdTally). counted g rows.items z (Id id) hole.len) old
+    label_mine : (k : ℕ) (row : IdTally) → has_id k (Id id) ≡ true → Fits m.geometry k (RunsOf m) row → Fits m.geometry k (RunsOf n) (row_with row (zones_before m.geometry k z) hole.start hole.len)
+    label_mine k row mine fits =
+        let r = has.1.2 in
+        let cut = cut_of has.0 r in
+        let new : Run = record has.0 { kind = Id id } in
+        let made = relabels r.0 r.1.0 has.0 cut has.1.0 in
+        let others : (u : ℕ) → (u ≡ z → ⊥) → runs_of n u ≡ runs_of m u = λ u ne. runs_other m n z u edit ne in
+        let start : has.0.start ≡ hole.start = ap (λ (u : Run). u.start) (sym (is r.0 r.1.0 has.0 cut has.1.0)) in
+        subst (λ (s : ℕ). Fits m.geometry k (RunsOf n) (row_with row (zones_before m.geometry k z) s hole.len)) start
+        (fits_kept m.geometry k (More (RunsOf m) z new) (RunsOf n) (row_with row (zones_before m.geometry k z) new.start hole.len)
+        (λ y in'. more_there k z (runs_of m) (runs_of n) r.0 r.1.0 has.0 new others cut made (ap (has_id k) has.1.1) mine y)
+        (λ y in'. more_back k z (runs_of m) (runs_of n) r.0 r.1.0 has.0 new others cut made y)
+        (fits_more m.geometry k z (RunsOf m) row new low mine fits hole.len))
+
+    label_fits : (rows : List IdTally) (k : ℕ) → k < length rows → Fits m.geometry k (RunsOf m) (row_of rows k) → Fits m.geometry k (RunsOf n) (row_of (counted m.geometry rows z (Id id) hole.start hole.len) k)
+    label_fits rows k in' fits = elim (counted_row m.geometry rows z (Id id) hole.start hole.len k in') [
+      | inl other ↦ subst (Fits m.geometry k (RunsOf n)) (sym other.1) (label_other k (row_of rows k) other.0 fits)
+      | inr mine ↦ subst (Fits m.geometry k (RunsOf n)) (sym mine.1) (label_mine k (row_of rows k) mine.0 fits)
+    ]
+
+    pub label_tally : (g : Geometry) (old new : Option (Vec IdTally)) → g ≡ m.geometry → option_map (λ (rows : Vec IdTally). rows.items) new ≡ option_map (λ (rows : Vec IdTally). counted g rows.items z (Id id) hole.start hole.len) old
         → IsTallyOf old m → IsTallyOf new n
-    label_tally g old new same e = tally_on m n old new (λ rows. counted g rows z (Id id) hole.len) e (λ rows tallied k in'.
-        let in'' : k < length rows = omega (arith, in', counted_long g rows z (Id id) hole.len) in
+    label_tally g old new same e = tally_on m n old new (λ rows. counted g rows z (Id id) hole.start hole.len) e (λ rows tallied k in'.
+        let in'' : k < length rows = omega (arith, in', counted_long g rows z (Id id) hole.start hole.len) in
         let row = tallied k in'' in
-        record {
-          bits = omega (arith, counted_bits g rows z (Id id) hole.len k in'', row.bits, bits_more k);
-          ahead = label_ahead g rows k same in'' row.ahead;
-        })
+        let fits = label_fits rows k in'' (row_fits m k (row_of rows k) row) in
+        row_after m n k (row_of (counted g rows z (Id id) hole.start hole.len) k) edit.geometry (omega (arith, counted_bits g rows z (Id id) hole.start hole.len k in'', row.bits, bits_more k))
+        (subst (λ (h : Geometry). Fits m.geometry k (RunsOf n) (row_of (counted h rows z (Id id) hole.start hole.len) k)) (sym same) fits))
 
   -- a run becomes a hole
   module _ (run : Run) (has : HasRunAt (shape m.geometry z) (sector_of m z) start) (is : IsRunFrom m z start run) (relabels : RelabelsIn m n z start Hole) where
@@ -529,19 +558,61 @@ module _ (m n : Map) (z start : ℕ) (edit : IsEdit m n z) (low : z < m.geometry
             let mine : share id run.kind run.len ≡ run.len = ap (λ (q : RunKind). share id q run.len) k ∙ ap (λ (b : Bool). cond b run.len 0) (eq-eqb id id refl) in
             omega (arith, row.bits, mine, bits_less id)
 
-    pub release_tally : (old new : Option (Vec IdTally)) → option_map (λ (rows : Vec IdTally). rows.items) new ≡ option_map (λ (rows : Vec IdTally). uncounted rows.items run.kind run.len) old
-        → IsTallyOf old m → IsTallyOf new n
-    release_tally old new e = tally_on m n old new (λ rows. uncounted rows run.kind run.len) e (λ rows tallied k in'.
-        let in'' : k < length rows = omega (arith, in', uncounted_long rows run.kind run.len) in
-        let row = tallied k in'' in
+    -- no run is new
+    release_back : (k y : ℕ) → Covers k (RunsOf n y) (RunsOf m y)
+    release_back k =
         let r = has.1.1 in
         let cut = cut_of has.0 r in
-        record {
-          bits = omega (arith, uncounted_bits rows run.kind run.len k in'', row.bits, bits_less k);
-          ahead = subst (IsAhead n k) (sym (uncounted_ahead rows run.kind run.len k in''))
-              (ahead_kept m n k (row_of rows k).ahead edit.geometry
-              (none_edited m n z k r.0 (has.0 ∷ []) (record has.0 { kind = Hole } ∷ []) r.1.0 edit cut (relabels r.0 r.1.0 has.0 cut has.1.0) (λ e. refl)) row.ahead);
-        })
+        let hole : Run = record has.0 { kind = Hole } in
+        covers_edited k z (runs_of n) (runs_of m) r.0 (hole ∷ []) (has.0 ∷ []) r.1.0 (λ u ne. sym (runs_other m n z u edit ne)) (relabels r.0 r.1.0 has.0 cut has.1.0) cut (covers_none k hole (Contains (has.0 ∷ [])) refl)
+
+    -- no run of the others goes
+    release_there : (k y : ℕ) → has_id k run.kind ≡ false → Covers k (RunsOf m y) (RunsOf n y)
+    release_there k y other =
+        let r = has.1.1 in
+        let cut = cut_of has.0 r in
+        let hole : Run = record has.0 { kind = Hole } in
+        let same : has_id k has.0.kind ≡ has_id k run.kind = ap (λ (u : Run). has_id k u.kind) (sym (is r.0 r.1.0 has.0 cut has.1.0)) in
+        covers_edited k z (runs_of m) (runs_of n) r.0 (has.0 ∷ []) (hole ∷ []) r.1.0 (λ u ne. runs_other m n z u edit ne) cut (relabels r.0 r.1.0 has.0 cut has.1.0) (covers_none k has.0 (Contains (hole ∷ [])) (same ∙ other)) y
+
+    release_mine : (k : ℕ) (row : IdTally) → has_id k run.kind ≡ true → IsRow m k row → Fits m.geometry k (RunsOf n) (row_less m.geometry row run.len)
+    release_mine k row mine says = elim (cases_eq row.bits run.len) [
+      | inl last ↦ (
+          let none : bits_in (id_runs n k) ≡ 0 = (let bits = says.bits in omega (arith, bits, bits_less k, share_is k run.kind run.len true mine, last)) in
+          subst (Fits m.geometry k (RunsOf n)) (sym (less_none m.geometry row run.len last))
+          (fits_none m.geometry k (RunsOf n) (λ y other in' c of_id. some_bits n k y other edit.map (subst (λ (g : Geometry). y < g.zones) (sym edit.geometry) in') c of_id none)))
+      | inr more ↦ (
+          let less : IdTally = record row { bits = row.bits - run.len; start = 0 } in
+          subst (Fits m.geometry k (RunsOf n)) (sym (less_some m.geometry row run.len more))
+          (fits_fewer m.geometry k (RunsOf m) (RunsOf n) row less refl refl refl (λ y in'. release_back k y) (row_fits m k row says)))
+    ]
+
+    release_fits : (rows : List IdTally) (k : ℕ) → k < length rows → IsRow m k (row_of rows k) → Fits m.geometry k (RunsOf n) (row_of (uncounted m.geometry rows run.kind run.len) k)
+    release_fits rows k in' says = elim (uncounted_row m.geometry rows run.kind run.len k in') [
+      | inl other ↦ subst (Fits m.geometry k (RunsOf n)) (sym other.1)
+          (fits_kept m.geometry k (RunsOf m) (RunsOf n) (row_of rows k) (λ y low'. release_there k y other.0) (λ y low'. release_back k y) (row_fits m k (row_of rows k) says))
+      | inr mine ↦ subst (Fits m.geometry k (RunsOf n)) (sym mine.1) (release_mine k (row_of rows k) mine.0 says)
+    ]
+
+    less_bits : (rows : List IdTally) (k : ℕ) → k < length rows → IsRow m k (row_of rows k) → (row_of (uncounted m.geometry rows run.kind run.len) k).bits ≡ bits_in (id_runs n k)
+    less_bits rows k in' says = elim (uncounted_row m.geometry rows run.kind run.len k in') [
+      | inl other ↦ (let bits = says.bits in omega (arith, ap (λ (r : IdTally). r.bits) other.1, bits, bits_less k, share_is k run.kind run.len false other.0))
+      | inr mine ↦ (
+          let bits = says.bits in
+          let is' = ap (λ (r : IdTally). r.bits) mine.1 in
+          elim (cases_eq (row_of rows k).bits run.len) [
+            | inl last ↦ (let now = ap (λ (r : IdTally). r.bits) (less_none m.geometry (row_of rows k) run.len last) in omega (arith, is', now, bits, bits_less k, share_is k run.kind run.len true mine.0))
+            | inr more ↦ (let now = ap (λ (r : IdTally). r.bits) (less_some m.geometry (row_of rows k) run.len more) in omega (arith, is', now, bits, bits_less k, share_is k run.kind run.len true mine.0))
+          ])
+    ]
+
+    pub release_tally : (g : Geometry) (old new : Option (Vec IdTally)) → g ≡ m.geometry → option_map (λ (rows : Vec IdTally). rows.items) new ≡ option_map (λ (rows : Vec IdTally). uncounted g rows.items run.kind run.len) old
+        → IsTallyOf old m → IsTallyOf new n
+    release_tally g old new same e = tally_on m n old new (λ rows. uncounted g rows run.kind run.len) e (λ rows tallied k in'.
+        let in'' : k < length rows = omega (arith, in', uncounted_long g rows run.kind run.len) in
+        let row = tallied k in'' in
+        subst (λ (h : Geometry). IsRow n k (row_of (uncounted h rows run.kind run.len) k)) (sym same)
+        (row_after m n k (row_of (uncounted m.geometry rows run.kind run.len) k) edit.geometry (less_bits rows k in'' row) (release_fits rows k in'' row)))
 
   -- a run is cut in two
   pub split_tally : (len : ℕ) (tally : Option (Vec IdTally)) → HasRunToSplit (shape m.geometry z) (sector_of m z) start len → SplitsIn m n z start len → IsTallyOf tally m → IsTallyOf tally n
@@ -553,27 +624,39 @@ module _ (m n : Map) (z start : ℕ) (edit : IsEdit m n z) (low : z < m.geometry
       let row = tallied k in' in
       let cut = cut_of has.0 r in
       let here = subst (λ (s : ℕ). SplitsIn m n z s len) (sym has.1.0) splits in
-      let two : List Run = record has.0 { len = len } ∷ record has.0 { start = has.0.start + len; len = has.0.len - len } ∷ [] in
-      let b = has_id k has.0.kind in
-      record {
-        bits = row.bits ∙ sym (bits_split m n z k len r.0 r.1.0 has.0 edit low cut (omega (arith, room)) here);
-        ahead = ahead_kept m n k (row_of rows.items k).ahead edit.geometry
-            (none_edited m n z k r.0 (has.0 ∷ []) two r.1.0 edit cut (here r.0 r.1.0 has.0 cut refl) (λ e. none_of_both b (b || false) ((neither b false e).0) e)) row.ahead;
-      }
+      let made = here r.0 r.1.0 has.0 cut refl in
+      let one : Run = record has.0 { len = len } in
+      let two : Run = record has.0 { start = has.0.start + len; len = has.0.len - len } in
+      let there : Covers k (Contains (has.0 ∷ [])) (Contains (one ∷ two ∷ [])) =
+      covers_cons k has.0 [] (Contains (one ∷ two ∷ [])) (λ is. (one, (contains_here one (two ∷ []), is, omega arith))) (covers_nil k (Contains (one ∷ two ∷ []))) in
+      let back : Covers k (Contains (one ∷ two ∷ [])) (Contains (has.0 ∷ [])) =
+      covers_cons k one (two ∷ []) (Contains (has.0 ∷ [])) (λ is. (has.0, (contains_here has.0 [], is, omega arith)))
+      (covers_cons k two [] (Contains (has.0 ∷ [])) (λ is. (has.0, (contains_here has.0 [], is, omega arith))) (covers_nil k (Contains (has.0 ∷ [])))) in
+      row_after m n k (row_of rows.items k) edit.geometry (row.bits ∙ sym (bits_split m n z k len r.0 r.1.0 has.0 edit low cut (omega (arith, room)) here))
+      (fits_kept m.geometry k (RunsOf m) (RunsOf n) (row_of rows.items k)
+      (λ y low'. covers_edited k z (runs_of m) (runs_of n) r.0 (has.0 ∷ []) (one ∷ two ∷ []) r.1.0 (λ u ne. runs_other m n z u edit ne) cut made there y)
+      (λ y low'. covers_edited k z (runs_of n) (runs_of m) r.0 (one ∷ two ∷ []) (has.0 ∷ []) r.1.0 (λ u ne. sym (runs_other m n z u edit ne)) made cut back y)
+      (row_fits m k (row_of rows.items k) row))
 
   -- two runs are joined
   pub merge_tally : (tally : Option (Vec IdTally)) → HasRunsToMerge (shape m.geometry z) (sector_of m z) start → MergesIn m n z start → IsTallyOf tally m → IsTallyOf tally n
   merge_tally None has merges tallied = tt
   merge_tally (Some rows) has merges tallied = λ k in'.
       let r = has.4 in
-      let cut = runs_of_zone (shape m.geometry z) (sector_of m z) (r.0 ++ has.0 ∷ has.1 ∷ r.1.0) r.1.1 in
+      let zone = r.1.1 in
+      let cut = runs_of_zone (shape m.geometry z) (sector_of m z) (r.0 ++ has.0 ∷ has.1 ∷ r.1.0) zone in
       let row = tallied k in' in
       let here = subst (λ (s : ℕ). MergesIn m n z s) (sym has.2) merges in
-      let all : List Run = record has.0 { len = has.0.len + has.1.len } ∷ [] in
-      let b = has_id k has.0.kind in
-      record {
-        bits = row.bits ∙ sym (bits_merged m n z k r.0 r.1.0 has.0 has.1 edit low cut has.3 here);
-        ahead = ahead_kept m n k (row_of rows.items k).ahead edit.geometry
-            (none_edited m n z k r.0 (has.0 ∷ has.1 ∷ []) all r.1.0 edit cut (here r.0 r.1.0 has.0 has.1 cut refl)
-            (λ e. none_of_both b false ((neither b (has_id k has.1.kind || false) e).0) refl)) row.ahead;
-      }
+      let made = here r.0 r.1.0 has.0 has.1 cut refl in
+      let all : Run = record has.0 { len = has.0.len + has.1.len } in
+      let order = next_after (shape m.geometry z) _ r.0 r.1.0 (first_bit z) (end_bit m.geometry z) has.0 has.1 zone.spelled in
+      let there : Covers k (Contains (has.0 ∷ has.1 ∷ [])) (Contains (all ∷ [])) =
+      covers_cons k has.0 (has.1 ∷ []) (Contains (all ∷ [])) (λ is. (all, (contains_here all [], is, omega arith)))
+      (covers_cons k has.1 [] (Contains (all ∷ [])) (λ is. (all, (contains_here all [], ap (has_id k) has.3 ∙ is, order))) (covers_nil k (Contains (all ∷ [])))) in
+      let back : Covers k (Contains (all ∷ [])) (Contains (has.0 ∷ has.1 ∷ [])) =
+      covers_cons k all [] (Contains (has.0 ∷ has.1 ∷ [])) (λ is. (has.0, (contains_here has.0 (has.1 ∷ []), is, omega arith))) (covers_nil k (Contains (has.0 ∷ has.1 ∷ []))) in
+      row_after m n k (row_of rows.items k) edit.geometry (row.bits ∙ sym (bits_merged m n z k r.0 r.1.0 has.0 has.1 edit low cut has.3 here))
+      (fits_kept m.geometry k (RunsOf m) (RunsOf n) (row_of rows.items k)
+      (λ y low'. covers_edited k z (runs_of m) (runs_of n) r.0 (has.0 ∷ has.1 ∷ []) (all ∷ []) r.1.0 (λ u ne. runs_other m n z u edit ne) cut made there y)
+      (λ y low'. covers_edited k z (runs_of n) (runs_of m) r.0 (all ∷ []) (has.0 ∷ has.1 ∷ []) r.1.0 (λ u ne. sym (runs_other m n z u edit ne)) made cut back y)
+      (row_fits m k (row_of rows.items k) row))

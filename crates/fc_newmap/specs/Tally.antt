@@ -1,18 +1,24 @@
 -- A tally of a map's runs by their identifiers.
-use Rattle.std.specs.Prelude.{◌≡◌, ◌<◌, ◌≤◌, ℕ, ◌+◌, ◌-◌, ◌*◌, nat_le, min, Bool, false, if◌then◌else◌, List, length, slice_index_or, slice_set, Option}
+use Rattle.std.specs.Prelude.{◌≡◌, ◌<◌, ◌≤◌, ℕ, ◌+◌, ◌-◌, ◌*◌, ◌==◌, nat_le, nat_lt, min, max, Bool, true, false, if◌then◌else◌, List, Contains, length, slice_index_or, slice_set, Option}
 use Rattle.std.specs.List.{list_any}
 use Rattle.std.specs.Option.{IfSome}
 use Rattle.std.specs.Global.{Vec}
 use Rattle.fc_record.specs.declared.Geometry.{Geometry}
+use Rattle.fc_zone.specs.declared.Run.{Run}
 use Rattle.fc_zone.specs.declared.RunKind.{RunKind}
 use Rattle.fc_zone.specs.declared.RunKind.TheVariants.{Hole, Id}
 use Rattle.fc_newmap.specs.declared.tally.IdTally.{IdTally}
+use Rattle.fc_newmap.specs.declared.tally.Search.{Search}
 use Rattle.fc_newmap.specs.Map.{Map, bits_in, has_id, home_zone, id_runs, runs_of}
 use Rattle.fc_newmap.specs.NewMap.{IsHeld, map_in}
 
 -- no row
 abbrev pub no_row : IdTally
-no_row = record { bits = 0; ahead = 0 }
+no_row = record { bits = 0; ahead = 0; reach = 0; start = 0 }
+
+-- the row of an identifier without runs
+abbrev pub no_runs : Geometry → IdTally
+no_runs g = record { bits = 0; ahead = g.zones; reach = 0; start = 0 }
 
 -- the row of an identifier
 abbrev pub row_of : List IdTally → ℕ → IdTally
@@ -31,11 +37,34 @@ has_run_of m id z = list_any (λ run. has_id id run.kind) (runs_of m z)
 abbrev pub IsAhead : Map → ℕ → ℕ → Type 0
 IsAhead m id n = (z : ℕ) → z < m.geometry.zones → zones_before m.geometry id z < n → has_run_of m id z ≡ false
 
+-- After so many zones the search for the identifier comes to none of its runs.
+abbrev pub IsReach : Map → ℕ → ℕ → Type 0
+IsReach m id n = (z : ℕ) → z < m.geometry.zones → n ≤ zones_before m.geometry id z → has_run_of m id z ≡ false
+
+-- Among these runs the first of the identifier begins at `start`.
+pub record IsFirst (id : ℕ) (In : Run → Type 0) (start : ℕ) : Type 0 where
+  pub run : Run
+  pub among : In run
+  pub of_id : has_id id run.kind ≡ true
+  pub begins : run.start ≡ start
+  pub least : (other : Run) → In other → has_id id other.kind ≡ true → start ≤ other.start
+
+-- In this zone the first run of the identifier begins at `start`.
+abbrev pub IsFirstIn : Map → ℕ → ℕ → ℕ → Type 0
+IsFirstIn m id z start = IsFirst id (Contains (runs_of m z)) start
+
+-- In the zone after so many zones of the search the first run of the identifier begins at `start`, if that isn't 0.
+abbrev pub IsStart : Map → ℕ → ℕ → ℕ → Type 0
+IsStart m id n start =
+    (z : ℕ) → z < m.geometry.zones → zones_before m.geometry id z ≡ n → (start ≡ 0 → ⊥) → IsFirstIn m id z start
+
 -- The row says what is so of its identifier.
 pub record IsRow (m : Map) (id : ℕ) (row : IdTally) : Type 0 where
   -- the bits of all its runs
   pub bits : row.bits ≡ bits_in (id_runs m id)
   pub ahead : IsAhead m id row.ahead
+  pub reach : IsReach m id row.reach
+  pub start : IsStart m id row.ahead row.start
 
 -- The rows are those of identifiers from 0 on.
 abbrev pub IsTally : Map → List IdTally → Type 0
@@ -50,18 +79,44 @@ pub record IsTallied (g : Geometry) (bytes : List ℕ) (counts : Option (Vec IdT
   pub held : IsHeld g bytes
   pub tally : IsTallyOf counts (map_in g bytes)
 
+-- ---- searches
+
+-- A search that begins and ends so comes to all runs of the identifier.
+pub record IsSearch (m : Map) (id : ℕ) (search : Search) : Type 0 where
+  pub within : search.ahead + search.more < m.geometry.zones
+  pub ahead : IsAhead m id search.ahead
+  pub reach : IsReach m id (search.ahead + search.more + 1)
+  pub start : IsStart m id search.ahead search.start
+
 -- ---- edits
 
+-- where the first run begins, with a run more that begins at `start` in a zone after `before` zones of the search
+abbrev pub first_start : IdTally → ℕ → ℕ → ℕ
+first_start row before start =
+    if nat_lt before row.ahead then start else if before == row.ahead then min row.start start else row.start
+
+-- a row with such a run more
+abbrev pub row_with : IdTally → ℕ → ℕ → ℕ → IdTally
+row_with row before start len = record {
+  bits = row.bits + len;
+  ahead = min row.ahead before;
+  reach = max row.reach (before + 1);
+  start = first_start row before start;
+}
+
 -- the rows with a run more, of this kind and in zone z
-abbrev pub counted : Geometry → List IdTally → ℕ → RunKind → ℕ → List IdTally
-counted g rows z Hole len = rows
-counted g rows z (Id id) len =
-    slice_set rows id (record { bits = (row_of rows id).bits + len; ahead = min (row_of rows id).ahead (zones_before g id z) })
+abbrev pub counted : Geometry → List IdTally → ℕ → RunKind → ℕ → ℕ → List IdTally
+counted g rows z Hole start len = rows
+counted g rows z (Id id) start len = slice_set rows id (row_with (row_of rows id) (zones_before g id z) start len)
+
+-- a row with a run less
+abbrev pub row_less : Geometry → IdTally → ℕ → IdTally
+row_less g row len = if row.bits == len then no_runs g else record row { bits = row.bits - len; start = 0 }
 
 -- the rows with a run less
-abbrev pub uncounted : List IdTally → RunKind → ℕ → List IdTally
-uncounted rows Hole len = rows
-uncounted rows (Id id) len = slice_set rows id (record (row_of rows id) { bits = (row_of rows id).bits - len })
+abbrev pub uncounted : Geometry → List IdTally → RunKind → ℕ → List IdTally
+uncounted g rows Hole len = rows
+uncounted g rows (Id id) len = slice_set rows id (row_less g (row_of rows id) len)
 
 -- The row of a run's identifier has room for its bits.
 abbrev pub HasRoom : Geometry → List IdTally → RunKind → ℕ → Type 0

@@ -7,7 +7,7 @@ use Rattle.fc_zone.specs.declared.Run.{Run}
 use Rattle.fc_zone.specs.Cursor.{StandsBetween}
 use Rattle.fc_newmap.specs.declared.walk.Walk.{Walk}
 use Rattle.fc_newmap.specs.declared.runs.RunCursor.{RunCursor}
-use Rattle.fc_newmap.specs.Map.{Map, ZoneRun, has_id, is_hole, runs_in, sector_of, shape}
+use Rattle.fc_newmap.specs.Map.{Map, ZoneRun, has_id, is_hole, runs_in, runs_of, sector_of, shape}
 use Rattle.fc_newmap.specs.RunsLaw.{placed}
 
 -- the zone above zone z, or zone 0 above the last
@@ -62,6 +62,12 @@ pub record StandsAt (m : Map) (left : List ZoneRun) (cursor : RunCursor) : Type 
   pub all : List ZoneRun
   pub walk : StandsBefore m all cursor.walk
   pub of_id : left ≡ filter (λ p. has_id cursor.id p.1.kind) all
+
+-- The walk stands before all runs of the identifier in zone z and in `more` zones after it.
+abbrev pub StandsBeforeFirst : Map → ℕ → ℕ → ℕ → Walk → Type 0
+StandsBeforeFirst m id z more walk =
+    (left : List ZoneRun) × (StandsBefore m left walk × (filter (λ p. has_id id p.1.kind) left
+    ≡ filter (λ p. has_id id p.1.kind) (placed z (runs_of m z) ++ runs_in m (zones_from m.geometry (zone_after m.geometry z) more))))
 
 -- so many zones come after zone z in a search that begins at zone `home`
 abbrev pub IsBehind : Geometry → ℕ → ℕ → ℕ → Type 0

@@ -140,7 +140,7 @@ impl NewMap {
         let size = self.geometry.sector as usize;
         let hole = self.run_from(z, start);
         fc_zone::label(&mut self.zones[from..from + size], &shape, start, id);
-        count(&mut self.tally, &self.geometry, z, id, hole.len);
+        count(&mut self.tally, &self.geometry, z, id, hole);
     }
 
     /// Turns the run of a zone that begins at `start` into a hole, and joins it with none.
@@ -156,7 +156,7 @@ impl NewMap {
         let size = self.geometry.sector as usize;
         let run = self.run_from(z, start);
         fc_zone::release(&mut self.zones[from..from + size], &shape, start);
-        uncount(&mut self.tally, run.kind, run.len);
+        uncount(&mut self.tally, &self.geometry, run.kind, run.len);
     }
 
     /// Cuts the run of a zone that begins at `start` into two of its kind, the first of `len` bits. Both parts have at least

@@ -3,16 +3,19 @@
 ghost use Rattle.std.specs.Prelude.{◌≡◌, ◌<◌, ◌++◌, ◌∷◌, [], List, Contains, IfSome, MatchOption, OnSome, slice_get};
 ghost use Rattle.fc_newmap.specs.Map.{ZoneRun, has_id, home_zone, id_runs};
 ghost use Rattle.fc_newmap.specs.NewMap.{IsNewMap, IsOfRecord};
-ghost use Rattle.fc_newmap.specs.Walk.{IsBehind, zone_up};
+ghost use Rattle.fc_newmap.specs.Tally.{IsFirstIn};
+ghost use Rattle.fc_newmap.specs.Walk.{IsBehind, StandsBeforeFirst, zone_up};
 
 use crate::NewMap;
+use crate::tally::Search;
 use crate::walk::Walk;
 use fc_record::Geometry;
 use fc_zone::{Run, RunKind};
 
 /// A place between two runs of an identifier, for a walk over all of them that can stop early. It costs a pass over
-/// the words of the zones that it comes to, and begins in the zone in which the identifier's runs are looked for
-/// first, or after zones that are known by the map's tally to have none.
+/// the words of the zones that it comes to. It begins in the zone in which the identifier's runs are looked for first,
+/// and comes to all zones. With a tally of the map it begins at the identifier's first run, if that is known, or else
+/// in the first zone that can have one, and ends in the last that can.
 ///
 /// It borrows nothing, and is right as long as the map's runs stay as they are.
 #[derive(Clone, Copy, Debug)]
@@ -74,6 +77,20 @@ fn has_id(id: u32, kind: RunKind) -> bool
     }
 }
 
+// Before the runs of an identifier in the zone in which its search begins, and in the zones after it.
+fn before_first(map: &NewMap, id: u32, z: u16, search: Search) -> Walk
+    requires map { IsNewMap map.now }
+    requires zone { z < map.now.geometry.zones }
+    requires start { (search.start ≡ 0 → ⊥) → IsFirstIn map.now id z search.start }
+    ensures { StandsBeforeFirst map.now id z search.more result }
+{
+    if search.start == 0 {
+        Walk::from_zone(map, z, search.more)
+    } else {
+        Walk::at_run(map, z, search.start, search.more)
+    }
+}
+
 impl RunCursor {
     ghost use Rattle.fc_newmap.specs.Walk.{IsInZone, StandsAt, bits_left};
 
@@ -83,9 +100,9 @@ impl RunCursor {
         ensures map { IsNewMap map.now }
     {
         let g = map.geometry();
-        let ahead = map.ahead(id);
-        let first = zone_up(g, home_zone(g, id), ahead);
-        let walk = Walk::from_zone(map, first, g.zones - 1 - ahead);
+        let search = map.search(id);
+        let first = zone_up(g, home_zone(g, id), search.ahead);
+        let walk = before_first(map, id, first, search);
         RunCursor { id, walk }
     }
 

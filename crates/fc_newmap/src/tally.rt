@@ -1,12 +1,13 @@
 // A tally of a map's runs by their identifiers, kept while the map is edited.
 
-ghost use Rattle.std.specs.Prelude.{◌≡◌, ◌<◌, ◌^◌, IfOk, IfSome};
+ghost use Rattle.std.specs.Prelude.{◌≡◌, ◌<◌, ◌≤◌, ◌+◌, ◌^◌, false, IfOk, IfSome, IsFalse};
 ghost use Rattle.std.specs.Option.{option_map};
 ghost use Rattle.fc_zone.specs.declared.RunKind.TheVariants.{Id};
 ghost use Rattle.fc_record.specs.Record.{id_limit};
-ghost use Rattle.fc_newmap.specs.Map.{bits_in, id_runs};
+ghost use Rattle.std.specs.List.{list_any};
+ghost use Rattle.fc_newmap.specs.Map.{bits_in, has_id, id_runs, runs_of};
 ghost use Rattle.fc_newmap.specs.NewMap.{IsOfRecord};
-ghost use Rattle.fc_newmap.specs.Tally.{HasBits, HasRoom, IsAhead, IsRow, IsTally, counted, uncounted, zones_before};
+ghost use Rattle.fc_newmap.specs.Tally.{HasBits, HasRoom, IsRow, IsSearch, IsTally, counted, first_start, no_runs, row_less, uncounted, zones_before};
 
 use crate::NewMap;
 use crate::runs::home_zone;
@@ -16,13 +17,28 @@ use fc_record::Geometry;
 use fc_zone::{Run, RunKind};
 use std::alloc::Global;
 
-/// What the runs of one identifier come to.
+/// What the runs of one identifier come to, and in which zones they are.
 #[derive(Clone, Copy)]
 pub struct IdTally {
     /// The bits of all of them.
     pub bits: u32,
     /// So many zones at the beginning of the search for the identifier have none of them. There can be more such zones.
     pub ahead: u16,
+    /// The zones from this one on, in the order of the search, have none of them. There can be more such zones.
+    pub reach: u16,
+    /// Where the first of them begins in the zone after those of `ahead`, or 0 if that isn't known.
+    pub start: u32,
+}
+
+/// Where a search for the runs of an identifier begins, and how far it goes.
+#[derive(Clone, Copy)]
+pub struct Search {
+    /// So many zones at its beginning have none of them.
+    pub ahead: u16,
+    /// It comes to so many zones after its first. The zones after those have none of them.
+    pub more: u16,
+    /// Where the first of them begins in its first zone, or 0 if that isn't known.
+    pub start: u32,
 }
 
 /// The identifiers of objects are below it. A tally reaches as far.
@@ -50,18 +66,45 @@ fn zones_before(g: &Geometry, id: u32, z: u16) -> u16
     }
 }
 
+// The row of an identifier without runs.
+fn no_runs(g: &Geometry) -> IdTally
+    ensures { result ≡ no_runs g.now }
+{
+    IdTally {
+        bits: 0,
+        ahead: g.zones,
+        reach: 0,
+        start: 0,
+    }
+}
+
+// Where the first run begins, with a run more that begins at `start` in a zone after `before` zones of the search.
+fn first_start(row: IdTally, before: u16, start: u32) -> u32
+    ensures { result ≡ first_start row before start }
+{
+    if before < row.ahead {
+        start
+    } else if before == row.ahead {
+        row.start.min(start)
+    } else {
+        row.start
+    }
+}
+
 // Counts a run of an identifier, if the rows reach so far.
-fn count_in(rows: &mut Vec<IdTally>, g: &Geometry, z: u16, id: u32, len: u32)
+fn count_in(rows: &mut Vec<IdTally>, g: &Geometry, z: u16, id: u32, run: Run)
     requires record { IsOfRecord g.now }
     requires zone { z < g.now.zones }
-    requires room { HasRoom g.now rows.old.items (Id id) len }
-    ensures { rows.new.items ≡ counted g.now rows.old.items z (Id id) len }
+    requires room { HasRoom g.now rows.old.items (Id id) run.len }
+    ensures { rows.new.items ≡ counted g.now rows.old.items z (Id id) run.start run.len }
 {
     let before = zones_before(g, id, z);
     if let Some(row) = rows.get_mut(id as usize) {
         *row = IdTally {
-            bits: row.bits + len,
+            bits: row.bits + run.len,
             ahead: row.ahead.min(before),
+            reach: row.reach.max(before + 1),
+            start: first_start(*row, before, run.start),
         };
     }
 }
@@ -71,42 +114,58 @@ fn count_run(rows: &mut Vec<IdTally>, g: &Geometry, z: u16, run: Run)
     requires record { IsOfRecord g.now }
     requires zone { z < g.now.zones }
     requires room { HasRoom g.now rows.old.items run.kind run.len }
-    ensures { rows.new.items ≡ counted g.now rows.old.items z run.kind run.len }
+    ensures { rows.new.items ≡ counted g.now rows.old.items z run.kind run.start run.len }
 {
     if let RunKind::Id(id) = run.kind {
-        count_in(rows, g, z, id, run.len);
+        count_in(rows, g, z, id, run);
     }
 }
 
-/// Counts a new run of an identifier, if there is a tally.
-pub fn count(tally: &mut Option<Vec<IdTally>>, g: &Geometry, z: u16, id: u32, len: u32)
+/// Counts a run that becomes one of an identifier, if there is a tally.
+pub fn count(tally: &mut Option<Vec<IdTally>>, g: &Geometry, z: u16, id: u32, run: Run)
     requires record { IsOfRecord g.now }
     requires zone { z < g.now.zones }
-    requires room { IfSome tally.old (λ rows. HasRoom g.now rows.items (Id id) len) }
-    ensures { option_map (λ rows. rows.items) tally.new ≡ option_map (λ rows. counted g.now rows.items z (Id id) len) tally.old }
+    requires room { IfSome tally.old (λ rows. HasRoom g.now rows.items (Id id) run.len) }
+    ensures { option_map (λ rows. rows.items) tally.new ≡ option_map (λ rows. counted g.now rows.items z (Id id) run.start run.len) tally.old }
 {
     if let Some(rows) = tally {
-        count_in(rows, g, z, id, len);
+        count_in(rows, g, z, id, run);
+    }
+}
+
+// A row with a run less. Which of the others is the first isn't known.
+fn row_less(g: &Geometry, row: IdTally, len: u32) -> IdTally
+    requires { len ≤ row.bits }
+    ensures { result ≡ row_less g.now row len }
+{
+    if row.bits == len {
+        no_runs(g)
+    } else {
+        IdTally {
+            bits: row.bits - len,
+            start: 0,
+            ..row
+        }
     }
 }
 
 // Counts a run of an identifier no more, if the rows reach so far.
-fn uncount_in(rows: &mut Vec<IdTally>, id: u32, len: u32)
+fn uncount_in(rows: &mut Vec<IdTally>, g: &Geometry, id: u32, len: u32)
     requires { HasBits rows.old.items (Id id) len }
-    ensures { rows.new.items ≡ uncounted rows.old.items (Id id) len }
+    ensures { rows.new.items ≡ uncounted g.now rows.old.items (Id id) len }
 {
     if let Some(row) = rows.get_mut(id as usize) {
-        row.bits -= len;
+        *row = row_less(g, *row, len);
     }
 }
 
 /// Counts a run that is gone no more, if there is a tally.
-pub fn uncount(tally: &mut Option<Vec<IdTally>>, kind: RunKind, len: u32)
+pub fn uncount(tally: &mut Option<Vec<IdTally>>, g: &Geometry, kind: RunKind, len: u32)
     requires { IfSome tally.old (λ rows. HasBits rows.items kind len) }
-    ensures { option_map (λ rows. rows.items) tally.new ≡ option_map (λ rows. uncounted rows.items kind len) tally.old }
+    ensures { option_map (λ rows. rows.items) tally.new ≡ option_map (λ rows. uncounted g.now rows.items kind len) tally.old }
 {
     if let (Some(rows), RunKind::Id(id)) = (tally, kind) {
-        uncount_in(rows, id, len);
+        uncount_in(rows, g, id, len);
     }
 }
 
@@ -115,16 +174,34 @@ pub fn tally_of(alloc: Global, map: &NewMap) -> Result<Vec<IdTally>, NoMemory>
     ensures { IfOk result (λ rows. IsTally map.now rows.items) }
 {
     let g = map.geometry();
-    let none = IdTally {
-        bits: 0,
-        ahead: g.zones,
-    };
-    let mut rows = vec![in alloc; none; id_limit(g) as usize]?;
+    let mut rows = vec![in alloc; no_runs(g); id_limit(g) as usize]?;
     let mut walk = Walk::over_all(map);
     while let Some((z, run)) = walk.next(map) {
         count_run(&mut rows, g, z, run);
     }
     Ok(rows)
+}
+
+// The search that a row allows, over zones the last of which comes after `last` others.
+fn search_by(row: IdTally, last: u16) -> Search
+    ensures ahead { result.ahead ≤ row.ahead }
+    ensures within { result.ahead + result.more ≤ last }
+    ensures reach { result.ahead + result.more < last → row.reach ≤ result.ahead + result.more + 1 }
+    ensures start { (result.start ≡ 0 → ⊥) → (result.ahead ≡ row.ahead) × (result.start ≡ row.start) }
+{
+    if row.ahead > last {
+        return Search {
+            ahead: last,
+            more: 0,
+            start: 0,
+        };
+    }
+    let end = row.reach.saturating_sub(1).min(last);
+    Search {
+        ahead: row.ahead,
+        more: end.saturating_sub(row.ahead),
+        start: row.start,
+    }
 }
 
 impl NewMap {
@@ -136,16 +213,31 @@ impl NewMap {
         rows.get(id as usize).copied()
     }
 
-    // So many zones at the beginning of the search for an identifier are known to have none of its runs; never all.
-    pub(crate) fn ahead(&self, id: u32) -> u16
-        ensures none { IsAhead self.now id result }
-        ensures low { result < self.now.geometry.zones }
+    /// The search for the runs of an identifier: the shortest that the map's tally allows, and else all zones.
+    pub(crate) fn search(&self, id: u32) -> Search
+        ensures { IsSearch self.now id result }
     {
         let last = self.geometry().zones - 1;
         match self.row(id) {
-            Some(row) => row.ahead.min(last),
-            None => 0,
+            Some(row) => search_by(row, last),
+            None => Search {
+                ahead: 0,
+                more: last,
+                start: 0,
+            },
         }
+    }
+
+    /// Whether a zone can have runs of an identifier, as far as the map's tally tells. Costs no search.
+    pub fn may_have(&self, id: u32, z: u16) -> bool
+        requires { z < self.now.geometry.zones }
+        ensures { IsFalse result → list_any (λ run. has_id id run.kind) (runs_of self.now z) ≡ false }
+    {
+        let Some(row) = self.row(id) else {
+            return true;
+        };
+        let before = zones_before(self.geometry(), id, z);
+        row.ahead <= before && before < row.reach
     }
 
     /// Makes the tally of the runs of all identifiers, in one pass over the runs, unless there is one. If memory is short,

@@ -1,7 +1,8 @@
-use Rattle.std.proofs.Common.{◌++◌, ◌∷◌, [], subst, sym, refl, ap}
+use Rattle.std.proofs.Common.{◌++◌, ◌∷◌, [], ◌∙◌, replicate, subst, sym, refl, ap}
 use Rattle.fc_record.specs.declared.Geometry.{Geometry}
 use Rattle.fc_newmap.specs.Map.{ZoneRun, all_runs}
 use Rattle.fc_newmap.specs.NewMap.{IsOfRecord}
+use Rattle.fc_newmap.specs.Tally.{no_runs}
 use Rattle.fc_newmap.proofs.TallyLemmas.{all_counted, has_room, none_counted, one_counted, walked_on}
 use Rattle.fc_newmap.proofs.tally.tally_of.Goals as goal
 
@@ -14,7 +15,7 @@ loop-z-init c = (
   all_runs c.args.map.now,
   c.over_all-walk.ensures.stands,
   refl,
-  none_counted c.args.map.now _ c.in_ok-rows.rows.items (record { bits = 0; ahead = c.geometry-g.result.now.zones }) refl (c.in_ok-rows.ensures.items_if_clones_equal (λ y e. e)),
+  none_counted c.args.map.now _ c.in_ok-rows.rows.items (c.in_ok-rows.ensures.items_if_clones_equal (λ y e. e) ∙ ap (replicate _) (c.no_runs.ensures ∙ ap no_runs c.geometry-g.ensures.value)),
 )
 
 pub count_run-requires-clause-record : goal.count_run-requires-clause-record
@@ -37,7 +38,7 @@ loop-z-preserved c =
       step.0,
       step.1.1,
       walked_on so_far.0 so_far.1 step.0 (all_runs c.args.map.now) run so_far.3 step.1.0,
-      one_counted c.args.map.now so_far.0 run c.geometry-g.result.now c.loop-z.rows.items c.count_run.new.rows.items c.geometry-g.ensures.value c.count_run.ensures so_far.4,
+      one_counted c.args.map.now so_far.0 run c.geometry-g.result.now c.loop-z.rows.items c.count_run.new.rows.items c.in-Some.ensures.within.zone c.geometry-g.ensures.value c.count_run.ensures so_far.4,
     )
 
 pub returns : goal.returns

@@ -58,7 +58,7 @@ invariant_of-self c =
     let before = (goal.at.invariant_of-self c).After-release in
     record {
       held = held_by c.self.inside.geometry c.args.self.now c.args.z (lent c.self.inside.geometry c.place_of-from.result c.deref_mut.result.now) c.release.new.b (new_items c.self.inside.geometry c.self.inside.zones c.deref_mut.result.now c.release.new.b c.place_of-from.result) c.shape_of-shape.result w c.shape_of-shape.ensures.value (relabelled c.shape_of-shape.result (lent c.self.inside.geometry c.place_of-from.result c.deref_mut.result.now) c.release.new.b c.args.start Hole req c.release.ensures.runs);
-      tally = release_tally c.args.self.now (edited before) c.args.z c.args.start (is_edit before) c.requires.zone c.run_from-run.result c.requires.run c.run_from-run.ensures.value (has_runs before) c.self.inside.tally c.uncount.new.tally c.uncount.ensures (tally_was before);
+      tally = release_tally c.args.self.now (edited before) c.args.z c.args.start (is_edit before) c.requires.zone c.run_from-run.result c.requires.run c.run_from-run.ensures.value (has_runs before) c.self.inside.geometry c.self.inside.tally c.uncount.new.tally (sym w.geometry) c.uncount.ensures (tally_was before);
     }
 
 pub returns-clause-runs : goal.returns-clause-runs

@@ -1,16 +1,23 @@
-use Rattle.std.proofs.Common.{◌≡◌, ℕ, ◌∙◌, ◌-◌, ap, refl, arith}
+use Rattle.std.proofs.Common.{◌≡◌, ◌<◌, ℕ, ◌∙◌, ap, subst, sym}
 use Rattle.fc_record.specs.declared.Geometry.{Geometry}
 use Rattle.fc_newmap.specs.Map.{Map, home_zone}
 use Rattle.fc_newmap.specs.Walk.{zone_up}
-use Rattle.fc_newmap.proofs.AheadLemmas.{started_ahead}
+use Rattle.fc_newmap.proofs.AheadLemmas.{start_there, started_search}
 use Rattle.fc_newmap.proofs.runs.RunCursor.start.Goals as goal
+use Rattle.fc_newmap.proofs.runs.RunCursor.start.Goals.{After-zone_up-first}
+
+at : (c : After-zone_up-first) → c.zone_up-first.result ≡ zone_up c.args.map.now.geometry (home_zone c.args.map.now.geometry c.args.id) c.search-search.result.ahead
+at c =
+    let m : Map = c.args.map.now in
+    let e = c.geometry-g.ensures.value in
+    c.zone_up-first.ensures.value ∙ ap (λ (g : Geometry). zone_up g c.home_zone.result c.search-search.result.ahead) e
+    ∙ ap (λ (y : ℕ). zone_up m.geometry y c.search-search.result.ahead) (c.home_zone.ensures.value ∙ ap (λ (g : Geometry). home_zone g c.args.id) e)
+
+pub before_first-walk-requires-clause-start : goal.before_first-walk-requires-clause-start
+before_first-walk-requires-clause-start c =
+    let m : Map = c.args.map.now in
+    start_there m c.args.id c.zone_up-first.result c.search-search.result c.search-search.ensures (at (goal.at.before_first-walk-requires-clause-start c).After-zone_up-first) (subst (λ (g : Geometry). c.zone_up-first.result < g.zones) c.geometry-g.ensures.value c.zone_up-first.ensures.low)
 
 pub returns-clause-stands : goal.returns-clause-stands
 returns-clause-stands c =
-    let m : Map = c.args.map.now in
-    let e = c.geometry-g.ensures.value in
-    let zones : c.geometry-g.result.now.zones ≡ m.geometry.zones = ap (λ (g : Geometry). g.zones) e in
-    let at = c.zone_up-first.ensures.value ∙ ap (λ (g : Geometry). zone_up g c.home_zone.result c.ahead-ahead.result) e
-    ∙ ap (λ (y : ℕ). zone_up m.geometry y c.ahead-ahead.result) (c.home_zone.ensures.value ∙ ap (λ (g : Geometry). home_zone g c.args.id) e) in
-    started_ahead m c.args.id c.ahead-ahead.result c.zone_up-first.result (c.geometry-g.result.now.zones - 1 - c.ahead-ahead.result) (record { id = c.args.id; walk = c.from_zone-walk.result }) refl
-    c.ahead-ahead.ensures.none c.ahead-ahead.ensures.low at (omega (arith, zones, c.ahead-ahead.ensures.low)) c.from_zone-walk.ensures.stands
+    started_search c.args.map.now c.args.id c.zone_up-first.result c.search-search.result c.before_first-walk.result c.search-search.ensures (at (goal.at.returns-clause-stands c).After-zone_up-first) c.before_first-walk.ensures

@@ -1,0 +1,413 @@
+-- What a row of a tally says of the places of an identifier's runs, and of which runs it says it still.
+use Rattle.std.proofs.Common.{◌≡◌, ◌<◌, ◌≤◌, ℕ, ◌+◌, ◌-◌, Bool, true, false, cond, List, [], ◌∷◌, ◌++◌, map, refl, sym, ap, subst, ◌∙◌, inl, inr, arith, eq-eqb, min, max}
+use Rattle.std.specs.Prelude.{◌⊎◌, ◌||◌, ◌==◌, Contains, Ok, Err, nat_le}
+use Rattle.std.specs.List.{list_any}
+use Rattle.std.proofs.lemmas.Bool.{cases_Bool, cases_eq, cases_lt, ne_eqb, lt-ltb, le-ltb, le-leb, lt-leb, false_from_ne_true}
+use Rattle.std.proofs.lemmas.List.Elements.{Contains-append_cases, Contains-append_left, Contains-append_right}
+use Rattle.fc_record.specs.declared.Geometry.{Geometry}
+use Rattle.fc_zone.specs.declared.Run.{Run}
+use Rattle.fc_zone.specs.declared.RunKind.{RunKind}
+use Rattle.fc_zone.specs.declared.ZoneShape.{ZoneShape}
+use Rattle.fc_zone.specs.Zone.{Spells}
+use Rattle.fc_zone.proofs.HolderLemmas.{Spells-split}
+use Rattle.fc_newmap.specs.declared.tally.IdTally.{IdTally}
+use Rattle.fc_newmap.specs.Map.{Map, ZoneRun, bits_in, has_id, home_zone, id_runs, runs_of}
+use Rattle.fc_newmap.specs.RunsLaw.{placed}
+use Rattle.fc_newmap.specs.Tally.{IsFirst, IsRow, first_start, has_run_of, no_runs, row_with, zones_before}
+use Rattle.fc_newmap.proofs.PlaceLemmas.{contains_cases, contains_here, contains_later, contains_none, home_low}
+
+-- ---- runs of an identifier among others
+
+abbrev pub any_of : ℕ → List Run → Bool
+any_of id runs = list_any (λ run. has_id id run.kind) runs
+
+pub neither : (a b : Bool) → (a || b) ≡ false → (a ≡ false) × (b ≡ false)
+neither true b e = absurd (cc)
+neither false b e = (refl, e)
+
+none_of_both : (a b : Bool) → a ≡ false → b ≡ false → (a || b) ≡ false
+none_of_both true b e f = absurd (cc)
+none_of_both false b e f = f
+
+pub not_both : (b : Bool) → b ≡ true → b ≡ false → ⊥
+not_both true e f = absurd (cc)
+not_both false e f = absurd (cc)
+
+pub any_none : (id : ℕ) (runs : List Run) → ((run : Run) → Contains runs run → has_id id run.kind ≡ true → ⊥) → any_of id runs ≡ false
+any_none id [] none = refl
+any_none id (run ∷ runs) none =
+    none_of_both (has_id id run.kind) (any_of id runs) (false_from_ne_true (has_id id run.kind) (none run (contains_here run runs)))
+    (any_none id runs (λ other c. none other (contains_later run runs other c)))
+
+pub none_any : (id : ℕ) (runs : List Run) (run : Run) → any_of id runs ≡ false → Contains runs run → has_id id run.kind ≡ true → ⊥
+none_any id [] run none c is = contains_none run c
+none_any id (x ∷ runs) run none c is =
+    let r = neither (has_id id x.kind) (any_of id runs) none in
+    elim (contains_cases x runs run c) [
+      | Ok here ↦ not_both (has_id id run.kind) is (ap (λ (u : Run). has_id id u.kind) (sym here) ∙ r.0)
+      | Err later ↦ none_any id runs run r.1 later is
+    ]
+
+-- each run of the identifier has another among those, which begins no later
+abbrev pub Covers : ℕ → (Run → Type 0) → (Run → Type 0) → Type 0
+Covers id In Those = (run : Run) → In run → has_id id run.kind ≡ true → (other : Run) × (Those other × (has_id id other.kind ≡ true) × (other.start ≤ run.start))
+
+pub first_kept : (id start : ℕ) (In Those : Run → Type 0) → Covers id In Those → Covers id Those In → IsFirst id In start → IsFirst id Those start
+first_kept id start In Those there back first =
+    let one = there first.run first.among first.of_id in
+    let again = back one.0 one.1.0 one.1.1 in
+    let low = first.least again.0 again.1.0 again.1.1 in
+    let begins = first.begins in
+    record {
+      run = one.0;
+      among = one.1.0;
+      of_id = one.1.1;
+      begins = omega (arith, one.1.2, again.1.2, low, begins);
+      least = λ other in' is. (let x = back other in' is in omega (arith, x.1.2, first.least x.0 x.1.0 x.1.1));
+    }
+
+-- ---- what a row says
+
+-- The row says where the identifier has its runs, of which each zone has these.
+pub record Fits (g : Geometry) (id : ℕ) (In : ℕ → Run → Type 0) (row : IdTally) : Type 0 where
+  pub ahead : (z : ℕ) (run : Run) → z < g.zones → In z run → has_id id run.kind ≡ true → row.ahead ≤ zones_before g id z
+  pub reach : (z : ℕ) (run : Run) → z < g.zones → In z run → has_id id run.kind ≡ true → zones_before g id z < row.reach
+  pub start : (z : ℕ) → z < g.zones → zones_before g id z ≡ row.ahead → (row.start ≡ 0 → ⊥) → IsFirst id (In z) row.start
+
+abbrev pub RunsOf : Map → ℕ → Run → Type 0
+RunsOf m z = Contains (runs_of m z)
+
+pub row_fits : (m : Map) (id : ℕ) (row : IdTally) → IsRow m id row → Fits m.geometry id (RunsOf m) row
+row_fits m id row is = record {
+  ahead = λ z run low in' of_id.
+      elim (cases_lt (zones_before m.geometry id z) row.ahead) [
+        | inl less ↦ absurd (none_any id (runs_of m z) run (is.ahead z low less) in' of_id)
+        | inr more ↦ more
+      ];
+  reach = λ z run low in' of_id.
+      elim (cases_lt (zones_before m.geometry id z) row.reach) [
+        | inl less ↦ less
+        | inr more ↦ absurd (none_any id (runs_of m z) run (is.reach z low more) in' of_id)
+      ];
+  start = is.start;
+}
+
+pub not_below : (a b : ℕ) → a ≤ b → b < a → ⊥
+not_below a b h k = omega arith
+
+pub fits_row : (m : Map) (id : ℕ) (row : IdTally) → row.bits ≡ bits_in (id_runs m id) → Fits m.geometry id (RunsOf m) row → IsRow m id row
+fits_row m id row bits fits = record {
+  bits = bits;
+  ahead = λ z low less.
+      any_none id (runs_of m z) (λ run c is. not_below row.ahead (zones_before m.geometry id z) (fits.ahead z run low c is) less);
+  reach = λ z low more.
+      any_none id (runs_of m z) (λ run c is. not_below row.reach (zones_before m.geometry id z) more (fits.reach z run low c is));
+  start = fits.start;
+}
+
+pub fits_none : (g : Geometry) (id : ℕ) (In : ℕ → Run → Type 0) → ((z : ℕ) (run : Run) → z < g.zones → In z run → has_id id run.kind ≡ true → ⊥) → Fits g id In (no_runs g)
+fits_none g id In none = record {
+  ahead = λ z run low in' is. absurd (none z run low in' is);
+  reach = λ z run low in' is. absurd (none z run low in' is);
+  start = λ z low e some. absurd (some refl);
+}
+
+-- other runs in the same zones
+pub fits_kept : (g : Geometry) (id : ℕ) (In Those : ℕ → Run → Type 0) (row : IdTally) → ((z : ℕ) → z < g.zones → Covers id (In z) (Those z)) → ((z : ℕ) → z < g.zones → Covers id (Those z) (In z))
+    → Fits g id In row → Fits g id Those row
+fits_kept g id In Those row there back fits = record {
+  ahead = λ z run low in' is. (let x = back z low run in' is in fits.ahead z x.0 low x.1.0 x.1.1);
+  reach = λ z run low in' is. (let x = back z low run in' is in fits.reach z x.0 low x.1.0 x.1.1);
+  start = λ z low e some. first_kept id row.start (In z) (Those z) (there z low) (back z low) (fits.start z low e some);
+}
+
+-- fewer runs, of which the first isn't known
+pub fits_fewer : (g : Geometry) (id : ℕ) (In Those : ℕ → Run → Type 0) (row less : IdTally) → less.ahead ≡ row.ahead → less.reach ≡ row.reach → less.start ≡ 0
+    → ((z : ℕ) → z < g.zones → Covers id (Those z) (In z)) → Fits g id In row → Fits g id Those less
+fits_fewer g id In Those row less ahead reach start back fits = record {
+  ahead = λ z run low in' is. (let x = back z low run in' is in subst (λ (n : ℕ). n ≤ zones_before g id z) (sym ahead) (fits.ahead z x.0 low x.1.0 x.1.1));
+  reach = λ z run low in' is. (let x = back z low run in' is in subst (λ (n : ℕ). zones_before g id z < n) (sym reach) (fits.reach z x.0 low x.1.0 x.1.1));
+  start = λ z low e some. absurd (some start);
+}
+
+-- ---- a run more
+
+-- the search comes to each zone once
+before_same : (g : Geometry) (id y z : ℕ) → y < g.zones → z < g.zones → zones_before g id y ≡ zones_before g id z → y ≡ z
+before_same g id y z in' low e =
+    let home = home_zone g id in
+    let home_in = home_low g id (omega arith) in
+    elim (cases_lt y home) [
+      | inl y_low ↦ elim (cases_lt z home) [
+        | inl z_low ↦ (let f = sym (below home y y_low) ∙ e ∙ below home z z_low in omega (arith, f))
+        | inr z_high ↦ (let f = sym (below home y y_low) ∙ e ∙ above home z z_high in omega (arith, f))
+      ]
+      | inr y_high ↦ elim (cases_lt z home) [
+        | inl z_low ↦ (let f = sym (above home y y_high) ∙ e ∙ below home z z_low in omega (arith, f))
+        | inr z_high ↦ (let f = sym (above home y y_high) ∙ e ∙ above home z z_high in omega (arith, f))
+      ]
+    ]
+  where
+    below : (home z : ℕ) → z < home → cond (nat_le home z) (z - home) (g.zones - home + z) ≡ g.zones - home + z
+    below home z h = ap (λ (b : Bool). cond b (z - home) (g.zones - home + z)) (lt-leb home z h)
+
+    above : (home z : ℕ) → home ≤ z → cond (nat_le home z) (z - home) (g.zones - home + z) ≡ z - home
+    above home z h = ap (λ (b : Bool). cond b (z - home) (g.zones - home + z)) (le-leb home z h)
+
+-- those runs, and one more in a zone
+abbrev pub More : (ℕ → Run → Type 0) → ℕ → Run → ℕ → Run → Type 0
+More In z run y other = In y other ⊎ ((y ≡ z) × (other ≡ run))
+
+start_before : (row : IdTally) (before start : ℕ) → before < row.ahead → first_start row before start ≡ start
+start_before row before start h =
+    ap (λ (b : Bool). cond b start (cond (before == row.ahead) (min row.start start) row.start)) (lt-ltb before row.ahead h)
+
+start_there : (row : IdTally) (before start : ℕ) → before ≡ row.ahead → first_start row before start ≡ min row.start start
+start_there row before start e =
+    ap (λ (b : Bool). cond b start (cond (before == row.ahead) (min row.start start) row.start)) (le-ltb before row.ahead (omega arith))
+    ∙ ap (λ (b : Bool). cond b (min row.start start) row.start) (eq-eqb before row.ahead e)
+
+start_after : (row : IdTally) (before start : ℕ) → row.ahead < before → first_start row before start ≡ row.start
+start_after row before start h =
+    ap (λ (b : Bool). cond b start (cond (before == row.ahead) (min row.start start) row.start)) (le-ltb before row.ahead (omega arith))
+    ∙ ap (λ (b : Bool). cond b (min row.start start) row.start) (ne_eqb before row.ahead (λ e. omega arith))
+
+module _ (g : Geometry) (id z : ℕ) (In : ℕ → Run → Type 0) (row : IdTally) (run : Run) (low : z < g.zones) (is : has_id id run.kind ≡ true) (fits : Fits g id In row) where
+  -- it is in a zone before all others
+  first_before : zones_before g id z < row.ahead → IsFirst id (More In z run z) run.start
+  first_before less = record {
+    run = run;
+    among = inr (refl, refl);
+    of_id = is;
+    begins = refl;
+    least = λ other in' of_id. elim in' [
+      | inl old ↦ absurd (not_below row.ahead (zones_before g id z) (fits.ahead z other low old of_id) less)
+      | inr new ↦ (let same = ap (λ (u : Run). u.start) new.1 in omega (arith, same))
+    ];
+  }
+
+  -- it is in the zone of the first
+  first_there : IsFirst id (In z) row.start → IsFirst id (More In z run z) (min row.start run.start)
+  first_there first = elim (cases_lt run.start row.start) [
+    | inl less ↦ record {
+      run = run;
+      among = inr (refl, refl);
+      of_id = is;
+      begins = omega arith;
+      least = λ other in' of_id. least other in' of_id;
+    }
+    | inr more ↦ (let begins = first.begins in record {
+      run = first.run;
+      among = inl first.among;
+      of_id = first.of_id;
+      begins = omega (arith, begins);
+      least = λ other in' of_id. least other in' of_id;
+    })
+  ]
+    where
+      least : (other : Run) → More In z run z other → has_id id other.kind ≡ true → min row.start run.start ≤ other.start
+      least other in' of_id = elim in' [
+        | inl old ↦ (let low' = first.least other old of_id in omega (arith, low'))
+        | inr new ↦ (let same = ap (λ (u : Run). u.start) new.1 in omega (arith, same))
+      ]
+
+  -- it is in another zone
+  first_later : (y : ℕ) → (y ≡ z → ⊥) → IsFirst id (In y) row.start → IsFirst id (More In z run y) row.start
+  first_later y other_zone first = record {
+    run = first.run;
+    among = inl first.among;
+    of_id = first.of_id;
+    begins = first.begins;
+    least = λ other in' of_id. elim in' [
+      | inl old ↦ first.least other old of_id
+      | inr new ↦ absurd (other_zone new.0)
+    ];
+  }
+
+  first_more : (y : ℕ) → y < g.zones → zones_before g id y ≡ min row.ahead (zones_before g id z) → (first_start row (zones_before g id z) run.start ≡ 0 → ⊥)
+      → IsFirst id (More In z run y) (first_start row (zones_before g id z) run.start)
+  first_more y y_low e some = elim (cases_lt (zones_before g id z) row.ahead) [
+    | inl less ↦ (
+        let here = before_same g id y z y_low low (e ∙ right_least row.ahead (zones_before g id z) less) in
+        at_zone y here (subst (IsFirst id (More In z run z)) (sym (start_before row (zones_before g id z) run.start less)) (first_before less)))
+    | inr more ↦ elim (cases_eq (zones_before g id z) row.ahead) [
+      | inl same ↦ (
+          let here = before_same g id y z y_low low (e ∙ both_least row.ahead (zones_before g id z) same) in
+          let was : row.start ≡ 0 → ⊥ = λ none. some (start_there row (zones_before g id z) run.start same ∙ ap (λ (n : ℕ). min n run.start) none ∙ least_none run.start) in
+          at_zone y here (subst (IsFirst id (More In z run z)) (sym (start_there row (zones_before g id z) run.start same)) (first_there (fits.start z low same was))))
+      | inr other ↦ (
+          let after : row.ahead < zones_before g id z = above row.ahead (zones_before g id z) more other in
+          let there : zones_before g id y ≡ row.ahead = e ∙ left_least row.ahead (zones_before g id z) more in
+          let start = start_after row (zones_before g id z) run.start after in
+          subst (IsFirst id (More In z run y)) (sym start)
+          (first_later y (λ h. other (ap (zones_before g id) (sym h) ∙ there)) (fits.start y y_low there (λ none. some (start ∙ none)))))
+    ]
+  ]
+    where
+      at_zone : (y : ℕ) {start : ℕ} → y ≡ z → IsFirst id (More In z run z) start → IsFirst id (More In z run y) start
+      at_zone y {start} e first = subst (λ (k : ℕ). IsFirst id (More In z run k) start) (sym e) first
+
+      least_none : (n : ℕ) → min 0 n ≡ 0
+      least_none n = omega arith
+
+      right_least : (a b : ℕ) → b < a → min a b ≡ b
+      right_least a b h = omega arith
+
+      left_least : (a b : ℕ) → a ≤ b → min a b ≡ a
+      left_least a b h = omega arith
+
+      both_least : (a b : ℕ) → b ≡ a → min a b ≡ b
+      both_least a b h = omega arith
+
+      above : (a b : ℕ) → a ≤ b → (b ≡ a → ⊥) → a < b
+      above a b h other = omega arith
+
+  pub fits_more : (len : ℕ) → Fits g id (More In z run) (row_with row (zones_before g id z) run.start len)
+  fits_more len = record {
+    ahead = λ y other y_low in' of_id. elim in' [
+      | inl old ↦ left_low row.ahead (zones_before g id z) (zones_before g id y) (fits.ahead y other y_low old of_id)
+      | inr new ↦ right_low row.ahead (zones_before g id z) (zones_before g id y) (ap (zones_before g id) new.0)
+    ];
+    reach = λ y other y_low in' of_id. elim in' [
+      | inl old ↦ left_high row.reach (zones_before g id z) (zones_before g id y) (fits.reach y other y_low old of_id)
+      | inr new ↦ right_high row.reach (zones_before g id z) (zones_before g id y) (ap (zones_before g id) new.0)
+    ];
+    start = first_more;
+  }
+    where
+      left_low : (a b n : ℕ) → a ≤ n → min a b ≤ n
+      left_low a b n h = omega arith
+
+      right_low : (a b n : ℕ) → n ≡ b → min a b ≤ n
+      right_low a b n h = omega arith
+
+      left_high : (a b n : ℕ) → n < a → n < max a (b + 1)
+      left_high a b n h = omega arith
+
+      right_high : (a b n : ℕ) → n ≡ b → n < max a (b + 1)
+      right_high a b n h = omega arith
+
+-- ---- the runs of one zone change
+
+covers_same : (id : ℕ) (In : Run → Type 0) → Covers id In In
+covers_same id In run in' is = (run, (in', is, omega arith))
+
+pub covers_nil : (id : ℕ) (Those : Run → Type 0) → Covers id (Contains []) Those
+covers_nil id Those = λ other c is. absurd (contains_none other c)
+
+pub covers_cons : (id : ℕ) (run : Run) (runs : List Run) (Those : Run → Type 0) → (has_id id run.kind ≡ true → (other : Run) × (Those other × (has_id id other.kind ≡ true) × (other.start ≤ run.start)))
+    → Covers id (Contains runs) Those → Covers id (Contains (run ∷ runs)) Those
+covers_cons id run runs Those first rest = λ other c is. elim (contains_cases run runs other c) [
+  | Ok here ↦ (
+      let x = first (ap (λ (u : Run). has_id id u.kind) here ∙ is) in
+      (x.0, (x.1.0, x.1.1, subst (λ (u : Run). x.0.start ≤ u.start) here x.1.2)))
+  | Err later ↦ rest other later is
+]
+
+-- a run that isn't one of the identifier
+pub covers_none : (id : ℕ) (run : Run) (Those : Run → Type 0) → has_id id run.kind ≡ false → Covers id (Contains (run ∷ [])) Those
+covers_none id run Those none = covers_cons id run [] Those (λ is. absurd (not_both (has_id id run.kind) is none)) (covers_nil id Those)
+
+covers_mid : (id : ℕ) (front olds news rest : List Run) → Covers id (Contains olds) (Contains news) → Covers id (Contains (front ++ (olds ++ rest))) (Contains (front ++ (news ++ rest)))
+covers_mid id front olds news rest mid run c is = elim (Contains-append_cases front (olds ++ rest) run c) [
+  | inl first ↦ (run, (Contains-append_left front (news ++ rest) run first, is, omega arith))
+  | inr more ↦ elim (Contains-append_cases olds rest run more) [
+    | inl old ↦ (let x = mid run old is in (x.0, (Contains-append_right front (news ++ rest) x.0 (Contains-append_left news rest x.0 x.1.0), x.1.1, x.1.2)))
+    | inr last ↦ (run, (Contains-append_right front (news ++ rest) run (Contains-append_right news rest run last), is, omega arith))
+  ]
+]
+
+pub covers_edited : (id z : ℕ) (was now : ℕ → List Run) (front olds news rest : List Run) → ((y : ℕ) → (y ≡ z → ⊥) → now y ≡ was y) → was z ≡ front ++ (olds ++ rest) → now z ≡ front ++ (news ++ rest)
+    → Covers id (Contains olds) (Contains news) → (y : ℕ) → Covers id (Contains (was y)) (Contains (now y))
+covers_edited id z was now front olds news rest others cut made mid y = elim (cases_eq y z) [
+  | inl here ↦ subst (λ (k : ℕ). Covers id (Contains (was k)) (Contains (now k))) (sym here)
+      (subst (λ (runs : List Run). Covers id (Contains (was z)) (Contains runs)) (sym made)
+      (subst (λ (runs : List Run). Covers id (Contains runs) (Contains (front ++ (news ++ rest)))) (sym cut) (covers_mid id front olds news rest mid)))
+  | inr other ↦ subst (λ (runs : List Run). Covers id (Contains (was y)) (Contains runs)) (sym (others y other)) (covers_same id (Contains (was y)))
+]
+
+-- a run becomes one of the identifier
+module _ (id z : ℕ) (was now : ℕ → List Run) (front rest : List Run) (old new : Run) (others : (y : ℕ) → (y ≡ z → ⊥) → now y ≡ was y) (cut : was z ≡ front ++ old ∷ rest) (made : now z ≡ front ++ new ∷ rest) where
+  pub more_there : has_id id old.kind ≡ false → has_id id new.kind ≡ true → (y : ℕ) → Covers id (More (λ k. Contains (was k)) z new y) (Contains (now y))
+  more_there none of_id y = λ run in' is. elim in' [
+    | inl c ↦ covers_edited id z was now front (old ∷ []) (new ∷ []) rest others cut made (covers_none id old (Contains (new ∷ [])) none) y run c is
+    | inr at ↦ (
+        let there : Contains (front ++ new ∷ rest) new = Contains-append_right front (new ∷ rest) new (contains_here new rest) in
+        let start = ap (λ (u : Run). u.start) at.1 in
+        (new, (subst (λ (k : ℕ). Contains (now k) new) (sym at.0) (subst (λ (runs : List Run). Contains runs new) (sym made) there), of_id, omega (arith, start))))
+  ]
+
+  pub more_back : (y : ℕ) → Covers id (Contains (now y)) (More (λ k. Contains (was k)) z new y)
+  more_back y = λ run c is. (run, (from run y c, is, omega arith))
+    where
+      back : (run : Run) → Contains (front ++ old ∷ rest) run → (y : ℕ) → y ≡ z → Contains (was y) run
+      back run c y here = subst (λ (k : ℕ). Contains (was k) run) (sym here) (subst (λ (runs : List Run). Contains runs run) (sym cut) c)
+
+      from : (run : Run) (y : ℕ) → Contains (now y) run → More (λ k. Contains (was k)) z new y run
+      from run y c = elim (cases_eq y z) [
+        | inl here ↦ elim (Contains-append_cases front (new ∷ rest) run (subst (λ (runs : List Run). Contains runs run) made (subst (λ (k : ℕ). Contains (now k) run) here c))) [
+          | inl first ↦ inl (back run (Contains-append_left front (old ∷ rest) run first) y here)
+          | inr more ↦ elim (contains_cases new rest run more) [
+            | Ok same ↦ inr (here, sym same)
+            | Err last ↦ inl (back run (Contains-append_right front (old ∷ rest) run (contains_later old rest run last)) y here)
+          ]
+        ]
+        | inr other ↦ inl (subst (λ (runs : List Run). Contains runs run) (others y other) c)
+      ]
+
+-- ---- runs one after another
+
+pub spelled_within : (shape : ZoneShape) (bs : List ℕ) (runs : List Run) (at end : ℕ) (run : Run) → Spells shape bs at runs end → Contains runs run → (at ≤ run.start) × (0 < run.len) × (run.start + run.len ≤ end)
+spelled_within shape bs [] at end run h c = absurd (contains_none run c)
+spelled_within shape bs (x ∷ runs) at end run h c = elim (contains_cases x runs run c) [
+  | Ok here ↦ (
+      let long = h.1.long in
+      let first = h.0 in
+      let rest = Spells-ends shape bs runs (at + x.len) end h.3 in
+      let len = ap (λ (u : Run). u.len) here in
+      let start = ap (λ (u : Run). u.start) here in
+      (omega (arith, first, start), omega (arith, long, len), omega (arith, first, start, len, rest)))
+  | Err later ↦ (let r = spelled_within shape bs runs (at + x.len) end run h.3 later in (omega (arith, r.0), r.1, r.2))
+]
+  where
+    Spells-ends : (shape : ZoneShape) (bs : List ℕ) (runs : List Run) (at end : ℕ) → Spells shape bs at runs end → at ≤ end
+    Spells-ends shape bs [] at end h = omega arith
+    Spells-ends shape bs (x ∷ runs) at end h = let rest = Spells-ends shape bs runs (at + x.len) end h.3 in omega (arith, rest)
+
+-- the runs before one begin before it
+pub front_before : (shape : ZoneShape) (bs : List ℕ) (front rest : List Run) (at end : ℕ) (run other : Run) → Spells shape bs at (front ++ run ∷ rest) end → Contains front other → other.start < run.start
+front_before shape bs front rest at end run other h c =
+    let cut = Spells-split shape bs front (run ∷ rest) at end h in
+    let within = spelled_within shape bs front at cut.0 other cut.1 c in
+    let first = cut.2.0 in
+    omega (arith, within.1, within.2, first)
+
+pub next_after : (shape : ZoneShape) (bs : List ℕ) (front rest : List Run) (at end : ℕ) (one two : Run) → Spells shape bs at (front ++ one ∷ two ∷ rest) end → one.start ≤ two.start
+next_after shape bs front rest at end one two h =
+    let cut = Spells-split shape bs front (one ∷ two ∷ rest) at end h in
+    let first = cut.2.0 in
+    let next = cut.2.3.0 in
+    omega (arith, first, next)
+
+pub contains_cut : (runs : List Run) (run : Run) → Contains runs run → (front rest : List Run) × (runs ≡ front ++ run ∷ rest)
+contains_cut [] run c = absurd (contains_none run c)
+contains_cut (x ∷ runs) run c = elim (contains_cases x runs run c) [
+  | Ok here ↦ ([], runs, ap (λ (u : Run). u ∷ runs) here)
+  | Err later ↦ (let r = contains_cut runs run later in (x ∷ r.0, r.1, ap (λ (us : List Run). x ∷ us) r.2))
+]
+
+-- ---- runs with their zones
+
+pub placed_contains : (z : ℕ) (runs : List Run) (run : Run) → Contains runs run → Contains (placed z runs) (z, run)
+placed_contains z [] run c = absurd (contains_none run c)
+placed_contains z (x ∷ runs) run c = elim (contains_cases x runs run c) [
+  | Ok here ↦ subst (λ (u : Run). Contains (placed z (u ∷ runs)) (z, run)) (sym here) (contains_here (let p : ZoneRun = (z, run) in p) (placed z runs))
+  | Err later ↦ contains_later (let p : ZoneRun = (z, x) in p) (placed z runs) (z, run) (placed_contains z runs run later)
+]
+
+pub contains_placed : (z : ℕ) (runs : List Run) (run : Run) → Contains (placed z runs) (z, run) → Contains runs run
+contains_placed z [] run c = absurd (contains_none (let p : ZoneRun = (z, run) in p) c)
+contains_placed z (x ∷ runs) run c = elim (contains_cases (let p : ZoneRun = (z, x) in p) (placed z runs) (z, run) c) [
+  | Ok here ↦ subst (λ (u : Run). Contains (x ∷ runs) u) (ap (λ (p : ZoneRun). p.1) here) (contains_here x runs)
+  | Err later ↦ contains_later x runs run (contains_placed z runs run later)
+]
