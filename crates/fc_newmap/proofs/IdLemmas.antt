@@ -82,10 +82,10 @@ range_cons : (a n : ℕ) → range_with_len a (suc n) ≡ a ∷ range_with_len (
 range_cons a zero = refl
 range_cons a (suc n) = refl
 
-abbrev is_unused : Map → ℕ → Bool
+abbrev pub is_unused : Map → ℕ → Bool
 is_unused m id = not (is_used m id)
 
-unused_step : (m : Map) (id : ℕ) → id < id_limit m.geometry → unused_from m id ≡ cond (is_unused m id) (id ∷ unused_from m (id + 1)) (unused_from m (id + 1))
+pub unused_step : (m : Map) (id : ℕ) → id < id_limit m.geometry → unused_from m id ≡ cond (is_unused m id) (id ∷ unused_from m (id + 1)) (unused_from m (id + 1))
 unused_step m id in' =
     let more : id_limit m.geometry - id ≡ suc (id_limit m.geometry - (id + 1)) = omega arith in
     ap (λ (n : ℕ). filter (is_unused m) (range_with_len id n)) more ∙ ap (filter (is_unused m)) (range_cons id (id_limit m.geometry - (id + 1)))
@@ -98,7 +98,3 @@ unused_later m id in' e = unused_step m id in' ∙ ap (λ (b : Bool). cond (not 
 
 pub unused_none : (m : Map) (id : ℕ) → id_limit m.geometry ≤ id → unused_from m id ≡ []
 unused_none m id past = ap (λ (n : ℕ). filter (is_unused m) (range_with_len id n)) (let e : id_limit m.geometry - id ≡ 0 = omega arith in e)
-
--- the least one comes first, and the others are behind it
-pub unused_behind : (m : Map) (from id : ℕ) (ids : List ℕ) → unused_from m from ≡ ids → unused_from m from ≡ id ∷ unused_from m (id + 1) → ids ≡ id ∷ unused_from m (id + 1)
-unused_behind m from id ids is least = sym is ∙ least

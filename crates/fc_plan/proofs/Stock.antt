@@ -2,13 +2,13 @@
 use Rattle.std.proofs.Common.{◌≡◌, ◌<◌, ◌≤◌, ◌^◌, ℕ, zero, suc, ◌+◌, ◌-◌, Bool, true, false, cond, List, [], ◌∷◌, ◌++◌, drop, get_or, refl, sym, ap, subst, ◌∙◌, arith}
 use Rattle.std.specs.Prelude.{filter, not}
 use Rattle.std.specs.List.{range_with_len}
-use Rattle.std.proofs.Math.Nat.{pow-le-pow_right}
 use Rattle.fc_record.specs.declared.Geometry.{Geometry}
 use Rattle.fc_record.specs.Record.{id_limit}
 use Rattle.fc_newmap.specs.Map.{Map, ZoneRun, is_used}
 use Rattle.fc_newmap.specs.NewMap.{IsOfRecord}
-use Rattle.fc_newmap.proofs.GeometryLemmas.{facts_of_valid}
-use Rattle.fc_plan.specs.Supply.{unused_from}
+use Rattle.fc_newmap.specs.Ids.{unused_from}
+use Rattle.fc_newmap.proofs.IdLemmas.{is_unused, unused_none, unused_step}
+use Rattle.fc_newmap.proofs.TallyLemmas.{ids_few}
 
 -- ---- the holes of a map
 
@@ -16,21 +16,6 @@ pub push_ok : (before now : List ZoneRun) (hole : ZoneRun) (ok failed : Bool) �
 push_ok before now hole ok failed is other none = is ∙ ap (λ (b : Bool). cond b (before ++ hole ∷ []) before) (other ∙ ap not none)
 
 -- ---- what is left behind the first unused identifier
-
-range_cons : (a n : ℕ) → range_with_len a (suc n) ≡ a ∷ range_with_len (a + 1) n
-range_cons a zero = refl
-range_cons a (suc n) = refl
-
-abbrev is_unused : Map → ℕ → Bool
-is_unused m id = not (is_used m id)
-
-unused_step : (m : Map) (id : ℕ) → id < id_limit m.geometry → unused_from m id ≡ cond (is_unused m id) (id ∷ unused_from m (id + 1)) (unused_from m (id + 1))
-unused_step m id low =
-    let more : id_limit m.geometry - id ≡ suc (id_limit m.geometry - (id + 1)) = omega arith in
-    ap (λ (n : ℕ). filter (is_unused m) (range_with_len id n)) more ∙ ap (filter (is_unused m)) (range_cons id (id_limit m.geometry - (id + 1)))
-
-unused_none : (m : Map) (id : ℕ) → id_limit m.geometry ≤ id → unused_from m id ≡ []
-unused_none m id past = ap (λ (n : ℕ). filter (is_unused m) (range_with_len id n)) (let e : id_limit m.geometry - id ≡ 0 = omega arith in e)
 
 unused_on : (m : Map) (n from id : ℕ) (rest : List ℕ) → id_limit m.geometry - from ≡ n → unused_from m from ≡ id ∷ rest → unused_from m (id + 1) ≡ rest
 unused_on m zero from id rest e is = absurd (none_first id rest (sym (unused_none m from (omega arith)) ∙ is))
@@ -51,12 +36,6 @@ unused_behind m now from next id ids is least same =
     first ∙ ap (λ (rest : List ℕ). id ∷ rest) (sym (unused_on now (id_limit now.geometry - next) next id (unused_from m (id + 1)) refl (same ∙ first)))
 
 -- ---- how many identifiers
-
-pub idlen_few : (g : Geometry) → IsOfRecord g → g.idlen ≤ 19
-idlen_few g of = let facts = facts_of_valid of.0 of.1.0 in subst (λ (h : Geometry). h.idlen ≤ 19) of.1.1 facts.idlen_high
-
-pub ids_few : (g : Geometry) → IsOfRecord g → 2 ^ g.idlen ≤ 2 ^ 19
-ids_few g of = pow-le-pow_right {n = 2} (omega arith) (idlen_few g of)
 
 pub limit_few : (g : Geometry) → IsOfRecord g → id_limit g ≤ 524288
 limit_few g of = let few = ids_few g of in let low : id_limit g ≤ 2 ^ g.idlen = omega arith in omega arith

@@ -20,10 +20,6 @@ stock_of m = record { geometry = m.geometry; holes = hole_runs m; ids = new_ids 
 
 -- ---- how it is kept
 
--- the identifiers from one on that no run has
-abbrev pub unused_from : Map → ℕ → List ℕ
-unused_from m from = filter (λ id. not (is_used m id)) (range_with_len from (id_limit m.geometry - from))
-
 -- what a supply has
 pub record IsStocked (g : Geometry) (holes : List ZoneRun) : Type 0 where
   pub of_record : IsOfRecord g

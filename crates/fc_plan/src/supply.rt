@@ -10,7 +10,7 @@ ghost use Rattle.fc_image.specs.effects.Sharing.{units};
 ghost use Rattle.fc_image.specs.safe.FirstFit.{first_fit};
 ghost use Rattle.fc_plan.specs.Parts.{fronts, part_of};
 ghost use Rattle.fc_plan.specs.Plan.{AreFreeRuns, AreParts};
-ghost use Rattle.fc_plan.specs.Supply.{stock_of, unused_from};
+ghost use Rattle.fc_plan.specs.Supply.{stock_of};
 ghost use Rattle.fc_plan.specs.declared.supply.PlanError.TheVariants as errors;
 
 use crate::fitting::first_fitting;
@@ -55,7 +55,8 @@ pub struct Supply<'a> {
 }
 
 impl<'a> Model for Supply<'a> {
-    ghost use Rattle.fc_plan.specs.Supply.{IsStocked, Stock, unused_from};
+    ghost use Rattle.fc_newmap.specs.Ids.{unused_from};
+    ghost use Rattle.fc_plan.specs.Supply.{IsStocked, Stock};
 
     ghost Value = { Stock };
 
@@ -87,16 +88,6 @@ fn holes_of(alloc: Global, map: &NewMap) -> Result<Vec<(u16, Run)>, NoMemory>
         }
     }
     Ok(holes)
-}
-
-// The least identifier from one on that no run has.
-fn next_unused(map: &NewMap, from: u32) -> Option<u32>
-    ensures least { MatchOption result (unused_from map.now from ≡ []) (λ id. unused_from map.now from ≡ id ∷ unused_from map.now (id + 1)) }
-    ensures low { IfSome result (λ id. id < id_limit map.now.geometry) }
-{
-    let _ = map;
-    let _ = from;
-    None
 }
 
 // Parts that are taken from holes, and what they leave.
@@ -201,7 +192,7 @@ impl<'a> Supply<'a> {
         ensures full { IsErrOf result PlanError.DiscFull → (self.old.ids ≡ [] → ⊥) × (bits_in self.old.holes < units self.old.geometry bytes) }
         ensures err { OnErr result (self.new ≡ self.old) }
     {
-        let Some(id) = next_unused(self.map, self.next) else {
+        let Some(id) = self.map.next_unused(self.next) else {
             return Err(PlanError::IdsFull);
         };
         let parts = self.take_parts(alloc, bytes)?;
@@ -238,7 +229,7 @@ impl<'a> Supply<'a> {
         ensures full { IsErrOf result PlanError.DiscFull → (self.old.ids ≡ [] → ⊥) × (first_fit self.old.geometry (units self.old.geometry bytes) self.old.holes ≡ None) }
         ensures err { OnErr result (self.new ≡ self.old) }
     {
-        let Some(id) = next_unused(self.map, self.next) else {
+        let Some(id) = self.map.next_unused(self.next) else {
             return Err(PlanError::IdsFull);
         };
         let parts = self.take_first(alloc, bytes)?;
