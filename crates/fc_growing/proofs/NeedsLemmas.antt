@@ -1,15 +1,16 @@
 -- The space that a growth needs, and how a command is refused for want of it.
-use Rattle.std.proofs.Common.{◌≡◌, ◌<◌, ◌≤◌, ◌+◌, ℕ, Bool, true, false, cond, List, [], ◌∷◌, ◌++◌, length, get_or, refl, sym, ap, ap₂, subst, ◌∙◌, ◌^◌, arith, inl, inr, Some, None, Option, lt-ltb}
-use Rattle.std.specs.Prelude.{not, nat_lt, filter}
+use Rattle.std.proofs.Common.{◌≡◌, ◌<◌, ◌≤◌, ◌+◌, ℕ, Bool, true, false, cond, [], ◌∷◌, length, refl, sym, ap, ap₂, subst, ◌∙◌, ◌^◌, arith, inl, inr, Some, None, Option, lt-ltb}
+use Rattle.std.specs.Prelude.{not, nat_lt}
 use Rattle.std.specs.Option.{option_and_then, option_map_or}
 use Rattle.std.proofs.lemmas.Bool.{le-ltb}
 use Rattle.fc_names.specs.declared.refusal.Refusal.TheVariants as refusals
 use Rattle.fc_record.specs.declared.Geometry.{Geometry}
 use Rattle.fc_record.specs.Record.{id_limit}
-use Rattle.fc_newmap.specs.Map.{Map, ZoneRun, all_runs, bits_in, hole_runs, is_hole}
+use Rattle.fc_newmap.specs.Map.{Map, bits_in, hole_runs}
 use Rattle.fc_newmap.specs.NewMap.{IsNewMap, IsOfRecord}
 use Rattle.fc_newmap.proofs.GeometryLemmas.{facts_of_valid}
 use Rattle.fc_newmap.proofs.HeldLemmas.{geometry_facts}
+use Rattle.fc_newmap.proofs.TallyLemmas.{ids_few}
 use Rattle.fc_model.specs.Answer.{first_of, when}
 use Rattle.fc_model.specs.Command.{Command}
 use Rattle.fc_image.specs.Layout.{Layout}
@@ -18,8 +19,6 @@ use Rattle.fc_image.specs.Objects.{objects_of}
 use Rattle.fc_image.specs.Opening.{Opened}
 use Rattle.fc_image.specs.effects.Sharing.{new_ids, units}
 use Rattle.fc_image.specs.effects.Short.{Growth, has_room, is_alone, moved_growth, needed_bits, needed_ids, object_units, one_if, short, space_reasons}
-use Rattle.fc_plan.specs.Supply.{IsSurvey, marked, unused_from}
-use Rattle.fc_plan.proofs.Stock.{surveyed, unused_here, unused_in_map, unused_later, unused_none}
 use Rattle.fc_plan.proofs.Units.{units_some}
 use Rattle.fc_growing.specs.Needs.{GrowsTo, ShortLaw, bits_for, ids_for, short_of}
 
@@ -110,40 +109,7 @@ module _ (m : Map) (bytes : ℕ) (alone : Bool) (len ids bits : ℕ) (ids_are : 
       short_by
       ∙ ap₂ (λ (a b : Bool). first_of (when a refusals.IdsFull ∷ when b refusals.DiscFull ∷ [])) (le-ltb (length (new_ids m)) ids some) (le-ltb (bits_in (hole_runs m)) bits enough)
 
--- ---- identifiers that are not marked
+-- ---- identifiers
 
--- of those from 3 on, so many before one
-pub record AreCounted (used : List Bool) (id count : ℕ) : Type 0 where
-  pub sum : count + length (unused_from used id) ≡ length (unused_from used 3)
-  pub few : count ≤ id
-
-pub none_counted : (used : List Bool) → AreCounted used 3 0
-none_counted used = record { sum = omega arith; few = omega arith }
-
-pub one_counted : (used : List Bool) (id count : ℕ) → AreCounted used id count → id < length used → get_or used id true ≡ false → AreCounted used (id + 1) (count + 1)
-one_counted used id count so_far low free = record {
-  sum = (let step = ap (λ (ids : List ℕ). length ids) (unused_here used id low free) in let sum = so_far.sum in omega (arith, step, sum));
-  few = (let few = so_far.few in omega (arith, few));
-}
-
-pub one_passed : (used : List Bool) (id count : ℕ) → AreCounted used id count → id < length used → get_or used id true ≡ true → AreCounted used (id + 1) count
-one_passed used id count so_far low taken = record {
-  sum = (let step = ap (λ (ids : List ℕ). length ids) (unused_later used id low taken) in let sum = so_far.sum in omega (arith, step, sum));
-  few = (let few = so_far.few in omega (arith, few));
-}
-
-pub all_counted : (used : List Bool) (id count : ℕ) → AreCounted used id count → length used ≤ id → count ≡ length (unused_from used 3)
-all_counted used id count so_far past =
-    let none = ap (λ (ids : List ℕ). length ids) (unused_none used id past) in let sum = so_far.sum in omega (arith, none, sum)
-
--- ---- a pass that marks alone
-
-pub marked_more : (passed : List ZoneRun) (run : ZoneRun) (used used' : List Bool) → IsSurvey passed (filter (λ p. is_hole p.1.kind) passed) used → used' ≡ marked used run.1.kind
-    → IsSurvey (passed ++ run ∷ []) (filter (λ p. is_hole p.1.kind) (passed ++ run ∷ [])) used'
-marked_more passed run used used' so_far marks =
-    let s = surveyed passed run (filter (λ p. is_hole p.1.kind) passed) used (filter (λ p. is_hole p.1.kind) passed ++ filter (λ p. is_hole p.1.kind) (run ∷ [])) used' so_far refl marks in
-    record { free = refl; marks = s.marks }
-
-pub count_in_map : (m : Map) (used : List Bool) (limit count : ℕ) → IsSurvey (all_runs m) (hole_runs m) used → length used ≡ limit → limit ≡ id_limit m.geometry
-    → count ≡ length (unused_from used 3) → count ≡ length (new_ids m)
-count_in_map m used limit count survey long same count_is = count_is ∙ ap (λ (ids : List ℕ). length ids) (unused_in_map m (hole_runs m) used survey (long ∙ same))
+pub id_few : (g : Geometry) (id : ℕ) → IsOfRecord g → id < id_limit g → id < 2 ^ 19
+id_few g id of low = let few = ids_few g of in let least : id_limit g ≤ 2 ^ g.idlen = omega arith in omega (arith, few, least, low)

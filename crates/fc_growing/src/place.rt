@@ -196,7 +196,7 @@ fn grow_into(
 /// is a copy of it: the file goes, and then an identifier that it shares with the directory alone goes back.
 ///
 /// `IdsFull` if too few identifiers are left, else `DiscFull` if the holes together are too small, exactly as the command
-/// is refused. The map's runs are gone over at most three times, and the owners twice. The map stays as it is.
+/// is refused. The map's runs are gone over at most twice, if it has a tally, and the owners twice. The map stays as it is.
 pub fn plan_growth(
     alloc: Global,
     places: &Places,
@@ -216,10 +216,10 @@ pub fn plan_growth(
     let room = room_for(alloc, places, map, owners, dir, address, len)?;
     let alone = is_alone(owners, dir, address);
     let Some(place) = room else {
-        check_space(alloc, map, bytes, alone, len)?;
+        check_space(map, bytes, alone, len)?;
         return Ok(grow_into(alloc, map, owners, dir, copied, address, len, bytes)?);
     };
-    check_space(alloc, map, bytes, alone, 0)?;
+    check_space(map, bytes, alone, 0)?;
     Ok(grow_there(alloc, map, address, len, place, bytes)?)
 }
 
