@@ -1,19 +1,18 @@
 -- What a row of a tally says of the places of an identifier's runs, and of which runs it says it still.
-use Rattle.std.proofs.Common.{◌≡◌, ◌<◌, ◌≤◌, ℕ, ◌+◌, ◌-◌, Bool, true, false, cond, List, [], ◌∷◌, ◌++◌, map, refl, sym, ap, subst, ◌∙◌, inl, inr, arith, eq-eqb, min, max}
+use Rattle.std.proofs.Common.{◌≡◌, ◌<◌, ◌≤◌, ℕ, ◌+◌, ◌-◌, Bool, true, false, cond, List, [], ◌∷◌, ◌++◌, refl, sym, ap, subst, ◌∙◌, inl, inr, arith, eq-eqb, min, max}
 use Rattle.std.specs.Prelude.{◌⊎◌, ◌||◌, ◌==◌, Contains, Ok, Err, nat_le}
 use Rattle.std.specs.List.{list_any}
-use Rattle.std.proofs.lemmas.Bool.{cases_Bool, cases_eq, cases_lt, ne_eqb, lt-ltb, le-ltb, le-leb, lt-leb, false_from_ne_true}
+use Rattle.std.proofs.lemmas.Bool.{cases_eq, cases_lt, ne_eqb, lt-ltb, le-ltb, le-leb, lt-leb, false_from_ne_true}
 use Rattle.std.proofs.lemmas.List.Elements.{Contains-append_cases, Contains-append_left, Contains-append_right}
 use Rattle.fc_record.specs.declared.Geometry.{Geometry}
 use Rattle.fc_zone.specs.declared.Run.{Run}
-use Rattle.fc_zone.specs.declared.RunKind.{RunKind}
 use Rattle.fc_zone.specs.declared.ZoneShape.{ZoneShape}
 use Rattle.fc_zone.specs.Zone.{Spells}
 use Rattle.fc_zone.proofs.HolderLemmas.{Spells-split}
 use Rattle.fc_newmap.specs.declared.tally.IdTally.{IdTally}
 use Rattle.fc_newmap.specs.Map.{Map, ZoneRun, bits_in, has_id, home_zone, id_runs, runs_of}
 use Rattle.fc_newmap.specs.RunsLaw.{placed}
-use Rattle.fc_newmap.specs.Tally.{IsFirst, IsRow, first_start, has_run_of, no_runs, row_with, zones_before}
+use Rattle.fc_newmap.specs.Tally.{IsFirst, IsRow, first_start, no_runs, row_with, zones_before}
 use Rattle.fc_newmap.proofs.PlaceLemmas.{contains_cases, contains_here, contains_later, contains_none, home_low}
 
 -- ---- runs of an identifier among others

@@ -1,10 +1,10 @@
 // A tally of a map's runs by their identifiers, kept while the map is edited.
 
 ghost use Rattle.std.specs.Prelude.{◌≡◌, ◌<◌, ◌≤◌, ◌+◌, ◌^◌, false, IfOk, IfSome, IsFalse};
+ghost use Rattle.std.specs.List.{list_any};
 ghost use Rattle.std.specs.Option.{option_map};
 ghost use Rattle.fc_zone.specs.declared.RunKind.TheVariants.{Id};
 ghost use Rattle.fc_record.specs.Record.{id_limit};
-ghost use Rattle.std.specs.List.{list_any};
 ghost use Rattle.fc_newmap.specs.Map.{bits_in, has_id, id_runs, runs_of};
 ghost use Rattle.fc_newmap.specs.NewMap.{IsOfRecord};
 ghost use Rattle.fc_newmap.specs.Tally.{HasBits, HasRoom, IsRow, IsSearch, IsTally, counted, first_start, no_runs, row_less, uncounted, zones_before};
@@ -139,14 +139,12 @@ fn row_less(g: &Geometry, row: IdTally, len: u32) -> IdTally
     ensures { result ≡ row_less g.now row len }
 {
     if row.bits == len {
-        no_runs(g)
-    } else {
-        IdTally {
-            bits: row.bits - len,
-            start: 0,
-            ..row
-        }
+        return no_runs(g);
     }
+    let mut left = row;
+    left.bits -= len;
+    left.start = 0;
+    left
 }
 
 // Counts a run of an identifier no more, if the rows reach so far.
