@@ -1,9 +1,8 @@
 -- A walk over the holes of a map, by the links between those of a zone.
-use Rattle.std.proofs.Common.{◌≡◌, ◌<◌, ◌≤◌, ℕ, suc, ◌+◌, Bool, true, false, cond, Option, Some, None, List, [], ◌∷◌, ◌++◌, refl, sym, ap, ap₂, subst, ◌∙◌, arith, append_assoc}
+use Rattle.std.proofs.Common.{◌≡◌, ◌<◌, ◌≤◌, ℕ, suc, ◌+◌, Bool, true, false, cond, Option, Some, None, List, [], ◌∷◌, ◌++◌, refl, sym, ap, subst, ◌∙◌, arith, append_assoc}
 use Rattle.std.specs.Option.{IfSome, MatchOption}
 use Rattle.std.proofs.lemmas.List.{map-append}
 use Rattle.std.proofs.lemmas.List.Elements.{filter-append}
-use Rattle.fc_record.specs.declared.Geometry.{Geometry}
 use Rattle.fc_record.specs.Record.{first_bit, end_bit}
 use Rattle.fc_zone.specs.declared.Run.{Run}
 use Rattle.fc_zone.specs.declared.RunKind.{RunKind}

@@ -14,9 +14,9 @@ use Rattle.fc_zone.specs.Cursor.{StandsBetween}
 use Rattle.fc_zone.proofs.CursorLemmas.{left_of, left_fits}
 use Rattle.fc_newmap.specs.declared.walk.Walk.{Walk}
 use Rattle.fc_newmap.specs.declared.runs.RunCursor.{RunCursor}
-use Rattle.fc_newmap.specs.Map.{Map, ZoneRun, all_runs, has_id, home_zone, is_hole, id_runs, runs_in, runs_of, search_order, sector_of, shape}
+use Rattle.fc_newmap.specs.Map.{Map, ZoneRun, all_runs, has_id, home_zone, id_runs, runs_in, runs_of, search_order, sector_of, shape}
 use Rattle.fc_newmap.specs.RunsLaw.{placed}
-use Rattle.fc_newmap.specs.Walk.{IsInZone, StandsAt, StandsBefore, bits_left, holes_in, zone_after, zones_from}
+use Rattle.fc_newmap.specs.Walk.{IsInZone, StandsAt, StandsBefore, bits_left, zone_after, zones_from}
 use Rattle.fc_newmap.proofs.PlaceLemmas.{home_low}
 
 -- ---- the order of zones

@@ -1,9 +1,7 @@
 -- What of a map is not spoken for: its holes, and its unused identifiers.
-use Rattle.std.specs.Prelude.{ℕ, ◌-◌, not, List, filter}
-use Rattle.std.specs.List.{range_with_len}
+use Rattle.std.specs.Prelude.{ℕ, List}
 use Rattle.fc_record.specs.declared.Geometry.{Geometry}
-use Rattle.fc_record.specs.Record.{id_limit}
-use Rattle.fc_newmap.specs.Map.{Map, ZoneRun, hole_runs, is_used}
+use Rattle.fc_newmap.specs.Map.{Map, ZoneRun, hole_runs}
 use Rattle.fc_newmap.specs.NewMap.{IsOfRecord}
 use Rattle.fc_image.specs.effects.Sharing.{new_ids}
 use Rattle.fc_plan.specs.Plan.{AreFreeRuns}

@@ -1,9 +1,8 @@
-use Rattle.std.proofs.Common.{ℕ, List, Bool, [], ◌++◌, sym, ap, ◌∙◌}
+use Rattle.std.proofs.Common.{Bool, [], ◌++◌, sym, ap, ◌∙◌}
 use Rattle.std.specs.Prelude.{◌||◌}
 use Rattle.std.specs.List.{list_any}
 use Rattle.fc_newmap.specs.Map.{runs_of}
 use Rattle.fc_newmap.specs.RunsLaw.{placed}
-use Rattle.fc_plan.specs.Giving.{has_run_of}
 use Rattle.fc_plan.proofs.Changes.{any_placed, goes}
 use Rattle.fc_plan.proofs.changing.has_run_of.Goals as goal
 

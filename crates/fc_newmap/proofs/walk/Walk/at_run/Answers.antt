@@ -1,11 +1,10 @@
 use Rattle.std.proofs.Common.{◌≡◌, ◌++◌, ◌∷◌, List, ℕ, sym, ap, subst, ◌∙◌, refl}
 use Rattle.fc_record.specs.declared.Geometry.{Geometry}
-use Rattle.fc_zone.specs.declared.Run.{Run}
 use Rattle.fc_zone.specs.declared.ZoneShape.{ZoneShape}
 use Rattle.fc_zone.specs.Cursor.{StandsBetween}
 use Rattle.fc_zone.specs.Edits.{HasRunAt}
 use Rattle.fc_zone.specs.Zone.{IsShapeOf, Zone}
-use Rattle.fc_newmap.specs.Map.{runs_of, sector_of, shape}
+use Rattle.fc_newmap.specs.Map.{sector_of, shape}
 use Rattle.fc_newmap.proofs.HeldLemmas.{shape_fits}
 use Rattle.fc_newmap.proofs.WalkLemmas.{stands_in}
 use Rattle.fc_newmap.proofs.walk.Walk.at_run.Goals as goal

@@ -1,6 +1,6 @@
 use Rattle.std.proofs.Common.{◌++◌, ◌∷◌, subst}
 use Rattle.fc_zone.specs.Zone.{Zone}
-use Rattle.fc_newmap.specs.Map.{ZoneRun, runs_in, sector_of, shape}
+use Rattle.fc_newmap.specs.Map.{runs_in, sector_of, shape}
 use Rattle.fc_newmap.specs.RunsLaw.{placed}
 use Rattle.fc_newmap.specs.Walk.{zone_after, zones_from}
 use Rattle.fc_newmap.proofs.NextLemmas.{past_run}

@@ -1,5 +1,4 @@
 use Rattle.std.proofs.Common.{sym, ap, ◌∙◌, arith}
-use Rattle.std.specs.Prelude.{Option, ℕ}
 use Rattle.fc_bytes.specs.Bits.{bits}
 use Rattle.fc_zone.specs.Zone.{hole_from}
 use Rattle.fc_zone.proofs.CursorLemmas.{hole_ahead, stands_before}

@@ -1,5 +1,4 @@
 use Rattle.std.proofs.Common.{◌≡◌, ◌+◌, ap, refl, sym, ◌∙◌, arith}
-use Rattle.fc_bytes.specs.Bits.{bits}
 use Rattle.fc_zone.specs.declared.Run.{Run}
 use Rattle.fc_zone.specs.Zone.{hole_starts}
 use Rattle.fc_zone.proofs.CursorLemmas.{hole_is_ahead, no_first, stands_at_end, stands_past_hole}
