@@ -70,8 +70,7 @@ fn has_ids(map: &NewMap, count: u64) -> bool
 
 /// Whether a map has space for an object of so many bytes, and for a directory that gets `len` new ones and may be alone in
 /// its identifier; none of either is needed for 0. `IdsFull` if too few identifiers are left, else `DiscFull` if the holes
-/// together are too small, exactly as a command is refused that needs both. The map's runs are gone over once, if it has
-/// a tally.
+/// together are too small, exactly as a command is refused that needs both. The map's holes are gone over once.
 pub fn check_space(map: &NewMap, bytes: u32, alone: bool, len: u32) -> Result<(), PlanError>
     ensures { AnswersShort result (short_of map.now bytes alone len) }
 {

@@ -196,7 +196,8 @@ fn grow_into(
 /// is a copy of it: the file goes, and then an identifier that it shares with the directory alone goes back.
 ///
 /// `IdsFull` if too few identifiers are left, else `DiscFull` if the holes together are too small, exactly as the command
-/// is refused. The map's runs are gone over at most twice, if it has a tally, and the owners twice. The map stays as it is.
+/// is refused. The map's holes are gone over at most twice; the owners only if another object has the directory's identifier. The map
+/// stays as it is.
 pub fn plan_growth(
     alloc: Global,
     places: &Places,
