@@ -1,15 +1,13 @@
-// The least low byte of each identifier from which on its owners leave so many sectors of it free.
+// The least low byte of an identifier from which on its owners leave so many sectors of it free.
 
-ghost use Rattle.std.specs.Prelude.{◌≡◌, ◌<◌, ◌≤◌, ◌+◌, ◌^◌, ℕ, IfOk, length, nat_le};
+ghost use Rattle.std.specs.Prelude.{◌≡◌, ◌<◌, ◌≤◌, ◌+◌, ◌^◌, ℕ, nat_le};
 ghost use Rattle.std.specs.List.Sorted.{IsNonDecreasingBy};
 ghost use Rattle.fc_image.specs.Layout.{low_start};
-ghost use Rattle.fc_slack.specs.Lows.{AreLow, HasMoved, IsPast, is_clear};
+ghost use Rattle.fc_slack.specs.Lows.{IsLow, IsPast, is_clear};
 
 use fc_alloc::Owner;
-use fc_device::NoMemory;
 use fc_newmap::NewMap;
 use fc_space::low_start;
-use std::alloc::Global;
 
 /// More than any low byte.
 pub const LOW_LIMIT: u32 = 256;
@@ -60,32 +58,16 @@ fn low_past(map: &NewMap, low: u32, o: &Owner, need: u64) -> u32
     }
 }
 
-// Moves the low byte of an owner's identifier past the owner.
-fn move_low(lows: &mut Vec<u32>, map: &NewMap, o: &Owner, need: u64)
-    requires few { need < 2 ^ 63 }
-    ensures { HasMoved map.now need o.now lows.old.items lows.new.items }
-{
-    if let Some(low) = lows.get_mut(o.id as usize) {
-        *low = low_past(map, *low, o, need);
-    }
-}
-
-/// By identifier below a limit, the least low byte at which none of these owners, in the order of their first sectors,
-/// is in the way of `need` sectors; `LOW_LIMIT` where each low byte has one in the way.
-pub fn free_lows(
-    alloc: Global,
-    map: &NewMap,
-    owners: &[Owner],
-    need: u64,
-    limit: u32,
-) -> Result<Vec<u32>, NoMemory>
+/// The least low byte at which none of these owners of one identifier, in the order of their first sectors, is in the way
+/// of `need` sectors; `LOW_LIMIT` where each low byte has one in the way.
+pub fn free_low(map: &NewMap, owners: &[Owner], need: u64) -> u32
     requires few { need < 2 ^ 63 }
     requires sorted { IsNonDecreasingBy (λ o. o.first) owners.now }
-    ensures { IfOk result (λ lows. AreLow map.now need owners.now limit lows.items) }
+    ensures { IsLow map.now need owners.now result }
 {
-    let mut lows = vec![in alloc; 1; limit as usize]?;
+    let mut low = 1;
     for o in owners {
-        move_low(&mut lows, map, o, need);
+        low = low_past(map, low, o, need);
     }
-    Ok(lows)
+    low
 }

@@ -1,12 +1,13 @@
-use Rattle.std.proofs.Common.{rules, List, subst, sym}
+use Rattle.std.proofs.Common.{rules, ◌≡◌, List, subst, sym}
 use Rattle.std.specs.Prelude.{filter}
 use Rattle.std.specs.List.Sorted.{IsPermutation}
-use Rattle.std.proofs.lemmas.List.Sorted.{IsNonDecreasingBy-from_sort_by_key, IsPermutation-trans}
+use Rattle.std.proofs.lemmas.List.Sorted.{IsPermutation-trans, answers_always}
 use Rattle.fc_alloc.specs.declared.owner.Owner.{Owner}
 use Rattle.fc_alloc.specs.Owners.{is_held}
 use Rattle.fc_image.proofs.ShuffleLemmas.{IsPermutation-filter}
 use Rattle.fc_slack.specs.Slack.{is_open}
-use Rattle.fc_slack.proofs.Marks.{open_held}
+use Rattle.fc_slack.proofs.Groups.{in_order, key}
+use Rattle.fc_slack.proofs.OpenLemmas.{open_held}
 use Rattle.fc_slack.proofs.share.open_owners.Goals as goal
 
 pub returns : goal.returns
@@ -20,5 +21,5 @@ returns c =
     subst (λ (found : List Owner). IsPermutation found sorted) c.in_ok-open.ensures c.sort_unstable_by_key.ensures.permutation in
     record {
       same = subst (λ (found : List Owner). IsPermutation found sorted) (open_held c.args.dir owners) (IsPermutation-trans _ _ _ kept put);
-      sorted = IsNonDecreasingBy-from_sort_by_key (λ (o : Owner). o.first) sorted c.sort_unstable_by_key.ensures.sorted (λ a r f' k. search rules);
+      sorted = in_order sorted (c.sort_unstable_by_key.ensures.sorted key (answers_always _ (λ a r. r ≡ key a.0.now) _ (λ f a r f' q. search rules)));
     }

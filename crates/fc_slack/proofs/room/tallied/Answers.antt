@@ -2,7 +2,7 @@ use Rattle.std.proofs.Common.{◌≡◌, ◌<◌, ◌*◌, ◌/◌, ◌^◌, ◌
 use Rattle.fc_record.specs.declared.Geometry.{Geometry}
 use Rattle.fc_newmap.specs.Map.{bits_in, id_runs}
 use Rattle.fc_slack.proofs.TallyLemmas.{bits_few, sectors_are}
-use Rattle.fc_slack.proofs.counts.tallied.Goals as goal
+use Rattle.fc_slack.proofs.room.tallied.Goals as goal
 
 pub overflow_mul-result : goal.overflow_mul-result
 overflow_mul-result c =
