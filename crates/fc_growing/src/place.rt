@@ -45,7 +45,7 @@ pub struct GrownPlace {
 // The space of an object of so many bytes. There is enough of it, so that only memory may be short.
 fn plan_object(
     alloc: Global,
-    supply: &mut Supply<'_'>,
+    supply: &mut Supply,
     bytes: u32,
 ) -> Result<Option<Plan>, NoMemory>
     ensures { IfOk result (IsObjectPlan supply.old supply.new bytes) }
@@ -80,7 +80,7 @@ fn place_object(
 // The new space of a directory at an address, of its own identifier if it is alone in it. There is enough of it, too.
 fn plan_directory(
     alloc: Global,
-    supply: &mut Supply<'_'>,
+    supply: &mut Supply,
     alone: bool,
     address: u32,
     len: u32,
