@@ -43,11 +43,7 @@ pub struct GrownPlace {
 }
 
 // The space of an object of so many bytes. There is enough of it, so that only memory may be short.
-fn plan_object(
-    alloc: Global,
-    supply: &mut Supply,
-    bytes: u32,
-) -> Result<Option<Plan>, NoMemory>
+fn plan_object(alloc: Global, supply: &mut Supply, bytes: u32) -> Result<Option<Plan>, NoMemory>
     ensures { IfOk result (IsObjectPlan supply.old supply.new bytes) }
 {
     if bytes == 0 {
