@@ -1,6 +1,6 @@
 -- The index under searches and changes.
-use Rattle.std.proofs.Common.{◌≡◌, ◌⊎◌, ◌<◌, ◌≤◌, ℕ, zero, suc, ◌+◌, ◌-◌, Bool, true, false, not, ◌&&◌, ◌==◌, List, length, get_or, Option, Some, None, sym, ap, ap₂, ◌∙◌, arith, inl, inr}
-use Rattle.std.specs.Prelude.{is_some, count_by, slice_index}
+use Rattle.std.proofs.Common.{◌≡◌, ◌⊎◌, ◌<◌, ◌≤◌, ℕ, zero, suc, ◌+◌, ◌-◌, Bool, true, false, not, ◌&&◌, ◌==◌, List, length, get_or, Option, Some, None, refl, sym, ap, ap₂, ◌∙◌, arith, inl, inr}
+use Rattle.std.specs.Prelude.{is_some, slice_index}
 use Rattle.std.specs.List.{insert, remove}
 use Rattle.std.specs.List.Sorted.{IsPartitionedBy, IsPartitionPoint}
 use Rattle.std.specs.Option.{option_map_or, unwrap_or}
@@ -11,20 +11,20 @@ use Rattle.std.proofs.lemmas.List.Edits.{length-insert, get_or-insert_below, get
 use Rattle.fc_names.specs.Names.{folded, is_same_name}
 use Rattle.fc_tree.specs.declared.node.Node.{Node}
 use Rattle.fc_tree.specs.Nodes.{child, nodes_of}
-use Rattle.fc_tree.specs.Slots.{slot_at, is_child}
-use Rattle.fc_tree.specs.Index.{Key, key_cmp, key_of, is_before, IsIndex, IsRank}
+use Rattle.fc_tree.specs.Slots.{slot_at, is_child, AreSameBut}
+use Rattle.fc_tree.specs.Index.{Key, key_cmp, key_of, is_before, IsHeldBy, IsIndex, IsRank}
 use Rattle.fc_tree.proofs.SlotLemmas.{child_is, no_child, is_child_true, is_child_false}
-use Rattle.fc_tree.proofs.KeyLemmas.{key_irreflexive, key_flipped, key_squeezed, by_number, number_less, folds_from_same, same_from_folds, before_node, node_there, before_before}
+use Rattle.fc_tree.proofs.KeyLemmas.{key_irreflexive, key_flipped, key_squeezed, by_number, number_less, folds_from_same, same_from_folds, before_node, before_before}
 
 -- ---- searches
 
 -- those before a key stand before the others
-pub partitioned : (slots : List (Option Node)) (order : List ℕ) (key : Key) → IsIndex slots order → IsPartitionedBy (is_before slots key) order
-partitioned slots order key index i j d le within before =
+pub partitioned : (dir : ℕ) (slots : List (Option Node)) (order : List ℕ) (key : Key) → IsIndex dir slots order → IsPartitionedBy (is_before slots key) order
+partitioned dir slots order key index i j d le within before =
     elim (cases_lt i j) [
       | inl l ↦
           let first : is_before slots key (slice_index order j) ≡ true = ap (is_before slots key) (get_or_default order j 0 d within) ∙ before in
-          let there = node_there slots (slice_index order j) (index.known j within) in
+          let there = index.known j within in
           ap (is_before slots key) (get_or_default order i d 0 (omega (arith, l, within)))
           ∙ before_before slots key (slice_index order j) (slice_index order i) there.0 there.1 first (index.rising i j there.0 l within there.1)
       | inr l ↦ let same : i ≡ j = omega (arith, l, le) in ap (λ k. is_before slots key (get_or order k d)) same ∙ before
@@ -50,10 +50,10 @@ not_below_rank slots order key rank k is later =
     ]
 
 -- the rank of a node that is there is its place
-pub rank_exact : (slots : List (Option Node)) (order : List ℕ) (rank n : ℕ) (node : Node) → IsIndex slots order → slot_at slots n ≡ Some node → IsRank slots order (key_of n node) rank
+pub rank_exact : (slots : List (Option Node)) (order : List ℕ) (rank n : ℕ) (node : Node) → IsIndex node.holder slots order → slot_at slots n ≡ Some node → IsRank slots order (key_of n node) rank
     → (rank < length order) × (slice_index order rank ≡ n)
 rank_exact slots order rank n node index is ranked =
-    let place = index.listed n node is in
+    let place = index.listed n node is refl in
     let k : ℕ = place.0 in
     let here : slice_index order k ≡ n = place.2 in
     let there : slot_at slots (slice_index order k) ≡ Some node = ap (slot_at slots) here ∙ is in
@@ -111,19 +111,19 @@ named_at slots dir n name node is named =
     ∙ not_early n 1 named.later
 
 -- what stands at the rank of a name is the first node of the name, if one has it
-pub first_at_rank : (slots : List (Option Node)) (order : List ℕ) (rank dir j : ℕ) (name : List ℕ) (m : Node) → IsIndex slots order → IsRank slots order (first_key dir name) rank
+pub first_at_rank : (slots : List (Option Node)) (order : List ℕ) (rank dir j : ℕ) (name : List ℕ) (m : Node) → IsIndex dir slots order → IsRank slots order (first_key dir name) rank
     → slot_at slots j ≡ Some m → is_child dir name (j, m) ≡ true
     → (rank < length order) × ((node : Node) × (slot_at slots (slice_index order rank) ≡ Some node) × (is_child dir name (slice_index order rank, node) ≡ true)) × (slice_index order rank ≤ j)
 first_at_rank slots order rank dir j name m index ranked is passes =
     let named = named_from dir j name m passes in
-    let place = index.listed j m is in
+    let place = index.listed j m is named.holder in
     let k : ℕ = place.0 in
     let here : slice_index order k ≡ j = place.2 in
     let low : rank ≤ k = not_below_rank slots order (first_key dir name) rank k ranked (ap (is_before slots (first_key dir name)) here ∙ named_at slots dir j name m is named) in
     let within : rank < length order = omega (arith, low, place.1) in
     elim (cases_lt rank k) [
       | inl l ↦
-          let there = node_there slots (slice_index order rank) (index.known rank within) in
+          let there = index.known rank within in
           let node : Node = there.0 in
           let n : ℕ = slice_index order rank in
           let late : is_lt (key_cmp (key_of n node) (key_of j m)) ≡ true =
@@ -139,7 +139,7 @@ first_at_rank slots order rank dir j name m index ranked is passes =
           (within, (m, ap (slot_at slots) same ∙ is, ap (λ (i : ℕ). is_child dir name (i, m)) same ∙ passes), omega (arith, same))
     ]
 
-no_child_under : (slots : List (Option Node)) (order : List ℕ) (rank dir : ℕ) (name : List ℕ) → IsIndex slots order → IsRank slots order (first_key dir name) rank
+no_child_under : (slots : List (Option Node)) (order : List ℕ) (rank dir : ℕ) (name : List ℕ) → IsIndex dir slots order → IsRank slots order (first_key dir name) rank
     → ((node : Node) → rank < length order → slot_at slots (slice_index order rank) ≡ Some node → is_child dir name (slice_index order rank, node) ≡ true → ⊥)
     → None ≡ child (nodes_of (record { slots = slots; room = 0 })) dir name
 no_child_under slots order rank dir name index ranked never =
@@ -148,13 +148,13 @@ no_child_under slots order rank dir name index ranked never =
     never first.1.0 first.0 first.1.1 first.1.2))
 
 -- no number is left at the rank of the name
-pub child_past : (slots : List (Option Node)) (order : List ℕ) (rank dir : ℕ) (name : List ℕ) → IsIndex slots order → IsRank slots order (first_key dir name) rank → length order ≤ rank
+pub child_past : (slots : List (Option Node)) (order : List ℕ) (rank dir : ℕ) (name : List ℕ) → IsIndex dir slots order → IsRank slots order (first_key dir name) rank → length order ≤ rank
     → None ≡ child (nodes_of (record { slots = slots; room = 0 })) dir name
 child_past slots order rank dir name index ranked past =
     no_child_under slots order rank dir name index ranked (λ node within here passes. omega (arith, within, past))
 
 -- the number at the rank of the name is another's
-pub child_other : (slots : List (Option Node)) (order : List ℕ) (rank dir n : ℕ) (name : List ℕ) → IsIndex slots order → IsRank slots order (first_key dir name) rank → slice_index order rank ≡ n
+pub child_other : (slots : List (Option Node)) (order : List ℕ) (rank dir n : ℕ) (name : List ℕ) → IsIndex dir slots order → IsRank slots order (first_key dir name) rank → slice_index order rank ≡ n
     → option_map_or (λ node. is_child dir name (n, node)) (slot_at slots n) false ≡ false → None ≡ child (nodes_of (record { slots = slots; room = 0 })) dir name
 child_other slots order rank dir n name index ranked is other =
     no_child_under slots order rank dir name index ranked (λ node within here passes.
@@ -162,7 +162,7 @@ child_other slots order rank dir n name index ranked is other =
     (is_child_false slots dir n name node other (ap (slot_at slots) (sym is) ∙ here)))
 
 -- the number at the rank of the name is that of the first node of the name
-pub child_there : (slots : List (Option Node)) (order : List ℕ) (rank dir n : ℕ) (name : List ℕ) → IsIndex slots order → IsRank slots order (first_key dir name) rank → slice_index order rank ≡ n
+pub child_there : (slots : List (Option Node)) (order : List ℕ) (rank dir n : ℕ) (name : List ℕ) → IsIndex dir slots order → IsRank slots order (first_key dir name) rank → slice_index order rank ≡ n
     → option_map_or (λ node. is_child dir name (n, node)) (slot_at slots n) false ≡ true → Some n ≡ child (nodes_of (record { slots = slots; room = 0 })) dir name
 child_there slots order rank dir n name index ranked is found =
     let there = is_child_true slots dir n name found in
@@ -173,17 +173,13 @@ child_there slots order rank dir n name index ranked is found =
 
 -- ---- one more node
 
--- new slots are these but for one number
-abbrev pub AreSameBut : ℕ → List (Option Node) → List (Option Node) → Type 0
-AreSameBut n slots new = (m : ℕ) → (m ≡ n → ⊥) → slot_at new m ≡ slot_at slots m
-
 same_before : (slots new : List (Option Node)) (key : Key) (n m : ℕ) → AreSameBut n slots new → (m ≡ n → ⊥) → is_before new key m ≡ is_before slots key m
 same_before slots new key n m same apart = ap (λ o. option_map_or (λ node. is_lt (key_cmp (key_of m node) key)) o false) (same m apart)
 
 -- a number that has no node isn't in the index
-unlisted : (slots : List (Option Node)) (order : List ℕ) (n k : ℕ) → IsIndex slots order → slot_at slots n ≡ None → k < length order → slice_index order k ≡ n → ⊥
-unlisted slots order n k index none within here =
-    both_ways (is_some (slot_at slots (slice_index order k))) (index.known k within) (ap (λ m. is_some (slot_at slots m)) here ∙ ap is_some none)
+unlisted : (dir : ℕ) (slots : List (Option Node)) (order : List ℕ) (n k : ℕ) → IsIndex dir slots order → slot_at slots n ≡ None → k < length order → slice_index order k ≡ n → ⊥
+unlisted dir slots order n k index none within here =
+    both_ways (is_some (slot_at slots (slice_index order k))) (ap is_some (index.known k within).1) (ap (λ m. is_some (slot_at slots m)) here ∙ ap is_some none)
 
 -- where a place of the longer index was before
 abbrev Was : List ℕ → ℕ → ℕ → ℕ → Type 0
@@ -206,13 +202,12 @@ was order rank n k within =
     ]
 
 -- the index with one more number, at the rank of its node
-pub index_put : (slots new : List (Option Node)) (order : List ℕ) (rank n : ℕ) (node : Node) → IsIndex slots order → slot_at slots n ≡ None → slot_at new n ≡ Some node
-    → AreSameBut n slots new → count_by is_some new ≡ count_by is_some slots + 1 → IsRank slots order (key_of n node) rank → IsIndex new (insert order rank n)
-index_put slots new order rank n node index none is same counts ranked = record {
+pub index_put : (slots new : List (Option Node)) (order : List ℕ) (rank n : ℕ) (node : Node) → IsIndex node.holder slots order → slot_at slots n ≡ None → slot_at new n ≡ Some node
+    → AreSameBut n slots new → IsRank slots order (key_of n node) rank → IsIndex node.holder new (insert order rank n)
+index_put slots new order rank n node index none is same ranked = record {
   known = λ k lt. known k (omega (arith, lt, size)) (was order rank n k ranked.within);
-  listed = λ m x here. listed m x here (cases_eq m n);
+  listed = λ m x here held. listed m x here held (cases_eq m n);
   rising = λ i j x lt within here. rising i j x lt (omega (arith, within, size)) here (was order rank n i ranked.within) (was order rank n j ranked.within);
-  few = omega (arith, size, counts, index.few);
 } where
   longer : List ℕ
   longer = insert order rank n
@@ -221,19 +216,21 @@ index_put slots new order rank n node index none is same counts ranked = record 
   size = length-insert order rank n ranked.within
 
   apart : (k : ℕ) → k < length order → slice_index order k ≡ n → ⊥
-  apart k within = unlisted slots order n k index none within
+  apart k within = unlisted node.holder slots order n k index none within
 
-  known_old : (k : ℕ) → k < length order → is_some (slot_at new (slice_index order k)) ≡ true
-  known_old k within = ap is_some (same (slice_index order k) (apart k within)) ∙ index.known k within
+  known_old : (k m : ℕ) → k < length order → m ≡ slice_index order k → IsHeldBy node.holder new m
+  known_old k m within at =
+      let was_known = index.known k within in
+      (was_known.0, ap (slot_at new) at ∙ same (slice_index order k) (apart k within) ∙ was_known.1, was_known.2)
 
-  known : (k : ℕ) → k < length order + 1 → Was order rank n k → is_some (slot_at new (slice_index longer k)) ≡ true
-  known k lt (inl (below, at)) = ap (λ m. is_some (slot_at new m)) at ∙ known_old k (omega (arith, below, ranked.within))
-  known k lt (inr (inl (e, at))) = ap (λ m. is_some (slot_at new m)) at ∙ ap is_some is
-  known k lt (inr (inr (above, at))) = ap (λ m. is_some (slot_at new m)) at ∙ known_old (k - 1) (omega (arith, above, lt))
+  known : (k : ℕ) → k < length order + 1 → Was order rank n k → IsHeldBy node.holder new (slice_index longer k)
+  known k lt (inl (below, at)) = known_old k (slice_index longer k) (omega (arith, below, ranked.within)) at
+  known k lt (inr (inl (e, at))) = (node, ap (slot_at new) at ∙ is, refl)
+  known k lt (inr (inr (above, at))) = known_old (k - 1) (slice_index longer k) (omega (arith, above, lt)) at
 
-  listed : (m : ℕ) (x : Node) → slot_at new m ≡ Some x → (m ≡ n) ⊎ (m ≡ n → ⊥) → (k : ℕ) × (k < length longer) × (slice_index longer k ≡ m)
-  listed m x here (inl e) = (rank, omega (arith, size, ranked.within), get_or-insert_at order rank n 0 ranked.within ∙ sym e)
-  listed m x here (inr a) = from (index.listed m x (sym (same m a) ∙ here)) where
+  listed : (m : ℕ) (x : Node) → slot_at new m ≡ Some x → x.holder ≡ node.holder → (m ≡ n) ⊎ (m ≡ n → ⊥) → (k : ℕ) × (k < length longer) × (slice_index longer k ≡ m)
+  listed m x here held (inl e) = (rank, omega (arith, size, ranked.within), get_or-insert_at order rank n 0 ranked.within ∙ sym e)
+  listed m x here held (inr a) = from (index.listed m x (sym (same m a) ∙ here) held) where
     from : (k : ℕ) × (k < length order) × (slice_index order k ≡ m) → (k : ℕ) × (k < length longer) × (slice_index longer k ≡ m)
     from (k, within, at) = elim (cases_lt k rank) [
       | inl l ↦ (k, omega (arith, size, within), get_or-insert_below order rank n 0 k l ranked.within ∙ at)
@@ -286,13 +283,12 @@ index_put slots new order rank n node index none is same counts ranked = record 
 -- ---- one node less
 
 -- the index without a number
-pub index_taken : (slots new : List (Option Node)) (order : List ℕ) (rank n : ℕ) (node : Node) → IsIndex slots order → slot_at slots n ≡ Some node → slot_at new n ≡ None
-    → AreSameBut n slots new → count_by is_some new + 1 ≡ count_by is_some slots → rank < length order → slice_index order rank ≡ n → IsIndex new (remove order rank)
-index_taken slots new order rank n node index is none same counts within at = record {
+pub index_taken : (slots new : List (Option Node)) (order : List ℕ) (rank n : ℕ) (node : Node) → IsIndex node.holder slots order → slot_at slots n ≡ Some node → slot_at new n ≡ None
+    → AreSameBut n slots new → rank < length order → slice_index order rank ≡ n → IsIndex node.holder new (remove order rank)
+index_taken slots new order rank n node index is none same within at = record {
   known = λ k lt. known k (omega (arith, lt, size)) (cases_lt k rank);
-  listed = λ m x here. listed m x here;
+  listed = λ m x here held. listed m x here held;
   rising = λ i j x lt high here. rising i j x lt (omega (arith, high, size)) here (cases_lt i rank) (cases_lt j rank);
-  few = omega (arith, size, counts, index.few);
 } where
   shorter : List ℕ
   shorter = remove order rank
@@ -319,15 +315,17 @@ index_taken slots new order rank n node index is none same counts within at = re
         ∙ index.rising rank k node (omega (arith, l, other)) lt (ap (slot_at slots) e ∙ is))
   ]
 
-  known_old : (k : ℕ) → k < length order → (k ≡ rank → ⊥) → is_some (slot_at new (slice_index order k)) ≡ true
-  known_old k lt other = ap is_some (same (slice_index order k) (apart k lt other)) ∙ index.known k lt
+  known_old : (k m : ℕ) → k < length order → (k ≡ rank → ⊥) → m ≡ slice_index order k → IsHeldBy node.holder new m
+  known_old k m lt other to =
+      let was_known = index.known k lt in
+      (was_known.0, ap (slot_at new) to ∙ same (slice_index order k) (apart k lt other) ∙ was_known.1, was_known.2)
 
-  known : (k : ℕ) → k + 1 < length order → (k < rank) ⊎ (rank ≤ k) → is_some (slot_at new (slice_index shorter k)) ≡ true
-  known k lt (inl l) = ap (λ m. is_some (slot_at new m)) (low k l) ∙ known_old k (omega (arith, lt)) (λ e. omega (arith, e, l))
-  known k lt (inr l) = ap (λ m. is_some (slot_at new m)) (high k l) ∙ known_old (k + 1) lt (λ e. omega (arith, e, l))
+  known : (k : ℕ) → k + 1 < length order → (k < rank) ⊎ (rank ≤ k) → IsHeldBy node.holder new (slice_index shorter k)
+  known k lt (inl l) = known_old k (slice_index shorter k) (omega (arith, lt)) (λ e. omega (arith, e, l)) (low k l)
+  known k lt (inr l) = known_old (k + 1) (slice_index shorter k) lt (λ e. omega (arith, e, l)) (high k l)
 
-  listed : (m : ℕ) (x : Node) → slot_at new m ≡ Some x → (k : ℕ) × (k < length shorter) × (slice_index shorter k ≡ m)
-  listed m x here = from (index.listed m x (sym (same m away) ∙ here)) where
+  listed : (m : ℕ) (x : Node) → slot_at new m ≡ Some x → x.holder ≡ node.holder → (k : ℕ) × (k < length shorter) × (slice_index shorter k ≡ m)
+  listed m x here held = from (index.listed m x (sym (same m away) ∙ here) held) where
     away : m ≡ n → ⊥
     away e = both_ways (is_some (slot_at new m)) (ap is_some here) (ap (λ k. is_some (slot_at new k)) e ∙ ap is_some none)
 
@@ -357,3 +355,30 @@ index_taken slots new order rank n node index is none same counts within at = re
   rising i j x lt inside here (inr l) (inl r) = absurd (omega (arith, l, r, lt))
   rising i j x lt inside here (inr l) (inr r) =
       old (i + 1) (j + 1) (slice_index shorter i) (slice_index shorter j) x (omega (arith, lt)) inside (λ e. omega (arith, e, l)) (λ e. omega (arith, e, r)) (high i l) (high j r) here
+
+-- ---- the other directories
+
+-- a number of a node that comes or goes in one directory changes nothing in another
+pub index_other : (dir : ℕ) (slots new : List (Option Node)) (order : List ℕ) (n : ℕ) → IsIndex dir slots order → AreSameBut n slots new
+    → ((x : Node) → slot_at slots n ≡ Some x → x.holder ≡ dir → ⊥) → ((x : Node) → slot_at new n ≡ Some x → x.holder ≡ dir → ⊥) → IsIndex dir new order
+index_other dir slots new order n index same gone come = record { known = known; listed = listed; rising = rising } where
+  apart : (k : ℕ) → k < length order → slice_index order k ≡ n → ⊥
+  apart k within at =
+      let held = index.known k within in
+      gone held.0 (ap (slot_at slots) (sym at) ∙ held.1) held.2
+
+  known : (k : ℕ) → k < length order → IsHeldBy dir new (slice_index order k)
+  known k within =
+      let held = index.known k within in
+      (held.0, same (slice_index order k) (apart k within) ∙ held.1, held.2)
+
+  listed : (m : ℕ) (x : Node) → slot_at new m ≡ Some x → x.holder ≡ dir → (k : ℕ) × (k < length order) × (slice_index order k ≡ m)
+  listed m x here held = elim (cases_eq m n) [
+    | inl e ↦ absurd (come x (ap (slot_at new) (sym e) ∙ here) held)
+    | inr a ↦ index.listed m x (sym (same m a) ∙ here) held
+  ]
+
+  rising : (i j : ℕ) (x : Node) → i < j → j < length order → slot_at new (slice_index order j) ≡ Some x → is_before new (key_of (slice_index order j) x) (slice_index order i) ≡ true
+  rising i j x lt within here =
+      same_before slots new (key_of (slice_index order j) x) n (slice_index order i) same (apart i (omega (arith, lt, within)))
+      ∙ index.rising i j x lt within (sym (same (slice_index order j) (apart j within)) ∙ here)

@@ -1,6 +1,5 @@
 -- The order of the index.
 use Rattle.std.proofs.Common.{◌≡◌, ◌<◌, ◌≤◌, ℕ, true, false, List, Option, Some, None, refl, sym, ap, ap₂, ◌∙◌, arith}
-use Rattle.std.specs.Prelude.{is_some}
 use Rattle.std.specs.Option.{option_map_or}
 use Rattle.std.specs.declared.cmp.Ordering.{Ordering}
 use Rattle.std.specs.declared.cmp.Ordering.TheVariants.{Less, Equal, Greater}
@@ -110,12 +109,6 @@ same_from_folds a b folds = (fold_law.folds a b).1 folds
 
 pub before_node : (slots : List (Option Node)) (key : Key) (n : ℕ) (node : Node) → slot_at slots n ≡ Some node → is_before slots key n ≡ is_lt (key_cmp (key_of n node) key)
 before_node slots key n node is = ap (λ o. option_map_or (λ node. is_lt (key_cmp (key_of n node) key)) o false) is
-
-pub node_there : (slots : List (Option Node)) (n : ℕ) → is_some (slot_at slots n) ≡ true → (node : Node) × (slot_at slots n ≡ Some node)
-node_there slots n there = go (slot_at slots n) refl there where
-  go : (o : Option Node) → slot_at slots n ≡ o → is_some o ≡ true → (node : Node) × (slot_at slots n ≡ Some node)
-  go None is there = absurd (cc)
-  go (Some node) is there = (node, is)
 
 pub node_before : (slots : List (Option Node)) (key : Key) (n : ℕ) → is_before slots key n ≡ true → (node : Node) × (slot_at slots n ≡ Some node)
 node_before slots key n before = go (slot_at slots n) refl before where

@@ -1,4 +1,5 @@
 pub mod PathLemmas
+pub mod TableLemmas
 pub mod TakenLemmas
 pub mod ChildLemmas
 pub mod ClaimLemmas
@@ -21,6 +22,7 @@ pub mod ChildrenLemmas
 pub mod SortedLemmas
 pub mod FoundLemmas
 pub mod SortLemmas
+pub mod ShareLemmas
 pub mod ChangeLemmas
 pub mod PlaceInLists
 pub mod WalkingLemmas

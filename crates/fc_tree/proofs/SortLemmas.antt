@@ -1,6 +1,6 @@
--- An index is made by one sort.
-use Rattle.std.proofs.Common.{◌≡◌, ◌<◌, ℕ, zero, suc, ◌+◌, true, false, cond, List, [], ◌∷◌, length, get_or, map, Option, Some, None, eqb, refl, sym, ap, ap₂, ◌∙◌, subst, arith}
-use Rattle.std.specs.Prelude.{is_some, count_by, slice_index, All}
+-- All numbers are put in order by one sort.
+use Rattle.std.proofs.Common.{◌≡◌, ◌<◌, ℕ, zero, suc, ◌+◌, true, false, List, [], ◌∷◌, length, get_or, map, Option, Some, None, eqb, refl, sym, ap, ap₂, ◌∙◌, subst, arith}
+use Rattle.std.specs.Prelude.{slice_index, All}
 use Rattle.std.specs.List.{AllByRecursion, range_with_len, IsDistinct, slice_get}
 use Rattle.std.specs.List.Sorted.{IsSorted, IsSortedBy}
 use Rattle.std.specs.Option.{option_map, option_map_or, option_and_then, unwrap_or}
@@ -10,14 +10,13 @@ use Rattle.std.proofs.lemmas.Bool.{eqb-false}
 use Rattle.std.proofs.lemmas.Bool.Decides.{nat_tests}
 use Rattle.std.proofs.lemmas.List.{get_or-map, get_or_default, length-map}
 use Rattle.std.proofs.lemmas.List.FromFn.{length-map-range_with_len, get_or-map-range_with_len}
-use Rattle.std.proofs.lemmas.List.Sums.{sum_by-cons}
 use Rattle.std.proofs.lemmas.List.Sorted.{IsPermutation-map, length_permutation, All-permutation, Contains-permutation, ranks_by, sorted_far}
 use Rattle.std.proofs.lemmas.Map.Keys.{IsDistinct-IsPermutation, apart_from_distinct}
 use Rattle.std.proofs.lemmas.Option.{slice_get-map, slice_get_within}
 use Rattle.fc_tree.specs.declared.node.Node.{Node}
 use Rattle.fc_tree.specs.Slots.{slot_at}
-use Rattle.fc_tree.specs.Index.{Key, key_cmp, key_of, is_before, IsIndex}
-use Rattle.fc_tree.specs.Places.{AreSorted, key_in, keys_of}
+use Rattle.fc_tree.specs.Index.{Key, key_cmp, key_of, is_before}
+use Rattle.fc_tree.specs.Places.{AreOrdered, AreSorted, key_in, keys_of}
 use Rattle.fc_tree.proofs.KeyLemmas.{key_total, key_flipped, before_node}
 
 number : Key → ℕ
@@ -72,16 +71,11 @@ eqb_flips x y = grind (arith, nat_tests)
 
 -- ---- slots of nodes
 
-slot_of : (nodes : List Node) (n : ℕ) → slot_at (map Some nodes) n ≡ slice_get nodes n
+pub slot_of : (nodes : List Node) (n : ℕ) → slot_at (map Some nodes) n ≡ slice_get nodes n
 slot_of nodes n = ap (option_and_then (λ o. o)) (slice_get-map Some nodes n) ∙ flat (slice_get nodes n) where
   flat : (o : Option Node) → option_and_then (λ p. p) (option_map Some o) ≡ o
   flat None = refl
   flat (Some node) = refl
-
-all_full : (nodes : List Node) → count_by is_some (map Some nodes) ≡ length nodes
-all_full [] = refl
-all_full (n ∷ nodes) =
-    omega (arith, all_full nodes, sum_by-cons (λ (o : Option Node). cond (is_some o) 1 0) (Some n) (map Some nodes))
 
 -- a key of a node that is there
 IsKey : List Node → Key → Type 0
@@ -106,12 +100,12 @@ all_keys nodes i d within =
     let same : get_or (keys_of nodes (length nodes)) i d ≡ key_of i there.0 = at ∙ there.2 in
     subst (IsKey nodes) (sym same) (there.0, there.1, refl)
 
--- ---- the index
+-- ---- the order
 
-pub index_sorted : (nodes : List Node) (keys : List Key) (order : List ℕ) → AreSorted nodes keys → order ≡ map (λ (k : Key). k.number) keys
-    → IsIndex (map Some nodes) order × (length order ≡ length nodes)
+pub order_sorted : (nodes : List Node) (keys : List Key) (order : List ℕ) → AreSorted nodes keys → order ≡ map (λ (k : Key). k.number) keys
+    → AreOrdered (map Some nodes) order
 unfolding IsKey
-index_sorted nodes keys order sorted is = (record { known = known; listed = listed; rising = rising; few = omega (arith, size, all_full nodes) }, size) where
+order_sorted nodes keys order sorted is = record { known = known; listed = listed; rising = rising } where
   long : length keys ≡ length nodes
   long = length_permutation (keys_of nodes (length nodes)) keys sorted.places ∙ length-map-range_with_len (key_in nodes) 0 (length nodes)
 
@@ -127,8 +121,8 @@ index_sorted nodes keys order sorted is = (record { known = known; listed = list
   there : (k : ℕ) (within : k < length nodes) → slot_at (map Some nodes) (slice_index order k) ≡ Some (key k within).0
   there k within = ap (slot_at (map Some nodes)) (at k within) ∙ slot_of nodes (get_or keys k no_key).number ∙ (key k within).1
 
-  known : (k : ℕ) → k < length order → is_some (slot_at (map Some nodes) (slice_index order k)) ≡ true
-  known k within = ap is_some (there k (omega (arith, within, size)))
+  known : (k : ℕ) → k < length order → (node : Node) × (slot_at (map Some nodes) (slice_index order k) ≡ Some node)
+  known k within = let inside : k < length nodes = omega (arith, within, size) in ((key k inside).0, there k inside)
 
   listed : (n : ℕ) (node : Node) → slot_at (map Some nodes) n ≡ Some node → (k : ℕ) × (k < length order) × (slice_index order k ≡ n)
   listed n node here =

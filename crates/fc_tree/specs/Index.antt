@@ -1,5 +1,5 @@
--- The index of nodes: their numbers, in the order of the directories that hold them, then of their names, then of the numbers.
-use Rattle.std.specs.Prelude.{◌≡◌, ◌<◌, ◌≤◌, ℕ, ◌+◌, Bool, true, false, List, length, slice_index, count_by, Option, Some, is_some}
+-- The index of the nodes that a directory holds: their numbers, in the order of their names, then of the numbers.
+use Rattle.std.specs.Prelude.{◌≡◌, ◌<◌, ◌≤◌, ℕ, Bool, true, false, List, length, slice_index, Option, Some}
 use Rattle.std.specs.Option.{option_map_or}
 use Rattle.std.specs.declared.cmp.Ordering.{Ordering}
 use Rattle.std.specs.Ordering.{nat_cmp, is_lt, ordering_then}
@@ -23,29 +23,19 @@ key_of n node = record { holder = node.holder; name = node.entry.name; number = 
 abbrev pub is_before : List (Option Node) → Key → ℕ → Bool
 is_before slots key n = option_map_or (λ node. is_lt (key_cmp (key_of n node) key)) (slot_at slots n) false
 
--- The numbers are those of the nodes, each once, in order.
-pub record IsIndex (slots : List (Option Node)) (order : List ℕ) : Type 0 where
-  pub known : (k : ℕ) → k < length order → is_some (slot_at slots (slice_index order k)) ≡ true
-  pub listed : (n : ℕ) (node : Node) → slot_at slots n ≡ Some node → (k : ℕ) × (k < length order) × (slice_index order k ≡ n)
+-- There is a node of this number, and the directory holds it.
+abbrev pub IsHeldBy : ℕ → List (Option Node) → ℕ → Type 0
+IsHeldBy dir slots n = (node : Node) × (slot_at slots n ≡ Some node) × (node.holder ≡ dir)
+
+-- The numbers are those of the nodes that the directory holds, each once, in order.
+pub record IsIndex (dir : ℕ) (slots : List (Option Node)) (order : List ℕ) : Type 0 where
+  pub known : (k : ℕ) → k < length order → IsHeldBy dir slots (slice_index order k)
+  pub listed : (n : ℕ) (node : Node) → slot_at slots n ≡ Some node → node.holder ≡ dir → (k : ℕ) × (k < length order) × (slice_index order k ≡ n)
   pub rising : (i j : ℕ) (node : Node) → i < j → j < length order → slot_at slots (slice_index order j) ≡ Some node
       → is_before slots (key_of (slice_index order j) node) (slice_index order i) ≡ true
-  pub few : length order ≤ count_by is_some slots
 
 -- as many numbers stand before the key
 pub record IsRank (slots : List (Option Node)) (order : List ℕ) (key : Key) (rank : ℕ) : Type 0 where
   pub within : rank ≤ length order
   pub below : (k : ℕ) → k < rank → is_before slots key (slice_index order k) ≡ true
   pub above : (k : ℕ) → rank ≤ k → k < length order → is_before slots key (slice_index order k) ≡ false
-
--- Each number below this one has a node.
-abbrev pub AreFull : List (Option Node) → ℕ → Type 0
-AreFull slots least = (m : ℕ) → m < least → is_some (slot_at slots m) ≡ true
-
--- The index is that of the slots, and both hold as many more numbers as there is room for, with no more memory. The numbers below
--- the least that may have no node have nodes.
-pub record IsHeld (slots : List (Option Node)) (order : List ℕ) (least room slots_capacity order_capacity : ℕ) : Type 0 where
-  pub index : IsIndex slots order
-  pub slots_room : length slots + room ≤ slots_capacity
-  pub order_room : length slots + room ≤ order_capacity
-  pub least_within : least ≤ length slots
-  pub full : AreFull slots least

@@ -1,12 +1,13 @@
-// The index of nodes: their numbers, in the order of the directories that hold them, then of their names by folding, then
-// of the numbers themselves.
-ghost use Rattle.std.specs.Prelude.{◌≡◌, ◌<◌, ◌≤◌, Some, is_none, length, map, slice_index, vec_capacity, IsSome, IfOk};
-ghost use Rattle.std.specs.List.{insert, position_or_len, range_with_len};
+// The index of the nodes that a directory holds: their numbers, in the order of their names by folding, then of the numbers
+// themselves.
+ghost use Rattle.std.specs.Prelude.{◌≡◌, ◌<◌, Some, length, map, slice_index, IfOk, IsSome};
+ghost use Rattle.std.specs.List.{range_with_len};
 ghost use Rattle.fc_tree.specs.Slots.{slot_at};
-ghost use Rattle.fc_tree.specs.Index.{AreFull, IsIndex, IsRank, key_cmp, key_of};
+ghost use Rattle.fc_tree.specs.declared.node.Node.{Node};
+ghost use Rattle.fc_tree.specs.Index.{IsIndex, IsRank, key_cmp, key_of};
 ghost use Rattle.fc_tree.specs.Index as index;
 ghost use Rattle.fc_tree.specs.Nodes.{child, nodes_of};
-ghost use Rattle.fc_tree.specs.Places.{key_in, shown};
+ghost use Rattle.fc_tree.specs.Places.{AreOrdered, key_in, shown};
 
 use crate::node::Node;
 use crate::slots::{is_child, node_at};
@@ -55,7 +56,7 @@ fn is_before(slots: &[Option<Node>], n: u64, place: &Place<'_>) -> bool
 
 // How many numbers stand before the place.
 pub fn rank(slots: &[Option<Node>], order: &[u64], place: &Place<'_>) -> usize
-    requires { IsIndex slots.now order.now }
+    requires { IsIndex place.now.holder slots.now order.now }
     ensures { IsRank slots.now order.now (shown place.now) result }
 {
     order.partition_point(|n| is_before(slots, *n, place))
@@ -63,7 +64,7 @@ pub fn rank(slots: &[Option<Node>], order: &[u64], place: &Place<'_>) -> usize
 
 // Where in the index a number stands that has a node.
 pub fn rank_of(slots: &[Option<Node>], order: &[u64], n: u64) -> usize
-    requires index { IsIndex slots.now order.now }
+    requires index { (node : Node) → slot_at slots.now n ≡ Some node → IsIndex node.holder slots.now order.now }
     requires there { IsSome (slot_at slots.now n) }
     ensures within { result < length order.now }
     ensures number { slice_index order.now result ≡ n }
@@ -72,38 +73,9 @@ pub fn rank_of(slots: &[Option<Node>], order: &[u64], n: u64) -> usize
     rank(slots, order, &place_of(n, node))
 }
 
-// Puts a number into the index, which has room for it.
-pub fn put_number(order: &mut Vec<u64>, at: usize, n: u64)
-    requires within { at ≤ length order.old.items }
-    requires room { length order.old.items < vec_capacity order.old }
-    ensures items { order.new.items ≡ insert order.old.items at n }
-    ensures capacity { vec_capacity order.new ≡ vec_capacity order.old }
-{
-    let _ = order.insert(at, n);
-}
-
-// The least number that no node has, where those below `least` have nodes.
-pub fn first_vacant(slots: &[Option<Node>], order: &[u64], least: usize) -> usize
-    requires index { IsIndex slots.now order.now }
-    requires within { least ≤ length slots.now }
-    requires full { AreFull slots.now least }
-    ensures number { result ≡ position_or_len is_none slots.now }
-    ensures within { result ≤ length slots.now }
-    ensures full { AreFull slots.now result }
-{
-    if order.len() == slots.len() {
-        // Each number has a node.
-        return slots.len();
-    }
-    match slots[least..].iter().position(|slot| slot.is_none()) {
-        Some(at) => least + at,
-        None => slots.len(),
-    }
-}
-
 // The number of the node of a name in a directory: the least, where several have the name.
 pub fn first_child(slots: &[Option<Node>], order: &[u64], dir: u64, name: &[u8]) -> Option<u64>
-    requires { IsIndex slots.now order.now }
+    requires { IsIndex dir slots.now order.now }
     ensures { result ≡ child (nodes_of (record { slots = slots.now; room = 0 })) dir name.now }
 {
     // The root has the number 0, and is no child.
@@ -118,6 +90,18 @@ pub fn first_child(slots: &[Option<Node>], order: &[u64], dir: u64, name: &[u8])
     } else {
         None
     }
+}
+
+// The same, found by a pass over all nodes.
+pub fn child_among(slots: &[Option<Node>], dir: u64, name: &[u8]) -> Option<u64>
+    ensures { result ≡ child (nodes_of (record { slots = slots.now; room = 0 })) dir name.now }
+{
+    for n in 0..slots.len() as u64 {
+        if is_child(slots, n, dir, name) {
+            return Some(n);
+        }
+    }
+    None
 }
 
 // Where a number stands, of nodes that are numbered in their order.
@@ -152,10 +136,9 @@ fn numbers_below(alloc: Global, count: u64) -> Result<Vec<u64>, AllocError>
     Ok(numbers)
 }
 
-// The index of nodes that are numbered in their order.
-pub fn index_of(alloc: Global, nodes: &[Node]) -> Result<Vec<u64>, AllocError>
-    ensures index { IfOk result (λ order. IsIndex (map Some nodes.now) order.items) }
-    ensures all { IfOk result (λ order. length order.items ≡ length nodes.now) }
+// The numbers of nodes that are numbered in their order, by the directories that hold them, and in order there.
+pub fn order_of(alloc: Global, nodes: &[Node]) -> Result<Vec<u64>, AllocError>
+    ensures { IfOk result (λ order. AreOrdered (map Some nodes.now) order.items) }
 {
     let mut order = numbers_below(alloc, nodes.len() as u64)?;
     order.sort_unstable_by(|a, b| cmp_numbers(nodes, *a, *b));

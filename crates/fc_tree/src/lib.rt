@@ -11,6 +11,7 @@ mod node;
 mod paths;
 mod reading;
 mod slots;
+mod table;
 mod taken;
 mod tree;
 mod walk;

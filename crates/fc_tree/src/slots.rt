@@ -1,7 +1,8 @@
 // Slots, of which each has the node of its number, or none.
-ghost use Rattle.std.specs.Prelude.{◌≡◌, ◌<◌, ◌≤◌, false, [], ◌∷◌, ◌++◌, Some, None, length, map, slice_set, vec_capacity, vec_len, IsSome, IfOk};
+ghost use Rattle.std.specs.Prelude.{◌≡◌, ◌<◌, ◌≤◌, false, [], ◌∷◌, ◌++◌, Some, None, is_none, length, map, slice_set, vec_capacity, vec_len, IsSome, IfOk};
+ghost use Rattle.std.specs.List.{position_or_len};
 ghost use Rattle.std.specs.Option.{option_map, option_map_or};
-ghost use Rattle.fc_tree.specs.Slots.{is_child, slot_at};
+ghost use Rattle.fc_tree.specs.Slots.{AreFull, is_child, slot_at};
 
 use crate::node::Node;
 use fc_names::fold_cmp_bytes;
@@ -80,4 +81,18 @@ pub fn push_slot(slots: &mut Vec<Option<Node>>, node: Node)
     ensures capacity { vec_capacity slots.old ≤ vec_capacity slots.new }
 {
     let _ = slots.push(Some(node));
+}
+
+// The least number that no node has, where those below `least` have nodes.
+pub fn first_vacant(slots: &[Option<Node>], least: usize) -> usize
+    requires within { least ≤ length slots.now }
+    requires full { AreFull slots.now least }
+    ensures number { result ≡ position_or_len is_none slots.now }
+    ensures within { result ≤ length slots.now }
+    ensures full { AreFull slots.now result }
+{
+    match slots[least..].iter().position(|slot| slot.is_none()) {
+        Some(at) => least + at,
+        None => slots.len(),
+    }
 }

@@ -6,9 +6,9 @@ ghost use Rattle.std.specs.FinMap.{get, insert, remove};
 ghost use Rattle.fc_tree.specs.Nodes.{bound_of, child, found_in, is_directory_node, next_number, nodes_of};
 
 use crate::claim::is_directory;
-use crate::index::{first_child, first_vacant, index_of, place_of, put_number, rank, rank_of};
 use crate::node::{Found, Node};
-use crate::slots::{node_at, push_slot, put_slot, slots_of, take_slot};
+use crate::slots::{first_vacant, node_at, push_slot, put_slot, slots_of, take_slot};
+use crate::table::{Table, table_of};
 use fc_device::NoMemory;
 use fc_names::Path;
 use std::alloc::Global;
@@ -20,8 +20,8 @@ use std::marker::Model;
 pub struct Tree {
     // For each number its node.
     slots: Vec<Option<Node>>,
-    // The numbers of the nodes, in the order of the directories that hold them, and then of their names.
-    order: Vec<u64>,
+    // For each directory the numbers of the nodes that it holds.
+    table: Table,
     // The numbers below it have nodes.
     least: usize,
     // How many more nodes can be added with no more memory.
@@ -34,11 +34,11 @@ impl Model for Tree {
     ghost Value = { Numbers };
 
     ghost use Rattle.std.specs.Prelude.{vec_capacity};
-    ghost use Rattle.fc_tree.specs.Index.{IsHeld};
+    ghost use Rattle.fc_tree.specs.Table.{IsHeld};
 
     ghost view = { λ t. record { slots = t.slots.items; room = t.room } };
 
-    ghost invariant = { λ t. IsHeld t.slots.items t.order.items t.least t.room (vec_capacity t.slots) (vec_capacity t.order) };
+    ghost invariant = { λ t. IsHeld t.slots.items t.table t.least t.room (vec_capacity t.slots) };
 }
 
 impl Tree {
@@ -46,12 +46,13 @@ impl Tree {
     pub(crate) fn from_nodes(alloc: Global, nodes: Vec<Node>) -> Result<Tree, NoMemory>
         ensures { IfOk result (λ tree. tree.slots ≡ map Some nodes.items) }
     {
-        let order = index_of(alloc, &nodes)?;
+        let table = table_of(alloc, &nodes)?;
         let slots = slots_of(alloc, nodes)?;
+        let least = slots.len();
         Ok(Tree {
             slots,
-            order,
-            least: 0,
+            table,
+            least,
             room: 0,
         })
     }
@@ -85,7 +86,7 @@ impl Tree {
     pub fn child(&self, dir: u64, name: &[u8]) -> Option<u64>
         ensures { result ≡ child (nodes_of self.now) dir name.now }
     {
-        first_child(&self.slots, &self.order, dir, name)
+        self.table.child(&self.slots, dir, name)
     }
 
     /// Where a path leads. Names are compared by folding.
@@ -114,13 +115,13 @@ impl Tree {
         ensures bound { bound_of self.new ≡ bound_of self.old }
         ensures room { self.new.room ≡ self.old.room }
     {
-        let at = rank_of(&self.slots, &self.order, n);
-        self.order.remove(at);
+        self.table.take(&self.slots, n);
         self.least = self.least.min(n as usize);
         take_slot(&mut self.slots, n)
     }
 
-    /// Puts a node under a number below the bound that no node has. It takes no memory.
+    /// Puts a node under a number below the bound that no node has. It never runs out of memory: if there is none for the
+    /// number among those of its directory, these lists are given up, and names are looked for among all nodes.
     pub fn put_back(&mut self, n: u64, node: Node)
         requires below { n < bound_of self.old }
         requires free { get (nodes_of self.old) n ≡ None }
@@ -129,8 +130,7 @@ impl Tree {
         ensures bound { bound_of self.new ≡ bound_of self.old }
         ensures room { self.new.room ≡ self.old.room }
     {
-        let at = rank(&self.slots, &self.order, &place_of(n, &node));
-        put_number(&mut self.order, at, n);
+        self.table.put(&self.slots, n, &node);
         put_slot(&mut self.slots, n, node);
     }
 
@@ -141,7 +141,7 @@ impl Tree {
         ensures free { get (nodes_of self.old) result ≡ None }
         ensures same { self.new ≡ self.old }
     {
-        self.least = first_vacant(&self.slots, &self.order, self.least);
+        self.least = first_vacant(&self.slots, self.least);
         self.least as u64
     }
 
@@ -167,14 +167,13 @@ impl Tree {
         ensures room { self.new.room + 1 ≡ self.old.room }
     {
         let n = self.slots.len() as u64;
-        let at = rank(&self.slots, &self.order, &place_of(n, &node));
-        put_number(&mut self.order, at, n);
+        self.table.put(&self.slots, n, &node);
         push_slot(&mut self.slots, node);
         self.room -= 1;
         n
     }
 
-    /// Adds a node under the least number that no node has, which is the result. It takes no memory.
+    /// Adds a node under the least number that no node has, which is the result. As `put_back`, it never runs out of memory.
     pub fn add(&mut self, node: Node) -> u64
         requires { 0 < self.old.room }
         ensures number { result ≡ next_number self.old }
@@ -201,8 +200,6 @@ impl Tree {
     {
         let room = self.room + 1;
         self.slots.reserve(room)?;
-        self.order
-            .reserve(self.slots.len() + room - self.order.len())?;
         self.room = room;
         Ok(())
     }

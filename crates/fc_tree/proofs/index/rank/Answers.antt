@@ -11,4 +11,4 @@ returns c =
     let order = c.args.order.now in
     let key = shown c.args.place.now in
     rank_is slots order key c.partition_point.result c.partition_point.ensures.bound
-    (c.partition_point.ensures.partitioned (is_before slots key) (always_returns_same _ _ _ (λ a r q h. search rules)) (partitioned slots order key c.requires))
+    (c.partition_point.ensures.partitioned (is_before slots key) (always_returns_same _ _ _ (λ a r q h. search rules)) (partitioned key.holder slots order key c.requires))

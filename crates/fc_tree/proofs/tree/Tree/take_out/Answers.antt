@@ -1,13 +1,13 @@
-use Rattle.std.proofs.Common.{None, sym, ap, ◌∙◌, subst, arith, length}
-use Rattle.std.specs.Prelude.{IsSome, slice_index}
+use Rattle.std.proofs.Common.{◌<◌, None, sym, ap, ◌∙◌, subst, length}
+use Rattle.std.specs.Prelude.{IsSome}
 use Rattle.fc_tree.specs.Nodes.{Numbers}
 use Rattle.fc_tree.specs.Slots.{slot_at}
 use Rattle.fc_tree.proofs.SlotLemmas.{get-nodes_of, slot_within}
 use Rattle.fc_tree.proofs.ChangeLemmas.{held_cleared, nodes_taken, slot_set, slot_set_other}
 use Rattle.fc_tree.proofs.tree.Tree.take_out.Goals as goal
 
-pub rank_of-at-requires-clause-there : goal.rank_of-at-requires-clause-there
-rank_of-at-requires-clause-there c =
+pub take-requires-clause-there : goal.take-requires-clause-there
+take-requires-clause-there c =
     let seen = ap (λ (t : Numbers). t.slots) c.self.view_is in
     subst IsSome (get-nodes_of c.args.self.now c.args.n ∙ sym (ap (λ s. slot_at s c.args.n) (c.deref.ensures.value ∙ seen))) c.requires
 
@@ -19,13 +19,13 @@ take_slot-requires c =
 pub invariant_of-self : goal.invariant_of-self
 invariant_of-self c =
     let slots = c.self.inside.slots.items in
-    let order = c.self.inside.order.items in
-    held_cleared slots c.take_slot.new.slots.items order c.remove.new.self.items c.self.inside.least _ c.self.inside.room c.rank_of-at.result c.args.n _ _ _ _ c.take_slot.result c.self.invariant
+    let within : c.args.n < length slots = slot_within slots c.args.n c.take_slot.result c.take_slot.ensures.node in
+    held_cleared slots c.take_slot.new.slots.items c.self.inside.table c.take.new.self c.self.inside.least _ c.self.inside.room c.args.n _ _ c.self.invariant
     c.min-self-inside.ensures
-    c.take_slot.ensures.node
-    (omega (arith, c.rank_of-at.ensures.within, ap length c.deref-2.ensures.value))
-    (sym (ap (λ o. slice_index o c.rank_of-at.result) c.deref-2.ensures.value) ∙ c.rank_of-at.ensures.number)
-    c.take_slot.ensures.items c.remove.ensures.items c.take_slot.ensures.capacity c.remove.ensures.capacity
+    (c.take.ensures c.take_slot.new.slots.items
+    (ap (λ s. slot_at s c.args.n) c.take_slot.ensures.items ∙ slot_set slots c.args.n None within)
+    (λ m apart. ap (λ s. slot_at s m) c.take_slot.ensures.items ∙ slot_set_other slots c.args.n None m apart ∙ ap (λ s. slot_at s m) (sym c.deref.ensures.value)))
+    c.take_slot.ensures.items c.take_slot.ensures.capacity
 
 pub returns-clause-node : goal.returns-clause-node
 returns-clause-node c =

@@ -1,18 +1,12 @@
-use Rattle.std.proofs.Common.{rules, refl, ◌≡◌, ◌+◌, ◌∙◌, length, drop, position, sym, ap, arith}
+use Rattle.std.proofs.Common.{rules, ◌≡◌, ◌+◌, ◌∙◌, length, drop, position, sym, ap, arith}
 use Rattle.std.specs.Prelude.{is_none}
 use Rattle.std.specs.Option.{unwrap_or}
 use Rattle.std.proofs.lemmas.List.{length-drop}
 use Rattle.std.proofs.lemmas.Iterator.{YieldsList-from_slice}
 use Rattle.std.proofs.lemmas.Iterator.Search.{position_from_yields_List}
 use borrow.Author.Tests.{tests}
-use Rattle.fc_tree.proofs.ChangeLemmas.{vacant_past, vacant_found, rest_whole}
-use Rattle.fc_tree.proofs.index.first_vacant.Goals as goal
-
-pub returns-then-order-slots-clause-number : goal.returns-then-order-slots-clause-number
-returns-then-order-slots-clause-number c = (vacant_past c.args.slots.now c.args.order.now _ c.requires.index (search rules) refl).number
-
-pub returns-then-order-slots-clause-full : goal.returns-then-order-slots-clause-full
-returns-then-order-slots-clause-full c = (vacant_past c.args.slots.now c.args.order.now _ c.requires.index (search rules) refl).full
+use Rattle.fc_tree.proofs.ChangeLemmas.{vacant_found, rest_whole}
+use Rattle.fc_tree.proofs.slots.first_vacant.Goals as goal
 
 pub returns-in-Some-clause-number : goal.returns-in-Some-clause-number
 returns-in-Some-clause-number c =
