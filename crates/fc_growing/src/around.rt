@@ -235,7 +235,7 @@ pub fn write_around<D: Disk>(
 
 // ---- taken over
 
-// These directories say what was written. It takes no memory.
+// These directories say what was written. It never runs out of memory.
 fn set_bodies(tree: &mut Tree, around: Vec<Rewrite>)
     requires { All (λ r. IsSome (get (nodes_of tree.old) r.node)) around.items }
     ensures { nodes_of tree.new ≡ with_bodies (said_in around.items) (nodes_of tree.old) }
@@ -246,7 +246,7 @@ fn set_bodies(tree: &mut Tree, around: Vec<Rewrite>)
     }
 }
 
-// The grown directory has its new place. It takes no memory.
+// The grown directory has its new place. It never runs out of memory.
 fn set_place(tree: &mut Tree, grown: Regrowth)
     requires { IsSome (get (nodes_of tree.old) grown.node) }
     ensures { nodes_of tree.new ≡ with_place grown (nodes_of tree.old) }
@@ -258,7 +258,7 @@ fn set_place(tree: &mut Tree, grown: Regrowth)
     tree.put_back(grown.node, node);
 }
 
-// The owner of a node has the place that the node's entry says. It takes no memory.
+// The owner of a node has the place that the node's entry says. It never runs out of memory.
 fn set_owner(owners: &mut Owners, tree: &Tree, places: &Places, n: u64)
     requires node { IsSome (get (nodes_of tree.now) n) }
     requires owner { IsTrue (has_node owners.old n) }
@@ -269,7 +269,7 @@ fn set_owner(owners: &mut Owners, tree: &Tree, places: &Places, n: u64)
 }
 
 /// The directories around the grown one say what was written, and the grown one has its new address and length, by a map that has its
-/// space. What it says itself stays. It takes no memory.
+/// space. What it says itself stays. It never runs out of memory.
 pub fn take_over_around(
     tree: &mut Tree,
     owners: &mut Owners,

@@ -261,7 +261,7 @@ pub fn admit_object(volume: &mut Volume, n: u64, dir: u64, e: &Entry) -> Result<
     Ok(())
 }
 
-/// The volume has a directory that has grown, and those around it. It takes no memory.
+/// The volume has a directory that has grown, and those around it. It never runs out of memory.
 pub fn take_over_growing(volume: &mut Volume, r: Growing)
     requires { CanTakeOver (nodes_of volume.old.tree) volume.old.owners r }
     ensures { HasTakenOver volume.old volume.new r }

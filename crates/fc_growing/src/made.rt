@@ -137,7 +137,7 @@ fn draft_grown(
     }
 }
 
-// The volume has a new directory that was written, and the one that holds it, which has grown. It takes no memory.
+// The volume has a new directory that was written, and the one that holds it, which has grown. It never runs out of memory.
 fn take_over(volume: &mut Volume, change: GrownMaking)
     requires can { CanTakeOver (nodes_of volume.old.tree) volume.old.owners change.growing }
     requires room { 0 < volume.old.tree.room }

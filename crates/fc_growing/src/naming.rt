@@ -206,7 +206,7 @@ fn parted(others: Vec<Rewrite>, moved: bool) -> (Option<Rewrite>, Option<Rewrite
     (own, source)
 }
 
-/// The volume has the directory that has grown, those around it, and the object under its new name. It takes no memory.
+/// The volume has the directory that has grown, those around it, and the object under its new name. It never runs out of memory.
 pub fn take_over_name(volume: &mut Volume, change: Naming)
     requires { CanTakeName (nodes_of volume.old.tree) volume.old.owners change }
     ensures { HasTakenName volume.old volume.new change }

@@ -61,7 +61,7 @@ fn admit_file(volume: &mut Volume, n: u64, dir: u64, e: &Entry) -> Result<(), No
     Ok(())
 }
 
-// The volume has a new file that was written, and the directory that holds it, which has grown. It takes no memory.
+// The volume has a new file that was written, and the directory that holds it, which has grown. It never runs out of memory.
 fn take_over(volume: &mut Volume, change: GrownFile)
     requires can { CanTakeOver (nodes_of volume.old.tree) volume.old.owners change.growing }
     requires room { 0 < volume.old.tree.room }

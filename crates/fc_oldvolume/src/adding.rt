@@ -45,7 +45,7 @@ pub fn admit(volume: &mut Volume, n: u64, holder: u64, e: &Entry) -> Result<(), 
 }
 
 /// A node for which there is room comes into the tree, under the next number, and the directory that holds it says what a draft
-/// says. It takes no memory.
+/// says. It never runs out of memory.
 pub fn add_object(tree: &mut Tree, above: Draft, node: Node)
     requires directory { IsSome (get (nodes_of tree.old) node.holder) }
     requires room { 0 < tree.old.room }

@@ -184,7 +184,7 @@ fn map_of(places: &Places) -> OldMap
     }
 }
 
-// The volume has the new map, and the owners are as its nodes are now. It takes no memory.
+// The volume has the new map, and the owners are as its nodes are now. It never runs out of memory.
 fn take_over(volume: &mut Volume, map: OldMap)
     ensures { HasSquashed volume.old volume.new map }
 {

@@ -71,7 +71,7 @@ fn write_making<D: Disk>(disk: &mut D, places: &Places, r: &Making) -> Result<()
     write_directory(disk, places, &r.directory)
 }
 
-// The volume has the new directory. It takes no memory.
+// The volume has the new directory. It never runs out of memory.
 fn hold_object(volume: &mut Volume, change: Making)
     requires directory { IsSome (get (nodes_of volume.old.tree) change.directory.node) }
     requires room { 0 < volume.old.tree.room }

@@ -21,7 +21,7 @@ use fc_tree::{Body, Node};
 use fc_volume::changes::rewrite::Rewrite;
 use fc_volume::{CommandError, Copies, Volume};
 
-// The volume has a new file. It takes no memory.
+// The volume has a new file. It never runs out of memory.
 fn put_object(volume: &mut Volume, change: NewFile)
     requires directory { IsSome (get (nodes_of volume.old.tree) change.filing.directory.node) }
     requires room { 0 < volume.old.tree.room }

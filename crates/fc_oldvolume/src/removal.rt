@@ -75,7 +75,7 @@ fn write_removal<D: Disk>(disk: &mut D, places: &Places, r: &Removal) -> Result<
     write_some(disk, &r.map)
 }
 
-// The nodes become those of a removal. It takes no memory.
+// The nodes become those of a removal. It never runs out of memory.
 fn take_over(tree: &mut Tree, directory: Rewrite, n: u64)
     requires directory { IsSome (get (nodes_of tree.old) directory.node) }
     requires object { IsSome (get (nodes_of tree.old) n) }
@@ -100,7 +100,7 @@ pub fn hold_map(places: &mut Places, map: Option<OldMap>)
     *places = Places::new(Space::OldMapped(map));
 }
 
-// The volume is without an object. It takes no memory.
+// The volume is without an object. It never runs out of memory.
 fn remove_object(volume: &mut Volume, change: Removal)
     requires directory { IsSome (get (nodes_of volume.old.tree) change.directory.node) }
     requires object { IsSome (get (nodes_of volume.old.tree) change.node) }

@@ -31,7 +31,7 @@ pub fn admit_owner(volume: &mut Volume, owner: Option<Owner>) -> Result<(), NoMe
     make_room(&mut volume.owners, owner)
 }
 
-// The volume has a file in the place of another. It takes no memory.
+// The volume has a file in the place of another. It never runs out of memory.
 fn replace_object(volume: &mut Volume, change: Replacement)
     requires directory { IsSome (get (nodes_of volume.old.tree) change.filing.directory.node) }
     requires object { IsSome (get (nodes_of volume.old.tree) change.node) }

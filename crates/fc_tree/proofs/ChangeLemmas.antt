@@ -12,8 +12,10 @@ use Rattle.fc_dirs.proofs.SearchLemmas.{place_or_end}
 use Rattle.fc_tree.specs.declared.node.Node.{Node}
 use Rattle.fc_tree.specs.Nodes.{Numbers, nodes_of, numbered_from}
 use Rattle.fc_tree.specs.declared.table.Table.{Table}
+use Rattle.fc_tree.specs.declared.vacancy.Vacancy.{Vacancy}
 use Rattle.fc_tree.specs.Slots.{slot_at, AreFull, AreSameBut}
 use Rattle.fc_tree.specs.Table.{AreIndexed, IsHeld}
+use Rattle.fc_tree.specs.Vacancy.{IsVacancy}
 use Rattle.fc_tree.proofs.SlotLemmas.{get-nodes_of, other, level}
 
 -- ---- slots
@@ -41,16 +43,6 @@ slot_pushed_other (x ∷ slots) o zero apart = refl
 slot_pushed_other (x ∷ slots) o (suc m) apart = slot_pushed_other slots o m (λ e. apart (ap suc e))
 
 -- ---- vacant numbers
-
-full_set : (slots : List (Option Node)) (least n : ℕ) (node : Node) → n < length slots → AreFull slots least → AreFull (slice_set slots n (Some node)) least
-full_set slots least n node within full m below = go (cases_eq m n) where
-  go : (m ≡ n) ⊎ (m ≡ n → ⊥) → is_some (slot_at (slice_set slots n (Some node)) m) ≡ true
-  go (inl e) = ap (λ k. is_some (slot_at (slice_set slots n (Some node)) k)) e ∙ ap is_some (slot_set slots n (Some node) within)
-  go (inr apart) = ap is_some (slot_set_other slots n (Some node) m apart) ∙ full m below
-
-full_cleared : (slots : List (Option Node)) (least n : ℕ) → AreFull slots least → AreFull (slice_set slots n None) (min least n)
-full_cleared slots least n full m below =
-    ap is_some (slot_set_other slots n None m (λ e. omega (arith, below, e))) ∙ full m (omega (arith, below))
 
 -- the search may begin behind numbers that have nodes
 vacant_from : (slots : List (Option Node)) (least : ℕ) → least ≤ length slots → AreFull slots least → position_or_len is_none slots ≡ least + position_or_len is_none (drop least slots)
@@ -102,28 +94,47 @@ pub vacant_found : (slots : List (Option Node)) (least n : ℕ) (r : Option ℕ)
 vacant_found slots least n r within full found is =
     is_vacant slots n (is ∙ ap (λ k. least + k) (place_or_end is_none (drop least slots) r found) ∙ sym (vacant_from slots least within full))
 
+-- ---- where the search begins
+
+pub vacancy_past : (slots : List (Option Node)) (count : ℕ) (vacancy : Vacancy) → length slots ≡ count → AreFull slots count → vacancy.least ≡ count → vacancy.others ≡ 0 → IsVacancy slots vacancy
+vacancy_past slots count vacancy size full least none = record {
+  within = omega (arith, size, least);
+  full = subst (AreFull slots) (sym least) full;
+  others_within = omega (arith, none);
+  others = λ m below apart. absurd (omega (arith, below, none));
+}
+
+-- a node is taken out
+pub vacancy_taken : (slots new : List (Option Node)) (n : ℕ) (old vacancy : Vacancy) → AreSameBut n slots new → length new ≡ length slots → IsVacancy slots old → vacancy.taken ≡ n → vacancy.others ≡ old.least → vacancy.least ≡ min old.least n
+    → IsVacancy new vacancy
+vacancy_taken slots new n old vacancy same size is taken others least =
+    let within = is.within in record {
+      within = omega (arith, within, size, least);
+      full = λ m below. (ap is_some (same m (λ e. omega (arith, below, least, e))) ∙ is.full m (omega (arith, below, least)));
+      others_within = omega (arith, within, size, others);
+      others = λ m below apart. (ap is_some (same m (λ e. apart (e ∙ sym taken))) ∙ is.full m (omega (arith, below, others)));
+    }
+
 -- ---- what is held
 
-pub held_set : (slots new : List (Option Node)) (table longer : Table) (least room n cs cs' : ℕ) (node : Node) → IsHeld slots table least room cs → n < length slots
-    → AreIndexed new longer → new ≡ slice_set slots n (Some node) → cs' ≡ cs → IsHeld new longer least room cs'
-held_set slots new table longer least room n cs cs' node held within index made slots_stay =
+pub held_set : (slots new : List (Option Node)) (table longer : Table) (vacancy next : Vacancy) (room n cs cs' : ℕ) (node : Node) → IsHeld slots table vacancy room cs
+    → AreIndexed new longer → IsVacancy new next → new ≡ slice_set slots n (Some node) → cs' ≡ cs → IsHeld new longer next room cs'
+held_set slots new table longer vacancy next room n cs cs' node held index vacant made slots_stay =
     let size : length new ≡ length slots = ap length made ∙ length-set slots n (Some node) in
     record {
       index = index;
       slots_room = omega (arith, size, slots_stay, held.slots_room);
-      least_within = omega (arith, size, held.least_within);
-      full = subst (λ s. AreFull s least) (sym made) (full_set slots least n node within held.full);
+      vacant = vacant;
     }
 
-pub held_cleared : (slots new : List (Option Node)) (table shorter : Table) (least less room n cs cs' : ℕ) → IsHeld slots table least room cs → less ≡ min least n
-    → AreIndexed new shorter → new ≡ slice_set slots n None → cs' ≡ cs → IsHeld new shorter less room cs'
-held_cleared slots new table shorter least less room n cs cs' held fewer index made slots_stay =
+pub held_cleared : (slots new : List (Option Node)) (table shorter : Table) (vacancy next : Vacancy) (room n cs cs' : ℕ) → IsHeld slots table vacancy room cs
+    → AreIndexed new shorter → IsVacancy new next → new ≡ slice_set slots n None → cs' ≡ cs → IsHeld new shorter next room cs'
+held_cleared slots new table shorter vacancy next room n cs cs' held index vacant made slots_stay =
     let size : length new ≡ length slots = ap length made ∙ length-set slots n None in
     record {
       index = index;
       slots_room = omega (arith, size, slots_stay, held.slots_room);
-      least_within = omega (arith, size, fewer, held.least_within);
-      full = subst (λ s. AreFull s less) (sym made) (subst (AreFull (slice_set slots n None)) (sym fewer) (full_cleared slots least n held.full));
+      vacant = vacant;
     }
 
 -- ---- the nodes

@@ -3,17 +3,16 @@ use Rattle.std.specs.Prelude.{◌≤◌, ℕ, ◌+◌, IsTrue, List, length, Opt
 use Rattle.fc_alloc.specs.Held.{nodes_at}
 use Rattle.fc_tree.specs.declared.node.Node.{Node}
 use Rattle.fc_tree.specs.declared.table.Table.{Table}
-use Rattle.fc_tree.specs.Slots.{AreFull}
+use Rattle.fc_tree.specs.declared.vacancy.Vacancy.{Vacancy}
+use Rattle.fc_tree.specs.Vacancy.{IsVacancy}
 use Rattle.fc_tree.specs.Index.{IsIndex}
 
 -- unless it was given up, the table has each directory's numbers, in order
 abbrev pub AreIndexed : List (Option Node) → Table → Type 0
 AreIndexed slots table = IsTrue table.complete → (dir : ℕ) → IsIndex dir slots (nodes_at table.lists.items dir)
 
--- The table is that of the slots, and there is room for as many more slots, with no more memory. The numbers below the least
--- that may have no node have nodes.
-pub record IsHeld (slots : List (Option Node)) (table : Table) (least room capacity : ℕ) : Type 0 where
+-- Table and vacancy are those of the slots, and there is room for as many more slots, with no more memory.
+pub record IsHeld (slots : List (Option Node)) (table : Table) (vacancy : Vacancy) (room capacity : ℕ) : Type 0 where
   pub index : AreIndexed slots table
   pub slots_room : length slots + room ≤ capacity
-  pub least_within : least ≤ length slots
-  pub full : AreFull slots least
+  pub vacant : IsVacancy slots vacancy

@@ -14,6 +14,7 @@ mod slots;
 mod table;
 mod taken;
 mod tree;
+mod vacancy;
 mod walk;
 
 ghost use Rattle.fc_tree.specs.Agree.{NodesLaw};

@@ -7,8 +7,9 @@ ghost use Rattle.fc_tree.specs.Nodes.{bound_of, child, found_in, is_directory_no
 
 use crate::claim::is_directory;
 use crate::node::{Found, Node};
-use crate::slots::{first_vacant, node_at, push_slot, put_slot, slots_of, take_slot};
+use crate::slots::{node_at, push_slot, put_slot, slots_of, take_slot};
 use crate::table::{Table, table_of};
+use crate::vacancy::Vacancy;
 use fc_device::NoMemory;
 use fc_names::Path;
 use std::alloc::Global;
@@ -22,8 +23,8 @@ pub struct Tree {
     slots: Vec<Option<Node>>,
     // For each directory the numbers of the nodes that it holds.
     table: Table,
-    // The numbers below it have nodes.
-    least: usize,
+    // Where the least number is looked for that no node has.
+    vacancy: Vacancy,
     // How many more nodes can be added with no more memory.
     room: usize,
 }
@@ -38,7 +39,7 @@ impl Model for Tree {
 
     ghost view = { λ t. record { slots = t.slots.items; room = t.room } };
 
-    ghost invariant = { λ t. IsHeld t.slots.items t.table t.least t.room (vec_capacity t.slots) };
+    ghost invariant = { λ t. IsHeld t.slots.items t.table t.vacancy t.room (vec_capacity t.slots) };
 }
 
 impl Tree {
@@ -48,11 +49,11 @@ impl Tree {
     {
         let table = table_of(alloc, &nodes)?;
         let slots = slots_of(alloc, nodes)?;
-        let least = slots.len();
+        let vacancy = Vacancy::past(slots.len());
         Ok(Tree {
             slots,
             table,
-            least,
+            vacancy,
             room: 0,
         })
     }
@@ -116,7 +117,7 @@ impl Tree {
         ensures room { self.new.room ≡ self.old.room }
     {
         self.table.take(&self.slots, n);
-        self.least = self.least.min(n as usize);
+        self.vacancy.take(n);
         take_slot(&mut self.slots, n)
     }
 
@@ -131,6 +132,7 @@ impl Tree {
         ensures room { self.new.room ≡ self.old.room }
     {
         self.table.put(&self.slots, n, &node);
+        self.vacancy.put(n);
         put_slot(&mut self.slots, n, node);
     }
 
@@ -141,8 +143,7 @@ impl Tree {
         ensures free { get (nodes_of self.old) result ≡ None }
         ensures same { self.new ≡ self.old }
     {
-        self.least = first_vacant(&self.slots, self.least);
-        self.least as u64
+        self.vacancy.find(&self.slots)
     }
 
     // Puts a node under a number below the bound.
@@ -168,6 +169,7 @@ impl Tree {
     {
         let n = self.slots.len() as u64;
         self.table.put(&self.slots, n, &node);
+        self.vacancy.put(n);
         push_slot(&mut self.slots, node);
         self.room -= 1;
         n

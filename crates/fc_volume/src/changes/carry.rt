@@ -115,7 +115,7 @@ fn write_placed<D: Disk>(
     }
 }
 
-// The nodes and owners become those after the move. It takes no memory.
+// The nodes and owners become those after the move. It never runs out of memory.
 fn take_carried(tree: &mut Tree, owners: &mut Owners, change: Carrying)
     requires { CanTakeOver (nodes_of tree.old) owners.old (relocation_of change) }
     ensures nodes { nodes_of tree.new ≡ carried_nodes change (nodes_of tree.old) }

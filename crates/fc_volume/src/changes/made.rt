@@ -25,7 +25,7 @@ use crate::{CommandError, Copies, Volume};
 use fc_device::{Disk, DiskFault, NoMemory};
 use fc_tree::{Node, Tree};
 
-// The nodes become those after a new directory was made. It takes no memory.
+// The nodes become those after a new directory was made. It never runs out of memory.
 fn take_over(tree: &mut Tree, change: Making)
     requires directory { IsSome (get (nodes_of tree.old) change.directory.node) }
     requires room { 0 < tree.old.room }

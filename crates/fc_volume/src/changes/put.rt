@@ -23,7 +23,7 @@ use crate::{CommandError, Volume};
 use fc_device::{Disk, NoMemory};
 use fc_tree::{Body, Node, Tree};
 
-// The nodes become those after a new file was made. It takes no memory.
+// The nodes become those after a new file was made. It never runs out of memory.
 fn take_over(tree: &mut Tree, change: NewFile)
     requires directory { IsSome (get (nodes_of tree.old) change.filing.directory.node) }
     requires room { 0 < tree.old.room }

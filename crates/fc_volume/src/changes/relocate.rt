@@ -114,7 +114,7 @@ fn write_relocation<D: Disk>(
     }
 }
 
-// A directory says what it says after the rewriting, if there is one. It takes no memory.
+// A directory says what it says after the rewriting, if there is one. It never runs out of memory.
 fn set_more(tree: &mut Tree, more: Option<Rewrite>)
     requires { HasMore (nodes_of tree.old) more }
     ensures { nodes_of tree.new ≡ with_more more (nodes_of tree.old) }
@@ -125,7 +125,7 @@ fn set_more(tree: &mut Tree, more: Option<Rewrite>)
     }
 }
 
-// Another directory holds the object of a node, if it has moved. It takes no memory.
+// Another directory holds the object of a node, if it has moved. It never runs out of memory.
 fn set_holder(tree: &mut Tree, moved: bool, n: u64, dir: u64)
     requires { IsSome (get (nodes_of tree.old) n) }
     ensures nodes { nodes_of tree.new ≡ (if moved then with_holder n dir (nodes_of tree.old) else nodes_of tree.old) }
@@ -139,7 +139,7 @@ fn set_holder(tree: &mut Tree, moved: bool, n: u64, dir: u64)
     tree.put_back(n, node);
 }
 
-// An owner takes the place of the one of its node, if there is one. It takes no memory.
+// An owner takes the place of the one of its node, if there is one. It never runs out of memory.
 fn set_owner(owners: &mut Owners, owner: Option<Owner>)
     requires { HasOwner owners.old owner }
     ensures { owners.new ≡ with_owner owner owners.old }
@@ -150,7 +150,7 @@ fn set_owner(owners: &mut Owners, owner: Option<Owner>)
     }
 }
 
-/// The nodes and owners become those of a relocation. It takes no memory.
+/// The nodes and owners become those of a relocation. It never runs out of memory.
 pub fn take_over(tree: &mut Tree, owners: &mut Owners, change: Relocation)
     requires { CanTakeOver (nodes_of tree.old) owners.old change }
     ensures nodes { nodes_of tree.new ≡ relocated change (nodes_of tree.old) }

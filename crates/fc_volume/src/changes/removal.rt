@@ -97,7 +97,7 @@ fn write_removal<D: Disk>(
     }
 }
 
-// The nodes become those of a removal. It takes no memory.
+// The nodes become those of a removal. It never runs out of memory.
 fn take_over(tree: &mut Tree, change: Removal)
     requires directory { IsSome (get (nodes_of tree.old) change.directory.node) }
     requires object { IsSome (get (nodes_of tree.old) change.node) }

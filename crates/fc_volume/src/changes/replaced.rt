@@ -48,7 +48,7 @@ pub fn make_room(owners: &mut Owners, owner: Option<Owner>) -> Result<(), NoMemo
     owners.add(owner)
 }
 
-/// The node's owner becomes this, or goes if there is none. It takes no memory.
+/// The node's owner becomes this, or goes if there is none. It never runs out of memory.
 pub fn set_owner(owners: &mut Owners, node: u64, owner: Option<Owner>)
     requires { HasOwner owners.old owner }
     ensures { HasOwnerNow owner node owners.old owners.new }
@@ -59,7 +59,7 @@ pub fn set_owner(owners: &mut Owners, node: u64, owner: Option<Owner>)
     }
 }
 
-// The nodes become those after a file came in the place of another. It takes no memory.
+// The nodes become those after a file came in the place of another. It never runs out of memory.
 fn take_nodes(tree: &mut Tree, change: Replacement)
     requires directory { IsSome (get (nodes_of tree.old) change.filing.directory.node) }
     requires object { IsSome (get (nodes_of tree.old) change.node) }

@@ -33,7 +33,7 @@ pub struct Rewording {
     pub entry: Entry,
 }
 
-/// The nodes become those of a rewording. It takes no memory.
+/// The nodes become those of a rewording. It never runs out of memory.
 pub fn take_over(tree: &mut Tree, change: Rewording)
     requires directory { IsSome (get (nodes_of tree.old) change.directory.node) }
     requires object { IsSome (get (nodes_of tree.old) change.node) }

@@ -19,7 +19,7 @@ pub fn body_of(draft: Draft) -> Body
     }
 }
 
-/// The directory of a node says what the draft says. It takes no memory.
+/// The directory of a node says what the draft says. It never runs out of memory.
 pub fn set_body(tree: &mut Tree, n: u64, draft: Draft)
     requires { IsSome (get (nodes_of tree.old) n) }
     ensures nodes { nodes_of tree.new ≡ with_body n (body_in (directory_in draft)) (nodes_of tree.old) }
@@ -31,7 +31,7 @@ pub fn set_body(tree: &mut Tree, n: u64, draft: Draft)
     tree.put_back(n, node);
 }
 
-/// The object of a node has another entry. It takes no memory.
+/// The object of a node has another entry. It never runs out of memory.
 pub fn set_entry(tree: &mut Tree, n: u64, e: Entry)
     requires { IsSome (get (nodes_of tree.old) n) }
     ensures nodes { nodes_of tree.new ≡ with_entry n e (nodes_of tree.old) }

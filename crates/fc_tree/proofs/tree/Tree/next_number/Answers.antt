@@ -10,6 +10,6 @@ use Rattle.fc_tree.proofs.tree.Tree.next_number.Goals as goal
 pub returns-clause-free : goal.returns-clause-free
 returns-clause-free c =
     let tree = c.args.self.now in
-    let number : c.first_vacant-self-inside.result ≡ position_or_len is_none tree.slots =
-    c.first_vacant-self-inside.ensures.number ∙ ap (position_or_len is_none) (c.deref.ensures.value ∙ ap (λ (t : Numbers). t.slots) c.self.view_is) in
-    get-nodes_of tree c.first_vacant-self-inside.result ∙ ap (slot_at tree.slots) number ∙ slot_vacant tree.slots
+    let number : c.find.result ≡ position_or_len is_none tree.slots =
+    c.find.ensures.number ∙ ap (position_or_len is_none) (c.deref.ensures.value ∙ ap (λ (t : Numbers). t.slots) c.self.view_is) in
+    get-nodes_of tree c.find.result ∙ ap (slot_at tree.slots) number ∙ slot_vacant tree.slots

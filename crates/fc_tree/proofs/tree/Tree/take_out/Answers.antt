@@ -1,4 +1,4 @@
-use Rattle.std.proofs.Common.{◌<◌, None, sym, ap, ◌∙◌, subst, length}
+use Rattle.std.proofs.Common.{◌<◌, None, sym, ap, ◌∙◌, subst, length, length-set}
 use Rattle.std.specs.Prelude.{IsSome}
 use Rattle.fc_tree.specs.Nodes.{Numbers}
 use Rattle.fc_tree.specs.Slots.{slot_at}
@@ -20,11 +20,12 @@ pub invariant_of-self : goal.invariant_of-self
 invariant_of-self c =
     let slots = c.self.inside.slots.items in
     let within : c.args.n < length slots = slot_within slots c.args.n c.take_slot.result c.take_slot.ensures.node in
-    held_cleared slots c.take_slot.new.slots.items c.self.inside.table c.take.new.self c.self.inside.least _ c.self.inside.room c.args.n _ _ c.self.invariant
-    c.min-self-inside.ensures
+    let cleared = slot_set_other slots c.args.n None in
+    held_cleared slots c.take_slot.new.slots.items c.self.inside.table c.take.new.self c.self.inside.vacancy c.take-2.new.self c.self.inside.room c.args.n _ _ c.self.invariant
     (c.take.ensures c.take_slot.new.slots.items
     (ap (λ s. slot_at s c.args.n) c.take_slot.ensures.items ∙ slot_set slots c.args.n None within)
     (λ m apart. ap (λ s. slot_at s m) c.take_slot.ensures.items ∙ slot_set_other slots c.args.n None m apart ∙ ap (λ s. slot_at s m) (sym c.deref.ensures.value)))
+    (c.take-2.ensures slots c.take_slot.new.slots.items (λ m apart. ap (λ s. slot_at s m) c.take_slot.ensures.items ∙ cleared m apart) (ap length c.take_slot.ensures.items ∙ length-set slots c.args.n None) c.self.invariant.vacant)
     c.take_slot.ensures.items c.take_slot.ensures.capacity
 
 pub returns-clause-node : goal.returns-clause-node
