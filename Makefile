@@ -14,8 +14,9 @@ build:
 	cd crates/fcore && rt run -- data/hello.adf < stdin
 	@echo "the program lies in $(PROGRAM)"
 
-# fcdisc finds its parts in lib/fcore, and fcore beside itself.
-install: build
+# fcdisc finds its parts in lib/fcore, and fcore beside itself. Nothing is built here: whoever installs may be root, without the kit.
+install:
+	@test -x $(PROGRAM) || { echo "$(PROGRAM) isn't there: run make first" >&2; exit 1; }
 	install -D $(PROGRAM) $(INSTALLED)/bin/fcore
 	install -D scripts/fcdisc $(INSTALLED)/bin/fcdisc
 	install -d $(INSTALLED)/lib/fcore/fcdisc_lib
@@ -27,8 +28,8 @@ uninstall:
 	rm -rf $(INSTALLED)/lib/fcore
 	rm -f $(foreach page,$(PAGES),$(INSTALLED)/share/man/man$(subst .,,$(suffix $(page)))/$(notdir $(page)))
 
-# A fresh disc that --new makes, and the embedded image: each file of demo/ is a script, and the words of its run stand beside it.
-# The program is built unproved, with checks at run time; the proofs are the business of make test.
+# Two fresh discs, E+ and F, and the embedded image: each file of demo/ is a script, and NAME.args has the arguments of its run.
+# The program is built unproved, with checks at run time: make test proves.
 demo:
 	@head -n 20 demo/*
 	cd crates/fcore && rt try --data hello.adf=data/hello.adf --cases ../../demo
@@ -41,7 +42,7 @@ test:
 	RT_JOBS=$(LANES) rt ci
 	tools/check_program.sh $(PROGRAM)
 
-# The rates of all layers and the time of compact, or of those that are named, as by make bench BENCHES=checks
+# The rates of the lower layers and the time of compact, or of those that are named, as by make bench BENCHES=checks
 BENCHES = $(LAYERS) compact
 LAYERS = $(shell sed 's/^benches: //' crates/fc_bench/stdout)
 

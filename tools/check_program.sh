@@ -2,7 +2,8 @@
 # Runs the built program over the images of tools/images.py, and compares output and status with that table; then the examples
 # of README.md. No image may be changed. Then demos, the program where the system fails it, commands that change, fcdisc over the
 # program, what `make install` puts there, and the man pages. Pages are tried first: the reader that was written from that of the
-# format has to say the same as the other reader, and what docs/PROVED.md quotes has to stand in the source.
+# format has to say the same as the other reader, what docs/PROVED.md quotes has to stand in the source, and the edits that it and
+# docs/CHANGING.md name have to be there.
 #
 # usage: tools/check_program.sh PROGRAM
 set -u
@@ -15,7 +16,7 @@ trap 'rm -rf "$folder"' EXIT
 cd "$folder" || exit 1
 python3 "$tools/images.py" --check || exit 1
 python3 "$tools/format_reader.py" --compare || exit 1
-python3 "$tools/quotations.py" "$tools/../docs/PROVED.md" || exit 1
+python3 "$tools/quotations.py" "$tools/../docs/PROVED.md" "$tools/../docs/CHANGING.md" || exit 1
 python3 "$tools/images.py" "$folder" || exit 1
 mkdir run bin
 ln -s "$program" bin/fcore
@@ -97,9 +98,9 @@ expect() {
 # What `make install` puts there works from there, and `make uninstall` takes all of it away.
 install_is_right() {
   local root=$folder/root
-  make -s -C "$tools/.." -o build install uninstall PROGRAM="$program" DESTDIR="$root" PREFIX=/there || return 1
+  make -s -C "$tools/.." install uninstall PROGRAM="$program" DESTDIR="$root" PREFIX=/there || return 1
   [ -z "$(find "$root" ! -type d)" ] || return 1
-  make -s -C "$tools/.." -o build install PROGRAM="$program" DESTDIR="$root" PREFIX=/there || return 1
+  make -s -C "$tools/.." install PROGRAM="$program" DESTDIR="$root" PREFIX=/there || return 1
   [ "$(env -u FCORE "$root/there/bin/fcdisc" get hello.adf '$.Hello' -)" = Hello ] || return 1
   [ -e "$root/there/share/man/man1/fcdisc.1" ] && [ -e "$root/there/share/man/man1/fcore.1" ]
 }
