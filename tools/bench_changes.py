@@ -5,9 +5,9 @@ usage: tools/bench_changes.py PROGRAM [FILES [OBJECTS]]    10,000 files, and 50,
 
 Files of 100 bytes are saved in one script into 100 directories of a disc with big directories, into one after another, and then, on
 another disc, into all in turn. At a tenth of the files and at all of them, and then over discs of 1,000 directories and 50,000 files
-(tools/large_image.py), with small directories and with big ones, each command is run LINES times in one script: the processor time beside that of an empty script, each the least of ROUNDS rounds,
-and the calls of the system beside its calls, by strace or, without it, by the recorder of tools/check_outside.c, both a command.
-Between them files are made in one directory, which grows, and files are moved into one.
+(tools/large_image.py), with small directories and with big ones, each command is run LINES times in one script: the processor time
+beside that of an empty script, each the least of ROUNDS rounds, and the calls of the system beside its calls, by strace or, without
+it, by the recorder of tools/check_outside.c, both a command. Between them files are made in one directory, which grows, and files are moved into one.
 """
 import os
 import resource
@@ -126,8 +126,8 @@ def many_files(bench, image, files):
 
 
 def full_directories(bench, image, files):
-    """Files of 100 bytes saved into one of 100 directories after another, every tenth first, and the commands in those ten at a tenth of the
-    files and at all of them: only the disc has more files then, and no directory in which a command works."""
+    """Files of 100 bytes saved into one of 100 directories after another, every tenth first, and the commands in those ten at a tenth
+    of the files and at all of them: only the disc has more files then, and no directory in which a command works."""
     empty_disc(image)
     each, done = files // DIRECTORIES, 0
     chosen = list(range(0, DIRECTORIES, DIRECTORIES // 10))
@@ -143,7 +143,8 @@ def full_directories(bench, image, files):
 
 
 def one_directory(bench, image, files):
-    """Files of 0 bytes in one directory, which grows at every fiftieth; and files that share identifiers, and so are copied, moved into one."""
+    """Files of 0 bytes in one directory, which grows at every fiftieth; and files that share identifiers, and so are copied, moved into
+    one."""
     empty_disc(image)
     for first, last in ((0, files // 20), (files // 20, files // 5)):
         lines = ["create $.D0.File%05d %s 0" % (at, WORDS) for at in range(first, last)]

@@ -1,6 +1,6 @@
 """What has to be answered to one command over an image: the refusal, the tree afterwards, and the space that is needed.
 
-The refusals 1 to 11 and the tree are [Answer] of the standard, the refusals 12 to 16 and the needs are its [Short].
+The refusals 1 to 11 and the tree are `answer` of fc_model, the refusals 12 to 16 and the needs are `short` of fc_image::effects.
 """
 from change_state import MAP_OWNER, head_space, key_of, name_space, same_name, size_for
 from filecore import BIG_LIMIT
@@ -99,7 +99,7 @@ def object_refusals(state, c):
 
 
 def refusal_of(state, c, read_only=False):
-    """The number of the refusal by [Answer], or 0."""
+    """The number of the refusal by `answer`, or 0."""
     if c.fault:
         return c.fault
     found = {11} if read_only and c.word in CHANGING + ("compact",) else set()
@@ -120,7 +120,7 @@ def spelled_target(state, c):
 
 
 def tree_after(state, c):
-    """The tree by [Answer], for a command that isn't refused. A file's content is its bytes, or its entry before the command."""
+    """The tree by `answer`, for a command that isn't refused. A file's content is its bytes, or its entry before the command."""
     tree = state.tree()
     path = spelled_target(state, c) if c.word != "delete" else tuple(state.objects[c.key()].path)
     if c.word == "delete":
@@ -149,7 +149,7 @@ def low_byte(shape, room, length):
 
 
 class Needs:
-    """What an accepted command needs: [Short]'s n, Slack, N and g; `refusal` is the number that it owes, or 0."""
+    """What a command needs that `answer` accepts, as `short` has it: bytes, slack, growth; `refusal` is the number by `short`, or 0."""
 
     def __init__(self, state, c):
         self.state, self.c = state, c
@@ -157,7 +157,7 @@ class Needs:
         self.length = self.new_length()
         self.slack = self.find_slack() if state.is_new and c.is_making_file() else None
         self.grown, self.size = None, 0  # the key of the directory that grows, and its new size
-        self.alone, self.growth = False, 0  # `growth`: bytes of new space for it, g
+        self.alone, self.growth = False, 0  # `growth`: bytes of new space for it
         self.full = False
         self.judge_directory()
         self.refusal = 12 if self.full else self.space_refusal()
@@ -300,7 +300,7 @@ def given(holes, run):
 
 
 def owed_refusal(state, c, read_only=False):
-    """The number of the refusal of any kind, and the needs of a changing command that isn't refused by [Answer]."""
+    """The number of the refusal of any kind, and the needs of a changing command that isn't refused by `answer`."""
     number = refusal_of(state, c, read_only)
     if number or c.word not in CHANGING:
         return number, None

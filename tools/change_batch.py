@@ -1,6 +1,8 @@
-"""A script that was run at once: its replies and its tree followed by [Answer] alone, and what has to be true of the image at its end.
+"""A script that was run at once: its replies and its tree, which follow from `answer` of fc_model alone, and what has to be true of the
+image at its end.
 
-Which holes are taken is open, so refusals for want of space are believed; all others are owed, and so are the replies of reading lines.
+Which holes are taken is open, so refusals for lack of space are accepted; all others have to come, and so have the replies of reading
+lines.
 """
 import re
 

@@ -1,6 +1,7 @@
-"""What a changing command may do to directories: their entries, in their order, and what a rewritten head says ([Steady]).
+"""What a changing command may do to directories: their entries, in their order, and what a rewritten head says (`Steady` of
+fc_image::effects).
 
-If the standard leaves a choice (a heap packed or appended to, the padding of names that were there, the last mark of a small
+If the rules leave a choice (a heap packed or appended to, the padding of names that were there, the last mark of a small
 directory, the length of a small directory in an entry that a command names), each allowed form passes.
 """
 from change_state import head_space, name_in, name_space, same_name, size_for

@@ -1,4 +1,5 @@
-"""What a changing command may do to an image: the differences from [Answer]'s tree, [Placed] and [Steady] of the standard.
+"""What a changing command may do to an image: the differences from the tree of `answer` (fc_model), and from `Placed` and
+`Steady` of fc_image::effects.
 
 Each function answers a list of differences in words; the list is empty if all is as it has to be.
 """

@@ -1,4 +1,4 @@
-"""Worked rows of the standard that change discs: a disc, a script, the replies, and whether the disc is opened to be read only."""
+"""Worked rows that change discs: a disc, a script, the replies, and whether the disc is opened to be read only."""
 import hashlib
 
 import damaged_images

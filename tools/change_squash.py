@@ -1,4 +1,4 @@
-"""What `compact` may do to a disc with an old map: the differences from case 4 of [Run], from Settled and from Compacted."""
+"""What `compact` may do to a disc with an old map: the differences from `Compacts` of fc_image::effects."""
 from change_directories import lines_of
 from change_effects import old_map_bytes, outside_differences
 from change_state import changed_sectors

@@ -1,6 +1,6 @@
 """An image as the check of changing commands sees it: what tools/read_image.py finds, the heads of its directories, its owners.
 
-Written from the standard with Python's standard library alone; no code is shared with fcore.
+Written from docs/FORMAT.md with Python's standard library alone; no code is shared with fcore.
 """
 from filecore import SMALL_SIZE, big_directory_check, folded, number
 from read_image import Disc, NewMap, cut_name, kind_of

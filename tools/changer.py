@@ -1,6 +1,6 @@
 """A plain implementation of the commands that change a volume, for the self-test of tools/check_changes.py.
 
-It edits a copy of the image in memory and draws what the standard leaves open by chance. Its refusals are those of
+It edits a copy of the image in memory and draws by chance what the rules leave open. Its refusals are those of
 tools/change_answer.py. With the name of a fault it does one thing wrong.
 """
 from change_answer import WORDS, low_byte, owed_refusal

@@ -1,5 +1,5 @@
 #!/usr/bin/env python3
-"""Changes discs of all kinds with the built program, and compares each reply and each image with what the standard allows.
+"""Changes discs of all kinds with the built program, and compares each reply and each image with what the rules allow.
 
 usage: tools/check_changes.py [--program PATH] [--seed N] [--images N] [--commands N] [--only WORD,..] [--old] [--batch] [--table]
                               [--first N] [--most N]    from disc N on; ends after N discs that differ
@@ -7,10 +7,12 @@ usage: tools/check_changes.py [--program PATH] [--seed N] [--images N] [--comman
                                              --only FAULT over that alone
 
 Commands are drawn by chance over the image as it stands, and run one by one, followed by reading lines over what they touched.
-The reply has to be that of [Answer] and [Short] over the image before; the image after has to be one that [Placed] and [Steady]
-allow (tools/change_effects.py), and the program has to say of it what tools/read_image.py says. Then the whole script runs
-over the first image at once; with --batch it runs at once only. --old takes old maps in place of new ones. --only draws these
-commands alone. Few images are spread over the kinds of discs. --table counts replies and events. The first difference ends a disc: the script is printed, and the images are kept. Exit status 1 if there is any.
+The rules are those of crates/fc_model, crates/fc_image/specs/effects and docs/FORMAT.md. The reply has to be that of `answer` and
+`short` over the image before; the image after has to be one that `Placed` and `Steady` allow (tools/change_effects.py), and the
+program has to say of it what tools/read_image.py says. Then the whole script runs over the first image at once; with --batch it runs
+at once only. --old takes old maps in place of new ones. --only draws these commands alone. Few images are spread over the kinds of
+discs. --table counts replies and events. The first difference ends a disc: the script is printed, and the images are kept. Exit
+status 1 if there is any.
 """
 import argparse
 import collections
@@ -273,7 +275,7 @@ class Run:
 
 
 def rows_differ(actor, options):
-    """The worked rows of the standard, of the commands that are drawn, in words."""
+    """The worked rows of the commands that are drawn, compared; prints what differs."""
     wrong, count = [], 0
     for make, script, wanted, *read_only in change_rows.ROWS:
         words = {line.split()[0] for line in script.split("\n")} & set(ALL)
@@ -287,7 +289,7 @@ def rows_differ(actor, options):
                 wrong.append("%s\n  wanted %s\n  got    %s" % parts)
             elif end != image:
                 wrong += ["%s\n  %s" % (script.replace("\n", ", ")[-200:], one) for one in left_differences(image, end)]
-    print("\n".join(wrong + ["%d rows of the standard, %d differ" % (count, len(wrong))]), flush=True)
+    print("\n".join(wrong + ["%d worked rows, %d differ" % (count, len(wrong))]), flush=True)
     return bool(wrong)
 
 

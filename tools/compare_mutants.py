@@ -1,8 +1,9 @@
 #!/usr/bin/env python3
-"""Damages images at random, also by addresses and lengths at bounds, mostly with right checks, and compares what fcore answers with the reader in Python.
+"""Damages images at random, also by addresses and lengths at bounds, mostly with right checks, and compares what fcore answers with
+the reader in Python.
 
 usage: tools/compare_mutants.py PROGRAM [COUNT [SEED]]
-It stands outside the gate. What differs is written to mutant-SEED-NUMBER.adf in the current folder.
+It is not part of the gate. What differs is written to mutant-SEED-NUMBER.adf in the current folder.
 """
 import collections
 import os

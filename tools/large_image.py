@@ -1,7 +1,7 @@
 #!/usr/bin/env python3
 """Makes a hard disc of 518 MB with directories of 50 files each, to see how long fcore takes to open it.
 
-usage: tools/large_image.py IMAGE [DIRECTORIES]    1,000 directories, where none are said
+usage: tools/large_image.py IMAGE [DIRECTORIES]    1,000 directories, if no number is given
 """
 import sys
 

@@ -2,7 +2,7 @@
 """Compares the processor time of fcore with that of other programs that do as much, and measures its memory and system calls.
 
 usage: tools/measure.py FCORE [ROUNDS]    in a folder for temporary files (TMPDIR) with 8 GB free; five rounds by default
-It stands outside the gate: what it measures depends on the machine. In each round the contestants of a task run in turn; the
+It is not part of the gate: what it measures depends on the machine. In each round the contestants of a task run in turn; the
 least time of each counts. The images are generated, and are in memory when they are read. What isn't installed (mke2fs and
 e2fsck, xxd, strace, /usr/bin/time) is left out.
 """

@@ -3,7 +3,7 @@
 # of the disc or the line that says why it isn't accepted; at the end how often each answer came. Nothing is written to the images.
 #
 # usage: tools/survey.sh FOLDER [PROGRAM]
-# This is for images made by others and stands outside the gate, since the repository has none.
+# This is for images made by others and not part of the gate, since the repository has none.
 set -u
 if [ $# -lt 1 ] || [ $# -gt 2 ] || [ ! -d "$1" ]; then
   sed -n '5s/^# //p' "$0" >&2
@@ -28,9 +28,9 @@ tell() {
       printf '%s; %s; entries in $: %s' "$counts" "$space" "$entries"
       ;;
     3) printf '%s' "$text" ;;
-    4) printf 'a call of its file failed' ;;
-    7) printf 'no memory was found' ;;
-    124) printf 'stopped after two minutes' ;;
+    4) printf 'I/O error' ;;
+    7) printf 'out of memory' ;;
+    124) printf 'killed after two minutes' ;;
     *) printf 'not opened' ;;
   esac
 }

@@ -2,7 +2,7 @@
 """Compares the time of `fcdisc extract` of 50,000 files of a disc of 518 MB with that of `cp -r` of the extracted tree.
 
 usage: tools/time_extract.py FCDISC FCORE [ROUNDS]    in a folder for temporary files, as TMPDIR says; three rounds by default
-It stands outside the gate: what it measures depends on the machine. Extract may take at most five times as long.
+It is not part of the gate: what it measures depends on the machine. Extract may take at most five times as long.
 """
 import os
 import resource
