@@ -15,7 +15,7 @@ from .output import remove_unfinished
 from .program import BadImage
 
 DESCRIPTION = "Daily jobs with images of Acorn discs (RISC OS, ADFS), by the program fcore."
-EPILOG = "Status: 0 all went well, 1 something failed or was refused, 2 wrong words. See fcdisc(1)."
+EPILOG = "Status: 0 all went well, 1 something failed or was refused, 2 wrong arguments. See fcdisc(1)."
 PATH_HELP = "as $.Docs.Letter; what isn't plain in a name as %%XX, as the list shows it"
 
 
@@ -43,18 +43,18 @@ def add_reading(added: Any) -> None:
     job.add_argument("image", metavar="IMAGE")
     job.add_argument("path", metavar="PATH", nargs="?", default="$", help=PATH_HELP)
 
-    job = add_job(added, "get", jobs.get, "Take one file out. fcore runs twice.")
+    job = add_job(added, "get", jobs.get, "Extract one file. fcore runs twice.")
     add_order(job)
     job.add_argument("image", metavar="IMAGE")
     job.add_argument("path", metavar="PATH", help=PATH_HELP)
     job.add_argument("file", metavar="FILE", nargs="?", help="the file to make, or the folder for it; - is standard output")
 
-    job = add_job(added, "extract", jobs.extract, "Take all files out into a folder. It is made if need be; what is there is "
-                  "never replaced. fcore runs once for each level of directories, and once for all files.")
+    job = add_job(added, "extract", jobs.extract, "Extract all files into a folder. It is made if need be; no file that exists is "
+                  "replaced. fcore runs once for each level of directories, and once for all files.")
     add_order(job)
     job.add_argument("image", metavar="IMAGE")
     job.add_argument("folder", metavar="FOLDER")
-    job.add_argument("path", metavar="PATH", nargs="?", default="$", help="of a directory, to take out that alone")
+    job.add_argument("path", metavar="PATH", nargs="?", default="$", help="of a directory, to extract that alone")
 
     job = add_job(added, "check", jobs.check, "Say of each image whether it is whole, what is wrong, and what to do. fcore runs "
                   "once for each image.")
@@ -64,7 +64,7 @@ def add_reading(added: Any) -> None:
 
 def add_order(job: argparse.ArgumentParser) -> None:
     job.add_argument("--order", choices=ORDERS, default="auto", help="of the bytes of an L disc's image: `disc`, or `adl` for "
-                     "interleaved sides; else it is found out, and told where it isn't as it seems")
+                     "interleaved sides; else fcdisc finds it out, and says so if the image isn't in disc order")
 
 
 def add_making(added: Any) -> None:
@@ -114,7 +114,7 @@ def add_changing(added: Any) -> None:
     add_change(added, "compact", changes.compact, "Bring the free space of a disc together.")
 
     job = add_job(added, "convert", convert, "Make a disc of another format with all files of a disc. What can't be on it is "
-                  "told, and the others are.")
+                  "reported; the rest is copied.")
     add_order(job)
     job.add_argument("format", metavar="FORMAT", type=str.upper, choices=jobs.FORMATS, help=", ".join(jobs.FORMATS))
     job.add_argument("image", metavar="FROM")
