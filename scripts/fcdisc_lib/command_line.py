@@ -72,7 +72,7 @@ def add_making(added: Any) -> None:
     job.add_argument("format", metavar="FORMAT", type=str.upper, choices=jobs.FORMATS, help=", ".join(jobs.FORMATS))
     job.add_argument("image", metavar="IMAGE", help="the file to make")
 
-    job = add_job(added, "adl", jobs.adl, "Put the image of an L disc, whose sides are interleaved, into disc order.")
+    job = add_job(added, "adl", jobs.adl, "Copy the image of an L disc, whose sides are interleaved, into disc order.")
     job.add_argument("--back", action="store_true", help="the other way: from disc order to interleaved sides")
     job.add_argument("image", metavar="IMAGE")
     job.add_argument("out", metavar="OUT", help="the file to make")
@@ -126,7 +126,7 @@ def add_change(added: Any, name: str, run: Callable[[argparse.Namespace], int], 
     job = add_job(added, name, run, text + " The image as it was is then called IMAGE~.")
     add_order(job)
     job.add_argument("--in-place", action="store_true", help="change the image itself, without a copy: if that is cut off, the "
-                     "disc may be damaged")
+                     "disc may be damaged; only in disc order and without a header")
     job.add_argument("image", metavar="IMAGE")
     return job
 
