@@ -1,4 +1,5 @@
-//! The same laws if a directory grows.
+//! Laws of volumes in memory (fc_laws) if a big directory grows by a command: nodes and owners, that the parts still agree, and
+//! what a changed volume promises.
 #![tactic(auto)]
 
 pub mod agree;

@@ -1,4 +1,4 @@
-//! What commands do to an image: the space that they need and the refusals for want of it, where new space is taken, what
+//! What commands do to an image: the space that they need and the refusals for lack of it, where new space is taken, what
 //! stays as it was, and what compaction leaves.
 
 ghost use Rattle.fc_image.specs.effects.Rows.{SpaceRows};

@@ -1,5 +1,6 @@
 //! What an image opens as: its kind, its map, the walk over its directories, and the first fault of an image that is not
-//! accepted; and what may change in an image without changing what it opens as.
+//! accepted; and what may change in an image without changing what it opens as. `effects`: what commands do to an image.
+//! `safe`: what the safe mode does.
 //!
 //! Source: the RISC OS PRM, chapter FileCore.
 #![tactic(auto)]

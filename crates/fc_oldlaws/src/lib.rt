@@ -1,4 +1,4 @@
-//! The same laws on discs with old maps.
+//! Laws of volumes in memory (fc_laws) on discs with old maps, and those of their compaction (`moves`).
 #![tactic(auto)]
 
 pub mod agree;

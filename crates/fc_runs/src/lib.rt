@@ -1,5 +1,5 @@
 //! What a run of a script is: each line a step from one image to the next, with its reply; the lines that also move files
-//! of the host; the script of a demo; and what a stop or an early end leaves.
+//! of the host; the script of a demo; and what a crash or an early end leaves.
 #![tactic(auto)]
 
 ghost use Rattle.fc_runs.specs.Headline.{HeadlineLaw};
