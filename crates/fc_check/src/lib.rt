@@ -22,7 +22,7 @@ use fc_space::Space;
 use fc_tree::Tree;
 use space::space_counts;
 
-/// What a checker tells of the disc of a volume whose parts these are: its tree, its map, and the owners of identifiers.
+/// The counts that `check` prints, of a volume with these parts: its tree, its map, and the owners of identifiers.
 /// No memory is taken.
 pub fn report(tree: &Tree, space: &Space, owners: &Owners) -> Report
     ensures { (image : List ℕ) (kind : Kind) (view : Opened) → OpensAs image kind view
