@@ -11,8 +11,9 @@ use crate::kept::Kept;
 use fc_device::{Disk, Extent, Failed};
 use std::alloc::Global;
 
-/// A disk that keeps at most 64 of the sectors of the disk below, those that were used last, and writes through to it.
-/// What it means is what that disk means: whether it is attached, its bytes, what a stop may leave, and so on.
+/// A disk that keeps at most 64 of the sectors of the disk below, and writes through to it. They are those that were used last of
+/// the sectors that were read or written by themselves; of a row of several sectors it keeps none. What it means is what that disk
+/// means: whether it is attached, its bytes, what a crash may leave, and so on.
 #[derive(Drop)]
 pub struct CachedDisk<D: Disk> {
     inner: D,
@@ -164,9 +165,15 @@ impl<D: Disk> Disk for CachedDisk<D> {
         ensures read_calls { (reads_of self.old ≤ reads_of self.new) × (reads_of self.new ≤ reads_of self.old + row.sectors) }
         ensures cause { HasCause (faults_of self.old) (faults_of self.new) result }
 
-        // What is kept stays: a row would drive out the sectors that were used last.
-        ensures kept { self.new.kept ≡ self.old.kept }
+        // A row of one sector is read as that sector. Of longer rows nothing is kept, since they would drive out the sectors that
+        // were used last.
+        ensures hit { row.sectors ≡ 1 → IsTrue (is_kept self.old.kept row.first) → IsOk result }
+        ensures no_call { row.sectors ≡ 1 → IsTrue (is_kept self.old.kept row.first) → self.new.inner ≡ self.old.inner }
+        ensures kept { (row.sectors ≡ 1 → ⊥) → self.new.kept ≡ self.old.kept }
     {
+        if row.sectors == 1 {
+            return self.read(row.first, into);
+        }
         self.inner.read_row(row, into)
     }
 
