@@ -1,5 +1,5 @@
 -- What is kept stays right over the inner disk's calls.
-use Rattle.std.proofs.Common.{◌≡◌, ◌⊎◌, inl, inr, ⊎_elim, ℕ, ◌+◌, ◌*◌, ◌≤◌, List, length, Option, Some, None, option_map, Vec, refl, sym, ◌∙◌, ap, subst}
+use Rattle.std.proofs.Common.{◌≡◌, ◌⊎◌, inl, inr, ⊎_elim, ℕ, Bool, true, false, ◌+◌, ◌*◌, ◌≤◌, List, length, Option, Some, None, option_map, Vec, refl, sym, ◌∙◌, ap, subst}
 use Rattle.std.specs.Global.{Global}
 use Rattle.std.specs.Option.{ForSome}
 use Rattle.std.proofs.lemmas.Bool.{cases_eq}
@@ -7,6 +7,10 @@ use Rattle.fc_device.specs.Sectors.{sector_at, with_sector}
 use Rattle.fc_device.proofs.SectorLemmas.{sector_at-with_sector_same, sector_at-with_sector_other}
 use Rattle.fc_cache.specs.Sectors.{Holds, AreWhole, AreSectors, KeepsNoMore}
 use Rattle.fc_cache.specs.declared.kept.Kept.{Kept}
+
+-- kept or not
+pub never_both : {b : Bool} → b ≡ true → b ≡ false → ⊥
+never_both yes no = cc
 
 -- what is kept is right of the bytes that are told
 abbrev pub AreRight : ℕ → Option (List ℕ) → Kept → Type 0

@@ -5,7 +5,7 @@ ghost use Rattle.fc_device.specs.Faults.{HasCause};
 ghost use Rattle.fc_device.specs.Form.{KeepsForm, IsFresh, IsUntouched};
 ghost use Rattle.fc_device.specs.Sectors.{row_at, sector_at, with_sector};
 ghost use Rattle.fc_device.specs.Stops.{LeavesOnly, SectorOldOrNew, StillLeaves};
-ghost use Rattle.fc_cache.specs.Sectors.{entries_of, is_kept, AreSectors, AreWhole};
+ghost use Rattle.fc_cache.specs.Sectors.{entries_of, is_kept, AreSectors, AreWhole, KeepsRead, KeepsWritten};
 
 use crate::kept::Kept;
 use fc_device::{Disk, Extent, Failed};
@@ -143,6 +143,9 @@ impl<D: Disk> Disk for CachedDisk<D> {
         // A sector that is kept is read, and nothing happens to the disk below: no call of it is made.
         ensures hit { IsTrue (is_kept self.old.kept n) → IsOk result }
         ensures no_call { IsTrue (is_kept self.old.kept n) → self.new.inner ≡ self.old.inner }
+
+        // No sector is forgotten but that one that was used longest ago, if there are too many.
+        ensures keeps { KeepsRead n into.new self.old.kept self.new.kept result }
     {
         if self.kept.get(n, into) {
             return Ok(());
@@ -169,6 +172,7 @@ impl<D: Disk> Disk for CachedDisk<D> {
         // were used last.
         ensures hit { row.sectors ≡ 1 → IsTrue (is_kept self.old.kept row.first) → IsOk result }
         ensures no_call { row.sectors ≡ 1 → IsTrue (is_kept self.old.kept row.first) → self.new.inner ≡ self.old.inner }
+        ensures keeps { row.sectors ≡ 1 → KeepsRead row.first into.new self.old.kept self.new.kept result }
         ensures kept { (row.sectors ≡ 1 → ⊥) → self.new.kept ≡ self.old.kept }
     {
         if row.sectors == 1 {
@@ -190,8 +194,9 @@ impl<D: Disk> Disk for CachedDisk<D> {
         ensures read_calls { reads_of self.new ≡ reads_of self.old }
         ensures cause { HasCause (faults_of self.old) (faults_of self.new) result }
 
-        // Where it fails, the sector isn't kept.
+        // If it fails, the sector isn't kept.
         ensures dropped { OnErr result (is_kept self.new.kept n ≡ false) }
+        ensures keeps { KeepsWritten n from.now self.old.kept self.new.kept result }
     {
         self.kept.remove(n);
         self.inner.write(n, from)?;
@@ -199,7 +204,19 @@ impl<D: Disk> Disk for CachedDisk<D> {
         Ok(())
     }
 
-    fn sync(&mut self) -> Result<(), Failed> {
+    fn sync(&mut self) -> Result<(), Failed>
+        requires { IsTrue (attached_of self.old) }
+        ensures durable { OnOk result (IsFalse (pending_of self.new)) }
+        ensures form { KeepsForm attached_of tells_stops_of gives_of asked_of sectors_of size_of length_of self.old self.new }
+        ensures bytes { bytes_of self.new ≡ bytes_of self.old }
+        ensures stops { LeavesOnly moment_of left_of self.old self.new (left_of self.old (moment_of self.old)) }
+        ensures still { OnErr result (StillLeaves moment_of left_of self.old self.new) }
+        ensures read_calls { reads_of self.new ≡ reads_of self.old }
+        ensures cause { HasCause (faults_of self.old) (faults_of self.new) result }
+
+        // What is kept stays.
+        ensures kept { self.new.kept ≡ self.old.kept }
+    {
         self.inner.sync()
     }
 

@@ -33,6 +33,6 @@ invariant_of-self-2 g c =
     let right = right_without was.kept mid size c.args.n from (d.bytes was.inner) c.requires.whole fits told c.write.ensures.old_or_new was.right c.remove.ensures.no_more c.remove.ensures.none in
     let here = written_at was.kept mid size c.args.n from (d.bytes was.inner) c.requires.whole fits told c.in_ok-write.ensures.written in
     record {
-      whole = still_whole kept kept size _ same (whole_with mid kept size c.args.n from c.requires.whole whole c.put.ensures) (λ n bytes there. there);
-      right = still_right kept kept size _ told told same refl (right_with mid kept size c.args.n from told here right c.put.ensures) (λ n bytes there. there);
+      whole = still_whole kept kept size _ same (whole_with mid kept size c.args.n from c.requires.whole whole c.put.ensures.no_more) (λ n bytes there. there);
+      right = still_right kept kept size _ told told same refl (right_with mid kept size c.args.n from told here right c.put.ensures.no_more) (λ n bytes there. there);
     }
