@@ -8,7 +8,6 @@ mod reader;
 mod sectors;
 mod writer;
 
-pub use fc_device::{Disk, DiskFault, Extent};
 pub use copier::copy_sectors;
 pub use pieces::{read_piece, write_piece};
 pub use reader::ObjectReader;
