@@ -1,5 +1,5 @@
 -- The entries of a cache under their numbers.
-use Rattle.std.proofs.Common.{◌≡◌, ◌⊎◌, inl, inr, ⊎_elim, ℕ, Bool, true, false, nat_eq, cond, List, [], ◌∷◌, length, Contains, Some, None, Result, Ok, Err, OnOk, OnErr, Vec, refl, sym, ◌∙◌, ap, ap₂, subst, arith}
+use Rattle.std.proofs.Common.{◌≡◌, ◌⊎◌, inl, inr, ⊎_elim, ℕ, Bool, true, false, nat_eq, cond, List, [], ◌∷◌, length, is_some, Contains, Some, None, Result, Ok, Err, OnOk, OnErr, Vec, refl, sym, ◌∙◌, ap, ap₂, subst, arith}
 use Rattle.std.proofs.lemmas.Bool.Decides.{nat_tests}
 use Rattle.std.proofs.lemmas.Map.{lookup-remove_entry}
 use Rattle.std.specs.Cmp.{nat_eq_equiv}
@@ -8,6 +8,7 @@ use Rattle.std.specs.List.{IsDistinct}
 use Rattle.std.specs.Map.{keys_of, lookup, remove_entry}
 use Rattle.lru.specs.LruCache.{LruCache, lru_cache, promoted, put_entries}
 use Rattle.lru.proofs.CallerLemmas.{Contains-lookup, Contains-put_entries}
+use Rattle.lru.proofs.Pairs.{promoted_absent}
 use Rattle.lru.proofs.Splits.{Contains-cons, Contains-nil}
 use Rattle.fc_cache.specs.Sectors.{IsPut}
 
@@ -62,13 +63,9 @@ module _ {V : Type 0} where
   none_removed [] n none = refl
   none_removed (e ∷ es) n none = absurd (omega (arith, none))
 
-  -- what isn't there goes nowhere
+  -- what isn't there isn't moved
   pub none_promoted : (es : List (ℕ × V)) (n : ℕ) → is_some (lookup (nat_eq n) es) ≡ false → promoted (nat_eq n) es ≡ es
-  none_promoted es n none = by_entry (lookup_entry (nat_eq n) es) (ap is_some (sym (lookup-lookup_entry (nat_eq n) es)) ∙ none)
-    where
-      by_entry : (o : Option (ℕ × V)) → is_some (option_map (λ e. e.1) o) ≡ false → option_map_or (λ e. e ∷ remove_entry (nat_eq n) es) o es ≡ es
-      by_entry None is = refl
-      by_entry (Some e) is = absurd (cc)
+  none_promoted es n none = (promoted_absent nat_eq (lru_cache es 64) n none).1
 
 -- what is kept after a sector was put
 pub put_is : {T E : Type 0} (result : Result T E) (old new : LruCache ℕ (Vec ℕ Global)) (n : ℕ) (bytes : Vec ℕ Global) (from : List ℕ) (es : List (ℕ × Vec ℕ Global)) → es ≡ old.entries → old.cap ≡ 64

@@ -1,8 +1,9 @@
 -- Sectors of an object that are copied into those of another, one by one.
-use Rattle.std.proofs.Common.{◌≡◌, ◌≤◌, ◌<◌, ◌⊎◌, ⊎_elim, inl, inr, ℕ, ◌+◌, ◌*◌, List, ◌∷◌, ◌++◌, length, get_or, Option, Some, refl, sym, ap, subst, ◌∙◌, arith}
-use Rattle.std.specs.Prelude.{All, option_map, IsFalse}
+use Rattle.std.proofs.Common.{◌≡◌, ◌≤◌, ◌<◌, ◌⊎◌, ⊎_elim, inl, inr, ℕ, ◌+◌, ◌*◌, List, [], ◌∷◌, ◌++◌, length, length-append, get_or, Option, Some, refl, sym, ap, subst, ◌∙◌, arith}
+use Rattle.std.specs.Prelude.{option_map, IsFalse}
 use Rattle.std.specs.Option.{ForSome}
 use Rattle.std.proofs.lemmas.Bool.{cases_eq, cases_lt}
+use Rattle.std.proofs.lemmas.List.{append-nil}
 use Rattle.fc_device.specs.declared.disk.Disk.{Ghosts}
 use Rattle.fc_device.specs.Calls.{StopsAndExitsLeave, StopsAsBefore, StopsTearOne}
 use Rattle.fc_device.specs.Sectors.{sector_at, with_sector}
@@ -72,6 +73,14 @@ next_of_both from to done gone after more here there cut cut' level =
       at_from = first.at;
       at_to = ap (λ (k : ℕ). get_or to k 0) (sym level) ∙ second.at;
     }
+
+-- no more are done than there are
+pub front_few : (sectors done ahead : List ℕ) → sectors ≡ done ++ ahead → length done ≤ length sectors
+front_few sectors done ahead cut = (let long : length sectors ≡ length (done ++ ahead) = ap length cut in omega (arith, long, length-append done ahead))
+
+-- and all of them, if none are ahead
+pub all_done : (sectors done ahead : List ℕ) → sectors ≡ done ++ ahead → ahead ≡ [] → length sectors ≡ length done
+all_done sectors done ahead cut none = ap length (cut ∙ ap (λ (xs : List ℕ). done ++ xs) none ∙ append-nil done)
 
 -- ---- over a disk
 

@@ -1,5 +1,7 @@
-use Rattle.std.proofs.Common.{refl}
+use Rattle.std.proofs.Common.{ℕ, List, Vec, refl, subst}
+use Rattle.std.specs.Global.{Global}
 use Rattle.fc_device.proofs.DiskLaws.{laws, sector_fits}
+use Rattle.fc_cache.specs.Sectors.{IsPut, entries_of}
 use Rattle.fc_cache.proofs.CachedLemmas.{still_whole, still_right, whole_with, right_with, right_without, written_at}
 use Rattle.fc_cache.proofs.cached.CachedDiskDisk.write.Goals as goal
 
@@ -36,3 +38,12 @@ invariant_of-self-2 g c =
       whole = still_whole kept kept size _ same (whole_with mid kept size c.args.n from c.requires.whole whole c.put.ensures.no_more) (λ n bytes there. there);
       right = still_right kept kept size _ told told same refl (right_with mid kept size c.args.n from told here right c.put.ensures.no_more) (λ n bytes there. there);
     }
+
+pub returns-in-Break-1-clause-keeps : goal.returns-in-Break-1-clause-keeps
+returns-in-Break-1-clause-keeps g c = record { written = tt; failed = c.remove.ensures.order }
+
+pub returns-clause-keeps : goal.returns-clause-keeps
+returns-clause-keeps g c = record {
+  written = subst (λ (es : List (ℕ × Vec ℕ Global)). IsPut c.args.n c.args.from.now es (entries_of c.put.new.self)) c.remove.ensures.order c.put.ensures.order;
+  failed = tt;
+}
