@@ -1,7 +1,7 @@
 use Rattle.std.proofs.Common.{◌≡◌, ℕ, length, rules, List, Some, Vec, refl, sym, ◌∙◌, subst}
 use Rattle.std.specs.Global.{Global}
 use Rattle.fc_cache.specs.Sectors.{IsPut, entries_of}
-use Rattle.fc_cache.proofs.CachedLemmas.{never_both, right_with, still_right, still_whole, whole_with}
+use Rattle.fc_cache.proofs.CachedLemmas.{failed_read, never_both, right_with, still_right, still_whole, whole_with}
 use Rattle.fc_cache.proofs.KeptLemmas.{none_promoted}
 use Rattle.fc_cache.proofs.cached.CachedDiskDisk.read.Goals as goal
 
@@ -58,14 +58,11 @@ returns-then-get-clause-keeps g c =
       failed = λ not. absurd (never_both kept not);
     }
 
-pub returns-in-Break-1-clause-keeps : goal.returns-in-Break-1-clause-keeps
-returns-in-Break-1-clause-keeps g c =
+pub returns-in_err-read-clause-keeps : goal.returns-in_err-read-clause-keeps
+returns-in_err-read-clause-keeps g c =
     let out = sym c.get.ensures.kept ∙ c.if-get.false in
-    record {
-      hit = λ is. absurd (never_both is out);
-      miss = λ not. tt;
-      failed = λ not. c.get.ensures.order ∙ none_promoted (entries_of c.args.self.now.kept) c.args.n out;
-    }
+    failed_read c.from_residual.result c.from_residual.ensures.0 c.args.n c.read.new.into c.args.self.now.kept c.get.new.self out
+    (c.get.ensures.order ∙ none_promoted (entries_of c.args.self.now.kept) c.args.n out)
 
 pub returns-clause-keeps : goal.returns-clause-keeps
 returns-clause-keeps g c =

@@ -2,7 +2,7 @@ use Rattle.std.proofs.Common.{ℕ, List, Vec, refl, subst}
 use Rattle.std.specs.Global.{Global}
 use Rattle.fc_device.proofs.DiskLaws.{laws, sector_fits}
 use Rattle.fc_cache.specs.Sectors.{IsPut, entries_of}
-use Rattle.fc_cache.proofs.CachedLemmas.{still_whole, still_right, whole_with, right_with, right_without, written_at}
+use Rattle.fc_cache.proofs.CachedLemmas.{failed_write, still_whole, still_right, whole_with, right_with, right_without, written_at}
 use Rattle.fc_cache.proofs.cached.CachedDiskDisk.write.Goals as goal
 
 pub invariant_of-self : goal.invariant_of-self
@@ -39,8 +39,9 @@ invariant_of-self-2 g c =
       right = still_right kept kept size _ told told same refl (right_with mid kept size c.args.n from told here right c.put.ensures.no_more) (λ n bytes there. there);
     }
 
-pub returns-in-Break-1-clause-keeps : goal.returns-in-Break-1-clause-keeps
-returns-in-Break-1-clause-keeps g c = record { written = tt; failed = c.remove.ensures.order }
+pub returns-in_err-write-clause-keeps : goal.returns-in_err-write-clause-keeps
+returns-in_err-write-clause-keeps g c =
+    failed_write c.from_residual.result c.from_residual.ensures.0 c.args.n c.args.from.now c.args.self.now.kept c.remove.new.self c.remove.ensures.order
 
 pub returns-clause-keeps : goal.returns-clause-keeps
 returns-clause-keeps g c = record {
