@@ -1,12 +1,29 @@
 -- What is kept stays right over the inner disk's calls.
-use Rattle.std.proofs.Common.{◌≡◌, ◌⊎◌, inl, inr, ⊎_elim, ℕ, ◌+◌, ◌*◌, ◌≤◌, List, length, Option, Some, None, option_map, Vec, refl, sym, ◌∙◌, ap, subst}
+use Rattle.std.proofs.Common.{◌≡◌, ◌⊎◌, inl, inr, ⊎_elim, ℕ, Bool, true, false, ◌+◌, ◌*◌, ◌≤◌, List, length, Option, Some, None, Result, Ok, Err, IsErr, nat_eq, option_map, Vec, refl, sym, ◌∙◌, ap, subst}
 use Rattle.std.specs.Global.{Global}
 use Rattle.std.specs.Option.{ForSome}
 use Rattle.std.proofs.lemmas.Bool.{cases_eq}
 use Rattle.fc_device.specs.Sectors.{sector_at, with_sector}
 use Rattle.fc_device.proofs.SectorLemmas.{sector_at-with_sector_same, sector_at-with_sector_other}
-use Rattle.fc_cache.specs.Sectors.{Holds, AreWhole, AreSectors, KeepsNoMore}
+use Rattle.std.specs.Map.{remove_entry}
+use Rattle.fc_cache.specs.Sectors.{Holds, AreWhole, AreSectors, KeepsNoMore, KeepsRead, KeepsWritten, entries_of, is_kept}
 use Rattle.fc_cache.specs.declared.kept.Kept.{Kept}
+
+-- kept or not
+pub never_both : {b : Bool} → b ≡ true → b ≡ false → ⊥
+never_both is not = cc
+
+-- ---- what a call that fails leaves
+
+pub failed_read : {T E : Type 0} (result : Result T E) → IsErr result → (n : ℕ) (into : List ℕ) (old new : Kept) → is_kept old n ≡ false → entries_of new ≡ entries_of old → KeepsRead n into old new result
+failed_read (Ok x) is n into old new out same = absurd (cc)
+failed_read (Err e) is n into old new out same = record { hit = λ kept. absurd (never_both kept out); miss = λ not. tt; failed = λ not. same }
+
+pub failed_write : {T E : Type 0} (result : Result T E) → IsErr result → (n : ℕ) (from : List ℕ) (old new : Kept) → entries_of new ≡ remove_entry (nat_eq n) (entries_of old) → KeepsWritten n from old new result
+failed_write (Ok x) is n from old new gone = absurd (cc)
+failed_write (Err e) is n from old new gone = record { written = tt; failed = gone }
+
+-- ---- what is kept
 
 -- what is kept is right of the bytes that are told
 abbrev pub AreRight : ℕ → Option (List ℕ) → Kept → Type 0

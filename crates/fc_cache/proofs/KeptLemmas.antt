@@ -1,13 +1,16 @@
 -- The entries of a cache under their numbers.
-use Rattle.std.proofs.Common.{◌≡◌, ◌⊎◌, inl, inr, ⊎_elim, ℕ, Bool, true, false, nat_eq, cond, List, [], ◌∷◌, Contains, Some, None, Result, Ok, Err, OnOk, OnErr, refl, sym, ◌∙◌, ap, subst, arith}
+use Rattle.std.proofs.Common.{◌≡◌, ◌⊎◌, inl, inr, ⊎_elim, ℕ, Bool, true, false, nat_eq, cond, List, [], ◌∷◌, length, is_some, Contains, Some, None, Result, Ok, Err, OnOk, OnErr, Vec, refl, sym, ◌∙◌, ap, ap₂, subst, arith}
 use Rattle.std.proofs.lemmas.Bool.Decides.{nat_tests}
 use Rattle.std.proofs.lemmas.Map.{lookup-remove_entry}
 use Rattle.std.specs.Cmp.{nat_eq_equiv}
+use Rattle.std.specs.Global.{Global}
 use Rattle.std.specs.List.{IsDistinct}
 use Rattle.std.specs.Map.{keys_of, lookup, remove_entry}
-use Rattle.lru.specs.LruCache.{LruCache, lru_cache, put_entries}
+use Rattle.lru.specs.LruCache.{LruCache, lru_cache, promoted, put_entries}
 use Rattle.lru.proofs.CallerLemmas.{Contains-lookup, Contains-put_entries}
+use Rattle.lru.proofs.Pairs.{promoted_absent}
 use Rattle.lru.proofs.Splits.{Contains-cons, Contains-nil}
+use Rattle.fc_cache.specs.Sectors.{IsPut}
 
 same_number : (n k : ℕ) → nat_eq n k ≡ true → k ≡ n
 same_number n k test = grind (arith, nat_tests)
@@ -54,3 +57,19 @@ module _ {V : Type 0} where
   removed es n distinct =
       lookup-remove_entry nat_eq_equiv (nat_eq n) (λ x y test. ap (λ (k : ℕ). nat_eq k y) (sym (same_number n x test))) n es distinct
       ∙ ap (λ (b : Bool). cond b None (lookup (nat_eq n) es)) (nat_eq_equiv.refl n)
+
+  -- none is removed of none
+  pub none_removed : (es : List (ℕ × V)) (n : ℕ) → length es ≡ 0 → es ≡ remove_entry (nat_eq n) es
+  none_removed [] n none = refl
+  none_removed (e ∷ es) n none = absurd (omega (arith, none))
+
+  -- what isn't there isn't moved
+  pub none_promoted : (es : List (ℕ × V)) (n : ℕ) → is_some (lookup (nat_eq n) es) ≡ false → promoted (nat_eq n) es ≡ es
+  none_promoted es n none = (promoted_absent nat_eq (lru_cache es 64) n none).1
+
+-- what is kept after a sector was put
+pub put_is : {T E : Type 0} (result : Result T E) (old new : LruCache ℕ (Vec ℕ Global)) (n : ℕ) (bytes : Vec ℕ Global) (from : List ℕ) (es : List (ℕ × Vec ℕ Global)) → es ≡ old.entries → old.cap ≡ 64
+    → bytes.items ≡ from → OnOk result (new ≡ lru_cache (put_entries nat_eq old n bytes) old.cap) → OnErr result (new ≡ old) → IsPut n from es new.entries
+put_is (Ok x) old new n bytes from es same cap is ok err =
+    inr (bytes, is, ap (λ (k : LruCache ℕ (Vec ℕ Global)). k.entries) ok ∙ ap₂ (λ (l : List (ℕ × Vec ℕ Global)) (k : ℕ). put_entries nat_eq (lru_cache l k) n bytes) (sym same) cap)
+put_is (Err e) old new n bytes from es same cap is ok err = inl (ap (λ (k : LruCache ℕ (Vec ℕ Global)). k.entries) err ∙ sym same)

@@ -5,14 +5,15 @@ ghost use Rattle.fc_device.specs.Faults.{HasCause};
 ghost use Rattle.fc_device.specs.Form.{KeepsForm, IsFresh, IsUntouched};
 ghost use Rattle.fc_device.specs.Sectors.{row_at, sector_at, with_sector};
 ghost use Rattle.fc_device.specs.Stops.{LeavesOnly, SectorOldOrNew, StillLeaves};
-ghost use Rattle.fc_cache.specs.Sectors.{entries_of, is_kept, AreSectors, AreWhole};
+ghost use Rattle.fc_cache.specs.Sectors.{entries_of, is_kept, AreSectors, AreWhole, KeepsRead, KeepsWritten};
 
 use crate::kept::Kept;
 use fc_device::{Disk, Extent, Failed};
 use std::alloc::Global;
 
-/// A disk that keeps at most 64 of the sectors of the disk below, those that were used last, and writes through to it.
-/// What it means is what that disk means: whether it is attached, its bytes, what a stop may leave, and so on.
+/// A disk that keeps at most 64 of the sectors of the disk below, and writes through to it. They are those that were used last of
+/// the sectors that were read or written by themselves; of a row of several sectors it keeps none. What it means is what that disk
+/// means: whether it is attached, its bytes, what a crash may leave, and so on.
 #[derive(Drop)]
 pub struct CachedDisk<D: Disk> {
     inner: D,
@@ -142,6 +143,9 @@ impl<D: Disk> Disk for CachedDisk<D> {
         // A sector that is kept is read, and nothing happens to the disk below: no call of it is made.
         ensures hit { IsTrue (is_kept self.old.kept n) → IsOk result }
         ensures no_call { IsTrue (is_kept self.old.kept n) → self.new.inner ≡ self.old.inner }
+
+        // No sector is forgotten but that one that was used longest ago, if there are too many.
+        ensures keeps { KeepsRead n into.new self.old.kept self.new.kept result }
     {
         if self.kept.get(n, into) {
             return Ok(());
@@ -164,9 +168,16 @@ impl<D: Disk> Disk for CachedDisk<D> {
         ensures read_calls { (reads_of self.old ≤ reads_of self.new) × (reads_of self.new ≤ reads_of self.old + row.sectors) }
         ensures cause { HasCause (faults_of self.old) (faults_of self.new) result }
 
-        // What is kept stays: a row would drive out the sectors that were used last.
-        ensures kept { self.new.kept ≡ self.old.kept }
+        // A row of one sector is read as that sector. Of longer rows nothing is kept, since they would drive out the sectors that
+        // were used last.
+        ensures hit { row.sectors ≡ 1 → IsTrue (is_kept self.old.kept row.first) → IsOk result }
+        ensures no_call { row.sectors ≡ 1 → IsTrue (is_kept self.old.kept row.first) → self.new.inner ≡ self.old.inner }
+        ensures keeps { row.sectors ≡ 1 → KeepsRead row.first into.new self.old.kept self.new.kept result }
+        ensures kept { (row.sectors ≡ 1 → ⊥) → self.new.kept ≡ self.old.kept }
     {
+        if row.sectors == 1 {
+            return self.read(row.first, into);
+        }
         self.inner.read_row(row, into)
     }
 
@@ -183,8 +194,9 @@ impl<D: Disk> Disk for CachedDisk<D> {
         ensures read_calls { reads_of self.new ≡ reads_of self.old }
         ensures cause { HasCause (faults_of self.old) (faults_of self.new) result }
 
-        // Where it fails, the sector isn't kept.
+        // If it fails, the sector isn't kept.
         ensures dropped { OnErr result (is_kept self.new.kept n ≡ false) }
+        ensures keeps { KeepsWritten n from.now self.old.kept self.new.kept result }
     {
         self.kept.remove(n);
         self.inner.write(n, from)?;
@@ -192,7 +204,19 @@ impl<D: Disk> Disk for CachedDisk<D> {
         Ok(())
     }
 
-    fn sync(&mut self) -> Result<(), Failed> {
+    fn sync(&mut self) -> Result<(), Failed>
+        requires { IsTrue (attached_of self.old) }
+        ensures durable { OnOk result (IsFalse (pending_of self.new)) }
+        ensures form { KeepsForm attached_of tells_stops_of gives_of asked_of sectors_of size_of length_of self.old self.new }
+        ensures bytes { bytes_of self.new ≡ bytes_of self.old }
+        ensures stops { LeavesOnly moment_of left_of self.old self.new (left_of self.old (moment_of self.old)) }
+        ensures still { OnErr result (StillLeaves moment_of left_of self.old self.new) }
+        ensures read_calls { reads_of self.new ≡ reads_of self.old }
+        ensures cause { HasCause (faults_of self.old) (faults_of self.new) result }
+
+        // What is kept stays.
+        ensures kept { self.new.kept ≡ self.old.kept }
+    {
         self.inner.sync()
     }
 

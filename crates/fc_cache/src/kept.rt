@@ -1,7 +1,9 @@
 // The sectors that are kept, by their numbers.
-ghost use Rattle.std.specs.Prelude.{◌≡◌, ◌⊎◌, false, ℕ, Some, [], length, Vec, IsTrue};
+ghost use Rattle.std.specs.Prelude.{◌≡◌, ◌⊎◌, false, ℕ, Some, [], length, nat_eq, Vec, IsTrue};
 ghost use Rattle.std.specs.Global.{Global};
+ghost use Rattle.std.specs.Map.{remove_entry};
 ghost use Rattle.std.specs.Option.{ForSome};
+ghost use Rattle.lru.specs.LruCache.{promoted};
 
 use lru::LruCache;
 use std::alloc::Global;
@@ -19,7 +21,7 @@ pub struct Kept {
 }
 
 impl Kept {
-    ghost use Rattle.fc_cache.specs.Sectors.{entries_of, is_kept, AreWhole, Holds, KeepsNoMore};
+    ghost use Rattle.fc_cache.specs.Sectors.{entries_of, is_kept, AreWhole, Holds, IsPut, KeepsNoMore};
 
     /// Keeps nothing yet.
     pub fn new(alloc: Global) -> Kept
@@ -32,11 +34,12 @@ impl Kept {
         Kept { cache, alloc }
     }
 
-    /// Fills `into` with sector n, if it is kept, and answers whether it is.
+    /// Fills `into` with sector n, if it is kept, and answers whether it is. It is then the one that was used last.
     pub fn get(&mut self, n: u64, into: &mut [u8]) -> bool
         requires whole { AreWhole (length into.old) self.old }
         ensures kept { result ≡ is_kept self.old n }
         ensures filled { IsTrue result → (bytes : Vec ℕ Global) × Holds self.old n bytes × (into.new ≡ bytes.items) }
+        ensures order { entries_of self.new ≡ promoted (nat_eq n) (entries_of self.old) }
         ensures no_more { KeepsNoMore self.old self.new }
     {
         match &mut self.cache {
@@ -54,7 +57,8 @@ impl Kept {
     /// Keeps these bytes as sector n, if memory is found. The sector that was used longest ago goes where there are too
     /// many.
     pub fn put(&mut self, n: u64, from: &[u8])
-        ensures { (m : ℕ) (bytes : Vec ℕ Global) → Holds self.new m bytes → Holds self.old m bytes ⊎ ((m ≡ n) × (bytes.items ≡ from.now)) }
+        ensures no_more { (m : ℕ) (bytes : Vec ℕ Global) → Holds self.new m bytes → Holds self.old m bytes ⊎ ((m ≡ n) × (bytes.items ≡ from.now)) }
+        ensures order { IsPut n from.now (entries_of self.old) (entries_of self.new) }
     {
         if let Some(cache) = &mut self.cache {
             if let Ok(bytes) = from.to_vec(self.alloc) {
@@ -67,6 +71,7 @@ impl Kept {
     pub fn remove(&mut self, n: u64)
         ensures gone { is_kept self.new n ≡ false }
         ensures none { (bytes : Vec ℕ Global) → Holds self.new n bytes → ⊥ }
+        ensures order { entries_of self.new ≡ remove_entry (nat_eq n) (entries_of self.old) }
         ensures no_more { KeepsNoMore self.old self.new }
     {
         if let Some(cache) = &mut self.cache {

@@ -3,4 +3,5 @@ pub mod AheadLemmas
 pub mod BlockLemmas
 pub mod CallLemmas
 pub mod WriteLemmas
+pub mod CopyLemmas
 pub mod PassLemmas

@@ -2,12 +2,13 @@
 //! piece is one of them, by its number from 0.
 #![tactic(auto)]
 
+mod copier;
 mod pieces;
 mod reader;
 mod sectors;
 mod writer;
 
-pub use fc_device::{Disk, DiskFault, Extent};
+pub use copier::copy_sectors;
 pub use pieces::{read_piece, write_piece};
 pub use reader::ObjectReader;
 pub use writer::write_object;

@@ -1,7 +1,7 @@
 // One sector of an object.
 ghost use Rattle.std.specs.Prelude.{◌≡◌, ◌⊎◌, ◌<◌, ◌≤◌, ◌+◌, ◌^◌, All, length, option_map, IsTrue, OnOk};
 ghost use Rattle.std.specs.Option.{ForSome};
-ghost use Rattle.fc_device.specs.Calls.{FailsByFault, SameForm, StopsAsBefore, StopsTearOne};
+ghost use Rattle.fc_device.specs.Calls.{FailsByFault, OnlyReads, SameForm, StopsTearOne};
 ghost use Rattle.fc_device.specs.Sectors.{sector_at, with_sector};
 ghost use Rattle.fc_device.specs.Stops.{StillLeaves};
 ghost use Rattle.fc_objects.specs.Extents.{object_sector, sectors_in};
@@ -24,8 +24,8 @@ fn object_sector(at: &[Extent], sector: u64) -> u64
 }
 
 /// Fills `into`, which has the bytes of a sector of the disk, with an object's sector of a number. The object is given
-/// by its extents, all of which lie on the disk, and has a sector of that number. Takes one read call, and time that is
-/// linear in the extents. It fails only where the disk's read fails; `into` then holds anything.
+/// by its extents, all of which lie on the disk, and has a sector of that number. Takes at most one read call, and time
+/// that is linear in the extents. It fails only where the disk's read fails; `into` then holds anything.
 pub fn read_piece<D: Disk>(
     disk: &mut D,
     at: &[Extent],
@@ -37,12 +37,8 @@ pub fn read_piece<D: Disk>(
     requires within { sector < length (sectors_in at.now) }
     requires whole { length into.old ≡ D.sector_size disk.old }
     ensures filled { OnOk result (ForSome (D.bytes disk.old) (λ image. into.new ≡ sector_at (D.sector_size disk.old) image (object_sector at.now sector))) }
-    ensures form { SameForm D.Disk disk.old disk.new }
-    ensures bytes { D.bytes disk.new ≡ D.bytes disk.old }
-    ensures pending { D.pending disk.new ≡ D.pending disk.old }
-    ensures stops { StopsAsBefore D.Disk disk.old disk.new }
-    ensures still { StillLeaves D.moment D.left_since disk.old disk.new }
-    ensures read_calls { (D.read_calls disk.old ≤ D.read_calls disk.new) × (D.read_calls disk.new ≤ D.read_calls disk.old + 1) }
+    ensures reads { OnlyReads D.Disk disk.old disk.new }
+    ensures few { D.read_calls disk.new ≤ D.read_calls disk.old + 1 }
     ensures cause { FailsByFault D.Disk disk.old disk.new result }
 {
     disk.read(object_sector(at, sector), into)?;

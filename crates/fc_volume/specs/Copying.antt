@@ -1,5 +1,5 @@
 -- Sectors that are copied into others.
-use Rattle.std.specs.Prelude.{◌≡◌, ◌≤◌, ◌<◌, ◌^◌, ℕ, false, List, length, get_or}
+use Rattle.std.specs.Prelude.{◌≡◌, ◌≤◌, ◌<◌, ◌^◌, ℕ, false, List, length}
 use Rattle.fc_device.specs.Sectors.{sector_at}
 use Rattle.fc_newmap.specs.Map.{Map}
 use Rattle.fc_copies.specs.Copies.{HoldsCopies}
@@ -12,10 +12,6 @@ use Rattle.fc_volume.specs.Compacting.{KeepsMap}
 pub record ChangesOnly (size : ℕ) (sectors was image : List ℕ) : Type 0 where
   pub length_stays : length image ≡ length was
   pub others : (s : ℕ) → is_among sectors s ≡ false → sector_at size image s ≡ sector_at size was s
-
--- The first sectors of `to`, so many, have what those of `from` had.
-abbrev pub AreFirstCopied : ℕ → ℕ → List ℕ → List ℕ → List ℕ → List ℕ → Type 0
-AreFirstCopied size count from to was image = (i : ℕ) → i < count → sector_at size image (get_or to i 0) ≡ sector_at size was (get_or from i 0)
 
 -- Sectors were copied to others, of which none is there twice. There are enough, and not too many to be counted.
 pub record AreCopiedFrom (size : ℕ) (from to was image : List ℕ) : Type 0 where

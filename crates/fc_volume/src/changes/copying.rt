@@ -1,62 +1,18 @@
 // Sectors of an object that are copied into others.
-ghost use Rattle.std.specs.Prelude.{◌≡◌, ◌<◌, ◌≤◌, ◌+◌, ◌-◌, ◌*◌, ◌^◌, ℕ, true, All, IsTrue, IsFalse, OnOk, length, min};
+ghost use Rattle.std.specs.Prelude.{◌≡◌, ◌<◌, ◌≤◌, ◌+◌, ◌*◌, true, All, IsTrue, IsFalse, OnOk};
 ghost use Rattle.std.specs.Option.{ForSome};
 ghost use Rattle.fc_changes.specs.Owed.{IsWritten};
 ghost use Rattle.fc_device.specs.Calls.{FailsByFault, SameForm, StopsAndExitsLeave};
 ghost use Rattle.fc_image.specs.Layout.{Layout, is_apart};
 ghost use Rattle.fc_objects.specs.Extents.{sectors_in};
-ghost use Rattle.fc_objects.specs.Written.{AreApart};
-ghost use Rattle.fc_volume.specs.Copying.{AreCopiedFrom, AreFirstCopied, ChangesOnly, IsFirstCopied};
+ghost use Rattle.fc_volume.specs.Copying.{AreCopiedFrom, ChangesOnly, IsFirstCopied};
 ghost use Rattle.fc_volume.specs.Volume.{HasCopies};
 
 use crate::Copies;
 use crate::compacting::match_copies;
 use fc_device::{Disk, DiskFault, Extent, MAX_SECTOR};
 use fc_newmap::NewMap;
-use fc_objects::{read_piece, write_piece};
-
-// How many sectors some extents have, or the greatest number if they are more.
-fn count_sectors(place: &[Extent]) -> u64
-    ensures { result ≡ min (length (sectors_in place.now)) (2 ^ 64 - 1) }
-{
-    let mut count: u64 = 0;
-    for extent in place {
-        count = count.saturating_add(extent.sectors);
-    }
-    count
-}
-
-// Copies the first sectors of an object, so many, to the first ones of another, which has none of them, and syncs. The buffer
-// has the bytes of a sector.
-fn copy_sectors<D: Disk>(
-    disk: &mut D,
-    from: &[Extent],
-    to: &[Extent],
-    count: u64,
-    sector: &mut [u8],
-) -> Result<(), DiskFault>
-    requires attached { IsTrue (D.attached disk.old) }
-    requires settled { IsFalse (D.pending disk.old) }
-    requires whole { length sector.old ≡ D.sector_size disk.old }
-    requires enough { count ≤ length (sectors_in from.now) }
-    requires room { count ≤ length (sectors_in to.now) }
-    requires on_disk { All (λ n. n < D.sectors disk.old) (sectors_in from.now) }
-    requires to_on_disk { All (λ n. n < D.sectors disk.old) (sectors_in to.now) }
-    requires apart { is_apart (sectors_in from.now) (sectors_in to.now) ≡ true }
-    ensures keeps { StopsAndExitsLeave D.Disk disk.old disk.new (ChangesOnly (D.sector_size disk.old) (sectors_in to.now)) }
-    ensures copied { OnOk result (AreApart (sectors_in to.now)
-        → ForSome (D.bytes disk.old) (λ was. ForSome (D.bytes disk.new) (AreFirstCopied (D.sector_size disk.old) count (sectors_in from.now) (sectors_in to.now) was))) }
-    ensures durable { OnOk result (IsFalse (D.pending disk.new)) }
-    ensures form { SameForm D.Disk disk.old disk.new }
-    ensures cause { FailsByFault D.Disk disk.old disk.new result }
-{
-    for i in 0..count {
-        read_piece(disk, from, i, sector)?;
-        write_piece(disk, to, i, sector)?;
-    }
-    disk.sync()?;
-    Ok(())
-}
+use fc_objects::copy_sectors;
 
 // Copies the sectors of an object to those of another, which has none of them, and syncs.
 fn copy_object<D: Disk>(
@@ -78,9 +34,10 @@ fn copy_object<D: Disk>(
     ensures cause { FailsByFault D.Disk disk.old disk.new result }
 {
     let size = map.geometry().sector as usize;
-    let count = count_sectors(from).min(count_sectors(to));
     let mut sector = [0; MAX_SECTOR];
-    copy_sectors(disk, from, to, count, &mut sector[..size])
+    copy_sectors(disk, from, to, &mut sector[..size])?;
+    disk.sync()?;
+    Ok(())
 }
 
 /// Makes the copies of the map equal, if they may differ, and then copies the sectors of an object to those of another, which

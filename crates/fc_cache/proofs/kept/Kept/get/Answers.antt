@@ -1,7 +1,7 @@
 use Rattle.std.proofs.Common.{ℕ, List, option_copied, nat_eq, sym, ◌∙◌, ap, subst, length, Contains, Vec}
 use Rattle.std.specs.Global.{Global}
 use Rattle.lru.proofs.CallerLemmas.{Contains-promoted}
-use Rattle.lru.specs.LruCache.{LruCache}
+use Rattle.lru.specs.LruCache.{LruCache, promoted}
 use Rattle.fc_cache.specs.Sectors.{entries_in}
 use Rattle.fc_cache.proofs.KeptLemmas.{found}
 use Rattle.fc_cache.proofs.kept.Kept.get.Goals as goal
@@ -32,3 +32,11 @@ returns-in-Some-get-clause-no_more c =
     let at = ap entries_in c.in-Some.is in
     λ n bytes there. subst (λ (es : List (ℕ × Vec ℕ Global)). Contains es (n, bytes)) (sym at)
     (Contains-promoted (nat_eq c.args.n) c.in-Some.cache.entries (n, bytes) (subst (λ (k : LruCache ℕ (Vec ℕ Global)). Contains k.entries (n, bytes)) c.get.follows.holds-at-none there))
+
+pub returns-in-None-get-clause-order : goal.returns-in-None-get-clause-order
+returns-in-None-get-clause-order c =
+    ap (λ (k : LruCache ℕ (Vec ℕ Global)). k.entries) c.get.follows.holds-at-none ∙ ap (promoted (nat_eq c.args.n)) (sym (ap entries_in c.in-Some.is))
+
+pub returns-in-Some-get-clause-order : goal.returns-in-Some-get-clause-order
+returns-in-Some-get-clause-order c =
+    ap (λ (k : LruCache ℕ (Vec ℕ Global)). k.entries) c.get.follows.holds-at-none ∙ ap (promoted (nat_eq c.args.n)) (sym (ap entries_in c.in-Some.is))

@@ -22,3 +22,7 @@ returns-then-len-gt0-clause-no_more c =
     let at = ap entries_in c.in-Some.is in
     λ n bytes there. subst (λ (es : List (ℕ × Vec ℕ Global)). Contains es (n, bytes)) (sym at)
     (Contains-remove_entry (nat_eq c.args.n) c.in-Some.cache.entries (n, bytes) (subst (λ (k : LruCache ℕ (Vec ℕ Global)). Contains k.entries (n, bytes)) c.pop.ensures.entries there))
+
+pub returns-then-len-gt0-clause-order : goal.returns-then-len-gt0-clause-order
+returns-then-len-gt0-clause-order c =
+    ap (λ (k : LruCache ℕ (Vec ℕ Global)). k.entries) c.pop.ensures.entries ∙ ap (remove_entry (nat_eq c.args.n)) (sym (ap entries_in c.in-Some.is))
