@@ -56,12 +56,6 @@ freed_start id run = by (has_id id run.kind)
 pub run_is_at : (m : Map) (z : ℕ) (run : Run) → IsNewMap m → z < m.geometry.zones → HasBetween m z run → HasRunAt (shape m.geometry z) (sector_of m z) run.start
 run_is_at m z run is low between = (run, (refl, (between.0, (between.1, zone_cut m z (between.0 ++ run ∷ between.1) is low between.2))))
 
-pub freed_is : (id : ℕ) (run : Run) (owner : ℕ) → run.kind ≡ kinds.Id owner → (owner == id) ≡ true → record run { kind = kinds.Hole } ≡ freed id run
-freed_is id run owner kind same = sym (ap (λ b. cond b (record run { kind = kinds.Hole }) run) (ap (has_id id) kind ∙ same))
-
-pub stays_is : (id : ℕ) (run : Run) → has_id id run.kind ≡ false → run ≡ freed id run
-stays_is id run e = sym (ap (λ b. cond b (record run { kind = kinds.Hole }) run) e)
-
 -- ---- what an identifier has then
 
 pub freed_none : (id z : ℕ) (runs : List Run) → filter (λ (p : ZoneRun). has_id id p.1.kind) (placed z (all_freed id runs)) ≡ []
@@ -92,36 +86,6 @@ freed_other id k z (run ∷ runs) other =
 
 pub hole_part_some : (start len : ℕ) (rest : List Run) → 0 < len → hole_part start len rest ≡ hole_at start len ∷ rest
 hole_part_some start len rest some = ap (λ b. cond b rest (hole_at start len ∷ rest)) (ne_eqb len 0 (omega arith))
-
-pub hole_part_none : (start len : ℕ) (rest : List Run) → len ≡ 0 → hole_part start len rest ≡ rest
-hole_part_none start len rest none = ap (λ b. cond b rest (hole_at start len ∷ rest)) (eq-eqb len 0 none)
-
-module _ (m : Map) (z start len left : ℕ) (front rest : List Run) (runs : HasRuns m z (front ++ hole_at start (len + left) ∷ rest)) where
-  pub hole_to_split : IsNewMap m → z < m.geometry.zones → len % m.geometry.q ≡ 0 → m.geometry.min ≤ len → 0 < left → IsPart m.geometry.min left
-      → HasRunToSplit (shape m.geometry z) (sector_of m z) start len
-  hole_to_split is low whole room some part = (
-    hole_at start (len + left),
-    (
-      refl,
-      record { whole = whole; room = room; rest_room = rest_room part },
-      (front, (rest, zone_cut m z (front ++ hole_at start (len + left) ∷ rest) is low runs)),
-    ),
-  )
-    where
-      rest_room : IsPart m.geometry.min left → len + m.geometry.min ≤ len + left
-      rest_room (inl none) = absurd (omega arith)
-      rest_room (inr more) = omega arith
-
-  pub hole_cut : (n : Map) → 0 < left → SplitsIn m n z start len → HasRuns n z (front ++ hole_at start len ∷ hole_part (start + len) left rest)
-  hole_cut n some splits =
-      splits front rest (hole_at start (len + left)) runs refl
-      ∙ ap (λ (k : ℕ). front ++ hole_at start len ∷ (hole_at (start + len) k ∷ rest)) (let e : len + left - len ≡ left = omega arith in e)
-      ∙ ap (λ (rs : List Run). front ++ hole_at start len ∷ rs) (sym (hole_part_some (start + len) left rest some))
-
-  pub hole_uncut : left ≡ 0 → HasRuns m z (front ++ hole_at start len ∷ hole_part (start + len) left rest)
-  hole_uncut none =
-      runs ∙ ap (λ (k : ℕ). front ++ hole_at start k ∷ rest) (let e : len + left ≡ len = omega arith in e)
-      ∙ ap (λ (rs : List Run). front ++ hole_at start len ∷ rs) (sym (hole_part_none (start + len) left rest none))
 
 pub hole_is_at : (m : Map) (z start len : ℕ) (front rest : List Run) → IsNewMap m → z < m.geometry.zones → HasRuns m z (front ++ hole_at start len ∷ rest) → HasHoleAt (shape m.geometry z) (sector_of m z) start
 hole_is_at m z start len front rest is low runs = (hole_at start len, (refl, refl, (front, (rest, zone_cut m z (front ++ hole_at start len ∷ rest) is low runs))))
