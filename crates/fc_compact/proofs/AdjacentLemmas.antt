@@ -1,15 +1,8 @@
 -- Runs and those that follow them.
-use Rattle.std.proofs.Common.{◌≡◌, ◌≤◌, ◌*◌, ◌⊎◌, inl, inr, ℕ, Bool, true, false, List, [], ◌∷◌, ◌++◌, refl, sym, ap, ◌∙◌}
-use Rattle.std.specs.Prelude.{◌&&◌, ◌||◌, nat_le}
-use Rattle.std.proofs.lemmas.Bool.{eq-eqb, le-leb}
-use Rattle.fc_record.specs.declared.Geometry.{Geometry}
+use Rattle.std.proofs.Common.{◌≡◌, Bool, true, false, List, [], ◌∷◌, ◌++◌, refl, ap, ◌∙◌}
+use Rattle.std.specs.Prelude.{◌&&◌}
 use Rattle.fc_zone.specs.declared.Run.{Run}
-use Rattle.fc_zone.specs.declared.RunKind.{RunKind}
-use Rattle.fc_zone.specs.declared.RunKind.TheVariants as kinds
-use Rattle.fc_alloc.specs.declared.owner.Owner.{Owner}
 use Rattle.fc_image.specs.effects.Settled.{passes_adjacent}
-use Rattle.fc_compact.specs.Compacting.{is_done_by}
-use Rattle.fc_compact.specs.Ready.{is_movable_by}
 
 -- one more is done
 pub adjacent_more : (f : Run → Run → Bool) (front : List Run) (last next : Run) → passes_adjacent f (front ++ last ∷ []) ≡ true → f last next ≡ true → passes_adjacent f ((front ++ last ∷ []) ++ next ∷ []) ≡ true

@@ -1,19 +1,18 @@
 -- The runs of an identifier that become holes, and a hole whose front becomes a run.
-use Rattle.std.proofs.Common.{◌≡◌, ◌<◌, ◌≤◌, inl, inr, ℕ, ◌+◌, ◌-◌, ◌%◌, Bool, true, false, cond, List, [], ◌∷◌, ◌++◌, map, slice_get, Some, None, refl, sym, ap, ◌∙◌, append_assoc, arith}
-use Rattle.std.specs.Prelude.{◌==◌, filter}
-use Rattle.std.proofs.lemmas.Bool.{eq-eqb, eqb-true, ne_eqb}
+use Rattle.std.proofs.Common.{◌≡◌, ◌<◌, ℕ, Bool, true, false, cond, List, [], ◌∷◌, ◌++◌, map, slice_get, Some, None, refl, sym, ap, ◌∙◌, append_assoc, arith}
+use Rattle.std.specs.Prelude.{filter}
+use Rattle.std.proofs.lemmas.Bool.{eqb-true, ne_eqb}
 use Rattle.std.proofs.lemmas.List.{map-append}
 use Rattle.fc_zone.specs.declared.Run.{Run}
 use Rattle.fc_zone.specs.declared.RunKind.{RunKind}
 use Rattle.fc_zone.specs.declared.RunKind.TheVariants as kinds
-use Rattle.fc_zone.specs.Edits.{HasHoleAt, HasRunAt, HasRunToSplit}
-use Rattle.fc_newmap.specs.Edits.{SplitsIn}
+use Rattle.fc_zone.specs.Edits.{HasHoleAt, HasRunAt}
 use Rattle.fc_newmap.specs.Map.{Map, ZoneRun, has_id, sector_of, shape}
 use Rattle.fc_newmap.specs.NewMap.{IsNewMap}
 use Rattle.fc_newmap.specs.RunsLaw.{placed}
 use Rattle.fc_newmap.proofs.ComposeLemmas.{zone_cut}
 use Rattle.fc_compact.specs.Joining.{HasBetween, all_freed, freed, hole_part}
-use Rattle.fc_compact.specs.Sliding.{HasRuns, IsPart, hole_at}
+use Rattle.fc_compact.specs.Sliding.{HasRuns, hole_at}
 
 pub first_of : (left : List Run) (run : Run) → slice_get left 0 ≡ Some run → (rest : List Run) × (left ≡ run ∷ rest)
 first_of [] run e = absurd (cc)
