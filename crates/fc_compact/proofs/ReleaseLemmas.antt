@@ -1,19 +1,18 @@
 -- The runs of an identifier that become holes, and a hole whose front becomes a run.
-use Rattle.std.proofs.Common.{◌≡◌, ◌<◌, ◌≤◌, inl, inr, ℕ, ◌+◌, ◌-◌, ◌%◌, Bool, true, false, cond, List, [], ◌∷◌, ◌++◌, map, slice_get, Some, None, refl, sym, ap, ◌∙◌, append_assoc, arith}
-use Rattle.std.specs.Prelude.{◌==◌, filter}
-use Rattle.std.proofs.lemmas.Bool.{eq-eqb, eqb-true, ne_eqb}
+use Rattle.std.proofs.Common.{◌≡◌, ◌<◌, ℕ, Bool, true, false, cond, List, [], ◌∷◌, ◌++◌, map, slice_get, Some, None, refl, sym, ap, ◌∙◌, append_assoc, arith}
+use Rattle.std.specs.Prelude.{filter}
+use Rattle.std.proofs.lemmas.Bool.{eqb-true, ne_eqb}
 use Rattle.std.proofs.lemmas.List.{map-append}
 use Rattle.fc_zone.specs.declared.Run.{Run}
 use Rattle.fc_zone.specs.declared.RunKind.{RunKind}
 use Rattle.fc_zone.specs.declared.RunKind.TheVariants as kinds
-use Rattle.fc_zone.specs.Edits.{HasHoleAt, HasRunAt, HasRunToSplit}
-use Rattle.fc_newmap.specs.Edits.{SplitsIn}
+use Rattle.fc_zone.specs.Edits.{HasHoleAt, HasRunAt}
 use Rattle.fc_newmap.specs.Map.{Map, ZoneRun, has_id, sector_of, shape}
 use Rattle.fc_newmap.specs.NewMap.{IsNewMap}
 use Rattle.fc_newmap.specs.RunsLaw.{placed}
 use Rattle.fc_newmap.proofs.ComposeLemmas.{zone_cut}
 use Rattle.fc_compact.specs.Joining.{HasBetween, all_freed, freed, hole_part}
-use Rattle.fc_compact.specs.Sliding.{HasRuns, IsPart, hole_at}
+use Rattle.fc_compact.specs.Sliding.{HasRuns, hole_at}
 
 pub first_of : (left : List Run) (run : Run) → slice_get left 0 ≡ Some run → (rest : List Run) × (left ≡ run ∷ rest)
 first_of [] run e = absurd (cc)
@@ -56,12 +55,6 @@ freed_start id run = by (has_id id run.kind)
 pub run_is_at : (m : Map) (z : ℕ) (run : Run) → IsNewMap m → z < m.geometry.zones → HasBetween m z run → HasRunAt (shape m.geometry z) (sector_of m z) run.start
 run_is_at m z run is low between = (run, (refl, (between.0, (between.1, zone_cut m z (between.0 ++ run ∷ between.1) is low between.2))))
 
-pub freed_is : (id : ℕ) (run : Run) (owner : ℕ) → run.kind ≡ kinds.Id owner → (owner == id) ≡ true → record run { kind = kinds.Hole } ≡ freed id run
-freed_is id run owner kind same = sym (ap (λ b. cond b (record run { kind = kinds.Hole }) run) (ap (has_id id) kind ∙ same))
-
-pub stays_is : (id : ℕ) (run : Run) → has_id id run.kind ≡ false → run ≡ freed id run
-stays_is id run e = sym (ap (λ b. cond b (record run { kind = kinds.Hole }) run) e)
-
 -- ---- what an identifier has then
 
 pub freed_none : (id z : ℕ) (runs : List Run) → filter (λ (p : ZoneRun). has_id id p.1.kind) (placed z (all_freed id runs)) ≡ []
@@ -92,36 +85,6 @@ freed_other id k z (run ∷ runs) other =
 
 pub hole_part_some : (start len : ℕ) (rest : List Run) → 0 < len → hole_part start len rest ≡ hole_at start len ∷ rest
 hole_part_some start len rest some = ap (λ b. cond b rest (hole_at start len ∷ rest)) (ne_eqb len 0 (omega arith))
-
-pub hole_part_none : (start len : ℕ) (rest : List Run) → len ≡ 0 → hole_part start len rest ≡ rest
-hole_part_none start len rest none = ap (λ b. cond b rest (hole_at start len ∷ rest)) (eq-eqb len 0 none)
-
-module _ (m : Map) (z start len left : ℕ) (front rest : List Run) (runs : HasRuns m z (front ++ hole_at start (len + left) ∷ rest)) where
-  pub hole_to_split : IsNewMap m → z < m.geometry.zones → len % m.geometry.q ≡ 0 → m.geometry.min ≤ len → 0 < left → IsPart m.geometry.min left
-      → HasRunToSplit (shape m.geometry z) (sector_of m z) start len
-  hole_to_split is low whole room some part = (
-    hole_at start (len + left),
-    (
-      refl,
-      record { whole = whole; room = room; rest_room = rest_room part },
-      (front, (rest, zone_cut m z (front ++ hole_at start (len + left) ∷ rest) is low runs)),
-    ),
-  )
-    where
-      rest_room : IsPart m.geometry.min left → len + m.geometry.min ≤ len + left
-      rest_room (inl none) = absurd (omega arith)
-      rest_room (inr more) = omega arith
-
-  pub hole_cut : (n : Map) → 0 < left → SplitsIn m n z start len → HasRuns n z (front ++ hole_at start len ∷ hole_part (start + len) left rest)
-  hole_cut n some splits =
-      splits front rest (hole_at start (len + left)) runs refl
-      ∙ ap (λ (k : ℕ). front ++ hole_at start len ∷ (hole_at (start + len) k ∷ rest)) (let e : len + left - len ≡ left = omega arith in e)
-      ∙ ap (λ (rs : List Run). front ++ hole_at start len ∷ rs) (sym (hole_part_some (start + len) left rest some))
-
-  pub hole_uncut : left ≡ 0 → HasRuns m z (front ++ hole_at start len ∷ hole_part (start + len) left rest)
-  hole_uncut none =
-      runs ∙ ap (λ (k : ℕ). front ++ hole_at start k ∷ rest) (let e : len + left ≡ len = omega arith in e)
-      ∙ ap (λ (rs : List Run). front ++ hole_at start len ∷ rs) (sym (hole_part_none (start + len) left rest none))
 
 pub hole_is_at : (m : Map) (z start len : ℕ) (front rest : List Run) → IsNewMap m → z < m.geometry.zones → HasRuns m z (front ++ hole_at start len ∷ rest) → HasHoleAt (shape m.geometry z) (sector_of m z) start
 hole_is_at m z start len front rest is low runs = (hole_at start len, (refl, refl, (front, (rest, zone_cut m z (front ++ hole_at start len ∷ rest) is low runs))))

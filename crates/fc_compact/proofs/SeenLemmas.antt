@@ -40,16 +40,6 @@ not_of id k p kind other = ap (has_id k) kind ∙ by (id == k) refl
     by true e = absurd (other (ap (λ n. n % places) (eqb-true id k e)))
     by false e = e
 
-pub seen_hole : (seen : List ℕ) (runs : List ZoneRun) (p : ZoneRun) → p.1.kind ≡ kinds.Hole → AreSeen seen runs → AreSeen seen (runs ++ p ∷ [])
-seen_hole seen runs p kind was k few = let same = none_more (of k) runs p (ap (has_id k) kind) in let before = was k few in omega (arith, same, before)
-
-pub seen_full : (seen : List ℕ) (runs : List ZoneRun) (p : ZoneRun) (id : ℕ) → p.1.kind ≡ kinds.Id id → 2 ≤ get_or seen (id % places) 0 → AreSeen seen runs → AreSeen seen (runs ++ p ∷ [])
-seen_full seen runs p id kind full was k few =
-    let other : id % places ≡ k % places → ⊥ = λ e. (let same : get_or seen (id % places) 0 ≡ get_or seen (k % places) 0 = ap (λ (i : ℕ). get_or seen i 0) e in omega (arith, same, full, few)) in
-    let same = none_more (of k) runs p (not_of id k p kind other) in
-    let before = was k few in
-    omega (arith, same, before)
-
 pub seen_more : (seen : List ℕ) (runs : List ZoneRun) (p : ZoneRun) (id : ℕ) → p.1.kind ≡ kinds.Id id → id % places < length seen → AreSeen seen runs
     → AreSeen (set seen (id % places) (get_or seen (id % places) 0 + 1)) (runs ++ p ∷ [])
 seen_more seen runs p id kind low was k few = elim (cases_eq (k % places) (id % places)) [

@@ -1,5 +1,5 @@
 -- A hole and a run that change places in a zone: one edit after another.
-use Rattle.std.proofs.Common.{◌≡◌, ◌<◌, ◌≤◌, inl, inr, ℕ, ◌+◌, ◌-◌, ◌%◌, Bool, true, false, cond, List, [], ◌∷◌, ◌++◌, refl, sym, ap, subst, ◌∙◌, arith, append_assoc}
+use Rattle.std.proofs.Common.{◌≡◌, ◌<◌, ◌≤◌, ℕ, ◌+◌, ◌-◌, ◌%◌, Bool, true, false, cond, List, [], ◌∷◌, ◌++◌, refl, sym, ap, subst, ◌∙◌, arith, append_assoc}
 use Rattle.std.specs.Prelude.{◌==◌}
 use Rattle.std.proofs.lemmas.Bool.{ne_eqb, eq-eqb}
 use Rattle.fc_zone.specs.declared.Run.{Run}
@@ -10,7 +10,7 @@ use Rattle.fc_newmap.specs.Edits.{IsEdit, MergesIn, RelabelsIn, SplitsIn}
 use Rattle.fc_newmap.specs.Map.{Map, sector_of, shape}
 use Rattle.fc_newmap.specs.NewMap.{IsNewMap}
 use Rattle.fc_newmap.proofs.ComposeLemmas.{zone_cut}
-use Rattle.fc_compact.specs.Sliding.{HasRuns, IsPart, hole_at, part, row, run_at}
+use Rattle.fc_compact.specs.Sliding.{HasRuns, hole_at, part, row, run_at}
 
 -- ---- parts of a row
 
@@ -60,54 +60,15 @@ module _ (m : Map) (z start id len left at : ℕ) (front rest : List Run) (some 
   pub merged_row : (n : Map) → MergesIn m n z start → HasRuns n z (front ++ run_at start (len + left) id ∷ rest)
   merged_row n merges = merges front rest (run_at start len id) (run_at at left id) both refl
 
--- a run behind the part before it
-module _ (m : Map) (z start id done len : ℕ) (front rest : List Run) (some : 0 < done) (runs : HasRuns m z (front ++ part start done id (run_at (start + done) len id ∷ rest))) where
-  two : HasRuns m z (front ++ run_at start done id ∷ (run_at (start + done) len id ∷ rest))
-  two = runs ∙ ap (λ (rs : List Run). front ++ rs) (part_some start done id (run_at (start + done) len id ∷ rest) some)
-
-  pub front_to_merge : IsNewMap m → z < m.geometry.zones → HasRunsToMerge (shape m.geometry z) (sector_of m z) start
-  front_to_merge is low =
-      (run_at start done id, run_at (start + done) len id, refl, refl, (front, (rest, zone_cut m z (front ++ run_at start done id ∷ (run_at (start + done) len id ∷ rest)) is low two)))
-
-  pub front_merged : (n : Map) → MergesIn m n z start → HasRuns n z (front ++ run_at start (done + len) id ∷ rest)
-  front_merged n merges = merges front rest (run_at start done id) (run_at (start + done) len id) two refl
-
-pub front_alone : (m : Map) (z start id done len : ℕ) (front rest : List Run) → done ≡ 0 → HasRuns m z (front ++ part start done id (run_at (start + done) len id ∷ rest))
-    → HasRuns m z (front ++ run_at start (done + len) id ∷ rest)
-front_alone m z start id done len front rest none runs =
-    runs ∙ ap (λ (rs : List Run). front ++ rs) (part_none start done id (run_at (start + done) len id ∷ rest) none)
-    ∙ ap (λ (k : ℕ). front ++ run_at k len id ∷ rest) (let e : start + done ≡ start = omega arith in e)
-    ∙ ap (λ (k : ℕ). front ++ run_at start k id ∷ rest) (let e : len ≡ done + len = omega arith in e)
-
 -- ---- opening
 
 -- a run that is cut, if more are left of it
 module _ (m : Map) (z start id len left : ℕ) (front rest : List Run) (runs : HasRuns m z (front ++ run_at start (len + left) id ∷ rest)) where
-  pub run_to_split : IsNewMap m → z < m.geometry.zones → len % m.geometry.q ≡ 0 → m.geometry.min ≤ len → 0 < left → IsPart m.geometry.min left
-      → HasRunToSplit (shape m.geometry z) (sector_of m z) start len
-  run_to_split is low whole room some part = (
-    run_at start (len + left) id,
-    (
-      refl,
-      record { whole = whole; room = room; rest_room = rest_room part },
-      (front, (rest, zone_cut m z (front ++ run_at start (len + left) id ∷ rest) is low runs)),
-    ),
-  )
-    where
-      rest_room : IsPart m.geometry.min left → len + m.geometry.min ≤ len + left
-      rest_room (inl none) = absurd (omega arith)
-      rest_room (inr more) = omega arith
-
   pub cut_run : (n : Map) → 0 < left → SplitsIn m n z start len → HasRuns n z (front ++ run_at start len id ∷ part (start + len) left id rest)
   cut_run n some splits =
       splits front rest (run_at start (len + left) id) runs refl
       ∙ ap (λ (k : ℕ). front ++ run_at start len id ∷ (run_at (start + len) k id ∷ rest)) (let e : len + left - len ≡ left = omega arith in e)
       ∙ ap (λ (rs : List Run). front ++ run_at start len id ∷ rs) (sym (part_some (start + len) left id rest some))
-
-  pub cut_none : left ≡ 0 → HasRuns m z (front ++ run_at start len id ∷ part (start + len) left id rest)
-  cut_none none =
-      runs ∙ ap (λ (k : ℕ). front ++ run_at start k id ∷ rest) (let e : len + left ≡ len = omega arith in e)
-      ∙ ap (λ (rs : List Run). front ++ run_at start len id ∷ rs) (sym (part_none (start + len) left id rest none))
 
 module _ (m : Map) (z start id done hole left : ℕ) (front rest : List Run) (runs : HasRuns m z (front ++ run_at start (done + hole + left) id ∷ rest)) where
   pub open_split : IsNewMap m → z < m.geometry.zones → done % m.geometry.q ≡ 0 → m.geometry.min ≤ done → m.geometry.min ≤ hole

@@ -14,7 +14,7 @@ use crate::joinable::{has_several, in_few_zones, longest_again, longest_hole};
 use crate::joining::join;
 use crate::laws;
 use crate::seen::{PLACES, may_have_several, see_runs};
-use crate::settling::{either, is_movable, settle_all};
+use crate::settling::{is_movable, settle_all};
 use fc_alloc::{Owner, Owners};
 use fc_device::{Disk, DiskFault};
 use fc_newmap::NewMap;
@@ -136,7 +136,7 @@ fn join_pass<D: Disk>(
         let several = may_have_several(&seen, owner.id);
         let joined = join_and_settle(disk, map, owners, owner.id, best, several)?;
         best = longest_again(map, best, joined);
-        any = either(any, joined);
+        any |= joined;
     }
     Ok(any)
 }

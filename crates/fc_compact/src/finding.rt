@@ -19,8 +19,8 @@ fn has_id(id: u32, kind: RunKind) -> bool
     }
 }
 
-// The bits of all runs of an identifier.
-pub fn bits_of(map: &NewMap, id: u32) -> u32
+// The bits of all runs of an identifier, by a search for them.
+fn bits_found(map: &NewMap, id: u32) -> u32
     requires { bits_in (id_runs map.now id) < 2 ^ 32 }
     ensures { result ≡ bits_in (id_runs map.now id) }
 {
@@ -30,6 +30,17 @@ pub fn bits_of(map: &NewMap, id: u32) -> u32
         total += run.len;
     }
     total
+}
+
+// The bits of all runs of an identifier.
+pub fn bits_of(map: &NewMap, id: u32) -> u32
+    requires { bits_in (id_runs map.now id) < 2 ^ 32 }
+    ensures { result ≡ bits_in (id_runs map.now id) }
+{
+    match map.bits_of(id) {
+        Some(bits) => bits as u32,
+        None => bits_found(map, id),
+    }
 }
 
 // Before the runs of one zone.
@@ -45,6 +56,9 @@ pub fn has_run(map: &NewMap, z: u16, id: u32) -> bool
     requires { z < map.now.geometry.zones }
     ensures { result ≡ has_run_in map.now id z }
 {
+    if !map.may_have(id, z) {
+        return false;
+    }
     let mut walk = walk_in(map, z);
     while let Some((_, run)) = walk.next(map) {
         if has_id(id, run.kind) {

@@ -22,10 +22,7 @@ pub fn longest_hole(map: &NewMap) -> Option<(u16, Run)>
     ensures { IsLongest map.now result }
 {
     let mut walk = Walk::over_all(map);
-    let Some(first) = walk.next_hole(map) else {
-        return None;
-    };
-    let mut best = first;
+    let mut best = walk.next_hole(map)?;
     while let Some(hole) = walk.next_hole(map) {
         best = longer(best, hole);
     }
@@ -40,10 +37,23 @@ pub fn longest_again(map: &NewMap, best: Option<(u16, Run)>, changed: bool) -> O
     if changed { longest_hole(map) } else { best }
 }
 
+// Whether all runs of an identifier may have at most so many bits together, as far as the map's tally tells.
+fn may_fit(map: &NewMap, id: u32, most: u32) -> bool
+    ensures { result ≡ false → most < bits_in (id_runs map.now id) }
+{
+    match map.bits_of(id) {
+        Some(bits) => bits <= u64::from(most),
+        None => true,
+    }
+}
+
 // Whether an identifier has more than one run, and all together have at most so many bits.
 pub fn has_several(map: &NewMap, id: u32, most: u32) -> bool
     ensures { result ≡ (nat_lt 1 (length (id_runs map.now id)) && nat_le (bits_in (id_runs map.now id)) most) }
 {
+    if !may_fit(map, id, most) {
+        return false;
+    }
     let mut total = 0u64;
     let mut seen = false;
     let mut several = false;

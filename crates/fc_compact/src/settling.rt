@@ -167,12 +167,6 @@ fn settle_pair<D: Disk>(
     }
 }
 
-pub fn either(a: bool, b: bool) -> bool
-    ensures { result ≡ (a || b) }
-{
-    a || b
-}
-
 // Passes over the runs of a zone once, and takes the steps that are left. Answers whether one was.
 fn settle_pass<D: Disk>(
     disk: &mut D,
@@ -205,7 +199,7 @@ fn settle_pass<D: Disk>(
     while let Some(next) = map.next_in(z, run) {
         let step = settle_pair(disk, map, owners, z, run, next)?;
         run = step.run;
-        changed = either(changed, step.changed);
+        changed |= step.changed;
     }
     Ok(changed)
 }

@@ -67,6 +67,7 @@ module _ (g : Geometry) (start image : List ℕ) (new : ℕ → List ℕ) (chose
       outside = λ s there. part.outside s (⊎_elim (λ l. inl (omega (arith, l))) (λ r. inr (omega (arith, r))) there);
     };
     content = record { which = One; chosen_one = chooses_one g image (ap is_sound one_stays ∙ one_was g start chosen_one); content = one_stays };
+    source = one_stays;
   }
 
   pub one_holds : HasWritten g.sector (copy_start g Two) 0 g.zones (λ z. sector_at g.sector start (copy_start g One + z)) image → HoldsCopies g (copy_of g One start) image
@@ -98,6 +99,7 @@ module _ (g : Geometry) (start : List ℕ) (some : 1 ≤ g.zones) (chosen_two : 
         (λ torn. record { which = Two; chosen_one = chooses_two g image torn (ap is_sound m.second ∙ two_sound); content = m.second })
         (λ whole. record { which = One; chosen_one = chooses_one g image (ap is_sound whole ∙ two_sound); content = whole })
         m.first;
+    source = m.second;
   }
 
   pub mending_start : Mending g start start

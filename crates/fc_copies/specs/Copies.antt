@@ -57,15 +57,16 @@ pub record ChangesCopies (g : Geometry) (start image : List ℕ) : Type 0 where
   pub same_length : length image ≡ length start
   pub outside : (s : ℕ) → (s < g.map_sector) ⊎ (g.map_sector + 2 * g.zones ≤ s) → sector_at g.sector image s ≡ sector_at g.sector start s
 
--- What a stop inside a commit may leave: the old map or the new one, whole.
+-- What a crash inside a commit may leave: the old map or the new one, whole.
 pub record CommitLeaves (g : Geometry) (start : List ℕ) (old new : List (List ℕ)) (image : List ℕ) : Type 0 where
   pub frame : ChangesCopies g start image
   pub content : Chooses g old image ⊎ Chooses g new image
 
--- What a stop inside a repair may leave: the content of the copy that was chosen at the start.
+-- What a crash inside a repair may leave: the content of the copy that was chosen at the start, and that copy as it was.
 pub record RepairLeaves (g : Geometry) (start : List ℕ) (w : Which) (image : List ℕ) : Type 0 where
   pub frame : ChangesCopies g start image
   pub content : Chooses g (copy_of g w start) image
+  pub source : copy_of g w image ≡ copy_of g w start
 
 -- the zones of a map, of which these have their right ZoneChecks; the CrossChecks stay, and with them their total
 abbrev pub sealed_zones : List ℕ → List (List ℕ) → List (List ℕ)

@@ -1,5 +1,5 @@
 // A map that is written into both copies.
-ghost use Rattle.std.specs.Prelude.{◌≡◌, ◌<◌, ◌≤◌, ◌+◌, ◌*◌, ◌^◌, ℕ, [], All, length, IsTrue, IsFalse, OnOk};
+ghost use Rattle.std.specs.Prelude.{◌≡◌, ◌<◌, ◌≤◌, ◌+◌, ◌*◌, ◌^◌, ℕ, [], All, length, IsTrue, IsFalse, IsOk, OnOk};
 ghost use Rattle.std.specs.List.Sorted.{IsStrictlyIncreasing};
 ghost use Rattle.std.specs.Option.{ForSome};
 ghost use Rattle.fc_device.specs.Calls.{FailsByFault, SameForm, StopsAndExitsLeave};
@@ -92,6 +92,7 @@ fn write_zones<D: Disk>(
     ensures written { OnOk result (ForSome (D.bytes disk.old) (λ was. ForSome (D.bytes disk.new) (HasEach (D.sector_size disk.old) start changed.now (sector_of map.now)))) }
     ensures durable { OnOk result (IsFalse (D.pending disk.new)) }
     ensures form { SameForm D.Disk disk.old disk.new }
+    ensures read_calls { D.read_calls disk.new ≡ D.read_calls disk.old }
     ensures cause { FailsByFault D.Disk disk.old disk.new result }
 {
     for z in changed {
@@ -110,10 +111,11 @@ fn write_both<D: Disk>(disk: &mut D, map: &NewMap, changed: &[u16]) -> Result<()
     requires zones { All (λ z. z < map.now.geometry.zones) changed.now }
     ensures keeps { StopsAndExitsLeave D.Disk disk.old disk.new (PassesBoth map.now.geometry changed.now (sector_of map.now)) }
     ensures map { IsNewMap map.now }
-    ensures nothing { changed.now ≡ [] → D.bytes disk.new ≡ D.bytes disk.old }
+    ensures nothing { changed.now ≡ [] → IsOk result × (disk.new ≡ disk.old) }
     ensures written { OnOk result (ForSome (D.bytes disk.old) (λ was. ForSome (D.bytes disk.new) (HasPassedBoth map.now.geometry changed.now (sector_of map.now) was))) }
     ensures durable { OnOk result (IsFalse (D.pending disk.new)) }
     ensures form { SameForm D.Disk disk.old disk.new }
+    ensures read_calls { D.read_calls disk.new ≡ D.read_calls disk.old }
     ensures cause { FailsByFault D.Disk disk.old disk.new result }
 {
     let one = start_of(map.geometry(), Which::One);
@@ -125,16 +127,18 @@ fn write_both<D: Disk>(disk: &mut D, map: &NewMap, changed: &[u16]) -> Result<()
     write_zones(disk, map, two, changed)
 }
 
-/// Writes the changed zones of a map into both copies, so that a stop of the machine leaves the old map or the new one,
-/// whole (docs/FORMAT.md, "Two copies"). `changed` is a rising list of zones. The disk is attached, has the geometry's
-/// sectors and holds both copies, and nothing is pending. Where the disk tells its bytes, the two copies are equal and
-/// sound, the map has their CrossChecks, and its zones that aren't listed are theirs.
+/// Writes the changed zones of a map into both copies, so that a crash leaves the old map or the new one, whole
+/// (docs/FORMAT.md, "Two copies"). `changed` is a rising list of zones; for none nothing is written, and the answer is
+/// Ok. The disk is attached, has the geometry's sectors and holds both copies, and nothing is pending. If the disk tells
+/// its bytes, the two copies are equal and sound, the map has their CrossChecks, and its zones that aren't listed are
+/// theirs.
 ///
 /// The CrossChecks of the listed zones are turned first, so that no mix of old and new zones is sound, and their
 /// ZoneChecks are set; this is what the map holds afterwards, whatever the answer: all its runs and all other bytes
-/// stay. Then copy 1 is written, and copy 2
-/// once it stands. At every stop and at every exit the copy that counts is the old map or the new one, and no sector
-/// outside the two copies changes. It fails only where the disk's count of faults rose.
+/// stay. Then copy 1 is written, and copy 2 once it stands. At every crash and at every exit the copy that counts is the
+/// old map or the new one, each sector of the two copies is as before or as in the map, none of copy 2 is new before
+/// copy 1 is whole, and no sector outside the two copies changes. Nothing is read. It fails only if the disk's count of
+/// faults rose.
 pub fn commit<D: Disk>(
     disk: &mut D,
     map: &mut NewMap,
@@ -152,21 +156,25 @@ pub fn commit<D: Disk>(
     ensures contents { KeepsContents map.old map.new }
     ensures keeps { StopsAndExitsLeave D.Disk disk.old disk.new (λ start image.
         CommitLeaves map.old.geometry start (copy_of map.old.geometry One start) map.new.zones image) }
+    ensures passes { StopsAndExitsLeave D.Disk disk.old disk.new (PassesBoth map.old.geometry changed.now.items (sector_of map.new)) }
+    ensures nothing { changed.now.items ≡ [] → IsOk result × (disk.new ≡ disk.old) }
     ensures ends { OnOk result (ForSome (D.bytes disk.old) (λ start. ForSome (D.bytes disk.new) (CommitEnds map.old.geometry start map.new.zones))) }
     ensures durable { OnOk result (IsFalse (D.pending disk.new)) }
     ensures form { SameForm D.Disk disk.old disk.new }
+    ensures read_calls { D.read_calls disk.new ≡ D.read_calls disk.old }
     ensures cause { FailsByFault D.Disk disk.old disk.new result }
 {
     gate_zones(map, changed);
     write_both(disk, map, changed)
 }
 
-/// Writes any number of changed zones of a map into both copies, without the gate: what a stop of the machine leaves of
-/// the two copies is not promised. The conditions are those of `commit`; the list may be empty, and then nothing is
-/// written. The ZoneChecks of the listed zones are set, and their CrossChecks stay, and with them the total.
+/// Writes any number of changed zones of a map into both copies, without the gate: what a crash leaves of the two copies
+/// is not promised. The conditions are those of `commit`, but that the list may have any order; for no zones nothing is
+/// written, and the answer is Ok. The ZoneChecks of the listed zones are set, and their CrossChecks stay, and with them
+/// the total.
 ///
-/// At every stop and at every exit no sector outside the two copies changes, and at the end both copies are the map. It
-/// fails only where the disk's count of faults rose.
+/// At every crash and at every exit no sector outside the two copies changes, and at the end both copies are the map.
+/// Nothing is read. It fails only if the disk's count of faults rose.
 pub fn commit_wide<D: Disk>(
     disk: &mut D,
     map: &mut NewMap,
@@ -182,10 +190,11 @@ pub fn commit_wide<D: Disk>(
     ensures runs { KeepsRuns map.old map.new }
     ensures contents { KeepsContents map.old map.new }
     ensures frame { StopsAndExitsLeave D.Disk disk.old disk.new (ChangesCopies map.old.geometry) }
-    ensures nothing { changed.now.items ≡ [] → D.bytes disk.new ≡ D.bytes disk.old }
+    ensures nothing { changed.now.items ≡ [] → IsOk result × (disk.new ≡ disk.old) }
     ensures ends { OnOk result (ForSome (D.bytes disk.old) (λ start. ForSome (D.bytes disk.new) (CommitEnds map.old.geometry start map.new.zones))) }
     ensures durable { OnOk result (IsFalse (D.pending disk.new)) }
     ensures form { SameForm D.Disk disk.old disk.new }
+    ensures read_calls { D.read_calls disk.new ≡ D.read_calls disk.old }
     ensures cause { FailsByFault D.Disk disk.old disk.new result }
 {
     seal_zones(map, changed);

@@ -1,5 +1,5 @@
 //! The two copies of a new map: which of them counts, how one is made equal to the other, and how changed zones are
-//! written so that a stop of the machine leaves the old map or the new one, whole.
+//! written so that a crash leaves the old map or the new one, whole.
 //!
 //! The copies and their checks are those of the RISC OS PRM, chapter FileCore; the order of the writes and the gate,
 //! which turns the CrossChecks of changed zones so that no mix of old and new zones is sound, are fcore's own
@@ -17,7 +17,7 @@ pub use committing::{commit, commit_wide};
 pub use reading::fetch;
 pub use repairing::repair;
 
-/// One of the two copies of the map: the one at the map's address, or the one behind it.
+/// One of the two copies of the map: the one at the map's address, or the one after it.
 #[derive(Clone, Copy, Debug, PartialEq, Eq)]
 pub enum Which {
     One,
@@ -28,7 +28,7 @@ pub enum Which {
 #[derive(Clone, Copy, Debug, PartialEq, Eq)]
 pub enum CopyError {
     /// Neither copy is sound. Each number is the first zone of that copy whose ZoneCheck is wrong, or the number of
-    /// zones where only the total of the CrossChecks is.
+    /// zones if only the total of the CrossChecks is.
     BothBad { c1: u16, c2: u16 },
     /// A read failed.
     DiskFault,

@@ -82,12 +82,12 @@ fn read_copy<D: Disk>(
     Ok(fault_in(into, g))
 }
 
-/// Reads the copy that counts, and answers which it is: copy 1 where it is sound, else copy 2 where that is
+/// Reads the copy that counts, and answers which it is: copy 1 if it is sound, else copy 2 if that is
 /// (docs/FORMAT.md, "Two copies"). `into` has the bytes of all its zones, which stand in it one after another
-/// afterwards. The disk is attached, has the geometry's sectors and holds both copies. Only they are read, with at most
-/// a read call for each sector, and copy 2 isn't read where copy 1 is sound, whatever is answered; nothing is written.
+/// afterwards. The disk is attached, has the geometry's sectors and holds both copies. There is at most a read call for
+/// each of their sectors, of copy 1 alone if it is sound, whatever is answered; nothing is written.
 ///
-/// The answer is `BothBad` exactly where neither is sound, and `DiskFault` only where the disk's count of faults rose.
+/// The answer is `BothBad` exactly if neither is sound, and `DiskFault` only if the disk's count of faults rose.
 pub fn fetch<D: Disk>(disk: &mut D, g: &Geometry, into: &mut [u8]) -> Result<Which, CopyError>
     requires attached { IsTrue (D.attached disk.old) }
     requires size { D.sector_size disk.old ≡ g.now.sector }

@@ -11,7 +11,7 @@ use crate::reading::start_of;
 use fc_device::{Disk, DiskFault, MAX_SECTOR};
 use fc_record::Geometry;
 
-// Writes these bytes as sector n, where others stand there. Answers whether it wrote.
+// Writes these bytes as sector n, if others stand there. Answers whether it wrote.
 fn write_other<D: Disk>(disk: &mut D, n: u64, bytes: &[u8], there: &[u8]) -> Result<bool, DiskFault>
     requires attached { IsTrue (D.attached disk.old) }
     requires on_disk { n < D.sectors disk.old }
@@ -21,6 +21,7 @@ fn write_other<D: Disk>(disk: &mut D, n: u64, bytes: &[u8], there: &[u8]) -> Res
     ensures old_or_new { (D.bytes disk.new ≡ D.bytes disk.old) ⊎ (D.bytes disk.new ≡ option_map (λ image. with_sector (D.sector_size disk.old) image n bytes.now) (D.bytes disk.old)) }
     ensures stops { StopsTearOne D.Disk disk.old disk.new n bytes.now }
     ensures form { SameForm D.Disk disk.old disk.new }
+    ensures read_calls { D.read_calls disk.new ≡ D.read_calls disk.old }
     ensures cause { FailsByFault D.Disk disk.old disk.new result }
 {
     if bytes == there {
@@ -30,7 +31,7 @@ fn write_other<D: Disk>(disk: &mut D, n: u64, bytes: &[u8], there: &[u8]) -> Res
     Ok(true)
 }
 
-// Writes each zone of the copy at sector `to` that differs from that at sector `from`, and syncs where it wrote. Each of
+// Writes each zone of the copy at sector `to` that differs from that at sector `from`, and syncs if it wrote. Each of
 // the two buffers has the bytes of a sector.
 fn match_copy<D: Disk>(
     disk: &mut D,
@@ -51,6 +52,7 @@ fn match_copy<D: Disk>(
     ensures written { OnOk result (ForSome (D.bytes disk.old) (λ was. ForSome (D.bytes disk.new) (HasWritten (D.sector_size disk.old) to 0 zones (zone_from (D.sector_size disk.old) was from)))) }
     ensures durable { OnOk result (IsFalse (D.pending disk.new)) }
     ensures form { SameForm D.Disk disk.old disk.new }
+    ensures few { D.read_calls disk.new ≤ D.read_calls disk.old + 2 * zones }
     ensures cause { FailsByFault D.Disk disk.old disk.new result }
 {
     let mut wrote = false;
@@ -85,6 +87,7 @@ fn copy_rest<D: Disk>(
     ensures written { OnOk result (ForSome (D.bytes disk.old) (λ was. ForSome (D.bytes disk.new) (HasWritten (D.sector_size disk.old) to 1 zones (zone_from (D.sector_size disk.old) was from)))) }
     ensures durable { OnOk result (IsFalse (D.pending disk.new)) }
     ensures form { SameForm D.Disk disk.old disk.new }
+    ensures few { 1 ≤ zones → D.read_calls disk.new + 1 ≤ D.read_calls disk.old + zones }
     ensures cause { FailsByFault D.Disk disk.old disk.new result }
 {
     for z in 1..zones {
@@ -113,6 +116,7 @@ fn copy_first<D: Disk>(
     ensures written { OnOk result (ForSome (D.bytes disk.old) (λ was. ForSome (D.bytes disk.new) (HasWritten (D.sector_size disk.old) to 0 1 (λ z. masked mask (sector_at (D.sector_size disk.old) was from))))) }
     ensures durable { OnOk result (IsFalse (D.pending disk.new)) }
     ensures form { SameForm D.Disk disk.old disk.new }
+    ensures few { D.read_calls disk.new ≤ D.read_calls disk.old + 1 }
     ensures cause { FailsByFault D.Disk disk.old disk.new result }
 {
     disk.read(from, sector)?;
@@ -123,13 +127,14 @@ fn copy_first<D: Disk>(
 }
 
 /// Makes the other copy equal to the chosen one (docs/FORMAT.md, "Two copies"). The disk is attached, has the
-/// geometry's sectors and holds both copies, and nothing is pending. Where it tells its bytes, `w` is what `fetch`
-/// answers of them.
+/// geometry's sectors and holds both copies, and nothing is pending. If it tells its bytes, `w` is what `fetch` answers
+/// of them.
 ///
-/// Where copy 1 was chosen, the zones of copy 2 that differ are written. Where copy 2 was, zone 0 of copy 1 is first
-/// written with a wrong ZoneCheck, then the other zones, and then zone 0 as it is in copy 2: until that last write
-/// stands, copy 1 is not sound. So at every stop and at every exit the copy that counts has the content of copy `w`,
-/// and no sector outside the two copies changes. It fails only where the disk's count of faults rose.
+/// To repair copy 1, zone 0 is first written with a wrong ZoneCheck, then the other zones, and then zone 0 as it is in
+/// copy 2: until that last write stands, copy 1 is not sound (of copy 2 the zones that differ are written). At every
+/// crash and at every exit the copy that counts has the content of copy `w`, copy `w` itself stays, and no sector
+/// outside the two copies changes. It makes at most two read calls a zone, and from copy 2 one a zone and one more. It
+/// fails only if the disk's count of faults rose.
 pub fn repair<D: Disk>(disk: &mut D, g: &Geometry, w: Which) -> Result<(), DiskFault>
     requires attached { IsTrue (D.attached disk.old) }
     requires settled { IsFalse (D.pending disk.old) }
@@ -141,6 +146,8 @@ pub fn repair<D: Disk>(disk: &mut D, g: &Geometry, w: Which) -> Result<(), DiskF
     ensures equal { OnOk result (ForSome (D.bytes disk.old) (λ start. ForSome (D.bytes disk.new) (HoldsCopies g.now (copy_of g.now w start)))) }
     ensures durable { OnOk result (IsFalse (D.pending disk.new)) }
     ensures form { SameForm D.Disk disk.old disk.new }
+    ensures few { D.read_calls disk.new ≤ D.read_calls disk.old + 2 * g.now.zones }
+    ensures one_a_zone { w ≡ Which.Two → D.read_calls disk.new ≤ D.read_calls disk.old + g.now.zones + 1 }
     ensures cause { FailsByFault D.Disk disk.old disk.new result }
 {
     let one = start_of(g, Which::One);

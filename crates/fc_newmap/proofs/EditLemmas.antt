@@ -33,7 +33,6 @@ pub record IsWrittenIn (g : Geometry) (m : Map) (z : ℕ) (old part items : List
   pub geometry : m.geometry ≡ g
   pub low : z < g.zones
   pub old_is : old ≡ sector_of m z
-  pub old_long : length old ≡ g.sector
   pub fits : IsShapeOf old (shape g z)
   pub low_first : 8 ≤ first_bit z
   pub zone : Zone (shape g z) old (runs_of m z)
@@ -72,7 +71,6 @@ written_in g v m was part from z is view low at same long =
       geometry = k;
       low = below;
       old_is = there ∙ ap (λ (n : Map). sector_of n z) view;
-      old_long = size;
       fits = held.shape_fits g z (lent g from was) is.map.of_record below size;
       low_first = (let h = header_high z in omega arith);
       zone = subst (λ (n : Map). Zone (shape g z) (lent g from was) (runs_of n z)) view (subst (λ (s : List ℕ). Zone (shape g z) s (runs_of (map_in g v.items) z)) (sym there) (is.map.right z below));

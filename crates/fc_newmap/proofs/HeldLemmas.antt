@@ -177,10 +177,6 @@ module _ (g : Geometry) (bytes : List ℕ) (z : ℕ) (part : List ℕ) (held : I
       let size = length-map-range_with_len (sector_at g.sector bytes) 0 g.zones in
       ap (λ (m : Map). sector_of m z) map_after ∙ get_or-set_same (zones_in g bytes) z part [] (omega arith)
 
-  -- every other zone stays
-  pub others_after : map_in g after ≡ with_zone (map_in g bytes) z (sector_of (map_in g after) z)
-  others_after = map_after ∙ ap (with_zone (map_in g bytes) z) (sym sector_after)
-
   pub held_after : IsZone (shape g z) part → IsHeld g after
   held_after zone = record {
     whole = ap length after_is ∙ length-with_sector g.sector bytes z part long inside ∙ held.whole;

@@ -1,5 +1,5 @@
 -- A walk over the holes of a map, by the links between those of a zone.
-use Rattle.std.proofs.Common.{◌≡◌, ◌<◌, ◌≤◌, ℕ, suc, ◌+◌, Bool, true, false, cond, Option, Some, None, List, [], ◌∷◌, ◌++◌, refl, sym, ap, subst, ◌∙◌, arith, append_assoc}
+use Rattle.std.proofs.Common.{◌≡◌, ◌<◌, ◌≤◌, ℕ, suc, ◌+◌, Bool, true, false, cond, Option, Some, None, List, [], ◌∷◌, ◌++◌, refl, sym, ap, ap₂, subst, ◌∙◌, arith, append_assoc}
 use Rattle.std.specs.Option.{IfSome, MatchOption}
 use Rattle.std.proofs.lemmas.List.{map-append}
 use Rattle.std.proofs.lemmas.List.Elements.{filter-append}
@@ -119,10 +119,9 @@ holes_end m left now old new same passed more last =
     (same ∙ passed.0 ∙ ap holes_in none, subst (λ (l : List ZoneRun). StandsBefore m l new) none passed.1)
 
 -- on to the next zone
-pub holes_on : (m : Map) (left now : List ZoneRun) (old new walk : Walk) (z' more' : ℕ) → holes_in left ≡ holes_in now → HasPassedHole m now old new None → z' ≡ zone_after m.geometry old.shape.zone → old.more ≡ more' + 1
-    → StandsBefore m (placed z' (runs_of m z') ++ runs_in m (zones_from m.geometry (zone_after m.geometry z') more')) walk → (now' : List ZoneRun) × ((holes_in left ≡ holes_in now') × StandsBefore m now' walk)
-holes_on m left now old new walk z' more' same passed after less stands =
-    let n : suc more' ≡ old.more = omega arith in
-    let next : placed z' (runs_of m z') ++ runs_in m (zones_from m.geometry (zone_after m.geometry z') more') ≡ runs_after m old =
-    ap (λ (y : ℕ). runs_in m (zones_from m.geometry y (suc more'))) after ∙ ap (λ (k : ℕ). runs_in m (zones_from m.geometry (zone_after m.geometry old.shape.zone) k)) n in
-    (runs_after m old, (same ∙ passed.0, subst (λ (l : List ZoneRun). StandsBefore m l walk) next stands))
+pub holes_on : (m : Map) (left now : List ZoneRun) (old new walk : Walk) → holes_in left ≡ holes_in now → HasPassedHole m now old new None → new.shape ≡ old.shape → new.more ≡ old.more
+    → StandsBefore m (runs_after m new) walk → (now' : List ZoneRun) × ((holes_in left ≡ holes_in now') × StandsBefore m now' walk)
+holes_on m left now old new walk same passed shape more stands =
+    let after : runs_after m old ≡ runs_after m new =
+    ap₂ (λ (s : ZoneShape) (n : ℕ). runs_in m (zones_from m.geometry (zone_after m.geometry s.zone) n)) (sym shape) (sym more) in
+    (runs_after m new, (same ∙ passed.0 ∙ ap holes_in after, stands))

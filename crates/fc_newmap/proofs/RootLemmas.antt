@@ -27,26 +27,6 @@ module _ (s : List ℕ) (root size : ℕ) (long : 56 ≤ length s) where
   length-front : length (a ++ r) ≡ 20
   length-front = omega (arith, length-append a r, length-take-le 16 s (omega arith), length-bytes_low_first 0 4 root)
 
-  once : overwritten s 16 r ≡ (a ++ r) ++ d
-  once =
-      ap (λ (k : ℕ). a ++ (r ++ drop k s)) (let e : 16 + length r ≡ 20 = omega (arith, length-bytes_low_first 0 4 root) in e)
-      ∙ sym (append_assoc a r d)
-
-  front : take 52 (overwritten s 16 r) ≡ (a ++ r) ++ take 32 d
-  front =
-      ap (take 52) once ∙ ap (λ (k : ℕ). take k ((a ++ r) ++ d)) (let e : 52 ≡ length (a ++ r) + 32 = omega (arith, length-front) in e)
-      ∙ take-append-add (a ++ r) d 32
-
-  back : drop (52 + length n) (overwritten s 16 r) ≡ drop 56 s
-  back =
-      ap₂ drop (let e : 52 + length n ≡ length (a ++ r) + 36 = omega (arith, length-front, length-bytes_low_first 0 4 size) in e) once
-      ∙ drop-append-add (a ++ r) d 36 ∙ drop-drop 36 20 s
-
-  pub root_put : overwritten (overwritten s 16 r) 52 n ≡ with_root s root size
-  root_put =
-      ap₂ (λ (x y : List ℕ). x ++ (n ++ y)) front back
-      ∙ sym (append_assoc ((a ++ r) ++ take 32 d) n (drop 56 s))
-
   pub root_front : take 16 (with_root s root size) ≡ take 16 s
   root_front =
       ap (take 16) (append_assoc (((a ++ r) ++ take 32 d)) n (drop 56 s) ∙ append_assoc (a ++ r) (take 32 d) (n ++ drop 56 s) ∙ append_assoc a r (take 32 d ++ (n ++ drop 56 s)))

@@ -16,7 +16,7 @@ use Rattle.fc_newmap.specs.declared.walk.Walk.{Walk}
 use Rattle.fc_newmap.specs.declared.runs.RunCursor.{RunCursor}
 use Rattle.fc_newmap.specs.Map.{Map, ZoneRun, all_runs, has_id, home_zone, id_runs, runs_in, runs_of, search_order, sector_of, shape}
 use Rattle.fc_newmap.specs.RunsLaw.{placed}
-use Rattle.fc_newmap.specs.Walk.{IsInZone, StandsAt, StandsBefore, bits_left, zone_after, zones_from}
+use Rattle.fc_newmap.specs.Walk.{IsInZone, StandsAt, StandsBefore, bits_left, runs_after, zone_after, zones_from}
 use Rattle.fc_newmap.proofs.PlaceLemmas.{home_low}
 
 -- ---- the order of zones
@@ -111,12 +111,12 @@ here_within m left old place (Some run) stands step =
     record { zone = stands.low; from = omega (arith, fits.0); to = omega (arith, fits.0, fits.2) }
 
 -- on to the next zone
-pub moved : (m : Map) (left : List ZoneRun) (z more z' more' : ℕ) (walk : Walk) → left ≡ runs_in m (zones_from m.geometry (zone_after m.geometry z) more) → z' ≡ zone_after m.geometry z → more ≡ more' + 1
-    → StandsBefore m (placed z' (runs_of m z') ++ runs_in m (zones_from m.geometry (zone_after m.geometry z') more')) walk → StandsBefore m left walk
-moved m left z more z' more' walk is after less stands =
-    let n : suc more' ≡ more = omega arith in
-    let same : placed z' (runs_of m z') ++ runs_in m (zones_from m.geometry (zone_after m.geometry z') more') ≡ left =
-    ap (λ (y : ℕ). runs_in m (zones_from m.geometry y (suc more'))) after ∙ ap (λ (k : ℕ). runs_in m (zones_from m.geometry (zone_after m.geometry z) k)) n ∙ sym is in
+pub moved : (m : Map) (old walk : Walk) (z' more' : ℕ) → z' ≡ zone_after m.geometry old.shape.zone → old.more ≡ more' + 1
+    → StandsBefore m (placed z' (runs_of m z') ++ runs_in m (zones_from m.geometry (zone_after m.geometry z') more')) walk → StandsBefore m (runs_after m old) walk
+moved m old walk z' more' after less stands =
+    let n : suc more' ≡ old.more = omega arith in
+    let same : placed z' (runs_of m z') ++ runs_in m (zones_from m.geometry (zone_after m.geometry z') more') ≡ runs_after m old =
+    ap (λ (y : ℕ). runs_in m (zones_from m.geometry y (suc more'))) after ∙ ap (λ (k : ℕ). runs_in m (zones_from m.geometry (zone_after m.geometry old.shape.zone) k)) n in
     subst (λ (l : List ZoneRun). StandsBefore m l walk) same stands
 
 -- ---- the runs of an identifier
@@ -178,9 +178,8 @@ none_more m left old new stands past last =
     let none : left ≡ [] = past.1 ∙ ap (λ (n : ℕ). runs_in m (zones_from m.geometry (zone_after m.geometry old.shape.zone) n)) more in
     (none, subst (λ (l : List ZoneRun). StandsBefore m l new) none (subst (λ (w : Walk). StandsBefore m left w) (sym past.0) stands))
 
-pub same_low : (m : Map) (left : List ZoneRun) (old new : Walk) (g : Geometry) → StandsBefore m left old → new ≡ old → g ≡ m.geometry → new.shape.zone < g.zones
-same_low m left old new g stands same is =
-    subst (λ (h : Geometry). new.shape.zone < h.zones) (sym is) (subst (λ (w : Walk). w.shape.zone < m.geometry.zones) (sym same) stands.low)
+pub same_low : (m : Map) (left : List ZoneRun) (old new : Walk) → StandsBefore m left old → new ≡ old → new.shape.zone < m.geometry.zones
+same_low m left old new stands same = subst (λ (w : Walk). w.shape.zone < m.geometry.zones) (sym same) stands.low
 
 -- what comes next is the first of what was left
 pub first_is : (m : Map) (left : List ZoneRun) (new : RunCursor) (result : Option ZoneRun)

@@ -211,7 +211,7 @@ impl NewMap {
         rows.get(id as usize).copied()
     }
 
-    /// The search for the runs of an identifier: the shortest that the map's tally allows, and else all zones.
+    /// A search that comes to all runs of an identifier: as short as the map's tally allows, but nothing rests on that.
     pub(crate) fn search(&self, id: u32) -> Search
         ensures { IsSearch self.now id result }
     {
@@ -226,7 +226,8 @@ impl NewMap {
         }
     }
 
-    /// Whether a zone can have runs of an identifier, as far as the map's tally tells. Costs no search.
+    /// Whether a zone may have runs of an identifier: `false` only if it has none; `true` says nothing, and is the answer
+    /// if the map has no tally. Costs no search.
     pub fn may_have(&self, id: u32, z: u16) -> bool
         requires { z < self.now.geometry.zones }
         ensures { IsFalse result → list_any (λ run. has_id id run.kind) (runs_of self.now z) ≡ false }
@@ -251,7 +252,8 @@ impl NewMap {
         Ok(())
     }
 
-    /// The bits of all runs of an identifier, if the map has a tally that reaches so far. Costs no search.
+    /// The bits of all runs of an identifier, by the map's tally. `None` says nothing: there is no tally, or it doesn't
+    /// reach so far. Costs no search.
     pub fn bits_of(&self, id: u32) -> Option<u64>
         ensures { IfSome result (λ bits. bits ≡ bits_in (id_runs self.now id)) }
     {

@@ -1,6 +1,6 @@
 // A walk over the runs of some zones of a map, in one pass over the zones' words.
 
-ghost use Rattle.std.specs.Prelude.{◌≡◌, ◌+◌, ◌-◌, ◌^◌, ◌<◌, ◌≤◌, ◌++◌, ◌∷◌, [], List, IfSome, MatchOption};
+ghost use Rattle.std.specs.Prelude.{◌≡◌, ◌+◌, ◌-◌, ◌^◌, ◌<◌, ◌≤◌, ◌++◌, ◌∷◌, [], List, IfSome, IsFalse, IsTrue, MatchOption};
 ghost use Rattle.fc_zone.specs.Cursor.{StandsBetween};
 ghost use Rattle.fc_zone.specs.Edits.{HasRunAt};
 ghost use Rattle.fc_zone.specs.declared.Run.{Run};
@@ -40,7 +40,7 @@ fn zone_after(g: &Geometry, z: u16) -> u16
 }
 
 impl Walk {
-    ghost use Rattle.fc_newmap.specs.Walk.{HasPassedHole, IsInZone, StandsBefore, bits_left, holes_in, zones_from};
+    ghost use Rattle.fc_newmap.specs.Walk.{HasPassedHole, IsInZone, StandsBefore, bits_left, holes_in, runs_after, zones_from};
 
     /// Before the runs of a zone and of `more` zones after it.
     pub fn from_zone(map: &NewMap, z: u16, more: u16) -> Self
@@ -103,11 +103,9 @@ impl Walk {
             if let Some(run) = self.next_here(map) {
                 return Some((self.shape.zone, run));
             }
-            if self.more == 0 {
+            if !self.next_zone(map) {
                 return None;
             }
-            let z = zone_after(map.geometry(), self.shape.zone);
-            *self = Walk::from_zone(map, z, self.more - 1);
         }
     }
 
@@ -124,12 +122,26 @@ impl Walk {
             if let Some(run) = self.next_hole_here(map) {
                 return Some((self.shape.zone, run));
             }
-            if self.more == 0 {
+            if !self.next_zone(map) {
                 return None;
             }
-            let z = zone_after(map.geometry(), self.shape.zone);
-            *self = Walk::from_zone(map, z, self.more - 1);
         }
+    }
+
+    // Goes on to before the runs of the next zone, and answers whether one is left.
+    fn next_zone(&mut self, map: &NewMap) -> bool
+        requires { self.old.shape.zone < map.now.geometry.zones }
+        ensures last { IsFalse result → (self.new ≡ self.old) × (self.new.more ≡ 0) }
+        ensures stands { IsTrue result → StandsBefore map.now (runs_after map.now self.old) self.new }
+        ensures less { IsTrue result → self.new.more + 1 ≡ self.old.more }
+        ensures short { IsTrue result → self.new.shape.end - self.new.place.at ≤ 8192 }
+    {
+        if self.more == 0 {
+            return false;
+        }
+        let z = zone_after(map.geometry(), self.shape.zone);
+        *self = Walk::from_zone(map, z, self.more - 1);
+        true
     }
 
     // Goes past the next hole of the zone, or past all its runs.

@@ -1,6 +1,6 @@
 // Changed zones of a map, written into both copies on the disk.
 
-ghost use Rattle.std.specs.Prelude.{◌≡◌, ◌<◌, ◌≤◌, ◌+◌, ◌*◌, ℕ, [], All, length, IsTrue, IsFalse, OnOk};
+ghost use Rattle.std.specs.Prelude.{◌≡◌, ◌<◌, ◌≤◌, ◌+◌, ◌*◌, ℕ, [], All, length, IsTrue, IsFalse, IsOk, OnOk};
 ghost use Rattle.std.specs.List.Sorted.{IsStrictlyIncreasing};
 ghost use Rattle.std.specs.Option.{ForSome};
 ghost use Rattle.fc_device.specs.Calls.{FailsByFault, SameForm, StopsAndExitsLeave};
@@ -30,8 +30,8 @@ fn few_zones(zones: &[u16]) -> ArrayVec<u16, 9>
     few
 }
 
-/// Writes changed zones of a map into both copies, and none if the list is empty. If they are at most 9, a crash leaves the
-/// old map or the new one, whole; if they are more, nothing is promised of the two copies at a crash.
+/// Writes changed zones of a map into both copies; for none nothing is written, and the answer is Ok. If they are at most
+/// 9, a crash leaves the old map or the new one, whole; if they are more, nothing is promised of the two copies at a crash.
 pub fn commit_zones<D: Disk>(
     disk: &mut D,
     map: &mut NewMap,
@@ -49,7 +49,7 @@ pub fn commit_zones<D: Disk>(
     ensures keeps { StopsAndExitsLeave D.Disk disk.old disk.new (ChangesCopies map.old.geometry) }
     ensures whole { length changed.now.items ≤ 9 → StopsAndExitsLeave D.Disk disk.old disk.new (λ start image.
         CommitLeaves map.old.geometry start (copy_of map.old.geometry One start) map.new.zones image) }
-    ensures nothing { changed.now.items ≡ [] → D.bytes disk.new ≡ D.bytes disk.old }
+    ensures nothing { changed.now.items ≡ [] → IsOk result × (disk.new ≡ disk.old) }
     ensures ends { OnOk result (ForSome (D.bytes disk.old) (λ start. ForSome (D.bytes disk.new) (CommitEnds map.old.geometry start map.new.zones))) }
     ensures durable { OnOk result (IsFalse (D.pending disk.new)) }
     ensures form { SameForm D.Disk disk.old disk.new }

@@ -49,9 +49,6 @@ from_bit r = (5, r.log2_bit, is_bit_right r) ∷ from_zones r
 abbrev from_idlen : DiscRecord → List (ℕ × ℕ × Bool)
 from_idlen r = (4, r.idlen, is_idlen_right r) ∷ from_bit r
 
-abbrev from_sector : DiscRecord → List (ℕ × ℕ × Bool)
-from_sector r = (0, r.log2_sector, is_sector_right r) ∷ from_idlen r
-
 pub sector_fails : (r : DiscRecord) → false ≡ is_sector_right r → fault_at 0 r.log2_sector ≡ record_fault r
 unfolding record_fault
 sector_fails r a = fails 0 r.log2_sector (is_sector_right r) (from_idlen r) a

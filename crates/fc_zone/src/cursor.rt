@@ -16,7 +16,7 @@ use crate::{Run, RunKind, ZoneShape};
 /// before it take the same bits and those after it are the same.
 #[derive(Clone, Copy, Debug, PartialEq, Eq)]
 pub struct Cursor {
-    /// The place behind the runs that were passed.
+    /// The place after the runs that were passed.
     pub at: u32,
     /// The place of the first hole from there on.
     pub hole: Option<u32>,
@@ -65,6 +65,7 @@ impl Cursor {
         self.at = run.start + run.len;
         Some(run)
     }
+
     /// Goes past the next hole and all runs before it, which aren't read, and gives it. `None` where no hole is left: then
     /// it stands at the zone's end.
     pub fn next_hole(&mut self, b: &[u8], shape: &ZoneShape) -> Option<Run>

@@ -94,7 +94,7 @@ pub fn merge(b: &mut [u8], shape: &ZoneShape, start: u32)
         let next = next_hole(b, shape, middle);
         set_link(b, shape, Some(start), next);
     }
-    // The first run's last bit, and the field behind it.
+    // The first run's last bit, and the field after it.
     put_bits(b, middle - 1, u32::from(shape.idlen) + 1, 0);
 }
 
@@ -113,7 +113,9 @@ fn clear(b: &mut [u8], from: u32, end: u32)
     }
 }
 
-/// Makes all the zone's bits one hole, whatever the sector held before.
+/// Makes all the zone's bits one hole, whatever the sector held before. The sector has 256, 512 or 1024 bytes; the
+/// shape's bits lie in it, from bit 32 on at the earliest, are more than a field, and begin and end on a sector of the
+/// disc. FreeLink names the hole, with its top bit set; no other bit changes.
 pub fn blank(b: &mut [u8], shape: &ZoneShape)
     requires { CanBeBlank b.old shape.now }
     ensures zone { Zone shape.now b.new (whole_hole shape.now ∷ []) }

@@ -1,4 +1,5 @@
-use Rattle.std.proofs.Common.{false, sym, subst, arith}
+use Rattle.std.proofs.Common.{false, refl, sym, subst, arith}
+use Rattle.std.specs.Prelude.{◌||◌}
 use Rattle.fc_device.proofs.DiskLaws.{laws}
 use Rattle.fc_newmap.specs.Map.{Map}
 use Rattle.fc_compact.specs.Passing.{IsLongest, run_count}
@@ -36,9 +37,9 @@ loop-owner-preserved g c =
       few = few_still c.args.owners.now c.see_runs.new.seen m n ok.tries.packs was.few;
       done = ok.done;
       falls = falls_more c.args.owners.now list m n i c.loop-owner-test.true record { id = 0; dir = 0; node = 0; file = false; low = 0; first = 0; sectors = 0 }
-          c.loop-owner.any c.in_ok-joined.joined c.either-any.result c.either-any.ensures ok.tries (run_count list c.args.map.now) was.falls;
+          c.loop-owner.any c.in_ok-joined.joined (c.loop-owner.any || c.in_ok-joined.joined) refl ok.tries (run_count list c.args.map.now) was.falls;
       none = none_more c.args.owners.now list m n i c.loop-owner-test.true record { id = 0; dir = 0; node = 0; file = false; low = 0; first = 0; sectors = 0 }
-          c.loop-owner.any c.in_ok-joined.joined c.either-any.result c.either-any.ensures ok.tries was.none;
+          c.loop-owner.any c.in_ok-joined.joined (c.loop-owner.any || c.in_ok-joined.joined) refl ok.tries was.none;
     }
 
 pub returns-clause-tries : goal.returns-clause-tries

@@ -9,8 +9,8 @@ use Rattle.fc_compact.proofs.joinable.longest_hole.Goals as goal
 pub loop-hole-init : goal.loop-hole-init
 loop-hole-init c =
     let m = c.args.map.now in
-    let first = c.in-Some.first in
-    let r = c.in-Some.ensures.value (all_runs m) c.over_all-walk.ensures.stands in
+    let first = c.in_ok-best.best in
+    let r = c.in_ok-best.ensures.value (all_runs m) c.over_all-walk.ensures.stands in
     record {
       left = r.0;
       passed = first ∷ [];
@@ -24,9 +24,9 @@ pub loop-hole-preserved : goal.loop-hole-preserved
 loop-hole-preserved c =
     let m = c.args.map.now in
     let was = c.loop-hole.invariant in
-    let hole = c.in-Some-next_hole.hole in
+    let hole = c.in-Some.hole in
     let best = c.longer-best.result in
-    let r = c.in-Some-next_hole.ensures.value was.left was.stands in
+    let r = c.in-Some.ensures.value was.left was.stands in
     let cut : hole_runs m ≡ was.passed ++ hole ∷ holes_in r.0 = was.cut ∙ ap (λ (l : List ZoneRun). was.passed ++ l) r.1.0 in
     record {
       left = r.0;

@@ -113,7 +113,6 @@ loop-next-preserved g c =
     let ok = c.in_ok-step.ensures in
     let steps = ok.steps in
     let cut = steps.cut was.front ahead.0 here in
-    let either = c.either-changed.ensures in
     let step = c.in_ok-step.step in
     record {
       gone = gone_then (laws g.met.D.Disk) c.laws.ensures c.args.owners.now c.args.disk.now c.args.map.now c.loop-next.disk c.loop-next.map was.gone c.settle_pair.new.disk c.settle_pair.new.map
@@ -122,9 +121,9 @@ loop-next-preserved g c =
       front = cut.0;
       rest = ahead.0;
       cut = cut.1.0;
-      falls = lower c.loop-next.changed step.changed c.either-changed.result either (zone_weight (runs_of c.settle_pair.new.map c.args.z)) (zone_weight (runs_of c.loop-next.map c.args.z)) (zone_weight (runs_of c.args.map.now c.args.z)) steps.falls was.falls;
-      same = λ e. (let both = neither c.loop-next.changed step.changed (sym either ∙ e) in (steps.done both.1).0 ∙ was.same both.0);
-      done = λ e. (let both = neither c.loop-next.changed step.changed (sym either ∙ e) in
+      falls = lower c.loop-next.changed step.changed (zone_weight (runs_of c.settle_pair.new.map c.args.z)) (zone_weight (runs_of c.loop-next.map c.args.z)) (zone_weight (runs_of c.args.map.now c.args.z)) steps.falls was.falls;
+      same = λ e. (let both = neither c.loop-next.changed step.changed e in (steps.done both.1).0 ∙ was.same both.0);
+      done = λ e. (let both = neither c.loop-next.changed step.changed e in
           let d = steps.done both.1 in
           let f = is_done_by c.args.map.now.geometry c.args.owners.now in
           ap (λ (fr : List Run). passes_adjacent f (fr ++ step.run ∷ [])) (cut.1.1 both.1)
@@ -136,14 +135,11 @@ loop-next-preserved g c =
     neither true b e = absurd (cc)
     neither false b e = (refl, e)
 
-    lower : (a b r : Bool) → r ≡ (a || b) → (x y w : ℕ) → x + one_if b ≤ y → y + one_if a ≤ w → x + one_if r ≤ w
-    lower a b r e x y w p q = subst (λ (k : Bool). x + one_if k ≤ w) (sym e) (by a b p q)
-      where
-        by : (a b : Bool) → x + one_if b ≤ y → y + one_if a ≤ w → x + one_if (a || b) ≤ w
-        by true true p q = omega (arith, p, q)
-        by true false p q = omega (arith, p, q)
-        by false true p q = omega (arith, p, q)
-        by false false p q = omega (arith, p, q)
+    lower : (a b : Bool) (x y w : ℕ) → x + one_if b ≤ y → y + one_if a ≤ w → x + one_if (a || b) ≤ w
+    lower true true x y w p q = omega (arith, p, q)
+    lower true false x y w p q = omega (arith, p, q)
+    lower false true x y w p q = omega (arith, p, q)
+    lower false false x y w p q = omega (arith, p, q)
 
 pub returns-clause-keeps : goal.returns-clause-keeps
 returns-clause-keeps g c = c.loop-next.invariant.gone.keeps

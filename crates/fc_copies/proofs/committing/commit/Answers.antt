@@ -1,6 +1,7 @@
 use Rattle.std.proofs.Common.{◌≡◌, ◌≤◌, ◌∙◌, ap, sym, subst, ℕ, List, length, arith}
 use Rattle.std.proofs.lemmas.Result.{on_ok_weaker}
 use Rattle.fc_device.proofs.DiskLaws.{laws}
+use Rattle.fc_record.specs.declared.Geometry.{Geometry}
 use Rattle.fc_newmap.specs.Map.{Map, sector_of}
 use Rattle.fc_newmap.specs.NewMap.{IsNewMap}
 use Rattle.fc_copies.specs.declared.Which.TheVariants.{One}
@@ -29,6 +30,17 @@ returns-clause-keeps g c =
     subst (λ (zs : List (List ℕ)). CommitLeaves m.geometry was (copy_of m.geometry One was) zs image) (sym (ap (λ (n : Map). n.zones) n_is))
     (gate_leaves m changed header c.requires.zones was (c.requires.ready was told) few c.requires.rising map_is image
     (subst (λ (n : Map). PassesBoth n.geometry changed (sector_of n) was image) n_is (subst (λ (zs : List ℕ). PassesBoth n.geometry zs (sector_of n) was image) listed passes))))
+
+pub returns-clause-passes : goal.returns-clause-passes
+returns-clause-passes g c =
+    let m = c.args.map.now in
+    let n = c.gate_zones.new.map in
+    let listed : c.deref-2.result.now ≡ c.args.changed.now.items = c.deref-2.ensures.0 in
+    let same : n.geometry ≡ m.geometry = ap (λ (n : Map). n.geometry) c.gate_zones.ensures.map in
+    keeps_told (laws g.met.D.Disk) c.write_both.ensures.keeps
+    (λ was image told passes.
+    subst (λ (at : Geometry). PassesBoth at c.args.changed.now.items (sector_of n) was image) same
+    (subst (λ (zs : List ℕ). PassesBoth n.geometry zs (sector_of n) was image) listed passes))
 
 pub returns-clause-ends : goal.returns-clause-ends
 returns-clause-ends g c =

@@ -12,6 +12,7 @@ loop-z-init g c =
       form = form_same g.D.Disk start;
       passed = pass_start (laws g.met.D.Disk) start c.args.start 0 c.args.map.now.geometry.zones (λ was. sector_of c.args.map.now) c.requires.settled;
       written = each_none (laws g.met.D.Disk) start c.args.start 0 c.args.map.now.geometry.zones (λ was. sector_of c.args.map.now) c.args.changed.now start;
+      calls = refl;
       faults = omega arith;
     }
 
@@ -57,6 +58,7 @@ loop-z-preserved g c =
       form = form_then d was.form c.write.ensures.form;
       passed = passed;
       written = each_one law start c.args.start 0 zones new_of c.loop-z.disk c.write.new.self was.passed was.form.size_stays z at place (omega arith) below inside piece whole piece_is c.args.changed.now c.loop-z.z-index refl was.written c.in_ok-write.ensures.written;
+      calls = c.write.ensures.read_calls ∙ was.calls;
       faults = omega (arith, was.faults, c.write.ensures.cause.later);
     }
 

@@ -14,6 +14,7 @@ loop-z-init g c =
       form = form_same g.D.Disk start;
       passed = pass_start law start c.args.to 1 c.args.zones new_of c.requires.settled;
       written = written_none law start c.args.to 1 c.args.zones new_of start;
+      calls = omega arith;
       faults = omega arith;
     }
 
@@ -60,6 +61,7 @@ loop-z-preserved g c =
       form = form_then d form c.write.ensures.form;
       passed = pass_write law start to 1 c.args.zones new_of c.read.new.self c.write.new.self read form.size_stays c.loop-z.z (to + c.from-in-loop-z.result) place c.loop-z.auto.z c.loop-z-test.true inside c.read.new.into whole piece_is c.write.ensures.stops c.write.ensures.old_or_new;
       written = written_one law start to 1 c.args.zones new_of c.read.new.self c.write.new.self read form.size_stays c.loop-z.z (to + c.from-in-loop-z.result) place c.loop-z.auto.z c.loop-z-test.true inside c.read.new.into whole piece_is (written_same law start to 1 c.args.zones new_of c.loop-z.z was.written c.read.ensures.bytes) c.in_ok-write.ensures.written;
+      calls = omega (arith, was.calls, c.read.ensures.read_calls, c.write.ensures.read_calls);
       faults = omega (arith, was.faults, c.read.ensures.cause.later, c.write.ensures.cause.later);
     }
 

@@ -24,6 +24,7 @@ loop-z-init g c =
       passed = pass_start law start c.args.to 0 c.args.zones new_of c.requires.settled;
       written = written_none law start c.args.to 0 c.args.zones new_of start;
       quiet = λ none. c.requires.settled;
+      calls = omega arith;
       faults = omega arith;
     }
 
@@ -103,6 +104,7 @@ loop-z-preserved g c =
           let neither = none_of c.loop-z.wrote wrote none in
           let same = c.write_other.ensures.same (answer ∙ ap Ok neither.1) in
           same.2 ∙ c.read-in-loop-z.ensures.pending ∙ c.read.ensures.pending ∙ was.quiet neither.0;
+      calls = omega (arith, was.calls, c.read.ensures.read_calls, c.read-in-loop-z.ensures.read_calls, c.write_other.ensures.read_calls);
       faults = omega (arith, was.faults, c.read.ensures.cause.later, c.read-in-loop-z.ensures.cause.later, c.write_other.ensures.cause.later);
     }
 

@@ -1,4 +1,4 @@
-use Rattle.std.proofs.Common.{◌≡◌, ◌≤◌, false}
+use Rattle.std.proofs.Common.{◌≡◌, ◌≤◌, ◌+◌, ◌*◌, false}
 use Rattle.fc_device.specs.Calls.{SameForm}
 use Rattle.fc_copies.specs.Passes.{zone_from}
 use Rattle.fc_copies.proofs.PassLemmas.{Passed, Written}
@@ -10,5 +10,6 @@ invariant-loop-z g l = record {
   passed : Passed g.D.Disk l.fn.disk l.to 0 l.zones (λ was. zone_from (g.D.Disk.sector_size l.fn.disk) was l.from) l.disk;
   written : Written g.D.Disk l.fn.disk l.to 0 (λ was. zone_from (g.D.Disk.sector_size l.fn.disk) was l.from) l.disk l.z;
   quiet : l.wrote ≡ false → g.D.Disk.pending l.disk ≡ false;
+  calls : g.D.Disk.read_calls l.disk ≤ g.D.Disk.read_calls l.fn.disk + 2 * l.z;
   faults : g.D.Disk.faults l.fn.disk ≤ g.D.Disk.faults l.disk;
 }
