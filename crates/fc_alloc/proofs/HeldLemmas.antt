@@ -1,8 +1,8 @@
 -- The nodes of the owners that each directory holds, and the owners of these nodes.
-use Rattle.std.proofs.Common.{◌≡◌, ◌≢◌, ◌<◌, ◌≤◌, ℕ, zero, suc, ◌+◌, inl, inr, Bool, true, false, ◌||◌, List, [], ◌∷◌, ◌++◌, length, refl, sym, ap, subst, ◌∙◌, get_or, set, eqb, nat_lt, arith, count_by, sum_by, cond, map, filter, Contains, IsPermutation, All, Option, Some, None, unwrap_or, take, drop, append-nil, Vec, Global}
+use Rattle.std.proofs.Common.{◌≡◌, ◌≢◌, ◌<◌, ℕ, suc, ◌+◌, inl, inr, Bool, true, false, ◌||◌, List, [], ◌∷◌, ◌++◌, length, refl, sym, ap, subst, ◌∙◌, get_or, set, eqb, nat_lt, arith, count_by, sum_by, cond, map, filter, Contains, IsPermutation, All, Option, Some, None, unwrap_or, take, drop, append-nil, Vec, Global}
 use Rattle.std.specs.List.{cons_option, filter_map, find, position, position_or_len, remove, slice_get}
 use Rattle.std.proofs.lemmas.Bool.{cases_eq, eqb-true, eq-eqb, cases_lt, ne_eqb, lt-ltb, true≢false}
-use Rattle.std.proofs.lemmas.List.{get_or-set_same, get_or-set_other, length-map, get_or-map, get_or_default, map-set, set_split, take_more}
+use Rattle.std.proofs.lemmas.List.{get_or_default, set_split, take_more}
 use Rattle.std.proofs.lemmas.List.Elements.{All-cons, All-nil, All-head, All-tail, filter_map-append}
 use Rattle.std.proofs.lemmas.List.Folds.{Any-from_list_any, find_at}
 use Rattle.std.proofs.lemmas.List.Sums.{sum_by-cons, fails_before_first, position_or_len_is}
@@ -11,7 +11,8 @@ use Rattle.std.proofs.lemmas.Option.{slice_get-get_or}
 use Rattle.fc_alloc.specs.declared.owner.Owner.{Owner}
 use Rattle.fc_alloc.specs.Owners.{has_node, is_node, is_held}
 use Rattle.fc_alloc.specs.Index.{ArePlaces}
-use Rattle.fc_alloc.specs.Held.{nodes_held, nodes_at}
+use Rattle.fc_alloc.specs.Held.{nodes_held}
+use Rattle.fc_alloc.specs.Lists.{nodes_at}
 use Rattle.fc_alloc.proofs.CountLemmas.{any_counted, one, one_here}
 use Rattle.fc_alloc.proofs.PlaceLemmas.{blank, place_unique}
 
@@ -114,35 +115,6 @@ held_alike was o owners dir node home =
       go : (b : Bool) → map (λ (p : Owner). p.node) (cond b (o ∷ filter (is_held dir) owners) (filter (is_held dir) owners)) ≡ map (λ (p : Owner). p.node) (cond b (was ∷ filter (is_held dir) owners) (filter (is_held dir) owners))
       go true = ap (λ n. n ∷ nodes_held owners dir) (sym node)
       go false = refl
-
--- ---- the table
-
--- what is read at a directory
-pub nodes_read : (table : List (Vec ℕ Global)) (dir : ℕ) (nodes : Vec ℕ Global) → dir < length table → nodes ≡ get_or table dir nodes → nodes_at table dir ≡ nodes.items
-nodes_read table dir nodes within is = get_or-map (λ (v : Vec ℕ Global). v.items) table dir nodes [] within ∙ ap (λ (v : Vec ℕ Global). v.items) (sym is)
-
--- a directory past the end holds none
-pub nodes_past : (table : List (Vec ℕ Global)) (dir : ℕ) → length table ≤ dir → nodes_at table dir ≡ []
-nodes_past [] dir past = refl
-nodes_past (v ∷ table) zero past = absurd (omega (arith, past))
-nodes_past (v ∷ table) (suc dir) past = nodes_past table dir (omega (arith, past))
-
-pub nodes_written : (table : List (Vec ℕ Global)) (dir : ℕ) (nodes : Vec ℕ Global) → dir < length table → nodes_at (set table dir nodes) dir ≡ nodes.items
-nodes_written table dir nodes within =
-    ap (λ l. get_or l dir []) (map-set (λ (v : Vec ℕ Global). v.items) table dir nodes)
-    ∙ get_or-set_same (map (λ (v : Vec ℕ Global). v.items) table) dir nodes.items [] (rw length-map within)
-
-pub nodes_kept : (table : List (Vec ℕ Global)) (dir d : ℕ) (nodes : Vec ℕ Global) → d ≢ dir → nodes_at (set table dir nodes) d ≡ nodes_at table d
-nodes_kept table dir d nodes other =
-    ap (λ l. get_or l d []) (map-set (λ (v : Vec ℕ Global). v.items) table dir nodes)
-    ∙ get_or-set_other (map (λ (v : Vec ℕ Global). v.items) table) dir d nodes.items [] other
-
--- a directory more, that holds none
-pub nodes_grown : (table : List (Vec ℕ Global)) (empty : Vec ℕ Global) (dir : ℕ) → empty.items ≡ [] → nodes_at (table ++ empty ∷ []) dir ≡ nodes_at table dir
-nodes_grown [] empty zero none = none
-nodes_grown [] empty (suc dir) none = refl
-nodes_grown (v ∷ table) empty zero none = refl
-nodes_grown (v ∷ table) empty (suc dir) none = nodes_grown table empty dir none
 
 -- ---- the table after each call, where it had each directory's nodes
 

@@ -1,3 +1,4 @@
 pub mod PlaceLemmas
 pub mod CountLemmas
+pub mod ListLemmas
 pub mod HeldLemmas

@@ -1,3 +1,4 @@
 pub mod Owners
 pub mod Index
+pub mod Lists
 pub mod Held

@@ -1,11 +1,12 @@
 // What is kept beside a list of owners of their directories: the nodes that each holds.
-ghost use Rattle.std.specs.Prelude.{◌≡◌, ◌≢◌, ◌==◌, ◌<◌, ◌++◌, ◌∷◌, [], ℕ, List, vec_len, Contains, IsPermutation, IfSome, IsOk, OnOk};
+ghost use Rattle.std.specs.Prelude.{◌≡◌, ◌==◌, ◌∷◌, [], List, Contains, IsPermutation, IfSome};
 ghost use Rattle.std.specs.List.{position};
 ghost use Rattle.fc_alloc.specs.declared.owner.Owner.{Owner};
-ghost use Rattle.fc_alloc.specs.Held.{AreHeld, nodes_at, nodes_held};
+ghost use Rattle.fc_alloc.specs.Held.{AreHeld, nodes_held};
 
 use crate::Owner;
-use std::alloc::{AllocError, Global};
+use crate::lists::put_last;
+use std::alloc::Global;
 
 // The nodes of the owners that each directory holds. Once there's no memory for one, the table is given up.
 #[derive(Drop)]
@@ -31,7 +32,7 @@ impl Held {
     pub fn put(&mut self, o: Owner)
         ensures { (owners more : List Owner) → IsPermutation more (o ∷ owners) → AreHeld owners self.old → AreHeld more self.new }
     {
-        if self.complete && put_node(&mut self.table, o.dir, o.node).is_err() {
+        if self.complete && put_last(&mut self.table, o.dir, o.node).is_err() {
             self.complete = false;
             self.table.clear();
         }
@@ -69,34 +70,6 @@ impl Held {
             None => Some(&[]),
         }
     }
-}
-
-// Puts a node behind the others of a directory. The table may have grown even if there's no memory for the node.
-fn put_node(table: &mut Vec<Vec<u64>>, dir: u64, node: u64) -> Result<(), AllocError>
-    ensures here { IsOk result → nodes_at table.new.items dir ≡ nodes_at table.old.items dir ++ node ∷ [] }
-    ensures elsewhere { (d : ℕ) → d ≢ dir → nodes_at table.new.items d ≡ nodes_at table.old.items d }
-{
-    let dir = dir as usize;
-    grow(table, dir)?;
-    table[dir].push(node)?;
-    Ok(())
-}
-
-// Grows the table so that it has a directory.
-fn grow(table: &mut Vec<Vec<u64>>, dir: usize) -> Result<(), AllocError>
-    ensures same { (d : ℕ) → nodes_at table.new.items d ≡ nodes_at table.old.items d }
-    ensures room { OnOk result (dir < vec_len table.new) }
-{
-    let Some(len) = dir.checked_add(1) else {
-        return Err(AllocError);
-    };
-    let alloc = *table.allocator();
-    let missing = len.saturating_sub(table.len());
-    table.reserve(missing)?;
-    for _i in 0..missing {
-        table.push(Vec::new(alloc))?;
-    }
-    Ok(())
 }
 
 // Takes a node out. The others may change places.

@@ -4,9 +4,9 @@
 
 mod held;
 mod index;
+pub mod lists;
 mod owner;
 mod owners;
 
-pub use fc_device::NoMemory;
 pub use owner::Owner;
 pub use owners::Owners;

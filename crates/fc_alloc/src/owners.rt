@@ -10,7 +10,7 @@ use crate::index::{
     count_down, count_in, count_up, grow_counts, grow_places, owner_of, owners_of, place_of,
 };
 use fc_device::NoMemory;
-use std::alloc::{AllocError, Global};
+use std::alloc::Global;
 use std::marker::Model;
 
 /// The owners of a disc's identifiers, at most one for each node. Contracts see the list of them.
@@ -102,7 +102,7 @@ impl Owners {
         self.top = self.top.max(o.id);
     }
 
-    /// The owners, in the order in which they were added, but for those that `remove` moved.
+    /// The owners. `add` puts one behind the others; `remove` may change their order.
     pub fn list(&self) -> &[Owner]
         ensures same { result.now ≡ self.now }
         ensures nodes { HaveOwnNodes self.now }
@@ -128,17 +128,15 @@ impl Owners {
     }
 
     /// The owners of the objects that a directory holds, in any order. The directory is given by the number of its node.
-    pub fn held_by(&self, alloc: Global, dir: u64) -> Result<Vec<Owner>, AllocError>
+    pub fn held_by(&self, alloc: Global, dir: u64) -> Result<Vec<Owner>, NoMemory>
         ensures { IfOk result (λ found. IsPermutation (filter (is_held dir) self.now) found.items) }
     {
         match self.held.get(dir) {
-            Some(nodes) => owners_of(alloc, &self.list, &self.places, nodes),
-            None => self
-                .list
-                .iter()
-                .copied()
-                .filter(|o| o.dir == dir)
-                .collect(alloc),
+            Some(nodes) => Ok(owners_of(alloc, &self.list, &self.places, nodes)?),
+            None => {
+                let all = self.list.iter().copied();
+                Ok(all.filter(|o| o.dir == dir).collect(alloc)?)
+            }
         }
     }
 

@@ -26,10 +26,6 @@ use Rattle.fc_image.proofs.EntriesLemmas.{later, in_filter, from_filter, in_mapp
 turned : (xs ys : List ℕ) → is_apart xs ys ≡ true → is_apart ys xs ≡ true
 turned xs ys e = apart_from ys xs (λ s i j. let no' = apart_at xs ys s e j in cc)
 
-from_base : (taken : List ℕ) (objects : List Object) (o : Object) → IsApartFrom taken objects o → is_apart o.sectors taken ≡ true
-from_base taken [] o a = a
-from_base taken (p ∷ objects) o a = from_base taken objects o a.1
-
 from_each : (taken : List ℕ) (objects : List Object) (o p : Object) → IsApartFrom taken objects o → Contains objects p → is_apart o.sectors p.sectors ≡ true
 from_each taken [] o p a at = absurd (omega (arith, at.1))
 from_each taken (q ∷ objects) o p a (zero, low, e) = subst (λ (x : Object). is_apart o.sectors x.sectors ≡ true) e a.0

@@ -23,8 +23,6 @@ ghost use Rattle.fc_image.specs.Written.{WrittenLaw};
 ghost use Rattle.fc_image.specs.InPlace.{InPlaceLaw};
 ghost use Rattle.fc_image.specs.Renames.{RenameLaw};
 ghost use Rattle.fc_image.specs.Rewords.{RewordLaw};
-ghost use Rattle.fc_image.specs.Growths.{GrowthLaw};
-ghost use Rattle.fc_image.specs.GrownRenames.{GrownRenameLaw};
 ghost use Rattle.fc_image.specs.Answered.{AnsweredLaw};
 ghost use Rattle.fc_image.specs.Moves.{BootApartLaw, BootStaysLaw, CarriedLaw, CarryLaw, CommitLaw, HoleStepLaw, KeepsObjectsLaw, LooksLaw, MergeLaw, MoveLaw, SameMapLaw, ThenLaw, WholeLaw, WithMapLaw, ZoneFitsLaw};
 ghost use Rattle.fc_image.specs.OldMaps.{OldMapLaw};
@@ -303,16 +301,6 @@ pub fn renames()
 /// New words and attributes for one object.
 pub fn rewords()
     ensures { RewordLaw }
-{}
-
-/// Edits of one directory that gets a new place or more sectors.
-pub fn growths()
-    ensures { GrowthLaw }
-{}
-
-/// Renames into a directory that grows.
-pub fn grown_renames()
-    ensures { GrownRenameLaw }
 {}
 
 /// After each command that changes a new map the image opens, with the tree of the model.

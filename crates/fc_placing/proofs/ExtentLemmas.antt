@@ -69,13 +69,6 @@ pub record ArePushed (g : Geometry) (id : ℕ) (ahead : Bool) (old now : List Ex
   pub left : need ≡ all - length (sectors_of g (parts_met g id ahead (fronts done)))
   pub each : HaveSectors old → HaveSectors now
 
-pub none_pushed : (g : Geometry) (id : ℕ) (ahead : Bool) (old : List Extent) (all : ℕ) → ArePushed g id ahead old old all all []
-none_pushed g id ahead old all = record {
-  sectors = sym (append-nil (sectors_in old)) ∙ ap (λ (xs : List ℕ). sectors_in old ++ xs) (sym (take_none all));
-  left = omega arith;
-  each = λ h. h;
-}
-
 -- one more part
 met_more : (g : Geometry) (id : ℕ) (ahead : Bool) (done : List Part) (part : Part) → sectors_of g (parts_met g id ahead (fronts (done ++ part ∷ []))) ≡ sectors_of g (parts_met g id ahead (fronts done)) ++ sectors_if g (is_met g ahead id part.zone) (front_at part)
 met_more g id ahead done part =

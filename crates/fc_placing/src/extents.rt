@@ -6,28 +6,18 @@ ghost use Rattle.fc_newmap.specs.Map.{sectors_of};
 ghost use Rattle.fc_newmap.specs.NewMap.{IsOfRecord};
 ghost use Rattle.fc_newmap.specs.Walk.{IsInZone};
 ghost use Rattle.fc_objects.specs.Extents.{extent_sectors, sectors_in};
-ghost use Rattle.fc_space.specs.Index.{is_met};
 ghost use Rattle.fc_space.specs.Space.{HaveSectors};
 ghost use Rattle.fc_plan.specs.Parts.{front_at, fronts};
 ghost use Rattle.fc_placing.specs.Extents.{IsOwnPlace, parts_met, sectors_if};
 ghost use Rattle.fc_placing.specs.Places.{IsOwnPlan};
 
 use fc_device::{Extent, NoMemory};
-use fc_newmap::{NewMap, extent_of, home_zone};
+use fc_newmap::{NewMap, extent_of};
 use fc_plan::{Part, Plan};
 use fc_record::Geometry;
+use fc_space::is_met;
 use fc_zone::{Run, RunKind};
 use std::alloc::Global;
-
-// Whether the search for an identifier's runs meets a zone before it turns from the last zone to the first (`ahead`), or
-// afterwards.
-fn is_met(g: &Geometry, ahead: bool, id: u32, z: u16) -> bool
-    requires { IsOfRecord g.now }
-    ensures { result ≡ is_met g.now ahead id z }
-{
-    let home = home_zone(g, id);
-    if ahead { home <= z } else { z < home }
-}
 
 // Adds the sectors of an extent to a place, `need` of them at most, and answers how many are still missing.
 fn push(place: &mut Vec<Extent>, extent: Extent, need: u64) -> Result<u64, NoMemory>

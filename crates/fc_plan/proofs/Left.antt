@@ -1,21 +1,21 @@
 -- What parts leave of the holes that they are cut from.
-use Rattle.std.proofs.Common.{◌≡◌, ◌≤◌, ◌⊎◌, ◌==◌, ◌+◌, ◌-◌, ◌%◌, true, false, List, [], ◌∷◌, ◌++◌, All, Contains, Option, Some, None, refl, sym, ap, subst, ◌∙◌, arith, inl, inr, zero, suc}
+use Rattle.std.proofs.Common.{◌≡◌, ◌≤◌, ◌⊎◌, ◌==◌, ◌+◌, ◌-◌, ◌%◌, true, false, List, [], ◌∷◌, ◌++◌, All, Contains, Option, Some, None, refl, sym, ap, ◌∙◌, arith, inl, inr, zero, suc}
 use Rattle.std.specs.Prelude.{IfSome}
 use Rattle.std.specs.List.{find}
 use Rattle.std.proofs.lemmas.Bool.{cond_both, eqb-false}
-use Rattle.std.proofs.lemmas.List.Elements.{All-nil, All-cons, All-contains, All-contains_itself, All-append, All-head, All-tail, Contains-append_right}
+use Rattle.std.proofs.lemmas.List.Elements.{All-nil, All-cons, All-contains}
 use Rattle.std.proofs.lemmas.List.Concat.{flat_map-append}
 use Rattle.std.proofs.lemmas.List.{append_assoc, append-nil}
 use Rattle.fc_record.specs.declared.Geometry.{Geometry}
-use Rattle.fc_newmap.specs.Map.{Map, ZoneRun, hole_runs, sector_of}
-use Rattle.fc_newmap.specs.NewMap.{IsNewMap, IsOfRecord}
+use Rattle.fc_newmap.specs.Map.{ZoneRun}
+use Rattle.fc_newmap.specs.NewMap.{IsOfRecord}
 use Rattle.fc_newmap.specs.Walk.{IsInZone}
 use Rattle.fc_newmap.proofs.HeldLemmas as held
-use Rattle.fc_newmap.proofs.HeldLemmas.{end_within, geometry_facts, shape_fits}
+use Rattle.fc_newmap.proofs.HeldLemmas.{end_within, geometry_facts}
 use Rattle.fc_image.specs.effects.Placed.{HasRunLength, holes_left, left_behind, stands_at}
-use Rattle.fc_plan.specs.Plan.{AreApart, AreParts, IsFrontOfOne}
+use Rattle.fc_plan.specs.Plan.{AreApart, IsFrontOfOne}
 use Rattle.fc_plan.proofs.Taken.{find_is, mod-rest, stands_at-same, stands_at-self}
-use Rattle.fc_plan.proofs.MapLemmas.{count_at, count_at-cons, count_here, holes_apart, holes_placed}
+use Rattle.fc_plan.proofs.MapLemmas.{count_at, count_at-cons, count_here}
 
 -- ---- one hole at a place
 
@@ -83,46 +83,12 @@ left_behind-long g hole part hole_long part_long rest =
         let both : part.1.len + (hole.1.len - part.1.len) ≡ hole.1.len = omega arith in
         (omega arith, mod-rest part.1.len (hole.1.len - part.1.len) g.q part_long.1 (ap (λ n. n % g.q) both ∙ hole_long.1))
 
-module _ (g : Geometry) (holes parts : List ZoneRun) (apart : AreApart holes) (are : AreParts g holes parts) where
-  left-long : (hole : ZoneRun) → Contains holes hole → HasRunLength g hole → (o : Option ZoneRun) → find (stands_at hole) parts ≡ o → All (HasRunLength g) (left_behind hole o)
-  left-long hole at long None e = All-cons (HasRunLength g) hole [] long (All-nil (HasRunLength g))
-  left-long hole at long (Some part) e =
-      let is = found g holes parts apart are.fronts hole part at e in
-      left_behind-long g hole part long (All-contains (HasRunLength g) parts part are.long is.among) is.rest
-
-  some_left-long : (some : List ZoneRun) → All (Contains holes) some → All (HasRunLength g) some → All (HasRunLength g) (holes_left some parts)
-  some_left-long [] among long = All-nil (HasRunLength g)
-  some_left-long (h ∷ hs) among long =
-      All-append (HasRunLength g) (left_behind h (find (stands_at h) parts)) (holes_left hs parts)
-      (left-long h (All-head (Contains holes) h hs among) (All-head (HasRunLength g) h hs long) (find (stands_at h) parts) refl)
-      (some_left-long hs (All-tail (Contains holes) h hs among) (All-tail (HasRunLength g) h hs long))
-
-  pub holes_left-long : All (HasRunLength g) holes → All (HasRunLength g) (holes_left holes parts)
-  holes_left-long long = some_left-long holes (All-contains_itself holes) long
-
--- the holes of a map, and what parts leave of them
-pub map_holes-long : (m : Map) → IsNewMap m → All (HasRunLength m.geometry) (hole_runs m)
-map_holes-long m is k d in' = (holes_placed m is k d in').long
-
-pub map_left-long : (m : Map) (parts : List ZoneRun) → IsNewMap m → AreParts m.geometry (hole_runs m) parts → All (HasRunLength m.geometry) (holes_left (hole_runs m) parts)
-map_left-long m parts is are = holes_left-long m.geometry (hole_runs m) parts (holes_apart m is) are (map_holes-long m is)
-
--- the shortest run is of whole sectors
-pub map_min : (m : Map) → IsNewMap m → m.geometry.min % m.geometry.q ≡ 0
-map_min m is =
-    let some = (geometry_facts m.geometry is.of_record).zones in
-    (shape_fits m.geometry 0 (sector_of m 0) is.of_record (omega arith) (is.whole 0 (omega arith))).least_whole
-
 pub end_low : (g : Geometry) (p : ZoneRun) → IsOfRecord g → IsInZone g p → p.1.start + p.1.len ≤ 8192
 end_low g p of at =
     let facts = geometry_facts g of in
     omega (arith, at.to, end_within g p.0 of at.zone, held.sector_high g facts)
 
 -- ---- the walk over the holes
-
-pub contains_next : (passed left rest all : List ZoneRun) (hole : ZoneRun) → passed ++ left ≡ all → left ≡ hole ∷ rest → Contains all hole
-contains_next passed left rest all hole e f =
-    subst (λ (xs : List ZoneRun). Contains xs hole) (ap (λ (xs : List ZoneRun). passed ++ xs) (sym f) ∙ e) (Contains-append_right passed (hole ∷ rest) hole (0, omega arith, refl))
 
 pub walked_on : (passed left rest all : List ZoneRun) (hole : ZoneRun) → passed ++ left ≡ all → left ≡ hole ∷ rest → (passed ++ hole ∷ []) ++ rest ≡ all
 walked_on passed left rest all hole e f = append_assoc passed (hole ∷ []) rest ∙ ap (λ (xs : List ZoneRun). passed ++ xs) (sym f) ∙ e

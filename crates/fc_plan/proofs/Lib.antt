@@ -1,3 +1,4 @@
+pub mod Pairs
 pub mod Fewest
 pub mod Taken
 pub mod MapLemmas

@@ -1,9 +1,9 @@
 -- Holes and parts in their order: those of a map rise, and so do those that parts leave.
-use Rattle.std.proofs.Common.{◌≡◌, ◌<◌, ◌≤◌, ◌⊎◌, ◌==◌, ℕ, zero, suc, ◌+◌, ◌-◌, ◌*◌, Bool, true, false, cond, List, [], ◌∷◌, ◌++◌, length, get_or, All, Contains, Option, Some, None, refl, sym, ap, ap₂, ◌∙◌, inl, inr, arith, subst}
+use Rattle.std.proofs.Common.{◌≡◌, ◌<◌, ◌≤◌, ◌⊎◌, ◌==◌, ℕ, zero, suc, ◌+◌, ◌-◌, Bool, true, false, cond, List, [], ◌∷◌, ◌++◌, length, get_or, All, Contains, Option, Some, None, refl, sym, ap, ap₂, ◌∙◌, inl, inr, arith, subst}
 use Rattle.std.specs.Prelude.{AllPairs, IfSome, drop, filter}
 use Rattle.std.proofs.lemmas.List.{append_assoc}
 use Rattle.std.specs.List.{AllByRecursion, find, range_with_len}
-use Rattle.std.specs.List.Sorted.{IsNonDecreasingBy}
+use Rattle.std.specs.List.Sorted.{IsSortedByKey}
 use Rattle.std.proofs.lemmas.Bool.{and_parts, cases_order, cond_both, eqb-true, eq-eqb, and_from}
 use Rattle.std.proofs.lemmas.List.Elements.{All-head, All-tail, Contains-get_or, recursion_from_All}
 use Rattle.fc_bytes.specs.Bits.{bits}
@@ -17,6 +17,7 @@ use Rattle.fc_newmap.specs.RunsLaw.{placed}
 use Rattle.fc_image.specs.effects.Placed.{BeginsBefore, HasRunLength, IsFront, holes_left, left_behind, stands_at}
 use Rattle.fc_plan.specs.Plan.{AreApart, AreFreeRuns, AreInOrder, EndsBefore, IsFreeRun, IsFrontOfOne, first_at, left_of_both, rest_at}
 use Rattle.fc_plan.proofs.MapLemmas.{count_at, count_at-cons, count_here, count_other, either_test, holes_placed}
+use Rattle.fc_plan.proofs.Pairs.{in_order, pair_cmp}
 use Rattle.fc_plan.proofs.Left.{count_at-positive, end_low, left_behind-long, rest_of, same_hole}
 use Rattle.fc_plan.proofs.Taken.{stands_at-same}
 
@@ -183,23 +184,21 @@ two_at place (x ∷ xs) (suc i) (suc j) d lt in' a b =
     let more = two_at place xs i j d (omega arith) (omega arith) a b in
     omega (arith, count_at-cons place x xs)
 
--- the place of a part, as a number
-abbrev pub place_number : ZoneRun → ℕ
-place_number p = p.0 * 4294967296 + p.1.start
+-- by zone, and then by the place where a part begins
+abbrev pub place_key : ZoneRun → ℕ × ℕ
+place_key p = (p.0, p.1.start)
 
-pub rising_by_place : (xs : List ZoneRun) → IsNonDecreasingBy place_number xs → AreApart xs → All (λ (p : ZoneRun). p.1.start ≤ 8192) xs → AllPairs BeginsBefore xs
-rising_by_place xs sorted apart low i j d lt in' =
+pub rising_by_place : (xs : List ZoneRun) → IsSortedByKey place_key pair_cmp xs → AreApart xs → AllPairs BeginsBefore xs
+rising_by_place xs sorted apart i j d lt in' =
     let p = get_or xs i d in
     let q = get_or xs j d in
-    let le : p.0 * 4294967296 + p.1.start ≤ q.0 * 4294967296 + q.1.start = sorted i j d (omega arith) in' in
-    let lp : p.1.start ≤ 8192 = low i d (omega arith) in
-    let lq : q.1.start ≤ 8192 = low j d in' in
+    let order : (p.0 ≤ q.0) × (q.0 ≡ p.0 → p.1.start ≤ q.1.start) = in_order place_key xs sorted i j d (omega arith) in' in
     elim (cases_order p.0 q.0) [
       | inr (inl less) ↦ inl less
-      | inr (inr more) ↦ absurd (omega arith)
+      | inr (inr more) ↦ absurd (omega (arith, order.0, more))
       | inl same ↦ elim (cases_order p.1.start q.1.start) [
         | inr (inl less) ↦ inr (same, less)
-        | inr (inr more) ↦ absurd (omega arith)
+        | inr (inr more) ↦ absurd (omega (arith, order.1 (sym same), more))
         | inl alike ↦
             absurd (
             let here : stands_at p p ≡ true = and_from (p.0 == p.0) (p.1.start == p.1.start) (eq-eqb p.0 p.0 refl) (eq-eqb p.1.start p.1.start refl) in

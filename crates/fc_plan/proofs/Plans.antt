@@ -1,7 +1,7 @@
 -- Plans: a choice of parts, in their order.
 use Rattle.std.proofs.Common.{◌≡◌, ◌<◌, ◌≤◌, ℕ, zero, suc, true, cond, List, [], ◌∷◌, length, get_or, All, Contains, inl, inr, refl, sym, ◌∙◌, arith}
 use Rattle.std.specs.List.{AllByRecursion}
-use Rattle.std.specs.List.Sorted.{IsPermutation, IsNonDecreasingBy}
+use Rattle.std.specs.List.Sorted.{IsPermutation, IsSortedByKey}
 use Rattle.std.proofs.lemmas.List.Elements.{All-contains, All-from_recursion, recursion_from_All}
 use Rattle.std.proofs.lemmas.List.Sorted.{All-permutation, length_permutation, sum_by-IsPermutation}
 use Rattle.fc_record.specs.declared.Geometry.{Geometry}
@@ -15,7 +15,8 @@ use Rattle.fc_plan.specs.Plan.{AreApart, AreFreeRuns, AreParts, IsChoice, IsFree
 use Rattle.fc_plan.proofs.MapLemmas.{count_at, count_here, count_other, either_test}
 use Rattle.fc_plan.proofs.Left.{count_at-positive}
 use Rattle.fc_plan.proofs.Taken.{stands_at-same}
-use Rattle.fc_plan.proofs.Order.{Rising, StandsIn, are_fronts, begins_at, elsewhere, free_apart, left-free, left_is, not_both, place_number, rising_by_place, rising_of, same_place, stands_in, weaken_all}
+use Rattle.fc_plan.proofs.Pairs.{pair_cmp}
+use Rattle.fc_plan.proofs.Order.{Rising, StandsIn, are_fronts, begins_at, elsewhere, free_apart, left-free, left_is, not_both, place_key, rising_by_place, rising_of, stands_in, weaken_all}
 
 pub taken_moved : (g : Geometry) (holes : List ZoneRun) (bits : ℕ) (parts ordered : List ZoneRun) → IsPermutation parts ordered → IsTaken g holes bits parts → IsTaken g holes bits ordered
 taken_moved g holes bits parts ordered moved taken =
@@ -28,41 +29,30 @@ taken_moved g holes bits parts ordered moved taken =
       fewest = rw count taken.fewest;
     }
 
--- a front begins where its hole does, and is no longer
-front_low : (g : Geometry) (holes : List ZoneRun) → AllByRecursion (IsFreeRun g) holes → (p : ZoneRun) → IsFrontOfOne g holes p → (p.1.start ≤ 8192) × (p.1.len ≤ 8192)
-front_low g holes free p f =
-    let hole = f.0 in
-    let low = (All-contains (IsFreeRun g) holes hole (All-from_recursion (IsFreeRun g) holes free) f.1).low in
-    let same = same_place hole p f.2.at_front in
-    let begins : hole.1.start ≡ p.1.start = same.1 in
-    let within = f.2.within in (omega arith, omega arith)
-
-pub starts_low : (g : Geometry) (holes parts : List ZoneRun) → AllByRecursion (IsFreeRun g) holes → All (IsFrontOfOne g holes) parts → All (λ (p : ZoneRun). p.1.start ≤ 8192) parts
-starts_low g holes parts free fronts k d in' = (front_low g holes free (get_or parts k d) (fronts k d in')).0
-
+-- a front is no longer than its hole
 pub lens_low : (g : Geometry) (holes parts : List ZoneRun) → AllByRecursion (IsFreeRun g) holes → All (IsFrontOfOne g holes) parts → All (λ (p : ZoneRun). p.1.len ≤ 8192) parts
-lens_low g holes parts free fronts k d in' = (front_low g holes free (get_or parts k d) (fronts k d in')).1
+lens_low g holes parts free fronts k d in' =
+    let front = fronts k d in' in
+    let low = (All-contains (IsFreeRun g) holes front.0 (All-from_recursion (IsFreeRun g) holes free) front.1).low in
+    let within = front.2.within in
+    omega arith
 
 pub holes_low : (g : Geometry) (holes : List ZoneRun) → AllByRecursion (IsFreeRun g) holes → All (λ (p : ZoneRun). p.1.start ≤ 8192) holes
 holes_low g holes free = All-from_recursion (λ (p : ZoneRun). p.1.start ≤ 8192) holes (weaken_all (IsFreeRun g) (λ (p : ZoneRun). p.1.start ≤ 8192) (λ p f. let low = f.low in omega arith) holes free)
 
-pub holes_long : (g : Geometry) (holes : List ZoneRun) → AllByRecursion (IsFreeRun g) holes → All (HasRunLength g) holes
-holes_long g holes free = All-from_recursion (HasRunLength g) holes (weaken_all (IsFreeRun g) (HasRunLength g) (λ p f. f.long) holes free)
-
 -- the parts of a choice in the order of their places
 pub plan_of : (g : Geometry) (holes : List ZoneRun) (bits : ℕ) (parts ordered : List ZoneRun) → 0 < g.min → AreFreeRuns g holes → IsChoice g holes bits parts
-    → IsPermutation parts ordered → IsNonDecreasingBy place_number ordered → IsPlan g holes bits ordered
+    → IsPermutation parts ordered → IsSortedByKey place_key pair_cmp ordered → IsPlan g holes bits ordered
 plan_of g holes bits parts ordered some free choice moved sorted =
     let apart : AreApart ordered = λ place. (
     let count : count_at place ordered ≡ count_at place parts = sum_by-IsPermutation (λ (q : ZoneRun). cond (stands_at place q) 1 0) parts ordered moved in
     let once = choice.cut.once place in
     let one = free_apart g holes some free place in
     omega arith) in
-    let fronts : All (IsFrontOfOne g holes) ordered = All-permutation (IsFrontOfOne g holes) parts ordered moved choice.cut.fronts in
     record {
       taken = taken_moved g holes bits parts ordered moved choice.taken;
       long = All-permutation (HasRunLength g) parts ordered moved choice.cut.long;
-      rising = rising_by_place ordered sorted apart (starts_low g holes ordered free.each fronts);
+      rising = rising_by_place ordered sorted apart;
     }
 
 -- ---- a plan can be cut

@@ -1,20 +1,14 @@
--- The holes of a map as they are gone over, and its unused identifiers from one on.
-use Rattle.std.proofs.Common.{◌≡◌, ◌≤◌, ◌^◌, ℕ, zero, suc, ◌+◌, ◌-◌, Bool, true, false, cond, List, [], ◌∷◌, ◌++◌, drop, get_or, refl, sym, ap, ◌∙◌, arith}
-use Rattle.std.specs.Prelude.{not}
+-- The unused identifiers of a map from one on.
+use Rattle.std.proofs.Common.{◌≡◌, ◌≤◌, ◌^◌, ℕ, zero, suc, ◌+◌, ◌-◌, Bool, true, false, cond, List, [], ◌∷◌, drop, get_or, refl, sym, ap, ◌∙◌, arith}
 use Rattle.fc_record.specs.declared.Geometry.{Geometry}
 use Rattle.fc_record.specs.Record.{id_limit}
-use Rattle.fc_newmap.specs.Map.{Map, ZoneRun}
+use Rattle.fc_newmap.specs.Map.{Map}
 use Rattle.fc_newmap.specs.NewMap.{IsOfRecord}
 use Rattle.fc_newmap.specs.Ids.{unused_from}
 use Rattle.fc_newmap.proofs.IdLemmas.{is_unused, unused_none, unused_step}
 use Rattle.fc_newmap.proofs.TallyLemmas.{ids_few}
 
--- ---- the holes of a map
-
-pub push_ok : (before now : List ZoneRun) (hole : ZoneRun) (ok failed : Bool) → now ≡ cond ok (before ++ hole ∷ []) before → ok ≡ not failed → failed ≡ false → now ≡ before ++ hole ∷ []
-push_ok before now hole ok failed is other none = is ∙ ap (λ (b : Bool). cond b (before ++ hole ∷ []) before) (other ∙ ap not none)
-
--- ---- what is left behind the first unused identifier
+-- ---- what is left after the first unused identifier
 
 unused_on : (m : Map) (n from id : ℕ) (rest : List ℕ) → id_limit m.geometry - from ≡ n → unused_from m from ≡ id ∷ rest → unused_from m (id + 1) ≡ rest
 unused_on m zero from id rest e is = absurd (none_first id rest (sym (unused_none m from (omega arith)) ∙ is))

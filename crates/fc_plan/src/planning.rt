@@ -94,16 +94,6 @@ fn parts_of(holes: Vec<(u16, Run)>, bits: u64, g: &Geometry) -> Option<Vec<(u16,
     Some(parts)
 }
 
-// More than the places of a zone.
-const ZONE_PLACES: u64 = 0x1_0000_0000;
-
-// The place of a part, as a number.
-fn place_of(part: (u16, Run)) -> u64
-    ensures { result ≡ part.0 * 4294967296 + part.1.start }
-{
-    u64::from(part.0) * ZONE_PLACES + u64::from(part.1.start)
-}
-
 // The parts that are taken, rising.
 fn rising_parts(holes: Vec<(u16, Run)>, bits: u64, g: &Geometry) -> Option<Vec<(u16, Run)>>
     requires some { 0 < bits }
@@ -114,7 +104,7 @@ fn rising_parts(holes: Vec<(u16, Run)>, bits: u64, g: &Geometry) -> Option<Vec<(
     ensures { MatchOption result (bits_in holes.items < bits) (λ parts. IsPlan g.now holes.items bits parts.items) }
 {
     let mut parts = parts_of(holes, bits, g)?;
-    parts.sort_unstable_by_key(|part| place_of(*part));
+    parts.sort_unstable_by_key(|part| (part.0, part.1.start));
     Some(parts)
 }
 

@@ -21,7 +21,7 @@ use fc_device::NoMemory;
 use fc_newmap::{NewMap, Walk};
 use fc_record::Geometry;
 use fc_zone::Run;
-use std::alloc::Global;
+use std::alloc::{AllocError, Global};
 use std::marker::Model;
 
 /// Why there is no plan.
@@ -77,15 +77,13 @@ fn units(g: &Geometry, bytes: u64) -> u64
 }
 
 // The holes of a map, rising.
-fn holes_of(alloc: Global, map: &NewMap) -> Result<Vec<(u16, Run)>, NoMemory>
+fn holes_of(alloc: Global, map: &NewMap) -> Result<Vec<(u16, Run)>, AllocError>
     ensures { IfOk result (λ holes. holes.items ≡ hole_runs map.now) }
 {
     let mut holes = Vec::new(alloc);
     let mut walk = Walk::over_all(map);
     while let Some(hole) = walk.next_hole(map) {
-        if holes.push(hole).is_err() {
-            return Err(NoMemory);
-        }
+        holes.push(hole)?;
     }
     Ok(holes)
 }

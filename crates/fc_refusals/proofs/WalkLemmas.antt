@@ -1,5 +1,5 @@
 -- Walks over the names of a path.
-use Rattle.std.proofs.Common.{◌≡◌, ℕ, ◌-◌, zero, suc, Bool, true, List, [], ◌∷◌, length, take, refl, sym, ap, ap₂, ◌∙◌, arith, Option, Some, None, nat_cmp, if◌then◌else◌}
+use Rattle.std.proofs.Common.{◌≡◌, ℕ, ◌-◌, suc, Bool, true, List, [], ◌∷◌, length, take, refl, sym, ap, ap₂, ◌∙◌, arith, Option, Some, None, nat_cmp, if◌then◌else◌}
 use Rattle.std.specs.Option.{option_map_or}
 use Rattle.std.specs.FinMap.{FinMap}
 use Rattle.fc_names.specs.Names.{Path}
@@ -21,10 +21,6 @@ last_is (x ∷ path) = go x path
     go : (x : List ℕ) (path : Path) → last_from (Some x) path ≡ Some (last_name (x ∷ path))
     go x [] = refl
     go x (y ∷ path) = go y path
-
--- what stands before the last name
-pub holder_one : (x : List ℕ) → holder (x ∷ []) ≡ []
-holder_one x = ap (λ (n : ℕ). take n (x ∷ [])) (let e : length (x ∷ []) - 1 ≡ zero = omega arith in e)
 
 pub holder_more : (x y : List ℕ) (path : Path) → holder (x ∷ y ∷ path) ≡ x ∷ holder (y ∷ path)
 holder_more x y path =

@@ -1,18 +1,16 @@
 -- The open owners in order, one identifier after the other.
-use Rattle.std.proofs.Common.{◌≡◌, ◌<◌, ◌≤◌, ◌&&◌, ◌⊎◌, ℕ, zero, suc, ◌+◌, ◌-◌, Bool, true, false, cond, List, [], ◌∷◌, length, get_or, take, drop, Ordering, Option, Some, None, inl, inr, refl, sym, ap, subst, ◌∙◌, arith, eq-eqb}
+use Rattle.std.proofs.Common.{◌≡◌, ◌<◌, ◌≤◌, ◌&&◌, ◌⊎◌, ℕ, zero, suc, ◌+◌, ◌-◌, Bool, true, false, cond, List, [], ◌∷◌, length, get_or, take, drop, Option, Some, None, inl, inr, refl, sym, ap, subst, ◌∙◌, arith, eq-eqb}
 use Rattle.std.specs.Prelude.{filter, nat_le, slice_get}
 use Rattle.std.specs.List.{find}
 use Rattle.std.specs.List.Sorted.{IsNonDecreasingBy, IsPartitionPoint, IsPermutation, IsSortedByKey}
-use Rattle.std.specs.Ordering.{is_lt, nat_cmp, ordering_then}
 use Rattle.std.proofs.lemmas.Bool.{cases_eq, leb-false, leb-true, ne_eqb}
-use Rattle.std.proofs.lemmas.Bool.Decides.{nat_tests}
-use Rattle.std.proofs.lemmas.Cmp.{nat_cmp_total, on_total, then_total}
 use Rattle.std.proofs.lemmas.List.{get_or-drop, get_or-take, length-drop, length-take-le}
-use Rattle.std.proofs.lemmas.List.Sorted.{IsNonDecreasingBy-drop, ranks_by, sorted_far}
+use Rattle.std.proofs.lemmas.List.Sorted.{IsNonDecreasingBy-drop}
 use Rattle.fc_alloc.specs.declared.owner.Owner.{Owner}
 use Rattle.fc_record.specs.Record.{id_limit}
 use Rattle.fc_newmap.specs.Map.{Map}
 use Rattle.fc_image.proofs.ShuffleLemmas.{IsPermutation-filter}
+use Rattle.fc_plan.proofs.Pairs.{in_order as sorted_by_pair, pair_cmp}
 use Rattle.fc_slack.specs.Slack.{AreInOrder, has_id, has_shares, is_good, is_open, least_low, shares_from}
 use Rattle.fc_slack.proofs.OpenLemmas.{none_found}
 use Rattle.fc_slack.proofs.LowLemmas.{and_false}
@@ -24,22 +22,11 @@ use Rattle.fc_slack.proofs.Searches.{least_closed, least_share, no_share}
 abbrev pub key : Owner → ℕ × ℕ
 key o = (o.id, o.first)
 
-abbrev pub key_cmp : ℕ × ℕ → ℕ × ℕ → Ordering
-key_cmp a b = ordering_then (nat_cmp a.0 b.0) (nat_cmp a.1 b.1)
-
-not_below : (a b c d : ℕ) → is_lt (ordering_then (nat_cmp a b) (nat_cmp c d)) ≡ false → (b ≤ a) × (a ≡ b → d ≤ c)
-not_below a b c d e = (grind (arith, nat_tests, e), λ same. grind (arith, nat_tests, e, same))
-
-pub in_order : (owners : List Owner) → IsSortedByKey key key_cmp owners → AreInOrder owners
-in_order owners sorted =
-    let far : (i j : ℕ) (d : Owner) → i ≤ j → j < length owners → is_lt (key_cmp (key (get_or owners j d)) (key (get_or owners i d))) ≡ false =
-    sorted_far (λ (x y : Owner). is_lt (key_cmp (key x) (key y))) (ranks_by (then_total (on_total (λ (p : ℕ × ℕ). p.0) nat_cmp_total) (on_total (λ (p : ℕ × ℕ). p.1) nat_cmp_total)) key) owners sorted in
-    let both : (i j : ℕ) (d : Owner) → i ≤ j → j < length owners → ((get_or owners i d).id ≤ (get_or owners j d).id) × ((get_or owners j d).id ≡ (get_or owners i d).id → (get_or owners i d).first ≤ (get_or owners j d).first) =
-    λ i j d le in'. not_below (get_or owners j d).id (get_or owners i d).id (get_or owners j d).first (get_or owners i d).first (far i j d le in') in
-    record {
-      ids = λ i j d le in'. (both i j d le in').0;
-      firsts = λ i j d le in' same. (both i j d le in').1 (sym same);
-    }
+pub in_order : (owners : List Owner) → IsSortedByKey key pair_cmp owners → AreInOrder owners
+in_order owners sorted = record {
+  ids = λ i j d le in'. (sorted_by_pair key owners sorted i j d le in').0;
+  firsts = λ i j d le in' same. (sorted_by_pair key owners sorted i j d le in').1 (sym same);
+}
 
 -- ---- the owners of one identifier
 

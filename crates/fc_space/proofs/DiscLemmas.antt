@@ -8,7 +8,6 @@ use Rattle.std.proofs.lemmas.Bool.{leb-true}
 use Rattle.std.proofs.lemmas.Grind.{div_ceil_times}
 use Rattle.std.proofs.lemmas.List.{length-take-le}
 use Rattle.std.proofs.lemmas.List.FromFn.{length-range_with_len}
-use Rattle.fc_device.specs.declared.disk.Extent.{Extent}
 use Rattle.fc_record.specs.declared.Geometry.{Geometry}
 use Rattle.fc_oldmap.specs.OldMap.{OldMapContent}
 use Rattle.fc_newmap.specs.Map.{Map, id_runs}
@@ -19,7 +18,6 @@ use Rattle.fc_newmap.proofs.GeometryLemmas.{geometry_of_valid}
 use Rattle.fc_newmap.proofs.HeldLemmas.{geometry_facts}
 use Rattle.fc_newmap.proofs.PlaceLemmas.{holder_of, id_run_in, in_back, range_in}
 use Rattle.fc_image.specs.Layout.{Layout, disc_sectors, first_part, id_sectors, is_among}
-use Rattle.fc_objects.specs.Extents.{sectors_in}
 use Rattle.fc_space.specs.Space.{Suffice}
 
 in_take : (n : ℕ) (xs : List ℕ) (s : ℕ) → is_among (take n xs) s ≡ true → is_among xs s ≡ true
@@ -35,11 +33,6 @@ in_drop : (n : ℕ) (xs : List ℕ) (s : ℕ) → is_among (drop n xs) s ≡ tru
 in_drop zero xs s e = e
 in_drop (suc n) [] s e = e
 in_drop (suc n) (x ∷ xs) s e = in_back (x ∷ []) xs s (in_drop n xs s e)
-
--- no sectors suffice for no bytes
-pub none_suffice : (layout : Layout) (bytes : ℕ) (place : List Extent) → bytes ≡ 0 → place ≡ [] → Suffice layout bytes (sectors_in place)
-none_suffice layout bytes place none empty =
-    subst (λ (es : List Extent). Suffice layout bytes (sectors_in es)) (sym empty) (record { on_disc = λ s e. absurd (cc); room = omega (arith, none) })
 
 -- what the first part of a row is
 pub first_is : (n : ℕ) (xs sectors : List ℕ) → first_part n xs ≡ Some sectors → (n ≤ length xs) × (take n xs ≡ sectors)

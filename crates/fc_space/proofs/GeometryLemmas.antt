@@ -1,9 +1,7 @@
 -- Bounds of a geometry's numbers.
-use Rattle.std.proofs.Common.{◌≡◌, ◌<◌, ◌≤◌, ℕ, ◌+◌, ◌-◌, ◌*◌, ◌/◌, ◌^◌, min, Bool, true, sym, ap, subst, ◌∙◌, arith}
-use Rattle.std.specs.Prelude.{◌&&◌, nat_lt}
+use Rattle.std.proofs.Common.{◌≡◌, ◌<◌, ◌≤◌, ℕ, ◌+◌, ◌-◌, ◌*◌, ◌/◌, ◌^◌, true, sym, ap, subst, arith}
 use Rattle.std.proofs.Math.Nat.{div-le_self, pow-le-pow_right}
 use Rattle.std.proofs.lemmas.Nat.{mul-le}
-use Rattle.std.proofs.lemmas.Bool.{le-leb}
 use Rattle.fc_record.specs.declared.Geometry.{Geometry}
 use Rattle.fc_record.specs.declared.DiscRecord.{DiscRecord}
 use Rattle.fc_record.specs.Record.{geometry, is_valid}
@@ -13,7 +11,6 @@ use Rattle.fc_newmap.proofs.ExtentLemmas.{bits_on_disc, bytes_fit}
 use Rattle.fc_device.specs.declared.disk.Extent.{Extent}
 use Rattle.fc_newmap.specs.NewMap.{IsNewMap, IsOfRecord}
 use Rattle.fc_newmap.proofs.GeometryLemmas.{facts_of_valid}
-use Rattle.fc_image.specs.Layout.{is_object_id}
 
 -- identifiers have at most 19 bits
 idlen_low : (g : Geometry) → IsOfRecord g → g.idlen ≤ 19
@@ -38,12 +35,6 @@ start_fits m g low sector is e few =
     let all : (low - 1) * (g.share / sector) ≤ 255 * 2 ^ 25 = mul-le (low - 1) (g.share / sector) 255 (2 ^ 25) (omega arith) part in
     omega arith
 
-pub is_id : (m : Map) (id wide ids zones limit : ℕ) → 2 ≤ id → wide ≡ id → ids ≡ m.geometry.ids_per_zone → zones ≡ m.geometry.zones → limit ≡ min (ids * zones) (2 ^ m.geometry.idlen)
-    → nat_lt wide limit ≡ is_object_id m id
-is_id m id wide ids zones limit high w i z l =
-    ap (λ (n : ℕ). nat_lt n limit) w ∙ ap (nat_lt id) (l ∙ ap (λ (n : ℕ). min n (2 ^ m.geometry.idlen)) (ap (λ (n : ℕ). n * zones) i ∙ ap (λ (n : ℕ). m.geometry.ids_per_zone * n) z))
-    ∙ ap (λ (b : Bool). b && nat_lt id (min (m.geometry.ids_per_zone * m.geometry.zones) (2 ^ m.geometry.idlen))) (sym (le-leb 2 id high))
-
 -- the sectors of a run are numbers of 64 bits
 pub extent_fits : (g : Geometry) (p : ZoneRun) (extent : Extent) → IsOfRecord g → IsInZone g p → extent ≡ extent_of g p → extent.first + extent.sectors < 2 ^ 64
 extent_fits g p extent is lies e =
@@ -53,6 +44,3 @@ extent_fits g p extent is lies e =
     let first = div-le_self (disc_bit g p * g.bit_bytes) g.sector in
     let sectors = div-le_self (p.1.len * g.bit_bytes) g.sector in
     omega (arith, ap (λ (x : Extent). x.first) e, ap (λ (x : Extent). x.sectors) e, begun, long, first, sectors)
-
-pub idlen_is_low : (m : Map) (g : Geometry) → IsNewMap m → g ≡ m.geometry → g.idlen ≤ 19
-idlen_is_low m g is e = subst (λ (h : Geometry). h.idlen ≤ 19) (sym e) (idlen_low m.geometry is.of_record)

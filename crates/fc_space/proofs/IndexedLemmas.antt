@@ -13,7 +13,7 @@ use Rattle.fc_image.specs.Layout.{first_part, id_sectors, is_object_id, low_star
 use Rattle.fc_objects.specs.Extents.{extent_sectors, sectors_in}
 use Rattle.fc_space.specs.declared.index.IdRow.{IdRow}
 use Rattle.fc_space.specs.Index.{IsIndex, IsLow, places_in, rows_of}
-use Rattle.fc_space.proofs.PartLemmas.{map_more, none_behind, none_wanted, wanted_behind}
+use Rattle.fc_space.proofs.PartLemmas.{map_more, wanted_behind}
 
 -- The sectors that are wanted are those that were found, and `need` sectors behind `skip` sectors of the rows that are left.
 abbrev pub AreSought : List IdRow → ℕ → ℕ → List Extent → List IdRow → ℕ → ℕ → Type 0
@@ -23,23 +23,6 @@ AreSought rows skip need found left skip' need' =
 map_nothing : (o : Option (List ℕ)) → o ≡ option_map (λ (more : List ℕ). [] ++ more) o
 map_nothing None = refl
 map_nothing (Some xs) = refl
-
-pub sought_first : (rows : List IdRow) (skip need : ℕ) (found : List Extent) → found ≡ [] → AreSought rows skip need found rows skip need
-sought_first rows skip need found none =
-    map_nothing (first_part need (drop skip (sectors_in (places_in rows))))
-    ∙ ap (λ (es : List Extent). option_map (λ (more : List ℕ). sectors_in es ++ more) (first_part need (drop skip (sectors_in (places_in rows))))) (sym none)
-
-pub sought_all : (rows left : List IdRow) (skip need : ℕ) (found : List Extent) (skip' need' : ℕ) → AreSought rows skip need found left skip' need' → need' ≡ 0
-    → first_part need (drop skip (sectors_in (places_in rows))) ≡ Some (sectors_in found)
-sought_all rows left skip need found skip' need' s none =
-    s
-    ∙ ap (λ (n : ℕ). option_map (λ (more : List ℕ). sectors_in found ++ more) (first_part n (drop skip' (sectors_in (places_in left))))) none
-    ∙ ap (option_map (λ (more : List ℕ). sectors_in found ++ more)) (none_wanted (drop skip' (sectors_in (places_in left))))
-    ∙ ap (λ (xs : List ℕ). let o : Option (List ℕ) = Some xs in o) (append-nil (sectors_in found))
-
-pub sought_none : (rows : List IdRow) (skip need : ℕ) (found : List Extent) (skip' need' : ℕ) → AreSought rows skip need found [] skip' need' → 0 < need'
-    → first_part need (drop skip (sectors_in (places_in rows))) ≡ None
-sought_none rows skip need found skip' need' s more = s ∙ ap (option_map (λ (more : List ℕ). sectors_in found ++ more)) (none_behind need' skip' more)
 
 push_sectors : (found : List Extent) (part : Extent) → sectors_in (found ++ part ∷ []) ≡ sectors_in found ++ extent_sectors part
 push_sectors found part = flat_map-append extent_sectors found (part ∷ []) ∙ ap (λ (xs : List ℕ). sectors_in found ++ xs) (append-nil (extent_sectors part))

@@ -5,7 +5,7 @@ ghost use Rattle.std.specs.List.Sorted.{IsNonDecreasingBy};
 ghost use Rattle.fc_newmap.specs.Map.{all_runs};
 ghost use Rattle.fc_newmap.specs.NewMap.{IsNewMap, IsOfRecord};
 ghost use Rattle.fc_newmap.specs.Walk.{IsInZone};
-ghost use Rattle.fc_space.specs.Index.{IsIndex, IsLow, row_of, rows_of, rows_with};
+ghost use Rattle.fc_space.specs.Index.{IsIndex, IsLow, is_met, row_of, rows_of, rows_with};
 
 use fc_device::{Extent, NoMemory};
 use fc_newmap::{NewMap, Walk, extent_of, home_zone};
@@ -20,8 +20,17 @@ pub struct IdRow {
     pub place: Extent,
 }
 
-// Appends the row of a run with an identifier, where the search for it comes to the run's zone before it turns to zone 0
-// (`ahead`), or else where it comes there afterwards.
+/// Whether the search for an identifier's runs meets a zone before it turns from the last zone to the first (`ahead`), or
+/// afterwards.
+pub fn is_met(g: &Geometry, ahead: bool, id: u32, z: u16) -> bool
+    requires { IsOfRecord g.now }
+    ensures { result ≡ is_met g.now ahead id z }
+{
+    let home = home_zone(g, id);
+    if ahead { home <= z } else { z < home }
+}
+
+// Appends the row of a run with an identifier, if the search for it meets the run's zone then.
 fn push_run(
     rows: &mut Vec<IdRow>,
     g: &Geometry,
@@ -37,7 +46,7 @@ fn push_run(
     let RunKind::Id(id) = run.kind else {
         return Ok(());
     };
-    if (home_zone(g, id) <= z) != ahead {
+    if !is_met(g, ahead, id, z) {
         return Ok(());
     }
     let place = extent_of(g, z, run);

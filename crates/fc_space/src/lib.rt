@@ -10,6 +10,7 @@ mod old;
 mod places;
 mod space;
 
+pub use index::is_met;
 pub use new::{is_object_id, low_start, sector_of_id};
 pub use places::Places;
 pub use space::Space;

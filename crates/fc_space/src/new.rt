@@ -8,7 +8,7 @@ ghost use Rattle.fc_space.specs.Space.{HaveSectors, Suffice};
 
 use crate::PlaceError;
 use fc_device::Extent;
-use fc_newmap::{NewMap, RunCursor, extent_of};
+use fc_newmap::{MAP_ID, NewMap, RunCursor, extent_of, id_limit};
 use std::alloc::Global;
 
 // The part of an extent that stands behind `skip` sectors and has at most `need`.
@@ -28,9 +28,7 @@ pub fn part_of(extent: Extent, skip: u64, need: u64) -> Extent
 pub fn is_object_id(map: &NewMap, id: u32) -> bool
     ensures { result ≡ is_object_id map.now id }
 {
-    let g = map.geometry();
-    let ids = u64::from(g.ids_per_zone) * u64::from(g.zones);
-    id >= 2 && u64::from(id) < ids.min(1 << g.idlen)
+    id >= MAP_ID && id < id_limit(map.geometry())
 }
 
 /// How many sectors into its identifier an object of this low byte of an indirect address begins.

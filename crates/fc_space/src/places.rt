@@ -22,6 +22,8 @@ use std::marker::Model;
 pub struct Places {
     space: Space,
     index: Option<Vec<IdRow>>,
+    // Whether a place was looked for since a change dropped the index.
+    sought: bool,
 }
 
 impl Model for Places {
@@ -40,7 +42,11 @@ impl Places {
     pub fn new(space: Space) -> Places
         ensures { result ≡ space }
     {
-        Places { space, index: None }
+        Places {
+            space,
+            index: None,
+            sought: false,
+        }
     }
 
     /// Makes the index of a new map and the map's tally, unless it has them. If memory is short, places are found as before;
@@ -58,6 +64,17 @@ impl Places {
         Ok(())
     }
 
+    /// Before a place is looked for: makes the index, if one was looked for since a change dropped it. So a single search
+    /// between two changes costs no index. If memory is short, places are found as before.
+    pub fn renew_index(&mut self, alloc: Global)
+        ensures { self.new ≡ self.old }
+    {
+        if self.sought {
+            let _ = self.index(alloc);
+        }
+        self.sought = true;
+    }
+
     /// The map.
     pub fn space(&self) -> &Space
         ensures { result.now ≡ self.now }
@@ -71,6 +88,7 @@ impl Places {
         ensures value { result.now ≡ self.old }
     {
         self.index = None;
+        self.sought = false;
         &mut self.space
     }
 

@@ -60,8 +60,8 @@ impl Space {
 
     /// The whole sectors that the first `bytes` bytes from an address take, in their order; none at all for no bytes,
     /// whatever the address. They lie on the disc, and no extent is empty. The address is an indirect disc address on a new
-    /// map, and counts units of 256 bytes on an old one. `Outside` exactly where the bytes pass the object's end or the disc's, where no object can have the
-    /// address's identifier, and, on an old map, where the address is no sector boundary.
+    /// map, and counts units of 256 bytes on an old one. `Outside` exactly if the bytes pass the object's end or the disc's,
+    /// if no object can have the address's identifier, and, on an old map, if the address is no sector boundary.
     pub fn place_of(
         &self,
         alloc: Global,

@@ -1,17 +1,13 @@
 -- The tree of the nodes that a walk has found.
 use Rattle.std.proofs.Common.{◌≡◌, ℕ, List, map, sym, subst, Some, Option}
-use Rattle.std.specs.Prelude.{Result}
 use Rattle.std.specs.Ordering.{nat_cmp}
 use Rattle.std.specs.FinMap.{FinMap}
-use Rattle.fc_image.specs.declared.ImageFault.{ImageFault}
 use Rattle.fc_image.specs.Layout.{Layout}
-use Rattle.fc_image.specs.Walk.{Listing}
 use Rattle.fc_tree.specs.declared.node.Node.{Node}
-use Rattle.fc_tree.specs.declared.node.TreeError.{TreeError}
 use Rattle.fc_tree.specs.Agree.{InOrder, reader_of_nodes}
-use Rattle.fc_tree.specs.Loaded.{IsFaultOf, IsLoaded, not_free}
+use Rattle.fc_tree.specs.Loaded.{IsLoaded, not_free}
 use Rattle.fc_tree.specs.Nodes.{HoldObjects, Numbers, nodes_of}
-use Rattle.fc_tree.specs.Walking.{FailsAs, IsFound}
+use Rattle.fc_tree.specs.Walking.{IsFound}
 use Rattle.fc_tree.proofs.ChangeLemmas.{same_nodes}
 use Rattle.fc_tree.proofs.HeldLemmas.{held_tells}
 use Rattle.fc_tree.proofs.NumberLemmas.{numbers_law}
@@ -34,8 +30,3 @@ loaded layout reserved address size told nodes tree found slots =
       in_order = subst (λ (m : FinMap nat_cmp Node). InOrder m found.listings) (sym same) law.1;
       tells = found.tells;
     }
-
-pub as_fault : (r : Result (List Listing) ImageFault) (e : TreeError) → FailsAs r e → IsFaultOf r e
-as_fault r (TreeError.Image f) h = h
-as_fault r TreeError.DiskFault h = tt
-as_fault r TreeError.NoMemory h = tt

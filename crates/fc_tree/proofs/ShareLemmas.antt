@@ -78,11 +78,6 @@ module _ (p : ℕ → Bool) where
 
 -- ---- the numbers of a directory
 
--- a number of the directory, behind the others
-pub in_here : (nodes : List Node) (n : ℕ) (node : Node) → slice_get nodes n ≡ Some node → filter (is_in nodes node.holder) (n ∷ []) ≡ n ∷ []
-in_here nodes n node is =
-    ap (λ b. cond b (n ∷ []) []) (ap (λ o. option_map_or (λ (m : Node). m.holder == node.holder) o false) is ∙ eq-eqb node.holder node.holder refl)
-
 pub in_other : (nodes : List Node) (n dir : ℕ) (node : Node) → slice_get nodes n ≡ Some node → (dir ≡ node.holder → ⊥) → filter (is_in nodes dir) (n ∷ []) ≡ []
 in_other nodes n dir node is other =
     ap (λ b. cond b (n ∷ []) []) (ap (λ o. option_map_or (λ (m : Node). m.holder == dir) o false) is ∙ ne_eqb node.holder dir (λ e. other (sym e)))

@@ -3,8 +3,8 @@ use Rattle.std.proofs.Common.{◌≡◌, ◌≢◌, ◌<◌, ℕ, List, Option, 
 use Rattle.std.specs.Prelude.{slice_index}
 use Rattle.std.specs.List.{insert, remove}
 use Rattle.std.proofs.lemmas.Bool.{cases_eq, cases_lt}
-use Rattle.fc_alloc.specs.Held.{nodes_at}
-use Rattle.fc_alloc.proofs.HeldLemmas.{nodes_past}
+use Rattle.fc_alloc.specs.Lists.{nodes_at}
+use Rattle.fc_alloc.proofs.ListLemmas.{nodes_past}
 use Rattle.fc_tree.specs.declared.node.Node.{Node}
 use Rattle.fc_tree.specs.Slots.{slot_at, AreSameBut}
 use Rattle.fc_tree.specs.Index.{key_of, IsIndex, IsRank}

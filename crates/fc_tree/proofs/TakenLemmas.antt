@@ -8,7 +8,7 @@ use Rattle.std.proofs.lemmas.Bool.{cases_eq, cases_lt, eq-eqb, le-ltb, lt-ltb, n
 use Rattle.std.proofs.lemmas.List.{get_or-set_other, get_or-set_same}
 use Rattle.std.proofs.lemmas.Option.{slice_get-get_or}
 use Rattle.std.proofs.lemmas.Grind.{flat_map-append}
-use Rattle.std.proofs.lemmas.Nat.Bits.{bit_at-zero, bit_at_ones, bit_at_set_other, bit_at_set_same}
+use Rattle.std.proofs.lemmas.Nat.Bits.{bit_at_ones, bit_at_set_other, bit_at_set_same}
 use Rattle.fc_device.specs.declared.disk.Extent.{Extent}
 use Rattle.fc_newmap.proofs.CoverLemmas.{range_cut}
 use Rattle.fc_newmap.proofs.PlaceLemmas.{in_front, in_back, in_either, in_range, range_in}
@@ -79,19 +79,6 @@ one_marked m (x ∷ xs) s e h = elim (in_either (x ∷ []) xs s e) [
     by true f = refl
     by false f = f
 
-free_append : (m : Marks) (xs ys : List ℕ) → is_free m (xs ++ ys) ≡ (is_free m xs && is_free m ys)
-free_append m [] ys = refl
-free_append m (x ∷ xs) ys = by (has_mark m x) (free_append m xs ys)
-  where
-    by : (b : Bool) → is_free m (xs ++ ys) ≡ (is_free m xs && is_free m ys) → not (b || list_any (has_mark m) (xs ++ ys)) ≡ (not (b || list_any (has_mark m) xs) && is_free m ys)
-    by true f = refl
-    by false f = f
-
--- the sectors of a first extent, and those of others
-pub first_free : (m : Marks) (e : Extent) (es left : List Extent) (b : Bool) → left ≡ e ∷ es → b ≡ is_free m (extent_sectors e) → is_free m (sectors_in left) ≡ (b && is_free m (sectors_in es))
-first_free m e es left b is f =
-    ap (λ (l : List Extent). is_free m (sectors_in l)) is ∙ free_append m (extent_sectors e) (sectors_in es) ∙ ap (λ (x : Bool). x && is_free m (sectors_in es)) (sym f)
-
 pub bool_same : (b c : Bool) → (b ≡ true → c ≡ true) → (c ≡ true → b ≡ true) → b ≡ c
 bool_same true true f g = refl
 bool_same true false f g = absurd (let h = f refl in cc)
@@ -142,18 +129,6 @@ words_marked words words' sectors at from to first low long inside before behind
     unmarked same away =
         ap (λ (w : ℕ). nat_lt s sectors && (bit_at w (s % 64) == 1)) same
         ∙ sym (ap (λ (b : Bool). b || has_mark (record { words = words; sectors = sectors }) s) (outside away (is_among (range_with_len at (64 * to - at)) s) refl))
-
--- no sector of a word that is 0 is marked
-pub words_free : (m : Marks) (from to : ℕ) → ((k : ℕ) → from ≤ k → k < to → get_or m.words k 0 ≡ 0) → (s : ℕ) → 64 * from ≤ s → s < 64 * to → has_mark m s ≡ false
-words_free m from to zeros s low high =
-    ap (λ (w : ℕ). nat_lt s m.sectors && (bit_at w (s % 64) == 1)) (zeros (s / 64) (omega arith) (omega arith)) ∙ ap (λ (b : Bool). nat_lt s m.sectors && b) none ∙ and_false (nat_lt s m.sectors)
-  where
-    none : (bit_at 0 (s % 64) == 1) ≡ false
-    none = ap (λ (n : ℕ). n == 1) (bit_at-zero (s % 64))
-
-    and_false : (b : Bool) → (b && false) ≡ false
-    and_false true = refl
-    and_false false = refl
 
 -- more sectors of a row are marked
 pub row_more : (m m' : Marks) (first at next : ℕ) (taken : List ℕ) → first ≤ at → at ≤ next → m'.sectors ≡ m.sectors

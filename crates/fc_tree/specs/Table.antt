@@ -1,6 +1,6 @@
 -- The index of nodes: for each directory the numbers of the nodes that it holds.
 use Rattle.std.specs.Prelude.{◌≤◌, ℕ, ◌+◌, IsTrue, List, length, Option}
-use Rattle.fc_alloc.specs.Held.{nodes_at}
+use Rattle.fc_alloc.specs.Lists.{nodes_at}
 use Rattle.fc_tree.specs.declared.node.Node.{Node}
 use Rattle.fc_tree.specs.declared.table.Table.{Table}
 use Rattle.fc_tree.specs.declared.vacancy.Vacancy.{Vacancy}

@@ -1,5 +1,5 @@
 // The places of objects, each apart from those before it.
-ghost use Rattle.std.specs.Prelude.{◌≡◌, ◌++◌, Err, List, ℕ, Ok, OnOk};
+ghost use Rattle.std.specs.Prelude.{◌≡◌, ◌++◌, Err, List, ℕ, Ok, OnErr, OnOk};
 ghost use Rattle.fc_image.specs.declared.ImageFault.TheVariants as faults;
 ghost use Rattle.fc_image.specs.Layout.{dir_form, disc_sectors};
 ghost use Rattle.fc_image.specs.Walk.{Object, object_of, object_size};
@@ -53,7 +53,7 @@ pub fn object_size(form: NameForm, entry: &Entry) -> u32
     }
 }
 
-/// Takes the sectors of an object of this entry. Where it has none, or not all are free, none is taken.
+/// Takes the sectors of an object of this entry. If it has none, or not all are free, none is taken.
 pub fn claim(
     alloc: Global,
     places: &Places,
@@ -67,6 +67,7 @@ pub fn claim(
     ensures outside { result ≡ Err ClaimError.Outside → (path : Path) (before : List ℕ) → object_of (layout_of places.now) before path entry.now ≡ Err (faults.Place path) }
     ensures overlap { result ≡ Err ClaimError.Overlap → (path : Path) (before : List ℕ) → AreTaken taken.old before
         → object_of (layout_of places.now) before path entry.now ≡ Err (faults.Overlap path) }
+    ensures err { OnErr result (taken.new ≡ taken.old) }
 {
     let bytes = u64::from(object_size(places.dir_form(), entry));
     match places.place_of(alloc, entry.address, bytes) {

@@ -1,5 +1,5 @@
 // The walk over the directories of a disk.
-ghost use Rattle.std.specs.Prelude.{◌≡◌, ◌≤◌, ◌+◌, Err, IfErr, IfOk, IsTrue};
+ghost use Rattle.std.specs.Prelude.{◌≡◌, ◌≤◌, ◌+◌, Err, IfErr, IfOk, IsTrue, List, Some, map};
 ghost use Rattle.std.specs.Option.{ForSome};
 ghost use Rattle.fc_device.specs.Faults.{Rose};
 ghost use Rattle.fc_device.specs.Calls.{OnlyReads};
@@ -9,6 +9,7 @@ ghost use Rattle.fc_image.specs.Walk.{reader_of, walk};
 ghost use Rattle.fc_space.specs.Space.{layout_of};
 ghost use Rattle.fc_tree.specs.Calls.{all_directory_sectors};
 ghost use Rattle.fc_tree.specs.Nodes.{nodes_of};
+ghost use Rattle.fc_tree.specs.declared.node.Node.{Node};
 ghost use Rattle.fc_tree.specs.Loaded.{IsFaultOf, IsLoaded, not_free};
 ghost use Rattle.fc_tree.specs.Reads.{walk_sectors};
 
@@ -26,6 +27,8 @@ use std::alloc::Global;
 /// once, whatever is answered: at most a read call is taken for each sector of the directories that the walk comes to, up to
 /// its end or the first fault.
 ///
+/// Each number below the tree's bound has a node, and there is no room for more yet.
+///
 /// The answer is `Image` exactly where the walk meets a fault, with the first, and `DiskFault` only where the disk's count
 /// of faults rose.
 pub fn load<D: Disk>(
@@ -40,6 +43,7 @@ pub fn load<D: Disk>(
     requires size { D.sector_size disk.old ≡ sector_bytes (layout_of places.now) }
     requires room { disc_sectors (layout_of places.now) ≤ D.sectors disk.old }
     ensures tree { IfOk result (λ tree. IsLoaded (nodes_of tree) (layout_of places.now) (sectors_in reserved.now) root root_size (D.bytes disk.old)) }
+    ensures numbers { IfOk result (λ tree. (nodes : List Node) × (tree ≡ record { slots = map Some nodes; room = 0 })) }
     ensures fault { ForSome (D.bytes disk.old) (λ image. IfErr result
         (IsFaultOf (walk (reader_of image (layout_of places.now)) (layout_of places.now) (not_free (layout_of places.now) (sectors_in reserved.now)) root root_size))) }
     ensures reads { OnlyReads D.Disk disk.old disk.new }

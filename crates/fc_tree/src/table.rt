@@ -1,7 +1,7 @@
 // The index of nodes: for each directory the numbers of the nodes that it holds.
-ghost use Rattle.std.specs.Prelude.{◌≡◌, ◌≢◌, ◌<◌, ◌≤◌, ◌++◌, ◌∷◌, [], ℕ, List, Option, Some, None, filter, length, map, vec_len, IfOk, IsOk, IsSome, OnOk};
+ghost use Rattle.std.specs.Prelude.{◌≡◌, ◌≢◌, ◌<◌, ◌≤◌, ◌++◌, ◌∷◌, [], ℕ, List, Option, Some, None, filter, length, map, IfOk, IsOk, IsSome};
 ghost use Rattle.std.specs.List.{insert, remove};
-ghost use Rattle.fc_alloc.specs.Held.{nodes_at};
+ghost use Rattle.fc_alloc.specs.Lists.{nodes_at};
 ghost use Rattle.fc_tree.specs.declared.node.Node.{Node};
 ghost use Rattle.fc_tree.specs.Nodes.{child, nodes_of};
 ghost use Rattle.fc_tree.specs.Places.{is_in};
@@ -11,6 +11,7 @@ ghost use Rattle.fc_tree.specs.Table.{AreIndexed};
 use crate::index::{child_among, first_child, order_of, place_of, rank, rank_of};
 use crate::node::Node;
 use crate::slots::node_at;
+use fc_alloc::lists::{grow, put_last};
 use std::alloc::{AllocError, Global};
 
 // The numbers of the nodes that each directory holds. Once there's no memory for one, the table is given up.
@@ -88,23 +89,6 @@ fn put_number(lists: &mut Vec<Vec<u64>>, dir: u64, at: usize, n: u64) -> Result<
     Ok(())
 }
 
-// Grows the table so that it has a directory.
-fn grow(lists: &mut Vec<Vec<u64>>, dir: usize) -> Result<(), AllocError>
-    ensures same { (d : ℕ) → nodes_at lists.new.items d ≡ nodes_at lists.old.items d }
-    ensures room { OnOk result (dir < vec_len lists.new) }
-{
-    let Some(len) = dir.checked_add(1) else {
-        return Err(AllocError);
-    };
-    let alloc = *lists.allocator();
-    let missing = len.saturating_sub(lists.len());
-    lists.reserve(missing)?;
-    for _i in 0..missing {
-        lists.push(Vec::new(alloc))?;
-    }
-    Ok(())
-}
-
 // Takes a number out of the list of a directory.
 fn remove_number(lists: &mut Vec<Vec<u64>>, dir: u64, at: usize)
     requires { at < length (nodes_at lists.old.items dir) }
@@ -112,17 +96,6 @@ fn remove_number(lists: &mut Vec<Vec<u64>>, dir: u64, at: usize)
     ensures elsewhere { (d : ℕ) → d ≢ dir → nodes_at lists.new.items d ≡ nodes_at lists.old.items d }
 {
     lists[dir as usize].remove(at);
-}
-
-// Puts a number behind the others of a directory. The table may have grown even if there's no memory for the number.
-fn put_last(lists: &mut Vec<Vec<u64>>, dir: u64, n: u64) -> Result<(), AllocError>
-    ensures here { IsOk result → nodes_at lists.new.items dir ≡ nodes_at lists.old.items dir ++ n ∷ [] }
-    ensures elsewhere { (d : ℕ) → d ≢ dir → nodes_at lists.new.items d ≡ nodes_at lists.old.items d }
-{
-    let dir = dir as usize;
-    grow(lists, dir)?;
-    lists[dir].push(n)?;
-    Ok(())
 }
 
 // Puts the number of a node behind the others of the directory that holds it.

@@ -179,7 +179,7 @@ impl Taken {
         true
     }
 
-    /// Whether none of these sectors, all of which lie on the disc, is taken.
+    /// Whether none of these sectors is taken. One past the disc's end never is.
     pub fn are_free(&self, place: &[Extent]) -> bool
         ensures { result ≡ is_free self.now (sectors_in place.now) }
     {

@@ -45,7 +45,7 @@ impl Model for Tree {
 impl Tree {
     /// The tree of these nodes, numbered in their order.
     pub(crate) fn from_nodes(alloc: Global, nodes: Vec<Node>) -> Result<Tree, NoMemory>
-        ensures { IfOk result (λ tree. tree.slots ≡ map Some nodes.items) }
+        ensures { IfOk result (λ tree. tree ≡ record { slots = map Some nodes.items; room = 0 }) }
     {
         let table = table_of(alloc, &nodes)?;
         let slots = slots_of(alloc, nodes)?;
@@ -205,6 +205,7 @@ impl Tree {
         self.room = room;
         Ok(())
     }
+
     /// Gives up the room for one node that `reserve` made, and keeps its memory for later.
     pub fn release(&mut self)
         requires { 0 < self.old.room }

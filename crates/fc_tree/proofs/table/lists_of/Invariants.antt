@@ -1,5 +1,5 @@
 use Rattle.std.proofs.Common.{◌≡◌, ℕ, filter, take}
-use Rattle.fc_alloc.specs.Held.{nodes_at}
+use Rattle.fc_alloc.specs.Lists.{nodes_at}
 use Rattle.fc_tree.specs.Places.{is_in}
 use Rattle.fc_tree.proofs.table.lists_of.Given as goal
 

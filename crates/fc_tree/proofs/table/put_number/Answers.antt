@@ -1,6 +1,6 @@
 use Rattle.std.proofs.Common.{◌<◌, ◌∙◌, List, ℕ, length, ap, sym, arith}
 use Rattle.std.specs.List.{insert}
-use Rattle.fc_alloc.proofs.HeldLemmas.{nodes_kept, nodes_read, nodes_written}
+use Rattle.fc_alloc.proofs.ListLemmas.{nodes_kept, nodes_read, nodes_written}
 use Rattle.fc_tree.proofs.table.put_number.Goals as goal
 
 pub returns-clause-here : goal.returns-clause-here

@@ -1,6 +1,6 @@
 use Rattle.std.proofs.Common.{◌∙◌, List, ℕ, ap, sym}
 use Rattle.std.specs.List.{remove}
-use Rattle.fc_alloc.proofs.HeldLemmas.{nodes_kept, nodes_read, nodes_written}
+use Rattle.fc_alloc.proofs.ListLemmas.{nodes_kept, nodes_read, nodes_written}
 use Rattle.fc_tree.proofs.TableLemmas.{list_there}
 use Rattle.fc_tree.proofs.table.remove_number.Goals as goal
 

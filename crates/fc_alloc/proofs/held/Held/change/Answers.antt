@@ -1,5 +1,5 @@
 use Rattle.fc_alloc.proofs.HeldLemmas.{held_changed}
-use Rattle.fc_alloc.specs.Held.{nodes_at}
+use Rattle.fc_alloc.specs.Lists.{nodes_at}
 use Rattle.fc_alloc.proofs.held.Held.change.Goals as goal
 
 pub returns-else-was-o : goal.returns-else-was-o

@@ -1,6 +1,7 @@
 use Rattle.std.proofs.Common.{◌≡◌, ◌<◌, ◌≤◌, ◌∷◌, [], List, ℕ, length, set, sym, subst, arith, Contains, IsPermutation}
-use Rattle.fc_alloc.specs.Held.{nodes_at}
-use Rattle.fc_alloc.proofs.HeldLemmas.{held_take, held_there, nodes_kept, nodes_past, nodes_read, nodes_written}
+use Rattle.fc_alloc.specs.Lists.{nodes_at}
+use Rattle.fc_alloc.proofs.HeldLemmas.{held_take, held_there}
+use Rattle.fc_alloc.proofs.ListLemmas.{nodes_kept, nodes_past, nodes_read, nodes_written}
 use Rattle.fc_alloc.proofs.held.Held.take.Goals as goal
 
 pub returns-then-o-len : goal.returns-then-o-len

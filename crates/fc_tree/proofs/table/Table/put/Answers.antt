@@ -1,6 +1,6 @@
 use Rattle.std.proofs.Common.{◌≡◌, true, subst, arith, is_ok}
 use Rattle.std.proofs.lemmas.Grind.{common_steps}
-use Rattle.fc_alloc.specs.Held.{nodes_at}
+use Rattle.fc_alloc.specs.Lists.{nodes_at}
 use Rattle.fc_tree.specs.Index.{IsRank}
 use Rattle.fc_tree.specs.Places.{shown}
 use Rattle.fc_tree.proofs.TableLemmas.{lists_put}

@@ -1,6 +1,6 @@
 use Rattle.std.proofs.Common.{◌≡◌, ℕ, ◌+◌, vec_len}
-use Rattle.fc_alloc.specs.Held.{nodes_at}
-use Rattle.fc_tree.proofs.table.grow.Given as goal
+use Rattle.fc_alloc.specs.Lists.{nodes_at}
+use Rattle.fc_alloc.proofs.lists.grow.Given as goal
 
 abbrev pub invariant-loop-i : goal.invariant-loop-i
 invariant-loop-i l =
