@@ -160,11 +160,21 @@ fn name_limit(form: NameForm) -> usize
     }
 }
 
-/// Whether a name may be written in directories of this form. Its bytes must be 33 to 126, or 128 to 255 where the form
-/// has them, without `$ & % @ \ ^ : . # * " |`. A name that is read may have other bytes.
+/// Whether the name of these bytes may be written in directories of this form; no bytes are no name. They must be 33 to
+/// 126, or 128 to 255 where the form has them, without `$ & % @ \ ^ : . # * " |`. A name that is read may have other
+/// bytes.
+pub fn writable_bytes(name: &[u8], form: NameForm) -> bool
+    ensures { result ≡ is_writable form name.now }
+{
+    if name.is_empty() {
+        return false;
+    }
+    name.len() <= name_limit(form) && name.iter().all(|c| is_writable_byte(form, *c))
+}
+
+/// Whether a name may be written in directories of this form.
 pub fn writable(n: &Name, form: NameForm) -> bool
     ensures { result ≡ is_writable form n.now }
 {
-    let bytes = n.bytes();
-    bytes.len() <= name_limit(form) && bytes.iter().all(|c| is_writable_byte(form, *c))
+    writable_bytes(n.bytes(), form)
 }
