@@ -22,8 +22,8 @@ pub fn file_entry(name: Name, load: u32, exec: u32, len: u32, address: u32) -> E
     }
 }
 
-// The bytes of a new directory.
-fn new_dir_size(form: NameForm) -> u32
+/// The bytes of a new directory.
+pub fn new_dir_size(form: NameForm) -> u32
     ensures { result ≡ new_dir_size form }
 {
     match form {

@@ -2,7 +2,6 @@
 ghost use Rattle.std.specs.Prelude.{◌≡◌, ◌<◌, ℕ, List, length};
 ghost use Rattle.fc_dirs.specs.declared.Entry.{Entry};
 ghost use Rattle.fc_dirs.specs.Directory.{Directory, entries_of};
-ghost use Rattle.fc_dirs.specs.Small.{tail_of};
 ghost use Rattle.fc_image.specs.effects.Short.{Gain};
 ghost use Rattle.fc_drafts.specs.Draft.{directory_in};
 ghost use Rattle.fc_drafts.specs.Gains.{GetsName, GetsNameFor, HasRoom, room_of_size, small_room};
@@ -10,7 +9,6 @@ ghost use Rattle.fc_drafts.specs.Rewriting.{IsAt};
 
 use crate::Draft;
 use fc_bigdir::BigDir;
-use fc_dirs::SmallForm;
 use fc_names::Name;
 use fc_smalldir::SmallDir;
 
@@ -38,21 +36,11 @@ fn room_of_size(size: usize, needed: u64) -> Room
     }
 }
 
-// The number of entries that a small directory holds at most.
-fn places(form: SmallForm) -> usize
-    ensures { result ≡ (tail_of form).places }
-{
-    match form {
-        SmallForm::Bytes2048 => 77,
-        SmallForm::Bytes1280 => 47,
-    }
-}
-
 // The room of a small directory for one entry more.
 fn small_room(dir: &SmallDir) -> Room
     ensures { result ≡ small_room dir.now }
 {
-    if dir.entries().len() == places(dir.form()) {
+    if dir.entries().len() == dir.form().places() {
         Room::Full
     } else {
         Room::Fits

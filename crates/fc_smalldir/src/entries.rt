@@ -11,7 +11,6 @@ ghost use Rattle.fc_dirs.specs.SmallBytes.{entry_bytes};
 
 use crate::DirError;
 use crate::entry::{put_entry, read_entry};
-use crate::head::places;
 use fc_dirs::{DirFault, Entry, SmallForm};
 use fc_names::{Name, fold_eq, fold_less};
 use std::alloc::Global;
@@ -54,7 +53,7 @@ pub fn count_entries(b: &[u8], form: SmallForm) -> usize
     ensures count { result ≡ length (small_entries form b.now) }
     ensures few { result ≤ (tail_of form).places }
 {
-    let places = places(form);
+    let places = form.places();
     for i in 0..places {
         if b[5 + 26 * i] == 0 {
             return i;

@@ -23,16 +23,6 @@ pub struct Head {
     pub reserved: [u8; 14],
 }
 
-// The number of places for entries.
-pub fn places(form: SmallForm) -> usize
-    ensures { result ≡ (tail_of form).places }
-{
-    match form {
-        SmallForm::Bytes2048 => 77,
-        SmallForm::Bytes1280 => 47,
-    }
-}
-
 // Whether a new directory has the word `Hugo`.
 pub fn has_old_word(form: SmallForm) -> bool
     ensures { result ≡ has_old_word form }
