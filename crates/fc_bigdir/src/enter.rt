@@ -10,8 +10,9 @@ ghost use Rattle.fc_bigdir.specs.Entered.{IsRoomFor, entered_heap, entered_place
 
 use crate::put::put_name;
 use crate::space::{bytes_for, size_for};
-use fc_dirs::Entry;
-use fc_names::{Name, fold_less};
+use fc_checks::BIG_LIMIT;
+use fc_dirs::{Entry, place_of};
+use fc_names::Name;
 use std::alloc::{AllocError, Global};
 
 // How a directory takes a new name: its size, and whether the present heap takes the name besides. Else the heap is made
@@ -32,7 +33,7 @@ pub fn room_for(size: u32, head: usize, entries: usize, loose: usize, tight: usi
     ensures { MatchOption result (size_limit < needed_for head entries loose tight) (IsRoomFor size head entries loose tight) }
 {
     let needed = size_for(head, entries, loose).min(size_for(head, entries, tight));
-    if needed > 4_194_304 {
+    if needed > BIG_LIMIT as u64 {
         return None;
     }
     let size = size.max(needed as u32);
@@ -87,17 +88,6 @@ fn packed_heap(
     push_name(&mut heap, name)?;
     push_names(&mut heap, behind)?;
     Ok(heap)
-}
-
-// Where a new entry stands: before the first whose folded name is greater, and else last.
-pub fn place_of(entries: &[Entry], name: &Name) -> usize
-    ensures place { result ≡ entry_place name.now entries.now }
-    ensures within { result ≤ length entries.now }
-{
-    entries
-        .iter()
-        .position(|e| fold_less(name, &e.name))
-        .unwrap_or(entries.len())
 }
 
 // Puts an entry in its place, for which there is room: it becomes that number. Its name begins at byte `at` of the heap.

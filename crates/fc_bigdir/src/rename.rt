@@ -5,9 +5,9 @@ ghost use Rattle.fc_dirs.specs.Entries.{has_name, without_entry};
 ghost use Rattle.fc_dirs.specs.Big.{is_spelled, size_limit, size_with, with_big_entry, with_big_renamed, with_entry_at, without_big_entry};
 ghost use Rattle.fc_bigdir.specs.Entered.{HasRoomFor};
 
-use crate::enter::{Room, enter, name_space, place_entry, place_of, room_for};
+use crate::enter::{Room, enter, name_space, place_entry, room_for};
 use crate::{BigDir, InsertError};
-use fc_dirs::Entry;
+use fc_dirs::{Entry, place_of};
 
 impl BigDir {
     // Whether the entry at a place has that name, byte for byte.

@@ -9,6 +9,7 @@ ghost use Rattle.fc_drafts.specs.Rewriting.{IsAt};
 
 use crate::Draft;
 use fc_bigdir::BigDir;
+use fc_checks::BIG_LIMIT;
 use fc_names::Name;
 use fc_smalldir::SmallDir;
 
@@ -27,7 +28,7 @@ pub enum Room {
 fn room_of_size(size: usize, needed: u64) -> Room
     ensures { result ≡ room_of_size size needed }
 {
-    if needed > 4_194_304 {
+    if needed > BIG_LIMIT as u64 {
         Room::Full
     } else if needed > size as u64 {
         Room::Grows(needed as u32)

@@ -61,15 +61,6 @@ pub enum NameForm {
     Long,
 }
 
-// A vector of these bytes alone.
-fn copied(alloc: Global, b: &[u8]) -> Result<Vec<u8>, NoMemory>
-    ensures { IfOk result (λ copy. copy.items ≡ b.now) }
-{
-    let mut copy = Vec::with_capacity(alloc, b.len())?;
-    copy.extend_from_slice(b)?;
-    Ok(copy)
-}
-
 impl Name {
     /// The name of these bytes.
     pub fn new(alloc: Global, b: &[u8]) -> Result<Name, NoMemory>
@@ -79,7 +70,7 @@ impl Name {
         ensures { IfOk result (λ name. name ≡ b.now) }
     {
         Ok(Name {
-            bytes: copied(alloc, b)?,
+            bytes: Vec::from_slice(alloc, b)?,
         })
     }
 

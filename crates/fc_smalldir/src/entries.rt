@@ -3,7 +3,7 @@ ghost use Rattle.std.specs.Prelude.{◌≡◌, ◌<◌, ◌≤◌, ◌^◌, ◌+
 ghost use Rattle.std.specs.List.{AllByRecursion, flat_map};
 ghost use Rattle.std.specs.Option.{option_map};
 ghost use Rattle.fc_dirs.specs.declared.DirFault.TheVariants as faults;
-ghost use Rattle.fc_dirs.specs.Entries.{entry_place, first_twin, has_name};
+ghost use Rattle.fc_dirs.specs.Entries.{first_twin, has_name};
 ghost use Rattle.fc_dirs.specs.Small.{FitsSmall, first_nameless, small_entries, tail_of};
 ghost use Rattle.fc_dirs.specs.Faults.{IsFaultOf};
 ghost use Rattle.fc_smalldir.specs.Fields.{AreRead};
@@ -12,7 +12,7 @@ ghost use Rattle.fc_dirs.specs.SmallBytes.{entry_bytes};
 use crate::DirError;
 use crate::entry::{put_entry, read_entry};
 use fc_dirs::{DirFault, Entry, SmallForm};
-use fc_names::{Name, fold_eq, fold_less};
+use fc_names::{Name, fold_eq};
 use std::alloc::Global;
 
 // Whether an entry has a name that folds to this one.
@@ -33,17 +33,6 @@ pub fn first_twin(entries: &[Entry]) -> Option<u32>
         }
     }
     None
-}
-
-// Where a new entry stands: before the first whose folded name is greater, and else last.
-pub fn place_of(entries: &[Entry], name: &Name) -> usize
-    ensures place { result ≡ entry_place name.now entries.now }
-    ensures within { result ≤ length entries.now }
-{
-    entries
-        .iter()
-        .position(|e| fold_less(name, &e.name))
-        .unwrap_or(entries.len())
 }
 
 // The number of the entries that bytes say: the first whose first byte is 0 ends them.

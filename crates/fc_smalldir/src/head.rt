@@ -6,10 +6,9 @@ ghost use Rattle.fc_dirs.specs.Small.{has_old_word, hugo_word, is_magic_right, i
 ghost use Rattle.fc_smalldir.specs.Fields.{dir_of, first_len, last_len};
 ghost use Rattle.fc_dirs.specs.SmallBytes.{check_of, first_field, last_field, magic_word, tail_bytes};
 
-use crate::bytes::array_at;
 use fc_bytes::{le24, put};
 use fc_checks::small_dir_check;
-use fc_dirs::SmallForm;
+use fc_dirs::{SmallForm, array_at};
 
 // All that a directory holds but its entries. Of the reserved bytes those count that its form has.
 #[derive(Clone, Copy)]

@@ -8,8 +8,8 @@ ghost use Rattle.fc_dirs.specs.Faults.{IsFaultOf};
 ghost use Rattle.fc_smalldir.specs.Fields.{names_of_form};
 ghost use Rattle.fc_dirs.specs.SmallBytes.{IsWrittenSmall, small_bytes};
 
-use crate::bytes::{padded, put_zeros};
-use crate::entries::{count_entries, first_twin, place_of, put_entries, read_entries};
+use crate::bytes::padded;
+use crate::entries::{count_entries, first_twin, put_entries, read_entries};
 use crate::entry::words_fit;
 use crate::head::{
     Head, check_of, has_old_word, is_check_right, is_magic_right, is_sequence_right, put_head,
@@ -17,7 +17,7 @@ use crate::head::{
 };
 use crate::{DirError, InsertError};
 use fc_bytes::put;
-use fc_dirs::{DirFault, Entry, SmallForm};
+use fc_dirs::{DirFault, Entry, SmallForm, place_of, put_zeros};
 use fc_names::Name;
 use std::alloc::Global;
 use std::marker::Model;
