@@ -1,8 +1,7 @@
-// The holes of a map's bytes, and its checks.
+// The holes of a map's bytes.
 
 ghost use Rattle.std.specs.Prelude.{◌≡◌, ◌+◌, ◌*◌, ◌^◌, ◌<◌, ◌≤◌, length, IfOk, IfErr, None, Some};
 ghost use Rattle.fc_bytes.specs.Words.{u24_at};
-ghost use Rattle.fc_checks.specs.Checks.{is_half_right};
 ghost use Rattle.fc_oldmap.specs.Holes.{hole, hole_end};
 ghost use Rattle.fc_oldmap.specs.OldMap.{holes_of, is_free_end, is_hole_right, map_units, wrong_hole};
 
@@ -10,15 +9,6 @@ use crate::Hole;
 use crate::holes::Holes;
 use arrayvec::ArrayVec;
 use fc_bytes::le24;
-use fc_checks::old_check;
-
-/// Whether half a map of 256 bytes has its check, from either start of the sum.
-pub fn is_half_right(half: &[u8]) -> bool
-    requires { length half.now ≡ 256 }
-    ensures { result ≡ is_half_right half.now }
-{
-    half[255] == old_check(half, 255) || half[255] == old_check(half, 0)
-}
 
 // The hole of an index, as it is stored.
 fn stored_hole(b: &[u8], index: usize) -> Hole

@@ -33,8 +33,8 @@ fn write_holes(starts: &mut [u8], lengths: &mut [u8], holes: &[Hole])
     }
 }
 
-// Writes the check of half a map of 256 bytes.
-fn seal(half: &mut [u8])
+/// Writes the check of half an old map of 256 bytes, and no other byte.
+pub fn seal_half(half: &mut [u8])
     requires { length half.old ≡ 256 }
     ensures { half.new ≡ checked_half half.old }
 {
@@ -51,6 +51,6 @@ pub fn write_map(b: &mut [u8], holes: &[Hole])
     let (first, second) = b.split_at_mut(256);
     write_holes(first, second, holes);
     second[254] = (3 * holes.len()) as u8;
-    seal(first);
-    seal(second);
+    seal_half(first);
+    seal_half(second);
 }
