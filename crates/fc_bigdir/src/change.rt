@@ -4,8 +4,7 @@ ghost use Rattle.std.specs.Option.{option_map};
 ghost use Rattle.fc_dirs.specs.Big.{bytes_for, empty_big, form_of, with_big_changed, with_head_name, without_big_entry};
 
 use crate::BigDir;
-use crate::enter::name_space;
-use crate::space::{bytes_for, head_space};
+use crate::space::{bytes_for, head_space, name_space};
 use fc_device::NoMemory;
 use fc_dirs::Entry;
 use fc_names::Name;

@@ -10,8 +10,8 @@ ghost use Rattle.fc_dirs.specs.Faults.{IsFaultOf};
 ghost use Rattle.fc_bigdir.specs.Fields.{packed_size};
 
 use crate::bytes::word_at;
-use crate::enter::name_space;
 use crate::frame::entries_start;
+use crate::space::name_space;
 use fc_device::NoMemory;
 use fc_dirs::{DirError, DirFault, Entry};
 use fc_names::Name;

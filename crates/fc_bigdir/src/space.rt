@@ -1,6 +1,9 @@
 // What the parts of a directory take.
-ghost use Rattle.std.specs.Prelude.{◌≡◌, ◌<◌, ◌^◌};
-ghost use Rattle.fc_dirs.specs.Big.{bytes_for, head_space, size_for};
+ghost use Rattle.std.specs.Prelude.{◌≡◌, ◌<◌, ◌≤◌, ◌^◌};
+ghost use Rattle.fc_names.specs.Names.{IsName};
+ghost use Rattle.fc_dirs.specs.Big.{bytes_for, head_space, name_space, size_for};
+
+use fc_names::Name;
 
 // The space of a head's name of that length.
 pub fn head_space(second_form: bool, len: usize) -> usize
@@ -12,6 +15,15 @@ pub fn head_space(second_form: bool, len: usize) -> usize
     } else {
         (len + 4) / 4 * 4
     }
+}
+
+// The space of a name in the heap.
+pub fn name_space(name: &Name) -> usize
+    ensures space { result ≡ name_space name.now }
+    ensures small { result ≤ 256 }
+    ensures name { IsName name.now }
+{
+    (name.bytes().len() + 4) / 4 * 4
 }
 
 // The bytes that head, name, entries, heap and tail take, where the head's name and the heap have these spaces.
