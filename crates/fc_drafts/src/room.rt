@@ -64,6 +64,19 @@ impl Room {
     {
         room_of_size(dir.size(), dir.needed_with(name))
     }
+
+    /// The room that a big directory has for a name in place of that of the entry at a place. A name that is spelled as
+    /// before always fits.
+    pub fn in_big_renamed(dir: &BigDir, at: usize, name: &Name) -> Room
+        requires { at < length dir.now.entries }
+        ensures kept { (was : Entry) → IsAt dir.now.entries at was → was.name ≡ name.now → result ≡ Room.Fits }
+        ensures respelled { (was : Entry) (gain : Gain) → IsAt dir.now.entries at was → (was.name ≡ name.now → ⊥) → GetsNameFor (Directory.Big dir.now) was.name name.now gain → HasRoom (Directory.Big dir.now) gain result }
+    {
+        if dir.entries()[at].name.bytes() == name.bytes() {
+            return Room::Fits;
+        }
+        room_of_size(dir.size(), dir.needed_renamed(at, name))
+    }
 }
 
 impl Draft {
@@ -83,12 +96,11 @@ impl Draft {
         ensures kept { (was : Entry) → IsAt (entries_of (directory_in self.now)) at was → was.name ≡ name.now → result ≡ Room.Fits }
         ensures respelled { (was : Entry) (gain : Gain) → IsAt (entries_of (directory_in self.now)) at was → (was.name ≡ name.now → ⊥) → GetsNameFor (directory_in self.now) was.name name.now gain → HasRoom (directory_in self.now) gain result }
     {
-        if self.entries()[at].name.bytes() == name.bytes() {
-            return Room::Fits;
-        }
+        // Contracts see by this what holds of every directory.
+        let _ = self.entries();
         match self {
             Draft::Small(_) => Room::Fits,
-            Draft::Big(dir) => room_of_size(dir.size(), dir.needed_renamed(at, name)),
+            Draft::Big(dir) => Room::in_big_renamed(dir, at, name),
         }
     }
 }
