@@ -11,6 +11,7 @@ use crate::BigDir;
 use crate::bytes::word_at;
 use crate::entries::{read_entries, read_places};
 use crate::frame::{entries_start, read_frame};
+use crate::space::{ENTRY, HEAD};
 use crate::twins::first_twin;
 use fc_dirs::{DirError, DirFault, Entry, array_at};
 use std::alloc::Global;
@@ -21,7 +22,7 @@ fn head_name(b: &[u8], second_form: bool) -> &[u8]
     requires fits { IsTrue (does_fit second_form b.now) }
     ensures { result.now ≡ bytes_at b.now 28 (name_len b.now) }
 {
-    &b[28..28 + word_at(b, 8) as usize]
+    &b[HEAD..HEAD + word_at(b, 8) as usize]
 }
 
 // The bytes of the heap.
@@ -30,7 +31,7 @@ fn heap_of(b: &[u8], second_form: bool) -> &[u8]
     requires fits { IsTrue (does_fit second_form b.now) }
     ensures { result.now ≡ heap_of second_form b.now }
 {
-    let start = entries_start(b, second_form) + 28 * word_at(b, 16) as usize;
+    let start = entries_start(b, second_form) + ENTRY * word_at(b, 16) as usize;
     &b[start..start + word_at(b, 20) as usize]
 }
 

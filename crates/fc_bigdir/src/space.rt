@@ -5,6 +5,15 @@ ghost use Rattle.fc_dirs.specs.Big.{bytes_for, head_space, name_space, size_for}
 
 use fc_names::Name;
 
+// The bytes of the head before its name.
+pub const HEAD: usize = 28;
+
+// The bytes of an entry.
+pub const ENTRY: usize = 28;
+
+// The bytes of the tail.
+pub const TAIL: usize = 8;
+
 // The space of a head's name of that length.
 pub fn head_space(second_form: bool, len: usize) -> usize
     requires { len < 2 ^ 32 }
@@ -34,7 +43,7 @@ pub fn bytes_for(head_name: usize, entries: usize, heap: usize) -> usize
     ensures bytes { result ≡ bytes_for head_name entries heap }
     ensures small { result < 2 ^ 38 }
 {
-    28 + head_name + 28 * entries + heap + 8
+    HEAD + head_name + ENTRY * entries + heap + TAIL
 }
 
 /// The least size of a big directory that holds a head's name in so many bytes, so many entries, and a heap of so many

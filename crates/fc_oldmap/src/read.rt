@@ -6,7 +6,7 @@ ghost use Rattle.fc_oldmap.specs.Holes.{hole, hole_end};
 ghost use Rattle.fc_oldmap.specs.OldMap.{holes_of, is_free_end, is_hole_right, map_units, wrong_hole};
 
 use crate::Hole;
-use crate::holes::Holes;
+use crate::holes::{Holes, PLACES};
 use arrayvec::ArrayVec;
 use fc_bytes::le24;
 
@@ -49,7 +49,7 @@ fn map_units(sector_units: u32) -> u32
 pub fn is_free_end(free_end: u8) -> bool
     ensures { result ≡ is_free_end free_end }
 {
-    free_end % 3 == 0 && free_end <= 246
+    free_end % 3 == 0 && usize::from(free_end) <= PLACES
 }
 
 /// The first holes of a map's 512 bytes, or the index of the first of them that is wrong.

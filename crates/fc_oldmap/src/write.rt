@@ -5,6 +5,7 @@ ghost use Rattle.fc_oldmap.specs.Holes.{hole_end};
 ghost use Rattle.fc_oldmap.specs.OldMap.{checked_half, triples, with_holes};
 
 use crate::Hole;
+use crate::holes::PLACES;
 use fc_bytes::put_le24;
 use fc_checks::old_check;
 
@@ -13,7 +14,7 @@ fn clear(half: &mut [u8])
     requires { length half.old ≡ 256 }
     ensures { half.new ≡ replicate 246 0 ++ drop 246 half.old }
 {
-    half[..246].fill(0);
+    half[..PLACES].fill(0);
 }
 
 // Fills the places of starts and of lengths in the two halves of a map; those of no hole are 0.

@@ -11,6 +11,7 @@ ghost use Rattle.fc_dirs.specs.SmallBytes.{entry_bytes};
 
 use crate::DirError;
 use crate::entry::{put_entry, read_entry};
+use crate::head::{ENTRY, HEAD};
 use fc_dirs::{DirFault, Entry, SmallForm};
 use fc_names::{Name, fold_eq};
 use std::alloc::Global;
@@ -44,7 +45,7 @@ pub fn count_entries(b: &[u8], form: SmallForm) -> usize
 {
     let places = form.places();
     for i in 0..places {
-        if b[5 + 26 * i] == 0 {
+        if b[HEAD + ENTRY * i] == 0 {
             return i;
         }
     }
@@ -69,8 +70,8 @@ pub fn read_entries(
         return Err(DirError::NoMemory);
     };
     for i in 0..count {
-        let at = 5 + 26 * i;
-        let Ok(read) = read_entry(alloc, &b[at..at + 26], form) else {
+        let at = HEAD + ENTRY * i;
+        let Ok(read) = read_entry(alloc, &b[at..at + ENTRY], form) else {
             return Err(DirError::NoMemory);
         };
         match read {

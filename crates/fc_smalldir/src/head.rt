@@ -10,6 +10,12 @@ use fc_bytes::{le24, put};
 use fc_checks::small_dir_check;
 use fc_dirs::{SmallForm, array_at};
 
+// The bytes of the head.
+pub const HEAD: usize = 5;
+
+// The bytes of an entry.
+pub const ENTRY: usize = 26;
+
 // All that a directory holds but its entries. Of the reserved bytes those count that its form has.
 #[derive(Clone, Copy)]
 pub struct Head {
@@ -68,7 +74,7 @@ pub fn is_check_right(b: &[u8], form: SmallForm, count: usize) -> bool
     ensures { result ≡ is_small_check_right form b.now }
 {
     match form {
-        SmallForm::Bytes2048 => b[2047] == small_dir_check(b, 5 + 26 * count),
+        SmallForm::Bytes2048 => b[2047] == small_dir_check(b, HEAD + ENTRY * count),
         SmallForm::Bytes1280 => true,
     }
 }
@@ -171,7 +177,7 @@ pub fn check_of(b: &[u8], form: SmallForm, count: usize) -> u8
     ensures { result ≡ check_of form b.now (5 + 26 * count) }
 {
     match form {
-        SmallForm::Bytes2048 => small_dir_check(b, 5 + 26 * count),
+        SmallForm::Bytes2048 => small_dir_check(b, HEAD + ENTRY * count),
         SmallForm::Bytes1280 => 0,
     }
 }

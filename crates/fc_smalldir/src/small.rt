@@ -12,7 +12,7 @@ use crate::bytes::padded;
 use crate::entries::{count_entries, first_twin, put_entries, read_entries};
 use crate::entry::words_fit;
 use crate::head::{
-    Head, check_of, has_old_word, is_check_right, is_magic_right, is_sequence_right, put_head,
+    ENTRY, HEAD, Head, check_of, has_old_word, is_check_right, is_magic_right, is_sequence_right, put_head,
     put_tail, read_head,
 };
 use crate::{DirError, InsertError};
@@ -102,7 +102,7 @@ impl SmallDir {
         let form = self.head.form;
         let at = put_head(b, 0, &self.head);
         let at = put_entries(b, at, &self.entries, form);
-        let tail = 6 + 26 * form.places();
+        let tail = HEAD + 1 + ENTRY * form.places();
         put_zeros(b, at, tail);
         let at = put_tail(b, tail, &self.head);
         put(b, at, &[0]);
