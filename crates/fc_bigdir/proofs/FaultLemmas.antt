@@ -37,10 +37,6 @@ from_unless : (right : Bool) (f : DirFault) (rest : List (Option DirFault)) → 
 from_unless true f rest none = (refl, none)
 from_unless false f rest none = absurd (cc)
 
-either_form : (a b : Bool) → (a || b) ≡ true → (if_second : not a ≡ true → b ≡ true) × (not a ≡ false → a ≡ true)
-either_form true b is = (λ h. absurd (cc), λ h. refl)
-either_form false b is = (λ h. is, λ h. absurd (cc))
-
 -- What fits, and which form it is.
 pub record IsFramed (b : List ℕ) (second_form : Bool) : Type 0 where
   pub size : is_big_size (length b) ≡ true

@@ -13,7 +13,8 @@ use Rattle.fc_dirs.specs.declared.Entry.{Entry}
 use Rattle.fc_dirs.specs.Entries.{entry_place, with_entry, without_entry, has_name, first_twin, padded_name}
 use Rattle.fc_dirs.specs.Big.{BigDir, IsBig, FitsBig, StandsInHeap, AllStand, appended, bytes_for, bytes_taken, size_for, head_space_of, name_space, packed, packed_heap, packed_places, with_big_entry, with_entry_at, size_with, size_limit, without_big_entry}
 use Rattle.fc_bigdir.specs.declared.enter.Room.{Room}
-use Rattle.fc_bigdir.specs.Entered.{HasRoomFor, IsRoomFor, entered_heap, entered_places, needed_for}
+use Rattle.fc_bigdir.specs.declared.needed.Parts.{Parts}
+use Rattle.fc_bigdir.specs.Entered.{ArePartsWith, HasRoomFor, IsRoomFor, entered_heap, entered_places, needed_for}
 use Rattle.fc_smalldir.proofs.NameLemmas.{length-padded}
 use Rattle.fc_bigdir.proofs.LaidLemmas.{SizeBounds, size_bounds}
 use Rattle.fc_bigdir.proofs.PackLemmas.{length-packed, names_sum}
@@ -201,16 +202,20 @@ big_entry_at dir place e big fits absent stands room =
     (none_from (with_entry e dir.entries) (apart_insert dir.entries p e (apart_from dir.entries big.apart) (place_within e.name dir.entries) absent))
 
 -- the room that was found is the one that is wanted
-pub room_found : (dir : BigDir) (e : Entry) (head n loose tight : ℕ) (found : Option Room) → head ≡ head_space_of dir → n ≡ length dir.entries + 1 → loose ≡ length dir.heap + name_space e.name → tight ≡ tight_with e dir.entries
-    → MatchOption found (size_limit < needed_for head n loose tight) (IsRoomFor dir.size head n loose tight) → MatchOption found (size_limit < size_with e dir) (HasRoomFor e dir)
-room_found dir e head n loose tight found hs count heap names room =
-    let needed : size_with e dir ≡ needed_for head n loose tight = needed_is dir e n loose tight count heap names ∙ ap (λ h. needed_for h n loose tight) (sym hs) in
+pub room_found : (dir : BigDir) (e : Entry) (parts : Parts) (found : Option Room) → ArePartsWith dir e.name parts
+    → MatchOption found (size_limit < needed_for parts.head parts.entries parts.loose parts.tight) (IsRoomFor dir.size parts.head parts.entries parts.loose parts.tight)
+    → MatchOption found (size_limit < size_with e dir) (HasRoomFor e dir)
+room_found dir e parts found are room =
+    let needed : size_with e dir ≡ needed_for parts.head parts.entries parts.loose parts.tight =
+    needed_is dir e parts.entries parts.loose parts.tight are.entries are.loose are.tight ∙ ap (λ h. needed_for h parts.entries parts.loose parts.tight) (sym are.head) in
     by_found found needed room where
-      by_found : (found : Option Room) → size_with e dir ≡ needed_for head n loose tight → MatchOption found (size_limit < needed_for head n loose tight) (IsRoomFor dir.size head n loose tight) → MatchOption found (size_limit < size_with e dir) (HasRoomFor e dir)
+      by_found : (found : Option Room) → size_with e dir ≡ needed_for parts.head parts.entries parts.loose parts.tight
+          → MatchOption found (size_limit < needed_for parts.head parts.entries parts.loose parts.tight) (IsRoomFor dir.size parts.head parts.entries parts.loose parts.tight)
+          → MatchOption found (size_limit < size_with e dir) (HasRoomFor e dir)
       by_found None needed above = omega (arith, needed, above)
       by_found (Some r) needed room = record {
         least = omega (arith, needed, room.least);
         size_is = room.size_is ∙ ap (λ k. max k dir.size) (sym needed);
-        tight_is = room.tight_is ∙ names;
-        is_loose = room.is_loose ∙ ap₂ (λ h k. nat_le (bytes_for h k loose) r.size) hs count ∙ ap (λ l. nat_le (bytes_for (head_space_of dir) (length dir.entries + 1) l) r.size) heap;
+        tight_is = room.tight_is ∙ are.tight;
+        is_loose = room.is_loose ∙ ap₂ (λ h k. nat_le (bytes_for h k parts.loose) r.size) are.head are.entries ∙ ap (λ l. nat_le (bytes_for (head_space_of dir) (length dir.entries + 1) l) r.size) are.loose;
       }

@@ -1,7 +1,7 @@
 -- The size of a heap of exactly the names of entries, as it is kept beside them.
 use Rattle.std.proofs.Common.{◌≡◌, ◌<◌, ◌≤◌, ℕ, ◌+◌, ◌-◌, ◌*◌, ◌^◌, List, [], ◌∷◌, get_or, length, set, ap, arith}
 use Rattle.std.specs.List.{AllByRecursion}
-use Rattle.std.proofs.lemmas.List.Sums.{get_or-le-sum_by, sum_by-cons, sum_by-insert, sum_by-remove, sum_by-set}
+use Rattle.std.proofs.lemmas.List.Sums.{sum_by-cons, sum_by-insert, sum_by-remove, sum_by-set}
 use Rattle.fc_dirs.specs.declared.Entry.{Entry}
 use Rattle.fc_dirs.specs.Entries.{with_entry, without_entry, entry_place}
 use Rattle.fc_dirs.specs.Big.{BigDir, FitsBig, IsBig, name_space}
@@ -23,10 +23,6 @@ packed_small dir big = omega (arith, spaces_small dir.entries big.entries, big.f
 -- with a new entry
 pub packed-with_entry : (e : Entry) (es : List Entry) → packed_size (with_entry e es) ≡ packed_size es + name_space e.name
 packed-with_entry e es = sum_by-insert space es (entry_place e.name es) e
-
--- no name takes more than all
-pub space-le-packed : (es : List Entry) (at : ℕ) (d : Entry) → at < length es → name_space (get_or es at d).name ≤ packed_size es
-space-le-packed es at d within = get_or-le-sum_by space es at d within
 
 -- without one of its entries
 pub packed-without_entry : (es : List Entry) (at : ℕ) (d : Entry) → at < length es → packed_size es - name_space (get_or es at d).name ≡ packed_size (without_entry at es)

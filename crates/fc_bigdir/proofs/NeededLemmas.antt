@@ -4,7 +4,8 @@ use Rattle.std.proofs.lemmas.List.{length-map}
 use Rattle.std.proofs.lemmas.List.Sums.{sum_by_push}
 use Rattle.fc_dirs.specs.declared.Entry.{Entry}
 use Rattle.fc_dirs.specs.Big.{BigDir, head_space_of, name_space, needed_size, size_for}
-use Rattle.fc_bigdir.specs.Entered.{needed_for}
+use Rattle.fc_bigdir.specs.declared.needed.Parts.{Parts}
+use Rattle.fc_bigdir.specs.Entered.{ArePartsWith, needed_for}
 use Rattle.fc_bigdir.specs.Fields.{packed_size}
 use Rattle.fc_bigdir.proofs.PackLemmas.{names_sum}
 
@@ -19,10 +20,9 @@ needed_more dir entries name =
     sum_by_push name_space names name ∙ ap (λ (a : ℕ). a + name_space name) (names_sum entries) in
     ap₂ (λ (k s : ℕ). min (size_for (head_space_of dir) k (length dir.heap + name_space name)) (size_for (head_space_of dir) k s)) len sum
 
--- the same of numbers that are these
-pub needed_by : (dir : BigDir) (entries : List Entry) (name : List ℕ) (head n loose tight found : ℕ)
-    → found ≡ needed_for head n loose tight → head ≡ head_space_of dir → n ≡ length entries + 1 → loose ≡ length dir.heap + name_space name → tight ≡ packed_size entries + name_space name
-    → found ≡ needed_size dir (map (λ (e : Entry). e.name) entries ++ name ∷ []) name
-needed_by dir entries name head n loose tight found is hs count heap names =
-    is ∙ ap₂ (λ (h k : ℕ). needed_for h k loose tight) hs count ∙ ap₂ (λ (l t : ℕ). needed_for (head_space_of dir) (length entries + 1) l t) heap names
-    ∙ sym (needed_more dir entries name)
+-- the same by the parts
+pub needed_by : (dir : BigDir) (name : List ℕ) (parts : Parts) → ArePartsWith dir name parts
+    → needed_for parts.head parts.entries parts.loose parts.tight ≡ needed_size dir (map (λ (e : Entry). e.name) dir.entries ++ name ∷ []) name
+needed_by dir name parts are =
+    ap₂ (λ (h k : ℕ). needed_for h k parts.loose parts.tight) are.head are.entries ∙ ap₂ (λ (l t : ℕ). needed_for (head_space_of dir) (length dir.entries + 1) l t) are.loose are.tight
+    ∙ sym (needed_more dir dir.entries name)

@@ -1,9 +1,10 @@
 -- What a directory becomes where an entry is put in: its heap and places, with the names as they stand or made anew.
-use Rattle.std.specs.Prelude.{◌≡◌, ◌≤◌, ◌+◌, ℕ, Bool, true, false, List, ◌++◌, length, insert, min, max, nat_le}
+use Rattle.std.specs.Prelude.{◌≡◌, ◌<◌, ◌≤◌, ◌+◌, ◌^◌, ℕ, Bool, true, false, List, ◌++◌, length, insert, min, max, nat_le}
 use Rattle.fc_dirs.specs.declared.Entry.{Entry}
 use Rattle.fc_dirs.specs.Entries.{entry_place, padded_name, with_entry}
 use Rattle.fc_dirs.specs.Big.{BigDir, bytes_for, head_space_of, name_space, packed_heap, packed_places, size_for, size_limit, size_with}
 use Rattle.fc_bigdir.specs.declared.enter.Room.{Room}
+use Rattle.fc_bigdir.specs.declared.needed.Parts.{Parts}
 use Rattle.fc_bigdir.specs.Fields.{packed_size}
 
 -- the heap: the present one with the new name behind it, or all names alone
@@ -19,6 +20,20 @@ entered_places false heap places e entries = packed_places 0 (with_entry e entri
 -- the needed size, where so many entries have a heap of `loose` or of `tight` bytes
 abbrev pub needed_for : ℕ → ℕ → ℕ → ℕ → ℕ
 needed_for head entries loose tight = min (size_for head entries loose) (size_for head entries tight)
+
+-- No part has more bytes, or entries, than a word tells.
+pub record AreSmall (parts : Parts) : Type 0 where
+  pub head : parts.head < 2 ^ 32
+  pub entries : parts.entries < 2 ^ 32
+  pub loose : parts.loose < 2 ^ 32
+  pub tight : parts.tight < 2 ^ 32
+
+-- the parts of a directory with one name more
+pub record ArePartsWith (dir : BigDir) (name : List ℕ) (parts : Parts) : Type 0 where
+  pub head : parts.head ≡ head_space_of dir
+  pub entries : parts.entries ≡ length dir.entries + 1
+  pub loose : parts.loose ≡ length dir.heap + name_space name
+  pub tight : parts.tight ≡ packed_size dir.entries + name_space name
 
 -- the room that a directory of this size has or gets
 pub record IsRoomFor (size head entries loose tight : ℕ) (room : Room) : Type 0 where

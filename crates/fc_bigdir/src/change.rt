@@ -4,9 +4,7 @@ ghost use Rattle.std.specs.Option.{option_map};
 ghost use Rattle.fc_dirs.specs.Big.{bytes_for, empty_big, form_of, with_big_changed, with_head_name, without_big_entry};
 
 use crate::BigDir;
-use crate::bytes::copied;
-use crate::enter::name_space;
-use crate::space::{bytes_for, head_space};
+use crate::space::{bytes_for, head_space, name_space};
 use fc_device::NoMemory;
 use fc_dirs::Entry;
 use fc_names::Name;
@@ -18,14 +16,11 @@ impl BigDir {
     pub fn empty(alloc: Global, parent: u32, name: &Name) -> Result<BigDir, NoMemory>
         ensures { IfOk result (λ dir. dir ≡ empty_big parent name.now) }
     {
-        let Ok(name) = copied(alloc, name.bytes()) else {
-            return Err(NoMemory);
-        };
         Ok(BigDir {
             size: 2048,
             sequence: 0,
             parent,
-            name,
+            name: Vec::from_slice(alloc, name.bytes())?,
             second_form: false,
             reserved: [0; 2],
             heap: Vec::new(alloc),
@@ -67,10 +62,7 @@ impl BigDir {
         if bytes_for(space, self.entries.len(), self.heap.len()) > self.size as usize {
             return Ok(());
         }
-        let Ok(name) = copied(*self.name.allocator(), bytes) else {
-            return Err(NoMemory);
-        };
-        self.name = name;
+        self.name = Vec::from_slice(*self.name.allocator(), bytes)?;
         self.second_form = second_form;
         Ok(())
     }

@@ -3,15 +3,16 @@ ghost use Rattle.std.specs.Prelude.{◌≡◌, ◌+◌, ◌*◌, ◌<◌, ◌≤
 ghost use Rattle.std.specs.Bool.{OnFalse, OnTrue};
 ghost use Rattle.std.specs.List.{flat_map};
 ghost use Rattle.std.specs.Vec.{vec_capacity};
-ghost use Rattle.fc_names.specs.Names.{IsName};
 ghost use Rattle.fc_dirs.specs.Entries.{entry_place, padded_name, with_entry};
 ghost use Rattle.fc_dirs.specs.Big.{name_space, packed_heap, packed_places, size_limit};
-ghost use Rattle.fc_bigdir.specs.Entered.{IsRoomFor, entered_heap, entered_places, needed_for};
+ghost use Rattle.fc_bigdir.specs.Entered.{AreSmall, IsRoomFor, entered_heap, entered_places, needed_for};
 
+use crate::needed::Parts;
 use crate::put::put_name;
-use crate::space::{bytes_for, size_for};
-use fc_dirs::Entry;
-use fc_names::{Name, fold_less};
+use crate::space::{bytes_for, name_space};
+use fc_checks::BIG_LIMIT;
+use fc_dirs::{Entry, place_of};
+use fc_names::Name;
 use std::alloc::{AllocError, Global};
 
 // How a directory takes a new name: its size, and whether the present heap takes the name besides. Else the heap is made
@@ -23,33 +24,21 @@ pub struct Room {
     pub tight: usize,
 }
 
-// The room for so many entries, which have a heap of `loose` bytes or, made anew, of `tight` bytes.
-pub fn room_for(size: u32, head: usize, entries: usize, loose: usize, tight: usize) -> Option<Room>
-    requires head { head < 2 ^ 32 }
-    requires entries { entries < 2 ^ 32 }
-    requires loose { loose < 2 ^ 32 }
-    requires tight { tight < 2 ^ 32 }
-    ensures { MatchOption result (size_limit < needed_for head entries loose tight) (IsRoomFor size head entries loose tight) }
+// The room in a directory of this size that gets these parts.
+pub fn room_for(size: u32, parts: Parts) -> Option<Room>
+    requires { AreSmall parts }
+    ensures { MatchOption result (size_limit < needed_for parts.head parts.entries parts.loose parts.tight) (IsRoomFor size parts.head parts.entries parts.loose parts.tight) }
 {
-    let needed = size_for(head, entries, loose).min(size_for(head, entries, tight));
-    if needed > 4_194_304 {
+    let needed = parts.needed();
+    if needed > BIG_LIMIT as u64 {
         return None;
     }
     let size = size.max(needed as u32);
     Some(Room {
         size,
-        is_loose: bytes_for(head, entries, loose) <= size as usize,
-        tight,
+        is_loose: bytes_for(parts.head, parts.entries, parts.loose) <= size as usize,
+        tight: parts.tight,
     })
-}
-
-// The space of a name in the heap.
-pub fn name_space(name: &Name) -> usize
-    ensures space { result ≡ name_space name.now }
-    ensures small { result ≤ 256 }
-    ensures name { IsName name.now }
-{
-    (name.bytes().len() + 4) / 4 * 4
 }
 
 // Puts a name behind a heap.
@@ -87,17 +76,6 @@ fn packed_heap(
     push_name(&mut heap, name)?;
     push_names(&mut heap, behind)?;
     Ok(heap)
-}
-
-// Where a new entry stands: before the first whose folded name is greater, and else last.
-pub fn place_of(entries: &[Entry], name: &Name) -> usize
-    ensures place { result ≡ entry_place name.now entries.now }
-    ensures within { result ≤ length entries.now }
-{
-    entries
-        .iter()
-        .position(|e| fold_less(name, &e.name))
-        .unwrap_or(entries.len())
 }
 
 // Puts an entry in its place, for which there is room: it becomes that number. Its name begins at byte `at` of the heap.

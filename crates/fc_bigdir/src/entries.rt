@@ -10,8 +10,8 @@ ghost use Rattle.fc_dirs.specs.Faults.{IsFaultOf};
 ghost use Rattle.fc_bigdir.specs.Fields.{packed_size};
 
 use crate::bytes::word_at;
-use crate::enter::name_space;
 use crate::frame::entries_start;
+use crate::space::{ENTRY, name_space};
 use fc_device::NoMemory;
 use fc_dirs::{DirError, DirFault, Entry};
 use fc_names::Name;
@@ -79,8 +79,8 @@ pub fn read_entries(
     };
     let mut packed = 0;
     for i in 0..count {
-        let at = start + 28 * i;
-        let Ok(read) = read_entry(alloc, heap, &b[at..at + 28]) else {
+        let at = start + ENTRY * i;
+        let Ok(read) = read_entry(alloc, heap, &b[at..at + ENTRY]) else {
             return Err(DirError::NoMemory);
         };
         match read {
@@ -109,7 +109,7 @@ pub fn read_places(alloc: Global, b: &[u8], second_form: bool) -> Result<Vec<u32
         return Err(DirError::NoMemory);
     };
     for i in 0..count {
-        if places.push(word_at(b, start + 28 * i + 24)).is_err() {
+        if places.push(word_at(b, start + ENTRY * i + 24)).is_err() {
             return Err(DirError::NoMemory);
         }
     }

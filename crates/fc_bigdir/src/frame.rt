@@ -3,7 +3,7 @@ ghost use Rattle.std.specs.Prelude.{◌≡◌, ◌<◌, ◌≤◌, ◌^◌, None
 ghost use Rattle.fc_dirs.specs.Big.{does_fit, entries_start, frame_fault, has_second_form, heap_end, is_check_right, is_magic_right, is_sequence_right, is_size_right};
 
 use crate::bytes::word_at;
-use crate::space::head_space;
+use crate::space::{ENTRY, HEAD, TAIL, head_space};
 use fc_checks::{big_dir_check, is_big_size};
 use fc_dirs::DirFault;
 
@@ -12,7 +12,7 @@ fn is_magic_right(b: &[u8]) -> bool
     requires { 2048 ≤ length b.now }
     ensures { result ≡ is_magic_right b.now }
 {
-    let tail = b.len() - 8;
+    let tail = b.len() - TAIL;
     &b[1..4] == [0, 0, 0].as_slice()
         && &b[4..8] == b"SBPr".as_slice()
         && &b[tail..tail + 4] == b"oven".as_slice()
@@ -32,7 +32,7 @@ pub fn entries_start(b: &[u8], second_form: bool) -> usize
     ensures start { result ≡ entries_start second_form b.now }
     ensures small { result < 2 ^ 33 }
 {
-    28 + head_space(second_form, word_at(b, 8) as usize)
+    HEAD + head_space(second_form, word_at(b, 8) as usize)
 }
 
 // Where the heap ends.
@@ -41,7 +41,7 @@ fn heap_end(b: &[u8], second_form: bool) -> usize
     ensures end { result ≡ heap_end second_form b.now }
     ensures small { result < 2 ^ 38 }
 {
-    entries_start(b, second_form) + 28 * word_at(b, 16) as usize + word_at(b, 20) as usize
+    entries_start(b, second_form) + ENTRY * word_at(b, 16) as usize + word_at(b, 20) as usize
 }
 
 // Whether all parts stand before the tail.
@@ -49,7 +49,7 @@ fn does_fit(b: &[u8], second_form: bool) -> bool
     requires { 2048 ≤ length b.now }
     ensures { result ≡ does_fit second_form b.now }
 {
-    heap_end(b, second_form) + 8 <= b.len()
+    heap_end(b, second_form) + TAIL <= b.len()
 }
 
 // Whether the size in the head is right, the parts fit in one of the forms, and the heap is whole words.

@@ -5,7 +5,7 @@ ghost use Rattle.fc_dirs.specs.Entries.{has_name};
 ghost use Rattle.fc_dirs.specs.Big.{size_limit, size_with, with_big_entry};
 ghost use Rattle.fc_bigdir.specs.Entered.{HasRoomFor};
 
-use crate::enter::{Room, enter, name_space, room_for};
+use crate::enter::{Room, enter, room_for};
 use crate::{BigDir, InsertError};
 use fc_dirs::Entry;
 
@@ -15,14 +15,7 @@ impl BigDir {
         ensures room { MatchOption result (size_limit < size_with e.now self.now) (HasRoomFor e.now self.now) }
         ensures name { IsName e.now.name }
     {
-        let space = name_space(&e.name);
-        room_for(
-            self.size,
-            self.head_space(),
-            self.entries.len() + 1,
-            self.heap.len() + space,
-            self.packed + space,
-        )
+        room_for(self.size, self.parts_with(&e.name))
     }
 
     /// Puts an entry before the first whose folded name is greater, and else last. Its name folds to no name of the

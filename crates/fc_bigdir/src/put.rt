@@ -1,5 +1,5 @@
 // Bytes written into a row of bytes, part after part.
-ghost use Rattle.std.specs.Prelude.{◌≡◌, ◌+◌, ◌-◌, ◌*◌, ◌≤◌, ◌++◌, length, take, replicate};
+ghost use Rattle.std.specs.Prelude.{◌≡◌, ◌+◌, ◌*◌, ◌≤◌, ◌++◌, length, take};
 ghost use Rattle.std.specs.List.{AllByRecursion};
 ghost use Rattle.byteorder.specs.Endian.{little_bytes};
 ghost use Rattle.fc_dirs.specs.Entries.{padded_name};
@@ -7,16 +7,7 @@ ghost use Rattle.fc_bigdir.specs.Laws.{AreBytes, HasWords};
 ghost use Rattle.fc_dirs.specs.BigBytes.{entries_bytes, entry_bytes};
 
 use fc_bytes::put;
-use fc_dirs::Entry;
-
-// Writes bytes 0 from byte `at` up to byte `end`.
-pub fn put_zeros(b: &mut [u8], at: usize, end: usize)
-    requires order { at ≤ end }
-    requires within { end ≤ length b.old }
-    ensures { take end b.new ≡ take at b.old ++ replicate (end - at) 0 }
-{
-    b[at..end].fill(0);
-}
+use fc_dirs::{Entry, put_zeros};
 
 // Writes a number in four bytes.
 pub fn put_word(b: &mut [u8], at: usize, word: u32) -> usize

@@ -1,5 +1,5 @@
 // Reading big directories.
-ghost use Rattle.std.specs.Prelude.{◌≡◌, ◌-◌, ◌<◌, ◌≤◌, ◌^◌, None, length, IfOk, IfErr, IsTrue, OnOk};
+ghost use Rattle.std.specs.Prelude.{◌≡◌, ◌<◌, ◌≤◌, ◌^◌, None, length, IfOk, IfErr, IsTrue, OnOk};
 ghost use Rattle.std.specs.Option.{option_map};
 ghost use Rattle.fc_bytes.specs.Words.{bytes_at};
 ghost use Rattle.fc_dirs.specs.declared.DirFault.TheVariants as faults;
@@ -8,11 +8,12 @@ ghost use Rattle.fc_dirs.specs.Big.{IsBigDir, big_fault, does_fit, frame_fault, 
 ghost use Rattle.fc_dirs.specs.Faults.{IsFaultOf};
 
 use crate::BigDir;
-use crate::bytes::{copied, word_at};
+use crate::bytes::word_at;
 use crate::entries::{read_entries, read_places};
 use crate::frame::{entries_start, read_frame};
+use crate::space::{ENTRY, HEAD};
 use crate::twins::first_twin;
-use fc_dirs::{DirError, DirFault, Entry};
+use fc_dirs::{DirError, DirFault, Entry, array_at};
 use std::alloc::Global;
 
 // The bytes of the name in the head.
@@ -21,7 +22,7 @@ fn head_name(b: &[u8], second_form: bool) -> &[u8]
     requires fits { IsTrue (does_fit second_form b.now) }
     ensures { result.now ≡ bytes_at b.now 28 (name_len b.now) }
 {
-    &b[28..28 + word_at(b, 8) as usize]
+    &b[HEAD..HEAD + word_at(b, 8) as usize]
 }
 
 // The bytes of the heap.
@@ -30,19 +31,8 @@ fn heap_of(b: &[u8], second_form: bool) -> &[u8]
     requires fits { IsTrue (does_fit second_form b.now) }
     ensures { result.now ≡ heap_of second_form b.now }
 {
-    let start = entries_start(b, second_form) + 28 * word_at(b, 16) as usize;
+    let start = entries_start(b, second_form) + ENTRY * word_at(b, 16) as usize;
     &b[start..start + word_at(b, 20) as usize]
-}
-
-// The two bytes between the sequence and the check in the tail.
-fn reserved(b: &[u8]) -> [u8; 2]
-    requires { 2048 ≤ length b.now }
-    ensures { result ≡ bytes_at b.now (length b.now - 3) 2 }
-{
-    let at = b.len() - 3;
-    let mut bytes = [0; 2];
-    bytes.copy_from_slice(&b[at..at + 2]);
-    bytes
 }
 
 // Whether no name folds to an earlier one.
@@ -71,8 +61,8 @@ fn read_parts(alloc: Global, b: &[u8], second_form: bool) -> Result<BigDir, DirE
     check_twins(alloc, &entries)?;
     let places = read_places(alloc, b, second_form)?;
     let (Ok(name), Ok(heap)) = (
-        copied(alloc, head_name(b, second_form)),
-        copied(alloc, heap),
+        Vec::from_slice(alloc, head_name(b, second_form)),
+        Vec::from_slice(alloc, heap),
     ) else {
         return Err(DirError::NoMemory);
     };
@@ -82,7 +72,8 @@ fn read_parts(alloc: Global, b: &[u8], second_form: bool) -> Result<BigDir, DirE
         parent: word_at(b, 24),
         name,
         second_form,
-        reserved: reserved(b),
+        // Between the sequence and the check in the tail.
+        reserved: array_at(b, b.len() - 3),
         heap,
         places,
         entries,

@@ -5,9 +5,9 @@ ghost use Rattle.fc_dirs.specs.Entries.{has_name, without_entry};
 ghost use Rattle.fc_dirs.specs.Big.{is_spelled, size_limit, size_with, with_big_entry, with_big_renamed, with_entry_at, without_big_entry};
 ghost use Rattle.fc_bigdir.specs.Entered.{HasRoomFor};
 
-use crate::enter::{Room, enter, name_space, place_entry, place_of, room_for};
+use crate::enter::{Room, enter, place_entry, room_for};
 use crate::{BigDir, InsertError};
-use fc_dirs::Entry;
+use fc_dirs::{Entry, place_of};
 
 impl BigDir {
     // Whether the entry at a place has that name, byte for byte.
@@ -24,15 +24,7 @@ impl BigDir {
         ensures room { MatchOption result (size_limit < size_with e.now (without_big_entry at self.now)) (HasRoomFor e.now (without_big_entry at self.now)) }
         ensures name { IsName e.now.name }
     {
-        let space = name_space(&e.name);
-        let gone = name_space(&self.entries[at].name);
-        room_for(
-            self.size,
-            self.head_space(),
-            self.entries.len(),
-            self.heap.len() + space,
-            self.packed - gone + space,
-        )
+        room_for(self.size, self.parts_renamed(at, &e.name))
     }
 
     // Takes the entry at a place out, and puts another in whose name is spelled the same.

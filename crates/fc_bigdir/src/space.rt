@@ -1,6 +1,18 @@
 // What the parts of a directory take.
-ghost use Rattle.std.specs.Prelude.{◌≡◌, ◌<◌, ◌^◌};
-ghost use Rattle.fc_dirs.specs.Big.{bytes_for, head_space, size_for};
+ghost use Rattle.std.specs.Prelude.{◌≡◌, ◌<◌, ◌≤◌, ◌^◌};
+ghost use Rattle.fc_names.specs.Names.{IsName};
+ghost use Rattle.fc_dirs.specs.Big.{bytes_for, head_space, name_space, size_for};
+
+use fc_names::Name;
+
+// The bytes of the head before its name.
+pub const HEAD: usize = 28;
+
+// The bytes of an entry.
+pub const ENTRY: usize = 28;
+
+// The bytes of the tail.
+pub const TAIL: usize = 8;
 
 // The space of a head's name of that length.
 pub fn head_space(second_form: bool, len: usize) -> usize
@@ -14,6 +26,15 @@ pub fn head_space(second_form: bool, len: usize) -> usize
     }
 }
 
+// The space of a name in the heap.
+pub fn name_space(name: &Name) -> usize
+    ensures space { result ≡ name_space name.now }
+    ensures small { result ≤ 256 }
+    ensures name { IsName name.now }
+{
+    (name.bytes().len() + 4) / 4 * 4
+}
+
 // The bytes that head, name, entries, heap and tail take, where the head's name and the heap have these spaces.
 pub fn bytes_for(head_name: usize, entries: usize, heap: usize) -> usize
     requires head_name { head_name < 2 ^ 32 }
@@ -22,7 +43,7 @@ pub fn bytes_for(head_name: usize, entries: usize, heap: usize) -> usize
     ensures bytes { result ≡ bytes_for head_name entries heap }
     ensures small { result < 2 ^ 38 }
 {
-    28 + head_name + 28 * entries + heap + 8
+    HEAD + head_name + ENTRY * entries + heap + TAIL
 }
 
 /// The least size of a big directory that holds a head's name in so many bytes, so many entries, and a heap of so many

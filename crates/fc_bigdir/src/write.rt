@@ -6,9 +6,11 @@ ghost use Rattle.fc_dirs.specs.BigBytes.{IsWrittenBig, big_bytes, checked_bytes,
 
 use crate::BigDir;
 use crate::frame::is_check_right;
-use crate::put::{put_entries, put_name, put_word, put_zeros};
+use crate::put::{put_entries, put_name, put_word};
+use crate::space::TAIL;
 use fc_bytes::put;
 use fc_checks::big_dir_check;
+use fc_dirs::put_zeros;
 
 impl BigDir {
     // Writes the head with its name, and answers the place behind it.
@@ -51,7 +53,7 @@ impl BigDir {
         let at = self.put_head(b);
         let at = put_entries(b, at, &self.places, &self.entries);
         let end = put(b, at, &self.heap);
-        let tail = b.len() - 8;
+        let tail = b.len() - TAIL;
         put_zeros(b, end, tail);
         let last = self.put_tail(b, tail);
         put(b, last, &[0]);

@@ -3,7 +3,6 @@ ghost use Rattle.std.specs.Prelude.{◌≡◌, Some, length, slice_get, IfOk, Is
 ghost use Rattle.fc_names.specs.Names.{is_same_name};
 ghost use Rattle.fc_dirs.specs.declared.Entry.{Entry};
 ghost use Rattle.fc_dirs.specs.Entries.{has_name};
-ghost use Rattle.fc_dirs.specs.Small.{tail_of};
 ghost use Rattle.fc_dirs.specs.Directory.{Directory, entries_of, parent_of};
 ghost use Rattle.fc_image.specs.effects.Steady.{AreWritten, new_directory};
 ghost use Rattle.fc_drafts.specs.Draft.{CanBeCalled, CanHold, CanAddress, IsSayable, directory_in, size_of};
@@ -20,16 +19,6 @@ use std::alloc::Global;
 pub enum Draft {
     Small(SmallDir),
     Big(BigDir),
-}
-
-// The bytes of a small directory.
-fn small_size(form: SmallForm) -> usize
-    ensures { result ≡ (tail_of form).size }
-{
-    match form {
-        SmallForm::Bytes2048 => 2048,
-        SmallForm::Bytes1280 => 1280,
-    }
 }
 
 impl Draft {
@@ -97,7 +86,7 @@ impl Draft {
         ensures { result ≡ size_of (directory_in self.now) }
     {
         match self {
-            Draft::Small(dir) => small_size(dir.form()),
+            Draft::Small(dir) => dir.form().size(),
             Draft::Big(dir) => dir.size(),
         }
     }

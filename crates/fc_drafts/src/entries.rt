@@ -22,8 +22,8 @@ pub fn file_entry(name: Name, load: u32, exec: u32, len: u32, address: u32) -> E
     }
 }
 
-// The bytes of a new directory.
-fn new_dir_size(form: NameForm) -> u32
+/// The bytes of a new directory.
+pub fn new_dir_size(form: NameForm) -> u32
     ensures { result ≡ new_dir_size form }
 {
     match form {
@@ -47,13 +47,6 @@ pub fn directory_entry(form: NameForm, name: Name, address: u32) -> Entry
     }
 }
 
-// The same entry, with memory for its name.
-fn copy_of(entry: &Entry) -> Result<Entry, NoMemory>
-    ensures { IfOk result (λ copy. copy ≡ entry.now) }
-{
-    Ok(entry.clone()?)
-}
-
 /// The entry of a file that is saved over: it keeps its name, its attributes and its last byte. The address is below 2^24 on
 /// discs with small directories.
 pub fn saved_entry(
@@ -65,7 +58,7 @@ pub fn saved_entry(
 ) -> Result<Entry, NoMemory>
     ensures { IfOk result (λ saved. saved ≡ saved_entry e.now load exec len address) }
 {
-    let copy = copy_of(e)?;
+    let copy = e.copied()?;
     Ok(Entry {
         load,
         exec,
@@ -80,7 +73,7 @@ pub fn set_entry(e: &Entry, load: u32, exec: u32, access: u32) -> Result<Entry, 
     requires { access < 8 }
     ensures { IfOk result (λ set. set ≡ set_entry e.now load exec access) }
 {
-    let copy = copy_of(e)?;
+    let copy = e.copied()?;
     let attrs = copy.attrs / 8 * 8 + access;
     Ok(Entry {
         load,
@@ -94,7 +87,7 @@ pub fn set_entry(e: &Entry, load: u32, exec: u32, access: u32) -> Result<Entry, 
 pub fn marked_entry(e: &Entry, attrs: u32) -> Result<Entry, NoMemory>
     ensures { IfOk result (λ marked. marked ≡ marked_entry e.now attrs) }
 {
-    let copy = copy_of(e)?;
+    let copy = e.copied()?;
     let attrs = attrs / 16 * 16 + 8 * (copy.attrs / 8 % 2) + attrs % 8;
     Ok(Entry { attrs, ..copy })
 }
@@ -118,7 +111,7 @@ pub fn renamed_entry(e: &Entry, name: Name, address: u32) -> Entry
 pub fn regrown_entry(e: &Entry, address: u32, len: u32) -> Result<Entry, NoMemory>
     ensures { IfOk result (λ grown. grown ≡ regrown e.now address len) }
 {
-    let copy = copy_of(e)?;
+    let copy = e.copied()?;
     Ok(Entry {
         address,
         len,

@@ -2,7 +2,6 @@
 ghost use Rattle.std.specs.Prelude.{◌≡◌, ◌<◌, ℕ, List, length};
 ghost use Rattle.fc_dirs.specs.declared.Entry.{Entry};
 ghost use Rattle.fc_dirs.specs.Directory.{Directory, entries_of};
-ghost use Rattle.fc_dirs.specs.Small.{tail_of};
 ghost use Rattle.fc_image.specs.effects.Short.{Gain};
 ghost use Rattle.fc_drafts.specs.Draft.{directory_in};
 ghost use Rattle.fc_drafts.specs.Gains.{GetsName, GetsNameFor, HasRoom, room_of_size, small_room};
@@ -10,7 +9,7 @@ ghost use Rattle.fc_drafts.specs.Rewriting.{IsAt};
 
 use crate::Draft;
 use fc_bigdir::BigDir;
-use fc_dirs::SmallForm;
+use fc_checks::BIG_LIMIT;
 use fc_names::Name;
 use fc_smalldir::SmallDir;
 
@@ -29,7 +28,7 @@ pub enum Room {
 fn room_of_size(size: usize, needed: u64) -> Room
     ensures { result ≡ room_of_size size needed }
 {
-    if needed > 4_194_304 {
+    if needed > BIG_LIMIT as u64 {
         Room::Full
     } else if needed > size as u64 {
         Room::Grows(needed as u32)
@@ -38,21 +37,11 @@ fn room_of_size(size: usize, needed: u64) -> Room
     }
 }
 
-// The number of entries that a small directory holds at most.
-fn places(form: SmallForm) -> usize
-    ensures { result ≡ (tail_of form).places }
-{
-    match form {
-        SmallForm::Bytes2048 => 77,
-        SmallForm::Bytes1280 => 47,
-    }
-}
-
 // The room of a small directory for one entry more.
 fn small_room(dir: &SmallDir) -> Room
     ensures { result ≡ small_room dir.now }
 {
-    if dir.entries().len() == places(dir.form()) {
+    if dir.entries().len() == dir.form().places() {
         Room::Full
     } else {
         Room::Fits
@@ -75,6 +64,19 @@ impl Room {
     {
         room_of_size(dir.size(), dir.needed_with(name))
     }
+
+    /// The room that a big directory has for a name in place of that of the entry at a place. A name that is spelled as
+    /// before always fits.
+    pub fn in_big_renamed(dir: &BigDir, at: usize, name: &Name) -> Room
+        requires { at < length dir.now.entries }
+        ensures kept { (was : Entry) → IsAt dir.now.entries at was → was.name ≡ name.now → result ≡ Room.Fits }
+        ensures respelled { (was : Entry) (gain : Gain) → IsAt dir.now.entries at was → (was.name ≡ name.now → ⊥) → GetsNameFor (Directory.Big dir.now) was.name name.now gain → HasRoom (Directory.Big dir.now) gain result }
+    {
+        if dir.entries()[at].name.bytes() == name.bytes() {
+            return Room::Fits;
+        }
+        room_of_size(dir.size(), dir.needed_renamed(at, name))
+    }
 }
 
 impl Draft {
@@ -94,12 +96,11 @@ impl Draft {
         ensures kept { (was : Entry) → IsAt (entries_of (directory_in self.now)) at was → was.name ≡ name.now → result ≡ Room.Fits }
         ensures respelled { (was : Entry) (gain : Gain) → IsAt (entries_of (directory_in self.now)) at was → (was.name ≡ name.now → ⊥) → GetsNameFor (directory_in self.now) was.name name.now gain → HasRoom (directory_in self.now) gain result }
     {
-        if self.entries()[at].name.bytes() == name.bytes() {
-            return Room::Fits;
-        }
+        // Contracts see by this what holds of every directory.
+        let _ = self.entries();
         match self {
             Draft::Small(_) => Room::Fits,
-            Draft::Big(dir) => room_of_size(dir.size(), dir.needed_renamed(at, name)),
+            Draft::Big(dir) => Room::in_big_renamed(dir, at, name),
         }
     }
 }

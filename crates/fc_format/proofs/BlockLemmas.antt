@@ -1,5 +1,5 @@
 -- Blocks whose last byte is their check.
-use Rattle.std.proofs.Common.{◌≡◌, ℕ, zero, suc, ◌+◌, ◌%◌, List, [], ◌∷◌, ◌++◌, length, take, drop, slice_set, refl, sym, ap, ◌∙◌, arith, append_assoc, length-append}
+use Rattle.std.proofs.Common.{◌≡◌, ℕ, ◌+◌, ◌%◌, List, [], ◌∷◌, ◌++◌, length, take, drop, slice_set, refl, sym, ap, ◌∙◌, arith, append_assoc, length-append}
 use Rattle.std.proofs.lemmas.List.{set_at, take-append-le}
 use Rattle.fc_bytes.specs.Bits.{overwritten}
 use Rattle.fc_checks.specs.Checks.{boot_check, carry_sum}
@@ -22,10 +22,3 @@ boot_laid r block check long laid is =
     let same : boot_check block ≡ boot_check (zeros 448 ++ r ++ zeros 3) =
     ap boot_check whole ∙ ap (λ (l : List ℕ). carry_sum 256 0 l % 256) (take-append-le 511 (zeros 448 ++ r ++ zeros 3) (0 ∷ []) (omega (arith, size))) in
     ap (λ (l : List ℕ). slice_set l 511 check) whole ∙ set_at (zeros 448 ++ r ++ zeros 3) 0 [] check 511 size ∙ ap (block_with r) (is ∙ same)
-
--- the last element replaced
-pub set-last : (xs : List ℕ) (n v : ℕ) → length xs ≡ suc n → slice_set xs n v ≡ take n xs ++ v ∷ []
-set-last (x ∷ []) zero v long = refl
-set-last (x ∷ xs) (suc n) v long = ap (λ (l : List ℕ). x ∷ l) (set-last xs n v (omega arith))
-set-last [] n v long = absurd (omega arith)
-set-last (x ∷ y ∷ xs) zero v long = absurd (omega arith)

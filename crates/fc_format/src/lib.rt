@@ -15,7 +15,6 @@ ghost use Rattle.fc_format.specs.Fresh.{format_size};
 ghost use Rattle.fc_format.specs.Opens.{FreshLaw};
 ghost use Rattle.fc_format.specs.Rows.{FormatRows};
 
-pub use fc_device::Disk;
 pub use volume::{FormatError, make};
 
 /// The format of a fresh volume.

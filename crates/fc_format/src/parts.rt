@@ -1,13 +1,13 @@
 // Disc records, maps and boot blocks of fresh volumes.
 ghost use Rattle.std.specs.Prelude.{slice_set, ◌≡◌, ◌+◌, ◌≤◌, ◌<◌, ◌^◌, length};
 ghost use Rattle.fc_bytes.specs.Bits.{overwritten};
-ghost use Rattle.fc_oldmap.specs.OldMap.{checked_half};
 ghost use Rattle.fc_format.specs.Zones.{IsRecordOfF};
 ghost use Rattle.fc_format.specs.Fresh.{boot_block, e_map, e_plus_map, e_record, f_plus_zone2, f_record, f_zone0, f_zone1, f_zone2, f_zone3, old_map_with, plus_record, zeros};
 
 use crate::zones::lay_out;
 use fc_bytes::{put, put_le24};
-use fc_checks::{boot_check, old_check};
+use fc_checks::boot_check;
+use fc_oldmap::seal_half;
 use fc_zone::{ZoneShape, seal};
 
 /// A disc record.
@@ -189,14 +189,6 @@ pub fn boot_block(of: &Record) -> [u8; 512]
     put(&mut block, 448, of);
     block[511] = boot_check(&block);
     block
-}
-
-// Sets the check of half an old map.
-fn seal_half(half: &mut [u8])
-    requires { length half.old ≡ 256 }
-    ensures { half.new ≡ checked_half half.old }
-{
-    half[255] = old_check(half, 255);
 }
 
 /// An old map of a disc of so many units, with one hole from this unit to the disc's end.

@@ -97,6 +97,5 @@ pub fn write_parts<D: Disk>(disk: &mut D, parts: &[Part], end: u64) -> Result<()
     for part in parts {
         at = write_part(disk, at, part.0, part.1)?;
     }
-    write_zeros(disk, at, end)?;
-    Ok(())
+    write_zeros(disk, at, end)
 }

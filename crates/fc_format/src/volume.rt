@@ -34,8 +34,7 @@ fn write_one_zone<D: Disk>(disk: &mut D, map: &Zone, root: &[u8; 2048]) -> Resul
     ensures form { SameForm D.Disk disk.old disk.new }
     ensures cause { FailsByFault D.Disk disk.old disk.new result }
 {
-    write_parts(disk, &[(0, map), (4, map), (8, root)], 3200)?;
-    Ok(())
+    write_parts(disk, &[(0, map), (4, map), (8, root)], 3200)
 }
 
 // Writes a disc of four zones: the boot block with the record, both copies of the map, and the root. Zones 1 and 3 are
@@ -72,8 +71,7 @@ fn write_four_zones<D: Disk>(
         (3204, &zone3),
         (3208, root),
     ];
-    write_parts(disk, &parts, 6400)?;
-    Ok(())
+    write_parts(disk, &parts, 6400)
 }
 
 // Writes the disc of a format.

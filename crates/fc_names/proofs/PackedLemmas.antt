@@ -33,9 +33,6 @@ names_in-packed (name ∷ path) rest all =
     ∙ names_after-name [] name (packed path ++ rest) is.bytes
     ∙ ap (λ names. name ∷ names) (names_in-packed path rest (All-tail IsName name path all))
 
-pub IsPacked-nil : IsPacked []
-IsPacked-nil = record { names = All-nil IsName; whole = refl }
-
 -- a name is appended with its byte 0
 pub names_in-pushed : (bytes name : List ℕ) → IsPacked bytes → IsName name → names_in (bytes ++ (name ++ 0 ∷ [])) ≡ names_in bytes ++ name ∷ []
 names_in-pushed bytes name is named =

@@ -30,13 +30,6 @@ pub record IsRead (text done rest : List ℕ) : Type 0 where
   pub spells : spelled_bytes text ≡ after_some done (spelled_bytes rest)
   pub printed : All (IsInRange 32 255) done
 
-after_some-nil : (left : Option (List ℕ)) → left ≡ after_some [] left
-after_some-nil (Some bytes) = refl
-after_some-nil None = refl
-
-pub IsRead-start : (text : List ℕ) → IsRead text [] text
-IsRead-start text = record { spells = after_some-nil (spelled_bytes text); printed = All-nil (IsInRange 32 255) }
-
 after_some-push : (done : List ℕ) (c : ℕ) (left : Option (List ℕ))
     → after_some done (cons_some (Some c) left) ≡ after_some (done ++ c ∷ []) left
 after_some-push done c (Some bytes) = ap Some (sym (append_assoc done (c ∷ []) bytes))

@@ -61,15 +61,6 @@ pub enum NameForm {
     Long,
 }
 
-// A vector of these bytes alone.
-fn copied(alloc: Global, b: &[u8]) -> Result<Vec<u8>, NoMemory>
-    ensures { IfOk result (λ copy. copy.items ≡ b.now) }
-{
-    let mut copy = Vec::with_capacity(alloc, b.len())?;
-    copy.extend_from_slice(b)?;
-    Ok(copy)
-}
-
 impl Name {
     /// The name of these bytes.
     pub fn new(alloc: Global, b: &[u8]) -> Result<Name, NoMemory>
@@ -79,7 +70,7 @@ impl Name {
         ensures { IfOk result (λ name. name ≡ b.now) }
     {
         Ok(Name {
-            bytes: copied(alloc, b)?,
+            bytes: Vec::from_slice(alloc, b)?,
         })
     }
 
@@ -160,11 +151,21 @@ fn name_limit(form: NameForm) -> usize
     }
 }
 
-/// Whether a name may be written in directories of this form. Its bytes must be 33 to 126, or 128 to 255 where the form
-/// has them, without `$ & % @ \ ^ : . # * " |`. A name that is read may have other bytes.
+/// Whether the name of these bytes may be written in directories of this form; no bytes are no name. They must be 33 to
+/// 126, or 128 to 255 where the form has them, without `$ & % @ \ ^ : . # * " |`. A name that is read may have other
+/// bytes.
+pub fn writable_bytes(name: &[u8], form: NameForm) -> bool
+    ensures { result ≡ is_writable form name.now }
+{
+    if name.is_empty() {
+        return false;
+    }
+    name.len() <= name_limit(form) && name.iter().all(|c| is_writable_byte(form, *c))
+}
+
+/// Whether a name may be written in directories of this form.
 pub fn writable(n: &Name, form: NameForm) -> bool
     ensures { result ≡ is_writable form n.now }
 {
-    let bytes = n.bytes();
-    bytes.len() <= name_limit(form) && bytes.iter().all(|c| is_writable_byte(form, *c))
+    writable_bytes(n.bytes(), form)
 }

@@ -91,9 +91,6 @@ length-after_take n (x ∷ holes) = by (nat_le n x.len) (x.len == n) (length-aft
     by true false le = omega arith
     by false b le = omega arith
 
-pub of_some_disc : (space : OldMapContent) → IsOldMap space → AreOfSomeDisc space.holes
-of_some_disc space map = record { disc_units = space.disc_units; sector_units = space.sector_units; small = map.disc; are_holes = map.holes }
-
 -- another list of holes of the same disc
 pub with_list : (space : OldMapContent) (holes : List Hole) → IsOldMap space → length holes ≤ hole_limit
     → AreHoles space.disc_units space.sector_units 0 holes → IsOldMap (record space { holes = holes })

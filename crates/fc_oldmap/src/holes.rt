@@ -12,6 +12,9 @@ use arrayvec::ArrayVec;
 /// The holes that a map has places for.
 pub const HOLES: usize = 82;
 
+/// The bytes of the places for holes in each half of a map.
+pub const PLACES: usize = 3 * HOLES;
+
 /// A map's holes.
 pub type Holes = ArrayVec<Hole, HOLES>;
 

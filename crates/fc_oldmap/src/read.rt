@@ -1,24 +1,14 @@
-// The holes of a map's bytes, and its checks.
+// The holes of a map's bytes.
 
 ghost use Rattle.std.specs.Prelude.{◌≡◌, ◌+◌, ◌*◌, ◌^◌, ◌<◌, ◌≤◌, length, IfOk, IfErr, None, Some};
 ghost use Rattle.fc_bytes.specs.Words.{u24_at};
-ghost use Rattle.fc_checks.specs.Checks.{is_half_right};
 ghost use Rattle.fc_oldmap.specs.Holes.{hole, hole_end};
 ghost use Rattle.fc_oldmap.specs.OldMap.{holes_of, is_free_end, is_hole_right, map_units, wrong_hole};
 
 use crate::Hole;
-use crate::holes::Holes;
+use crate::holes::{Holes, PLACES};
 use arrayvec::ArrayVec;
 use fc_bytes::le24;
-use fc_checks::old_check;
-
-/// Whether half a map of 256 bytes has its check, from either start of the sum.
-pub fn is_half_right(half: &[u8]) -> bool
-    requires { length half.now ≡ 256 }
-    ensures { result ≡ is_half_right half.now }
-{
-    half[255] == old_check(half, 255) || half[255] == old_check(half, 0)
-}
 
 // The hole of an index, as it is stored.
 fn stored_hole(b: &[u8], index: usize) -> Hole
@@ -59,7 +49,7 @@ fn map_units(sector_units: u32) -> u32
 pub fn is_free_end(free_end: u8) -> bool
     ensures { result ≡ is_free_end free_end }
 {
-    free_end % 3 == 0 && free_end <= 246
+    free_end % 3 == 0 && usize::from(free_end) <= PLACES
 }
 
 /// The first holes of a map's 512 bytes, or the index of the first of them that is wrong.

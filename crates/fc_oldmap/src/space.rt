@@ -5,10 +5,11 @@ ghost use Rattle.std.specs.Option.{ForSome};
 ghost use Rattle.fc_oldmap.specs.Holes.{AreApart, after_give, after_take, hole, hole_end, hole_limit, shifted, take_answer, tidied};
 
 use crate::holes::{Holes, give_to, shift_at, shortage, take_from, tidy_all};
-use crate::read::{is_free_end, is_half_right, read_holes};
+use crate::read::{is_free_end, read_holes};
 use crate::write::write_map;
 use crate::{Hole, MapFull, OldMapFault, TakeError};
 use fc_bytes::le24;
+use fc_checks::is_half_right;
 use std::marker::Model;
 
 /// The free space of a disc with an old map: at most 82 holes, rising and without units in common.

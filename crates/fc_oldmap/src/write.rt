@@ -5,6 +5,7 @@ ghost use Rattle.fc_oldmap.specs.Holes.{hole_end};
 ghost use Rattle.fc_oldmap.specs.OldMap.{checked_half, triples, with_holes};
 
 use crate::Hole;
+use crate::holes::PLACES;
 use fc_bytes::put_le24;
 use fc_checks::old_check;
 
@@ -13,7 +14,7 @@ fn clear(half: &mut [u8])
     requires { length half.old ≡ 256 }
     ensures { half.new ≡ replicate 246 0 ++ drop 246 half.old }
 {
-    half[..246].fill(0);
+    half[..PLACES].fill(0);
 }
 
 // Fills the places of starts and of lengths in the two halves of a map; those of no hole are 0.
@@ -33,8 +34,8 @@ fn write_holes(starts: &mut [u8], lengths: &mut [u8], holes: &[Hole])
     }
 }
 
-// Writes the check of half a map of 256 bytes.
-fn seal(half: &mut [u8])
+/// Writes the check of half an old map of 256 bytes, and no other byte.
+pub fn seal_half(half: &mut [u8])
     requires { length half.old ≡ 256 }
     ensures { half.new ≡ checked_half half.old }
 {
@@ -51,6 +52,6 @@ pub fn write_map(b: &mut [u8], holes: &[Hole])
     let (first, second) = b.split_at_mut(256);
     write_holes(first, second, holes);
     second[254] = (3 * holes.len()) as u8;
-    seal(first);
-    seal(second);
+    seal_half(first);
+    seal_half(second);
 }

@@ -29,8 +29,8 @@ use crate::made::make;
 use crate::taking::{Taken, take_place};
 use fc_device::{Disk, NoMemory};
 use fc_dirs::Entry;
-use fc_drafts::{Draft, directory_entry};
-use fc_names::{Name, NameForm, Path, Refusal};
+use fc_drafts::{Draft, directory_entry, new_dir_size};
+use fc_names::{Name, Path, Refusal};
 use fc_refusals::judge_cdir;
 use fc_space::Places;
 use fc_tree::Tree;
@@ -47,17 +47,6 @@ pub struct Making {
     pub bytes: Vec<u8>,
     pub entry: Entry,
     pub directory: Rewrite,
-}
-
-// The bytes of a new directory.
-fn new_dir_size(form: NameForm) -> u64
-    ensures { result ≡ new_dir_size form }
-{
-    match form {
-        NameForm::Seven => 1280,
-        NameForm::Ten => 2048,
-        NameForm::Long => 2048,
-    }
 }
 
 // Where a new directory goes whose holder says what the draft says, or why there is no space.
@@ -77,7 +66,7 @@ fn place_cdir(
     if !has_room(draft, name) {
         return Err(CommandError::Refused(Refusal::DirFull));
     }
-    take_place(alloc, places, new_dir_size(places.dir_form()))
+    take_place(alloc, places, u64::from(new_dir_size(places.dir_form())))
 }
 
 // Makes a new directory of a name ready, which goes to the place that was found for it, and the directory of a node, with the new

@@ -1,6 +1,6 @@
 // `rename`: another name for an object, another directory, or both. No object changes its place, and the map stays as it is.
 ghost use Rattle.std.specs.Prelude.{◌≡◌, ℕ, List, Some, IfErr, IfOk, IsFalse, IsTrue, OnOk};
-ghost use Rattle.fc_dirs.specs.Small.{SmallDir, is_full_small, tail_of};
+ghost use Rattle.fc_dirs.specs.Small.{SmallDir, is_full_small};
 ghost use Rattle.fc_image.specs.Layout.{dir_form};
 ghost use Rattle.fc_image.specs.Opening.{Opened};
 ghost use Rattle.fc_image.specs.Sound.{AreSound};
@@ -16,7 +16,6 @@ ghost use Rattle.fc_oldvolume.specs.Renaming.{IsAccepted, SaysFull};
 use crate::laws::{is_old_map, rename_laws};
 use crate::relocation::relocate;
 use fc_device::{Disk, NoMemory};
-use fc_dirs::SmallForm;
 use fc_names::{Path, Refusal};
 use fc_refusals::{Renaming, judge_rename};
 use fc_tree::{Body, Tree};
@@ -25,22 +24,12 @@ use fc_volume::changes::renaming::prepare_within;
 use fc_volume::{CommandError, Volume};
 use std::alloc::Global;
 
-// The number of entries that a small directory holds at most.
-fn places(form: SmallForm) -> usize
-    ensures { result ≡ (tail_of form).places }
-{
-    match form {
-        SmallForm::Bytes2048 => 77,
-        SmallForm::Bytes1280 => 47,
-    }
-}
-
 // Whether what a small directory says has as many entries as it can hold.
 fn has_no_place(body: &Body) -> bool
     ensures { (dir : SmallDir) → body.now ≡ Body.Small dir → result ≡ is_full_small dir }
 {
     match body {
-        Body::Small(dir) => dir.entries().len() == places(dir.form()),
+        Body::Small(dir) => dir.entries().len() == dir.form().places(),
         Body::Big(_) => false,
         Body::File => false,
     }

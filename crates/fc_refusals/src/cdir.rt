@@ -11,9 +11,8 @@ ghost use Rattle.fc_image.specs.Walk.{Listing};
 ghost use Rattle.fc_tree.specs.Nodes.{HoldObjects, nodes_of};
 ghost use Rattle.fc_refusals.specs.Targets.{IsVacant, refusal_of};
 
-use crate::names::is_writable;
 use crate::places::{holder_at, own_name};
-use fc_names::{NameForm, Path, Refusal};
+use fc_names::{NameForm, Path, Refusal, writable_bytes};
 use fc_tree::Tree;
 
 /// The node of the directory in which `cdir` makes a directory, or why it is refused: the name can't be written, the
@@ -30,7 +29,7 @@ pub fn judge_cdir(tree: &Tree, form: NameForm, read_only: bool, path: &Path) -> 
         // The root is there.
         return Err(Refusal::Exists);
     };
-    if !is_writable(name, form) {
+    if !writable_bytes(name, form) {
         return Err(Refusal::BadName);
     }
     let dir = holder_at(tree, path)?;

@@ -4,7 +4,6 @@
 
 mod cdir;
 mod delete;
-mod names;
 mod places;
 mod rename;
 mod save;

@@ -13,10 +13,9 @@ ghost use Rattle.fc_refusals.specs.Places.{is_other, refusal_to_root};
 ghost use Rattle.fc_refusals.specs.Slots.{IsRenaming};
 ghost use Rattle.fc_refusals.specs.Targets.{refusal_of};
 
-use crate::names::is_writable;
 use crate::places::{holder_at, is_above, is_locked, is_root, number_at, own_name, target_in};
 use crate::target::Renaming;
-use fc_names::{NameForm, Path, Refusal};
+use fc_names::{NameForm, Path, Refusal, writable_bytes};
 use fc_tree::Tree;
 
 // Whether there is a node of another number.
@@ -61,7 +60,7 @@ pub fn judge_rename(
     let Some(name) = own_name(to) else {
         return Err(refusal_to_root(tree, from));
     };
-    if !is_writable(name, form) {
+    if !writable_bytes(name, form) {
         return Err(Refusal::BadName);
     }
     let n = number_at(tree, from)?;

@@ -12,10 +12,9 @@ ghost use Rattle.fc_tree.specs.Nodes.{HoldObjects, nodes_of};
 ghost use Rattle.fc_refusals.specs.Slots.{IsSlot};
 ghost use Rattle.fc_refusals.specs.Targets.{refusal_of};
 
-use crate::names::is_writable;
 use crate::places::{holder_at, is_directory, is_locked, own_name, target_in};
 use crate::target::Slot;
-use fc_names::{NameForm, Path, Refusal};
+use fc_names::{NameForm, Path, Refusal, writable_bytes};
 use fc_tree::Tree;
 
 /// The place at which `save` and `create` put a file, or why they are refused: the name can't be written, the path of
@@ -38,7 +37,7 @@ pub fn judge_save(
         // The root is a directory.
         return Err(Refusal::IsDirectory);
     };
-    if !is_writable(name, form) {
+    if !writable_bytes(name, form) {
         return Err(Refusal::BadName);
     }
     let dir = holder_at(tree, path)?;

@@ -1,17 +1,6 @@
-// Parts of rows of bytes.
-ghost use Rattle.std.specs.Prelude.{◌≡◌, ◌+◌, ◌-◌, ◌≤◌, ◌<◌, ◌++◌, length, take, replicate};
-ghost use Rattle.fc_bytes.specs.Words.{bytes_at};
+// Names in fields of bytes.
+ghost use Rattle.std.specs.Prelude.{◌≡◌, ◌≤◌, ◌<◌, length};
 ghost use Rattle.fc_dirs.specs.Entries.{padded_name};
-
-// The N bytes from byte `at`.
-pub fn array_at<const N: usize>(b: &[u8], at: usize) -> [u8; N]
-    requires { at + N ≤ length b.now }
-    ensures { result ≡ bytes_at b.now at N }
-{
-    let mut bytes = [0; N];
-    bytes.copy_from_slice(&b[at..at + N]);
-    bytes
-}
 
 // A name in a field of N bytes: 13 follows it, and then bytes 0, as far as there is room.
 pub fn padded<const N: usize>(name: &[u8]) -> [u8; N]
@@ -24,13 +13,4 @@ pub fn padded<const N: usize>(name: &[u8]) -> [u8; N]
         field[name.len()] = 13;
     }
     field
-}
-
-// Writes bytes 0 from byte `at` up to byte `end`.
-pub fn put_zeros(b: &mut [u8], at: usize, end: usize)
-    requires order { at ≤ end }
-    requires within { end ≤ length b.old }
-    ensures { take end b.new ≡ take at b.old ++ replicate (end - at) 0 }
-{
-    b[at..end].fill(0);
 }

@@ -6,18 +6,11 @@ use fc_device::NoMemory;
 use fc_dirs::{Entry, SmallForm};
 use std::alloc::Global;
 
-// The same entry, with memory for its name.
-fn copy_of(entry: &Entry) -> Result<Entry, NoMemory>
-    ensures { IfOk result (λ copy. copy ≡ entry.now) }
-{
-    Ok(entry.clone()?)
-}
-
 // Puts a copy of an entry behind others.
 fn push_copy(entries: &mut Vec<Entry>, entry: &Entry) -> Result<(), NoMemory>
     ensures { OnOk result (entries.new.items ≡ entries.old.items ++ entry.now ∷ []) }
 {
-    if entries.push(copy_of(entry)?).is_err() {
+    if entries.push(entry.copied()?).is_err() {
         return Err(NoMemory);
     }
     Ok(())

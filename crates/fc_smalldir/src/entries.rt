@@ -3,7 +3,7 @@ ghost use Rattle.std.specs.Prelude.{◌≡◌, ◌<◌, ◌≤◌, ◌^◌, ◌+
 ghost use Rattle.std.specs.List.{AllByRecursion, flat_map};
 ghost use Rattle.std.specs.Option.{option_map};
 ghost use Rattle.fc_dirs.specs.declared.DirFault.TheVariants as faults;
-ghost use Rattle.fc_dirs.specs.Entries.{entry_place, first_twin, has_name};
+ghost use Rattle.fc_dirs.specs.Entries.{first_twin, has_name};
 ghost use Rattle.fc_dirs.specs.Small.{FitsSmall, first_nameless, small_entries, tail_of};
 ghost use Rattle.fc_dirs.specs.Faults.{IsFaultOf};
 ghost use Rattle.fc_smalldir.specs.Fields.{AreRead};
@@ -11,9 +11,9 @@ ghost use Rattle.fc_dirs.specs.SmallBytes.{entry_bytes};
 
 use crate::DirError;
 use crate::entry::{put_entry, read_entry};
-use crate::head::places;
+use crate::head::{ENTRY, HEAD};
 use fc_dirs::{DirFault, Entry, SmallForm};
-use fc_names::{Name, fold_eq, fold_less};
+use fc_names::{Name, fold_eq};
 use std::alloc::Global;
 
 // Whether an entry has a name that folds to this one.
@@ -36,17 +36,6 @@ pub fn first_twin(entries: &[Entry]) -> Option<u32>
     None
 }
 
-// Where a new entry stands: before the first whose folded name is greater, and else last.
-pub fn place_of(entries: &[Entry], name: &Name) -> usize
-    ensures place { result ≡ entry_place name.now entries.now }
-    ensures within { result ≤ length entries.now }
-{
-    entries
-        .iter()
-        .position(|e| fold_less(name, &e.name))
-        .unwrap_or(entries.len())
-}
-
 // The number of the entries that bytes say: the first whose first byte is 0 ends them.
 #[tactic(auto, using(crate::proofs::HeadLemmas::places_within))]
 pub fn count_entries(b: &[u8], form: SmallForm) -> usize
@@ -54,9 +43,9 @@ pub fn count_entries(b: &[u8], form: SmallForm) -> usize
     ensures count { result ≡ length (small_entries form b.now) }
     ensures few { result ≤ (tail_of form).places }
 {
-    let places = places(form);
+    let places = form.places();
     for i in 0..places {
-        if b[5 + 26 * i] == 0 {
+        if b[HEAD + ENTRY * i] == 0 {
             return i;
         }
     }
@@ -81,8 +70,8 @@ pub fn read_entries(
         return Err(DirError::NoMemory);
     };
     for i in 0..count {
-        let at = 5 + 26 * i;
-        let Ok(read) = read_entry(alloc, &b[at..at + 26], form) else {
+        let at = HEAD + ENTRY * i;
+        let Ok(read) = read_entry(alloc, &b[at..at + ENTRY], form) else {
             return Err(DirError::NoMemory);
         };
         match read {

@@ -6,11 +6,11 @@ ghost use Rattle.fc_dirs.specs.Small.{FitsSmall, name_in, small_entry};
 ghost use Rattle.fc_smalldir.specs.Fields.{attrs_in, last_in, plain_field};
 ghost use Rattle.fc_dirs.specs.SmallBytes.{entry_bytes, last_byte, name_bytes, with_tops};
 
-use crate::bytes::{array_at, padded};
+use crate::bytes::padded;
 use byteorder::{ByteOrder, LittleEndian};
 use fc_bytes::{le24, put};
 use fc_device::NoMemory;
-use fc_dirs::{Entry, SmallForm};
+use fc_dirs::{Entry, SmallForm, array_at};
 use fc_names::Name;
 use std::alloc::Global;
 

@@ -6,10 +6,15 @@ ghost use Rattle.fc_dirs.specs.Small.{has_old_word, hugo_word, is_magic_right, i
 ghost use Rattle.fc_smalldir.specs.Fields.{dir_of, first_len, last_len};
 ghost use Rattle.fc_dirs.specs.SmallBytes.{check_of, first_field, last_field, magic_word, tail_bytes};
 
-use crate::bytes::array_at;
 use fc_bytes::{le24, put};
 use fc_checks::small_dir_check;
-use fc_dirs::SmallForm;
+use fc_dirs::{SmallForm, array_at};
+
+// The bytes of the head.
+pub const HEAD: usize = 5;
+
+// The bytes of an entry.
+pub const ENTRY: usize = 26;
 
 // All that a directory holds but its entries. Of the reserved bytes those count that its form has.
 #[derive(Clone, Copy)]
@@ -21,16 +26,6 @@ pub struct Head {
     pub name: [u8; 10],
     pub title: [u8; 19],
     pub reserved: [u8; 14],
-}
-
-// The number of places for entries.
-pub fn places(form: SmallForm) -> usize
-    ensures { result ≡ (tail_of form).places }
-{
-    match form {
-        SmallForm::Bytes2048 => 77,
-        SmallForm::Bytes1280 => 47,
-    }
 }
 
 // Whether a new directory has the word `Hugo`.
@@ -79,7 +74,7 @@ pub fn is_check_right(b: &[u8], form: SmallForm, count: usize) -> bool
     ensures { result ≡ is_small_check_right form b.now }
 {
     match form {
-        SmallForm::Bytes2048 => b[2047] == small_dir_check(b, 5 + 26 * count),
+        SmallForm::Bytes2048 => b[2047] == small_dir_check(b, HEAD + ENTRY * count),
         SmallForm::Bytes1280 => true,
     }
 }
@@ -182,7 +177,7 @@ pub fn check_of(b: &[u8], form: SmallForm, count: usize) -> u8
     ensures { result ≡ check_of form b.now (5 + 26 * count) }
 {
     match form {
-        SmallForm::Bytes2048 => small_dir_check(b, 5 + 26 * count),
+        SmallForm::Bytes2048 => small_dir_check(b, HEAD + ENTRY * count),
         SmallForm::Bytes1280 => 0,
     }
 }

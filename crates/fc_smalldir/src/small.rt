@@ -8,16 +8,16 @@ ghost use Rattle.fc_dirs.specs.Faults.{IsFaultOf};
 ghost use Rattle.fc_smalldir.specs.Fields.{names_of_form};
 ghost use Rattle.fc_dirs.specs.SmallBytes.{IsWrittenSmall, small_bytes};
 
-use crate::bytes::{padded, put_zeros};
-use crate::entries::{count_entries, first_twin, place_of, put_entries, read_entries};
+use crate::bytes::padded;
+use crate::entries::{count_entries, first_twin, put_entries, read_entries};
 use crate::entry::words_fit;
 use crate::head::{
-    Head, check_of, has_old_word, is_check_right, is_magic_right, is_sequence_right, places,
+    ENTRY, HEAD, Head, check_of, has_old_word, is_check_right, is_magic_right, is_sequence_right,
     put_head, put_tail, read_head,
 };
 use crate::{DirError, InsertError};
 use fc_bytes::put;
-use fc_dirs::{DirFault, Entry, SmallForm};
+use fc_dirs::{DirFault, Entry, SmallForm, place_of, put_zeros};
 use fc_names::Name;
 use std::alloc::Global;
 use std::marker::Model;
@@ -102,7 +102,7 @@ impl SmallDir {
         let form = self.head.form;
         let at = put_head(b, 0, &self.head);
         let at = put_entries(b, at, &self.entries, form);
-        let tail = 6 + 26 * places(form);
+        let tail = HEAD + 1 + ENTRY * form.places();
         put_zeros(b, at, tail);
         let at = put_tail(b, tail, &self.head);
         put(b, at, &[0]);
@@ -122,7 +122,7 @@ impl SmallDir {
         ensures err { OnErr result (self.new ≡ self.old) }
         ensures full { IsErrOf result InsertError.DirFull ↔ IsTrue (is_full_small self.old) }
     {
-        if self.entries.len() == places(self.head.form) {
+        if self.entries.len() == self.head.form.places() {
             return Err(InsertError::DirFull);
         }
         words_fit(&e);

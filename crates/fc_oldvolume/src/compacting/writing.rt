@@ -14,20 +14,9 @@ ghost use Rattle.fc_oldvolume.specs.Compacting.{AreRowsWritten, DirectoriesWritt
 use super::directories::Spare;
 use crate::writing::store;
 use fc_device::{Disk, DiskFault, Extent};
-use fc_dirs::SmallForm;
 use fc_oldmap::OldMap;
 use fc_smalldir::SmallDir;
 use fc_tree::{Body, Tree};
-
-// The bytes of a directory.
-fn size_of(dir: &SmallDir) -> usize
-    ensures { result ≡ (tail_of dir.now.form).size }
-{
-    match dir.form() {
-        SmallForm::Bytes1280 => 1280,
-        SmallForm::Bytes2048 => 2048,
-    }
-}
 
 // Writes a directory to a row of sectors, through a buffer as long as it is, and syncs.
 fn write_directory<D: Disk>(
@@ -65,7 +54,7 @@ fn row_at(map: &OldMap, address: u32, dir: &SmallDir) -> Extent
     let units = map.sector_units();
     Extent {
         first: u64::from(address / units),
-        sectors: (size_of(dir) as u64).div_ceil(256 * u64::from(units)),
+        sectors: (dir.form().size() as u64).div_ceil(256 * u64::from(units)),
     }
 }
 
@@ -89,7 +78,7 @@ fn write_number<D: Disk>(disk: &mut D, map: &OldMap, tree: &Tree, n: u64) -> Res
         if let Body::Small(dir) = &node.body {
             let row = row_at(map, node.entry.address, dir);
             let size = 256 * map.sector_units() as usize;
-            write_directory(disk, size, row, dir, &mut [0u8; 2048][..size_of(dir)])?;
+            write_directory(disk, size, row, dir, &mut [0u8; 2048][..dir.form().size()])?;
             return Ok(());
         }
     }

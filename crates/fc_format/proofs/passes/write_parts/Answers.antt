@@ -1,5 +1,6 @@
 use Rattle.std.proofs.Common.{◌≡◌, ◌+◌, ◌*◌, ◌/◌, List, [], length, drop, slice_index_or, ℕ, subst, sym, arith}
 use Rattle.std.proofs.lemmas.List.{drop_all}
+use Rattle.std.proofs.lemmas.Result.{on_ok_weaker}
 use Rattle.fc_device.proofs.DiskLaws.{form_same, form_then}
 use Rattle.fc_format.specs.Passes.{Part}
 use Rattle.fc_format.proofs.PassLemmas.{HasLaid, behind_then, laid_end, laid_part, laid_start, next_part, part_end}
@@ -68,10 +69,6 @@ returns-in_err-at-clause-keeps g c =
     let last = part_end c.loop-part.at part (drop (i + 1) parts) c.args.end here.fits in
     behind_then g.D.Disk c.args.disk.now c.loop-part.disk c.write_part.new.disk (256 * c.args.end) (256 * (part.0 + length part.1.now / 256)) _ (omega arith) (omega (arith, last)) c.loop-part.invariant.laid.keeps c.write_part.ensures.keeps
 
-pub returns-in_err-write_zeros-clause-keeps : goal.returns-in_err-write_zeros-clause-keeps
-returns-in_err-write_zeros-clause-keeps g c =
-    behind_then g.D.Disk c.args.disk.now c.loop-part.disk c.write_zeros.new.disk (256 * c.args.end) (256 * c.args.end) _ (omega arith) (omega arith) c.loop-part.invariant.laid.keeps c.write_zeros.ensures.keeps
-
 pub returns-clause-keeps : goal.returns-clause-keeps
 returns-clause-keeps g c =
     behind_then g.D.Disk c.args.disk.now c.loop-part.disk c.write_zeros.new.disk (256 * c.args.end) (256 * c.args.end) _ (omega arith) (omega arith) c.loop-part.invariant.laid.keeps c.write_zeros.ensures.keeps
@@ -81,4 +78,4 @@ returns-clause-front g c =
     let parts = c.args.parts.now in
     let all : drop c.loop-part.part-index parts ≡ [] = drop_all c.loop-part.part-index parts (omega (arith, c.loop-part-test.false)) in
     let here = subst (λ (l : List Part). HasLaid g.D.Disk c.args.disk.now c.loop-part.disk c.loop-part.at l parts c.args.end) all c.loop-part.invariant.laid in
-    laid_end g.D.Disk c.args.disk.now c.loop-part.disk c.write_zeros.new.disk c.loop-part.at parts c.args.end here c.in_ok-write_zeros.ensures.front
+    on_ok_weaker c.write_zeros.result (laid_end g.D.Disk c.args.disk.now c.loop-part.disk c.write_zeros.new.disk c.loop-part.at parts c.args.end here) c.write_zeros.ensures.front

@@ -1,4 +1,5 @@
 use Rattle.std.proofs.Common.{rules, ◌++◌, ◌-◌, List, ℕ, ap, ◌∙◌, subst}
+use Rattle.std.specs.Prelude.{OnOk}
 use Rattle.fc_format.specs.Fresh.{boot_block, f_zone0, f_zone1, zeros}
 use Rattle.fc_format.specs.Passes.{LengthensFront}
 use Rattle.fc_format.proofs.DiscLemmas.{four_zones}
@@ -21,4 +22,4 @@ returns-clause-front g c =
     ∙ ap (λ (l : List ℕ). disc (boot_block c.args.of.now) l z1 z2 z3 r) c.f_zone0-zone0.ensures
     ∙ ap (λ (l : List ℕ). disc (boot_block c.args.of.now) (f_zone0 c.args.of.now) l z2 z3 r) c.f_zone1-zone1.ensures
     ∙ ap (λ (l : List ℕ). disc (boot_block c.args.of.now) (f_zone0 c.args.of.now) f_zone1 z2 l r) c.f_zone3-zone3.ensures in
-    subst (λ (l : List ℕ). LengthensFront g.D.Disk c.args.disk.now c.write_parts.new.disk 0 l) is c.in_ok-write_parts.ensures.front
+    subst (λ (l : List ℕ). OnOk c.write_parts.result (LengthensFront g.D.Disk c.args.disk.now c.write_parts.new.disk 0 l)) is c.write_parts.ensures.front

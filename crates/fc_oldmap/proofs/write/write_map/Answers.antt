@@ -14,6 +14,6 @@ returns c =
     let split = c.split_at_mut-first.ensures in
     let first = c.write_holes.ensures.starts ∙ ap (λ l. triples starts ++ drop 246 l) split.front in
     let second = c.write_holes.ensures.lengths ∙ ap (λ l. triples lengths ++ drop 246 l) split.back in
-    let one = c.seal.ensures ∙ ap checked_half first ∙ first_half starts b c.requires.size in
-    let two = c.seal-2.ensures ∙ ap (λ l. checked_half (slice_set l 254 (3 * length holes))) second ∙ second_half lengths b (3 * length holes) c.requires.size in
-    ap (λ l. l ++ c.seal-2.new.half) one ∙ ap (λ l. checked_half (triples starts ++ take 9 (drop 246 b)) ++ l) two
+    let one = c.seal_half.ensures ∙ ap checked_half first ∙ first_half starts b c.requires.size in
+    let two = c.seal_half-2.ensures ∙ ap (λ l. checked_half (slice_set l 254 (3 * length holes))) second ∙ second_half lengths b (3 * length holes) c.requires.size in
+    ap (λ l. l ++ c.seal_half-2.new.half) one ∙ ap (λ l. checked_half (triples starts ++ take 9 (drop 246 b)) ++ l) two

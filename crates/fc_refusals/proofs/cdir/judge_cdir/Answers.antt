@@ -20,23 +20,23 @@ returns-in_err-dir-clause-refusal c = λ image layout listings sound held.
     let is : refusal_of c.from_residual.result ≡ Some c.in_err-dir.field-0.0 = search rules in
     is
     ∙ cdir_refusal t c.args.form c.args.read_only path (Some c.in_err-dir.field-0.0) _ (is_present t path) c.args.read_only
-    (name_good c.args.form path c.in-Some.name.now n c.if-not-is_writable.ensures)
+    (name_good c.args.form path c.in-Some.name.now n c.if-not-writable_bytes.ensures)
     (holder_is image layout listings (nodes_of c.args.tree.now) sound held path c.in-Some.name.now (Err c.in_err-dir.field-0.0) n c.in_err-dir.ensures) refl refl
 
 pub returns-then-is_some-clause-refusal : goal.returns-then-is_some-clause-refusal
 returns-then-is_some-clause-refusal c = λ image layout listings sound held.
     cdir_found image layout listings (nodes_of c.args.tree.now) c.args.form c.args.read_only c.args.path.now c.in-Some.name.now c.in_ok-dir.dir c.child.result _ c.args.read_only
-    sound held c.in-Some.ensures c.if-not-is_writable.ensures c.in_ok-dir.ensures c.child.ensures c.if-is_some.ensures refl
+    sound held c.in-Some.ensures c.if-not-writable_bytes.ensures c.in_ok-dir.ensures c.child.ensures c.if-is_some.ensures refl
 
 pub returns-then-read_only-clause-refusal : goal.returns-then-read_only-clause-refusal
 returns-then-read_only-clause-refusal c = λ image layout listings sound held.
     cdir_found image layout listings (nodes_of c.args.tree.now) c.args.form c.args.read_only c.args.path.now c.in-Some.name.now c.in_ok-dir.dir c.child.result _ _
-    sound held c.in-Some.ensures c.if-not-is_writable.ensures c.in_ok-dir.ensures c.child.ensures c.if-is_some.ensures (sym c.if-read_only.true)
+    sound held c.in-Some.ensures c.if-not-writable_bytes.ensures c.in_ok-dir.ensures c.child.ensures c.if-is_some.ensures (sym c.if-read_only.true)
 
 pub returns-clause-refusal : goal.returns-clause-refusal
 returns-clause-refusal c = λ image layout listings sound held.
     cdir_found image layout listings (nodes_of c.args.tree.now) c.args.form c.args.read_only c.args.path.now c.in-Some.name.now c.in_ok-dir.dir c.child.result _ _
-    sound held c.in-Some.ensures c.if-not-is_writable.ensures c.in_ok-dir.ensures c.child.ensures c.if-is_some.ensures (sym c.if-read_only.false)
+    sound held c.in-Some.ensures c.if-not-writable_bytes.ensures c.in_ok-dir.ensures c.child.ensures c.if-is_some.ensures (sym c.if-read_only.false)
 
 pub returns-clause-vacant : goal.returns-clause-vacant
 returns-clause-vacant c =

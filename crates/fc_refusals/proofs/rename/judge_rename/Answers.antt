@@ -16,53 +16,53 @@ pub returns-in_err-n-clause-refusal : goal.returns-in_err-n-clause-refusal
 returns-in_err-n-clause-refusal c = λ image layout listings sound held.
     let is : refusal_of c.from_residual.result ≡ Some c.in_err-n.field-0.0 = search rules in
     is ∙ from_refused layout listings (nodes_of c.args.tree.now) c.args.from.now c.args.to.now c.in-Some.name.now sound held c.in-Some.ensures
-    image c.args.form c.args.read_only c.if-not-is_writable.ensures c.in_err-n.field-0.0 c.in_err-n.ensures
+    image c.args.form c.args.read_only c.if-not-writable_bytes.ensures c.in_err-n.field-0.0 c.in_err-n.ensures
 
 pub returns-in_err-dir-clause-refusal : goal.returns-in_err-dir-clause-refusal
 returns-in_err-dir-clause-refusal c = λ image layout listings sound held.
     let is : refusal_of c.from_residual-in_err-dir.result ≡ Some c.in_err-dir.field-0.0 = search rules in
     is ∙ holder_refused layout listings (nodes_of c.args.tree.now) c.args.from.now c.args.to.now c.in-Some.name.now sound held c.in-Some.ensures
-    image c.args.form c.args.read_only c.if-not-is_writable.ensures c.in_ok-n.n c.in_ok-n.ensures c.in_err-dir.field-0.0 c.in_err-dir.ensures
+    image c.args.form c.args.read_only c.if-not-writable_bytes.ensures c.in_ok-n.n c.in_ok-n.ensures c.in_err-dir.field-0.0 c.in_err-dir.ensures
 
 pub returns-then-is_other-clause-refusal : goal.returns-then-is_other-clause-refusal
 returns-then-is_other-clause-refusal c = λ image layout listings sound held.
     rename_refused layout listings (nodes_of c.args.tree.now) c.args.from.now c.args.to.now c.in-Some.name.now sound held c.in-Some.ensures
-    image c.args.form c.args.read_only c.if-not-is_writable.ensures c.in_ok-n.n c.in_ok-n.ensures
+    image c.args.form c.args.read_only c.if-not-writable_bytes.ensures c.in_ok-n.n c.in_ok-n.ensures
     c.in_ok-dir.dir _ (is_root c.args.from.now) (is_above c.args.from.now c.args.to.now) (is_locked_node (nodes_of c.args.tree.now) c.in_ok-n.n) c.args.read_only
     c.in_ok-dir.ensures (c.if-is_other.ensures ∙ ap (λ m. is_other m c.in_ok-n.n) c.child.ensures) refl refl refl refl
 
 pub returns-then-is_root-clause-refusal : goal.returns-then-is_root-clause-refusal
 returns-then-is_root-clause-refusal c = λ image layout listings sound held.
     rename_refused layout listings (nodes_of c.args.tree.now) c.args.from.now c.args.to.now c.in-Some.name.now sound held c.in-Some.ensures
-    image c.args.form c.args.read_only c.if-not-is_writable.ensures c.in_ok-n.n c.in_ok-n.ensures
+    image c.args.form c.args.read_only c.if-not-writable_bytes.ensures c.in_ok-n.n c.in_ok-n.ensures
     c.in_ok-dir.dir _ _ (is_above c.args.from.now c.args.to.now) (is_locked_node (nodes_of c.args.tree.now) c.in_ok-n.n) c.args.read_only
     c.in_ok-dir.ensures (c.if-is_other.ensures ∙ ap (λ m. is_other m c.in_ok-n.n) c.child.ensures) c.if-is_root.ensures refl refl refl
 
 pub returns-then-is_above-clause-refusal : goal.returns-then-is_above-clause-refusal
 returns-then-is_above-clause-refusal c = λ image layout listings sound held.
     rename_refused layout listings (nodes_of c.args.tree.now) c.args.from.now c.args.to.now c.in-Some.name.now sound held c.in-Some.ensures
-    image c.args.form c.args.read_only c.if-not-is_writable.ensures c.in_ok-n.n c.in_ok-n.ensures
+    image c.args.form c.args.read_only c.if-not-writable_bytes.ensures c.in_ok-n.n c.in_ok-n.ensures
     c.in_ok-dir.dir _ _ _ (is_locked_node (nodes_of c.args.tree.now) c.in_ok-n.n) c.args.read_only
     c.in_ok-dir.ensures (c.if-is_other.ensures ∙ ap (λ m. is_other m c.in_ok-n.n) c.child.ensures) c.if-is_root.ensures c.if-is_above.ensures refl refl
 
 pub returns-then-is_locked-clause-refusal : goal.returns-then-is_locked-clause-refusal
 returns-then-is_locked-clause-refusal c = λ image layout listings sound held.
     rename_refused layout listings (nodes_of c.args.tree.now) c.args.from.now c.args.to.now c.in-Some.name.now sound held c.in-Some.ensures
-    image c.args.form c.args.read_only c.if-not-is_writable.ensures c.in_ok-n.n c.in_ok-n.ensures
+    image c.args.form c.args.read_only c.if-not-writable_bytes.ensures c.in_ok-n.n c.in_ok-n.ensures
     c.in_ok-dir.dir _ _ _ _ c.args.read_only
     c.in_ok-dir.ensures (c.if-is_other.ensures ∙ ap (λ m. is_other m c.in_ok-n.n) c.child.ensures) c.if-is_root.ensures c.if-is_above.ensures c.if-is_locked.ensures refl
 
 pub returns-then-read_only-clause-refusal : goal.returns-then-read_only-clause-refusal
 returns-then-read_only-clause-refusal c = λ image layout listings sound held.
     rename_refused layout listings (nodes_of c.args.tree.now) c.args.from.now c.args.to.now c.in-Some.name.now sound held c.in-Some.ensures
-    image c.args.form c.args.read_only c.if-not-is_writable.ensures c.in_ok-n.n c.in_ok-n.ensures
+    image c.args.form c.args.read_only c.if-not-writable_bytes.ensures c.in_ok-n.n c.in_ok-n.ensures
     c.in_ok-dir.dir _ _ _ _ _
     c.in_ok-dir.ensures (c.if-is_other.ensures ∙ ap (λ m. is_other m c.in_ok-n.n) c.child.ensures) c.if-is_root.ensures c.if-is_above.ensures c.if-is_locked.ensures (sym c.if-read_only.true)
 
 pub returns-in-Some-target_in-clause-refusal : goal.returns-in-Some-target_in-clause-refusal
 returns-in-Some-target_in-clause-refusal c = λ image layout listings sound held.
     rename_refused layout listings (nodes_of c.args.tree.now) c.args.from.now c.args.to.now c.in-Some.name.now sound held c.in-Some.ensures
-    image c.args.form c.args.read_only c.if-not-is_writable.ensures c.in_ok-n.n c.in_ok-n.ensures
+    image c.args.form c.args.read_only c.if-not-writable_bytes.ensures c.in_ok-n.n c.in_ok-n.ensures
     c.in_ok-dir.dir _ _ _ _ _
     c.in_ok-dir.ensures (c.if-is_other.ensures ∙ ap (λ m. is_other m c.in_ok-n.n) c.child.ensures) c.if-is_root.ensures c.if-is_above.ensures c.if-is_locked.ensures (sym c.if-read_only.false)
 

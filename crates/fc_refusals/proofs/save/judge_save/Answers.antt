@@ -16,19 +16,19 @@ pub returns-in_err-dir-clause-refusal : goal.returns-in_err-dir-clause-refusal
 returns-in_err-dir-clause-refusal c = λ image layout listings load exec len bytes sound held.
     let is : refusal_of c.from_residual.result ≡ Some c.in_err-dir.field-0.0 = search rules in
     let e = is ∙ holder_refused image layout listings (nodes_of c.args.tree.now) c.args.form c.args.read_only c.args.path.now load exec bytes c.in-Some.name.now
-    sound held c.in-Some.ensures c.if-not-is_writable.ensures c.in_err-dir.field-0.0 c.in_err-dir.ensures in
+    sound held c.in-Some.ensures c.if-not-writable_bytes.ensures c.in_err-dir.field-0.0 c.in_err-dir.ensures in
     (e, e)
 
 pub returns-then-read_only-clause-refusal : goal.returns-then-read_only-clause-refusal
 returns-then-read_only-clause-refusal c = λ image layout listings load exec len bytes sound held.
     let e = new_refused image layout listings (nodes_of c.args.tree.now) c.args.form c.args.read_only c.args.path.now load exec bytes c.in-Some.name.now
-    sound held c.in-Some.ensures c.if-not-is_writable.ensures c.in_ok-dir.dir c.in_ok-dir.ensures _ c.in_default-child.ensures (sym c.if-read_only.true) in
+    sound held c.in-Some.ensures c.if-not-writable_bytes.ensures c.in_ok-dir.dir c.in_ok-dir.ensures _ c.in_default-child.ensures (sym c.if-read_only.true) in
     (e, e)
 
 pub returns-in_default-child-clause-refusal : goal.returns-in_default-child-clause-refusal
 returns-in_default-child-clause-refusal c = λ image layout listings load exec len bytes sound held.
     let e = new_refused image layout listings (nodes_of c.args.tree.now) c.args.form c.args.read_only c.args.path.now load exec bytes c.in-Some.name.now
-    sound held c.in-Some.ensures c.if-not-is_writable.ensures c.in_ok-dir.dir c.in_ok-dir.ensures _ c.in_default-child.ensures (sym c.if-read_only.false) in
+    sound held c.in-Some.ensures c.if-not-writable_bytes.ensures c.in_ok-dir.dir c.in_ok-dir.ensures _ c.in_default-child.ensures (sym c.if-read_only.false) in
     (e, e)
 
 pub returns-in_default-child-clause-slot : goal.returns-in_default-child-clause-slot
@@ -38,28 +38,28 @@ returns-in_default-child-clause-slot c =
 pub returns-then-is_directory-clause-refusal : goal.returns-then-is_directory-clause-refusal
 returns-then-is_directory-clause-refusal c = λ image layout listings load exec len bytes sound held.
     let e = over_refused image layout listings (nodes_of c.args.tree.now) c.args.form c.args.read_only c.args.path.now load exec bytes c.in-Some.name.now
-    sound held c.in-Some.ensures c.if-not-is_writable.ensures c.in_ok-dir.dir c.in_ok-dir.ensures c.in-Some-child.n _ (is_locked_node (nodes_of c.args.tree.now) c.in-Some-child.n) c.args.read_only
+    sound held c.in-Some.ensures c.if-not-writable_bytes.ensures c.in_ok-dir.dir c.in_ok-dir.ensures c.in-Some-child.n _ (is_locked_node (nodes_of c.args.tree.now) c.in-Some-child.n) c.args.read_only
     c.in-Some-child.ensures c.if-is_directory.ensures refl refl in
     (e, e)
 
 pub returns-then-is_locked-clause-refusal : goal.returns-then-is_locked-clause-refusal
 returns-then-is_locked-clause-refusal c = λ image layout listings load exec len bytes sound held.
     let e = over_refused image layout listings (nodes_of c.args.tree.now) c.args.form c.args.read_only c.args.path.now load exec bytes c.in-Some.name.now
-    sound held c.in-Some.ensures c.if-not-is_writable.ensures c.in_ok-dir.dir c.in_ok-dir.ensures c.in-Some-child.n _ _ c.args.read_only
+    sound held c.in-Some.ensures c.if-not-writable_bytes.ensures c.in_ok-dir.dir c.in_ok-dir.ensures c.in-Some-child.n _ _ c.args.read_only
     c.in-Some-child.ensures c.if-is_directory.ensures c.if-is_locked.ensures refl in
     (e, e)
 
 pub returns-then-read_only-2-clause-refusal : goal.returns-then-read_only-2-clause-refusal
 returns-then-read_only-2-clause-refusal c = λ image layout listings load exec len bytes sound held.
     let e = over_refused image layout listings (nodes_of c.args.tree.now) c.args.form c.args.read_only c.args.path.now load exec bytes c.in-Some.name.now
-    sound held c.in-Some.ensures c.if-not-is_writable.ensures c.in_ok-dir.dir c.in_ok-dir.ensures c.in-Some-child.n _ _ _
+    sound held c.in-Some.ensures c.if-not-writable_bytes.ensures c.in_ok-dir.dir c.in_ok-dir.ensures c.in-Some-child.n _ _ _
     c.in-Some-child.ensures c.if-is_directory.ensures c.if-is_locked.ensures (sym c.if-read_only-2.true) in
     (e, e)
 
 pub returns-in-Some-target_in-clause-refusal : goal.returns-in-Some-target_in-clause-refusal
 returns-in-Some-target_in-clause-refusal c = λ image layout listings load exec len bytes sound held.
     let e = over_refused image layout listings (nodes_of c.args.tree.now) c.args.form c.args.read_only c.args.path.now load exec bytes c.in-Some.name.now
-    sound held c.in-Some.ensures c.if-not-is_writable.ensures c.in_ok-dir.dir c.in_ok-dir.ensures c.in-Some-child.n _ _ _
+    sound held c.in-Some.ensures c.if-not-writable_bytes.ensures c.in_ok-dir.dir c.in_ok-dir.ensures c.in-Some-child.n _ _ _
     c.in-Some-child.ensures c.if-is_directory.ensures c.if-is_locked.ensures (sym c.if-read_only-2.false) in
     (e, e)
 

@@ -5,7 +5,7 @@ use borrow.Author.Tests.{tests}
 use Rattle.fc_names.specs.Names.{is_name_before}
 use Rattle.fc_dirs.specs.declared.Entry.{Entry}
 use Rattle.fc_dirs.proofs.SearchLemmas.{place_or_end}
-use Rattle.fc_bigdir.proofs.enter.place_of.Goals as goal
+use Rattle.fc_dirs.proofs.entries.place_of.Goals as goal
 
 pub returns-clause-place : goal.returns-clause-place
 returns-clause-place c =

@@ -5,7 +5,7 @@ use Rattle.std.proofs.lemmas.Iterator.{YieldsList-from_slice}
 use Rattle.std.proofs.lemmas.Iterator.Search.{all_from_yields_List}
 use borrow.Author.Tests.{tests}
 use Rattle.fc_names.specs.Names.{is_writable_byte, name_limit}
-use Rattle.fc_refusals.proofs.names.is_writable.Goals as goal
+use Rattle.fc_names.proofs.name.writable_bytes.Goals as goal
 
 pub returns-then-name-name_limit : goal.returns-then-name-name_limit
 returns-then-name-name_limit c =

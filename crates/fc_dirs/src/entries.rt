@@ -1,0 +1,27 @@
+// Entries, and where they stand among others.
+ghost use Rattle.std.specs.Prelude.{◌≡◌, ◌≤◌, length, IfOk};
+ghost use Rattle.fc_dirs.specs.Entries.{entry_place};
+
+use crate::Entry;
+use fc_device::NoMemory;
+use fc_names::{Name, fold_less};
+
+impl Entry {
+    /// The same entry, with memory for its name.
+    pub fn copied(&self) -> Result<Entry, NoMemory>
+        ensures { IfOk result (λ copy. copy ≡ self.now) }
+    {
+        Ok(self.clone()?)
+    }
+}
+
+/// Where a new entry stands: before the first whose folded name is greater, and else last.
+pub fn place_of(entries: &[Entry], name: &Name) -> usize
+    ensures place { result ≡ entry_place name.now entries.now }
+    ensures within { result ≤ length entries.now }
+{
+    entries
+        .iter()
+        .position(|e| fold_less(name, &e.name))
+        .unwrap_or(entries.len())
+}
