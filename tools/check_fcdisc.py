@@ -101,7 +101,7 @@ class Checks:
         if case.fcore is not None:
             fake = "../fake/fcore"
             if case.fcore:
-                fill(self.place(b"fake"), {b"fcore": case.fcore.encode()})
+                fill(self.place(b"fake"), {b"fcore": case.fcore.replace("FCORE", self.fcore).encode()})
                 os.chmod(self.place(b"fake/fcore"), 0o755)
         out, err, status = self.run(case.words, fake, case.within)
         self.expect(case.name, output=texts(case.out, out), errors=texts(case.err, err), status=(case.status, status),
@@ -274,6 +274,7 @@ def unit_checks(checks):
     checks.expect("sides both ways", back=(sides, parts.to_interleaved(parts.to_disc_order(sides))),
                   there=(fcdisc_cases.interleaved_back(sides), parts.to_disc_order(sides)))
     publish_without_links(checks)
+    unread_copy(checks)
     for host, is_directory, wanted in (
             (b"README.txt", False, (b"README/txt", None, None)), (b"Prog,FFB", False, (b"Prog", 0xFFB, None)),
             (b"a,0000ABCD-12345678", False, (b"a", None, (0xABCD, 0x12345678))), (b"a,ffb", True, (b"a,ffb", None, None)),
@@ -307,6 +308,18 @@ def publish_without_links(checks):
     finally:
         os.link = link
     checks.expect("no hard links", left=({b"name": b"first"}, snapshot(made)))
+
+
+def unread_copy(checks):
+    """A copy that can't be read has no name to be told."""
+    from fcdisc_lib import images as parts, messages
+    told = ""
+    with open(os.open(os.path.join(checks.fresh(b"work"), b"x"), os.O_WRONLY | os.O_CREAT), "rb") as file:
+        try:
+            parts.read_at(file, 0, 1)
+        except messages.Trouble as trouble:
+            told = str(trouble)
+    checks.expect("a copy that can't be read", told=("a copy of the image: Bad file descriptor", told))
 
 
 # ---- a host that takes capitals for small letters
@@ -419,7 +432,7 @@ def run_all(checks, changes_alone):
 
 def run_reading(checks, files, extra, mounts):
     for case in fcdisc_cases.all_cases(files, extra):
-        if case.name != "extract-full-disk" or mounts:
+        if mounts or not case.name.endswith("-full-disk"):
             checks.case(case)
         else:
             print("fcdisc %s: left out, since nothing can be mounted here" % case.name)

@@ -147,16 +147,17 @@ def remove(words: Namespace) -> int:
     program, paths = find_program(), [not_root(text) for text in words.path]
     with Edit(program, words) as edit:
         listings = read_listings(edit, paths)
+        progress = Progress("directories read", edit.counts["dirs"])
         gone: Dict[Path, None] = {}
         for path, (entries, _) in zip(paths, listings):
-            inner = entries_below(edit, program, path, entries) if words.r and entries else []
+            inner = entries_below(edit, path, entries, progress) if words.r and entries else []
             gone.update(dict.fromkeys(entry.path for entry in inner[::-1]))
             gone[path] = None
         edit.change(Step(command("delete", path), path, "not removed") for path in gone)
         return edit.finish()
 
 
-def entries_below(edit: Edit, program: str, path: Path, entries: List[Entry]) -> List[Entry]:
+def entries_below(edit: Edit, path: Path, entries: List[Entry], progress: Progress) -> List[Entry]:
     """All that is in a directory, each object after the directory that holds it."""
     tree = Tree(edit.image, path)
     tree.entries[path] = entries
@@ -164,7 +165,7 @@ def entries_below(edit: Edit, program: str, path: Path, entries: List[Entry]) ->
     while level:
         if len(level[0].path) > MAX_DEPTH:
             raise edit.trouble("%s has directories more than %d deep" % (spelled_path(path), MAX_DEPTH))
-        level = read_level(program, tree, level, Progress("directories read", 0))
+        level = read_level(edit.program, tree, level, progress)
     return list(tree.walk())
 
 

@@ -7,7 +7,7 @@ import tempfile
 from typing import BinaryIO, Callable, Iterator, List, Optional, Tuple, TypeVar
 
 from .messages import Trouble, reason, shown, tell
-from .program import BadImage, Run
+from .program import READ_ONLY, BadImage, Run
 
 TRACK = 4096  # bytes of a track of an L disc: 16 sectors of 256 bytes
 TRACKS = 80  # on each of two sides
@@ -57,7 +57,9 @@ def read_at(file: BinaryIO, at: int, length: int) -> bytes:
         file.seek(at)
         return file.read(length)
     except OSError as error:
-        raise Trouble("%s: %s" % (shown(file.name), reason(error))) from None
+        # a file that was opened by a number, or has no name, is a copy
+        name = file.name if isinstance(file.name, str) else "a copy of the image"
+        raise Trouble("%s: %s" % (shown(name), reason(error))) from None
 
 
 def pieces_from(file: BinaryIO, start: int) -> Iterator[bytes]:
@@ -111,7 +113,7 @@ class Image:
     def run(self, program: str, script: bytes) -> Run:
         """A run that only reads. The name is that of an open file, so that every run of a job is over the same one."""
         number = self.file.fileno()
-        return Run(program, self.path, ["--read-only", "--", "/dev/fd/%d" % number], script, [number])
+        return Run(program, self.path, [READ_ONLY, "--", "/dev/fd/%d" % number], script, [number])
 
 
 def interleaved_image(path: str, file: BinaryIO) -> Image:

@@ -35,8 +35,12 @@ def refusal(refused: Refused, words: Namespace) -> Trouble:
 
 def not_accepted(path: str, fault: BadImage) -> str:
     """The fault in words."""
-    with open_file(path) as file:
-        return "%s: not accepted: %s" % (shown(path), explained(fault.words, read_at(file, 0, 16)))
+    try:
+        with open_file(path) as file:
+            head = read_at(file, 0, 16)
+    except Trouble:  # it can't be read any more, and fcore has said what is wrong
+        head = b""
+    return "%s: not accepted: %s" % (shown(path), explained(fault.words, head))
 
 
 # ---- list

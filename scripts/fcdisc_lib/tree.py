@@ -61,7 +61,10 @@ def read_level(program: str, tree: Tree, level: List[Entry], progress: Progress)
     for script, directories in batches("cat", level):
         with tree.image.run(program, script) as run:
             for directory in directories:
-                entries = tree.entries[directory.path] = run.cat(directory.path)
+                try:
+                    entries = tree.entries[directory.path] = run.cat(directory.path)
+                except Refused:  # it was listed
+                    raise run.changed() from None
                 found += [entry for entry in entries if entry.is_directory]
                 progress.step()
     return found
