@@ -10,7 +10,8 @@ from contextlib import ExitStack, contextmanager, nullcontext, suppress
 from typing import BinaryIO, Callable, Dict, Iterable, Iterator, List, NamedTuple, Optional, Set, TypeVar
 
 from . import names
-from .images import (AS_IT_IS, HEADER, L_SIZE, SIDES, Image, copy, has_l_size, open_file, open_image, pieces_from, read_at,
+from .faults import refusal_explained
+from .images import (AS_IT_IS, HEADER, L_SIZE, SIDES, Image, copy, has_doubtful_order, open_file, open_image, pieces_from, read_at,
                      to_interleaved)
 from .listing import counted
 from .messages import FAILED, Trouble, reason, shown, tell
@@ -22,17 +23,6 @@ SIGNALS = (signal.SIGINT, signal.SIGTERM, signal.SIGHUP)
 NEW_COPY = os.O_RDWR | os.O_CREAT | os.O_EXCL | os.O_NOFOLLOW
 NOT_ADDED = "not added"
 SHORT_NAME = 10  # bytes of the longest name on a disc without big directories
-
-# Why fcore refused a line
-REASONS = {
-    "NotFound": "there is no such object on the disc", "NotDirectory": "a file stands where a directory has to",
-    "IsDirectory": "a directory has its name", "Exists": "there is something of this name on the disc already",
-    "RootRefused": "the root directory stays as it is", "IntoItself": "a directory can't be moved into itself",
-    "Locked": "it is locked: use access first", "NotEmpty": "there is something in the directory: use rm -r",
-    "ReadOnly": "the disc is only read", "DirFull": "the directory is full", "IdsFull": "the disc has no room for another object",
-    "DiscFull": "the disc is full", "CompactionRequired": "no piece of the disc's free space is long enough: use compact first",
-    "MapFull": "the list of free space is full: use compact first",
-}
 
 
 class Step(NamedTuple):
@@ -53,12 +43,8 @@ class Failure(NamedTuple):
 # ---- lines of scripts
 
 
-def spelled(path: Path) -> bytes:
-    return names.spelled_path(path).encode("ascii")
-
-
 def save_line(path: Path, load: int, execution: int, content: bytes) -> bytes:
-    return b"save %s %08x %08x %s\n" % (spelled(path), load, execution, content.hex().encode("ascii") or b"-")
+    return b"save %s %08x %08x %s\n" % (names.path_bytes(path), load, execution, content.hex().encode("ascii") or b"-")
 
 
 def longest_content(path: Path) -> int:
@@ -68,14 +54,14 @@ def longest_content(path: Path) -> int:
 
 def set_line(path: Path, load: int, execution: int, attributes: int) -> bytes:
     access = "".join(letter for bit, letter in ((1, "R"), (2, "W"), (4, "L")) if attributes & bit)
-    return b"set %s %08x %08x %s\n" % (spelled(path), load, execution, access.encode("ascii") or b"-")
+    return b"set %s %08x %08x %s\n" % (names.path_bytes(path), load, execution, access.encode("ascii") or b"-")
 
 
 def why(path: Path, name: str) -> str:
     """A refusal in words."""
     if name == "BadName":
         return name_fault(path[-1])
-    return REASONS.get(name, "fcore refuses it: " + name)
+    return refusal_explained(name)
 
 
 def name_fault(name: bytes) -> str:
@@ -95,6 +81,7 @@ class Edit:
     """An image while it is changed. Used by `with`; without `finish` it stays as it was, unless it is changed in place."""
 
     image: Image
+    counts: Dict[str, int]  # the reply to `check`
 
     def __init__(self, program: str, words: Namespace):
         self.program, self.name, self.order, self.in_place = program, words.image, words.order, words.in_place
@@ -126,7 +113,8 @@ class Edit:
         self.image, (self.counts, result) = open_image(self.program, self.path, self.order, b"check\n" + script,
                                                        lambda run: (run.check(), read(run)), self.name)
         self.stack.callback(self.image.file.close)
-        if self.order == "auto" and self.counts["dirs"] == 1 and self.counts["files"] and has_l_size(self.image.file):
+        # the name doesn't decide here, as it does where the disc is only read
+        if has_doubtful_order(self.image, self.order, self.counts):
             raise self.trouble("nothing shows whether its sides are interleaved, and in the wrong order a change would spoil "
                                "files: say --order disc or --order adl")
         return result

@@ -4,7 +4,7 @@ from __future__ import annotations
 import os
 import stat
 import tempfile
-from typing import BinaryIO, Callable, Iterator, List, Optional, Tuple, TypeVar
+from typing import BinaryIO, Callable, Dict, Iterator, List, Optional, Tuple, TypeVar
 
 from .messages import Trouble, reason, shown, tell
 from .program import READ_ONLY, BadImage, Run
@@ -85,6 +85,11 @@ def copy(source: BinaryIO, start: int, target: BinaryIO) -> None:
 def has_l_size(file: BinaryIO) -> bool:
     """Whether it is as long as an L disc, and its first sector, which is the same in both orders, says so too."""
     return size_of(file) >= L_SIZE and int.from_bytes(read_at(file, 252, 3), "little") * 256 == L_SIZE
+
+
+def has_doubtful_order(image: Image, order: str, counts: Dict[str, int]) -> bool:
+    """Whether it is an L disc with files and no directories, by the counts of `check`. It opens in either order of its sides."""
+    return order == "auto" and counts["dirs"] == 1 and counts["files"] > 0 and has_l_size(image.file)
 
 
 def to_disc_order(interleaved: bytes) -> bytes:

@@ -222,7 +222,7 @@ def read_entry(directory: Path, line: bytes) -> Entry:
 
 def command(word: str, path: Path) -> bytes:
     """A line of a script."""
-    return b"%s %s\n" % (word.encode("ascii"), names.spelled_path(path).encode("ascii"))
+    return b"%s %s\n" % (word.encode("ascii"), names.path_bytes(path))
 
 
 def batches(word: str, entries: Iterable[Entry]) -> Iterator[Tuple[bytes, List[Entry]]]:
