@@ -5,8 +5,9 @@ usage: tools/bench_changes.py PROGRAM [FILES [OBJECTS]]    10,000 files, and 50,
 
 Files of 100 bytes are saved in one script into 100 directories of a disc with big directories, into one after another, and then, on
 another disc, into all in turn. At a tenth of the files and at all of them, and then over discs of 1,000 directories and 50,000 files
-(tools/large_image.py), with small directories and with big ones, each command is run LINES times in one script: the processor time beside that of an empty script, each the least of ROUNDS rounds,
-and the calls of the system beside its calls, by strace or, without it, by the recorder of tools/check_outside.c, both a command.
+(tools/large_image.py), with small directories and with big ones, each command is run LINES times in one script: the processor time
+beside that of an empty script, each the least of ROUNDS rounds, and the calls of the system beside its calls, by strace or, without
+it, by the recorder of tools/check_outside.c, both a command.
 Between them files are made in one directory, which grows, and files are moved into one.
 """
 import os
@@ -16,7 +17,7 @@ import subprocess
 import sys
 import tempfile
 
-from check_crash import TOOLS
+from files import built_shim
 from fragmented import hard_disc
 from large_image import SparseFile, with_directories
 
@@ -30,10 +31,7 @@ class Bench:
     def __init__(self, program, folder):
         self.program, self.folder = os.path.realpath(program), folder
         self.work = os.path.join(folder, "work")
-        self.shim = os.path.join(folder, "shim.so")
-        if not shutil.which("strace"):
-            subprocess.run([os.environ.get("CC", "cc"), "-O2", "-shared", "-fPIC", "-o", self.shim, os.path.join(TOOLS, "check_outside.c")],
-                           check=True)
+        self.shim = None if shutil.which("strace") else built_shim(folder)
 
     def seconds(self, image, script):
         """How many seconds of a processor a script takes over the image, which it changes."""
@@ -47,7 +45,7 @@ class Bench:
     def calls(self, image, script):
         """How many calls of the system it makes."""
         counts = os.path.join(self.folder, "calls")
-        traced = shutil.which("strace")
+        traced = self.shim is None
         words = ["strace", "-f", "-c", "-o", counts, self.program, image] if traced else [self.program, image]
         others = {} if traced else {"env": {"LD_PRELOAD": self.shim, "OUTSIDE_LOG": counts}}
         subprocess.run(words, input=script, stdout=subprocess.DEVNULL, check=True, **others)
@@ -126,8 +124,8 @@ def many_files(bench, image, files):
 
 
 def full_directories(bench, image, files):
-    """Files of 100 bytes saved into one of 100 directories after another, every tenth first, and the commands in those ten at a tenth of the
-    files and at all of them: only the disc has more files then, and no directory in which a command works."""
+    """Files of 100 bytes saved into one of 100 directories after another, every tenth first, and the commands in those ten at a tenth
+    of the files and at all of them: only the disc has more files then, and no directory in which a command works."""
     empty_disc(image)
     each, done = files // DIRECTORIES, 0
     chosen = list(range(0, DIRECTORIES, DIRECTORIES // 10))
@@ -143,7 +141,8 @@ def full_directories(bench, image, files):
 
 
 def one_directory(bench, image, files):
-    """Files of 0 bytes in one directory, which grows at every fiftieth; and files that share identifiers, and so are copied, moved into one."""
+    """Files of 0 bytes in one directory, which grows at every fiftieth; and files that share identifiers, and so are copied, moved into
+    one."""
     empty_disc(image)
     for first, last in ((0, files // 20), (files // 20, files // 5)):
         lines = ["create $.D0.File%05d %s 0" % (at, WORDS) for at in range(first, last)]

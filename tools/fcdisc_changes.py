@@ -15,6 +15,7 @@ import fcdisc_cases
 import images
 from change_state import State
 from filecore import NOT_SPELLED, spelled_path
+from files import TOOLS, read
 
 SETTABLE = 15
 LOST = "lost what others than the owner may do: fcore can't set that"
@@ -31,11 +32,6 @@ def tree_of(data):
 def short_tree(data):
     """As `tree_of`, by spelled paths, and without words: a file's access and bytes, a directory's access."""
     return {spelled_path(path): (node[0], node[3]) if node[3] is not None else node[0] & ~8 for path, node in tree_of(data).items()}
-
-
-def read(path):
-    with open(path, "rb") as file:
-        return file.read()
 
 
 class Changes:
@@ -379,7 +375,7 @@ DENIED = "fcdisc: a.adf: its changed copy can't take its name (Permission denied
 
 def on_host(host):
     """The words before those of fcdisc."""
-    return "exec python3 '%s' %s \"$@\"" % (os.path.join(os.path.dirname(os.path.realpath(__file__)), "fcdisc_hosts.py"), host)
+    return "exec python3 '%s' %s \"$@\"" % (os.path.join(TOOLS, "fcdisc_hosts.py"), host)
 
 
 def other_hosts(c):
