@@ -5,9 +5,8 @@ usage: tools/bench_changes.py PROGRAM [FILES [OBJECTS]]    10,000 files, and 50,
 
 Files of 100 bytes are saved in one script into 100 directories of a disc with big directories, into one after another, and then, on
 another disc, into all in turn. At a tenth of the files and at all of them, and then over discs of 1,000 directories and 50,000 files
-(tools/large_image.py), with small directories and with big ones, each command is run LINES times in one script: the processor time
-beside that of an empty script, each the least of ROUNDS rounds, and the calls of the system beside its calls, by strace or, without
-it, by the recorder of tools/check_outside.c, both a command.
+(tools/large_image.py), with small directories and with big ones, each command is run LINES times in one script: the processor time beside that of an empty script, each the least of ROUNDS rounds,
+and the calls of the system beside its calls, by strace or, without it, by the recorder of tools/check_outside.c, both a command.
 Between them files are made in one directory, which grows, and files are moved into one.
 """
 import os

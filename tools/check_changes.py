@@ -10,8 +10,7 @@ Commands are drawn by chance over the image as it stands, and run one by one, fo
 The reply has to be that of [Answer] and [Short] over the image before; the image after has to be one that [Placed] and [Steady]
 allow (tools/change_effects.py), and the program has to say of it what tools/read_image.py says. Then the whole script runs
 over the first image at once; with --batch it runs at once only. --old takes old maps in place of new ones. --only draws these
-commands alone. Few images are spread over the kinds of discs. --table counts replies and events. The first difference ends a disc:
-the script is printed, and the images are kept. Exit status 1 if there is any.
+commands alone. Few images are spread over the kinds of discs. --table counts replies and events. The first difference ends a disc: the script is printed, and the images are kept. Exit status 1 if there is any.
 """
 import argparse
 import collections
