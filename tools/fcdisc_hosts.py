@@ -3,10 +3,10 @@
 
 usage: tools/fcdisc_hosts.py HOST,.. FCDISC WORDS...
 
-HOST is `no-links`, where a file can't have two names; `early-signal`, where a signal comes when the image is to get a second
-name; `signal`, where one comes before a file takes the place of another; `denied`, where nothing may take the image's name; or
-`terminal`, where messages go to a terminal and each step of a job takes its time. The file ../seen gets a line before and after
-a file takes the place of another: the digest of what the image's name, a.adf, leads to.
+HOST is `no-links`: a file can't have two names; `early-signal`: a signal comes when the image is to get a second name; `signal`: one
+comes before a file takes the place of another; `denied`: nothing may take the image's name; or `terminal`: messages go to a terminal,
+and each step of a job takes its time. The file ../seen gets a line before and after a file takes the place of another: the digest of
+what the image's name, a.adf, leads to.
 """
 import errno
 import hashlib

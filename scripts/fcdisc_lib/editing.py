@@ -113,7 +113,7 @@ class Edit:
         self.image, (self.counts, result) = open_image(self.program, self.path, self.order, b"check\n" + script,
                                                        lambda run: (run.check(), read(run)), self.name)
         self.stack.callback(self.image.file.close)
-        # the name doesn't decide here, as it does where the disc is only read
+        # the name doesn't decide here, as it does if the disc is only read
         if has_doubtful_order(self.image, self.order, self.counts):
             raise self.trouble("nothing shows whether its sides are interleaved, and in the wrong order a change would spoil "
                                "files: say --order disc or --order adl")
@@ -204,7 +204,7 @@ class Edit:
         return self.copy_name
 
     def second_name(self, stack: ExitStack, holder: Folder) -> bytes:
-        """A temporary name of the image as it was; or of a copy of it, where a file can't have two names."""
+        """A temporary name of the image as it was; or of a copy of it, if a file can't have two names here."""
         second = stack.enter_context(TemporaryName(holder))
         try:
             os.link(split_path(self.path)[1], second, src_dir_fd=holder.number, dst_dir_fd=holder.number, follow_symlinks=False)

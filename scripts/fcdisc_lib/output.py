@@ -154,7 +154,7 @@ class NewFile(TemporaryName):
 
 @contextmanager
 def published(path: str, make: Callable[[Folder], TemporaryName] = TemporaryName) -> Iterator[Tuple[Folder, bytes]]:
-    """A temporary name and its folder, for a file that gets the path's name at the end. Trouble if something has that name."""
+    """A folder and a temporary name in it, for a file that gets the path's name at the end. Trouble if it can't, or something has it."""
     folder, name = split_path(path)
     try:
         with Folder.at(folder) as holder, make(holder) as temporary:
