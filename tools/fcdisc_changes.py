@@ -341,10 +341,19 @@ def other_programs(c):
         c.refused("fcore " + name, words, "a.adf: %s: nothing was changed" % error, fcore=fcore)
         c.refused("fcore %s in place" % name, [words[0], "--in-place", *words[1:]],
                   "a.adf: %s: it was changed in place, and may be damaged: use check" % error, fcore=fcore)
+
+
+def programs_that_go(c):
+    """fcore can't be run any more when the disc is to be changed."""
+    c.start(files={"note": b"Hello"})
     for place in ([], ["--in-place"]):
         gone = c.fake('#!/bin/sh\nrm "$0"\nexec FCORE "$@"\n')
-        c.refused("fcore can't be run a second time %s" % place, [words[0], *place, *words[1:]],
+        c.refused("fcore can't be run a second time %s" % place, ["put", *place, "a.adf", "note", "$.N"],
                   "%s can't be run: No such file or directory" % os.fsdecode(c.checks.place(b"fake/fcore")), fcore=gone)
+
+
+def removing_levels(c):
+    """What is told while the levels of directories are read."""
     c.start("l-files.adf")
     c.refused("rm -r of a directory that is gone when it is read", ["rm", "-r", "a.adf", "Outer"],
               "a.adf: " + fcdisc_cases.CHANGED, fcore=c.fake(fcdisc_cases.GONE))
@@ -502,7 +511,7 @@ def converting(c):
 def run_all(checks, mounts):
     c = Changes(checks)
     for part in (putting, moving, removing, over_big_directories, over_old_maps, squashing, forms, adding, adding_somewhere,
-                 adding_much, troubles, other_programs, other_hosts, signals, converting):
+                 adding_much, troubles, other_programs, programs_that_go, removing_levels, other_hosts, signals, converting):
         part(c)
     if mounts:
         no_room(c)
