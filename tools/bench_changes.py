@@ -16,7 +16,7 @@ import subprocess
 import sys
 import tempfile
 
-from check_crash import TOOLS
+from files import built_shim
 from fragmented import hard_disc
 from large_image import SparseFile, with_directories
 
@@ -30,10 +30,7 @@ class Bench:
     def __init__(self, program, folder):
         self.program, self.folder = os.path.realpath(program), folder
         self.work = os.path.join(folder, "work")
-        self.shim = os.path.join(folder, "shim.so")
-        if not shutil.which("strace"):
-            subprocess.run([os.environ.get("CC", "cc"), "-O2", "-shared", "-fPIC", "-o", self.shim, os.path.join(TOOLS, "check_outside.c")],
-                           check=True)
+        self.shim = None if shutil.which("strace") else built_shim(folder)
 
     def seconds(self, image, script):
         """How many seconds of a processor a script takes over the image, which it changes."""
@@ -47,7 +44,7 @@ class Bench:
     def calls(self, image, script):
         """How many calls of the system it makes."""
         counts = os.path.join(self.folder, "calls")
-        traced = shutil.which("strace")
+        traced = self.shim is None
         words = ["strace", "-f", "-c", "-o", counts, self.program, image] if traced else [self.program, image]
         others = {} if traced else {"env": {"LD_PRELOAD": self.shim, "OUTSIDE_LOG": counts}}
         subprocess.run(words, input=script, stdout=subprocess.DEVNULL, check=True, **others)

@@ -13,7 +13,8 @@ import sys
 import tempfile
 import time
 
-from check_crash import SYNC, TOOLS
+from check_crash import SYNC
+from files import built_shim
 from fragmented import Fragmenter, hard_disc
 from large_image import SparseFile
 
@@ -66,8 +67,8 @@ def copying(path, moved, syncs):
 def main(program):
     program = os.path.realpath(program)
     with tempfile.TemporaryDirectory(dir=os.getcwd()) as folder:
-        shim, image, work, record = (os.path.join(folder, name) for name in ("shim.so", "image", "work", "record"))
-        subprocess.run([os.environ.get("CC", "cc"), "-O2", "-shared", "-fPIC", "-o", shim, os.path.join(TOOLS, "check_outside.c")], check=True)
+        image, work, record = (os.path.join(folder, name) for name in ("image", "work", "record"))
+        shim = built_shim(folder)
         for most_bits, directories in ((32, 40), (2, 400)):
             runs = disc(image, most_bits, directories)
             shutil.copyfile(image, work)

@@ -2,8 +2,8 @@
 
 The refusals 1 to 11 and the tree are `answer` of fc_model, the refusals 12 to 16 and the needs are `short` of fc_image::effects.
 """
-from change_state import MAP_OWNER, head_space, key_of, name_space, same_name, size_for
-from filecore import BIG_LIMIT
+from change_state import MAP_OWNER, key_of, same_name, size_for
+from filecore import BIG_LIMIT, head_space, name_space
 from read_image import read_line
 
 WORDS = ["", "BadCommand", "BadName", "NotFound", "NotDirectory", "IsDirectory", "Exists", "RootRefused", "IntoItself", "Locked",

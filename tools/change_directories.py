@@ -4,8 +4,8 @@ fc_image::effects).
 If the rules leave a choice (a heap packed or appended to, the padding of names that were there, the last mark of a small
 directory, the length of a small directory in an entry that a command names), each allowed form passes.
 """
-from change_state import head_space, name_in, name_space, same_name, size_for
-from filecore import folded, spelled_path
+from change_state import name_in, same_name, size_for
+from filecore import folded, head_space, name_space, padded, spelled_path
 
 NEW_WORDS = {"D": b"Nick", "L": b"Hugo", "big": b"SBPr"}
 
@@ -115,10 +115,6 @@ def new_name(change, key):
     return change.c.paths[1][-1] if change.c.word == "rename" and key == change.c.key() else None
 
 
-def padded(name, size):
-    return (name + b"\r" if len(name) < size else name).ljust(size, b"\0")
-
-
 def small_name_fault(change, key, old, new):
     """A renamed directory has its new name; another keeps its field, or has the same name padded anew."""
     name = new_name(change, key)
@@ -136,7 +132,7 @@ def small_differences(change, key, old, new):
     return found
 
 
-def heap_sizes(change, key, old, new, count):
+def heap_sizes(change, key, old, count):
     """The least and the greatest heap, and whether only these two will do."""
     names = [entry.name for entry in change.after.objects[change.key_after(key)].entries]
     packed, kept = sum(name_space(name) for name in names), len(old.heap)
@@ -147,7 +143,7 @@ def heap_sizes(change, key, old, new, count):
 
 
 def heap_fault(change, key, old, new, count):
-    least, most, only = heap_sizes(change, key, old, new, count)
+    least, most, only = heap_sizes(change, key, old, count)
     size = len(new.heap)
     if size in (least, most) or not only and min(least, most) <= size <= max(least, most):
         return []

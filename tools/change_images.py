@@ -7,10 +7,10 @@ of the map that differ, and bytes past the disc's end. Free space is filled with
 import random
 
 from change_state import State
-from filecore import folded, zone_check
+from filecore import folded, head_space, zone_check
 from fragmented import SHAPES, Fragmenter, hard_disc
 from images import VOLUMES, full_identifiers, two_holes
-from volumes import FRESH, Directory, File, OldVolume, big_heap, head_space
+from volumes import FRESH, Directory, File, OldVolume, big_heap
 
 TABLE = ("hello", "e-files", "f-files", "e-plus-files", "f-plus-files", "f-user", "e-plus-grown", "scattered-directories", "scattered-big",
          "small-sectors", "large-sectors", "wide-disc")
@@ -94,7 +94,7 @@ def growing_directories(volume, chance, most):
             inner.insert(volume.file(b"File", chance.randbytes(chance.randint(1, 3000))))
     for holder in holders:
         if chance.random() < 0.8:
-            fill_big(volume, chance, holder)
+            fill_big(chance, holder)
 
 
 def growing(make_volume):
@@ -150,11 +150,11 @@ def add_big_directory(volume, chance, holder, name, identifier, units):
     made.holder = holder
     if chance.random() < 0.6:
         add(volume, made, volume.directory(made, b"Inner"))
-    fill_big(volume, chance, made)
+    fill_big(chance, made)
     return max(low, 1) + needed + chance.choice((0, 0, 1, 2))
 
 
-def fill_big(volume, chance, directory):
+def fill_big(chance, directory):
     """Files of 0 bytes until little is left of the directory."""
     while True:
         name = random_name(chance, "big")
@@ -167,7 +167,8 @@ def fill_big(volume, chance, directory):
 
 
 def big_fits(directory, more=0):
-    return 28 + head_space(directory) + 28 * len(directory.entries) + len(big_heap(directory)[0]) + more + 8 <= directory.size
+    head = head_space(directory.form, directory.head_name)
+    return 28 + head + 28 * len(directory.entries) + len(big_heap(directory)[0]) + more + 8 <= directory.size
 
 
 def second_forms(chance):
@@ -206,7 +207,7 @@ def in_the_map(make_volume):
         made.holder = volume.root
         if volume.form == "big":
             add(volume, made, volume.directory(made, b"Inner"))
-            fill_big(volume, chance, made)
+            fill_big(chance, made)
         low += units + chance.randint(0, 1)
         for number in range(chance.randint(1, 3)):
             add(volume, volume.root, File(b"M%d" % number, chance.randbytes(chance.randint(1, shape.share)), 2 * 256 + low + number))

@@ -51,7 +51,8 @@ WORN = [  # a copy with another total than it may have and right checks, one wit
 
 
 def holes_of(*lengths):
-    """A disc of one zone with these holes and lost runs of 16 bits between them: 256 bytes a bit, sectors of 512, runs of 16 bits at least."""
+    """A disc of one zone with these holes and lost runs of 16 bits between them: 256 bytes a bit, sectors of 512, runs of 16 bits at
+    least."""
     size = 256 * (22 + sum(lengths) + 16 * (len(lengths) - 1))
     volume = NewVolume(record_bytes(9, 15, 8, 1, 32, 0x208, size), True)
     volume.take(2, 0, 22)
@@ -191,8 +192,9 @@ ROWS = [(make, script, wanted) for make in FRESH.values() for script, wanted in 
      "ok / " * 62 + "free 815104 815104 / ok / ok / free 813056 811008 / ok"),
     (FRESH["E+"], names(62) + "free\ncreate $.N62 Z Z 0\nfree\ncompact\nfree",
      "ok / " * 62 + "free 815104 815104 / ok / ok / free 813056 811008 / ok / ok / free 813056 813056 / ok"),
-    (full_big_directory, "create $.Full.%s Z Z 0\ncdir $.Full.%s\ncreate $.Full.A Z Z 0\nrename $.Full.A $.Full.%s\nrename $.Full.A $.Full.B\n"
-     "create $.Full.00001%s Z Z 1\ndelete $.Full.00001%s\ncdir $.Full.%s" % (LONG, LONG, LONG, LONG[5:], LONG[5:], LONG),
+    (full_big_directory, "create $.Full.%s Z Z 0\ncdir $.Full.%s\ncreate $.Full.A Z Z 0\nrename $.Full.A $.Full.%s\n"
+     "rename $.Full.A $.Full.B\ncreate $.Full.00001%s Z Z 1\ndelete $.Full.00001%s\ncdir $.Full.%s" % (
+         LONG, LONG, LONG, LONG[5:], LONG[5:], LONG),
      "error 12 DirFull / error 12 DirFull / ok / error 12 DirFull / ok / ok / ok / ok"),
     (FRESH["E+"], "save $.Notes_of_the_second_year Z Z 4142\ncat $", "ok / Notes_of_the_second_year 00000003 00000000 00000000 2 / ok"),
     (FRESH["E"], "save $.Notes_of_the_second_year Z Z 4142\ncat $", "error 2 BadName / ok"),

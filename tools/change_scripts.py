@@ -3,6 +3,7 @@ from change_answer import CHANGING, Command
 from change_images import random_name
 from change_state import State
 from filecore import NOT_SPELLED
+from read_image import READING
 
 MOODS = {  # how often each command is drawn
     "all": dict(save=5, create=5, cdir=3, delete=4, rename=6, set=2),
@@ -11,7 +12,6 @@ MOODS = {  # how often each command is drawn
     "grow": dict(save=2, create=6, cdir=3, delete=1, rename=5, set=1),
     "empty": dict(save=1, create=1, cdir=1, delete=8, rename=3, set=1),
 }
-READING = ("cat", "load", "digest", "free", "check")
 HOSTILE = ("$.", "$..A", "A", "$.%1F", "$.%7", "$.A%", "$.%00", "$.A.", "$.A:B", "$.a*", "$$", "$.%", "$.%2e%2E", "$.A%20B", "$.%7F",
            "$.%E9x")
 LINES = (b"", b"#", b"sav $.A", b"save $.A 0 0 00", b"cdir", b"cdir $.A ", b"create $.A 00000000 00000000 007",

@@ -2,7 +2,7 @@
 
 Written from docs/FORMAT.md with Python's standard library alone; no code is shared with fcore.
 """
-from filecore import SMALL_SIZE, big_directory_check, folded, number
+from filecore import SMALL_SIZE, big_directory_check, folded, head_space, number
 from read_image import Disc, NewMap, cut_name, kind_of
 
 MAP_OWNER = "the map"  # identifier 2 has it as an owner that no entry shows
@@ -10,16 +10,6 @@ TAILS = {  # of small directories: the places of last mark, reserved bytes, pare
     "D": dict(mark=2007, reserved=(2008, 2010), parent=2010, title=(2013, 2032), name=(2032, 2042)),
     "L": dict(mark=1227, reserved=(1260, 1274), parent=1238, title=(1241, 1260), name=(1228, 1238)),
 }
-
-
-def name_space(name):
-    """The bytes that a name takes in the heap of a big directory."""
-    return (len(name) + 4) // 4 * 4
-
-
-def head_space(form, name):
-    """The space of the name in the head of a big directory, in the first or the second form."""
-    return (len(name) + (4 if form == 1 else 3)) // 4 * 4
 
 
 def size_for(head, entries, heap):

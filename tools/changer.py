@@ -4,8 +4,9 @@ It edits a copy of the image in memory and draws by chance what the rules leave 
 tools/change_answer.py. With the name of a fault it does one thing wrong.
 """
 from change_answer import WORDS, low_byte, owed_refusal
-from change_state import head_space, name_space, size_for
-from filecore import folded, old_map_check, put, small_directory_check, big_directory_check, zone_check
+from change_state import size_for
+from filecore import (big_directory_check, folded, head_space, name_space, old_map_check, padded, put, small_directory_check,
+                      zone_check)
 
 FAULTS = {  # and words of the names of the discs over which each is sought first
     "space given back first": "nearly", "shared identifier given back": "shared", "words lost": "", "attributes lost": "table",
@@ -36,10 +37,6 @@ class New:
     def __init__(self, name, attributes, load, execution, length, address):
         self.name, self.attributes, self.load, self.execution = name, attributes, load, execution
         self.length, self.address = length, address
-
-
-def padded(name, size):
-    return (name + b"\r" if len(name) < size else name).ljust(size, b"\0")[:size]
 
 
 class Folder:

@@ -38,8 +38,8 @@ from change_batch import TreeState, batch_differences
 from change_effects import differences
 from change_state import State
 from filecore import spelled_path
+from files import TOOLS
 
-TOOLS = os.path.dirname(os.path.realpath(__file__))
 PROGRAM = os.path.join(TOOLS, "..", "crates", "fcore", "out", "fcore")
 ALL = CHANGING + ("compact",)
 SELF_TEST_SECONDS, MOST_SECONDS = 30, 120

@@ -16,10 +16,10 @@ import subprocess
 import sys
 import tempfile
 
+from files import built_shim
 from format_reader import Bad, Disc
 from fragmented import SHAPES, fragmented
 
-TOOLS = os.path.dirname(os.path.realpath(__file__))
 MOMENTS, CHOICES = 24, 2
 SYNC = (1 << 64) - 1
 
@@ -214,8 +214,7 @@ def look(image, steps, chance):
 def check(program, discs):
     failures, calls = [], 0
     with tempfile.TemporaryDirectory() as folder:
-        shim = os.path.join(folder, "shim.so")
-        subprocess.run([os.environ.get("CC", "cc"), "-O2", "-shared", "-fPIC", "-o", shim, os.path.join(TOOLS, "check_outside.c")], check=True)
+        shim = built_shim(folder)
         names = sorted(SHAPES)
         for seed in range(discs):
             name = names[seed % len(names)]

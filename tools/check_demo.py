@@ -102,7 +102,8 @@ class Demos:
         before = self.image("two.adf")
         status, text = self.run(["two.adf", "--read-only"], demo_script(count))
         line, wanted = summary(count, text)
-        self.expect("--read-only --demo %d over %s" % (count, form), (wanted, line), self.run(["--read-only", "--demo", str(count), "two.adf"]))
+        answer = self.run(["--read-only", "--demo", str(count), "two.adf"])
+        self.expect("--read-only --demo %d over %s" % (count, form), (wanted, line), answer)
         self.expect("--read-only --demo %d over %s: the image" % (count, form), before, self.image("two.adf"))
 
     def others(self):

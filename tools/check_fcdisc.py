@@ -19,6 +19,7 @@ import fcdisc_changes
 import images
 import readme_examples
 from filecore import folded, spelled
+from files import TOOLS, read
 
 LONGEST = 255
 
@@ -50,8 +51,7 @@ def snapshot(folder):
             elif os.path.isdir(path):
                 found[os.path.relpath(path, folder)] = None
             else:
-                with open(path, "rb") as file:
-                    found[os.path.relpath(path, folder)] = file.read()
+                found[os.path.relpath(path, folder)] = read(path)
     return found
 
 
@@ -101,7 +101,7 @@ class Checks:
         if case.fcore is not None:
             fake = "../fake/fcore"
             if case.fcore:
-                fill(self.place(b"fake"), {b"fcore": case.fcore.encode()})
+                fill(self.place(b"fake"), {b"fcore": case.fcore.replace("FCORE", self.fcore).encode()})
                 os.chmod(self.place(b"fake/fcore"), 0o755)
         out, err, status = self.run(case.words, fake, case.within)
         self.expect(case.name, output=texts(case.out, out), errors=texts(case.err, err), status=(case.status, status),
@@ -188,7 +188,7 @@ def accepted_disc(checks, name, volume):
 # ---- all images at once
 
 
-def found_lines(files):
+def found_lines():
     """What `check` has to say of the images that aren't damaged: a beginning, by their names."""
     damaged = {name for name, data, line in damaged_images.damaged()}
     for name, volume, data in images.accepted():
@@ -203,7 +203,7 @@ def folder_of_images(checks, files):
     out, err, status = checks.run(["check", "../images"])
     lines = dict(line[len("../images/"):].split(": ", 1) for line in out.splitlines())
     checks.expect("check of a folder", status=(1, status), names=(sorted(files), sorted(lines)))
-    for name, text in found_lines(files):
+    for name, text in found_lines():
         checks.expect("check of " + name, line=(text, lines.get(name, "")[:len(text)]))
     for name, data, fault in damaged_images.damaged():
         line = lines.get(name + ".adf", "")
@@ -274,6 +274,7 @@ def unit_checks(checks):
     checks.expect("sides both ways", back=(sides, parts.to_interleaved(parts.to_disc_order(sides))),
                   there=(fcdisc_cases.interleaved_back(sides), parts.to_disc_order(sides)))
     publish_without_links(checks)
+    unread_copy(checks)
     for host, is_directory, wanted in (
             (b"README.txt", False, (b"README/txt", None, None)), (b"Prog,FFB", False, (b"Prog", 0xFFB, None)),
             (b"a,0000ABCD-12345678", False, (b"a", None, (0xABCD, 0x12345678))), (b"a,ffb", True, (b"a,ffb", None, None)),
@@ -309,15 +310,26 @@ def publish_without_links(checks):
     checks.expect("no hard links", left=({b"name": b"first"}, snapshot(made)))
 
 
+def unread_copy(checks):
+    """A copy that can't be read has no name to be told."""
+    from fcdisc_lib import images as parts, messages
+    told = ""
+    with open(os.open(os.path.join(checks.fresh(b"work"), b"x"), os.O_WRONLY | os.O_CREAT), "rb") as file:
+        try:
+            parts.read_at(file, 0, 1)
+        except messages.Trouble as trouble:
+            told = str(trouble)
+    checks.expect("a copy that can't be read", told=("a copy of the image: Bad file descriptor", told))
+
+
 # ---- a host that takes capitals for small letters
 
 
-def folding_host(checks):
-    """Two names that such a host takes for one: both files are there, and one has another name."""
-    from fcdisc_lib import extraction, output, tree
+def folding_folder(number):
+    """The open folder as on such a host: every name is used in small letters."""
+    from fcdisc_lib import output
 
     class FoldingFolder(output.Folder):
-        """Every name is used in small letters, as a host of that kind would find it."""
 
         def inode(self, name):
             return super().inode(small(name))
@@ -334,6 +346,12 @@ def folding_host(checks):
         def below(self, names):
             return super().below(list(map(small, names)))
 
+    return FoldingFolder(number)
+
+
+def folding_host(checks):
+    """Two names that such a host takes for one: both files are there, and one has another name."""
+    from fcdisc_lib import extraction, tree
     volume = images.fresh_e(big=True)
     for name in (b"\xe9t\xe9", b"\xc9t\xe9"):
         volume.root.insert(volume.file(name, b"file " + name, load=0xFFFFFF00))
@@ -344,7 +362,7 @@ def folding_host(checks):
     told = []
     extraction.tell = told.append
     found = tree.read_tree(checks.fcore, os.fsdecode(checks.place(b"images/folding.adf")), "auto", ())
-    with FoldingFolder(os.open(made, os.O_RDONLY)) as folder:
+    with folding_folder(os.open(made, os.O_RDONLY)) as folder:
         job = extraction.Extraction(checks.fcore, found, folder)
         job.run()
     left = {small(name.encode()): data for name, data in (
@@ -419,7 +437,7 @@ def run_all(checks, changes_alone):
 
 def run_reading(checks, files, extra, mounts):
     for case in fcdisc_cases.all_cases(files, extra):
-        if case.name != "extract-full-disk" or mounts:
+        if mounts or not case.name.endswith("-full-disk"):
             checks.case(case)
         else:
             print("fcdisc %s: left out, since nothing can be mounted here" % case.name)
@@ -427,7 +445,7 @@ def run_reading(checks, files, extra, mounts):
         accepted_disc(checks, name, volume)
     folder_of_images(checks, {**files, **extra})
     for page in ("fcore.1", "fcdisc.1"):
-        page_examples(checks, os.path.join(os.path.dirname(os.path.realpath(__file__)), "..", "man", page))
+        page_examples(checks, os.path.join(TOOLS, "..", "man", page))
     unit_checks(checks)
     folding_host(checks)
     interrupted(checks)

@@ -20,9 +20,9 @@ import sys
 import tempfile
 
 from damaged_images import sized
+from files import TOOLS, built_shim, compiler, has_compiler, read
 from volumes import FRESH
 
-TOOLS = os.path.dirname(os.path.realpath(__file__))
 HELLO = os.path.join(TOOLS, "..", "crates", "fcore", "data", "hello.adf")
 SECONDS = 600
 SCRIPT = "load $.hello\nfree\ncheck\ncat $\ndigest $.hello\n"
@@ -40,11 +40,6 @@ class Ended:
 
     def kind(self, *kinds):
         return [call for call in self.calls if call[0] in kinds]
-
-
-def read(path):
-    with open(path, "rb") as file:
-        return file.read()
 
 
 def write(path, content):
@@ -170,7 +165,8 @@ def reads(place):
     """What is read how often: sectors are kept, and what can't be a directory by its length isn't read."""
     volume = FRESH["F"]()
     volume.root.insert(volume.file(b"A", b"A" * 1000))
-    for name, content in (("thousand.adf", volume.image()), ("loads", b"load $.A\n" * 100), ("size-0.adf", sized(0)), ("size-4096.adf", sized(4096))):
+    for name, content in (("thousand.adf", volume.image()), ("loads", b"load $.A\n" * 100), ("size-0.adf", sized(0)),
+                          ("size-4096.adf", sized(4096))):
         write(place.path(name), content)
     ended = place.run([place.path("thousand.adf")], "loads")
     place.expect("loads 1,000 bytes a hundred times", ended, 0, output=(b"41" * 1000 + b"\nok\n") * 100)
@@ -356,9 +352,11 @@ def fault(kind, first, how, last=None):
     return "%s:%d:%d:%s" % (kind, first, last or first, how)
 
 
-def some_of(count):
-    """Numbers from 1 to count: all where they are few, else some forty, with the first and the last."""
-    return sorted({*range(1, count + 1, count // 40 + 1), *range(1, min(count, 3) + 1), *range(max(count - 2, 1), count + 1)})
+def some_of(count, most=44):
+    """Numbers from 1 to count: all if they are few, else about so many, with the first and the last."""
+    if count <= most:
+        return range(1, count + 1)
+    return sorted({1 + at * (count - 1) // (most - 1) for at in range(most)})
 
 
 def disturbed_reading(place, output):
@@ -459,13 +457,11 @@ def limits(place):
 
 def main(program):
     signal.alarm(SECONDS)
-    compiler = os.environ.get("CC", "cc").split()
-    if not shutil.which(compiler[0]):
-        print("outside: left out, no C compiler here (%s): all runs in which the system fails" % compiler[0])
+    if not has_compiler():
+        print("outside: left out, no C compiler here (%s): all runs in which the system fails" % compiler()[0])
         return True
     with tempfile.TemporaryDirectory() as folder:
-        shim = os.path.join(folder, "shim.so")
-        subprocess.run([*compiler, "-O1", "-shared", "-fPIC", "-o", shim, os.path.join(TOOLS, "check_outside.c")], check=True)
+        shim = built_shim(folder)
         place = Place(os.path.realpath(program), shim)
         try:
             shutil.copy(shim, place.path("shim.so"))

@@ -18,7 +18,6 @@ import collections
 import copy
 import os
 import random
-import shutil
 import sys
 import tempfile
 
@@ -27,6 +26,7 @@ import check_changes
 from change_answer import CHANGING, Command
 from check_changes import ALL, Run, Stand, opened, owed_refusal
 from failing_calls import KINDS, LEFT, NAMES, Ended, Script, Shimmed, Wrong, each_call, joined, map_sectors
+from files import has_compiler
 
 LARGEST = 3 << 20  # an image whose calls fail in turn is written again for each
 KINDS_OF_DISCS = [(False, at) for at in range(len(change_images.NEW))] + [(True, at) for at in range(len(change_images.OLD))]
@@ -87,14 +87,13 @@ class Runs:
 
     def all(self):
         options, waiting = self.options, 0
-        has_compiler = bool(shutil.which(os.environ.get("CC", "cc").split()[0]))
-        if options.failing and not has_compiler:
+        if options.failing and not has_compiler():
             print("left out, no C compiler here: the runs with failing calls")
         part, parts = map(int, options.part.split("/"))
         for at in range((part - 1) * options.scripts // parts, part * options.scripts // parts):
             run = self.one(at, options.scripts)
             waiting += -at * options.failing // options.scripts - -(at + 1) * options.failing // options.scripts
-            if waiting and has_compiler and len(run.image) <= LARGEST and not run.read_only:
+            if waiting and has_compiler() and len(run.image) <= LARGEST and not run.read_only:
                 self.failing(run)
                 waiting -= 1
         self.table()

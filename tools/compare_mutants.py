@@ -15,8 +15,8 @@ import tempfile
 import damaged_images
 import images
 import read_image
-from filecore import put, zone_check
-from volumes import OldVolume, fresh_e, fresh_f, fresh_old, head_space, seal_old_map
+from filecore import head_space, put, zone_check
+from volumes import OldVolume, fresh_e, fresh_f, fresh_old, seal_old_map
 
 SCRIPT = b"check\nfree\ncat $\n"
 
@@ -121,7 +121,7 @@ def damage_entry(chance, damage):
     place = damage.place(directory)
     number = chance.randrange(len(directory.entries))
     if volume.form == "big":
-        entry, length, address, size, attributes = place + 28 + head_space(directory) + 28 * number, 8, 12, 4, 16
+        entry, length, address, size, attributes = place + 28 + head_space(directory.form, directory.head_name) + 28 * number, 8, 12, 4, 16
     else:
         entry, length, address, size, attributes = place + 5 + 26 * number, 18, 22, 3, 25 if volume.form == "D" else 3
     way = chance.randrange(5)

@@ -1,6 +1,6 @@
 """Damaged images, each with the line that fcore has to answer: every fault, and which comes first where two stand together."""
 import volumes
-from filecore import BOOT_BLOCK, boot_check, put, small_directory_check, zone_check
+from filecore import BOOT_BLOCK, boot_check, head_space, put, small_directory_check, zone_check
 from volumes import (Directory, File, NewVolume, OldVolume, boot_block, fresh_e, fresh_f, fresh_old, record_bytes,
                      seal_old_map)
 
@@ -336,7 +336,7 @@ def big_entries(entry):
 def big_rechecked(damage, entry):
     place = damage.place(entry)
     block = damage.data[place:place + entry.size]
-    end = 28 + volumes.head_space(entry) + 28 * len(entry.entries) + len(volumes.big_heap(entry)[0])
+    end = 28 + head_space(entry.form, entry.head_name) + 28 * len(entry.entries) + len(volumes.big_heap(entry)[0])
     block[-1] = volumes.big_directory_check(block, end)
     return damage.patch(place, block).data
 

@@ -12,11 +12,11 @@ import check_crash
 from change_answer import Command, owed_refusal
 from change_batch import TreeState
 from change_state import State, changed_sectors
-from check_outside import fault
+from check_outside import fault, some_of
 from filecore import BOOT_BLOCK, BOOT_SIZE, spelled_path
+from files import built_shim, read
 from read_image import Fault
 
-TOOLS = os.path.dirname(os.path.realpath(__file__))
 DISK = ("open", "statx", "pread", "pwrite", "fsync")  # calls of the image: the first write opens it again
 TORN = "torn"  # a write of which half is done: the model of disks has no such failure, and the same has to come of it
 STATUS = {"read": 5, "open": 4, "statx": 4, "pread": 4, "pwrite": 4, TORN: 4, "fsync": 4, "write": 6}
@@ -52,9 +52,7 @@ class Shimmed:
 
     def __init__(self, program, folder):
         self.program, self.image = os.path.realpath(program), os.path.join(folder, "shimmed.adf")
-        self.shim, self.log = os.path.join(folder, "shim.so"), os.path.join(folder, "log")
-        compiler = os.environ.get("CC", "cc").split()
-        subprocess.run([*compiler, "-O1", "-shared", "-fPIC", "-o", self.shim, os.path.join(TOOLS, "check_outside.c")], check=True)
+        self.shim, self.log = built_shim(folder), os.path.join(folder, "log")
         self.left = None  # what the file holds
 
     def run(self, image, script, faults="", is_noted=False):
@@ -66,14 +64,12 @@ class Shimmed:
             environment["OUTSIDE_LOG"] = self.log
         ran = subprocess.run([self.program, self.image], input=script, stdout=subprocess.PIPE, stderr=subprocess.STDOUT, check=False,
                              timeout=MOST_SECONDS, env=environment)
-        with open(self.image, "rb") as file:
-            found = file.read()
+        found = read(self.image)
         self.left = image if found == image else found
         return Ended(ran.returncode, ran.stdout, self.left, self.noted() if is_noted else [])
 
     def noted(self):
-        with open(self.log, "rb") as file:
-            lines = file.read().decode(errors="replace").splitlines()
+        lines = read(self.log).decode(errors="replace").splitlines()
         os.unlink(self.log)
         return [line.split(" ", 3) for line in lines]
 
@@ -244,13 +240,6 @@ def compact_outcome(before, image):
 
 
 # ---- all calls of a script
-
-
-def some_of(count, most):
-    """Numbers from 1 to count: all if they are few, else about so many, with the first and the last."""
-    if count <= most:
-        return range(1, count + 1)
-    return sorted({1 + at * (count - 1) // (most - 1) for at in range(most)})
 
 
 def each_call(script, each, counts):

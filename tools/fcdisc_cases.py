@@ -270,11 +270,11 @@ def extracting_little_room():
     yield Case("extract-full-disk", ["extract", large, "o"], ". ./o\n",
                told("large.adf", "$.Large: not written: No space left on device") + told("large.adf", "0 of 2 files written"),
                1,
-               {b"o": None}, before={b"o": None}, within=FULL_DISK)
+               {b"o": None}, before={b"o": None}, within=FULL_DISK % (48, "mkdir o"))
 
 
-# A disk of 48 kB is mounted where the others don't see it; what is left on it is printed
-FULL_DISK = ('unshare -m sh -c \'mount -t tmpfs -o size=48k none . && cd "$PWD" && mkdir o && "$@"; status=$?; '
+# A disk of so many kB is mounted where the others don't see it, and made ready; what is left on it is printed
+FULL_DISK = ('unshare -m sh -c \'mount -t tmpfs -o size=%dk none . && cd "$PWD" && %s; "$@"; status=$?; '
              'echo $(find . | sort); exit $status\' sh "$@"')
 
 
@@ -346,6 +346,8 @@ def making(files, extra):
     yield Case("new-lower", ["new", "e+", "x.adf"], left={b"x.adf": bytes(files["fresh-E+.adf"])})
     yield Case("new-there", ["new", "E", "x.adf"], err="fcdisc: x.adf: " + THERE + "\n", status=1, before={b"x.adf": b"mine"})
     yield Case("new-no-folder", ["new", "E", "none/x.adf"], err="fcdisc: none/x.adf: No such file or directory\n", status=1)
+    yield Case("new-full-disk", ["new", "E", "x.adf"], ". ./pad\n", "fcdisc: x.adf: %s\n" % WRITE_FAILED, 1, within=FULL_DISK % (
+        16, "head -c 20000 /dev/zero > pad 2> /dev/null"))
     yield Case("new-too-large", ["new", "F", "x.adf"], err="fcdisc: x.adf: ...\n", status=1,
                within='ulimit -f 16; exec "$@"')
     sides, ordered = bytes(extra["sides.adl"]), bytes(files["l-files.adf"])
@@ -399,6 +401,15 @@ START = '#!/bin/sh\nscript=$(cat)\ncase $script in load*) '
 LISTED = ';; *) printf "files 2 dirs 1 lost 0 holes 1 free 0 unsorted 0 parents 0\\nok\\nA 00000003 fffff000 00000000 %d\\n' \
          'B 00000003 fffff000 00000000 1\\nok\\n";; esac\n'
 CHANGED = "fcore's answer isn't what was asked for: did the image change meanwhile?"
+WRITE_FAILED = "I/O error while fcore read or wrote it (is the host full?)"
+# Directories are gone when the next level of them is read
+GONE = """#!/bin/sh
+script=$(cat)
+case $script in
+check*) printf '%s\\n' "$script" | FCORE "$@";;
+*) echo error 3 NotFound; exit 1;;
+esac
+"""
 
 
 def other_programs():
@@ -422,6 +433,11 @@ def other_programs():
             left = {b"o": None, b"o/A,ff0": b"A", b"o/B,ff0": b"B"}
         yield Case("fcore-" + name, ["extract", hello, "o"], err=told("hello.adf", error), status=1, left=left,
                    fcore=START + answer + LISTED % length)
+    names = image("named.adf")
+    for words in (["list", names], ["extract", names, "o"], ["convert", "E", names, "x.adf"]):
+        yield Case("fcore-lists-less-for-" + words[0], words, err=told("named.adf", CHANGED), status=1, fcore=GONE)
+    yield Case("fcore-refuses-what-vanishes", ["list", "x.adf"], err="fcdisc: x.adf: not accepted: %s%s\n" % (NO_KIND, NO_KIND_ADVICE),
+               status=1, before={b"x.adf": b"text"}, left={}, fcore="#!/bin/sh\nrm x.adf; echo bad-image NoKind; exit 3\n")
     yield Case("fcore-is-none", ["list", hello], err="fcdisc: $FCORE is ../fake/fcore, and that can't be run\n", status=1,
                fcore="")
 

@@ -3,7 +3,9 @@
 The trees are read by tools/read_image.py; what has to be on a disc is written here, or follows from the disc that was extracted.
 """
 import fcntl
+import hashlib
 import os
+import re
 import shutil
 import signal
 import stat
@@ -13,6 +15,7 @@ import fcdisc_cases
 import images
 from change_state import State
 from filecore import NOT_SPELLED, spelled_path
+from files import TOOLS, read
 
 SETTABLE = 15
 LOST = "lost what others than the owner may do: fcore can't set that"
@@ -29,11 +32,6 @@ def tree_of(data):
 def short_tree(data):
     """As `tree_of`, by spelled paths, and without words: a file's access and bytes, a directory's access."""
     return {spelled_path(path): (node[0], node[3]) if node[3] is not None else node[0] & ~8 for path, node in tree_of(data).items()}
-
-
-def read(path):
-    with open(path, "rb") as file:
-        return file.read()
 
 
 class Changes:
@@ -141,8 +139,8 @@ def putting(c):
         **NAMED, "$.Run": (3, b"\r\xff"), "$.Link": (3, b"Hello\n")})
 
 
-def ordering(c):
-    """mkdir, mv, access, rm, compact."""
+def moving(c):
+    """mkdir and mv."""
     c.start()
     c.good("mkdir", ["mkdir", "a.adf", "E", "$.E.F"], {**NAMED, "$.E": 0, "$.E.F": 0})
     got = c.run("mkdir", "a.adf", "G", "D", "x.y", "Ab.y")
@@ -163,6 +161,10 @@ def ordering(c):
             ("to nowhere", ["d.Ab", "x.y"], "a.adf: $.x.y: $.d.Ab not moved there: there is no directory for it on the disc")):
         c.refused("mv " + name, ["mv", "a.adf", *words], error)
     c.refused("mv the root", ["mv", "a.adf", "$", "y"], "$: the root directory stays as it is", 2)
+
+
+def removing(c):
+    """access and rm."""
     c.start()
     locked = {**NAMED, "$.Ab": (5, b"\2"), "$.D": 4}
     c.good("access", ["access", "a.adf", "lr/", "ab", "D"], {**locked, "$.D": 5})
@@ -269,6 +271,9 @@ def adding(c):
     c.checks.expect("add", out=("3 of 7 files added to a.adf\n", got[0]), status=(1, got[2]),
                     told=(sorted("fcdisc: " + text for text in told), sorted(got[1].splitlines())),
                     tree=(tree, short_tree(read(c.at("a.adf")))))
+
+
+def adding_somewhere(c):
     c.start(files={"o/error": b"new", "o/x,00008000-0000abcd": b"x"})
     c.good("add --replace", ["add", "--replace", "a.adf", "o", "D"], {**NAMED, "$.D.error": (3, b"new"), "$.D.x": (3, b"x")},
            "2 of 2 files added to a.adf\n")
@@ -282,6 +287,9 @@ def adding(c):
                                ("no folder", ["none"], "none: No such file or directory"),
                                ("a file", ["o/error"], "o/error: not a folder: use put")):
         c.refused("add " + name, ["add", "a.adf", *words], error, out="0 of 2 files added to a.adf\n" if "nowhere" in name else "")
+
+
+def adding_much(c):
     c.start(files={"o/%02d" % at: b"%d" % at * 40000 for at in range(30)})
     got = c.run("add", "a.adf", "o")
     count = len(short_tree(read(c.at("a.adf")))) - len(NAMED)
@@ -305,14 +313,6 @@ def troubles(c):
     with open(c.at("a.adf"), "rb") as other:
         fcntl.flock(other, fcntl.LOCK_EX)
         c.refused("another job", words, "a.adf: another fcdisc is changing it: try again when that has ended")
-    failing = '#!/bin/sh\ncase "$*" in *read-only*) exec FCORE "$@";; esac\ncat > /dev/null; %s\n'
-    for name, end, error in (("fails", "exit 4", "I/O error while fcore read it"),
-                             ("dies", "kill -9 $$", "fcore was ended by signal 9"),
-                             ("says less", "exit 0", fcdisc_cases.CHANGED)):
-        fcore = c.fake(failing % end)
-        c.refused("fcore " + name, words, "a.adf: %s: nothing was changed" % error, fcore=fcore)
-        c.refused("fcore %s in place" % name, [words[0], "--in-place", *words[1:]],
-                  "a.adf: %s: it was changed in place, and may be damaged: use check" % error, fcore=fcore)
     os.mkdir(c.at("a.adf~"))
     c.refused("a folder of the copy's name", words, "a.adf~: Is a directory: nothing was changed")
     os.rmdir(c.at("a.adf~"))
@@ -322,11 +322,45 @@ def troubles(c):
     c.checks.expect("changed meanwhile", result=(("", text, 1), got),
                     left=(["a.adf", "note"], c.names()), tree=(NAMED, short_tree(read(c.at("a.adf")))))
     c.start(files={"o/gone": b"", "o/stays": b"s"})
-    removing = c.fake('#!/bin/sh\nrm -f o/gone\nexec FCORE "$@"\n')
-    got = c.run("add", "a.adf", "o", fcore=removing)
+    removing_it = c.fake('#!/bin/sh\nrm -f o/gone\nexec FCORE "$@"\n')
+    got = c.run("add", "a.adf", "o", fcore=removing_it)
     text = "fcdisc: o/gone: not added: No such file or directory\n"
     c.checks.expect("a file that vanishes", result=(("1 of 2 files added to a.adf\n", text, 1), got),
                     tree=({**NAMED, "$.stays": (3, b"s")}, short_tree(read(c.at("a.adf")))))
+
+
+def other_programs(c):
+    """Programs in fcore's place."""
+    words = ["put", "a.adf", "note", "$.N"]
+    c.start(files={"note": b"Hello"})
+    failing = '#!/bin/sh\ncase "$*" in *read-only*) exec FCORE "$@";; esac\ncat > /dev/null; %s\n'
+    for name, end, error in (("fails", "exit 4", fcdisc_cases.WRITE_FAILED),
+                             ("dies", "kill -9 $$", "fcore was ended by signal 9"),
+                             ("says less", "exit 0", fcdisc_cases.CHANGED)):
+        fcore = c.fake(failing % end)
+        c.refused("fcore " + name, words, "a.adf: %s: nothing was changed" % error, fcore=fcore)
+        c.refused("fcore %s in place" % name, [words[0], "--in-place", *words[1:]],
+                  "a.adf: %s: it was changed in place, and may be damaged: use check" % error, fcore=fcore)
+
+
+def programs_that_go(c):
+    """fcore can't be run any more when the disc is to be changed."""
+    c.start(files={"note": b"Hello"})
+    for place in ([], ["--in-place"]):
+        gone = c.fake('#!/bin/sh\nrm "$0"\nexec FCORE "$@"\n')
+        c.refused("fcore can't be run a second time %s" % place, ["put", *place, "a.adf", "note", "$.N"],
+                  "%s can't be run: No such file or directory" % os.fsdecode(c.checks.place(b"fake/fcore")), fcore=gone)
+
+
+def removing_levels(c):
+    """What is told while the levels of directories are read."""
+    c.start("l-files.adf")
+    c.refused("rm -r of a directory that is gone when it is read", ["rm", "-r", "a.adf", "Outer"],
+              "a.adf: " + fcdisc_cases.CHANGED, fcore=c.fake(fcdisc_cases.GONE))
+    c.run("access", "a.adf", "-", "Outer.Inner.Innermost")  # it is locked
+    got = c.run("rm", "-r", "a.adf", "Outer", within=on_host("terminal"))
+    c.checks.expect("progress of rm -r", status=(0, got[2]), steps=(
+        ["directories read: %d of 6" % at for at in (1, 2)], re.findall("directories[^\r]*", got[1])))
 
 
 def no_room(c):
@@ -338,6 +372,45 @@ def no_room(c):
     c.refused("no room for a copy", ["put", "a.adf", "note", "$.N"],
               "a.adf: no copy of it can be made beside it (No space left on device); --in-place does without",
               out=". ./a.adf ./note ./pad\n", within=within)
+
+
+# Hosts of tools/fcdisc_hosts.py; how the job ends, whether the image is changed then, and whether the backup is the image as it was
+HOSTS = (
+    ("no-links", 0, True, True), ("signal", -signal.SIGTERM, True, True), ("no-links,signal", -signal.SIGTERM, True, True),
+    ("early-signal", -signal.SIGTERM, False, False), ("no-links,early-signal", -signal.SIGTERM, False, False),
+    ("denied", 1, False, True), ("no-links,denied", 1, False, True))
+DENIED = "fcdisc: a.adf: its changed copy can't take its name (Permission denied): it stays as it was, and a.adf~ is the same now\n"
+
+
+def on_host(host):
+    """The words before those of fcdisc."""
+    return "exec python3 '%s' %s \"$@\"" % (os.path.join(TOOLS, "fcdisc_hosts.py"), host)
+
+
+def other_hosts(c):
+    """Whatever the host can't do and whenever a signal comes, the image's name leads to a whole image, and so does the backup's."""
+    for host, status, is_changed, is_backed in HOSTS:
+        before, seen = c.start(files={"note": b"Hello", "a.adf~": b"older"}), c.checks.place(b"seen")
+        os.chmod(c.at("a.adf"), 0o640)
+        with open(seen, "wb"):
+            pass  # what other jobs left
+        time = os.stat(c.at("a.adf")).st_mtime_ns
+        got = c.run("put", "a.adf", "note", "$.N", within=on_host(host))
+        after, backup = c.both("a.adf")
+        allowed = {hashlib.sha256(one).hexdigest() for one in (before, after)}
+        looks = read(seen).decode().split("\n")[:-1]
+        c.checks.expect("put on the host " + host, result=(("", DENIED if "denied" in host else "", status), got),
+                        tree=({**NAMED, "$.N": (3, b"Hello")} if is_changed else NAMED, short_tree(after)),
+                        same=(not is_changed, after == before), backup=(True, backup == (before if is_backed else b"older")),
+                        seen=([], [one for one in looks if one not in allowed]), some=(is_backed, bool(looks)),
+                        left=(["a.adf", "a.adf~", "note"], c.names()), mode=(0o640, stat.S_IMODE(os.stat(c.at("a.adf")).st_mode)))
+        if is_backed:
+            found = os.stat(c.at("a.adf~"))
+            c.checks.expect("the backup on the host " + host, kept=((0o640, time), (stat.S_IMODE(found.st_mode), found.st_mtime_ns)))
+    c.start(files={"note": b"Hello"})
+    os.mkdir(c.at("a.adf~"))
+    c.refused("a folder of the copy's name without links", ["put", "a.adf", "note", "$.N"],
+              "a.adf~: Is a directory: nothing was changed", within=on_host("no-links"))
 
 
 SLOW = '#!/bin/sh\ncase "$*" in *read-only*) exec FCORE "$@";; esac\ntouch begun; sleep 2; exec FCORE "$@"\n'
@@ -437,7 +510,8 @@ def converting(c):
 
 def run_all(checks, mounts):
     c = Changes(checks)
-    for part in (putting, ordering, over_big_directories, over_old_maps, squashing, forms, adding, troubles, signals, converting):
+    for part in (putting, moving, removing, over_big_directories, over_old_maps, squashing, forms, adding, adding_somewhere,
+                 adding_much, troubles, other_programs, programs_that_go, removing_levels, other_hosts, signals, converting):
         part(c)
     if mounts:
         no_room(c)

@@ -13,6 +13,7 @@ BIG_LIMIT = 4194304
 # the bytes in which the record of a boot block and that of the map have to agree; of byte 40 the low four bits
 AGREED = [0, 4, 5, 9, 10, 11, 16, 17, 18, 19, 36, 37, 38, 39, 40, 42, 44, 45, 46, 47]
 NOT_SPELLED = b'$&%@\\^:.#*"|'
+SCRIPT_LIMIT = 1 << 24  # bytes
 
 
 def number(block, at, size):
@@ -82,6 +83,24 @@ def big_directory_check(directory, end):
     tail = directory[-8:]
     total = accumulated(0, words_of(directory, 0, end))
     return bytes_folded(accumulated(total, [number(tail, 0, 4), tail[4], tail[5], tail[6]]))
+
+
+# ---- fields of directories
+
+
+def padded(name, size):
+    """A name in a field: 13 after it if there is room, then bytes 0."""
+    return (name + b"\r" if len(name) < size else name).ljust(size, b"\0")[:size]
+
+
+def name_space(name):
+    """The bytes that a name takes in the heap of a big directory."""
+    return (len(name) + 4) // 4 * 4
+
+
+def head_space(form, name):
+    """The space of the name in the head of a big directory, in the first or the second form."""
+    return (len(name) + (4 if form == 1 else 3)) // 4 * 4
 
 
 # ---- disc records

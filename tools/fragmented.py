@@ -89,14 +89,16 @@ class Fragmenter:
         return self.random.randbytes(length)
 
     def fields(self):
-        return dict(attributes=self.random.choice((3, 3, 0x33, 1, 7)), load=self.random.getrandbits(32), execution=self.random.getrandbits(32))
+        return dict(attributes=self.random.choice((3, 3, 0x33, 1, 7)), load=self.random.getrandbits(32),
+                    execution=self.random.getrandbits(32))
 
     def files(self, names, most):
         """The files of one identifier: one of them, or some that share it."""
         made, room = self.identifier(self.random.choice((1, 1, 1, 2, 2, 3, 4, 6, 9)))
         shape, at, low = self.shape, 0, 1
         if self.random.random() < 0.6 or room <= shape.share:
-            return [File(next(names), self.content(self.random.randint(max(1, room - shape.sector + 1), room)), made * 256, **self.fields())]
+            length = self.random.randint(max(1, room - shape.sector + 1), room)
+            return [File(next(names), self.content(length), made * 256, **self.fields())]
         found = []
         while at < room and low < 256 and len(found) < most:
             length = self.random.randint(1, min(room - at, 3 * shape.share))

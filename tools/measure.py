@@ -6,6 +6,7 @@ It is not part of the gate: what it measures depends on the machine. In each rou
 least time of each counts. The images are generated, and are in memory when they are read. What isn't installed (mke2fs and
 e2fsck, xxd, strace, /usr/bin/time) is left out.
 """
+import functools
 import os
 import random
 import shutil
@@ -161,9 +162,11 @@ def write_files(folder, volume):
 
 
 def tasks(folder):
-    path = lambda name: os.path.join(folder, name)
-    found = []
+    path = functools.partial(os.path.join, folder)
+    return [*digest_tasks(path), *large_file_tasks(path), *check_tasks(path)]
 
+
+def digest_tasks(path):
     for count in COUNTS:
         volume = in_many_runs(count)
         image = path("runs%d.adf" % count)
@@ -171,8 +174,11 @@ def tasks(folder):
         outside, inside = write_files(path("files%d" % count), volume)
         script = write_script(path("digests%d" % count), ["digest " + name for name in inside])
         list_of = write_script(path("list%d" % count), outside)
-        found.append(Task("%d digests on a disc in %d runs" % (count, count * RUNS), image, script, {"sha256sum": ["xargs", "-a", list_of, "sha256sum"]}))
+        yield Task("%d digests on a disc in %d runs" % (count, count * RUNS), image, script,
+                   {"sha256sum": ["xargs", "-a", list_of, "sha256sum"]})
 
+
+def large_file_tasks(path):
     volume = with_large_file()
     write_image(path("large.adf"), volume)
     large = write_files(path("large"), volume)[0][0]
@@ -181,12 +187,14 @@ def tasks(folder):
     load = write_script(path("load"), ["load $.Large"])
     digest = write_script(path("digest"), ["digest $.Large"])
     cat, xxd = {"cat of as many bytes": ["cat", path("twice")]}, {"xxd -p": ["xxd", "-p", large]}
-    found.append(Task("`load` of 256 MB, into a pipe", path("large.adf"), load, {**cat, **(xxd if shutil.which("xxd") else {})}, into_pipe))
-    found.append(Task("`digest` of 256 MB", path("large.adf"), digest, {"sha256sum": ["sha256sum", large]}))
+    yield Task("`load` of 256 MB, into a pipe", path("large.adf"), load, {**cat, **(xxd if shutil.which("xxd") else {})}, into_pipe)
+    yield Task("`digest` of 256 MB", path("large.adf"), digest, {"sha256sum": ["sha256sum", large]})
 
+
+def check_tasks(path):
+    check = write_script(path("check"), ["check"])
     write_image(path("terabyte.adf"), of_a_terabyte())
-    found.append(Task("`check` of a sparse disc of 1.1 TB with 240 files of 4 GB", path("terabyte.adf"), write_script(path("check"), ["check"]), {}))
-
+    yield Task("`check` of a sparse disc of 1.1 TB with 240 files of 4 GB", path("terabyte.adf"), check, {})
     volume = large_image.with_directories(1000)
     write_image(path("objects.adf"), volume)
     tree = write_files(path("tree"), volume)[0]
@@ -194,10 +202,9 @@ def tasks(folder):
     if shutil.which("mke2fs") and shutil.which("e2fsck"):
         subprocess.run(["mke2fs", "-q", "-t", "ext4", "-N", "60000", "-d", path("tree"), path("objects.ext4"), "600M"], check=True)
         others["e2fsck"] = ["e2fsck", "-f", "-n", path("objects.ext4")]
-    check = write_script(path("check"), ["check"])
-    found.append(Task("`check` of %d files in 1,000 directories" % len(tree), path("objects.adf"), check, others))
-    found.append(Task("the same, and `free` 1,000 times", path("objects.adf"), write_script(path("frees"), ["check"] + ["free"] * 1000), {}))
-    return found
+    yield Task("`check` of %d files in 1,000 directories" % len(tree), path("objects.adf"), check, others)
+    frees = write_script(path("frees"), ["check"] + ["free"] * 1000)
+    yield Task("the same, and `free` 1,000 times", path("objects.adf"), frees, {})
 
 
 def memory(fcore, folder, volume):
@@ -220,8 +227,9 @@ def object_sizes(taken):
 def system_calls(words, script):
     """How many system calls a command makes."""
     with open(script, "rb") as given:
-        told = subprocess.run(["strace", "-f", "-c", "-U", "calls", *words], stdin=given, stdout=subprocess.DEVNULL, stderr=subprocess.PIPE, check=True).stderr
-    return int(told.split()[-2])
+        ran = subprocess.run(["strace", "-f", "-c", "-U", "calls", *words], stdin=given, stdout=subprocess.DEVNULL,
+                             stderr=subprocess.PIPE, check=True)
+    return int(ran.stderr.split()[-2])
 
 
 def main(fcore, rounds=5):

@@ -12,10 +12,8 @@ from collections import deque
 
 from filecore import (AGREED, BAD_COMMAND, BAD_NAME, BIG_LIMIT, BOOT_BLOCK, BOOT_SIZE, EXISTS, INTO_ITSELF,
                       IS_DIRECTORY, LOCKED, NOT_DIRECTORY, NOT_EMPTY, NOT_FOUND, NOT_SPELLED, READ_ONLY, RECORD_SIZE, ROOT_REFUSED,
-                      SMALL_SIZE, UNIT, Geometry, Record, big_directory_check, boot_check, entry_line, folded, number,
+                      SCRIPT_LIMIT, SMALL_SIZE, UNIT, Geometry, Record, big_directory_check, boot_check, entry_line, folded, number,
                       old_map_check, small_directory_check, spelled_path, zone_check)
-
-SCRIPT_LIMIT = 1 << 24
 
 
 class Fault(Exception):

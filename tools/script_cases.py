@@ -1,9 +1,8 @@
 """Runs of fcore beside the answers over single images: words, scripts, lines that are refused, fresh volumes, what isn't built."""
 from filecore import (BAD_COMMAND, BAD_NAME, EXISTS, INTO_ITSELF, IS_DIRECTORY, LOCKED, NOT_DIRECTORY, NOT_EMPTY, NOT_FOUND, READ_ONLY,
-                      ROOT_REFUSED)
+                      ROOT_REFUSED, SCRIPT_LIMIT)
 from volumes import FRESH
 
-SCRIPT_LIMIT = 1 << 24
 ZEROS = "00000000 00000000"
 
 
@@ -115,7 +114,8 @@ def refused_changes():
             ("rename $.Lengths.L1 $.L", LOCKED), ("rename $.Outer $.Outer.Inner.X", INTO_ITSELF), ("rename $.Outer $.Lengths", EXISTS),
             ("rename $ $", ROOT_REFUSED), ("rename $.None $.A", NOT_FOUND)])
     yield lines_case("names-of-an-l-disc", "l-files.adf", [  # they have no byte above 127
-        (f"create $.%E9 {ZEROS} 0", BAD_NAME), ("cdir $.Caf%E9", BAD_NAME), ("rename $.Outer $.%FF", BAD_NAME), ("rename $ $.A", ROOT_REFUSED)])
+        (f"create $.%E9 {ZEROS} 0", BAD_NAME), ("cdir $.Caf%E9", BAD_NAME), ("rename $.Outer $.%FF", BAD_NAME),
+        ("rename $ $.A", ROOT_REFUSED)])
     for image in ("d-files.adf", "l-files.adf", "e-plus-files.adf"):
         yield lines_case("refused-changes-read-only-" + image[:-4], image, [
             ("delete $.None", NOT_FOUND), (f"save $.A {ZEROS} 01", READ_ONLY), ("cdir $.A", READ_ONLY),
@@ -128,8 +128,8 @@ def refused_changes():
             ("delete $.Lengths.L1", LOCKED), ("delete $.Lengths.L1024", READ_ONLY), ("delete $.Lengths", NOT_EMPTY),
             (f"set $.Lengths.L1 {ZEROS} -", READ_ONLY)], ["--read-only"])
     for form in ("E+", "D", "L"):
-        yield Case("refused-change-fresh-" + form, ["--new", form, "set-%s.adf" % form], f"set $ {ZEROS} R\ndelete $.A", 1, ROOT_REFUSED + NOT_FOUND,
-                   made=("set-%s.adf" % form, "fresh-%s.adf" % form))
+        yield Case("refused-change-fresh-" + form, ["--new", form, "set-%s.adf" % form], f"set $ {ZEROS} R\ndelete $.A", 1,
+                   ROOT_REFUSED + NOT_FOUND, made=("set-%s.adf" % form, "fresh-%s.adf" % form))
 
 
 def unbuilt():

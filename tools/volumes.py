@@ -6,8 +6,8 @@ this description alone; tools/read_image.py reads the image without it. No code 
 import hashlib
 
 from filecore import (BOOT_BLOCK, BOOT_SIZE, IS_DIRECTORY, NOT_DIRECTORY, NOT_FOUND, SMALL_SIZE, UNIT, Geometry, Record,
-                      big_directory_check, boot_check, entry_line, folded, old_map_check, put, small_directory_check,
-                      spelled_path, zone_check)
+                      big_directory_check, boot_check, entry_line, folded, head_space, name_space, old_map_check, padded, put,
+                      small_directory_check, spelled_path, zone_check)
 
 
 # ---- objects
@@ -63,11 +63,6 @@ class Directory(Entry):
         return self.holder.address if self.parent is None else self.parent
 
 
-def padded(name, size):
-    """A name in a field: 13 behind it where there is room, then bytes 0."""
-    return (name + b"\r" if len(name) < size else name).ljust(size, b"\0")[:size]
-
-
 def small_entry(entry, form):
     raw = bytearray(26)
     raw[0:10] = padded(entry.name, 10)
@@ -103,23 +98,19 @@ def small_directory(directory, form):
     return block
 
 
-def head_space(directory):
-    return (len(directory.head_name) + (4 if directory.form == 1 else 3)) // 4 * 4
-
-
 def big_heap(directory):
     """The heap, and the place of every name in it."""
     heap, places = bytearray(), []
     for entry in directory.entries:
         places.append(len(heap))
-        heap += padded(entry.name, (len(entry.name) + 4) // 4 * 4)
+        heap += padded(entry.name, name_space(entry.name))
     return heap + bytes(directory.heap_tail), places
 
 
 def big_directory(directory):
     block = bytearray(directory.size)
     heap, places = big_heap(directory)
-    entries = 28 + head_space(directory)
+    entries = 28 + head_space(directory.form, directory.head_name)
     names = entries + 28 * len(directory.entries)
     end = names + len(heap)
     block[0] = block[-4] = directory.sequence

@@ -8,7 +8,7 @@ from . import names
 from .editing import NOT_ADDED, Step, longest_content, save_line, set_line
 from .hostfiles import NEW_FILE, HostFile, Kept, kept_with, read_host_file
 from .messages import Trouble, reason, shown, tell
-from .program import Entry, Path, Refused, Run, command
+from .program import DIRECTORY, Entry, Path, Refused, Run, command
 
 SETTABLE = 7  # of attributes, those that fcore can set
 TEMPORARY = (b".fcdisc-", b".tmp")
@@ -129,7 +129,7 @@ class Addition:
             kept = kept_of_folder(item.place)
             if kept and (kept.load or kept.execution or kept.attributes & SETTABLE):
                 yield Step(set_line(item.path, kept.load, kept.execution, kept.attributes), item.path, "access and words not set")
-            self.count_access(kept.attributes if kept else 0)
+            self.lost_access += bool(kept and loses_access(kept.attributes))
 
     def file_steps(self, item: Item) -> Iterator[Step]:
         there = self.present.find(item.path)
@@ -146,15 +146,17 @@ class Addition:
             return
         self.saved.append(item.path)
         yield from file_steps(item.path, file, item.named, NOT_ADDED, there)
-        self.count_access(file.kept.attributes if file.kept and not there else 0)
+        self.lost_access += bool(file.kept and not there and loses_access(file.kept.attributes))
 
-    def count_access(self, attributes: int) -> None:
-        self.lost_access += bool(attributes & ~(SETTABLE | 8))
+
+def loses_access(attributes: int) -> bool:
+    """Whether an object has access that can't be set."""
+    return bool(attributes & ~(SETTABLE | DIRECTORY))
 
 
 def file_steps(path: Path, file: HostFile, named: names.DiscName, failure: str, there: Optional[Entry] = None) -> Iterator[Step]:
     """The steps that save a file. One that is there keeps its access, and its type unless the new one tells a type."""
-    default = there.load >> 8 & 0xFFF if there and names.has_type(there.load) else None
+    default = names.type_of(there.load) if there else None
     load, execution = file.words(named) if default is None else file.words(named, default)
     yield Step(save_line(path, load, execution, file.content), path, failure)
     attributes = file.kept.attributes if file.kept and not there else NEW_FILE

@@ -8,14 +8,14 @@ from typing import Dict, List, Optional, Tuple
 
 from . import names
 from .adding import Addition, Failures, Present, file_steps, items_of
-from .editing import NOT_ADDED, Edit, Step, longest_content, set_line, spelled, why
+from .editing import NOT_ADDED, Edit, Step, longest_content, set_line, why
 from .hostfiles import read_host_file
 from .jobs import path_from
 from .listing import counted
 from .messages import FAILED, WRONG_WORDS, Progress, Trouble, reason, say, shown, tell
 from .names import spelled_path
 from .program import Entry, Path, Refused, Run, command, find_program
-from .tree import MAX_DEPTH, Tree, read_level
+from .tree import MAX_DEPTH, Tree, named, read_below
 
 Listing = Tuple[Optional[List[Entry]], str]
 
@@ -34,17 +34,13 @@ def read_listings(edit: Edit, paths: List[Path]) -> List[Listing]:
     return edit.open(script, lambda run: [listing(run, path) for path in paths])
 
 
-def find(entries: Optional[List[Entry]], name: bytes) -> Optional[Entry]:
-    return next((entry for entry in entries or [] if names.folded(entry.name) == names.folded(name)), None)
-
-
 def object_trouble(edit: Edit, path: Path, refusal: str) -> Trouble:
     return edit.trouble("%s: %s" % (spelled_path(path), why(path, refusal)))
 
 
 def found_in(edit: Edit, path: Path, holder: Listing) -> Entry:
     """The object at a path whose holder was listed."""
-    entry = find(holder[0], path[-1])
+    entry = named(holder[0] or [], path[-1])
     if entry is None:
         raise object_trouble(edit, path, holder[1] or "NotFound")
     return entry
@@ -70,7 +66,7 @@ def put(words: Namespace) -> int:
             path, holder = (*path, name_of(given)), there
         elif holder[0] is None:
             raise edit.trouble("%s: there is no such directory on the disc" % spelled_path(path[:-1]))
-        present = find(holder[0], path[-1])
+        present = named(holder[0] or [], path[-1])
         if present and present.is_directory:
             raise object_trouble(edit, path, "IsDirectory")
         if present and not words.replace:
@@ -147,24 +143,23 @@ def remove(words: Namespace) -> int:
     program, paths = find_program(), [not_root(text) for text in words.path]
     with Edit(program, words) as edit:
         listings = read_listings(edit, paths)
+        progress = Progress("directories read", edit.counts["dirs"])
         gone: Dict[Path, None] = {}
         for path, (entries, _) in zip(paths, listings):
-            inner = entries_below(edit, program, path, entries) if words.r and entries else []
+            inner = entries_below(edit, path, entries, progress) if words.r and entries else []
             gone.update(dict.fromkeys(entry.path for entry in inner[::-1]))
             gone[path] = None
         edit.change(Step(command("delete", path), path, "not removed") for path in gone)
         return edit.finish()
 
 
-def entries_below(edit: Edit, program: str, path: Path, entries: List[Entry]) -> List[Entry]:
+def entries_below(edit: Edit, path: Path, entries: List[Entry], progress: Progress) -> List[Entry]:
     """All that is in a directory, each object after the directory that holds it."""
     tree = Tree(edit.image, path)
     tree.entries[path] = entries
-    level = [entry for entry in entries if entry.is_directory]
-    while level:
-        if len(level[0].path) > MAX_DEPTH:
-            raise edit.trouble("%s has directories more than %d deep" % (spelled_path(path), MAX_DEPTH))
-        level = read_level(program, tree, level, Progress("directories read", 0))
+    read_below(edit.program, tree, progress)
+    if tree.too_deep:
+        raise edit.trouble("%s has directories more than %d deep" % (spelled_path(path), MAX_DEPTH))
     return list(tree.walk())
 
 
@@ -175,7 +170,7 @@ def move(words: Namespace) -> int:
         entry = found_in(edit, source, holder)
         if there[0] is not None and list(map(names.folded, target)) != list(map(names.folded, source)):
             target = (*target, entry.name)
-        line = b"rename %s %s\n" % (spelled(source), spelled(target))
+        line = b"rename %s %s\n" % (names.path_bytes(source), names.path_bytes(target))
         edit.change([Step(line, target, "%s not moved there" % spelled_path(source))])
         return edit.finish()
 

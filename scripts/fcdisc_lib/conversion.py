@@ -5,19 +5,18 @@ import os
 from argparse import Namespace
 from typing import Iterator, List
 
-from .adding import SETTABLE
+from .adding import SETTABLE, loses_access
 from .changes import tell_lost_access
 from .editing import Failure, Step, longest_content, save_line, set_line, tell_failures
-from .hostfiles import NEW_FILE
-from .jobs import place_text, refusal
+from .hostfiles import NEW_FILE, TOO_LONG
+from .jobs import refusal
 from .listing import counted
 from .messages import FAILED, Progress, Trouble, say, shown, tell
 from .names import spelled_path
-from .output import Folder, TemporaryName, split_path
+from .output import TAKEN, published
 from .program import Entry, Refused, Run, batches, command, find_program, scripts
 from .tree import Tree, read_tree
 
-DIRECTORY = 8
 NOT_COPIED = "not copied"
 
 
@@ -66,14 +65,14 @@ class Conversion:
         if (entry.load, entry.execution, entry.attributes & SETTABLE) != usual:
             line = set_line(entry.path, entry.load, entry.execution, entry.attributes)
             yield Step(line, entry.path, "access not set")
-        self.lost_access += bool(entry.attributes & ~(SETTABLE | DIRECTORY))
+        self.lost_access += loses_access(entry.attributes)
 
     def fits(self, entry: Entry) -> bool:
         if entry.length <= longest_content(entry.path):
             return True
         self.too_long += 1
-        text = "%s: %s: %s: it has %d bytes, and fcore takes files of no more than %d here"
-        tell(text % (shown(self.tree.image.path), spelled_path(entry.path), NOT_COPIED, entry.length, longest_content(entry.path)))
+        text = TOO_LONG % (entry.length, longest_content(entry.path))
+        tell("%s: %s: %s: %s" % (shown(self.tree.image.path), spelled_path(entry.path), NOT_COPIED, text))
         return False
 
     def contents(self) -> Iterator[bytes]:
@@ -87,22 +86,16 @@ class Conversion:
 
 def convert(words: Namespace) -> int:
     program = find_program()
-    folder, name = split_path(words.out)
     if os.path.lexists(words.out):
-        raise Trouble("%s: there is something of this name already" % shown(words.out))
+        raise Trouble("%s: %s" % (shown(words.out), TAKEN))
     words.path = "$"
     try:
         tree = read_tree(program, words.image, words.order, ())
     except Refused as refused:
         raise refusal(refused, words) from None
     conversion = Conversion(program, tree, words.out)
-    try:
-        with Folder.at(folder) as holder, TemporaryName(holder) as temporary:
-            place = "/dev/fd/%d/%s" % (holder.number, os.fsdecode(temporary))
-            conversion.run(words.format, place, [holder.number])
-            holder.publish(temporary, name)
-    except OSError as error:
-        raise Trouble(place_text(folder, name, error)) from None
+    with published(words.out) as (holder, temporary):
+        conversion.run(words.format, holder.place(temporary), [holder.number])
     return verdict(words, conversion)
 
 

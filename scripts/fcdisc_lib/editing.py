@@ -6,11 +6,12 @@ import os
 import signal
 import stat
 from argparse import Namespace
-from contextlib import ExitStack, contextmanager, suppress
+from contextlib import ExitStack, contextmanager, nullcontext, suppress
 from typing import BinaryIO, Callable, Dict, Iterable, Iterator, List, NamedTuple, Optional, Set, TypeVar
 
 from . import names
-from .images import (AS_IT_IS, HEADER, L_SIZE, SIDES, Image, copy, has_l_size, open_file, open_image, pieces_from, read_at,
+from .faults import refusal_explained
+from .images import (AS_IT_IS, HEADER, L_SIZE, SIDES, Image, copy, has_doubtful_order, open_file, open_image, pieces_from, read_at,
                      to_interleaved)
 from .listing import counted
 from .messages import FAILED, Trouble, reason, shown, tell
@@ -22,17 +23,6 @@ SIGNALS = (signal.SIGINT, signal.SIGTERM, signal.SIGHUP)
 NEW_COPY = os.O_RDWR | os.O_CREAT | os.O_EXCL | os.O_NOFOLLOW
 NOT_ADDED = "not added"
 SHORT_NAME = 10  # bytes of the longest name on a disc without big directories
-
-# Why fcore refused a line
-REASONS = {
-    "NotFound": "there is no such object on the disc", "NotDirectory": "a file stands where a directory has to",
-    "IsDirectory": "a directory has its name", "Exists": "there is something of this name on the disc already",
-    "RootRefused": "the root directory stays as it is", "IntoItself": "a directory can't be moved into itself",
-    "Locked": "it is locked: use access first", "NotEmpty": "there is something in the directory: use rm -r",
-    "ReadOnly": "the disc is only read", "DirFull": "the directory is full", "IdsFull": "the disc has no room for another object",
-    "DiscFull": "the disc is full", "CompactionRequired": "no piece of the disc's free space is long enough: use compact first",
-    "MapFull": "the list of free space is full: use compact first",
-}
 
 
 class Step(NamedTuple):
@@ -53,12 +43,8 @@ class Failure(NamedTuple):
 # ---- lines of scripts
 
 
-def spelled(path: Path) -> bytes:
-    return names.spelled_path(path).encode("ascii")
-
-
 def save_line(path: Path, load: int, execution: int, content: bytes) -> bytes:
-    return b"save %s %08x %08x %s\n" % (spelled(path), load, execution, content.hex().encode("ascii") or b"-")
+    return b"save %s %08x %08x %s\n" % (names.path_bytes(path), load, execution, content.hex().encode("ascii") or b"-")
 
 
 def longest_content(path: Path) -> int:
@@ -68,14 +54,14 @@ def longest_content(path: Path) -> int:
 
 def set_line(path: Path, load: int, execution: int, attributes: int) -> bytes:
     access = "".join(letter for bit, letter in ((1, "R"), (2, "W"), (4, "L")) if attributes & bit)
-    return b"set %s %08x %08x %s\n" % (spelled(path), load, execution, access.encode("ascii") or b"-")
+    return b"set %s %08x %08x %s\n" % (names.path_bytes(path), load, execution, access.encode("ascii") or b"-")
 
 
 def why(path: Path, name: str) -> str:
     """A refusal in words."""
     if name == "BadName":
         return name_fault(path[-1])
-    return REASONS.get(name, "fcore refuses it: " + name)
+    return refusal_explained(name)
 
 
 def name_fault(name: bytes) -> str:
@@ -95,6 +81,7 @@ class Edit:
     """An image while it is changed. Used by `with`; without `finish` it stays as it was, unless it is changed in place."""
 
     image: Image
+    counts: Dict[str, int]  # the reply to `check`
 
     def __init__(self, program: str, words: Namespace):
         self.program, self.name, self.order, self.in_place = program, words.image, words.order, words.in_place
@@ -108,8 +95,8 @@ class Edit:
 
     def __enter__(self) -> Edit:
         with self.stack:
-            file = self.stack.enter_context(locked_file(self.path, self.name))
-            self.before = os.fstat(file.fileno())
+            self.original = self.stack.enter_context(locked_file(self.path, self.name))
+            self.before = os.fstat(self.original.fileno())
             if not self.before.st_mode & 0o222 or not os.access(self.path, os.W_OK):
                 raise self.trouble("it is write-protected on this host")
             self.stack = self.stack.pop_all()
@@ -123,10 +110,11 @@ class Edit:
 
     def open(self, script: bytes, read: Callable[[Run], Result]) -> Result:
         """Opens the image, and reads the replies to a script that changes nothing."""
-        self.image, (counts, result) = open_image(self.program, self.path, self.order, b"check\n" + script,
-                                                  lambda run: (run.check(), read(run)), self.name)
+        self.image, (self.counts, result) = open_image(self.program, self.path, self.order, b"check\n" + script,
+                                                       lambda run: (run.check(), read(run)), self.name)
         self.stack.callback(self.image.file.close)
-        if self.order == "auto" and counts["dirs"] == 1 and counts["files"] and has_l_size(self.image.file):
+        # the name doesn't decide here, as it does if the disc is only read
+        if has_doubtful_order(self.image, self.order, self.counts):
             raise self.trouble("nothing shows whether its sides are interleaved, and in the wrong order a change would spoil "
                                "files: say --order disc or --order adl")
         return result
@@ -158,14 +146,15 @@ class Edit:
         if self.working is None:
             self.working = self.begin()
         number = self.working.fileno()
-        try:
-            with unbroken(self.in_place), Run(self.program, self.name, ["--", "/dev/fd/%d" % number], script, [number]) as run:
-                result = read(run)
-        except (Trouble, BadImage) as error:
-            text = str(error) if isinstance(error, Trouble) else "%s: not accepted: %s" % (shown(self.name), error)
-            raise Trouble("%s: %s" % (text, "it was changed in place, and may be damaged: use check" if self.in_place
-                                      else "nothing was changed")) from None
-        return result
+        with unbroken() if self.in_place else nullcontext():
+            run = Run(self.program, self.name, ["--", "/dev/fd/%d" % number], script, [number])
+            try:
+                with run:
+                    return read(run)
+            except (Trouble, BadImage) as error:
+                text = str(error) if isinstance(error, Trouble) else "%s: not accepted: %s" % (shown(self.name), error)
+                raise Trouble("%s: %s" % (text, "it was changed in place, and may be damaged: use check" if self.in_place
+                                          else "nothing was changed")) from None
 
     def change(self, steps: Iterable[Step]) -> None:
         """Makes the changes, by one run of fcore or as few as there can be."""
@@ -195,50 +184,71 @@ class Edit:
 
     def replace(self, holder: Folder) -> None:
         """The copy takes the image's name; the image as it was has a `~` after its name then."""
-        assert self.working
         with ExitStack() as stack:
-            name, number = self.copy_name, self.working.fileno()
-            if self.image.how != AS_IT_IS:
-                name = stack.enter_context(NewFile(holder, self.pieces_back()))
-                number = os.open(name, os.O_RDWR | os.O_NOFOLLOW, dir_fd=holder.number)
-                stack.callback(os.close, number)
-            with suppress(OSError):
-                os.fchown(number, self.before.st_uid, self.before.st_gid)
-            os.fchmod(number, stat.S_IMODE(self.before.st_mode))
-            os.fsync(number)
+            new = self.finished_copy(stack, holder)
+            try:
+                old = self.second_name(stack, holder)
+            except OSError as error:
+                raise self.no_backup(error) from None
+            stack.enter_context(unbroken())
             if not is_same(self.before, os.stat(self.path)):
                 raise self.trouble("another program changed it meanwhile: it stays as it is now")
-            try:
-                exchange(holder, name, split_path(self.path)[1])
-            except OSError as error:
-                raise Trouble("%s~: %s: nothing was changed" % (shown(self.name), reason(error))) from None
+            self.exchange(holder, new, old)
+
+    def finished_copy(self, stack: ExitStack, holder: Folder) -> bytes:
+        """The name of the changed copy, which is now in the form that the image has, and on the host's disk."""
+        assert self.working
+        if self.image.how != AS_IT_IS:
+            return stack.enter_context(NewFile(holder, self.pieces_back(), mark=self.make_alike))
+        self.make_alike(self.working.fileno())
+        return self.copy_name
+
+    def second_name(self, stack: ExitStack, holder: Folder) -> bytes:
+        """A temporary name of the image as it was; or of a copy of it, if a file can't have two names here."""
+        second = stack.enter_context(TemporaryName(holder))
+        try:
+            os.link(split_path(self.path)[1], second, src_dir_fd=holder.number, dst_dir_fd=holder.number, follow_symlinks=False)
+            return second
+        except OSError as error:
+            if error.errno not in NO_LINKS:
+                raise
+        pieces = pieces_from(self.original, 0)
+        return stack.enter_context(NewFile(holder, pieces, self.before.st_mtime_ns, self.make_alike))
+
+    def exchange(self, holder: Folder, new: bytes, old: bytes) -> None:
+        """Gives these files the names of the image and of its backup. At each moment the image's name leads to a whole one."""
+        folder, name = {"src_dir_fd": holder.number, "dst_dir_fd": holder.number}, split_path(self.path)[1]
+        try:
+            os.replace(old, name + b"~", **folder)
+        except OSError as error:
+            raise self.no_backup(error) from None
+        try:
+            os.replace(new, name, **folder)
+        except OSError as error:
+            text = "its changed copy can't take its name (%s): it stays as it was, and %s~ is the same now"
+            raise self.trouble(text % (reason(error), shown(self.name))) from None
+        with suppress(OSError):
+            os.fsync(holder.number)
+
+    def no_backup(self, error: OSError) -> Trouble:
+        return Trouble("%s~: %s: nothing was changed" % (shown(self.name), reason(error)))
+
+    def make_alike(self, number: int) -> None:
+        """A new file gets the image's owner and mode, and is written to the host's disk."""
+        with suppress(OSError):
+            os.fchown(number, self.before.st_uid, self.before.st_gid)
+        os.fchmod(number, stat.S_IMODE(self.before.st_mode))
+        os.fsync(number)
 
     def pieces_back(self) -> Iterator[bytes]:
         """The changed disc in the form that the image has."""
         assert self.working
-        with open_file(self.path) as original:
-            if self.image.how == SIDES:
-                yield to_interleaved(read_at(self.working, 0, L_SIZE))
-                yield from pieces_from(original, L_SIZE)
-            else:
-                yield read_at(original, 0, HEADER)
-                yield from pieces_from(self.working, 0)
-
-
-def exchange(holder: Folder, new: bytes, name: bytes) -> None:
-    """Gives a file the name of another, which is kept with a `~` after its name. At each moment the name leads to one of them."""
-    folder = {"src_dir_fd": holder.number, "dst_dir_fd": holder.number}
-    try:
-        with TemporaryName(holder) as second:
-            os.link(name, second, follow_symlinks=False, **folder)
-            os.replace(second, name + b"~", **folder)
-    except OSError as error:
-        if error.errno not in NO_LINKS:
-            raise
-        os.replace(name, name + b"~", **folder)
-    os.replace(new, name, **folder)
-    with suppress(OSError):
-        os.fsync(holder.number)
+        if self.image.how == SIDES:
+            yield to_interleaved(read_at(self.working, 0, L_SIZE))
+            yield from pieces_from(self.original, L_SIZE)
+        else:
+            yield read_at(self.original, 0, HEADER)
+            yield from pieces_from(self.working, 0)
 
 
 def is_same(before: os.stat_result, now: os.stat_result) -> bool:
@@ -265,11 +275,8 @@ def locked_file(path: str, name: str) -> Iterator[BinaryIO]:
 
 
 @contextmanager
-def unbroken(in_place: bool) -> Iterator[None]:
-    """Signals wait while an image is changed in place, for fcdisc and for the fcore that it starts."""
-    if not in_place:
-        yield
-        return
+def unbroken() -> Iterator[None]:
+    """Signals wait while an image is changed in place or takes its name, for fcdisc and for the fcore that it starts."""
     before = signal.pthread_sigmask(signal.SIG_BLOCK, SIGNALS)
     try:
         yield

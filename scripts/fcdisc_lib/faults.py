@@ -1,4 +1,4 @@
-"""What each fault of an image means to its owner, and what to do about it."""
+"""What each fault of an image means to its owner, and what to do about it; and why fcore refused a line."""
 from __future__ import annotations
 
 from typing import Dict, List, Tuple
@@ -59,6 +59,17 @@ DIRECTORY_FAULTS: Dict[str, Tuple[str, str]] = {
         "; else change one of the names in a copy of the image, with a new check"),
 }
 
+# Why fcore refused a line
+REFUSALS: Dict[str, str] = {
+    "NotFound": "there is no such object on the disc", "NotDirectory": "a file stands where a directory has to",
+    "IsDirectory": "a directory has its name", "Exists": "there is something of this name on the disc already",
+    "RootRefused": "the root directory stays as it is", "IntoItself": "a directory can't be moved into itself",
+    "Locked": "it is locked: use access first", "NotEmpty": "there is something in the directory: use rm -r",
+    "ReadOnly": "the disc is only read", "DirFull": "the directory is full", "IdsFull": "the disc has no room for another object",
+    "DiscFull": "the disc is full", "CompactionRequired": "no piece of the disc's free space is long enough: use compact first",
+    "MapFull": "the list of free space is full: use compact first",
+}
+
 # How files begin that hold no image as it is
 OTHER_FILES: Dict[bytes, str] = {
     b"PK\x03\x04": "it is a zip archive: unpack it first",
@@ -88,3 +99,8 @@ def directory_explained(fields: List[str], meaning: str, advice: str) -> Tuple[s
     path, fault, *number = fields
     inner, more = DIRECTORY_FAULTS.get(fault, (fault, ""))
     return meaning.format(path, inner.format(*number)), advice + more
+
+
+def refusal_explained(name: str) -> str:
+    """A refusal in words."""
+    return REFUSALS.get(name, "fcore refuses it: " + name)

@@ -11,13 +11,14 @@ import stat
 from contextlib import suppress
 from typing import NamedTuple, Optional, Tuple
 
-from .names import DiscName, has_type, unix_time, words_for
+from .names import DiscName, has_type, type_of, unix_time, words_for
 
 KEPT_NAME = "user.fcdisc"
 KEPT = re.compile(rb"([0-9a-f]{8}) ([0-9a-f]{8}) ([0-9a-f]{8}) (-?[0-9]+)\Z")
 TEXT = 0xFFF
 NEW_FILE = 3  # the attributes of a new file: its owner may read and write
 NEW_DIRECTORY = 8
+TOO_LONG = "it has %d bytes, and fcore takes files of no more than %d here"
 OPEN_FILE = os.O_RDONLY | os.O_NONBLOCK  # to open it doesn't wait, as for the other end of a pipe
 
 
@@ -71,14 +72,15 @@ class HostFile(NamedTuple):
             return named.words
         if named.file_type is not None:
             return words_for(named.file_type, self.time)
-        return words_for(kept.load >> 8 & 0xFFF if kept and has_type(kept.load) else default, self.time)
+        number = type_of(kept.load) if kept else None
+        return words_for(default if number is None else number, self.time)
 
 
 def agrees(kept: Kept, named: DiscName) -> bool:
     """Whether the name says nothing, or the same type or words as what was kept."""
     if named.words:
         return named.words == (kept.load, kept.execution)
-    return named.file_type is None or has_type(kept.load) and named.file_type == kept.load >> 8 & 0xFFF
+    return named.file_type in (None, type_of(kept.load))
 
 
 def read_host_file(path: bytes, limit: int, flags: int = 0) -> HostFile:
@@ -92,7 +94,7 @@ def read_host_file(path: bytes, limit: int, flags: int = 0) -> HostFile:
         if not stat.S_ISREG(before.st_mode):
             raise ValueError("not a file")
         if before.st_size > limit:
-            raise ValueError("it has %d bytes, and fcore takes files of no more than %d here" % (before.st_size, limit))
+            raise ValueError(TOO_LONG % (before.st_size, limit))
         content = file.read(limit + 1)
         after = os.fstat(number)
         if len(content) != before.st_size or (before.st_size, before.st_mtime_ns) != (after.st_size, after.st_mtime_ns):

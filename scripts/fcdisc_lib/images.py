@@ -4,10 +4,10 @@ from __future__ import annotations
 import os
 import stat
 import tempfile
-from typing import BinaryIO, Callable, Iterator, List, Optional, Tuple, TypeVar
+from typing import BinaryIO, Callable, Dict, Iterator, List, Optional, Tuple, TypeVar
 
 from .messages import Trouble, reason, shown, tell
-from .program import BadImage, Run
+from .program import READ_ONLY, BadImage, Run
 
 TRACK = 4096  # bytes of a track of an L disc: 16 sectors of 256 bytes
 TRACKS = 80  # on each of two sides
@@ -57,7 +57,9 @@ def read_at(file: BinaryIO, at: int, length: int) -> bytes:
         file.seek(at)
         return file.read(length)
     except OSError as error:
-        raise Trouble("%s: %s" % (shown(file.name), reason(error))) from None
+        # a file that was opened by a number, or has no name, is a copy
+        name = file.name if isinstance(file.name, str) else "a copy of the image"
+        raise Trouble("%s: %s" % (shown(name), reason(error))) from None
 
 
 def pieces_from(file: BinaryIO, start: int) -> Iterator[bytes]:
@@ -83,6 +85,11 @@ def copy(source: BinaryIO, start: int, target: BinaryIO) -> None:
 def has_l_size(file: BinaryIO) -> bool:
     """Whether it is as long as an L disc, and its first sector, which is the same in both orders, says so too."""
     return size_of(file) >= L_SIZE and int.from_bytes(read_at(file, 252, 3), "little") * 256 == L_SIZE
+
+
+def has_doubtful_order(image: Image, order: str, counts: Dict[str, int]) -> bool:
+    """Whether it is an L disc with files and no directories, by the counts of `check`. It opens in either order of its sides."""
+    return order == "auto" and counts["dirs"] == 1 and counts["files"] > 0 and has_l_size(image.file)
 
 
 def to_disc_order(interleaved: bytes) -> bytes:
@@ -111,7 +118,7 @@ class Image:
     def run(self, program: str, script: bytes) -> Run:
         """A run that only reads. The name is that of an open file, so that every run of a job is over the same one."""
         number = self.file.fileno()
-        return Run(program, self.path, ["--read-only", "--", "/dev/fd/%d" % number], script, [number])
+        return Run(program, self.path, [READ_ONLY, "--", "/dev/fd/%d" % number], script, [number])
 
 
 def interleaved_image(path: str, file: BinaryIO) -> Image:

@@ -9,12 +9,12 @@ from typing import Callable, Dict, Iterable, Iterator, List, Optional
 
 from . import names
 from .extraction import Extraction, words_of
-from .faults import explained
+from .faults import explained, refusal_explained
 from .hostfiles import keep
 from .images import HEADER, L_SIZE, open_file, open_image, pieces_from, read_at, size_of, to_disc_order, to_interleaved
 from .listing import counted, row, rows
 from .messages import FAILED, WRONG_WORDS, Progress, Trouble, reason, say, shown, tell
-from .output import Folder, NewFile, TemporaryName, new_folder, split_path
+from .output import Folder, NewFile, new_folder, place_text, published, split_path
 from .program import BadImage, Entry, Path, Refused, Run, command, find_program
 from .tree import find_entry, read_tree
 
@@ -29,14 +29,17 @@ def path_from(text: str) -> Path:
 
 
 def refusal(refused: Refused, words: Namespace) -> Trouble:
-    texts = {"NotFound": "there is no such object on the disc", "NotDirectory": "a file stands where a directory has to"}
-    return Trouble("%s: %s: %s" % (shown(words.image), shown(words.path), texts.get(refused.name, refused.name)))
+    return Trouble("%s: %s: %s" % (shown(words.image), shown(words.path), refusal_explained(refused.name)))
 
 
 def not_accepted(path: str, fault: BadImage) -> str:
     """The fault in words."""
-    with open_file(path) as file:
-        return "%s: not accepted: %s" % (shown(path), explained(fault.words, read_at(file, 0, 16)))
+    try:
+        with open_file(path) as file:
+            head = read_at(file, 0, 16)
+    except Trouble:  # it can't be read any more, and fcore has said what is wrong
+        head = b""
+    return "%s: not accepted: %s" % (shown(path), explained(fault.words, head))
 
 
 # ---- list
@@ -103,13 +106,6 @@ def save(entry: Entry, pieces: Iterator[bytes], wanted: Optional[str]) -> int:
         return 0
     tell("%s: has another name here: %s" % (names.spelled_path(entry.path), shown(name)))
     return FAILED
-
-
-def place_text(folder: str, name: bytes, error: OSError) -> str:
-    """Which file couldn't be made, and why."""
-    text = "there is something of this name already" if isinstance(error, FileExistsError) else reason(error)
-    place = name if folder == "." and name else os.path.join(os.fsencode(folder), name)
-    return "%s: %s" % (shown(place), text)
 
 
 # ---- extract
@@ -190,15 +186,9 @@ def found(counts: Dict[str, int]) -> str:
 
 def new(words: Namespace) -> int:
     program = find_program()
-    folder, name = split_path(words.image)
-    try:
-        with Folder.at(folder) as holder, TemporaryName(holder) as temporary:
-            place = "/dev/fd/%d/%s" % (holder.number, os.fsdecode(temporary))
-            with Run(program, words.image, ["--new", words.format, "--", place], b"", [holder.number]):
-                pass
-            holder.publish(temporary, name)
-    except OSError as error:
-        raise Trouble(place_text(folder, name, error)) from None
+    with published(words.image) as (holder, temporary):
+        with Run(program, words.image, ["--new", words.format, "--", holder.place(temporary)], b"", [holder.number]):
+            pass
     return 0
 
 
@@ -224,12 +214,8 @@ def strip(words: Namespace) -> int:
 
 def write_new(path: str, pieces: Iterable[bytes]) -> None:
     """A new file of the host; nothing may have its name yet."""
-    folder, name = split_path(path)
-    try:
-        with Folder.at(folder) as holder, NewFile(holder, pieces) as temporary:
-            holder.publish(temporary, name)
-    except OSError as error:
-        raise Trouble(place_text(folder, name, error)) from None
+    with published(path, lambda holder: NewFile(holder, pieces)):
+        pass
 
 
 def verdict(program: str, path: str) -> int:

@@ -23,9 +23,9 @@ def kind(entry: Entry) -> str:
     """A file's type and its name, or its load and exec words."""
     if entry.is_directory:
         return "directory"
-    if not names.has_type(entry.load):
+    number = names.type_of(entry.load)
+    if number is None:
         return "%08x-%08x" % (entry.load, entry.execution)
-    number = entry.load >> 8 & 0xFFF
     return ("%03x %s" % (number, TYPES.get(number, ""))).rstrip()
 
 

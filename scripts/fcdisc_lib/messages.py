@@ -57,7 +57,6 @@ class Progress:
             Progress.line_is_there = True
             print("\r%s: %d of %d" % (self.what, self.done, self.total), end="", file=sys.stderr, flush=True)
 
-
     def passed(self, pieces: Iterable[bytes]) -> Iterator[bytes]:
         """The pieces, as they come by; the line counts bytes."""
         for piece in pieces:

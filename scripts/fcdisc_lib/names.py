@@ -37,6 +37,11 @@ def spelled_path(names: Sequence[bytes]) -> str:
     return ".".join(["$", *map(spelled, names)])
 
 
+def path_bytes(names: Sequence[bytes]) -> bytes:
+    """The path as a script has it."""
+    return spelled_path(names).encode("ascii")
+
+
 def read_spelled(text: str) -> bytes:
     """The name that fcore spelled."""
     if "%" in text:
@@ -85,8 +90,13 @@ def has_type(load: int) -> bool:
     return load >> 20 == 0xFFF
 
 
+def type_of(load: int) -> Optional[int]:
+    return load >> 8 & 0xFFF if has_type(load) else None
+
+
 def suffix_of(load: int, execution: int) -> bytes:
-    return b",%03x" % (load >> 8 & 0xFFF) if has_type(load) else b",%08x-%08x" % (load, execution)
+    number = type_of(load)
+    return b",%08x-%08x" % (load, execution) if number is None else b",%03x" % number
 
 
 def host_part(byte: int) -> bytes:

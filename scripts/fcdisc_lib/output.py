@@ -10,12 +10,15 @@ import itertools
 import os
 import secrets
 import stat
-from contextlib import suppress
-from typing import Callable, Iterable, Optional, Sequence, Set, Tuple, TypeVar
+from contextlib import contextmanager, suppress
+from typing import Callable, Iterable, Iterator, Optional, Sequence, Set, Tuple, TypeVar
+
+from .messages import Trouble, reason, shown
 
 Inode = Tuple[int, int]
 AnyFolder = TypeVar("AnyFolder", bound="Folder")
 NAME_LIMIT = 255
+TAKEN = "there is something of this name already"
 # A system that has no hard links says one of these
 NO_LINKS = (errno.EPERM, errno.EOPNOTSUPP, errno.ENOSYS, errno.EMLINK)
 NEW_FILE = os.O_WRONLY | os.O_CREAT | os.O_EXCL | os.O_NOFOLLOW
@@ -71,6 +74,10 @@ class Folder:
     def inode(self, name: bytes) -> Inode:
         found = os.stat(name, dir_fd=self.number, follow_symlinks=False)
         return found.st_dev, found.st_ino
+
+    def place(self, name: bytes) -> str:
+        """The path of a file in it for a program that has the folder open too, under the same number."""
+        return "/dev/fd/%d/%s" % (self.number, os.fsdecode(name))
 
     def make(self, name: bytes) -> None:
         """Makes a folder in it. FileExistsError if the name is there, whatever has it."""
@@ -143,6 +150,25 @@ class NewFile(TemporaryName):
                 self.mark(number)
         finally:
             os.close(number)
+
+
+@contextmanager
+def published(path: str, make: Callable[[Folder], TemporaryName] = TemporaryName) -> Iterator[Tuple[Folder, bytes]]:
+    """A folder and a temporary name in it, for a file that gets the path's name at the end. Trouble if it can't, or something has it."""
+    folder, name = split_path(path)
+    try:
+        with Folder.at(folder) as holder, make(holder) as temporary:
+            yield holder, temporary
+            holder.publish(temporary, name)
+    except OSError as error:
+        raise Trouble(place_text(folder, name, error)) from None
+
+
+def place_text(folder: str, name: bytes, error: OSError) -> str:
+    """Which file couldn't be made, and why."""
+    text = TAKEN if isinstance(error, FileExistsError) else reason(error)
+    place = name if folder == "." and name else os.path.join(os.fsencode(folder), name)
+    return "%s: %s" % (shown(place), text)
 
 
 def write_all(number: int, piece: bytes) -> None:

@@ -15,6 +15,7 @@ from .messages import Trouble, reason, shown
 SCRIPT_LIMIT = 1 << 24  # bytes; fcore takes no longer script
 BUFFER = 1 << 20
 DIRECTORY = 8  # of an object's attributes
+READ_ONLY = "--read-only"
 Path = Tuple[bytes, ...]
 Subject = TypeVar("Subject")
 
@@ -24,6 +25,7 @@ ENDS = {
     5: "fcore couldn't read its script", 6: "fcore couldn't write its replies", 7: "fcore ran out of memory",
     8: "fcore's script is too long", 9: "this fcore can't do that: is it of another version?", 12: "fcore can't open it",
 }
+WRITING_ENDS = {**ENDS, 4: "I/O error while fcore read or wrote it (is the host full?)"}
 
 
 class BadImage(Exception):
@@ -91,6 +93,7 @@ class Run:
         assert self.process.stdin and self.process.stdout
         self.replies: BinaryIO = self.process.stdout  # type: ignore[assignment]
         self.image, self.script = image, script
+        self.ends = ENDS if READ_ONLY in words else WRITING_ENDS
 
     def __enter__(self) -> Run:
         try:
@@ -136,7 +139,7 @@ class Run:
 
     def cause(self, line: bytes) -> Exception:
         """Why there is another line, or none, in a reply's place."""
-        changed = self.trouble("fcore's answer isn't what was asked for: did the image change meanwhile?")
+        changed = self.changed()
         if self.replies.peek(1):  # type: ignore[attr-defined]
             return changed
         status = self.process.wait()
@@ -144,7 +147,10 @@ class Run:
             return BadImage(line.decode("ascii").rstrip("\n").partition(" ")[2])
         if status < 0:
             return self.trouble("fcore was ended by signal %d" % -status)
-        return changed if status in (0, 1) else self.trouble(ENDS.get(status, "fcore ended with status %d" % status))
+        return changed if status in (0, 1) else self.trouble(self.ends.get(status, "fcore ended with status %d" % status))
+
+    def changed(self) -> Trouble:
+        return self.trouble("fcore's answer isn't what was asked for: did the image change meanwhile?")
 
     def trouble(self, text: str) -> Trouble:
         return Trouble("%s: %s" % (shown(self.image), text))
@@ -216,7 +222,7 @@ def read_entry(directory: Path, line: bytes) -> Entry:
 
 def command(word: str, path: Path) -> bytes:
     """A line of a script."""
-    return b"%s %s\n" % (word.encode("ascii"), names.spelled_path(path).encode("ascii"))
+    return b"%s %s\n" % (word.encode("ascii"), names.path_bytes(path))
 
 
 def batches(word: str, entries: Iterable[Entry]) -> Iterator[Tuple[bytes, List[Entry]]]:

@@ -1,10 +1,10 @@
 """The objects of a disc, found from a directory down."""
 from __future__ import annotations
 
-from typing import Dict, Iterator, List, Tuple
+from typing import Dict, Iterable, Iterator, List, Optional, Tuple
 
 from . import names
-from .images import AS_IT_IS, Image, has_l_size, open_image
+from .images import AS_IT_IS, Image, has_doubtful_order, open_image
 from .messages import Progress, shown, tell
 from .program import Entry, Path, Refused, Run, batches, command
 
@@ -44,15 +44,20 @@ def read_tree(program: str, path: str, order: str, start: Path) -> Tree:
     tell_doubt(image, order, counts)
     tree = Tree(image, start)
     tree.entries[start] = entries
-    progress = Progress("directories read", counts["dirs"])
-    level = [entry for entry in entries if entry.is_directory]
+    read_below(program, tree, Progress("directories read", counts["dirs"]))
+    if tree.too_deep:
+        tell("%s: directories more than %d deep are left out" % (shown(path), MAX_DEPTH))
+    return tree
+
+
+def read_below(program: str, tree: Tree, progress: Progress) -> None:
+    """Reads all below the start, whose entries are there already."""
+    level = [entry for entry in tree.entries[tree.start] if entry.is_directory]
     while level:
         if len(level[0].path) > MAX_DEPTH:
             tree.too_deep = len(level)
-            tell("%s: directories more than %d deep are left out" % (shown(path), MAX_DEPTH))
-            break
+            return
         level = read_level(program, tree, level, progress)
-    return tree
 
 
 def read_level(program: str, tree: Tree, level: List[Entry], progress: Progress) -> List[Entry]:
@@ -61,16 +66,18 @@ def read_level(program: str, tree: Tree, level: List[Entry], progress: Progress)
     for script, directories in batches("cat", level):
         with tree.image.run(program, script) as run:
             for directory in directories:
-                entries = tree.entries[directory.path] = run.cat(directory.path)
+                try:
+                    entries = tree.entries[directory.path] = run.cat(directory.path)
+                except Refused:  # it was listed
+                    raise run.changed() from None
                 found += [entry for entry in entries if entry.is_directory]
                 progress.step()
     return found
 
 
 def tell_doubt(image: Image, order: str, counts: Dict[str, int]) -> None:
-    """An L disc without directories opens in either order of its sides, so nothing shows whether it was the right one."""
-    doubtful = order == "auto" and image.how == AS_IT_IS and counts["dirs"] == 1 and counts["files"]
-    if doubtful and has_l_size(image.file):
+    """Nothing shows whether it was the right order. That a name says .adl is told already."""
+    if image.how == AS_IT_IS and has_doubtful_order(image, order, counts):
         tell("%s: taken to be in disc order; if files look wrong, its sides are interleaved: use --order adl" % shown(image.path))
 
 
@@ -80,9 +87,14 @@ def find_entry(program: str, path: str, order: str, place: Path) -> Tuple[Image,
         return run.check(), run.cat(place[:-1])
 
     image, (counts, entries) = open_image(program, path, order, b"check\n" + command("cat", place[:-1]), read)
-    wanted = names.folded(place[-1])
-    for entry in entries:
-        if names.folded(entry.name) == wanted:
-            tell_doubt(image, order, counts)
-            return image, entry
-    raise Refused("NotFound")
+    entry = named(entries, place[-1])
+    if entry is None:
+        raise Refused("NotFound")
+    tell_doubt(image, order, counts)
+    return image, entry
+
+
+def named(entries: Iterable[Entry], name: bytes) -> Optional[Entry]:
+    """The one of that name, if there is one."""
+    wanted = names.folded(name)
+    return next((entry for entry in entries if names.folded(entry.name) == wanted), None)
