@@ -1,5 +1,5 @@
 -- A walk over the holes of a map, by the links between those of a zone.
-use Rattle.std.proofs.Common.{◌≡◌, ◌<◌, ◌≤◌, ℕ, suc, ◌+◌, Bool, true, false, cond, Option, Some, None, List, [], ◌∷◌, ◌++◌, refl, sym, ap, ap₂, subst, ◌∙◌, arith, append_assoc}
+use Rattle.std.proofs.Common.{◌≡◌, ◌<◌, ◌≤◌, ℕ, ◌+◌, Bool, true, false, cond, Option, Some, None, List, [], ◌∷◌, ◌++◌, refl, sym, ap, ap₂, subst, ◌∙◌, arith, append_assoc}
 use Rattle.std.specs.Option.{IfSome, MatchOption}
 use Rattle.std.proofs.lemmas.List.{map-append}
 use Rattle.std.proofs.lemmas.List.Elements.{filter-append}
@@ -14,7 +14,7 @@ use Rattle.fc_zone.specs.Zone.{Zone, hole_starts, start_if_hole}
 use Rattle.fc_zone.proofs.EditLemmas.{run_place}
 use Rattle.fc_zone.proofs.HolderLemmas.{run_is}
 use Rattle.fc_newmap.specs.declared.walk.Walk.{Walk}
-use Rattle.fc_newmap.specs.Map.{Map, ZoneRun, is_hole, runs_in, runs_of, sector_of}
+use Rattle.fc_newmap.specs.Map.{Map, ZoneRun, is_hole, runs_in, sector_of}
 use Rattle.fc_newmap.specs.RunsLaw.{placed}
 use Rattle.fc_newmap.specs.Walk.{HasPassedHole, IsInZone, StandsBefore, bits_left, holes_in, runs_after, zone_after, zones_from}
 

@@ -1,10 +1,8 @@
 -- The root in the record of zone 0.
-use Rattle.std.proofs.Common.{◌≡◌, ◌≤◌, ℕ, ◌+◌, List, ◌++◌, length, take, drop, sym, ap, ap₂, ◌∙◌, arith, length-append, length-drop, append_assoc}
-use Rattle.std.proofs.Math.Seq.{take-append-add, drop-append-add}
-use Rattle.std.proofs.lemmas.List.{length-take-le, drop-drop, take_at, drop_at}
+use Rattle.std.proofs.Common.{◌≡◌, ◌≤◌, ℕ, List, ◌++◌, length, take, drop, ap, ◌∙◌, arith, length-append, length-drop, append_assoc}
+use Rattle.std.proofs.lemmas.List.{length-take-le, take_at, drop_at}
 use Rattle.byteorder.specs.Endian.{little_bytes}
 use Rattle.byteorder.specs.Numbers.{length-bytes_low_first}
-use Rattle.fc_bytes.specs.Bits.{overwritten}
 use Rattle.fc_zone.specs.declared.ZoneShape.{ZoneShape}
 use Rattle.fc_zone.specs.declared.Run.{Run}
 use Rattle.fc_zone.specs.Zone.{Zone}

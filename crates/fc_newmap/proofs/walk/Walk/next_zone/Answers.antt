@@ -1,4 +1,4 @@
-use Rattle.std.proofs.Common.{◌≡◌, ◌-◌, ap, ◌∙◌, arith}
+use Rattle.std.proofs.Common.{◌-◌, ap, ◌∙◌, arith}
 use Rattle.fc_record.specs.declared.Geometry.{Geometry}
 use Rattle.fc_newmap.specs.Walk.{zone_after}
 use Rattle.fc_newmap.proofs.WalkLemmas.{moved}
