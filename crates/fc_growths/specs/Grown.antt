@@ -180,7 +180,7 @@ pub record IsGrownFileChange (kind : Kind) (r : DiscRecord) (image image' : List
   pub load_word : o.entry.load ≡ load
   pub exec_word : o.entry.exec ≡ exec
   pub len : o.entry.len ≡ length bytes
-  -- its place, and its bytes (`write_piece` of each sector)
+  -- its place, and its bytes
   pub at : IsAt (Layout.New m') o
   pub place_is : IsFileAt m (objects_of v.listings) (holder path) (length bytes) id parts o
   pub stored : object_bytes image' (Layout.New m') o ≡ bytes

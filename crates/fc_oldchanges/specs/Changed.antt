@@ -94,7 +94,7 @@ pub record IsFileChange (kind : Kind) (image image' : List ℕ) (v : Opened) (sp
   pub load_word : o.entry.load ≡ load
   pub exec_word : o.entry.exec ≡ exec
   pub len : o.entry.len ≡ length bytes
-  -- its place (`OldMap::take`), and its bytes (`write_piece` of each sector)
+  -- its place (`OldMap::take`), and its bytes
   pub at : IsAt (Layout.Old space) o
   pub place : IsFileAt space (length bytes) o
   pub stored : object_bytes image' (Layout.Old space) o ≡ bytes
