@@ -15,7 +15,8 @@ mod room;
 
 pub use draft::Draft;
 pub use entries::{
-    directory_entry, file_entry, marked_entry, new_dir_size, regrown_entry, renamed_entry, saved_entry, set_entry,
+    directory_entry, file_entry, marked_entry, new_dir_size, regrown_entry, renamed_entry,
+    saved_entry, set_entry,
 };
 pub use laws::{edited, free_names, made_entries};
 pub use room::Room;

@@ -1,5 +1,5 @@
 -- What a spelled byte is, and how a text is read byte by byte.
-use Rattle.std.proofs.Common.{◌≡◌, ◌≤◌, ◌<◌, ◌/◌, ◌%◌, ℕ, false, List, [], ◌∷◌, ◌++◌, length, take, drop, slice_index, Option, Some, None, refl, ◌∙◌, sym, ap, arith, append_assoc, append-nil, get_or, le-leb, length-append, if◌then◌else◌}
+use Rattle.std.proofs.Common.{◌≡◌, ◌≤◌, ◌<◌, ◌/◌, ◌%◌, ℕ, false, List, [], ◌∷◌, ◌++◌, length, take, drop, slice_index, Option, Some, None, refl, ◌∙◌, sym, ap, arith, append_assoc, append-nil, le-leb, length-append, if◌then◌else◌}
 use Rattle.std.specs.Int.{IsInRange, is_in_range}
 use Rattle.std.proofs.lemmas.Bool.{and_right, lt-leb}
 use Rattle.std.specs.List.{All, flat_map}
@@ -7,7 +7,7 @@ use Rattle.std.proofs.lemmas.List.{length-take, take-append-drop, take-append-le
 use Rattle.std.specs.Option.{option_map, option_and_then}
 use Rattle.std.proofs.lemmas.List.Elements.{All-append, All-nil, All-cons}
 use Rattle.hex.specs.Hex.{encode_with, upper_digits}
-use Rattle.fc_names.specs.Names.{IsName, is_plain}
+use Rattle.fc_names.specs.Names.{is_plain}
 use Rattle.fc_names.specs.Paths.{cons_some, name_of, spelled_byte, spelled_bytes, spelled_name}
 
 -- a byte that isn't plain is spelled by its two digits

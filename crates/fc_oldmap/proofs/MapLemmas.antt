@@ -6,7 +6,7 @@ use Rattle.std.proofs.lemmas.Option.{none-some}
 use Rattle.fc_oldmap.specs.declared.TakeError.{TakeError}
 use Rattle.fc_oldmap.specs.declared.TakeError.TheVariants.{DiscFull, CompactionRequired}
 use Rattle.fc_oldmap.specs.declared.Hole.{Hole}
-use Rattle.fc_oldmap.specs.Holes.{hole, hole_end, hole_sum, hole_limit, rest_after_take, after_take, first_fit_place, take_answer, after_give, shifted, tidied, IsHole, AreHoles, AreApart, AreOfSomeDisc}
+use Rattle.fc_oldmap.specs.Holes.{hole, hole_end, hole_sum, hole_limit, rest_after_take, after_take, first_fit_place, take_answer, after_give, shifted, tidied, IsHole, AreHoles, AreApart}
 use Rattle.fc_oldmap.specs.OldMap.{OldMapContent, IsOldMap}
 use Rattle.fc_oldmap.proofs.FitLemmas.{after_give-front, raised}
 use Rattle.fc_oldmap.proofs.SpaceLemmas.{mod-sum, AreHoles-joined_with, length-joined_with}

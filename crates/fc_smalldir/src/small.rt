@@ -12,8 +12,8 @@ use crate::bytes::padded;
 use crate::entries::{count_entries, first_twin, put_entries, read_entries};
 use crate::entry::words_fit;
 use crate::head::{
-    ENTRY, HEAD, Head, check_of, has_old_word, is_check_right, is_magic_right, is_sequence_right, put_head,
-    put_tail, read_head,
+    ENTRY, HEAD, Head, check_of, has_old_word, is_check_right, is_magic_right, is_sequence_right,
+    put_head, put_tail, read_head,
 };
 use crate::{DirError, InsertError};
 use fc_bytes::put;

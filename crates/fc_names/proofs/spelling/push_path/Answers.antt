@@ -1,5 +1,4 @@
-use Rattle.std.proofs.Common.{◌∙◌, sym}
-use Rattle.std.proofs.lemmas.List.Elements.{All-head, All-tail}
+use Rattle.std.proofs.lemmas.List.Elements.{All-tail}
 use Rattle.fc_names.specs.Names.{IsName}
 use Rattle.fc_names.proofs.SpellingLemmas.{part_pushed, still_kept}
 use Rattle.fc_names.proofs.spelling.push_path.Goals as goal

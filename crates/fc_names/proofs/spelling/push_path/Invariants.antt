@@ -1,4 +1,4 @@
-use Rattle.std.proofs.Common.{◌≡◌, ◌++◌, ◌∷◌, take, length}
+use Rattle.std.proofs.Common.{◌≡◌, ◌++◌, take, length}
 use Rattle.std.specs.List.{All, flat_map}
 use Rattle.fc_names.specs.Names.{IsName}
 use Rattle.fc_names.specs.Paths.{spelled_path}

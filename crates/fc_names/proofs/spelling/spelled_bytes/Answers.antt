@@ -1,6 +1,5 @@
-use Rattle.std.proofs.Common.{rules, arith, ◌≡◌, ◌≤◌, ◌∙◌, [], length, sym, eqb-true}
-use Rattle.std.proofs.lemmas.List.{nil_from_length}
-use Rattle.fc_names.proofs.SpellingLemmas.{IsRead-next, name_of-read, name_of-too_long}
+use Rattle.std.proofs.Common.{◌∙◌, sym, eqb-true}
+use Rattle.fc_names.proofs.SpellingLemmas.{IsRead-next, name_of-too_long}
 use Rattle.fc_names.proofs.spelling.spelled_bytes.Goals as goal
 
 pub loop-rest-preserved : goal.loop-rest-preserved

@@ -1,4 +1,3 @@
-use Rattle.std.proofs.Common.{◌∙◌, ap, sym}
 use Rattle.fc_names.proofs.PackedLemmas.{packed_after, names_after-push}
 use Rattle.fc_names.proofs.path.Path.push_bytes.Goals as goal
 
