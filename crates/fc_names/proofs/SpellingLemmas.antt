@@ -1,5 +1,5 @@
 -- What a spelled byte is, and how a text is read byte by byte.
-use Rattle.std.proofs.Common.{◌≡◌, ◌≤◌, ◌<◌, ◌/◌, ◌%◌, ℕ, false, List, [], ◌∷◌, ◌++◌, length, take, drop, slice_index, Option, Some, None, refl, ◌∙◌, sym, ap, arith, append_assoc, append-nil, le-leb, length-append, if◌then◌else◌}
+use Rattle.std.proofs.Common.{◌≡◌, ◌≤◌, ◌<◌, ◌/◌, ◌%◌, ℕ, false, List, [], ◌∷◌, ◌++◌, length, take, drop, slice_index, Option, Some, None, refl, ◌∙◌, sym, ap, arith, append_assoc, length-append, if◌then◌else◌}
 use Rattle.std.specs.Int.{IsInRange, is_in_range}
 use Rattle.std.proofs.lemmas.Bool.{and_right, lt-leb}
 use Rattle.std.specs.List.{All, flat_map}
@@ -59,15 +59,6 @@ pub name_of-too_long : (text done rest after : List ℕ) (c : ℕ) → IsRead te
     → spelled_bytes rest ≡ cons_some (Some c) (spelled_bytes after) → length done ≡ 255 → name_of text ≡ None
 name_of-too_long text done rest after c read e full =
     ap named (read.spells ∙ ap (after_some done) e) ∙ named-too_long done c (spelled_bytes after) full
-
--- the bytes that were read are the name, if all is read
-pub name_of-read : (text done rest : List ℕ) → IsRead text done rest → rest ≡ [] → 1 ≤ length done → length done ≤ 255
-    → Some done ≡ name_of text
-name_of-read text done rest read e some most =
-    sym (
-    ap named (read.spells ∙ ap (λ r. after_some done (spelled_bytes r)) e ∙ ap Some (append-nil done))
-    ∙ rw (le-leb 1 (length done) some, le-leb (length done) 255 most) refl
-    )
 
 -- how a name is spelled in a path
 abbrev pub spelled_part : List ℕ → List ℕ
