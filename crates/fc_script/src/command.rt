@@ -64,7 +64,7 @@ pub enum Command {
         exec: u32,
         bytes: Bytes,
     },
-    /// Writes a file of `len` bytes, whatever they are.
+    /// Writes a file of `len` bytes 0.
     Create {
         path: Path,
         load: u32,
