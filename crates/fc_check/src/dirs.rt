@@ -47,10 +47,10 @@ fn with_dir(counts: DirCounts, entries: &[Entry], is_parent_right: bool) -> DirC
     ensures { result ≡ with_dir counts entries.now is_parent_right }
 {
     DirCounts {
-        files: counts.files,
         dirs: counts.dirs + 1,
         unsorted: counts.unsorted + u64::from(!is_sorted(entries)),
         parents: counts.parents + u64::from(!is_parent_right),
+        ..counts
     }
 }
 
@@ -66,9 +66,7 @@ fn with_node(counts: DirCounts, tree: &Tree, node: &Node) -> DirCounts
     match &node.body {
         Body::File => DirCounts {
             files: counts.files + 1,
-            dirs: counts.dirs,
-            unsorted: counts.unsorted,
-            parents: counts.parents,
+            ..counts
         },
         Body::Small(dir) => with_dir(counts, dir.entries(), dir.parent() == address),
         Body::Big(dir) => with_dir(counts, dir.entries(), dir.parent() == address),

@@ -57,12 +57,11 @@ fn with_run(sums: RunSums, run: Run, owners: &Owners) -> RunSums
         RunKind::Hole => RunSums {
             holes: sums.holes + 1,
             free: sums.free + len,
-            lost: sums.lost,
+            ..sums
         },
         RunKind::Id(id) if is_lost(owners, id) => RunSums {
-            holes: sums.holes,
-            free: sums.free,
             lost: sums.lost + len,
+            ..sums
         },
         RunKind::Id(_) => sums,
     }

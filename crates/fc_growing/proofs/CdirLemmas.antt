@@ -4,7 +4,7 @@ use Rattle.std.specs.Prelude.{Contains, IsTrue, Result, Ok, Err}
 use Rattle.std.specs.FinMap.{get, insert as put}
 use Rattle.std.specs.List.{list_any}
 use Rattle.std.proofs.lemmas.List.Folds.{list_any-append}
-use Rattle.fc_names.specs.Names.{Path}
+use Rattle.fc_names.specs.Names.{Path, is_directory}
 use Rattle.fc_names.specs.declared.refusal.Refusal.TheVariants as refusals
 use Rattle.fc_record.specs.declared.Kind.{Kind}
 use Rattle.fc_newmap.specs.Map.{Map}
@@ -39,17 +39,19 @@ use Rattle.fc_tree.specs.Parts.{ArePartsOf, Parts}
 use Rattle.fc_grownlaws.proofs.lemmas.agree.ViewedLemmas.{viewed_law}
 use Rattle.fc_volume.specs.declared.lines.CommandError.{CommandError}
 use Rattle.fc_volume.specs.declared.lines.CommandError.TheVariants.{DiskFault}
+use Rattle.fc_volume.specs.Admitting.{IsAdmitted}
 use Rattle.fc_volume.specs.Changing.{HasChanged, WritesPlaces}
 use Rattle.fc_volume.specs.Making.{AnswersSpace}
-use Rattle.fc_volume.specs.Owners.{entry_owner}
+use Rattle.fc_volume.specs.Owners.{entry_owner, with_owner}
 use Rattle.fc_volume.specs.Volume.{StandsFor, Volume, parts_of}
 use Rattle.fc_volume.specs.Roomy.{IsRoomy}
+use Rattle.fc_volume.proofs.AdmittingLemmas.{directory_owned}
 use Rattle.fc_volume.proofs.FitsLemmas.{fits_cdir, room_fits}
 use Rattle.fc_volume.proofs.StandsLemmas.{new_layout}
 use Rattle.fc_volume.proofs.StoringLemmas.{one_map}
 use Rattle.fc_growing.specs.declared.making.GrownMaking.{GrownMaking}
 use Rattle.fc_growing.specs.declared.place.GrownPlace.{GrownPlace}
-use Rattle.fc_growing.specs.Growing.{CanTakeOver, IsGrowingDone, IsObjectAdmitted, LiesOn, nodes_grown, owners_grown, regrowth, sectors_written}
+use Rattle.fc_growing.specs.Growing.{CanTakeOver, IsGrowingDone, LiesOn, nodes_grown, owners_grown, regrowth, sectors_written}
 use Rattle.fc_growing.specs.Making.{CanGrowBy, HasMadeGrown, HasRoomAt, IsCdirReady, node_made}
 use Rattle.fc_growing.specs.Needs.{short_of}
 use Rattle.fc_growing.specs.Place.{IsGrowthPlanned, new_place}
@@ -68,15 +70,6 @@ use Rattle.fc_growing.proofs.VolumeLemmas.{HasNow, has_changed as volume_changed
 same_nodes : (t : Numbers) (room : ℕ) → nodes_of (record t { room = room }) ≡ nodes_of t
 unfolding nodes_of
 same_nodes t room = refl
-
--- the volume before the call, by its parts
-pub admitted_from : (w v now : Volume) (t : Numbers) (n k dir : ℕ) (e : Entry) → t ≡ w.tree → w ≡ v → n ≡ k → IsObjectAdmitted (record w { tree = t }) now n dir e → IsObjectAdmitted v now k dir e
-admitted_from w v now t n k dir e same is number a =
-    subst (λ (j : ℕ). IsObjectAdmitted v now j dir e) number
-    (subst (λ (x : Volume). IsObjectAdmitted x now n dir e) is (subst (λ (y : Numbers). IsObjectAdmitted (record w { tree = y }) now n dir e) same a))
-
-pub kept_from : (w v now : Volume) (t : Numbers) → t ≡ w.tree → w ≡ v → now ≡ record w { tree = t } → now ≡ v
-kept_from w v now t same is e = e ∙ ap (λ (y : Numbers). record w { tree = y }) same ∙ is
 
 -- an owner is still there after another comes
 still_owned : (owners : List Owner) (o : Owner) (n : ℕ) → IsTrue (has_node owners n) → IsTrue (has_node (owners ++ o ∷ []) n)
@@ -223,14 +216,20 @@ module _ {D : Type 0} (d : Ghosts D) (old : D) (w v : Volume) (same : w ≡ v) (
 
     -- ---- afterwards
 
-    module _ (now : Volume) (number_is : number ≡ next_number v.tree) (admitted : IsObjectAdmitted v now number dir r.entry) where
+    module _ (now : Volume) (number_is : number ≡ next_number v.tree) (admitted : IsAdmitted v now number dir r.entry) where
+      owned_now : now.owners ≡ v.owners ++ entry_owner (layout_of v.space) number dir r.entry ∷ []
+      owned_now =
+          admitted.owners
+          ∙ subst (λ (x : Layout). with_owner v.owners (entry_owner x number dir r.entry) ≡ v.owners ++ entry_owner x number dir r.entry ∷ []) (sym layout)
+          (directory_owned m is_map r.entry (ap (λ (e : Entry). is_directory e.attrs) is.ready.entry) (ap (λ (e : Entry). e.len) is.ready.entry) number dir v.owners)
+
       pub over : CanTakeOver (nodes_of now.tree) now.owners r.growing
       over =
           let nodes_now : nodes_of now.tree ≡ nodes_of v.tree = ap nodes_of admitted.tree ∙ same_nodes v.tree (v.tree.room + 1) in
           record {
             there = subst (λ (ns : Nodes). Rattle.std.specs.Prelude.All (λ x. Rattle.std.specs.Prelude.IsSome (get ns x.node)) r.growing.around.items) (sym nodes_now) over_v.there;
             grown = subst (λ (ns : Nodes). Rattle.std.specs.Prelude.IsSome (get ns r.growing.node)) (sym nodes_now) over_v.grown;
-            owner = subst (λ (os : List Owner). IsTrue (has_node os r.growing.node)) (sym admitted.owners) (still_owned v.owners (entry_owner (layout_of v.space) number dir r.entry) r.growing.node over_v.owner);
+            owner = subst (λ (os : List Owner). IsTrue (has_node os r.growing.node)) (sym owned_now) (still_owned v.owners (entry_owner (layout_of v.space) number dir r.entry) r.growing.node over_v.owner);
           }
 
       module _ (v' : Volume) (new : D) (has_made : HasMadeGrown now v' r) (m' : Map) (layout' : layout_of v'.space ≡ Layout.New m')
@@ -256,7 +255,7 @@ module _ {D : Type 0} (d : Ghosts D) (old : D) (w v : Volume) (same : w ≡ v) (
         owners_are : v'.owners ≡ owners'
         owners_are =
             has_made.owners is.ready.node (ap (λ (ns : Nodes). get ns r.growing.node) (ap nodes_of admitted.tree ∙ same_nodes v.tree (v.tree.room + 1)) ∙ is.ready.there)
-            ∙ ap₂ (λ (x : Layout) (os : List Owner). owners_grown x is.ready.node r.growing os) layout' admitted.owners
+            ∙ ap₂ (λ (x : Layout) (os : List Owner). owners_grown x is.ready.node r.growing os) layout' owned_now
             ∙ changed_push v.owners (entry_owner (Layout.New m') r.growing.node up (regrown is.ready.node.entry p.address p.len)) (entry_owner (layout_of v.space) number dir r.entry) other_number
             ∙ ap₂ (λ (x : Layout) (j : ℕ). with_changed (entry_owner (Layout.New m') r.growing.node up (regrown is.ready.node.entry p.address p.len)) v.owners ++ entry_owner x number j r.entry ∷ []) layout (sym node_is)
 

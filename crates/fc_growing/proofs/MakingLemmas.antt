@@ -15,13 +15,7 @@ use Rattle.fc_volume.specs.Making.{AnswersSpace}
 use Rattle.fc_growing.specs.declared.making.GrownMaking.{GrownMaking}
 use Rattle.fc_growing.specs.declared.place.GrownPlace.{GrownPlace}
 use Rattle.fc_growing.specs.Growing.{IsGrowingReady, parent_after}
-use Rattle.fc_growing.specs.Making.{IsGrownMakingReady, no_space}
-
--- why there is no space, as a command says it
-pub space_said : (S T : Type 0) (e : PlanError) (o : Option Refusal) → AnswersShort {T = S} (Err e) o → AnswersSpace {T = T} (Err (no_space e)) o
-space_said S T errors.IdsFull o h = h
-space_said S T errors.DiscFull o h = h
-space_said S T errors.NoMemory o h = tt
+use Rattle.fc_growing.specs.Making.{IsGrownMakingReady}
 
 -- the place that is planned is the one that it has
 abbrev pub ready_by : (nodes : Nodes) (m : Map) (n : ℕ) (name : List ℕ) (p q : GrownPlace) (r : GrownMaking) → q ≡ p → IsGrownMakingReady nodes m n name p r → IsGrownMakingReady nodes m n name q r

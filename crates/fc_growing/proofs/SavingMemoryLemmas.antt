@@ -8,7 +8,6 @@ use Rattle.fc_dirs.specs.declared.Entry.{Entry}
 use Rattle.fc_tree.specs.Nodes.{Numbers}
 use Rattle.fc_volume.specs.Owners.{with_owner}
 use Rattle.fc_volume.specs.Volume.{Volume}
-use Rattle.fc_growing.specs.Saving.{IsFileAdmitted}
 
 -- an owner more leaves those that there are
 pub still_owner : (owners : List Owner) (new : Owner) (n : ℕ) → has_node owners n ≡ true → has_node (with_owner owners new) n ≡ true
@@ -25,9 +24,3 @@ still_owner owners new n there = by (nat_lt 0 new.sectors)
     by : (b : Bool) → has_node (cond b (owners ++ new ∷ []) owners) n ≡ true
     by true = more owners there
     by false = there
-
--- the volume before the call, by its parts
-pub admitted_from : (w v now : Volume) (t : Numbers) (n k dir : ℕ) (e : Entry) → t ≡ w.tree → w ≡ v → n ≡ k → IsFileAdmitted (record w { tree = t }) now n dir e → IsFileAdmitted v now k dir e
-admitted_from w v now t n k dir e same is number a =
-    subst (λ (j : ℕ). IsFileAdmitted v now j dir e) number
-    (subst (λ (x : Volume). IsFileAdmitted x now n dir e) is (subst (λ (y : Numbers). IsFileAdmitted (record w { tree = y }) now n dir e) same a))

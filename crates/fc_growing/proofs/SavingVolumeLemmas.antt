@@ -29,6 +29,7 @@ use Rattle.fc_tree.specs.Agree.{Agree}
 use Rattle.fc_tree.specs.Nodes.{Numbers, next_number, nodes_of}
 use Rattle.fc_tree.specs.Parts.{ArePartsOf, Parts}
 use Rattle.fc_volume.specs.declared.changes.putting.FileWords.{FileWords}
+use Rattle.fc_volume.specs.Admitting.{IsAdmitted}
 use Rattle.fc_volume.specs.Changing.{HasChanged, WritesPlaces}
 use Rattle.fc_volume.specs.Owners.{entry_owner, with_owner}
 use Rattle.fc_volume.specs.Saving.{filled}
@@ -39,7 +40,7 @@ use Rattle.fc_growing.specs.declared.growing.Growing.{Growing}
 use Rattle.fc_growing.specs.declared.finding.Outgrown.{Outgrown}
 use Rattle.fc_growing.specs.Finding.{IsGrowthFound}
 use Rattle.fc_growing.specs.Growing.{CanTakeOver, IsGrowingDone, LiesOn, nodes_grown, sectors_written}
-use Rattle.fc_growing.specs.Saving.{HasPutGrown, IsFileAdmitted, IsGrownFileDrafted, node_put}
+use Rattle.fc_growing.specs.Saving.{HasPutGrown, IsGrownFileDrafted, node_put}
 use Rattle.fc_growing.specs.Writing.{CanWriteGrowth}
 use Rattle.fc_growing.proofs.AddedLemmas.{changed_push}
 use Rattle.fc_growing.proofs.SavingMemoryLemmas.{still_owner}
@@ -136,7 +137,7 @@ module _ {D : Type 0} (d : Ghosts D) (m : Map) (v : Volume) (old : D) (path : Pa
       saved.lies_on m (nodes_of v.tree) v.owners path n number len words r is stands.agree.0 agreed.root own_view on (d.sectors old)
       (subst (λ (l : Layout). disc_sectors l ≤ d.sectors old) layout stands.room)
 
-  pub can_take_over : (w : Volume) (k : ℕ) → IsFileAdmitted v w k n r.entry → CanTakeOver (nodes_of w.tree) w.owners r.growing
+  pub can_take_over : (w : Volume) (k : ℕ) → IsAdmitted v w k n r.entry → CanTakeOver (nodes_of w.tree) w.owners r.growing
   can_take_over w k admitted =
       let before = saved.can_take_over m (nodes_of v.tree) v.owners path n number len words r is stands.agree.0 agreed.root own_view on in
       let tree : nodes_of w.tree ≡ nodes_of v.tree = ap nodes_of admitted.tree ∙ same_nodes v.tree (v.tree.room + 1) in
@@ -161,7 +162,7 @@ module _ {D : Type 0} (d : Ghosts D) (m : Map) (v : Volume) (old : D) (path : Pa
 
   -- ---- after it
 
-  module _ (own_nodes : HaveOwnNodes v.owners) (w v' : Volume) (new : D) (m' : Map) (admitted : IsFileAdmitted v w number n r.entry) (put_is : HasPutGrown w v' r) (layout' : layout_of v'.space ≡ Layout.New m')
+  module _ (own_nodes : HaveOwnNodes v.owners) (w v' : Volume) (new : D) (m' : Map) (admitted : IsAdmitted v w number n r.entry) (put_is : HasPutGrown w v' r) (layout' : layout_of v'.space ≡ Layout.New m')
       (bytes : List ℕ) (whole : length bytes ≡ words.len) (done : IsGrowingDone d m m' r.growing [] bytes old new) (exits : StopsAndExitsLeave d old new (IsWritten m (sectors_written r.growing []))) where
     abbrev nodes' : Nodes
     nodes' = saved.nodes' m (nodes_of v.tree) v.owners path n number len words r is

@@ -86,16 +86,6 @@ pub record IsGrowingDone {D : Type 0} (d : Ghosts D) (m m' : Map) (r : Growing) 
 
 -- ---- the volume
 
--- The volume has memory for a node of this number, that of a new object of this entry in the directory of node `dir`, and for its owner. All
--- else is as before.
-pub record IsObjectAdmitted (was now : Volume) (n dir : ℕ) (e : Entry) : Type 0 where
-  pub space : now.space ≡ was.space
-  pub copies : now.copies ≡ was.copies
-  pub tree : now.tree ≡ record was.tree { room = was.tree.room + 1 }
-  pub owners : now.owners ≡ was.owners ++ entry_owner (layout_of was.space) n dir e ∷ []
-  pub rights : now.read_only ≡ was.read_only
-  pub fit : now.fit ≡ was.fit
-
 -- What is asked of nodes and owners: the nodes are there, and the grown directory has an owner.
 pub record CanTakeOver (nodes : Nodes) (owners : List Owner) (r : Growing) : Type 0 where
   pub there : All (λ x. IsSome (get nodes x.node)) r.around.items

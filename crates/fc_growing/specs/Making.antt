@@ -79,14 +79,6 @@ pub record CanGrowBy (nodes : Nodes) (m : Map) (owners : List Owner) (n : ℕ) (
 abbrev pub HasRoomAt : Nodes → ℕ → List ℕ → Room → Type 0
 HasRoomAt nodes n name room = (node : Node) (content : Directory) → get nodes n ≡ Some node → node.body ≡ body_in content → (gain : Gain) → GetsName content name gain → HasRoom content gain room
 
--- ---- refusals
-
--- why there is no space, as a command answers it
-abbrev pub no_space : PlanError → CommandError
-no_space errors.IdsFull = Refused refusals.IdsFull
-no_space errors.DiscFull = Refused refusals.DiscFull
-no_space errors.NoMemory = NoMemory
-
 -- ---- the volume
 
 -- the node of the new directory

@@ -88,16 +88,6 @@ pub record IsGrownFileDrafted (nodes : Nodes) (m : Map) (owners : List Owner) (n
 
 -- ---- the volume
 
--- The volume has memory for a node of this number, that of a new object of this entry in the directory of node `dir`, and for its owner, if
--- the object has sectors. All else is as before.
-pub record IsFileAdmitted (was now : Volume) (n dir : ℕ) (e : Entry) : Type 0 where
-  pub space : now.space ≡ was.space
-  pub copies : now.copies ≡ was.copies
-  pub tree : now.tree ≡ record was.tree { room = was.tree.room + 1 }
-  pub owners : now.owners ≡ with_owner was.owners (entry_owner (layout_of was.space) n dir e)
-  pub rights : now.read_only ≡ was.read_only
-  pub fit : now.fit ≡ was.fit
-
 -- the node of the new file
 abbrev pub node_put : GrownFile → Node
 node_put r = record { holder = r.growing.node; entry = r.entry; body = bodies.File }

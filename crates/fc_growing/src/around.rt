@@ -25,11 +25,11 @@ use fc_dirs::Entry;
 use fc_drafts::{made_entries, regrown_entry};
 use fc_names::Attrs;
 use fc_newmap::NewMap;
-use fc_objects::write_object;
 use fc_space::Places;
 use fc_tree::{Body, Tree};
 use fc_volume::changes::rewrite::{Rewrite, draft_of, holder_address};
 use fc_volume::changes::taking::set_body;
+use fc_volume::changes::writing::write_bytes;
 use fc_volume::owners::entry_owner;
 use std::alloc::Global;
 
@@ -192,24 +192,6 @@ pub fn prepare_around(
 
 // ---- written
 
-// Writes a directory to its place, and syncs.
-fn store<D: Disk>(disk: &mut D, map: &NewMap, r: &Rewrite) -> Result<(), DiskFault>
-    requires attached { IsTrue (D.attached disk.old) }
-    requires settled { IsFalse (D.pending disk.old) }
-    requires size { D.sector_size disk.old ≡ map.now.geometry.sector }
-    requires on_disk { All (λ n. n < D.sectors disk.old) (sectors_in r.now.place.items) }
-    ensures keeps { StopsAndExitsLeave D.Disk disk.old disk.new (IsPartWritten map.now.geometry.sector (sectors_in r.now.place.items) r.now.bytes.items) }
-    ensures reads_back { OnOk result (AreApart (sectors_in r.now.place.items) → length r.now.bytes.items ≤ length (sectors_in r.now.place.items) * map.now.geometry.sector
-        → ForSome (D.bytes disk.new) (λ image. first_bytes map.now.geometry.sector image (sectors_in r.now.place.items) (length r.now.bytes.items) ≡ r.now.bytes.items)) }
-    ensures durable { OnOk result (IsFalse (D.pending disk.new)) }
-    ensures form { SameForm D.Disk disk.old disk.new }
-    ensures cause { FailsByFault D.Disk disk.old disk.new result }
-{
-    write_object(disk, map.geometry().sector as usize, &r.place, &r.bytes)?;
-    disk.sync()?;
-    Ok(())
-}
-
 /// Writes these directories to their places, one after another. Each is synced, so that a crash tears at most one of them. At every
 /// moment of a crash, and at every exit, no other sector has changed.
 pub fn write_around<D: Disk>(
@@ -228,7 +210,7 @@ pub fn write_around<D: Disk>(
     ensures cause { FailsByFault D.Disk disk.old disk.new result }
 {
     for r in around {
-        store(disk, map, r)?;
+        write_bytes(disk, map, r)?;
     }
     Ok(())
 }

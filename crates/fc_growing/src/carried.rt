@@ -35,7 +35,7 @@ ghost use Rattle.fc_growing.specs.Writing.{CanWriteGrowth};
 
 use crate::around::Regrowth;
 use crate::file::address_with;
-use crate::growing::{Growing, is_new_map, parent_after};
+use crate::growing::{Growing, parent_after};
 use crate::leaving::prepare_leaving;
 use crate::named::{plan_for, write_name};
 use crate::naming::{Naming, apart, listed};
@@ -48,9 +48,10 @@ use fc_refusals::{Renaming, Target};
 use fc_space::{Places, Space};
 use fc_tree::Tree;
 use fc_volume::changes::copying::copy_first;
+use fc_volume::changes::laws::is_new_map;
 use fc_volume::changes::making::enter;
 use fc_volume::changes::moving::Leaving;
-use fc_volume::changes::renaming::last_name;
+use fc_volume::changes::making::last_name;
 use fc_volume::changes::rewrite::{draft_of, place_of};
 use fc_volume::owners::entry_owner;
 use fc_volume::{CommandError, Copies, Volume};
@@ -191,11 +192,7 @@ fn draft_copied(
 {
     match places.space() {
         Space::NewMapped(map) => draft_in(alloc, tree, places, map, owners, target, dir, to, len),
-        Space::OldMapped(_) => {
-            // The map is a new one.
-            prove!(false);
-            Err(CommandError::NoMemory)
-        }
+        Space::OldMapped(_) => unreachable!(),
     }
 }
 
@@ -226,11 +223,7 @@ fn copy_placed<D: Disk>(
     let to = &change.naming.growing.growth.place.object_place;
     match places.space() {
         Space::NewMapped(map) => copy_first(disk, map, copies, &change.from, to),
-        Space::OldMapped(_) => {
-            // The map is a new one.
-            prove!(false);
-            Err(DiskFault)
-        }
+        Space::OldMapped(_) => unreachable!(),
     }
 }
 

@@ -84,7 +84,7 @@ pub(crate) fn address_with(
 /// address, and is to have `len` bytes. The file's place comes first: slack that other files of the directory leave, else new
 /// space. `IdsFull` if too few identifiers are left, else `DiscFull` if the holes together are too small, exactly as the command
 /// is refused.
-pub fn plan_file(
+pub fn plan_grown_file(
     alloc: Global,
     places: &Places,
     map: &NewMap,

@@ -16,21 +16,19 @@ ghost use Rattle.fc_growing.specs.Needs.{short_of};
 ghost use Rattle.fc_growing.specs.Room.{has_room_by, is_alone_by};
 ghost use Rattle.fc_growing.specs.Saving.{CanFileGrown, CanGrowByFile, IsGrownFileDrafted, IsGrownFileReady, IsThere, LiesIn};
 
-use crate::file::{FilePlace, plan_file};
+use crate::file::{FilePlace, plan_grown_file};
 use crate::finding::Outgrown;
 use crate::growing::{Growing, parent_after};
 use fc_alloc::Owners;
 use fc_device::{Extent, NoMemory};
 use fc_dirs::Entry;
 use fc_drafts::file_entry;
-use fc_names::Refusal;
 use fc_newmap::NewMap;
-use fc_plan::PlanError;
-use fc_space::{PlaceError, Places, Space};
+use fc_space::{Places, Space};
 use fc_tree::Tree;
 use fc_volume::CommandError;
 use fc_volume::changes::making::{copy_of, enter};
-use fc_volume::changes::putting::FileWords;
+use fc_volume::changes::putting::{FileWords, place_at};
 use std::alloc::Global;
 
 /// A new file, ready to be written: its entry, and the directory that holds it, which grows.
@@ -41,7 +39,7 @@ pub struct GrownFile {
 }
 
 // The place of a new file and of the directory of a node, which grows to `len` bytes, or why there is none.
-fn find_place(
+fn find_grown_place(
     alloc: Global,
     places: &Places,
     map: &NewMap,
@@ -57,33 +55,9 @@ fn find_place(
     ensures refused { AnswersSpace result (short_of map.now (own_bytes (slack_left map.now owners.now dir bytes) bytes) (is_alone_by owners.now dir address)
         (if has_room_by map.now owners.now dir address len then 0 else len)) }
 {
-    match plan_file(alloc, places, map, owners, dir, address, len, bytes) {
-        Ok(place) => Ok(place),
-        Err(PlanError::IdsFull) => Err(CommandError::Refused(Refusal::IdsFull)),
-        Err(PlanError::DiscFull) => Err(CommandError::Refused(Refusal::DiscFull)),
-        Err(PlanError::NoMemory) => Err(CommandError::NoMemory),
-    }
-}
-
-// The sectors of so many bytes from an address, which are there.
-fn sectors_there(
-    alloc: Global,
-    places: &Places,
-    address: u32,
-    bytes: u32,
-) -> Result<Vec<Extent>, NoMemory>
-    requires { IsSome (sectors_at (layout_of places.now) address bytes) }
-    ensures { IfOk result (λ place. sectors_at (layout_of places.now) address bytes ≡ Some (sectors_in place.items)) }
-{
-    match places.place_of(alloc, address, u64::from(bytes)) {
-        Ok(place) => Ok(place),
-        Err(PlaceError::NoMemory) => Err(NoMemory),
-        Err(PlaceError::Outside) => {
-            // They are there.
-            prove!(false);
-            Err(NoMemory)
-        }
-    }
+    Ok(plan_grown_file(
+        alloc, places, map, owners, dir, address, len, bytes,
+    )?)
 }
 
 // The sectors of a file of so many bytes at its place: in slack those that it has there already, else those of its own space.
@@ -97,13 +71,13 @@ fn sectors_of(
     ensures { IfOk result (λ place. LiesIn (layout_of places.now) f.now.share f.now.address bytes (sectors_in f.now.place.object_place.items) (sectors_in place.items)) }
 {
     match &f.share {
-        Some(_) => sectors_there(alloc, places, f.address, bytes),
+        Some(_) => place_at(alloc, places, f.address, u64::from(bytes)),
         None => Ok(f.place.object_place.clone()?),
     }
 }
 
 // Makes a new file ready at its place, and the directory of a node, which grows by its entry.
-fn prepare_file(
+fn prepare_grown_file(
     alloc: Global,
     tree: &Tree,
     places: &Places,
@@ -161,7 +135,7 @@ fn draft_in(
 {
     let dir = outgrown.dir;
     let address = tree.node(dir).unwrap().entry.address;
-    let found = find_place(
+    let found = find_grown_place(
         alloc,
         places,
         map,
@@ -175,7 +149,7 @@ fn draft_in(
         Ok(place) => place,
         Err(error) => return Err(error),
     };
-    match prepare_file(alloc, tree, places, map, outgrown, words, place) {
+    match prepare_grown_file(alloc, tree, places, map, outgrown, words, place) {
         Ok(file) => Ok(file),
         Err(NoMemory) => Err(CommandError::NoMemory),
     }
@@ -183,7 +157,7 @@ fn draft_in(
 
 /// Makes a new file ready, and the directory that is too small for its name, on the map of a volume, which is a new one; or says
 /// why there is no space.
-pub fn draft_file(
+pub fn draft_grown_file(
     alloc: Global,
     tree: &Tree,
     places: &Places,
@@ -202,10 +176,6 @@ pub fn draft_file(
 {
     match places.space() {
         Space::NewMapped(map) => draft_in(alloc, tree, places, map, owners, outgrown, words),
-        Space::OldMapped(_) => {
-            // The map is a new one.
-            prove!(false);
-            Err(CommandError::NoMemory)
-        }
+        Space::OldMapped(_) => unreachable!(),
     }
 }

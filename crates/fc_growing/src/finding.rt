@@ -30,7 +30,7 @@ pub struct Outgrown {
     pub len: u32,
 }
 
-// The room that a directory has for a name that is not there. Nothing is copied.
+/// The room that a directory has for a name that is not there. Nothing is copied.
 pub fn room_in(body: &Body, name: &Name) -> Room
     requires { (content : Directory) × (body.now ≡ body_in content) }
     ensures { (content : Directory) → body.now ≡ body_in content → HasRoomWith content name.now result }
@@ -38,11 +38,8 @@ pub fn room_in(body: &Body, name: &Name) -> Room
     match body {
         Body::Small(dir) => Room::in_small(dir),
         Body::Big(dir) => Room::in_big(dir, name),
-        Body::File => {
-            // It is a directory's.
-            prove!(false);
-            Room::Full
-        }
+        // It is a directory's.
+        Body::File => unreachable!(),
     }
 }
 

@@ -3,7 +3,6 @@
 ghost use Rattle.std.specs.Prelude.{◌≡◌, ◌<◌, ◌≤◌, ◌+◌, ◌*◌, ◌++◌, false, Err, IfErr, IfOk, IsFalse, IsSome, IsTrue, OnErr, OnOk};
 ghost use Rattle.std.specs.FinMap.{get};
 ghost use Rattle.std.specs.Option.{ForSome};
-ghost use Rattle.fc_alloc.specs.Owners.{has_node};
 ghost use Rattle.fc_changes.specs.Owed.{IsWritten};
 ghost use Rattle.fc_device.specs.Calls.{FailsByFault, SameForm, StopsAndExitsLeave};
 ghost use Rattle.fc_device.specs.Faults.{Rose};
@@ -11,23 +10,21 @@ ghost use Rattle.fc_drafts.specs.Draft.{directory_in};
 ghost use Rattle.fc_image.specs.Layout.{Layout, sector_bytes};
 ghost use Rattle.fc_image.specs.Stays.{IsNewLayout};
 ghost use Rattle.fc_newmap.specs.Map.{Map};
-ghost use Rattle.fc_newmap.specs.NewMap.{IsNewMap};
 ghost use Rattle.fc_space.specs.Space.{layout_of};
 ghost use Rattle.fc_tree.specs.Nodes.{nodes_of};
 ghost use Rattle.fc_volume.specs.Filing.{HasWritten};
 ghost use Rattle.fc_volume.specs.Volume.{HasCopies, HoldsMap, parts_of};
 ghost use Rattle.fc_growing.specs.Around.{CanRegrow, LieOn};
-ghost use Rattle.fc_growing.specs.Growing.{CanTakeOver, HasTakenOver, HasTakenOverWith, IsGrowingDone, IsGrowingReady, IsObjectAdmitted, LiesOn, parent_after, regrowth, sectors_written};
+ghost use Rattle.fc_growing.specs.Growing.{CanTakeOver, HasTakenOver, HasTakenOverWith, IsGrowingDone, IsGrowingReady, LiesOn, parent_after, regrowth, sectors_written};
 ghost use Rattle.fc_growing.specs.Place.{CanApply};
 ghost use Rattle.fc_growing.specs.Space.{CanRoot};
 ghost use Rattle.fc_growing.specs.Writing.{CanWriteGrowth};
 
 use crate::around::{Regrowth, prepare_around, take_over_around, write_around};
 use crate::place::GrownPlace;
-use crate::space::zones_of;
+use crate::space::zones_grown;
 use crate::writing::{Growth, write_growth};
 use fc_device::{Disk, DiskFault, Extent, NoMemory};
-use fc_dirs::Entry;
 use fc_drafts::Draft;
 use fc_newmap::NewMap;
 use fc_record::{DiscRecord, is_root_right, is_root_size_right, parse_record};
@@ -35,7 +32,6 @@ use fc_space::{Places, Space};
 use fc_tree::{Node, Tree};
 use fc_volume::changes::rewrite::{Rewrite, bytes_of, holder_address};
 use fc_volume::changes::taking::set_body;
-use fc_volume::owners::entry_owner;
 use fc_volume::{CommandError, Copies, Volume};
 use std::alloc::Global;
 
@@ -47,16 +43,6 @@ pub struct Growing {
     pub draft: Draft,
     pub growth: Growth,
     pub around: Vec<Rewrite>,
-}
-
-/// A law: a new map in memory is one.
-pub fn is_new_map(places: &Places)
-    ensures { (m : Map) → layout_of places.now ≡ Layout.New m → IsNewMap m }
-{
-    match places.space() {
-        Space::NewMapped(map) => map.is_map(),
-        Space::OldMapped(_) => {}
-    }
 }
 
 // ---- made ready
@@ -116,7 +102,7 @@ impl Growing {
             // Not on a disc that was mounted: its record is that of its kind, which can have each place of a big directory.
             return Err(NoMemory);
         }
-        let zones = zones_of(alloc, map, &place, root)?;
+        let zones = zones_grown(alloc, map, &place, root)?;
         let bytes = bytes_of(alloc, &draft)?;
         let around = prepare_around(alloc, tree, places, grown)?;
         Ok(Growing {
@@ -165,7 +151,7 @@ fn write_on<D: Disk>(
 }
 
 // The same on the map of a volume, which is a new one. It has no index afterwards.
-fn write_placed<D: Disk>(
+fn write_grown<D: Disk>(
     disk: &mut D,
     places: &mut Places,
     copies: Copies,
@@ -192,11 +178,7 @@ fn write_placed<D: Disk>(
 {
     match places.edit() {
         Space::NewMapped(map) => write_on(disk, map, copies, r, bytes, others),
-        Space::OldMapped(_) => {
-            // The map is a new one.
-            prove!(false);
-            Err(DiskFault)
-        }
+        Space::OldMapped(_) => unreachable!(),
     }
 }
 
@@ -231,7 +213,7 @@ pub fn write_growing<D: Disk>(
     ensures faults { D.faults disk.old ≤ D.faults disk.new }
     ensures cause { result ≡ Err CommandError.DiskFault → Rose (D.faults disk.old) (D.faults disk.new) }
 {
-    match write_placed(disk, &mut volume.places, volume.copies, r, bytes, others) {
+    match write_grown(disk, &mut volume.places, volume.copies, r, bytes, others) {
         Ok(()) => {
             volume.copies = Copies::Equal;
             Ok(())
@@ -244,22 +226,6 @@ pub fn write_growing<D: Disk>(
 }
 
 // ---- taken over
-
-/// Takes the memory that a new object of an entry needs in the volume, as the node of a number, in the directory of another node.
-/// After `NoMemory` all is as before.
-pub fn admit_object(volume: &mut Volume, n: u64, dir: u64, e: &Entry) -> Result<(), NoMemory>
-    requires { IsFalse (has_node volume.old.owners n) }
-    ensures ok { OnOk result (IsObjectAdmitted volume.old volume.new n dir e.now) }
-    ensures err { OnErr result (volume.new ≡ volume.old) }
-{
-    let owner = entry_owner(volume.places.space(), n, dir, e);
-    volume.tree.reserve()?;
-    if volume.owners.add(owner).is_err() {
-        volume.tree.release();
-        return Err(NoMemory);
-    }
-    Ok(())
-}
 
 /// The volume has a directory that has grown, and those around it. It never runs out of memory.
 pub fn take_over_growing(volume: &mut Volume, r: Growing)

@@ -27,13 +27,13 @@ ghost use Rattle.fc_volume.specs.Compacting.{UnlessFault};
 ghost use Rattle.fc_volume.specs.Making.{AnswersSpace};
 ghost use Rattle.fc_volume.specs.Volume.{HasCopies, HoldsMap, StandsFor, parts_of};
 ghost use Rattle.fc_growing.specs.Growing.{CanTakeOver, HasTakenOverWith, IsGrowingDone, LiesOn, sectors_written};
-ghost use Rattle.fc_growing.specs.Making.{CanGrowBy, HasMadeGrown, HasRoomAt, IsCdirReady, no_space, node_made};
+ghost use Rattle.fc_growing.specs.Making.{CanGrowBy, HasMadeGrown, HasRoomAt, IsCdirReady, node_made};
 ghost use Rattle.fc_growing.specs.Needs.{short_of};
 ghost use Rattle.fc_growing.specs.Room.{has_room_by, is_alone_by};
 ghost use Rattle.fc_growing.specs.Writing.{CanWriteGrowth};
 
 use crate::finding::room_in;
-use crate::growing::{admit_object, is_new_map, take_over_with, write_growing};
+use crate::growing::{take_over_with, write_growing};
 use crate::making::{GrownMaking, prepare_grown};
 use crate::place::plan_growth;
 use fc_alloc::Owners;
@@ -41,10 +41,10 @@ use fc_device::{Disk, NoMemory};
 use fc_drafts::Room;
 use fc_names::{Path, Refusal};
 use fc_newmap::NewMap;
-use fc_plan::PlanError;
 use fc_refusals::judge_cdir;
 use fc_space::{Places, Space};
 use fc_tree::{Node, Tree};
+use fc_volume::changes::laws::is_new_map;
 use fc_volume::changes::making::last_name;
 use fc_volume::changes::rewrite::draft_of;
 use fc_volume::changes::taking::body_of;
@@ -60,17 +60,6 @@ fn room_at(alloc: Global, tree: &Tree, dir: u64, p: &Path) -> Result<Room, NoMem
     let node = tree.node(dir).unwrap();
     let name = last_name(alloc, p)?;
     Ok(room_in(&node.body, &name))
-}
-
-// Why there is no space, as a command answers it.
-fn no_space(error: PlanError) -> CommandError
-    ensures { result ≡ no_space error }
-{
-    match error {
-        PlanError::IdsFull => CommandError::Refused(Refusal::IdsFull),
-        PlanError::DiscFull => CommandError::Refused(Refusal::DiscFull),
-        PlanError::NoMemory => CommandError::NoMemory,
-    }
 }
 
 // Makes a new directory at a path ready, and the directory of a node, which holds it and grows to `len` bytes, or says why
@@ -100,10 +89,7 @@ fn draft_in(
         return Err(CommandError::NoMemory);
     };
     let address = node.entry.address;
-    let place = match plan_growth(alloc, places, map, owners, dir, None, address, len, 2048) {
-        Ok(place) => place,
-        Err(error) => return Err(no_space(error)),
-    };
+    let place = plan_growth(alloc, places, map, owners, dir, None, address, len, 2048)?;
     match prepare_grown(alloc, tree, places, map, dir, draft, name, place) {
         Ok(change) => Ok(change),
         Err(NoMemory) => Err(CommandError::NoMemory),
@@ -129,16 +115,12 @@ fn draft_grown(
 {
     match places.space() {
         Space::NewMapped(map) => draft_in(alloc, tree, places, map, owners, dir, p, len),
-        Space::OldMapped(_) => {
-            // The map is a new one.
-            prove!(false);
-            Err(CommandError::NoMemory)
-        }
+        Space::OldMapped(_) => unreachable!(),
     }
 }
 
 // The volume has a new directory that was written, and the one that holds it, which has grown. It never runs out of memory.
-fn take_over(volume: &mut Volume, change: GrownMaking)
+fn take_over_grown_directory(volume: &mut Volume, change: GrownMaking)
     requires can { CanTakeOver (nodes_of volume.old.tree) volume.old.owners change.growing }
     requires room { 0 < volume.old.tree.room }
     ensures { HasTakenOverWith volume.old volume.new change.growing (node_made change) }
@@ -189,7 +171,7 @@ fn make<D: Disk>(volume: &mut Volume, disk: &mut D, change: GrownMaking) -> Resu
 {
     match write_growing(volume, disk, &change.growing, &change.bytes, &[]) {
         Ok(()) => {
-            take_over(volume, change);
+            take_over_grown_directory(volume, change);
             Ok(())
         }
         Err(error) => Err(error),
@@ -233,7 +215,7 @@ fn cdir_growing<D: Disk>(
         Err(error) => return Err(error),
     };
     let n = volume.tree.next_number();
-    match admit_object(volume, n, dir, &change.entry) {
+    match volume.admit(n, dir, &change.entry) {
         Ok(()) => make(volume, disk, change),
         Err(NoMemory) => Err(CommandError::NoMemory),
     }

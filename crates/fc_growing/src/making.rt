@@ -59,8 +59,7 @@ pub fn prepare_grown(
     let node = tree.node(dir).unwrap();
     let Some(plan) = &place.object else {
         // A directory needs space.
-        prove!(false);
-        return Err(NoMemory);
+        unreachable!();
     };
     let address = 256 * plan.id;
     let made = Draft::empty(alloc, NameForm::Long, place.address, &name)?;

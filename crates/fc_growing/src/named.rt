@@ -23,7 +23,6 @@ ghost use Rattle.fc_volume.specs.Making.{AnswersSpace};
 ghost use Rattle.fc_volume.specs.Volume.{HasCopies, HoldsMap, StandsFor, parts_of};
 ghost use Rattle.fc_growing.specs.Around.{LieOn};
 ghost use Rattle.fc_growing.specs.Growing.{IsGrowingDone, LiesOn, sectors_written};
-ghost use Rattle.fc_growing.specs.Making.{no_space};
 ghost use Rattle.fc_growing.specs.Naming.{CanGrowAcross, CanGrowWithin, CanTakeName, HasNamed, IsReadyAcross, IsReadyWithin};
 ghost use Rattle.fc_growing.specs.Needs.{short_of};
 ghost use Rattle.fc_growing.specs.Place.{IsGrowthPlanned};
@@ -32,7 +31,7 @@ ghost use Rattle.fc_growing.specs.Room.{has_room_by, is_alone_by};
 ghost use Rattle.fc_growing.specs.Writing.{CanWriteGrowth};
 
 use crate::carried::grow_copied;
-use crate::growing::{is_new_map, write_growing};
+use crate::growing::write_growing;
 use crate::naming::{Naming, prepare_moved, prepare_named, take_over_name};
 use crate::place::{GrownPlace, plan_growth};
 use crate::renaming::{accept, room_of};
@@ -42,26 +41,15 @@ use fc_drafts::Room;
 use fc_names::{Path, Refusal};
 use fc_newmap::NewMap;
 use fc_placing::is_copied;
-use fc_plan::PlanError;
 use fc_refusals::{Renaming, Target};
 use fc_space::{Places, Space};
 use fc_tree::Tree;
-use fc_volume::changes::renaming::last_name;
+use fc_volume::changes::laws::is_new_map;
+use fc_volume::changes::making::last_name;
 use fc_volume::{CommandError, Volume};
 use std::alloc::Global;
 
 // ---- made ready
-
-// Why there is no space, as a command answers it.
-fn no_space(error: PlanError) -> CommandError
-    ensures { result ≡ no_space error }
-{
-    match error {
-        PlanError::IdsFull => CommandError::Refused(Refusal::IdsFull),
-        PlanError::DiscFull => CommandError::Refused(Refusal::DiscFull),
-        PlanError::NoMemory => CommandError::NoMemory,
-    }
-}
 
 // The place of the directory of a node that grows to `len` bytes, with space for `bytes` bytes beside it, or why there is none.
 // `copied` is the file whose copy is to lie there, if one is copied.
@@ -84,10 +72,9 @@ pub(crate) fn plan_for(
         → AnswersSpace result (short_of map.now bytes (is_alone_by owners.now dir node.entry.address) (if has_room_by map.now owners.now dir node.entry.address len then 0 else len)) }
 {
     let address = tree.node(dir).unwrap().entry.address;
-    match plan_growth(alloc, places, map, owners, dir, copied, address, len, bytes) {
-        Ok(place) => Ok(place),
-        Err(error) => Err(no_space(error)),
-    }
+    Ok(plan_growth(
+        alloc, places, map, owners, dir, copied, address, len, bytes,
+    )?)
 }
 
 // Makes another name for a target in its directory ready, which grows by it to `len` bytes, or says why there is no space.
@@ -150,11 +137,7 @@ fn draft_within(
 {
     match places.space() {
         Space::NewMapped(map) => draft_in(alloc, tree, places, map, owners, target, to, len),
-        Space::OldMapped(_) => {
-            // The map is a new one.
-            prove!(false);
-            Err(CommandError::NoMemory)
-        }
+        Space::OldMapped(_) => unreachable!(),
     }
 }
 
@@ -210,11 +193,7 @@ fn draft_across(
 {
     match places.space() {
         Space::NewMapped(map) => draft_out(alloc, tree, places, map, owners, target, dir, to, len),
-        Space::OldMapped(_) => {
-            // The map is a new one.
-            prove!(false);
-            Err(CommandError::NoMemory)
-        }
+        Space::OldMapped(_) => unreachable!(),
     }
 }
 

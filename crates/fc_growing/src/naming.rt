@@ -15,11 +15,9 @@ use crate::around::{Regrowth, take_over_around};
 use crate::growing::{Growing, parent_after};
 use crate::leaving::{prepare_leaving, without};
 use crate::place::GrownPlace;
-use crate::writing::Growth;
 use fc_alloc::{Owner, Owners};
 use fc_device::NoMemory;
 use fc_dirs::Entry;
-use fc_drafts::Draft;
 use fc_names::Name;
 use fc_newmap::NewMap;
 use fc_refusals::Target;
@@ -29,7 +27,7 @@ use fc_volume::Volume;
 use fc_volume::changes::making::enter;
 use fc_volume::changes::moving::{Leaving, moved_owner};
 use fc_volume::changes::relocate::{Relocation, take_over};
-use fc_volume::changes::renaming::{entry_named, turn};
+use fc_volume::changes::renaming::{entry_named, renamed, turn};
 use fc_volume::changes::rewrite::{Rewrite, draft_of};
 use std::alloc::Global;
 
@@ -86,22 +84,6 @@ pub(crate) fn listed(
         }
     }
     Ok(others)
-}
-
-// The draft with another entry for that at a place. There is room for it, so that only memory may be short.
-fn renamed(draft: Draft, parent: u32, at: usize, e: Entry) -> Result<Draft, NoMemory>
-    requires present { at < length (entries_of (directory_in draft)) }
-    requires named { CanName (directory_in draft) e.name }
-    requires held { CanHold (directory_in draft) e }
-    requires absent { IsFalse (has_name (without_entry at (entries_of (directory_in draft))) e.name) }
-    requires parent { CanAddress (directory_in draft) parent }
-    ensures { IfOk result (λ now. HasRenamed parent at e (directory_in draft) (directory_in now)) }
-{
-    let mut draft = draft;
-    match draft.rename(parent, at, e) {
-        Ok(()) => Ok(draft),
-        Err(_) => Err(NoMemory),
-    }
 }
 
 /// Makes the directory of a target ready, which grows by another name for the target's entry, and the target.
@@ -211,57 +193,34 @@ pub fn take_over_name(volume: &mut Volume, change: Naming)
     requires { CanTakeName (nodes_of volume.old.tree) volume.old.owners change }
     ensures { HasTakenName volume.old volume.new change }
 {
-    let Naming {
-        growing,
-        others,
-        moved,
-        node,
-        entry,
-        owner,
-    } = change;
-    let Growing {
-        node: dir,
-        draft,
-        growth,
-        around,
-    } = growing;
-    let Growth {
-        place: planned,
-        bytes,
-        ..
-    } = growth;
-    let GrownPlace {
-        address,
-        len,
-        place,
-        ..
-    } = planned;
+    let growing = change.growing;
+    let place = growing.growth.place;
     let grown = Regrowth {
-        node: dir,
-        address,
-        len,
+        node: growing.node,
+        address: place.address,
+        len: place.len,
     };
     take_over_around(
         &mut volume.tree,
         &mut volume.owners,
         &volume.places,
-        around,
+        growing.around,
         grown,
     );
-    let (own, source) = parted(others, moved);
+    let (own, source) = parted(change.others, change.moved);
     let holder = Rewrite {
-        node: dir,
-        draft,
-        place,
-        bytes,
+        node: growing.node,
+        draft: growing.draft,
+        place: place.place,
+        bytes: growing.growth.bytes,
     };
     let object = Relocation {
         holder,
         own,
         source,
-        node,
-        entry,
-        owner,
+        node: change.node,
+        entry: change.entry,
+        owner: change.owner,
     };
     take_over(&mut volume.tree, &mut volume.owners, object);
 }

@@ -1,10 +1,11 @@
 // The space that a command needs of a new map if a directory grows by it.
 
-ghost use Rattle.std.specs.Prelude.{◌≡◌, ◌<◌, ◌≤◌, ◌^◌, length, nat_le};
+ghost use Rattle.std.specs.Prelude.{◌≡◌, ◌<◌, ◌≤◌, ◌^◌, Err, length, nat_le};
 ghost use Rattle.fc_image.specs.effects.Sharing.{new_ids, units};
 ghost use Rattle.fc_image.specs.effects.Short.{one_if};
 ghost use Rattle.fc_newmap.specs.NewMap.{IsOfRecord};
 ghost use Rattle.fc_placing.specs.Places.{AnswersShort};
+ghost use Rattle.fc_plan.specs.declared.supply.PlanError.TheVariants as errors;
 ghost use Rattle.fc_growing.specs.Needs.{ShortLaw, bits_for, ids_for, short_of};
 
 use fc_newmap::NewMap;
@@ -70,9 +71,10 @@ fn has_ids(map: &NewMap, count: u64) -> bool
 
 /// Whether a map has space for an object of so many bytes, and for a directory that gets `len` new ones and may be alone in
 /// its identifier; none of either is needed for 0. `IdsFull` if too few identifiers are left, else `DiscFull` if the holes
-/// together are too small, exactly as a command is refused that needs both. The map's holes are gone over once.
+/// together are too small, exactly as a command is refused that needs both; never `NoMemory`. The map's holes are gone over once.
 pub fn check_space(map: &NewMap, bytes: u32, alone: bool, len: u32) -> Result<(), PlanError>
-    ensures { AnswersShort result (short_of map.now bytes alone len) }
+    ensures refused { AnswersShort result (short_of map.now bytes alone len) }
+    ensures never { result ≡ Err errors.NoMemory → ⊥ }
 {
     let g = map.geometry();
     let object = units(g, bytes);

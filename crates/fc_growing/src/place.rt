@@ -21,6 +21,7 @@ use fc_newmap::NewMap;
 use fc_placing::directory_address;
 use fc_plan::{Plan, PlanError, Supply};
 use fc_space::Places;
+use fc_volume::changes::delete::as_list;
 use std::alloc::Global;
 
 /// Where a directory that grows is to lie, and what is taken beside it for a new object.
@@ -110,19 +111,6 @@ fn address_after(alone: bool, address: u32, plan: &Plan) -> u32
     } else {
         directory_address(plan)
     }
-}
-
-// An identifier as a list, if there is one.
-fn as_list(alloc: Global, id: Option<u32>) -> Result<Vec<u32>, NoMemory>
-    ensures { IfOk result (λ list. list.items ≡ option_to_list id) }
-{
-    let mut list = Vec::new(alloc);
-    if let Some(id) = id {
-        if list.push(id).is_err() {
-            return Err(NoMemory);
-        }
-    }
-    Ok(list)
 }
 
 // The directory grows where it lies, and the object gets space if it needs some. There is enough of it.

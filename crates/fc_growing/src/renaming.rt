@@ -16,7 +16,7 @@ use fc_names::{Path, Refusal};
 use fc_refusals::{Renaming, judge_rename};
 use fc_tree::Tree;
 use fc_volume::Volume;
-use fc_volume::changes::renaming::last_name;
+use fc_volume::changes::making::last_name;
 use fc_volume::changes::rewrite::draft_of;
 use std::alloc::Global;
 

@@ -1,7 +1,6 @@
 // `save` and `create`, also if the directory that holds a new file grows.
-ghost use Rattle.std.specs.Prelude.{◌≡◌, ◌<◌, ◌≤◌, ◌^◌, [], false, length, Err, IfErr, IsFalse, IsTrue, OnErr, OnOk};
+ghost use Rattle.std.specs.Prelude.{◌≡◌, ◌<◌, ◌≤◌, ◌^◌, [], false, length, Err, IfErr, IsFalse, IsTrue, OnOk};
 ghost use Rattle.std.specs.Option.{ForSome};
-ghost use Rattle.fc_alloc.specs.Owners.{has_node};
 ghost use Rattle.fc_changes.specs.Owed.{IsWritten};
 ghost use Rattle.fc_device.specs.Calls.{SameForm, StopsAndExitsLeave};
 ghost use Rattle.fc_device.specs.Faults.{Rose};
@@ -12,57 +11,26 @@ ghost use Rattle.fc_newmap.specs.Map.{Map};
 ghost use Rattle.fc_tree.specs.Nodes.{nodes_of};
 ghost use Rattle.fc_volume.specs.Changing.{AnswersOver, ChangeKeeps, HasChanged, WritesOnlyPlaces};
 ghost use Rattle.fc_volume.specs.Compacting.{UnlessFault};
-ghost use Rattle.fc_volume.specs.Owners.{with_owner};
 ghost use Rattle.fc_volume.specs.Saving.{MakesFilled};
 ghost use Rattle.fc_volume.specs.Volume.{HasCopies, HoldsMap, StandsFor, parts_of};
 ghost use Rattle.fc_growing.specs.Finding.{IsGrowthFound};
 ghost use Rattle.fc_growing.specs.Growing.{CanTakeOver, HasTakenOverWith, IsGrowingDone, LiesOn, sectors_written};
-ghost use Rattle.fc_growing.specs.Saving.{HasPutGrown, IsFileAdmitted, node_put};
+ghost use Rattle.fc_growing.specs.Saving.{HasPutGrown, node_put};
 ghost use Rattle.fc_growing.specs.Writing.{CanWriteGrowth};
 
-use crate::filing::{GrownFile, draft_file};
+use crate::filing::{GrownFile, draft_grown_file};
 use crate::finding::{Outgrown, find_growth};
-use crate::growing::{is_new_map, take_over_with, write_growing};
-use fc_alloc::{Owner, Owners};
+use crate::growing::{take_over_with, write_growing};
 use fc_device::{Disk, NoMemory};
-use fc_dirs::Entry;
 use fc_names::Path;
 use fc_tree::{Body, Node};
+use fc_volume::changes::laws::is_new_map;
 use fc_volume::changes::putting::FileWords;
-use fc_volume::owners::entry_owner;
 use fc_volume::{CommandError, Volume};
 use std::alloc::Global;
 
-// Adds an owner, if it has a sector at least.
-fn add_owner(owners: &mut Owners, owner: Owner) -> Result<(), NoMemory>
-    requires { IsFalse (has_node owners.old owner.node) }
-    ensures ok { OnOk result (owners.new ≡ with_owner owners.old owner) }
-    ensures err { OnErr result (owners.new ≡ owners.old) }
-{
-    if owner.sectors == 0 {
-        return Ok(());
-    }
-    owners.add(owner)
-}
-
-// Takes the memory that a new file of an entry needs in the volume, as the node of a number, in the directory of another node. A file
-// of no sectors owns none. After `NoMemory` all is as before.
-fn admit_file(volume: &mut Volume, n: u64, dir: u64, e: &Entry) -> Result<(), NoMemory>
-    requires { IsFalse (has_node volume.old.owners n) }
-    ensures ok { OnOk result (IsFileAdmitted volume.old volume.new n dir e.now) }
-    ensures err { OnErr result (volume.new ≡ volume.old) }
-{
-    let owner = entry_owner(volume.places.space(), n, dir, e);
-    volume.tree.reserve()?;
-    if add_owner(&mut volume.owners, owner).is_err() {
-        volume.tree.release();
-        return Err(NoMemory);
-    }
-    Ok(())
-}
-
 // The volume has a new file that was written, and the directory that holds it, which has grown. It never runs out of memory.
-fn take_over(volume: &mut Volume, change: GrownFile)
+fn take_over_grown_file(volume: &mut Volume, change: GrownFile)
     requires can { CanTakeOver (nodes_of volume.old.tree) volume.old.owners change.growing }
     requires room { 0 < volume.old.tree.room }
     ensures { HasTakenOverWith volume.old volume.new change.growing (node_put change) }
@@ -82,7 +50,7 @@ fn take_over(volume: &mut Volume, change: GrownFile)
 
 // Writes a new file for which the volume has memory, and the growth of the directory that holds it; then the volume has both. After
 // `DiskFault` the volume is unfit.
-fn put_new<D: Disk>(
+fn write_grown_file<D: Disk>(
     volume: &mut Volume,
     disk: &mut D,
     change: GrownFile,
@@ -113,7 +81,7 @@ fn put_new<D: Disk>(
 {
     match write_growing(volume, disk, &change.growing, bytes, &[]) {
         Ok(()) => {
-            take_over(volume, change);
+            take_over_grown_file(volume, change);
             Ok(())
         }
         Err(error) => Err(error),
@@ -146,7 +114,7 @@ fn put_grown<D: Disk>(
     is_new_map(&volume.places);
     let _ = volume.owners.list();
     let dir = outgrown.dir;
-    let drafted = draft_file(
+    let drafted = draft_grown_file(
         alloc,
         &volume.tree,
         &volume.places,
@@ -159,8 +127,8 @@ fn put_grown<D: Disk>(
         Err(error) => return Err(error),
     };
     let n = volume.tree.next_number();
-    match admit_file(volume, n, dir, &change.entry) {
-        Ok(()) => put_new(volume, disk, change, bytes),
+    match volume.admit(n, dir, &change.entry) {
+        Ok(()) => write_grown_file(volume, disk, change, bytes),
         Err(NoMemory) => Err(CommandError::NoMemory),
     }
 }

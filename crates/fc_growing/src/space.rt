@@ -34,7 +34,7 @@ fn with_zone_0(zones: Vec<u16>) -> Result<Vec<u16>, NoMemory>
 
 /// The zones of a map that change if a growth's space is taken, and what goes back is given back. Zone 0 is one of them, if it
 /// is the root that grows.
-pub fn zones_of(
+pub fn zones_grown(
     alloc: Global,
     map: &NewMap,
     p: &GrownPlace,
@@ -62,7 +62,7 @@ fn place_root(map: &mut NewMap, root: bool, address: u32, len: u32)
 }
 
 /// Takes a growth's space, gives back what goes back, and gives the record of the disc the root's new place, if it is the root
-/// that grows: in the map, and by one commit in both its copies on the disk. `zones` are those that `zones_of` lists, so that
+/// that grows: in the map, and by one commit in both its copies on the disk. `zones` are those that `zones_grown` lists, so that
 /// nothing takes memory here; if there are none, nothing is written. If they are at most 9, a crash leaves the old map or
 /// the new one, whole. At every exit the map in memory is the new one, and no sector outside the two copies has changed.
 pub fn take_growth<D: Disk>(

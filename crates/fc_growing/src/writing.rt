@@ -16,8 +16,7 @@ use crate::space::take_growth;
 use fc_device::{Disk, DiskFault, Extent};
 use fc_newmap::NewMap;
 use fc_volume::Copies;
-use fc_volume::changes::filing::store_first;
-use fc_volume::changes::storing::store;
+use fc_volume::changes::storing::{store, store_first};
 
 /// A growth, ready to be written: where the directory is to lie, whether it is the root, the zones of the map that change, the
 /// sectors of the new object, and the directory's bytes.

@@ -50,7 +50,7 @@ use Rattle.fc_volume.proofs.JudgedLemmas.{refused_by}
 use Rattle.fc_volume.proofs.PieceLemmas.{all_low}
 use Rattle.fc_volume.proofs.TargetLemmas as target_of
 use Rattle.fc_oldvolume.specs.declared.making.Making.{Making}
-use Rattle.fc_oldvolume.specs.Adding.{IsAdmitted}
+use Rattle.fc_volume.specs.Admitting.{IsAdmitted}
 use Rattle.fc_oldvolume.specs.Changing.{ChangeKeeps, IsOldLayout}
 use Rattle.fc_oldvolume.specs.Making.{CanGain, CanMakeIn, IsMakingReady}
 use Rattle.fc_oldvolume.specs.MakingLaws.{MakingLaws}
@@ -301,18 +301,6 @@ pub space_answer : (o want : Option Refusal) (error : CommandError) → o ≡ wa
 space_answer o want (Refused r) e h = refused_by (Unit {0}) o r (e ∙ h)
 space_answer o want NoMemory e h = no_memory o
 space_answer o want DiskFault e h = absurd h
-
--- ---- memory
-
--- the volume before the call, by its parts
-pub admitted_from : (w v now : Volume) (t : Numbers) (n k : ℕ) (r : Making) → t ≡ w.tree → w ≡ v → n ≡ k → IsAdmitted (record w { tree = t }) now n r.directory.node r.entry
-    → IsAdmitted v now k r.directory.node r.entry
-admitted_from w v now t n k r same is number a =
-    subst (λ (j : ℕ). IsAdmitted v now j r.directory.node r.entry) number
-    (subst (λ (x : Volume). IsAdmitted x now n r.directory.node r.entry) is (subst (λ (y : Numbers). IsAdmitted (record w { tree = y }) now n r.directory.node r.entry) same a))
-
-pub kept_from : (w v now : Volume) (t : Numbers) → t ≡ w.tree → w ≡ v → now ≡ record w { tree = t } → now ≡ v
-kept_from w v now t same is e = e ∙ ap (λ (y : Numbers). record w { tree = y }) same ∙ is
 
 -- ---- answers that aren't faults
 

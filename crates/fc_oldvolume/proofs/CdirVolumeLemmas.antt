@@ -24,7 +24,7 @@ use Rattle.fc_volume.specs.Changing.{HasChanged}
 use Rattle.fc_volume.specs.Owners.{entry_owner, with_owner}
 use Rattle.fc_volume.specs.Volume.{HasCopies, HoldsMap, StandsFor, Volume, parts_of}
 use Rattle.fc_oldvolume.specs.declared.making.Making.{Making}
-use Rattle.fc_oldvolume.specs.Adding.{IsAdmitted}
+use Rattle.fc_volume.specs.Admitting.{IsAdmitted}
 use Rattle.fc_oldvolume.specs.Changing.{WritesPlaces}
 use Rattle.fc_oldvolume.specs.Deleting.{map_after}
 use Rattle.fc_oldvolume.specs.Making.{HasMade, IsWrittenWith, nodes_made}

@@ -55,6 +55,7 @@ use Rattle.fc_volume.specs.declared.changes.relocate.Relocation.{Relocation}
 use Rattle.fc_volume.specs.Moving.{IsMoveReady, held_by}
 use Rattle.fc_volume.specs.Relocating.{more_sectors, relocated, sectors_of_relocation, with_owner}
 use Rattle.fc_volume.specs.Renaming.{IsTurned}
+use Rattle.fc_volume.specs.Storing.{AreStored}
 use Rattle.fc_volume.proofs.AcrossLemmas.{entered_form, entered_small, left_form, left_small}
 use Rattle.fc_volume.proofs.MoveLemmas.{with_source}
 use Rattle.fc_volume.proofs.RenameLemmas.{IsLongOwn, can_say, moved_at, named_in, second_true, too_long, turned_round}
@@ -64,7 +65,6 @@ use Rattle.fc_volume.proofs.TargetLemmas as target_of
 use Rattle.fc_oldvolume.specs.Changing.{WritesPlaces}
 use Rattle.fc_oldvolume.specs.Relocating.{AreMoreStored, IsRelocationWritten, LieOffMap}
 use Rattle.fc_oldvolume.specs.RenameLaws.{RenameLaws}
-use Rattle.fc_oldvolume.specs.Setting.{AreStored}
 use Rattle.fc_oldvolume.specs.Spaces.{LieBehind}
 use Rattle.fc_oldvolume.proofs.OwnersLemmas.{owner_is}
 use Rattle.fc_oldvolume.proofs.RewriteLemmas.{IsDirectoryBytes}

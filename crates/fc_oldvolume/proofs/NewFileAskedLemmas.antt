@@ -38,7 +38,7 @@ use Rattle.fc_volume.proofs.SavingLemmas.{of_both}
 use Rattle.fc_volume.proofs.SettingLemmas.{one_content}
 use Rattle.fc_volume.proofs.TargetLemmas as target_of
 use Rattle.fc_oldvolume.specs.declared.putting.NewFile.{NewFile}
-use Rattle.fc_oldvolume.specs.Adding.{IsAdmitted}
+use Rattle.fc_volume.specs.Admitting.{IsAdmitted}
 use Rattle.fc_oldvolume.specs.Filing.{CanPutIn, IsFileReady, WantsFile}
 use Rattle.fc_oldvolume.specs.FilingLaws.{FilingLaws}
 use Rattle.fc_oldvolume.specs.Making.{CanGain}
@@ -177,11 +177,3 @@ module _ (laws : FilingLaws) (w v : Volume) (same : w ≡ v) (space : OldMapCont
   pub no_owner : (n : ℕ) → get (nodes_of v.tree) n ≡ None → has_node w.owners n ≡ false
   no_owner n free =
       subst (λ (x : Volume). has_node x.owners n ≡ false) (sym same) (unowned (nodes_of v.tree) (Layout.Old space) agreed.listings v.owners n agreed.walked.held agreed.owned free)
-
--- ---- memory
-
--- the volume before the call, by its parts
-pub admitted_from : (w v now : Volume) (t : Numbers) (n k holder : ℕ) (e : Entry) → t ≡ w.tree → w ≡ v → n ≡ k → IsAdmitted (record w { tree = t }) now n holder e → IsAdmitted v now k holder e
-admitted_from w v now t n k holder e same is number a =
-    subst (λ (j : ℕ). IsAdmitted v now j holder e) number
-    (subst (λ (x : Volume). IsAdmitted x now n holder e) is (subst (λ (y : Numbers). IsAdmitted (record w { tree = y }) now n holder e) same a))

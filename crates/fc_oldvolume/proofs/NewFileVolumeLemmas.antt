@@ -25,7 +25,7 @@ use Rattle.fc_volume.specs.Changing.{HasChanged}
 use Rattle.fc_volume.specs.Owners.{entry_owner, with_owner}
 use Rattle.fc_volume.specs.Volume.{StandsFor, Volume, parts_of}
 use Rattle.fc_oldvolume.specs.declared.putting.NewFile.{NewFile}
-use Rattle.fc_oldvolume.specs.Adding.{IsAdmitted}
+use Rattle.fc_volume.specs.Admitting.{IsAdmitted}
 use Rattle.fc_oldvolume.specs.Changing.{WritesPlaces}
 use Rattle.fc_oldvolume.specs.Filing.{HasPut, IsFileWritten, nodes_put}
 use Rattle.fc_oldvolume.specs.FilingLaws.{FilingLaws}

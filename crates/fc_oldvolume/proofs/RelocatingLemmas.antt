@@ -11,9 +11,9 @@ use Rattle.fc_oldmap.specs.OldMap.{OldMapContent}
 use Rattle.fc_oldlaws.specs.takeover.Writes.{WrittenBytesLaw}
 use Rattle.fc_volume.specs.declared.changes.relocate.Relocation.{Relocation}
 use Rattle.fc_volume.specs.Relocating.{more_sectors, sectors_of_relocation}
+use Rattle.fc_volume.specs.Storing.{AreStored}
 use Rattle.fc_volume.proofs.RelocatingLemmas.{apart_from}
 use Rattle.fc_oldvolume.specs.Relocating.{AreMoreStored, IsRelocationWritten, WritesRelocation, more_bytes}
-use Rattle.fc_oldvolume.specs.Setting.{AreStored}
 use Rattle.fc_oldvolume.proofs.ChangeLemmas.{written_then}
 
 -- ---- one step, whatever came of it

@@ -22,9 +22,9 @@ use Rattle.fc_tree.specs.Nodes.{HoldObjects, body_in, number_of}
 use Rattle.fc_tree.proofs.WalkedLemmas.{same_some}
 use Rattle.fc_oldlaws.specs.takeover.Steps.{IsDirectoryStep}
 use Rattle.fc_oldlaws.specs.takeover.Writes.{WrittenBytesLaw}
+use Rattle.fc_volume.specs.Storing.{AreStored}
 use Rattle.fc_volume.proofs.SettingLemmas.{one_content}
 use Rattle.fc_volume.proofs.TargetLemmas as target_of
-use Rattle.fc_oldvolume.specs.Setting.{AreStored}
 
 -- ---- the node of a listed directory, however it was found
 

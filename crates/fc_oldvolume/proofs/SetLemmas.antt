@@ -36,12 +36,12 @@ use Rattle.fc_refusals.specs.declared.target.Target.{Target}
 use Rattle.fc_refusals.specs.Targets.{IsTarget}
 use Rattle.fc_volume.specs.declared.changes.reword.Rewording.{Rewording}
 use Rattle.fc_volume.specs.Setting.{IsSetReady}
+use Rattle.fc_volume.specs.Storing.{AreStored}
 use Rattle.fc_volume.proofs.RewriteLemmas.{says_it, size_of_form}
 use Rattle.fc_volume.proofs.SetLemmas.{entries_now, form_stays}
 use Rattle.fc_volume.proofs.TargetLemmas as target_of
 use Rattle.fc_oldvolume.specs.Changing.{WritesPlaces}
 use Rattle.fc_oldvolume.specs.Laws.{OldLaws}
-use Rattle.fc_oldvolume.specs.Setting.{AreStored}
 use Rattle.fc_oldvolume.specs.Spaces.{LieBehind}
 use Rattle.fc_oldvolume.proofs.RewriteLemmas.{IsDirectoryBytes}
 use Rattle.fc_oldvolume.proofs.RewriteLemmas as rewrite

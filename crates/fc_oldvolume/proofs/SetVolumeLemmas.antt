@@ -31,11 +31,11 @@ use Rattle.fc_volume.specs.declared.copies.Copies.{Copies}
 use Rattle.fc_volume.specs.Changing.{HasChanged}
 use Rattle.fc_volume.specs.Rewrites.{HoldsEntry}
 use Rattle.fc_volume.specs.Setting.{HasReworded, IsSetReady}
+use Rattle.fc_volume.specs.Storing.{AreStored}
 use Rattle.fc_volume.specs.Volume.{HasCopies, HoldsMap, StandsFor, Volume, parts_of}
 use Rattle.fc_volume.proofs.PieceLemmas.{all_low}
 use Rattle.fc_oldvolume.specs.Changing.{WritesNoMap, WritesPlaces}
 use Rattle.fc_oldvolume.specs.Laws.{OldLaws}
-use Rattle.fc_oldvolume.specs.Setting.{AreStored}
 use Rattle.fc_oldvolume.specs.Spaces.{LieBehind}
 use Rattle.fc_oldvolume.proofs.ChangeLemmas.{one_space}
 use Rattle.fc_oldvolume.proofs.WritingLemmas.{kept_to}

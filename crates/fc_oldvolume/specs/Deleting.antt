@@ -4,9 +4,7 @@ use Rattle.std.specs.Ordering.{nat_cmp}
 use Rattle.std.specs.FinMap.{FinMap, get, remove}
 use Rattle.fc_alloc.specs.declared.owner.Owner.{Owner}
 use Rattle.fc_alloc.specs.Owners.{has_node}
-use Rattle.fc_dirs.specs.Directory.{Directory}
 use Rattle.fc_drafts.specs.Draft.{directory_in}
-use Rattle.fc_drafts.specs.Rewriting.{HasLeft}
 use Rattle.fc_image.specs.Layout.{Layout, sector_bytes}
 use Rattle.fc_laws.specs.nodes.Edits.{with_body}
 use Rattle.fc_objects.specs.Extents.{sectors_in}
@@ -15,27 +13,16 @@ use Rattle.fc_oldlaws.specs.agree.Spaces.{CanGive}
 use Rattle.fc_names.specs.declared.refusal.Refusal.{Refusal}
 use Rattle.fc_refusals.specs.declared.target.Target.{Target}
 use Rattle.fc_tree.specs.declared.node.Node.{Node}
-use Rattle.fc_tree.specs.Counts.{address_in}
 use Rattle.fc_tree.specs.Nodes.{body_in, nodes_of}
 use Rattle.fc_volume.specs.declared.copies.Copies.TheVariants.{Equal}
-use Rattle.fc_volume.specs.declared.changes.rewrite.Rewrite.{Rewrite}
 use Rattle.fc_volume.specs.declared.lines.CommandError.{CommandError}
 use Rattle.fc_volume.specs.declared.lines.CommandError.TheVariants.{Refused, NoMemory, DiskFault}
-use Rattle.fc_volume.specs.Rewrites.{IsPrepared}
+use Rattle.fc_volume.specs.Deleting.{LeavesOut}
+use Rattle.fc_volume.specs.Storing.{AreStored}
 use Rattle.fc_volume.specs.Volume.{Volume, parts_of}
 use Rattle.fc_oldvolume.specs.declared.removal.Removal.{Removal}
-use Rattle.fc_oldvolume.specs.Setting.{AreStored}
 use Rattle.fc_oldvolume.specs.Spaces.{GivesBack, IsTooFull, LieBehind, space_at, units_of}
 use Rattle.fc_oldvolume.specs.Writing.{IsMapWritten}
-
--- The target's directory is ready to be written without the target's entry.
-pub record LeavesOut (nodes : FinMap nat_cmp Node) (layout : Layout) (t : Target) (r : Rewrite) : Type 0 where
-  pub node : Node
-  pub content : Directory
-  pub there : get nodes t.holder ≡ Some node
-  pub says : node.body ≡ body_in content
-  pub left : HasLeft (address_in nodes node.holder) t.at content (directory_in r.draft)
-  pub prepared : IsPrepared layout t.holder node.entry (directory_in r.draft) r
 
 -- The space of a node's object, if it has any, can be given back.
 pub record CanFree (nodes : FinMap nat_cmp Node) (layout : Layout) (n : ℕ) : Type 0 where

@@ -21,13 +21,12 @@ use Rattle.fc_tree.specs.Nodes.{body_in, next_number, nodes_of}
 use Rattle.fc_volume.specs.declared.changes.putting.FileWords.{FileWords}
 use Rattle.fc_volume.specs.declared.copies.Copies.TheVariants.{Equal}
 use Rattle.fc_volume.specs.Rewrites.{IsPrepared}
-use Rattle.fc_volume.specs.Storing.{AreStored as AreBytesStored}
+use Rattle.fc_volume.specs.Storing.{AreStored}
 use Rattle.fc_volume.specs.Volume.{Volume, parts_of}
 use Rattle.fc_oldvolume.specs.declared.filing.Filing.{Filing}
 use Rattle.fc_oldvolume.specs.declared.putting.NewFile.{NewFile}
 use Rattle.fc_oldvolume.specs.Deleting.{IsMapDone, map_after}
 use Rattle.fc_oldvolume.specs.Making.{CanGain}
-use Rattle.fc_oldvolume.specs.Setting.{AreStored}
 use Rattle.fc_oldvolume.specs.Spaces.{IsEditOf}
 use Rattle.fc_oldvolume.specs.Taking.{IsTaken}
 
@@ -45,7 +44,7 @@ space_after space f = map_after (map_after space f.taken.map) f.given
 -- The bytes of a file were written, and then the map without its space, if it has any.
 pub record IsStoredAndTaken (size : ℕ) (f : Filing) (bytes was image : List ℕ) : Type 0 where
   pub stored : List ℕ
-  pub file : AreBytesStored size (sectors_in f.taken.place.items) bytes was stored
+  pub file : AreStored size (sectors_in f.taken.place.items) bytes was stored
   pub map : IsMapDone f.taken.map stored image
 
 -- The directory was written, and then the map with the space that goes back, if there is any.

@@ -2,10 +2,8 @@ pub mod Changing
 pub mod Laws
 pub mod Spaces
 pub mod Writing
-pub mod Setting
 pub mod Deleting
 pub mod Taking
-pub mod Adding
 pub mod Making
 pub mod MakingLaws
 pub mod Relocating

@@ -19,10 +19,10 @@ use Rattle.fc_tree.specs.Counts.{address_in}
 use Rattle.fc_tree.specs.Nodes.{body_in, next_number, nodes_of}
 use Rattle.fc_volume.specs.declared.copies.Copies.TheVariants.{Equal}
 use Rattle.fc_volume.specs.Rewrites.{IsPrepared}
+use Rattle.fc_volume.specs.Storing.{AreStored}
 use Rattle.fc_volume.specs.Volume.{Volume, parts_of}
 use Rattle.fc_oldvolume.specs.declared.making.Making.{Making}
 use Rattle.fc_oldvolume.specs.Deleting.{IsMapDone, map_after}
-use Rattle.fc_oldvolume.specs.Setting.{AreStored}
 use Rattle.fc_oldvolume.specs.Taking.{IsTaken}
 
 -- This is the node of a directory with a place on the disc, which says `content`, and can get an entry of this name with any address of

@@ -7,7 +7,7 @@ use Rattle.fc_objects.specs.Extents.{sectors_in}
 use Rattle.fc_volume.specs.declared.changes.rewrite.Rewrite.{Rewrite}
 use Rattle.fc_volume.specs.declared.changes.relocate.Relocation.{Relocation}
 use Rattle.fc_volume.specs.Relocating.{more_sectors, sectors_of_relocation}
-use Rattle.fc_oldvolume.specs.Setting.{AreStored}
+use Rattle.fc_volume.specs.Storing.{AreStored}
 
 -- the bytes of a directory that is rewritten, if one is
 abbrev pub more_bytes : Option Rewrite → List ℕ

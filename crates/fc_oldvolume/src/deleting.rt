@@ -9,39 +9,23 @@ ghost use Rattle.fc_volume.specs.Changing.{AnswersOver, HasChanged};
 ghost use Rattle.fc_volume.specs.Rewrites.{HoldsEntry};
 ghost use Rattle.fc_volume.specs.Volume.{StandsFor, parts_of};
 ghost use Rattle.fc_oldvolume.specs.Changing.{ChangeKeeps, IsOldLayout, WritesOnlyPlaces};
-ghost use Rattle.fc_oldvolume.specs.Deleting.{CanFree, IsDeleteReady, LeavesOut, RefusesFull};
+ghost use Rattle.fc_oldvolume.specs.Deleting.{CanFree, IsDeleteReady, RefusesFull};
 ghost use Rattle.fc_oldvolume.specs.Sparing.{SparesMap};
 
 use crate::laws::{is_old_map, old_laws};
 use crate::removal::{Removal, remove};
 use crate::spaces::map_without;
-use fc_device::{Disk, NoMemory};
+use fc_device::Disk;
 use fc_names::{Path, Refusal};
 use fc_oldmap::MapFull;
 use fc_refusals::{Target, judge_delete};
 use fc_space::Places;
 use fc_tree::Tree;
-use fc_volume::changes::rewrite::{Rewrite, draft_of, holder_address};
+use fc_volume::changes::delete::prepare_directory;
 use fc_volume::{CommandError, Volume};
 use std::alloc::Global;
 
-// Makes the directory that holds an object ready without it.
-fn prepare_directory(
-    alloc: Global,
-    tree: &Tree,
-    places: &Places,
-    target: Target,
-) -> Result<Rewrite, NoMemory>
-    requires { HoldsEntry (nodes_of tree.now) (layout_of places.now) target.holder target.at }
-    ensures { IfOk result (LeavesOut (nodes_of tree.now) (layout_of places.now) target) }
-{
-    let node = tree.node(target.holder).unwrap();
-    let mut draft = draft_of(alloc, &node.body)?;
-    draft.leave(holder_address(tree, node), target.at);
-    Rewrite::prepare(alloc, places, target.holder, node, draft)
-}
-
-// Makes it ready, and the map with the object's space. `MapFull` if there would be too many holes.
+// Makes the directory that holds an object ready without it, and the map with the object's space. `MapFull` if there would be too many holes.
 fn prepare_delete(
     alloc: Global,
     tree: &Tree,

@@ -5,17 +5,14 @@ ghost use Rattle.std.specs.Option.{ForSome};
 ghost use Rattle.fc_device.specs.Calls.{FailsByFault, SameForm, StopsAndExitsLeave};
 ghost use Rattle.fc_image.specs.Layout.{Layout, sector_bytes};
 ghost use Rattle.fc_objects.specs.Extents.{sectors_in};
-ghost use Rattle.fc_objects.specs.Written.{IsPartWritten};
 ghost use Rattle.fc_oldchanges.specs.Owed.{IsWritten};
 ghost use Rattle.fc_oldmap.specs.OldMap.{OldMapContent};
 ghost use Rattle.fc_space.specs.Space.{layout_of};
-ghost use Rattle.fc_volume.specs.Storing.{AreStored};
 ghost use Rattle.fc_oldvolume.specs.Filing.{CanFile, IsFileWritten, IsNamedAndGiven, IsStoredAndTaken};
 
 use crate::removal::write_some;
-use crate::reword::write_directory;
 use crate::taking::Taken;
-use crate::writing::store;
+use crate::writing::{store_at, write_directory};
 use fc_device::{Disk, DiskFault};
 use fc_oldmap::OldMap;
 use fc_space::Places;
@@ -28,26 +25,6 @@ pub struct Filing {
     pub taken: Taken,
     pub directory: Rewrite,
     pub given: Option<OldMap>,
-}
-
-// Writes the bytes of a file to the sectors where they go, and zeros into what is left of them.
-fn write_bytes<D: Disk>(
-    disk: &mut D,
-    places: &Places,
-    taken: &Taken,
-    bytes: &[u8],
-) -> Result<(), DiskFault>
-    requires attached { IsTrue (D.attached disk.old) }
-    requires settled { IsFalse (D.pending disk.old) }
-    requires size { D.sector_size disk.old ≡ sector_bytes (layout_of places.now) }
-    requires on_disk { All (λ n. n < D.sectors disk.old) (sectors_in taken.now.place.items) }
-    ensures keeps { StopsAndExitsLeave D.Disk disk.old disk.new (IsPartWritten (sector_bytes (layout_of places.now)) (sectors_in taken.now.place.items) bytes.now) }
-    ensures stored { OnOk result (ForSome (D.bytes disk.old) (λ was. ForSome (D.bytes disk.new) (AreStored (sector_bytes (layout_of places.now)) (sectors_in taken.now.place.items) bytes.now was))) }
-    ensures durable { OnOk result (IsFalse (D.pending disk.new)) }
-    ensures form { SameForm D.Disk disk.old disk.new }
-    ensures cause { FailsByFault D.Disk disk.old disk.new result }
-{
-    store(disk, places.sector_bytes() as usize, &taken.place, bytes)
 }
 
 // Writes the bytes of a file, and then the map without its space, if it has any.
@@ -70,7 +47,7 @@ fn store_and_take<D: Disk>(
     ensures cause { FailsByFault D.Disk disk.old disk.new result }
 {
     fc_oldlaws::takeover::writes();
-    write_bytes(disk, places, &f.taken, bytes)?;
+    store_at(disk, places, &f.taken.place, bytes)?;
     write_some(disk, &f.taken.map)
 }
 

@@ -6,47 +6,24 @@ ghost use Rattle.fc_device.specs.Calls.{FailsByFault, SameForm, StopsAndExitsLea
 ghost use Rattle.fc_device.specs.Faults.{Rose};
 ghost use Rattle.fc_image.specs.Layout.{Layout, sector_bytes};
 ghost use Rattle.fc_objects.specs.Extents.{sectors_in};
-ghost use Rattle.fc_objects.specs.Written.{IsPartWritten};
 ghost use Rattle.fc_oldchanges.specs.Owed.{IsWritten};
 ghost use Rattle.fc_oldmap.specs.OldMap.{OldMapContent};
 ghost use Rattle.fc_space.specs.Space.{layout_of};
 ghost use Rattle.fc_tree.specs.Nodes.{nodes_of};
 ghost use Rattle.fc_volume.specs.Volume.{parts_of};
 ghost use Rattle.fc_oldvolume.specs.Making.{HasMade, IsWrittenWith};
-ghost use Rattle.fc_oldvolume.specs.Setting.{AreStored};
 ghost use Rattle.fc_oldvolume.specs.Spaces.{IsEditOf};
 
 use crate::adding::add_object;
 use crate::making::Making;
 use crate::removal::{hold_map, write_some};
-use crate::reword::write_directory;
-use crate::writing::store;
+use crate::writing::{store_at, write_directory};
 use fc_device::{Disk, DiskFault};
 use fc_space::Places;
 use fc_tree::Node;
 use fc_volume::changes::rewrite::Rewrite;
 use fc_volume::changes::taking::body_of;
 use fc_volume::{CommandError, Copies, Volume};
-
-// Writes a new directory to its place.
-fn store_object<D: Disk>(disk: &mut D, places: &Places, r: &Making) -> Result<(), DiskFault>
-    requires attached { IsTrue (D.attached disk.old) }
-    requires settled { IsFalse (D.pending disk.old) }
-    requires size { D.sector_size disk.old ≡ sector_bytes (layout_of places.now) }
-    requires on_disk { All (λ n. n < D.sectors disk.old) (sectors_in r.now.taken.place.items) }
-    ensures keeps { StopsAndExitsLeave D.Disk disk.old disk.new (IsPartWritten (sector_bytes (layout_of places.now)) (sectors_in r.now.taken.place.items) r.now.bytes.items) }
-    ensures stored { OnOk result (ForSome (D.bytes disk.old) (λ was. ForSome (D.bytes disk.new) (AreStored (sector_bytes (layout_of places.now)) (sectors_in r.now.taken.place.items) r.now.bytes.items was))) }
-    ensures durable { OnOk result (IsFalse (D.pending disk.new)) }
-    ensures form { SameForm D.Disk disk.old disk.new }
-    ensures cause { FailsByFault D.Disk disk.old disk.new result }
-{
-    store(
-        disk,
-        places.sector_bytes() as usize,
-        &r.taken.place,
-        &r.bytes,
-    )
-}
 
 // Writes a new directory, then the map without its space, and then the directory that holds it. At every moment of a crash, and at
 // every exit, no other sector has changed.
@@ -66,7 +43,7 @@ fn write_making<D: Disk>(disk: &mut D, places: &Places, r: &Making) -> Result<()
     ensures cause { FailsByFault D.Disk disk.old disk.new result }
 {
     fc_oldlaws::takeover::writes();
-    store_object(disk, places, r)?;
+    store_at(disk, places, &r.taken.place, &r.bytes)?;
     write_some(disk, &r.taken.map)?;
     write_directory(disk, places, &r.directory)
 }

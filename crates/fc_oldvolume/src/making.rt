@@ -23,7 +23,6 @@ ghost use Rattle.fc_oldvolume.specs.Making.{CanMakeIn, IsMakingReady};
 ghost use Rattle.fc_oldvolume.specs.Spaces.{LieBehind};
 ghost use Rattle.fc_oldvolume.specs.Taking.{IsTaken};
 
-use crate::adding::admit;
 use crate::laws::{is_old_map, making_laws};
 use crate::made::make;
 use crate::taking::{Taken, take_place};
@@ -176,7 +175,7 @@ pub fn cdir<D: Disk>(
         Err(error) => return Err(error),
     };
     let n = volume.tree.next_number();
-    match admit(volume, n, change.directory.node, &change.entry) {
+    match volume.admit(n, change.directory.node, &change.entry) {
         Ok(()) => make(volume, disk, change),
         Err(NoMemory) => Err(CommandError::NoMemory),
     }

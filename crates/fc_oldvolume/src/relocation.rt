@@ -12,7 +12,7 @@ ghost use Rattle.fc_volume.specs.Relocating.{CanTakeOver, HasRelocated, LieWithi
 ghost use Rattle.fc_volume.specs.Volume.{StandsFor, parts_of};
 ghost use Rattle.fc_oldvolume.specs.Relocating.{AreMoreStored, IsRelocationWritten, WritesRelocation, more_bytes};
 
-use crate::reword::write_directory;
+use crate::writing::write_directory;
 use fc_device::{Disk, DiskFault};
 use fc_space::Places;
 use fc_volume::changes::relocate::{Relocation, take_over};

@@ -1,31 +1,27 @@
 // An object that goes: its directory is written, then the map with its space, and then the volume is without it.
 ghost use Rattle.std.specs.Prelude.{◌≡◌, ◌<◌, ◌≤◌, ◌*◌, [], None, Some, false, All, Err, IfErr, IsSome, IsTrue, IsFalse, OnOk};
-ghost use Rattle.std.specs.FinMap.{get, remove};
+ghost use Rattle.std.specs.FinMap.{get};
 ghost use Rattle.std.specs.Option.{ForSome};
 ghost use Rattle.fc_device.specs.Calls.{FailsByFault, SameForm, StopsAndExitsLeave};
 ghost use Rattle.fc_device.specs.Faults.{Rose};
-ghost use Rattle.fc_drafts.specs.Draft.{directory_in};
 ghost use Rattle.fc_image.specs.Layout.{Layout, sector_bytes};
-ghost use Rattle.fc_laws.specs.nodes.Edits.{with_body};
 ghost use Rattle.fc_objects.specs.Extents.{sectors_in};
 ghost use Rattle.fc_objects.specs.Written.{IsPartWritten};
 ghost use Rattle.fc_oldchanges.specs.Owed.{IsWritten};
 ghost use Rattle.fc_oldmap.specs.OldMap.{OldMapContent};
 ghost use Rattle.fc_squash.specs.Places.{Leaves};
 ghost use Rattle.fc_space.specs.Space.{layout_of};
-ghost use Rattle.fc_tree.specs.Nodes.{body_in, nodes_of};
+ghost use Rattle.fc_tree.specs.Nodes.{nodes_of};
 ghost use Rattle.fc_volume.specs.Volume.{StandsFor, parts_of};
 ghost use Rattle.fc_oldvolume.specs.Deleting.{HasRemoved, IsMapDone, IsWrittenWithout, map_after};
 ghost use Rattle.fc_oldvolume.specs.Spaces.{IsEditOf};
 
-use crate::reword::write_directory;
-use crate::writing::write_map;
+use crate::writing::{write_directory, write_map};
 use fc_device::{Disk, DiskFault};
 use fc_oldmap::OldMap;
 use fc_space::{Places, Space};
-use fc_tree::Tree;
+use fc_volume::changes::removal::take_over;
 use fc_volume::changes::rewrite::Rewrite;
-use fc_volume::changes::taking::set_body;
 use fc_volume::{CommandError, Copies, Volume};
 
 /// An object that goes: the directory that held it, rewritten, the number of its own node, and the map with its space, if it
@@ -73,21 +69,6 @@ fn write_removal<D: Disk>(disk: &mut D, places: &Places, r: &Removal) -> Result<
     fc_oldlaws::takeover::writes();
     write_directory(disk, places, &r.directory)?;
     write_some(disk, &r.map)
-}
-
-// The nodes become those of a removal. It never runs out of memory.
-fn take_over(tree: &mut Tree, directory: Rewrite, n: u64)
-    requires directory { IsSome (get (nodes_of tree.old) directory.node) }
-    requires object { IsSome (get (nodes_of tree.old) n) }
-    ensures { nodes_of tree.new ≡ remove (with_body directory.node (body_in (directory_in directory.draft)) (nodes_of tree.old)) n }
-{
-    let Rewrite {
-        node: holder,
-        draft,
-        ..
-    } = directory;
-    set_body(tree, holder, draft);
-    let _ = tree.take_out(n);
 }
 
 /// The map becomes another one, if there is one.

@@ -7,33 +7,15 @@ ghost use Rattle.fc_device.specs.Faults.{Rose};
 ghost use Rattle.fc_image.specs.Layout.{sector_bytes};
 ghost use Rattle.fc_objects.specs.Extents.{sectors_in};
 ghost use Rattle.fc_objects.specs.Written.{IsPartWritten};
-ghost use Rattle.fc_space.specs.Space.{layout_of};
 ghost use Rattle.fc_tree.specs.Nodes.{nodes_of};
 ghost use Rattle.fc_volume.specs.Setting.{HasReworded};
+ghost use Rattle.fc_volume.specs.Storing.{AreStored};
 ghost use Rattle.fc_volume.specs.Volume.{StandsFor, parts_of};
-ghost use Rattle.fc_oldvolume.specs.Setting.{AreStored};
 
-use crate::writing::store;
+use crate::writing::write_directory;
 use fc_device::{Disk, DiskFault};
-use fc_space::Places;
 use fc_volume::changes::reword::{Rewording, take_over};
-use fc_volume::changes::rewrite::Rewrite;
 use fc_volume::{CommandError, Copies, Volume};
-
-/// Writes a directory to its place.
-pub fn write_directory<D: Disk>(disk: &mut D, places: &Places, r: &Rewrite) -> Result<(), DiskFault>
-    requires attached { IsTrue (D.attached disk.old) }
-    requires settled { IsFalse (D.pending disk.old) }
-    requires size { D.sector_size disk.old ≡ sector_bytes (layout_of places.now) }
-    requires on_disk { All (λ n. n < D.sectors disk.old) (sectors_in r.now.place.items) }
-    ensures keeps { StopsAndExitsLeave D.Disk disk.old disk.new (IsPartWritten (sector_bytes (layout_of places.now)) (sectors_in r.now.place.items) r.now.bytes.items) }
-    ensures stored { OnOk result (ForSome (D.bytes disk.old) (λ was. ForSome (D.bytes disk.new) (AreStored (sector_bytes (layout_of places.now)) (sectors_in r.now.place.items) r.now.bytes.items was))) }
-    ensures durable { OnOk result (IsFalse (D.pending disk.new)) }
-    ensures form { SameForm D.Disk disk.old disk.new }
-    ensures cause { FailsByFault D.Disk disk.old disk.new result }
-{
-    store(disk, places.sector_bytes() as usize, &r.place, &r.bytes)
-}
 
 /// Writes the directory of a rewording, and then the volume has it. After `DiskFault` the volume is unfit.
 pub fn reword<D: Disk>(

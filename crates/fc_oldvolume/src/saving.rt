@@ -14,7 +14,6 @@ ghost use Rattle.fc_volume.specs.Volume.{StandsFor, parts_of};
 ghost use Rattle.fc_oldvolume.specs.Changing.{ChangeKeeps, IsOldLayout, WritesOnlyPlaces};
 ghost use Rattle.fc_oldvolume.specs.Saving.{IsFileAccepted};
 
-use crate::adding::admit;
 use crate::laws::{filing_laws, is_old_map};
 use crate::put::put_new;
 use crate::putting::draft_file;
@@ -68,7 +67,7 @@ fn put_file<D: Disk>(
         Err(error) => return Err(error),
     };
     let n = volume.tree.next_number();
-    match admit(volume, n, change.filing.directory.node, &change.entry) {
+    match volume.admit(n, change.filing.directory.node, &change.entry) {
         Ok(()) => put_new(volume, disk, change, bytes),
         Err(NoMemory) => Err(CommandError::NoMemory),
     }

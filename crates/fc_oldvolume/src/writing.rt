@@ -2,39 +2,54 @@
 ghost use Rattle.std.specs.Prelude.{◌≡◌, ◌<◌, ◌≤◌, ◌*◌, ◌++◌, [], All, IsTrue, IsFalse, OnOk, drop, length, take};
 ghost use Rattle.std.specs.Option.{ForSome};
 ghost use Rattle.fc_device.specs.Calls.{FailsByFault, SameForm, StopsAndExitsLeave};
-ghost use Rattle.fc_objects.specs.Bytes.{first_bytes};
+ghost use Rattle.fc_image.specs.Layout.{sector_bytes};
 ghost use Rattle.fc_objects.specs.Extents.{sectors_in};
-ghost use Rattle.fc_objects.specs.Written.{AreApart, HasParts, IsPartWritten};
+ghost use Rattle.fc_objects.specs.Written.{IsPartWritten};
 ghost use Rattle.fc_oldchanges.specs.Owed.{IsWritten};
 ghost use Rattle.fc_oldmap.specs.OldMap.{with_holes};
+ghost use Rattle.fc_space.specs.Space.{layout_of};
+ghost use Rattle.fc_volume.specs.Storing.{AreStored};
 ghost use Rattle.fc_oldvolume.specs.Writing.{ChangesFront, IsFrontWritten, IsMapWritten};
 
 use fc_device::{Disk, DiskFault, Extent};
-use fc_objects::write_object;
 use fc_oldmap::OldMap;
+use fc_space::Places;
+use fc_volume::changes::rewrite::Rewrite;
+use fc_volume::changes::storing::store_in;
 
-/// Writes some bytes to the sectors of an object, and syncs.
-pub fn store<D: Disk>(
+/// Writes bytes into some sectors of a disc, and syncs.
+pub fn store_at<D: Disk>(
     disk: &mut D,
-    size: usize,
+    places: &Places,
     place: &[Extent],
     bytes: &[u8],
 ) -> Result<(), DiskFault>
     requires attached { IsTrue (D.attached disk.old) }
     requires settled { IsFalse (D.pending disk.old) }
-    requires size { D.sector_size disk.old ≡ size }
+    requires size { D.sector_size disk.old ≡ sector_bytes (layout_of places.now) }
     requires on_disk { All (λ n. n < D.sectors disk.old) (sectors_in place.now) }
-    ensures keeps { StopsAndExitsLeave D.Disk disk.old disk.new (IsPartWritten size (sectors_in place.now) bytes.now) }
-    ensures parts { OnOk result (AreApart (sectors_in place.now) → ForSome (D.bytes disk.new) (HasParts size (sectors_in place.now) bytes.now)) }
-    ensures reads_back { OnOk result (AreApart (sectors_in place.now) → length bytes.now ≤ length (sectors_in place.now) * size
-        → ForSome (D.bytes disk.new) (λ image. first_bytes size image (sectors_in place.now) (length bytes.now) ≡ bytes.now)) }
+    ensures keeps { StopsAndExitsLeave D.Disk disk.old disk.new (IsPartWritten (sector_bytes (layout_of places.now)) (sectors_in place.now) bytes.now) }
+    ensures stored { OnOk result (ForSome (D.bytes disk.old) (λ was. ForSome (D.bytes disk.new) (AreStored (sector_bytes (layout_of places.now)) (sectors_in place.now) bytes.now was))) }
     ensures durable { OnOk result (IsFalse (D.pending disk.new)) }
     ensures form { SameForm D.Disk disk.old disk.new }
     ensures cause { FailsByFault D.Disk disk.old disk.new result }
 {
-    write_object(disk, size, place, bytes)?;
-    disk.sync()?;
-    Ok(())
+    store_in(disk, places.sector_bytes() as usize, place, bytes)
+}
+
+/// Writes a directory to its place, and syncs.
+pub fn write_directory<D: Disk>(disk: &mut D, places: &Places, r: &Rewrite) -> Result<(), DiskFault>
+    requires attached { IsTrue (D.attached disk.old) }
+    requires settled { IsFalse (D.pending disk.old) }
+    requires size { D.sector_size disk.old ≡ sector_bytes (layout_of places.now) }
+    requires on_disk { All (λ n. n < D.sectors disk.old) (sectors_in r.now.place.items) }
+    ensures keeps { StopsAndExitsLeave D.Disk disk.old disk.new (IsPartWritten (sector_bytes (layout_of places.now)) (sectors_in r.now.place.items) r.now.bytes.items) }
+    ensures stored { OnOk result (ForSome (D.bytes disk.old) (λ was. ForSome (D.bytes disk.new) (AreStored (sector_bytes (layout_of places.now)) (sectors_in r.now.place.items) r.now.bytes.items was))) }
+    ensures durable { OnOk result (IsFalse (D.pending disk.new)) }
+    ensures form { SameForm D.Disk disk.old disk.new }
+    ensures cause { FailsByFault D.Disk disk.old disk.new result }
+{
+    store_at(disk, places, &r.place, &r.bytes)
 }
 
 // Writes the holes of a map over the first 512 of some bytes.
@@ -69,7 +84,7 @@ fn write_front<D: Disk>(
 {
     disk.read_row(row, front)?;
     patch(map, front);
-    store(disk, size, &[row], front)
+    store_in(disk, size, &[row], front)
 }
 
 /// Writes the holes of a map over the map on the disk, and syncs. Beside the holes, FreeEnd and the checks nothing changes.

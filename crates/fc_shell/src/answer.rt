@@ -61,7 +61,7 @@ fn answer_reading<D: Disk, K: Sink>(
     }
 }
 
-// Makes the index of the map again, if a change dropped it and the command asks for a file's place.
+// Before a file's place is asked for: the index of the map may be made again, which a change drops.
 fn renew_index(alloc: Global, volume: &mut Volume, asked: &Command)
     ensures { volume.new ≡ volume.old }
 {

@@ -58,7 +58,7 @@ pub fn tell_change<K: Sink>(
     }
 }
 
-// Whether a volume's disc has an old map.
+/// Whether a volume's disc has an old map.
 pub fn has_old_map(volume: &Volume) -> bool
     ensures old_map { result ≡ true → IsOldLayout (parts_of volume.now).layout }
     ensures new_map { result ≡ false → IsNewLayout (parts_of volume.now).layout }

@@ -1,6 +1,5 @@
 // A demo: its replies in memory, and the one line that is written in their place.
 ghost use Rattle.std.specs.Prelude.{◌≡◌, ◌⊎◌, ◌<◌, ◌≤◌, ◌^◌, ◌∷◌, ◌++◌, [], Some, IfOk, OnOk};
-ghost use Rattle.std.specs.Fmt.{decimal};
 ghost use Rattle.hex.specs.Hex.{encode_lower};
 ghost use Rattle.sha2.specs.Sha256.{sha256};
 ghost use Rattle.fc_device.specs.Faults.{Rose};
@@ -13,7 +12,7 @@ use crate::digits::put_digits;
 use crate::ending::End;
 use crate::sink::write_all;
 use crate::tally::Tally;
-use crate::texts::{push_number, push_word};
+use crate::texts::{push_count, push_number, push_word};
 use fc_device::{Failed, NoMemory, Sink};
 use sha2::{Digest, Sha256};
 use std::alloc::Global;
@@ -61,14 +60,6 @@ impl Sink for Replies {
     }
 }
 
-// Appends a space, a word, and a number behind another space.
-fn push_named(alloc: Global, line: &mut Vec<u8>, word: &[u8], number: u32) -> Result<(), NoMemory>
-    ensures { OnOk result (line.new.items ≡ line.old.items ++ spaced (word.now ∷ decimal number ∷ [])) }
-{
-    push_word(line, word)?;
-    push_number(alloc, line, u64::from(number))
-}
-
 // Appends a space and the digest of a text.
 fn push_digest(line: &mut Vec<u8>, text: &[u8]) -> Result<(), NoMemory>
     ensures { OnOk result (line.new.items ≡ line.old.items ++ spaced (encode_lower (sha256 text.now) ∷ [])) }
@@ -84,9 +75,9 @@ fn tally_line(alloc: Global, n: u32, tally: Tally, text: &[u8]) -> Result<Vec<u8
 {
     let mut line = Vec::new(alloc);
     line.extend_from_slice(b"demo")?;
-    push_number(alloc, &mut line, u64::from(n))?;
-    push_named(alloc, &mut line, b"commands", tally.replies)?;
-    push_named(alloc, &mut line, b"refused", tally.refused)?;
+    push_number(&mut line, u64::from(n))?;
+    push_count(&mut line, b"commands", u64::from(tally.replies))?;
+    push_count(&mut line, b"refused", u64::from(tally.refused))?;
     push_word(&mut line, b"sha256")?;
     push_digest(&mut line, text)?;
     line.extend_from_slice(b"\n")?;

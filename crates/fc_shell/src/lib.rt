@@ -221,8 +221,8 @@ pub fn run<D: Disk, S: Source, K: Sink>(
     ensures disk_fault { result ≡ End.DiskFault → Rose (D.faults disk.old) (D.faults disk.new) }
     ensures out_fault { result ≡ End.OutFault → Rose (K.faults out.old) (K.faults out.new) }
 
-    // After `NoImage` the disk is as it was, but that it was asked, and a crash shows nothing new. It comes only if the disk can't open the name, and an end
-    // over an image only if it can, as far as that is known.
+    // After `NoImage` the disk is as it was, but that it was asked, and a crash shows nothing new. It comes only if the disk
+    // can't open the name, and an end over an image only if it can, as far as that is known.
     ensures no_image { result ≡ End.NoImage → Untouched D.Disk disk.old disk.new
         × IsUnwritten D.Disk disk.old disk.new }
     ensures given { (r : Request) → request_of (map string_bytes words.now.items) ≡ Some r → ForSome (D.gives disk.old) (λ gives. FitsGiven (gives r.image (blank_size r)) result) }

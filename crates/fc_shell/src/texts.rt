@@ -9,6 +9,7 @@ use fc_device::NoMemory;
 use fc_dirs::DirFault;
 use fc_image::ImageFault;
 use fc_names::{Path, write_path};
+use itoa::Buffer;
 use std::alloc::Global;
 
 /// Appends a space and a word.
@@ -21,11 +22,10 @@ pub fn push_word(line: &mut Vec<u8>, word: &[u8]) -> Result<(), NoMemory>
 }
 
 /// Appends a space and a number.
-pub fn push_number(alloc: Global, line: &mut Vec<u8>, number: u64) -> Result<(), NoMemory>
+pub fn push_number(line: &mut Vec<u8>, number: u64) -> Result<(), NoMemory>
     ensures { OnOk result (line.new.items ≡ line.old.items ++ spaced (decimal number ∷ [])) }
 {
-    let text = format!(in alloc; "{number}")?;
-    push_word(line, text.as_bytes())
+    push_word(line, Buffer::new().format(number).as_bytes())
 }
 
 // Appends a space and a path.
@@ -37,7 +37,7 @@ fn push_path(line: &mut Vec<u8>, path: &Path) -> Result<(), NoMemory>
 }
 
 // Appends the words of what is wrong with a directory.
-fn push_dir_fault(alloc: Global, line: &mut Vec<u8>, fault: DirFault) -> Result<(), NoMemory>
+fn push_dir_fault(line: &mut Vec<u8>, fault: DirFault) -> Result<(), NoMemory>
     ensures { OnOk result (line.new.items ≡ line.old.items ++ spaced (dir_fault_words fault)) }
 {
     match fault {
@@ -47,36 +47,30 @@ fn push_dir_fault(alloc: Global, line: &mut Vec<u8>, fault: DirFault) -> Result<
         DirFault::Check => push_word(line, b"Check"),
         DirFault::BadEntry { at } => {
             push_word(line, b"BadEntry")?;
-            push_number(alloc, line, u64::from(at))
+            push_number(line, u64::from(at))
         }
         DirFault::Twin { at } => {
             push_word(line, b"Twin")?;
-            push_number(alloc, line, u64::from(at))
+            push_number(line, u64::from(at))
         }
     }
 }
 
 // Appends a word and two numbers.
-fn push_pair(
-    alloc: Global,
-    line: &mut Vec<u8>,
-    word: &[u8],
-    one: u64,
-    two: u64,
-) -> Result<(), NoMemory>
+fn push_pair(line: &mut Vec<u8>, word: &[u8], one: u64, two: u64) -> Result<(), NoMemory>
     ensures { OnOk result (line.new.items ≡ line.old.items ++ spaced (word.now ∷ decimal one ∷ decimal two ∷ [])) }
 {
     push_word(line, word)?;
-    push_number(alloc, line, one)?;
-    push_number(alloc, line, two)
+    push_number(line, one)?;
+    push_number(line, two)
 }
 
-// Appends a word and a number.
-fn push_count(alloc: Global, line: &mut Vec<u8>, word: &[u8], number: u64) -> Result<(), NoMemory>
+/// Appends a word and a number.
+pub fn push_count(line: &mut Vec<u8>, word: &[u8], number: u64) -> Result<(), NoMemory>
     ensures { OnOk result (line.new.items ≡ line.old.items ++ spaced (word.now ∷ decimal number ∷ [])) }
 {
     push_word(line, word)?;
-    push_number(alloc, line, number)
+    push_number(line, number)
 }
 
 // Appends a word and a path.
@@ -88,36 +82,29 @@ fn push_place(line: &mut Vec<u8>, word: &[u8], path: &Path) -> Result<(), NoMemo
 }
 
 // Appends the words of a fault.
-fn push_fault(alloc: Global, line: &mut Vec<u8>, fault: &ImageFault) -> Result<(), NoMemory>
+fn push_fault(line: &mut Vec<u8>, fault: &ImageFault) -> Result<(), NoMemory>
     ensures { OnOk result (line.new.items ≡ line.old.items ++ spaced (fault_words fault.now)) }
 {
     match fault {
         ImageFault::NoKind => push_word(line, b"NoKind"),
-        ImageFault::Short { need, have } => push_pair(alloc, line, b"Short", *need, *have),
-        ImageFault::Copies { c1, c2 } => push_pair(
-            alloc,
-            line,
-            b"Copies",
-            u64::from(*c1),
-            u64::from(*c2),
-        ),
-        ImageFault::Differs { offset } => push_count(alloc, line, b"Differs", u64::from(*offset)),
-        ImageFault::Bad { offset } => push_count(alloc, line, b"Bad", u64::from(*offset)),
+        ImageFault::Short { need, have } => push_pair(line, b"Short", *need, *have),
+        ImageFault::Copies { c1, c2 } => push_pair(line, b"Copies", u64::from(*c1), u64::from(*c2)),
+        ImageFault::Differs { offset } => push_count(line, b"Differs", u64::from(*offset)),
+        ImageFault::Bad { offset } => push_count(line, b"Bad", u64::from(*offset)),
         ImageFault::Zone { zone, bit } => push_pair(
-            alloc,
             line,
             b"Zone",
             u64::from(*zone),
             u64::from(*bit),
         ),
-        ImageFault::Hole { index } => push_count(alloc, line, b"Hole", u64::from(*index)),
+        ImageFault::Hole { index } => push_count(line, b"Hole", u64::from(*index)),
         ImageFault::Directory { path, fault } => {
             push_place(line, b"Directory", path)?;
-            push_dir_fault(alloc, line, *fault)
+            push_dir_fault(line, *fault)
         }
         ImageFault::Place { path } => push_place(line, b"Place", path),
         ImageFault::Overlap { path } => push_place(line, b"Overlap", path),
-        ImageFault::MapPlace { sector } => push_count(alloc, line, b"MapPlace", *sector),
+        ImageFault::MapPlace { sector } => push_count(line, b"MapPlace", *sector),
     }
 }
 
@@ -127,7 +114,7 @@ pub fn bad_image_line(alloc: Global, fault: &ImageFault) -> Result<Vec<u8>, NoMe
 {
     let mut line = Vec::new(alloc);
     line.extend_from_slice(b"bad-image")?;
-    push_fault(alloc, &mut line, fault)?;
+    push_fault(&mut line, fault)?;
     line.extend_from_slice(b"\n")?;
     Ok(line)
 }

@@ -26,7 +26,7 @@ use Rattle.fc_laws.specs.agree.Agreed.{AgreeOn}
 use Rattle.fc_refusals.specs.Targets.{IsVacant}
 use Rattle.fc_volume.specs.declared.changes.making.Making.{Making}
 use Rattle.fc_volume.specs.CdirLaws.{CdirLaws}
-use Rattle.fc_volume.specs.Making.{CanMakeIn, IsAdmitted, IsMakingReady}
+use Rattle.fc_volume.specs.Making.{CanMakeIn, IsMakingReady}
 use Rattle.fc_volume.specs.Storing.{CanStore}
 use Rattle.fc_volume.specs.Volume.{StandsFor, Volume, parts_of}
 use Rattle.fc_volume.proofs.CdirHeldLemmas.{can_make, formed, hole_apart, hole_on_disc, unowned}
@@ -252,17 +252,6 @@ pub space_answer : (T : Type 0) (o want : Option Refusal) (error : CommandError)
 space_answer T o want (Refused r) e h = refused_by T o r (e ∙ h)
 space_answer T o want NoMemory e h = no_memory T o
 space_answer T o want DiskFault e h = absurd h
-
--- ---- memory
-
--- the volume before the call, by its parts
-pub admitted_from : (w v now : Volume) (t : Numbers) (n k : ℕ) (r : Making) → t ≡ w.tree → w ≡ v → n ≡ k → IsAdmitted (record w { tree = t }) now n r → IsAdmitted v now k r
-admitted_from w v now t n k r same is number a =
-    subst (λ (j : ℕ). IsAdmitted v now j r) number
-    (subst (λ (x : Volume). IsAdmitted x now n r) is (subst (λ (y : Numbers). IsAdmitted (record w { tree = y }) now n r) same a))
-
-pub kept_from : (w v now : Volume) (t : Numbers) → t ≡ w.tree → w ≡ v → now ≡ record w { tree = t } → now ≡ v
-kept_from w v now t same is e = e ∙ ap (λ (y : Numbers). record w { tree = y }) same ∙ is
 
 -- ---- answers that aren't faults
 

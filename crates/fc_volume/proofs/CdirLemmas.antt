@@ -54,8 +54,8 @@ use Rattle.fc_changes.specs.Changed.{IsInNewSpace}
 use Rattle.fc_changes.proofs.BasicLemmas.{next_in}
 use Rattle.fc_laws.specs.nodes.Edits.{OwnersEdited, owner_with, owners_with}
 use Rattle.fc_laws.specs.agree.Agreed.{CanSay}
-use Rattle.fc_newmap.proofs.HeldLemmas.{geometry_facts}
 use Rattle.fc_volume.specs.Owners.{entry_owner}
+use Rattle.fc_volume.proofs.AdmittingLemmas.{new_length, some_needed}
 use Rattle.fc_volume.proofs.OwnersLemmas.{sectors_long}
 use Rattle.fc_changes.specs.Owed.{IsWritten}
 use Rattle.fc_image.specs.effects.Steady.{has_grown, has_new_holder}
@@ -108,21 +108,6 @@ no_entries forms.Long parent name = refl
 says_it : (dir : Directory) → IsSayable dir → IsDirectory dir
 says_it (Directory.Small dir) is = is
 says_it (Directory.Big dir) is = is
-
--- a new directory has the length of its form
-new_length : (b : Bool) → directory_size (cond b forms.Ten forms.Long) (new_dir_size (cond b forms.Ten forms.Long)) ≡ new_dir_size (cond b forms.Ten forms.Long)
-new_length true = refl
-new_length false = refl
-
--- a new directory takes a sector at least
-some_needed : (m : Map) → IsNewMap m → 0 < div_ceil 2048 m.geometry.sector
-some_needed m is = elim (geometry_facts m.geometry is.of_record).size [
-  | inl a ↦ subst (λ (n : ℕ). 0 < div_ceil 2048 n) (sym a) (omega arith)
-  | inr b ↦ elim b [
-    | inl c ↦ subst (λ (n : ℕ). 0 < div_ceil 2048 n) (sym c) (omega arith)
-    | inr d ↦ subst (λ (n : ℕ). 0 < div_ceil 2048 n) (sym d) (omega arith)
-  ]
-]
 
 -- ---- what is ready
 

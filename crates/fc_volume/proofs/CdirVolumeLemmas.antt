@@ -5,9 +5,10 @@ use Rattle.fc_device.specs.declared.disk.Disk.{Ghosts}
 use Rattle.fc_device.specs.Calls.{SameForm, StopsAndExitsLeave}
 use Rattle.fc_record.specs.declared.Kind.{Kind}
 use Rattle.fc_newmap.specs.Map.{Map}
-use Rattle.fc_names.specs.Names.{Path}
+use Rattle.fc_names.specs.Names.{Path, is_directory}
 use Rattle.fc_model.specs.Command.{Command}
 use Rattle.fc_alloc.specs.declared.owner.Owner.{Owner}
+use Rattle.fc_dirs.specs.declared.Entry.{Entry}
 use Rattle.fc_image.specs.Layout.{Layout}
 use Rattle.fc_image.specs.Opening.{Opened}
 use Rattle.fc_image.specs.Objects.{objects_of}
@@ -22,9 +23,12 @@ use Rattle.fc_laws.specs.takeover.Laws.{TakesOver}
 use Rattle.fc_volume.specs.declared.changes.making.Making.{Making}
 use Rattle.fc_volume.specs.CdirLaws.{CdirLaws}
 use Rattle.fc_volume.specs.Changing.{HasChanged, WritesPlaces}
-use Rattle.fc_volume.specs.Making.{HasMade, IsAdmitted, nodes_made}
+use Rattle.fc_volume.specs.Admitting.{IsAdmitted}
+use Rattle.fc_volume.specs.Making.{HasMade, nodes_made}
+use Rattle.fc_volume.specs.Owners.{entry_owner, with_owner}
 use Rattle.fc_volume.specs.Storing.{HasSpaceOf, IsObjectMade}
 use Rattle.fc_volume.specs.Volume.{StandsFor, Volume, parts_of}
+use Rattle.fc_volume.proofs.AdmittingLemmas.{directory_owned}
 use Rattle.fc_volume.proofs.CdirLemmas.{IsReady, agrees, takes_over, writes_places}
 use Rattle.fc_volume.proofs.SpacedLemmas.{HasNow, has_changed as space_changed, stands_now as space_stands}
 
@@ -48,7 +52,7 @@ module _ {D : Type 0} (d : Ghosts D) (laws : CdirLaws) (m : Map) (v : Volume) (o
   places_of kind view was image opens held w =
       writes_places laws m (nodes_of v.tree) path dir (next_number v.tree) r is kind was view opens (sym held.layout ∙ layout) held.nodes image w
 
-  module _ (w v' : Volume) (new : D) (m' : Map) (admitted : IsAdmitted v w (next_number v.tree) r) (made : HasMade w v' r) (layout' : layout_of v'.space ≡ Layout.New m')
+  module _ (w v' : Volume) (new : D) (m' : Map) (admitted : IsAdmitted v w (next_number v.tree) r.directory.node r.entry) (made : HasMade w v' r) (layout' : layout_of v'.space ≡ Layout.New m')
       (has : HasSpaceOf r.object.plan m m') (written : ForSome (d.bytes old) (λ was. ForSome (d.bytes new) (IsObjectMade m m' new_sectors r.object.bytes.items sectors r.directory.bytes.items was)))
       (exits : StopsAndExitsLeave d old new (IsWritten m (sectors ++ new_sectors))) where
     abbrev number : ℕ
@@ -62,7 +66,9 @@ module _ {D : Type 0} (d : Ghosts D) (laws : CdirLaws) (m : Map) (v : Volume) (o
         made.nodes ∙ ap (λ (t : Numbers). nodes_made r (next_number t) (nodes_of t)) admitted.tree ∙ ap (nodes_made r number) (same_nodes v.tree (v.tree.room + 1))
 
     owners_are : v'.owners ≡ owners'
-    owners_are = made.owners ∙ admitted.owners ∙ ap (λ (l : Layout). v.owners ++ Rattle.fc_volume.specs.Owners.entry_owner l number r.directory.node r.entry ∷ []) layout
+    owners_are =
+        made.owners ∙ admitted.owners ∙ ap (λ (l : Layout). with_owner v.owners (entry_owner l number r.directory.node r.entry)) layout
+        ∙ directory_owned m is.is_map r.entry (ap (λ (e : Entry). is_directory e.attrs) is.ready.entry) (ap (λ (e : Entry). e.len) is.ready.entry) number r.directory.node v.owners
 
     now : HasNow m m' (nodes_made r number (nodes_of v.tree)) owners' v'
     now = record { layout = layout'; geometry = has.edited.geometry; nodes_are = nodes_are; owners_are = owners_are; copies = made.copies }

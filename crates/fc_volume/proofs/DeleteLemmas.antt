@@ -131,22 +131,22 @@ module _ (laws : ChangeLaws) (m : Map) (nodes : Nodes) (owners : List Owner) (pa
     pub placed : IsAt (Layout.New m) l.object
     placed = target_of.placed nodes (Layout.New m) listings sound held l target.listed t.holder target.holder_is
 
-    pub entry_is : is.ready.node.entry ≡ l.object.entry
-    entry_is = rewrite.entry_is nodes m listings sound held l target.listed t.holder target.holder_is is.ready.node is.ready.there
+    pub entry_is : is.ready.directory.node.entry ≡ l.object.entry
+    entry_is = rewrite.entry_is nodes m listings sound held l target.listed t.holder target.holder_is is.ready.directory.node is.ready.directory.there
 
-    pub content_is : is.ready.content ≡ l.content
-    content_is = rewrite.content_is nodes m listings sound held l target.listed t.holder target.holder_is is.ready.node is.ready.there is.ready.content is.ready.says
+    pub content_is : is.ready.directory.content ≡ l.content
+    content_is = rewrite.content_is nodes m listings sound held l target.listed t.holder target.holder_is is.ready.directory.node is.ready.directory.there is.ready.directory.content is.ready.directory.says
 
-    parent_is : address_in nodes is.ready.node.holder ≡ holder_address listings l.object.path
-    parent_is = rewrite.parent_is nodes m listings sound held l target.listed t.holder target.holder_is is.ready.node is.ready.there
+    parent_is : address_in nodes is.ready.directory.node.holder ≡ holder_address listings l.object.path
+    parent_is = rewrite.parent_is nodes m listings sound held l target.listed t.holder target.holder_is is.ready.directory.node is.ready.directory.there
 
     pub left : HasLeft (holder_address listings l.object.path) t.at l.content content
     left =
         subst (λ (p : ℕ). HasLeft p t.at l.content content) parent_is
-        (subst (λ (d : Directory). HasLeft (address_in nodes is.ready.node.holder) t.at d content) content_is is.ready.left)
+        (subst (λ (d : Directory). HasLeft (address_in nodes is.ready.directory.node.holder) t.at d content) content_is is.ready.directory.left)
 
     pub sectors_are : sectors ≡ l.object.sectors
-    sectors_are = rewrite.sectors_are nodes m listings sound held l target.listed t.holder target.holder_is is.ready.node is.ready.there sectors is.ready.prepared.place
+    sectors_are = rewrite.sectors_are nodes m listings sound held l target.listed t.holder target.holder_is is.ready.directory.node is.ready.directory.there sectors is.ready.directory.prepared.place
 
     abbrev pub cut : (out rest : List Listing) × GoesAlone out o × IsPermutation listings (out ++ l ∷ rest)
     cut = laws.cuts.alone (Layout.New m) listings l t.at o sound target.listed target.at removable.empty
@@ -167,7 +167,7 @@ module _ (laws : ChangeLaws) (m : Map) (nodes : Nodes) (owners : List Owner) (pa
       alone = cut.2;
       entries = entries_are;
       listings_are = refl;
-      nodes_are = λ i. take (with_body (is.ready.prepared.node i) (body_in content) nodes) (is.ready.number i);
+      nodes_are = λ i. take (with_body (is.ready.directory.prepared.node i) (body_in content) nodes) (is.ready.number i);
     }
 
     pub nodes_follow : NodesFollow nodes' listings'
@@ -204,13 +204,13 @@ module _ (laws : ChangeLaws) (m : Map) (nodes : Nodes) (owners : List Owner) (pa
       (record {
         form = form_left (dir_form (Layout.New m)) k.object.entry.len (holder_address a.listings k.object.path) t.at k.content content (left a.listings sound held)
             (a.walked.forms k (target a.listings sound held).listed);
-        body = says_it content is.ready.prepared.sayable;
+        body = says_it content is.ready.directory.prepared.sayable;
       })
       (record { nodes_follow = nodes_follow a.listings sound held; owners_follow = owners_follow a.listings sound held m' owners' edited.geometry a.owned there absent })
       s.1 (record { is_map = edited.is_map; geometry = edited.geometry; space = space; gives = gives a.listings sound held a.owned })
 
   pub long : (kind : Kind) → Agree kind (record { layout = Layout.New m; nodes = nodes; owners = owners })
-      → length r.directory.bytes.items ≡ object_size (dir_form (Layout.New m)) is.ready.node.entry
+      → length r.directory.bytes.items ≡ object_size (dir_form (Layout.New m)) is.ready.directory.node.entry
   long kind a =
       let now : Parts = record { layout = Layout.New m; nodes = nodes; owners = owners } in
       let on = laws.agreed.named kind now m refl is.is_map a in
@@ -218,7 +218,7 @@ module _ (laws : ChangeLaws) (m : Map) (nodes : Nodes) (owners : List Owner) (pa
       let held = laws.agreed.held kind m nodes owners a.root a.listings on in
       let k = l a.listings sound held in
       let tg = target a.listings sound held in
-      is.ready.prepared.length_is ∙ is.ready.left.size ∙ ap size_of (content_is a.listings sound held)
+      is.ready.directory.prepared.length_is ∙ is.ready.directory.left.size ∙ ap size_of (content_is a.listings sound held)
       ∙ size_of_form (dir_form (Layout.New m)) k.object.entry k.content (a.walked.forms k tg.listed)
       (target_of.directory nodes (Layout.New m) a.listings sound held k tg.listed t.holder tg.holder_is)
       ∙ ap (object_size (dir_form (Layout.New m))) (sym (entry_is a.listings sound held))
@@ -233,7 +233,7 @@ module _ (laws : ChangeLaws) (m : Map) (nodes : Nodes) (owners : List Owner) (pa
     k = l view.listings view_sound hold
 
     pub takes_over : (m' : Map) (owners' : List Owner) (image : List ℕ) → AreOwners owners nodes (Layout.New m) (objects_of view.listings)
-        → length r.directory.bytes.items ≡ object_size (dir_form (Layout.New m)) is.ready.node.entry → IsMapEdited m m' → IsSpaceEdit m m' 0 [] r.gone.items
+        → length r.directory.bytes.items ≡ object_size (dir_form (Layout.New m)) is.ready.directory.node.entry → IsMapEdited m m' → IsSpaceEdit m m' 0 [] r.gone.items
         → ((w : Owner) → Contains owners w → w.node ≡ t.node → IsPermutation owners (w ∷ owners')) → ((has_node owners t.node ≡ false) → owners' ≡ owners)
         → IsWrittenWithout m m' r was image → TakesOver kind was image view (Command.Delete path) m' nodes' owners'
     takes_over m' owners' image owned len edited space there_owner absent written =
@@ -247,7 +247,7 @@ module _ (laws : ChangeLaws) (m : Map) (nodes : Nodes) (owners : List Owner) (pa
           sectors_are = sectors_are view.listings view_sound hold;
           says = (left view.listings view_sound hold).rewritten (Command.Delete path) k.object.path refl;
           long = len ∙ ap (object_size (dir_form (Layout.New m))) (entry_is view.listings view_sound hold);
-          bytes_are = is.ready.prepared.bytes;
+          bytes_are = is.ready.directory.prepared.bytes;
           written = w;
         } in
         laws.steps.deleted kind was w.mid written.mid image view m m' path c.0 c.1 k content t.at (o view.listings view_sound hold) s.0 r.gone.items nodes nodes' (listings' view.listings view_sound hold)

@@ -64,7 +64,7 @@ module _ (w v : Volume) (same : w ≡ v) (m : Map) (layout : layout_of v.space �
   pub on_disk : {D : Type 0} (d : Ghosts D) (old : D) → PlacesSuffice (layout_of w.space) → StandsFor d v old → All (λ s. s < d.sectors old) (sectors_in r.directory.place.items)
   on_disk d old suffice stands =
       all_low (d.sectors old) (sectors_in r.directory.place.items)
-      (λ s e. (let low = (suffice ready.node.entry.address (object_size (dir_form (layout_of w.space)) ready.node.entry) (sectors_in r.directory.place.items) ready.prepared.place).on_disc s e in
+      (λ s e. (let low = (suffice ready.directory.node.entry.address (object_size (dir_form (layout_of w.space)) ready.directory.node.entry) (sectors_in r.directory.place.items) ready.directory.prepared.place).on_disc s e in
       let here : s < disc_sectors (layout_of v.space) = subst (λ (x : Volume). s < disc_sectors (layout_of x.space)) same low in
       let room = stands.room in
       omega (arith, here, room)))

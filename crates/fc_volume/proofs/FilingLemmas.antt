@@ -37,14 +37,6 @@ pub on_ok : {T E : Type 0} {P : Type 0} (result : Result T E) → P → OnOk res
 on_ok (Ok value) p = p
 on_ok (Err error) p = tt
 
--- by other words for the same place
-pub first_as : (m : Map) (bytes was image : List ℕ) {place place' : List Extent} → place ≡ place' → IsFirstStored m (sectors_in place) bytes was image → IsFirstStored m (sectors_in place') bytes was image
-first_as m bytes was image e first = subst (λ (es : List Extent). IsFirstStored m (sectors_in es) bytes was image) e first
-
-pub kept_as : {D : Type 0} (d : Ghosts D) {old new : D} (m : Map) {place place' : List Extent} → place ≡ place' → StopsAndExitsLeave d old new (IsWritten m (sectors_in place))
-    → StopsAndExitsLeave d old new (IsWritten m (sectors_in place'))
-kept_as d {old = old} {new = new} m e kept = subst (λ (es : List Extent). StopsAndExitsLeave d old new (IsWritten m (sectors_in es))) e kept
-
 -- What goes back is in the same zones after a plan's space was taken.
 pub back_still : StepsLaw → (m mid : Map) (plan : Option Plan) (gone zones : List ℕ) → HasPlanned m plan mid → KeepsPlan plan gone → zones ≡ zones_changed m None gone → zones ≡ zones_changed mid None gone
 back_still law m mid None gone zones same kept e = e ∙ sym (ap (λ (x : Map). zones_changed x None gone) same)

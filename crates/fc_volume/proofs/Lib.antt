@@ -3,6 +3,8 @@ mod OneZoneLemmas
 mod MapsOldLemmas
 mod MisplacedLemmas
 pub mod OwnersLemmas
+pub mod NoSpaceLemmas
+pub mod AdmittingLemmas
 mod MountLemmas
 mod OpenReadsLemmas
 mod ReadingLemmas
@@ -39,7 +41,6 @@ mod DeleteVolumeLemmas
 pub mod FilingLemmas
 pub mod RewriteLemmas
 pub mod RelocatingLemmas
-mod LastNameLemmas
 mod RenamingLemmas
 pub mod TurnedLemmas
 mod RenameSpaceLemmas

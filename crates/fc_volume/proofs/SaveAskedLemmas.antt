@@ -35,7 +35,7 @@ use Rattle.fc_volume.specs.declared.changes.putting.NewFile.{NewFile}
 use Rattle.fc_volume.specs.declared.lines.CommandError.{CommandError}
 use Rattle.fc_volume.specs.SaveLaws.{SaveLaws}
 use Rattle.fc_volume.specs.Changing.{refusal_in}
-use Rattle.fc_volume.specs.Filing.{CanFile, IsFileAdmitted, IsFileDrafted, IsPlaceFor, WantsFile, plan_in}
+use Rattle.fc_volume.specs.Filing.{CanFile, IsFileDrafted, IsPlaceFor, WantsFile, plan_in}
 use Rattle.fc_volume.specs.Making.{AnswersSpace}
 use Rattle.fc_volume.specs.Roomy.{IsRoomyFor}
 use Rattle.fc_volume.specs.Saving.{CanPutIn, IsFileAccepted}
@@ -217,11 +217,3 @@ module _ (laws : SaveLaws) (w v : Volume) (same : w ≡ v) (m : Map) (layout : l
   pub no_owner : (n : ℕ) → get (nodes_of v.tree) n ≡ None → has_node w.owners n ≡ false
   no_owner n free =
       subst (λ (x : Volume). has_node x.owners n ≡ false) (sym same) (unowned (nodes_of v.tree) (Layout.New m) agreed.listings v.owners n agreed.walked.held agreed.owned free)
-
--- ---- memory
-
--- the volume before the call, by its parts
-pub admitted_from : (w v now : Volume) (t : Numbers) (n k : ℕ) (r : NewFile) → t ≡ w.tree → w ≡ v → n ≡ k → IsFileAdmitted (record w { tree = t }) now n r → IsFileAdmitted v now k r
-admitted_from w v now t n k r same is number a =
-    subst (λ (j : ℕ). IsFileAdmitted v now j r) number
-    (subst (λ (x : Volume). IsFileAdmitted x now n r) is (subst (λ (y : Numbers). IsFileAdmitted (record w { tree = y }) now n r) same a))

@@ -25,7 +25,8 @@ use Rattle.fc_volume.specs.declared.changes.putting.NewFile.{NewFile}
 use Rattle.fc_volume.specs.declared.copies.Copies.{Copies}
 use Rattle.fc_volume.specs.SaveLaws.{SaveLaws}
 use Rattle.fc_volume.specs.Changing.{HasChanged, WritesPlaces}
-use Rattle.fc_volume.specs.Filing.{HasPut, IsFileAdmitted, IsFileDone, nodes_put}
+use Rattle.fc_volume.specs.Admitting.{IsAdmitted}
+use Rattle.fc_volume.specs.Filing.{HasPut, IsFileDone, nodes_put}
 use Rattle.fc_volume.specs.Owners.{entry_owner, with_owner}
 use Rattle.fc_volume.specs.Volume.{HasCopies, HoldsMap, StandsFor, Volume, parts_of}
 use Rattle.fc_volume.proofs.CdirVolumeLemmas.{same_nodes}
@@ -52,7 +53,7 @@ module _ {D : Type 0} (d : Ghosts D) (laws : SaveLaws) (m : Map) (v : Volume) (o
       writes_places laws m (nodes_of v.tree) v.owners path dir (next_number v.tree) words r is c words.load words.exec bytes makes kind was view opens (sym held.layout ∙ layout) held.nodes (owned view held)
       image w
 
-  module _ (w v' : Volume) (new : D) (m' : Map) (admitted : IsFileAdmitted v w (next_number v.tree) r) (put : HasPut w v' r) (layout' : layout_of v'.space ≡ Layout.New m')
+  module _ (w v' : Volume) (new : D) (m' : Map) (admitted : IsAdmitted v w (next_number v.tree) r.filing.directory.node r.entry) (put : HasPut w v' r) (layout' : layout_of v'.space ≡ Layout.New m')
       (bytes : List ℕ) (whole : length bytes ≡ words.len) (done : IsFileDone d m m' r.filing bytes old new) (exits : StopsAndExitsLeave d old new (IsWritten m (sectors ++ new_sectors))) where
     abbrev number : ℕ
     number = next_number v.tree

@@ -22,20 +22,25 @@ use Rattle.fc_tree.specs.declared.node.Node.{Node}
 use Rattle.fc_tree.specs.Counts.{address_in}
 use Rattle.fc_tree.specs.Nodes.{body_in, nodes_of}
 use Rattle.fc_volume.specs.declared.changes.removal.Removal.{Removal}
+use Rattle.fc_volume.specs.declared.changes.rewrite.Rewrite.{Rewrite}
 use Rattle.fc_volume.specs.declared.copies.Copies.TheVariants.{Equal}
 use Rattle.fc_volume.specs.Rewrites.{IsPrepared, IsRepairedAndWritten}
 use Rattle.fc_volume.specs.Volume.{Volume}
 
--- The target's directory is ready to be written without the target's entry; these identifiers go back, and have runs in these zones.
-pub record IsDeleteReady (nodes : FinMap nat_cmp Node) (layout : Layout) (owners : List Owner) (t : Target) (r : Removal) : Type 0 where
+-- The target's directory is ready to be written without the target's entry.
+pub record LeavesOut (nodes : FinMap nat_cmp Node) (layout : Layout) (t : Target) (r : Rewrite) : Type 0 where
   pub node : Node
   pub content : Directory
   pub was : Entry
   pub there : get nodes t.holder ≡ Some node
   pub says : node.body ≡ body_in content
   pub at : slice_get (entries_of content) t.at ≡ Some was
-  pub left : HasLeft (address_in nodes node.holder) t.at content (directory_in r.directory.draft)
-  pub prepared : IsPrepared layout t.holder node.entry (directory_in r.directory.draft) r.directory
+  pub left : HasLeft (address_in nodes node.holder) t.at content (directory_in r.draft)
+  pub prepared : IsPrepared layout t.holder node.entry (directory_in r.draft) r
+
+-- It is ready, and these identifiers go back, and have runs in these zones.
+pub record IsDeleteReady (nodes : FinMap nat_cmp Node) (layout : Layout) (owners : List Owner) (t : Target) (r : Removal) : Type 0 where
+  pub directory : LeavesOut nodes layout t r.directory
   pub number : r.node ≡ t.node
   pub leaves : LeavesIds owners t.node None r.gone.items
   pub zones : (m : Map) → layout ≡ Layout.New m → r.zones.items ≡ zones_changed m None r.gone.items

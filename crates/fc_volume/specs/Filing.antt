@@ -186,22 +186,9 @@ pub record IsFileReady (nodes : FinMap nat_cmp Node) (layout : Layout) (n : ℕ)
 
 -- ---- the volume
 
--- the owner that the new file is, by its node's number
-abbrev pub owner_put : Volume → ℕ → NewFile → Owner
-owner_put v n r = entry_owner (layout_of v.space) n r.filing.directory.node r.entry
-
 -- the nodes with a new file of this number, and with the directory that holds it as it is then
 abbrev pub nodes_put : NewFile → ℕ → FinMap nat_cmp Node → FinMap nat_cmp Node
 nodes_put r n nodes = put (with_body r.filing.directory.node (body_in (directory_in r.filing.directory.draft)) nodes) n (record { holder = r.filing.directory.node; entry = r.entry; body = File })
-
--- The volume has memory for the new node, and the new owner, if the file has sectors. All else is as before.
-pub record IsFileAdmitted (was now : Volume) (n : ℕ) (r : NewFile) : Type 0 where
-  pub space : now.space ≡ was.space
-  pub copies : now.copies ≡ was.copies
-  pub tree : now.tree ≡ record was.tree { room = was.tree.room + 1 }
-  pub owners : now.owners ≡ with_owner was.owners (owner_put was n r)
-  pub rights : now.read_only ≡ was.read_only
-  pub fit : now.fit ≡ was.fit
 
 -- The volume has the new file, and its copies of the map are equal. All else is as before but its map.
 pub record HasPut (was now : Volume) (r : NewFile) : Type 0 where

@@ -1,9 +1,11 @@
 pub mod Volume
+pub mod NoSpace
 pub mod Answers
 pub mod Calls
 pub mod Maps
 pub mod Misplaced
 pub mod Owners
+pub mod Admitting
 pub mod Mounting
 pub mod Reading
 pub mod Compacting

@@ -73,22 +73,9 @@ pub record IsMakingReady (nodes : FinMap nat_cmp Node) (m : Map) (n : ℕ) (name
 
 -- ---- the volume
 
--- the owner that the new directory is, by its node's number
-abbrev pub owner_made : Volume → ℕ → Making → Owner
-owner_made v n r = entry_owner (layout_of v.space) n r.directory.node r.entry
-
 -- the nodes with a new directory of this number, and with the directory that holds it as it is then
 abbrev pub nodes_made : Making → ℕ → FinMap nat_cmp Node → FinMap nat_cmp Node
 nodes_made r n nodes = put (with_body r.directory.node (body_in (directory_in r.directory.draft)) nodes) n (record { holder = r.directory.node; entry = r.entry; body = body_in (directory_in r.draft) })
-
--- The volume has memory for the new node, and the new owner. All else is as before.
-pub record IsAdmitted (was now : Volume) (n : ℕ) (r : Making) : Type 0 where
-  pub space : now.space ≡ was.space
-  pub copies : now.copies ≡ was.copies
-  pub tree : now.tree ≡ record was.tree { room = was.tree.room + 1 }
-  pub owners : now.owners ≡ was.owners ++ owner_made was n r ∷ []
-  pub rights : now.read_only ≡ was.read_only
-  pub fit : now.fit ≡ was.fit
 
 -- The volume has the new directory, and its copies of the map are equal. All else is as before but its map.
 pub record HasMade (was now : Volume) (r : Making) : Type 0 where

@@ -1,19 +1,20 @@
 // Commands that change a volume: each is judged, drafted in memory, written, and then taken over.
 
+mod admitting;
 mod carry;
 mod carrying;
 mod cdir;
 pub mod copying;
-mod delete;
+pub mod delete;
 pub mod filing;
-mod laws;
+pub mod laws;
 mod made;
 pub mod making;
 pub mod moving;
 mod put;
 pub mod putting;
 pub mod relocate;
-mod removal;
+pub mod removal;
 mod rename;
 pub mod renaming;
 mod replace;
@@ -25,4 +26,4 @@ mod save;
 pub mod set;
 pub mod storing;
 pub mod taking;
-mod writing;
+pub mod writing;

@@ -94,11 +94,7 @@ fn compact_places<D: Disk>(
 {
     match places.edit() {
         Space::NewMapped(map) => compact_map(disk, map, copies, owners),
-        Space::OldMapped(_) => {
-            // The map is a new one.
-            prove!(false);
-            Err(DiskFault)
-        }
+        Space::OldMapped(_) => unreachable!(),
     }
 }
 

@@ -1,7 +1,10 @@
 // What calls of volumes answer.
+ghost use Rattle.std.specs.Prelude.{◌≡◌};
+ghost use Rattle.fc_volume.specs.NoSpace.{no_space};
 
 use fc_image::ImageFault;
 use fc_names::{Name, Refusal};
+use fc_plan::PlanError;
 
 /// Why a command isn't done.
 #[derive(Clone, Copy)]
@@ -11,6 +14,20 @@ pub enum CommandError {
     NoMemory,
     /// A call of the disk failed.
     DiskFault,
+}
+
+impl From<PlanError> for CommandError {
+    ghost from_gives = { λ error answer. answer ≡ no_space error };
+
+    fn from(error: PlanError) -> Self
+        ensures { result ≡ no_space error }
+    {
+        match error {
+            PlanError::IdsFull => CommandError::Refused(Refusal::IdsFull),
+            PlanError::DiscFull => CommandError::Refused(Refusal::DiscFull),
+            PlanError::NoMemory => CommandError::NoMemory,
+        }
+    }
 }
 
 /// Why a disk isn't mounted.

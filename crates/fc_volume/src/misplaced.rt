@@ -21,9 +21,10 @@ use fc_record::Kind;
 use fc_space::Space;
 use fc_zone::{Run, RunKind};
 
-/// The byte at which a boot block begins, and its bytes.
+/// The byte at which a boot block begins.
 const BOOT_BLOCK: u64 = 0xC00;
 
+/// The bytes of a boot block.
 const BOOT_BYTES: u64 = 512;
 
 /// No sectors.

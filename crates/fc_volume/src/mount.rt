@@ -139,9 +139,9 @@ fn volume_of<D: Disk>(
 
 impl Volume {
     /// Opens the image of a disk that has sectors of 256 bytes and nothing pending; afterwards the disk has the volume's
-    /// sectors. Nothing is written. `Image` exactly where the image isn't accepted, with its first fault; `DiskFault` only
-    /// where the disk's count of faults rose. A disc that opens takes at most 10 read calls for its kind, 2 if it has a boot block, then one for each
-    /// sector of the map, none if it has one zone or is an old one, and one for each sector of a directory.
+    /// sectors. Nothing is written. `Image` exactly if the image isn't accepted, with its first fault; `DiskFault` only if
+    /// the disk's count of faults rose. A disc that opens takes at most 10 read calls for its kind, 2 if it has a boot block,
+    /// then one for each sector of the map, none if it has one zone or is an old one, and one for each sector of a directory.
     ///
     /// Nothing is read twice, whatever is answered: at most those calls are taken that find the kind, and then, only if the
     /// image is long enough for it, those of the map's copies, and, only if the map has no fault, one for each sector of the

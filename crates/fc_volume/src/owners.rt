@@ -1,5 +1,5 @@
 // The owners of a disc's identifiers, from the nodes of its tree.
-ghost use Rattle.std.specs.Prelude.{◌≡◌, ◌<◌, ◌++◌, ℕ, List, Ok, IfOk, IsFalse, OnOk};
+ghost use Rattle.std.specs.Prelude.{◌≡◌, ◌<◌, ◌++◌, ℕ, List, Ok, IfOk, IsFalse, OnErr, OnOk};
 ghost use Rattle.std.specs.FinMap.{get};
 ghost use Rattle.fc_alloc.specs.Owners.{has_node};
 ghost use Rattle.fc_image.specs.Layout.{dir_form, sector_bytes};
@@ -88,10 +88,11 @@ pub fn entry_owner(space: &Space, n: u64, holder: u64, e: &Entry) -> Owner
     }
 }
 
-// Adds an owner, where it has a sector at least.
-fn add(owners: &mut Owners, owner: Owner) -> Result<(), NoMemory>
+/// Adds an owner, if it has a sector at least.
+pub fn add(owners: &mut Owners, owner: Owner) -> Result<(), NoMemory>
     requires { IsFalse (has_node owners.old owner.node) }
-    ensures { OnOk result (owners.new ≡ with_owner owners.old owner) }
+    ensures ok { OnOk result (owners.new ≡ with_owner owners.old owner) }
+    ensures err { OnErr result (owners.new ≡ owners.old) }
 {
     if owner.sectors == 0 {
         return Ok(());

@@ -57,11 +57,8 @@ impl Volume {
         match self.places.place_of(alloc, node.entry.address, f.len) {
             Ok(place) => Ok(place),
             Err(PlaceError::NoMemory) => Err(NoMemory),
-            Err(PlaceError::Outside) => {
-                // Each file of the volume has a place.
-                prove!(false);
-                Err(NoMemory)
-            }
+            // Each file of the volume has a place.
+            Err(PlaceError::Outside) => unreachable!(),
         }
     }
 

@@ -43,13 +43,6 @@ impl Volume {
         self.places.space()
     }
 
-    /// What is known of the copies of a new map.
-    pub fn copies(&self) -> Copies
-        ensures { result ≡ self.now.copies }
-    {
-        self.copies
-    }
-
     /// The owners of identifiers.
     pub fn owners(&self) -> &Owners
         ensures { result.now ≡ self.now.owners }
@@ -62,19 +55,5 @@ impl Volume {
         ensures { self.new ≡ self.old }
     {
         let _ = self.places.index(alloc);
-    }
-
-    /// Whether the volume accepts commands. A volume stays unfit once a change of it ended in a fault of the disk.
-    pub fn fit(&self) -> bool
-        ensures { result ≡ self.now.fit }
-    {
-        self.fit
-    }
-
-    /// Whether it may not be changed.
-    pub fn read_only(&self) -> bool
-        ensures { result ≡ self.now.read_only }
-    {
-        self.read_only
     }
 }

@@ -174,7 +174,7 @@ fn mounted(alloc: Global, row: &Row, failing: Failing) -> Result<Told, Fail> {
         return Err("attached".into());
     }
     match Volume::mount(alloc, &mut disk, true) {
-        Ok(volume) if volume.fit() && volume.read_only() => Ok(("mounted", 0, 0)),
+        Ok(volume) if volume.fit && volume.read_only => Ok(("mounted", 0, 0)),
         Ok(_) => Err("fit and read-only".into()),
         Err(MountError::Image(fault)) => Ok(told_of(&fault)),
         Err(MountError::NoMemory) => Err("memory".into()),

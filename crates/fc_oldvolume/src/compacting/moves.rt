@@ -61,6 +61,7 @@ fn units_of(space: &Space, e: &Entry) -> u64
     ensures units { (disc : OldMapContent) → layout_of space.now ≡ Layout.Old disc → result ≡ units_in disc e.now }
     ensures few { result < 2 ^ 32 }
 {
+    // Contracts see by this that the length fits in 32 bits.
     let _len = e.len;
     let bytes = object_bytes(space, e);
     match space {

@@ -12,11 +12,11 @@ ghost use Rattle.fc_tree.specs.Nodes.{nodes_of};
 ghost use Rattle.fc_oldvolume.specs.Compacting.{AreRowsWritten, DirectoriesWrittenBy, DirWrittenBy, HaveDirectories, marks};
 
 use super::directories::Spare;
-use crate::writing::store;
 use fc_device::{Disk, DiskFault, Extent};
 use fc_oldmap::OldMap;
 use fc_smalldir::SmallDir;
 use fc_tree::{Body, Tree};
+use fc_volume::changes::storing::store_in;
 
 // Writes a directory to a row of sectors, through a buffer as long as it is, and syncs.
 fn write_directory<D: Disk>(
@@ -41,8 +41,7 @@ fn write_directory<D: Disk>(
     ensures cause { FailsByFault D.Disk disk.old disk.new result }
 {
     dir.write(buffer);
-    store(disk, size, &[row], buffer)?;
-    Ok(())
+    store_in(disk, size, &[row], buffer)
 }
 
 // The sectors of a directory at an address.

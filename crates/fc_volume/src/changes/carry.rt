@@ -107,11 +107,7 @@ fn write_placed<D: Disk>(
 {
     match places.edit() {
         Space::NewMapped(map) => write_carrying(disk, map, copies, change),
-        Space::OldMapped(_) => {
-            // The map is a new one.
-            prove!(false);
-            Err(DiskFault)
-        }
+        Space::OldMapped(_) => unreachable!(),
     }
 }
 

@@ -23,17 +23,17 @@ ghost use Rattle.fc_volume.specs.Moving.{CanMove};
 
 use crate::CommandError;
 use crate::changes::laws::is_new_map;
+use crate::changes::making::last_name;
 use crate::changes::moving::{Leaving, prepare_entering, prepare_source};
-use crate::changes::renaming::last_name;
 use crate::changes::rewrite::{Rewrite, place_of};
-use crate::changes::storing::zones_of;
+use crate::changes::storing::zones_taken;
 use crate::owners::entry_owner;
 use fc_alloc::Owner;
 use fc_device::{Extent, NoMemory};
 use fc_dirs::Entry;
-use fc_names::{Path, Refusal};
+use fc_names::Path;
 use fc_newmap::NewMap;
-use fc_placing::{Placing, Plan, PlanError, address_of, extents_of, place_alone};
+use fc_placing::{Placing, Plan, address_of, extents_of, place_alone};
 use fc_refusals::Target;
 use fc_space::{Places, Space};
 use fc_tree::Tree;
@@ -74,7 +74,7 @@ fn space_at(
     requires address { address ≡ 256 * plan.id + file_low map.now.geometry (bits_in (fronts plan.parts.items) * map.now.geometry.bit_bytes) bytes }
     ensures { IfOk result (IsCopySpace map.now bytes) }
 {
-    let zones = zones_of(alloc, map, &plan)?;
+    let zones = zones_taken(alloc, map, &plan)?;
     let place = extents_of(alloc, map, &plan, bytes)?;
     Ok(CopySpace {
         plan,
@@ -106,12 +106,7 @@ fn find_space(alloc: Global, map: &NewMap, len: u32) -> Result<CopySpace, Comman
     ensures refused { (v : Opened) (c : Command) → v.layout ≡ Layout.New map.now → WantsOwnSpace v c len → FitsDirectory v c → AnswersSpace result (short v c) }
 {
     let bytes = u64::from(len);
-    let plan = match place_alone(alloc, map, bytes) {
-        Ok(plan) => plan,
-        Err(PlanError::IdsFull) => return Err(CommandError::Refused(Refusal::IdsFull)),
-        Err(PlanError::DiscFull) => return Err(CommandError::Refused(Refusal::DiscFull)),
-        Err(PlanError::NoMemory) => return Err(CommandError::NoMemory),
-    };
+    let plan = place_alone(alloc, map, bytes)?;
     match space_by(alloc, map, plan, bytes) {
         Ok(found) => Ok(found),
         Err(NoMemory) => Err(CommandError::NoMemory),
@@ -127,11 +122,7 @@ fn space_for(alloc: Global, places: &Places, len: u32) -> Result<CopySpace, Comm
 {
     match places.space() {
         Space::NewMapped(map) => find_space(alloc, map, len),
-        Space::OldMapped(_) => {
-            // The map is a new one.
-            prove!(false);
-            Err(CommandError::NoMemory)
-        }
+        Space::OldMapped(_) => unreachable!(),
     }
 }
 

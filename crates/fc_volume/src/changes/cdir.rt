@@ -83,11 +83,7 @@ fn draft_cdir(
 {
     match places.space() {
         Space::NewMapped(map) => draft_in(alloc, tree, places, map, dir, p),
-        Space::OldMapped(_) => {
-            // The map is a new one.
-            prove!(false);
-            Err(CommandError::NoMemory)
-        }
+        Space::OldMapped(_) => unreachable!(),
     }
 }
 
@@ -128,7 +124,7 @@ impl Volume {
             Err(error) => return Err(error),
         };
         let n = self.tree.next_number();
-        match self.admit(n, &change) {
+        match self.admit(n, change.directory.node, &change.entry) {
             Ok(()) => self.make(disk, change),
             Err(NoMemory) => Err(CommandError::NoMemory),
         }

@@ -10,7 +10,7 @@ ghost use Rattle.fc_space.specs.Space.{layout_of};
 ghost use Rattle.fc_tree.specs.Nodes.{nodes_of};
 ghost use Rattle.fc_volume.specs.Compacting.{UnlessFault};
 ghost use Rattle.fc_volume.specs.Changing.{AnswersOver, ChangeKeeps, HasChanged, WritesOnlyPlaces};
-ghost use Rattle.fc_volume.specs.Deleting.{IsDeleteReady};
+ghost use Rattle.fc_volume.specs.Deleting.{IsDeleteReady, LeavesOut};
 ghost use Rattle.fc_volume.specs.Rewrites.{HoldsEntry};
 ghost use Rattle.fc_volume.specs.Volume.{StandsFor, parts_of};
 
@@ -43,7 +43,7 @@ pub fn as_list(alloc: Global, id: Option<u32>) -> Result<Vec<u32>, NoMemory>
 }
 
 /// The zones of a new map in which identifiers have runs.
-pub fn zones_of(alloc: Global, places: &Places, gone: &[u32]) -> Result<Vec<u16>, NoMemory>
+pub fn zones_given(alloc: Global, places: &Places, gone: &[u32]) -> Result<Vec<u16>, NoMemory>
     ensures { IfOk result (λ zones. (m : Map) → layout_of places.now ≡ Layout.New m → zones.items ≡ zones_changed m None gone.now) }
 {
     let mut zones = Vec::new(alloc);
@@ -54,6 +54,22 @@ pub fn zones_of(alloc: Global, places: &Places, gone: &[u32]) -> Result<Vec<u16>
         }
         Space::OldMapped(_) => Ok(zones),
     }
+}
+
+/// Makes the directory that holds an object ready without it.
+pub fn prepare_directory(
+    alloc: Global,
+    tree: &Tree,
+    places: &Places,
+    target: Target,
+) -> Result<Rewrite, NoMemory>
+    requires { HoldsEntry (nodes_of tree.now) (layout_of places.now) target.holder target.at }
+    ensures { IfOk result (LeavesOut (nodes_of tree.now) (layout_of places.now) target) }
+{
+    let node = tree.node(target.holder).unwrap();
+    let mut draft = draft_of(alloc, &node.body)?;
+    draft.leave(holder_address(tree, node), target.at);
+    Rewrite::prepare(alloc, places, target.holder, node, draft)
 }
 
 // Makes the directory that holds an object ready without it, and lists what goes back.
@@ -67,12 +83,9 @@ fn prepare_delete(
     requires { HoldsEntry (nodes_of tree.now) (layout_of places.now) target.holder target.at }
     ensures { IfOk result (λ r. IsDeleteReady (nodes_of tree.now) (layout_of places.now) owners.now target r) }
 {
-    let node = tree.node(target.holder).unwrap();
-    let mut draft = draft_of(alloc, &node.body)?;
-    draft.leave(holder_address(tree, node), target.at);
-    let directory = Rewrite::prepare(alloc, places, target.holder, node, draft)?;
+    let directory = prepare_directory(alloc, tree, places, target)?;
     let gone = as_list(alloc, left_by(owners, target.node))?;
-    let zones = zones_of(alloc, places, &gone)?;
+    let zones = zones_given(alloc, places, &gone)?;
     Ok(Removal {
         directory,
         node: target.node,

@@ -17,8 +17,7 @@ ghost use Rattle.fc_volume.specs.Storing.{IsFirstStored};
 ghost use Rattle.fc_volume.specs.Volume.{HasCopies, HoldsMap, parts_of};
 
 use crate::changes::rewrite::Rewrite;
-use crate::changes::storing::store;
-use crate::compacting::match_copies;
+use crate::changes::storing::{store, store_first};
 use crate::{CommandError, Copies, Volume};
 use fc_device::{Disk, DiskFault, Extent};
 use fc_newmap::NewMap;
@@ -36,30 +35,6 @@ pub struct Filing {
     pub directory: Rewrite,
     pub gone: Vec<u32>,
     pub back: Vec<u16>,
-}
-
-/// Makes the copies of the map equal, if they may differ, and then writes the bytes of a file.
-pub fn store_first<D: Disk>(
-    disk: &mut D,
-    map: &NewMap,
-    copies: Copies,
-    place: &[Extent],
-    bytes: &[u8],
-) -> Result<(), DiskFault>
-    requires attached { IsTrue (D.attached disk.old) }
-    requires settled { IsFalse (D.pending disk.old) }
-    requires size { D.sector_size disk.old ≡ map.now.geometry.sector }
-    requires map_room { map.now.geometry.map_sector + 2 * map.now.geometry.zones ≤ D.sectors disk.old }
-    requires on_disk { All (λ n. n < D.sectors disk.old) (sectors_in place.now) }
-    requires known { ForSome (D.bytes disk.old) (HasCopies copies (Layout.New map.now)) }
-    ensures keeps { StopsAndExitsLeave D.Disk disk.old disk.new (IsWritten map.now (sectors_in place.now)) }
-    ensures stored { OnOk result (ForSome (D.bytes disk.old) (λ was. ForSome (D.bytes disk.new) (IsFirstStored map.now (sectors_in place.now) bytes.now was))) }
-    ensures durable { OnOk result (IsFalse (D.pending disk.new)) }
-    ensures form { SameForm D.Disk disk.old disk.new }
-    ensures cause { FailsByFault D.Disk disk.old disk.new result }
-{
-    match_copies(disk, map, copies)?;
-    store(disk, map, place, bytes)
 }
 
 // Takes the space of a plan, if there is one.
@@ -197,11 +172,7 @@ fn write_placed<D: Disk>(
 {
     match places.edit() {
         Space::NewMapped(map) => write_file(disk, map, copies, f, bytes),
-        Space::OldMapped(_) => {
-            // The map is a new one.
-            prove!(false);
-            Err(DiskFault)
-        }
+        Space::OldMapped(_) => unreachable!(),
     }
 }
 

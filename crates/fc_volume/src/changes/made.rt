@@ -1,8 +1,7 @@
 // A new directory that is ready in memory: it is written, and then the volume has it.
-ghost use Rattle.std.specs.Prelude.{◌≡◌, ◌<◌, ◌≤◌, ◌++◌, false, All, Err, IfErr, IsSome, IsTrue, IsFalse, OnErr, OnOk};
+ghost use Rattle.std.specs.Prelude.{◌≡◌, ◌<◌, ◌≤◌, ◌++◌, false, All, Err, IfErr, IsSome, IsTrue, IsFalse, OnOk};
 ghost use Rattle.std.specs.FinMap.{get};
 ghost use Rattle.std.specs.Option.{ForSome};
-ghost use Rattle.fc_alloc.specs.Owners.{has_node};
 ghost use Rattle.fc_changes.specs.Owed.{IsWritten};
 ghost use Rattle.fc_device.specs.Calls.{SameForm, StopsAndExitsLeave};
 ghost use Rattle.fc_device.specs.Faults.{Rose};
@@ -12,7 +11,7 @@ ghost use Rattle.fc_newmap.specs.Map.{Map};
 ghost use Rattle.fc_objects.specs.Extents.{sectors_in};
 ghost use Rattle.fc_space.specs.Space.{layout_of};
 ghost use Rattle.fc_tree.specs.Nodes.{next_number, nodes_of};
-ghost use Rattle.fc_volume.specs.Making.{HasMade, IsAdmitted, nodes_made};
+ghost use Rattle.fc_volume.specs.Making.{HasMade, nodes_made};
 ghost use Rattle.fc_volume.specs.Storing.{CanStore, HasSpaceOf, IsObjectMade};
 ghost use Rattle.fc_volume.specs.Volume.{HasCopies, HoldsMap, parts_of};
 
@@ -20,9 +19,8 @@ use crate::changes::making::Making;
 use crate::changes::rewrite::Rewrite;
 use crate::changes::storing::write_new_placed;
 use crate::changes::taking::{body_of, set_body};
-use crate::owners::entry_owner;
 use crate::{CommandError, Copies, Volume};
-use fc_device::{Disk, DiskFault, NoMemory};
+use fc_device::{Disk, DiskFault};
 use fc_tree::{Node, Tree};
 
 // The nodes become those after a new directory was made. It never runs out of memory.
@@ -51,21 +49,6 @@ fn take_over(tree: &mut Tree, change: Making)
 }
 
 impl Volume {
-    /// Takes the memory that a new directory needs in the volume, as the node of a number. After `NoMemory` all is as before.
-    pub(crate) fn admit(&mut self, n: u64, change: &Making) -> Result<(), NoMemory>
-        requires { IsFalse (has_node self.old.owners n) }
-        ensures ok { OnOk result (IsAdmitted self.old self.new n change.now) }
-        ensures err { OnErr result (self.new ≡ self.old) }
-    {
-        let owner = entry_owner(self.places.space(), n, change.directory.node, &change.entry);
-        self.tree.reserve()?;
-        if self.owners.add(owner).is_err() {
-            self.tree.release();
-            return Err(NoMemory);
-        }
-        Ok(())
-    }
-
     /// Writes a new directory for which the volume has memory, the map with its space, and the directory that holds it;
     /// then the volume has it. The copies of the map are made equal first. After `DiskFault` the volume is unfit.
     pub(crate) fn make<D: Disk>(&mut self, disk: &mut D, change: Making) -> Result<(), CommandError>

@@ -26,7 +26,7 @@ use fc_dirs::Entry;
 use fc_drafts::{Draft, Room, directory_entry};
 use fc_names::{Name, NameForm, Path, Refusal};
 use fc_newmap::NewMap;
-use fc_placing::{Plan, PlanError, place_directory};
+use fc_placing::{Plan, place_directory};
 use fc_space::Places;
 use fc_tree::Tree;
 use std::alloc::Global;
@@ -77,12 +77,7 @@ pub fn plan_cdir(
     if !has_room(draft, name) {
         return Err(CommandError::Refused(Refusal::DirFull));
     }
-    match place_directory(alloc, map) {
-        Ok(plan) => Ok(plan),
-        Err(PlanError::IdsFull) => Err(CommandError::Refused(Refusal::IdsFull)),
-        Err(PlanError::DiscFull) => Err(CommandError::Refused(Refusal::DiscFull)),
-        Err(PlanError::NoMemory) => Err(CommandError::NoMemory),
-    }
+    Ok(place_directory(alloc, map)?)
 }
 
 /// The same name, with memory of its own.

@@ -18,13 +18,13 @@ ghost use Rattle.fc_tree.specs.Nodes.{nodes_of};
 ghost use Rattle.fc_volume.specs.Moving.{CanMove, CanTake, IsEntering, IsLeaving, IsMoveReady, SaysFull, held_by};
 ghost use Rattle.fc_volume.specs.Rewrites.{HoldsEntry};
 
+use crate::changes::making::{enter, last_name};
 use crate::changes::relocate::Relocation;
-use crate::changes::renaming::{entry_named, last_name, turn};
+use crate::changes::renaming::{entry_named, turn};
 use crate::changes::rewrite::{Rewrite, draft_of, holder_address};
 use fc_alloc::{Owner, Owners};
 use fc_device::NoMemory;
 use fc_dirs::Entry;
-use fc_drafts::Draft;
 use fc_names::{Name, Path};
 use fc_refusals::Target;
 use fc_space::Places;
@@ -71,21 +71,6 @@ pub fn prepare_source(
     Ok(Leaving { source, entry, own })
 }
 
-// The draft with one entry more. There is room for it, so that only memory can lack.
-fn entered(draft: Draft, parent: u32, e: Entry) -> Result<Draft, NoMemory>
-    requires named { CanName (directory_in draft) e.name }
-    requires held { CanHold (directory_in draft) e }
-    requires absent { IsFalse (has_name (entries_of (directory_in draft)) e.name) }
-    requires parent { CanAddress (directory_in draft) parent }
-    ensures { IfOk result (λ now. HasEntered parent e (directory_in draft) (directory_in now)) }
-{
-    let mut draft = draft;
-    match draft.enter(parent, e) {
-        Ok(()) => Ok(draft),
-        Err(_) => Err(NoMemory),
-    }
-}
-
 /// Makes the directory of a node ready to be written with one entry more. It has room for it.
 pub fn prepare_entering(
     alloc: Global,
@@ -98,8 +83,8 @@ pub fn prepare_entering(
     ensures { IfOk result (λ r. IsEntering (nodes_of tree.now) (layout_of places.now) dir e r) }
 {
     let node = tree.node(dir).unwrap();
-    let draft = draft_of(alloc, &node.body)?;
-    let draft = entered(draft, holder_address(tree, node), e)?;
+    let mut draft = draft_of(alloc, &node.body)?;
+    enter(&mut draft, holder_address(tree, node), e)?;
     Rewrite::prepare(alloc, places, dir, node, draft)
 }
 

@@ -1,8 +1,7 @@
 // A new file that is ready in memory: it is written, and then the volume has it.
-ghost use Rattle.std.specs.Prelude.{◌≡◌, ◌<◌, ◌≤◌, ◌++◌, false, All, Err, IfErr, IsSome, IsTrue, IsFalse, OnErr, OnOk};
+ghost use Rattle.std.specs.Prelude.{◌≡◌, ◌<◌, ◌≤◌, ◌++◌, false, All, Err, IfErr, IsSome, IsTrue, IsFalse, OnOk};
 ghost use Rattle.std.specs.FinMap.{get};
 ghost use Rattle.std.specs.Option.{ForSome};
-ghost use Rattle.fc_alloc.specs.Owners.{has_node};
 ghost use Rattle.fc_changes.specs.Owed.{IsWritten};
 ghost use Rattle.fc_device.specs.Calls.{SameForm, StopsAndExitsLeave};
 ghost use Rattle.fc_device.specs.Faults.{Rose};
@@ -11,16 +10,15 @@ ghost use Rattle.fc_image.specs.Stays.{IsNewLayout};
 ghost use Rattle.fc_newmap.specs.Map.{Map};
 ghost use Rattle.fc_objects.specs.Extents.{sectors_in};
 ghost use Rattle.fc_tree.specs.Nodes.{next_number, nodes_of};
-ghost use Rattle.fc_volume.specs.Filing.{CanFile, HasPut, IsFileAdmitted, IsFileDone, nodes_put};
+ghost use Rattle.fc_volume.specs.Filing.{CanFile, HasPut, IsFileDone, nodes_put};
 ghost use Rattle.fc_volume.specs.Volume.{HasCopies, HoldsMap, parts_of};
 
 use crate::changes::filing::Filing;
 use crate::changes::putting::NewFile;
 use crate::changes::rewrite::Rewrite;
 use crate::changes::taking::set_body;
-use crate::owners::entry_owner;
 use crate::{CommandError, Volume};
-use fc_device::{Disk, NoMemory};
+use fc_device::Disk;
 use fc_tree::{Body, Node, Tree};
 
 // The nodes become those after a new file was made. It never runs out of memory.
@@ -45,26 +43,6 @@ fn take_over(tree: &mut Tree, change: NewFile)
 }
 
 impl Volume {
-    /// Takes the memory that a new file needs in the volume, as the node of a number. A file of no sectors owns none. After
-    /// `NoMemory` all is as before.
-    pub(crate) fn admit_file(&mut self, n: u64, change: &NewFile) -> Result<(), NoMemory>
-        requires { IsFalse (has_node self.old.owners n) }
-        ensures ok { OnOk result (IsFileAdmitted self.old self.new n change.now) }
-        ensures err { OnErr result (self.new ≡ self.old) }
-    {
-        let holder = change.filing.directory.node;
-        let owner = entry_owner(self.places.space(), n, holder, &change.entry);
-        self.tree.reserve()?;
-        if owner.sectors == 0 {
-            return Ok(());
-        }
-        if self.owners.add(owner).is_err() {
-            self.tree.release();
-            return Err(NoMemory);
-        }
-        Ok(())
-    }
-
     /// Writes a new file for which the volume has memory, the map with its space, and the directory that holds it; then the
     /// volume has it. The copies of the map are made equal first. After `DiskFault` the volume is unfit.
     pub(crate) fn put_new<D: Disk>(

@@ -21,14 +21,14 @@ use crate::CommandError;
 use crate::changes::filing::Filing;
 use crate::changes::making::{copy_of, enter, has_room};
 use crate::changes::rewrite::{Rewrite, holder_address};
-use crate::changes::storing::zones_of;
+use crate::changes::storing::zones_taken;
 use fc_alloc::Owners;
 use fc_device::{Extent, NoMemory};
 use fc_dirs::Entry;
 use fc_drafts::{Draft, file_entry};
 use fc_names::{Name, Refusal};
 use fc_newmap::NewMap;
-use fc_placing::{Placing, PlanError, address_of, extents_of, place_file};
+use fc_placing::{Placing, address_of, extents_of, place_file};
 use fc_plan::Plan;
 use fc_space::{PlaceError, Places};
 use fc_tree::Tree;
@@ -47,12 +47,7 @@ pub fn find_place(
     ensures id { IfOk result (λ place. id_in place < 2 ^ 24) }
     ensures refused { (v : Opened) (c : Command) → WantsPlace map.now owners.now dir bytes v c → AnswersSpace result (short v c) }
 {
-    match place_file(alloc, map, owners, dir, bytes) {
-        Ok(place) => Ok(place),
-        Err(PlanError::IdsFull) => Err(CommandError::Refused(Refusal::IdsFull)),
-        Err(PlanError::DiscFull) => Err(CommandError::Refused(Refusal::DiscFull)),
-        Err(PlanError::NoMemory) => Err(CommandError::NoMemory),
-    }
+    Ok(place_file(alloc, map, owners, dir, bytes)?)
 }
 
 /// The place of a new file in a directory that says what the draft says, or why there is none.
@@ -85,8 +80,8 @@ pub struct FileSpace {
     pub address: u32,
 }
 
-// The sectors of so many bytes from an address, which are there.
-fn place_at(
+/// The sectors of so many bytes from an address, which are there.
+pub fn place_at(
     alloc: Global,
     places: &Places,
     address: u32,
@@ -98,11 +93,8 @@ fn place_at(
     match places.place_of(alloc, address, bytes) {
         Ok(place) => Ok(place),
         Err(PlaceError::NoMemory) => Err(NoMemory),
-        Err(PlaceError::Outside) => {
-            // It has a place.
-            prove!(false);
-            Err(NoMemory)
-        }
+        // It has a place.
+        Err(PlaceError::Outside) => unreachable!(),
     }
 }
 
@@ -139,7 +131,7 @@ fn space_taken(
     ensures take { IfOk result (λ s. CanTake map.now (Some plan) s.zones.items) }
     ensures place { IfOk result (λ s. IsPlaceOf map.now plan bytes (sectors_in s.place.items)) }
 {
-    let zones = zones_of(alloc, map, &plan)?;
+    let zones = zones_taken(alloc, map, &plan)?;
     let place = extents_of(alloc, map, &plan, bytes)?;
     Ok(FileSpace {
         plan: Some(plan),

@@ -106,11 +106,7 @@ fn write_relocation<D: Disk>(
 {
     match places.space() {
         Space::NewMapped(map) => write_all(disk, map, copies, change),
-        Space::OldMapped(_) => {
-            // The map is a new one.
-            prove!(false);
-            Err(DiskFault)
-        }
+        Space::OldMapped(_) => unreachable!(),
     }
 }
 
@@ -140,7 +136,7 @@ fn set_holder(tree: &mut Tree, moved: bool, n: u64, dir: u64)
 }
 
 // An owner takes the place of the one of its node, if there is one. It never runs out of memory.
-fn set_owner(owners: &mut Owners, owner: Option<Owner>)
+fn change_owner(owners: &mut Owners, owner: Option<Owner>)
     requires { HasOwner owners.old owner }
     ensures { owners.new ≡ with_owner owner owners.old }
 {
@@ -175,7 +171,7 @@ pub fn take_over(tree: &mut Tree, owners: &mut Owners, change: Relocation)
     set_entry(tree, node, entry);
     set_holder(tree, moved, node, dir);
     set_more(tree, own);
-    set_owner(owners, owner);
+    change_owner(owners, owner);
 }
 
 impl Volume {

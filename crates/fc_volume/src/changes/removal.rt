@@ -89,32 +89,23 @@ fn write_removal<D: Disk>(
 {
     match places.edit() {
         Space::NewMapped(map) => write_removed(disk, map, copies, r),
-        Space::OldMapped(_) => {
-            // The map is a new one.
-            prove!(false);
-            Err(DiskFault)
-        }
+        Space::OldMapped(_) => unreachable!(),
     }
 }
 
-// The nodes become those of a removal. It never runs out of memory.
-fn take_over(tree: &mut Tree, change: Removal)
-    requires directory { IsSome (get (nodes_of tree.old) change.directory.node) }
-    requires object { IsSome (get (nodes_of tree.old) change.node) }
-    ensures { nodes_of tree.new ≡ remove (with_body change.directory.node (body_in (directory_in change.directory.draft)) (nodes_of tree.old)) change.node }
+/// The nodes become those of a removal. It never runs out of memory.
+pub fn take_over(tree: &mut Tree, directory: Rewrite, n: u64)
+    requires directory { IsSome (get (nodes_of tree.old) directory.node) }
+    requires object { IsSome (get (nodes_of tree.old) n) }
+    ensures { nodes_of tree.new ≡ remove (with_body directory.node (body_in (directory_in directory.draft)) (nodes_of tree.old)) n }
 {
-    let Removal {
-        directory,
-        node,
-        ..
-    } = change;
     let Rewrite {
         node: holder,
         draft,
         ..
     } = directory;
     set_body(tree, holder, draft);
-    let _ = tree.take_out(node);
+    let _ = tree.take_out(n);
 }
 
 impl Volume {
@@ -150,7 +141,7 @@ impl Volume {
             Ok(()) => {
                 self.copies = Copies::Equal;
                 self.owners.remove(change.node);
-                take_over(&mut self.tree, change);
+                take_over(&mut self.tree, change.directory, change.node);
                 Ok(())
             }
             Err(DiskFault) => {

@@ -10,6 +10,7 @@ ghost use Rattle.fc_space.specs.Space.{layout_of};
 ghost use Rattle.fc_tree.specs.Nodes.{nodes_of};
 ghost use Rattle.fc_volume.specs.Renaming.{CanRename, IsRenameReady, IsTurnable, IsTurned};
 
+use crate::changes::making::{copy_of, last_name};
 use crate::changes::relocate::Relocation;
 use crate::changes::rewrite::{Rewrite, draft_of, holder_address};
 use fc_device::NoMemory;
@@ -20,25 +21,6 @@ use fc_refusals::Target;
 use fc_space::Places;
 use fc_tree::{Body, Tree};
 use std::alloc::Global;
-
-/// The last name of a path that isn't the root's.
-pub fn last_name(alloc: Global, path: &Path) -> Result<Name, NoMemory>
-    requires { 0 < length path.now }
-    ensures { IfOk result (λ name. name ≡ last_name path.now) }
-{
-    let mut last: &[u8] = b"$";
-    for name in path.names() {
-        last = name;
-    }
-    Name::new(alloc, last)
-}
-
-// The same name, with memory of its own.
-fn copy_of(name: &Name) -> Result<Name, NoMemory>
-    ensures { IfOk result (λ copy. copy ≡ name.now) }
-{
-    Ok(name.clone()?)
-}
 
 /// The entry under another name, with memory of its own.
 pub fn entry_named(e: &Entry, name: &Name) -> Result<Entry, NoMemory>
@@ -69,8 +51,8 @@ pub fn turn(
     Ok(Some(Rewrite::prepare(alloc, places, n, node, draft)?))
 }
 
-// The draft with another name for the entry at a place. There is room for it, so that only memory can lack.
-fn renamed(draft: Draft, parent: u32, at: usize, e: Entry) -> Result<Draft, NoMemory>
+/// The draft with another entry for that at a place. There is room for it, so that only memory can lack.
+pub fn renamed(draft: Draft, parent: u32, at: usize, e: Entry) -> Result<Draft, NoMemory>
     requires present { at < length (entries_of (directory_in draft)) }
     requires named { CanName (directory_in draft) e.name }
     requires held { CanHold (directory_in draft) e }

@@ -14,7 +14,7 @@ ghost use Rattle.fc_volume.specs.Making.{AnswersSpace};
 ghost use Rattle.fc_volume.specs.Replacing.{CanSaveOver, IsReplacing, IsReplacingDrafted, IsSaved, owner_if};
 
 use crate::CommandError;
-use crate::changes::delete::{as_list, zones_of};
+use crate::changes::delete::{as_list, zones_given};
 use crate::changes::filing::Filing;
 use crate::changes::putting::{FileSpace, FileWords, find_place, space_of};
 use crate::changes::reword::Rewording;
@@ -118,7 +118,7 @@ fn prepare_replacing(
     } = prepare_saved(alloc, tree, places, target, words, address)?;
     let owner = owner_if(places.space(), target.node, target.holder, &entry);
     let gone = as_list(alloc, left_by_replaced(owners, target.node, shared))?;
-    let back = zones_of(alloc, places, &gone)?;
+    let back = zones_given(alloc, places, &gone)?;
     let filing = Filing {
         plan,
         zones,
@@ -182,10 +182,6 @@ pub fn draft_replacing(
 {
     match places.space() {
         Space::NewMapped(map) => draft_in(alloc, tree, places, map, owners, target, words),
-        Space::OldMapped(_) => {
-            // The map is a new one.
-            prove!(false);
-            Err(CommandError::NoMemory)
-        }
+        Space::OldMapped(_) => unreachable!(),
     }
 }

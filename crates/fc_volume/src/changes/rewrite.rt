@@ -37,11 +37,8 @@ pub fn draft_of(alloc: Global, body: &Body) -> Result<Draft, NoMemory>
     match body {
         Body::Small(dir) => Draft::copy_small(alloc, dir),
         Body::Big(dir) => Draft::copy_big(alloc, dir),
-        Body::File => {
-            // It is a directory's.
-            prove!(false);
-            Err(NoMemory)
-        }
+        // It is a directory's.
+        Body::File => unreachable!(),
     }
 }
 
@@ -75,11 +72,8 @@ pub fn place_of(alloc: Global, places: &Places, e: &Entry) -> Result<Vec<Extent>
     match places.place_of(alloc, e.address, object_bytes(places.space(), e)) {
         Ok(place) => Ok(place),
         Err(PlaceError::NoMemory) => Err(NoMemory),
-        Err(PlaceError::Outside) => {
-            // It has a place.
-            prove!(false);
-            Err(NoMemory)
-        }
+        // It has a place.
+        Err(PlaceError::Outside) => unreachable!(),
     }
 }
 

@@ -85,11 +85,7 @@ fn draft_put(
 {
     match places.space() {
         Space::NewMapped(map) => draft_in(alloc, tree, places, map, owners, dir, p, words),
-        Space::OldMapped(_) => {
-            // The map is a new one.
-            prove!(false);
-            Err(CommandError::NoMemory)
-        }
+        Space::OldMapped(_) => unreachable!(),
     }
 }
 
@@ -137,7 +133,7 @@ impl Volume {
             Err(error) => return Err(error),
         };
         let n = self.tree.next_number();
-        match self.admit_file(n, &change) {
+        match self.admit(n, change.filing.directory.node, &change.entry) {
             Ok(()) => self.put_new(disk, change, bytes),
             Err(NoMemory) => Err(CommandError::NoMemory),
         }

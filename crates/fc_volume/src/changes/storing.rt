@@ -39,7 +39,7 @@ pub struct NewObject {
 }
 
 /// The zones of a map that change if a plan's space is taken.
-pub fn zones_of(alloc: Global, map: &NewMap, plan: &Plan) -> Result<Vec<u16>, NoMemory>
+pub fn zones_taken(alloc: Global, map: &NewMap, plan: &Plan) -> Result<Vec<u16>, NoMemory>
     requires { AllPairs BeginsBefore (fronts plan.now.parts.items) }
     ensures { IfOk result (λ zones. zones.items ≡ zones_changed map.now (Some plan.now) []) }
 {
@@ -60,7 +60,7 @@ impl NewObject {
         ensures object { IfOk result (IsReadyObject map.now (length bytes.items)) }
         ensures same { IfOk result (λ object. (object.plan ≡ plan) × (object.bytes.items ≡ bytes.items)) }
     {
-        let zones = zones_of(alloc, map, &plan)?;
+        let zones = zones_taken(alloc, map, &plan)?;
         let place = extents_of(alloc, map, &plan, bytes.len() as u64)?;
         Ok(NewObject {
             plan,
@@ -71,7 +71,29 @@ impl NewObject {
     }
 }
 
-/// Writes bytes into some sectors, and syncs.
+/// Writes bytes into some sectors, each of `size` bytes, and syncs.
+pub fn store_in<D: Disk>(
+    disk: &mut D,
+    size: usize,
+    place: &[Extent],
+    bytes: &[u8],
+) -> Result<(), DiskFault>
+    requires attached { IsTrue (D.attached disk.old) }
+    requires settled { IsFalse (D.pending disk.old) }
+    requires size { D.sector_size disk.old ≡ size }
+    requires on_disk { All (λ n. n < D.sectors disk.old) (sectors_in place.now) }
+    ensures keeps { StopsAndExitsLeave D.Disk disk.old disk.new (IsPartWritten size (sectors_in place.now) bytes.now) }
+    ensures stored { OnOk result (ForSome (D.bytes disk.old) (λ was. ForSome (D.bytes disk.new) (AreStored size (sectors_in place.now) bytes.now was))) }
+    ensures durable { OnOk result (IsFalse (D.pending disk.new)) }
+    ensures form { SameForm D.Disk disk.old disk.new }
+    ensures cause { FailsByFault D.Disk disk.old disk.new result }
+{
+    write_object(disk, size, place, bytes)?;
+    disk.sync()?;
+    Ok(())
+}
+
+/// Writes bytes into some sectors of a map's disc, and syncs.
 pub fn store<D: Disk>(
     disk: &mut D,
     map: &NewMap,
@@ -88,32 +110,31 @@ pub fn store<D: Disk>(
     ensures form { SameForm D.Disk disk.old disk.new }
     ensures cause { FailsByFault D.Disk disk.old disk.new result }
 {
-    write_object(disk, map.geometry().sector as usize, place, bytes)?;
-    disk.sync()?;
-    Ok(())
+    store_in(disk, map.geometry().sector as usize, place, bytes)
 }
 
-// Makes the copies of the map equal, if they may differ, and then writes the bytes of a new object.
-fn store_object<D: Disk>(
+/// Makes the copies of the map equal, if they may differ, and then stores bytes in some sectors.
+pub fn store_first<D: Disk>(
     disk: &mut D,
     map: &NewMap,
     copies: Copies,
-    object: &NewObject,
+    place: &[Extent],
+    bytes: &[u8],
 ) -> Result<(), DiskFault>
     requires attached { IsTrue (D.attached disk.old) }
     requires settled { IsFalse (D.pending disk.old) }
     requires size { D.sector_size disk.old ≡ map.now.geometry.sector }
     requires map_room { map.now.geometry.map_sector + 2 * map.now.geometry.zones ≤ D.sectors disk.old }
-    requires on_disk { All (λ n. n < D.sectors disk.old) (sectors_in object.now.place.items) }
+    requires on_disk { All (λ n. n < D.sectors disk.old) (sectors_in place.now) }
     requires known { ForSome (D.bytes disk.old) (HasCopies copies (Layout.New map.now)) }
-    ensures keeps { StopsAndExitsLeave D.Disk disk.old disk.new (IsWritten map.now (sectors_in object.now.place.items)) }
-    ensures stored { OnOk result (ForSome (D.bytes disk.old) (λ was. ForSome (D.bytes disk.new) (IsFirstStored map.now (sectors_in object.now.place.items) object.now.bytes.items was))) }
+    ensures keeps { StopsAndExitsLeave D.Disk disk.old disk.new (IsWritten map.now (sectors_in place.now)) }
+    ensures stored { OnOk result (ForSome (D.bytes disk.old) (λ was. ForSome (D.bytes disk.new) (IsFirstStored map.now (sectors_in place.now) bytes.now was))) }
     ensures durable { OnOk result (IsFalse (D.pending disk.new)) }
     ensures form { SameForm D.Disk disk.old disk.new }
     ensures cause { FailsByFault D.Disk disk.old disk.new result }
 {
     match_copies(disk, map, copies)?;
-    store(disk, map, &object.place, &object.bytes)
+    store(disk, map, place, bytes)
 }
 
 // Takes the space of a new object, and then writes the directory that has it.
@@ -166,7 +187,7 @@ fn write_new<D: Disk>(
     ensures form { SameForm D.Disk disk.old disk.new }
     ensures cause { FailsByFault D.Disk disk.old disk.new result }
 {
-    store_object(disk, map, copies, object)?;
+    store_first(disk, map, copies, &object.place, &object.bytes)?;
     take_and_name(disk, map, object, r)
 }
 
@@ -201,10 +222,6 @@ pub fn write_new_placed<D: Disk>(
 {
     match places.edit() {
         Space::NewMapped(map) => write_new(disk, map, copies, object, r),
-        Space::OldMapped(_) => {
-            // The map is a new one.
-            prove!(false);
-            Err(DiskFault)
-        }
+        Space::OldMapped(_) => unreachable!(),
     }
 }

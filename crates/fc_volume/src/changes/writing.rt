@@ -15,10 +15,9 @@ ghost use Rattle.fc_volume.specs.Volume.{HasCopies, HoldsMap};
 
 use crate::Copies;
 use crate::changes::rewrite::Rewrite;
-use crate::compacting::match_copies;
+use crate::changes::storing::{store, store_first};
 use fc_device::{Disk, DiskFault};
 use fc_newmap::NewMap;
-use fc_objects::write_object;
 use fc_space::{Places, Space};
 
 /// Writes the bytes of a directory to its place, and syncs.
@@ -34,9 +33,7 @@ pub fn write_bytes<D: Disk>(disk: &mut D, map: &NewMap, r: &Rewrite) -> Result<(
     ensures form { SameForm D.Disk disk.old disk.new }
     ensures cause { FailsByFault D.Disk disk.old disk.new result }
 {
-    write_object(disk, map.geometry().sector as usize, &r.place, &r.bytes)?;
-    disk.sync()?;
-    Ok(())
+    store(disk, map, &r.place, &r.bytes)
 }
 
 /// Makes the copies of the map equal, if they may differ, and then writes a directory to its place. At every moment of a
@@ -59,8 +56,7 @@ pub fn write_directory<D: Disk>(
     ensures form { SameForm D.Disk disk.old disk.new }
     ensures cause { FailsByFault D.Disk disk.old disk.new result }
 {
-    match_copies(disk, map, copies)?;
-    write_bytes(disk, map, r)
+    store_first(disk, map, copies, &r.place, &r.bytes)
 }
 
 /// Makes the copies of a volume's map equal, if they may differ, and then writes a directory to its place. The map is a new
@@ -87,10 +83,6 @@ pub fn write_placed<D: Disk>(
 {
     match places.space() {
         Space::NewMapped(map) => write_directory(disk, map, copies, r),
-        Space::OldMapped(_) => {
-            // The map is a new one.
-            prove!(false);
-            Err(DiskFault)
-        }
+        Space::OldMapped(_) => unreachable!(),
     }
 }

@@ -19,21 +19,20 @@ use Rattle.fc_volume.specs.declared.copies.Copies.{Copies}
 use Rattle.fc_volume.specs.Changing.{refusal_in}
 use Rattle.fc_volume.specs.Saving.{filled}
 use Rattle.fc_volume.specs.Volume.{HasCopies, HoldsMap, StandsFor, Volume, parts_of}
+use Rattle.fc_volume.proofs.AdmittingLemmas.{admitted_from, kept_from}
 use Rattle.fc_volume.proofs.ChangeLemmas.{ok_both, ok_then, only_faults, places_written, unless_fault, writes_nothing}
 use Rattle.fc_volume.proofs.FilledLemmas.{length-filled}
 use Rattle.fc_volume.proofs.JudgedLemmas.{done_by}
 use Rattle.fc_volume.proofs.StandsLemmas.{new_layout}
 use Rattle.fc_growing.specs.declared.filing.GrownFile.{GrownFile}
 use Rattle.fc_growing.proofs.AskedLemmas.{kept_as_it_was, no_fault, no_memory, space_answer, unless_any}
-use Rattle.fc_growing.proofs.CdirLemmas.{kept_from}
-use Rattle.fc_growing.proofs.SavingMemoryLemmas.{admitted_from}
 use Rattle.fc_growing.proofs.SavingReadyLemmas as asked_of
 use Rattle.fc_growing.proofs.SavingVolumeLemmas as volume_of
 use Rattle.fc_growing.proofs.SavingVolumeLemmas.{done_filled, ready_in}
 use Rattle.fc_growing.proofs.saving.put_grown.Goals as goal
 
-pub draft_file-drafted-requires-clause-can : goal.draft_file-drafted-requires-clause-can
-draft_file-drafted-requires-clause-can g c = λ m at.
+pub draft_grown_file-drafted-requires-clause-can : goal.draft_grown_file-drafted-requires-clause-can
+draft_grown_file-drafted-requires-clause-can g c = λ m at.
     let here = ap (λ (x : Volume). layout_of x.space) (sym c.volume.view_is) ∙ at in
     asked_of.asked _ c.args.volume.now c.volume.view_is m here (c.is_new_map.ensures m at) c.args.p.now c.args.outgrown c.requires.found c.requires.stands.agree c.args.words.len
 
@@ -64,51 +63,51 @@ pub returns-in-Err-clause-form_stays : goal.returns-in-Err-clause-form_stays
 returns-in-Err-clause-form_stays g c =
     unless_any c.in-Err.error _ refl
 
-pub admit_file-requires : goal.admit_file-requires
-admit_file-requires g c =
+pub admit-requires : goal.admit-requires
+admit-requires g c =
     let map = new_layout (parts_of c.args.volume.now).layout c.requires.new_map in
     let inner = ap (λ (x : Volume). layout_of x.space) c.volume.view_is ∙ map.1 in
     let free = subst (λ (x : Volume). get (nodes_of x.tree) c.next_number-n.result ≡ None) c.volume.view_is c.next_number-n.ensures.free in
     asked_of.no_owner _ c.args.volume.now c.volume.view_is map.0 map.1 (c.is_new_map.ensures map.0 inner) c.args.p.now c.args.outgrown c.requires.found c.requires.stands.agree c.next_number-n.result free
 
-pub put_new-requires-clause-size : goal.put_new-requires-clause-size
-put_new-requires-clause-size g c =
+pub write_grown_file-requires-clause-size : goal.write_grown_file-requires-clause-size
+write_grown_file-requires-clause-size g c =
     let number = c.next_number-n.ensures.number ∙ ap (λ (x : Volume). next_number x.tree) c.volume.view_is in
-    let adm = admitted_from _ c.args.volume.now c.admit_file.new.volume c.next_number-n.new.self c.next_number-n.result (next_number c.args.volume.now.tree) c.args.outgrown.dir c.in-Ok.change.entry c.next_number-n.ensures.same c.volume.view_is number c.in-Ok-admit_file.ensures.ok in
+    let adm = admitted_from _ c.args.volume.now c.admit.new.self c.next_number-n.new.self c.next_number-n.result (next_number c.args.volume.now.tree) c.args.outgrown.dir c.in-Ok.change.entry c.next_number-n.ensures.same c.volume.view_is number c.in-Ok-admit.ensures.ok in
     c.requires.stands.size ∙ ap (λ (x : Space). sector_bytes (layout_of x)) (sym adm.space)
 
-pub put_new-requires-clause-map_room : goal.put_new-requires-clause-map_room
-put_new-requires-clause-map_room g c =
+pub write_grown_file-requires-clause-map_room : goal.write_grown_file-requires-clause-map_room
+write_grown_file-requires-clause-map_room g c =
     let number = c.next_number-n.ensures.number ∙ ap (λ (x : Volume). next_number x.tree) c.volume.view_is in
-    let adm = admitted_from _ c.args.volume.now c.admit_file.new.volume c.next_number-n.new.self c.next_number-n.result (next_number c.args.volume.now.tree) c.args.outgrown.dir c.in-Ok.change.entry c.next_number-n.ensures.same c.volume.view_is number c.in-Ok-admit_file.ensures.ok in
+    let adm = admitted_from _ c.args.volume.now c.admit.new.self c.next_number-n.new.self c.next_number-n.result (next_number c.args.volume.now.tree) c.args.outgrown.dir c.in-Ok.change.entry c.next_number-n.ensures.same c.volume.view_is number c.in-Ok-admit.ensures.ok in
     subst (λ (x : Space). HoldsMap (layout_of x) (g.D.Disk.sectors c.args.disk.now)) (sym adm.space) c.requires.stands.map_room
 
-pub put_new-requires-clause-known : goal.put_new-requires-clause-known
-put_new-requires-clause-known g c =
+pub write_grown_file-requires-clause-known : goal.write_grown_file-requires-clause-known
+write_grown_file-requires-clause-known g c =
     let number = c.next_number-n.ensures.number ∙ ap (λ (x : Volume). next_number x.tree) c.volume.view_is in
-    let adm = admitted_from _ c.args.volume.now c.admit_file.new.volume c.next_number-n.new.self c.next_number-n.result (next_number c.args.volume.now.tree) c.args.outgrown.dir c.in-Ok.change.entry c.next_number-n.ensures.same c.volume.view_is number c.in-Ok-admit_file.ensures.ok in
+    let adm = admitted_from _ c.args.volume.now c.admit.new.self c.next_number-n.new.self c.next_number-n.result (next_number c.args.volume.now.tree) c.args.outgrown.dir c.in-Ok.change.entry c.next_number-n.ensures.same c.volume.view_is number c.in-Ok-admit.ensures.ok in
     λ x told.
-    subst (λ (k : Copies). HasCopies k (layout_of c.admit_file.new.volume.space) x) (sym adm.copies)
+    subst (λ (k : Copies). HasCopies k (layout_of c.admit.new.self.space) x) (sym adm.copies)
     (subst (λ (y : Space). HasCopies c.args.volume.now.copies (layout_of y) x) (sym adm.space) (c.requires.stands.copies x told))
 
-pub put_new-requires-clause-new_map : goal.put_new-requires-clause-new_map
-put_new-requires-clause-new_map g c =
+pub write_grown_file-requires-clause-new_map : goal.write_grown_file-requires-clause-new_map
+write_grown_file-requires-clause-new_map g c =
     let number = c.next_number-n.ensures.number ∙ ap (λ (x : Volume). next_number x.tree) c.volume.view_is in
-    let adm = admitted_from _ c.args.volume.now c.admit_file.new.volume c.next_number-n.new.self c.next_number-n.result (next_number c.args.volume.now.tree) c.args.outgrown.dir c.in-Ok.change.entry c.next_number-n.ensures.same c.volume.view_is number c.in-Ok-admit_file.ensures.ok in
+    let adm = admitted_from _ c.args.volume.now c.admit.new.self c.next_number-n.new.self c.next_number-n.result (next_number c.args.volume.now.tree) c.args.outgrown.dir c.in-Ok.change.entry c.next_number-n.ensures.same c.volume.view_is number c.in-Ok-admit.ensures.ok in
     subst (λ (x : Space). IsNewLayout (layout_of x)) (sym adm.space) c.requires.new_map
 
-pub put_new-requires-clause-can : goal.put_new-requires-clause-can
-put_new-requires-clause-can g c = λ m at.
+pub write_grown_file-requires-clause-can : goal.write_grown_file-requires-clause-can
+write_grown_file-requires-clause-can g c = λ m at.
     let number = c.next_number-n.ensures.number ∙ ap (λ (x : Volume). next_number x.tree) c.volume.view_is in
-    let adm = admitted_from _ c.args.volume.now c.admit_file.new.volume c.next_number-n.new.self c.next_number-n.result (next_number c.args.volume.now.tree) c.args.outgrown.dir c.in-Ok.change.entry c.next_number-n.ensures.same c.volume.view_is number c.in-Ok-admit_file.ensures.ok in
+    let adm = admitted_from _ c.args.volume.now c.admit.new.self c.next_number-n.new.self c.next_number-n.result (next_number c.args.volume.now.tree) c.args.outgrown.dir c.in-Ok.change.entry c.next_number-n.ensures.same c.volume.view_is number c.in-Ok-admit.ensures.ok in
     let free = subst (λ (k : ℕ). get (nodes_of c.args.volume.now.tree) k ≡ None) number (subst (λ (x : Volume). get (nodes_of x.tree) c.next_number-n.result ≡ None) c.volume.view_is c.next_number-n.ensures.free) in
     let here = ap layout_of (sym adm.space) ∙ at in
     let inner = ap (λ (x : Volume). layout_of x.space) c.volume.view_is ∙ here in
     let is = ready_in _ c.args.volume.now c.volume.view_is m (c.is_new_map.ensures m inner) c.args.p.now c.args.outgrown c.requires.found c.args.words c.in-Ok.change (c.in-Ok.ensures.ready m inner) (next_number c.args.volume.now.tree) free in
     volume_of.can_write g.D.Disk m c.args.volume.now c.args.disk.now c.args.p.now c.args.outgrown.dir c.args.outgrown.len c.args.words c.in-Ok.change here is c.requires.stands
 
-pub put_new-requires-clause-on_disk : goal.put_new-requires-clause-on_disk
-put_new-requires-clause-on_disk g c =
+pub write_grown_file-requires-clause-on_disk : goal.write_grown_file-requires-clause-on_disk
+write_grown_file-requires-clause-on_disk g c =
     let map = new_layout (parts_of c.args.volume.now).layout c.requires.new_map in
     let inner = ap (λ (x : Volume). layout_of x.space) c.volume.view_is ∙ map.1 in
     let number = c.next_number-n.ensures.number ∙ ap (λ (x : Volume). next_number x.tree) c.volume.view_is in
@@ -116,50 +115,50 @@ put_new-requires-clause-on_disk g c =
     let is = ready_in _ c.args.volume.now c.volume.view_is map.0 (c.is_new_map.ensures map.0 inner) c.args.p.now c.args.outgrown c.requires.found c.args.words c.in-Ok.change (c.in-Ok.ensures.ready map.0 inner) (next_number c.args.volume.now.tree) free in
     volume_of.lies_on g.D.Disk map.0 c.args.volume.now c.args.disk.now c.args.p.now c.args.outgrown.dir c.args.outgrown.len c.args.words c.in-Ok.change map.1 is c.requires.stands
 
-pub put_new-requires-clause-over : goal.put_new-requires-clause-over
-put_new-requires-clause-over g c =
+pub write_grown_file-requires-clause-over : goal.write_grown_file-requires-clause-over
+write_grown_file-requires-clause-over g c =
     let map = new_layout (parts_of c.args.volume.now).layout c.requires.new_map in
     let inner = ap (λ (x : Volume). layout_of x.space) c.volume.view_is ∙ map.1 in
     let number = c.next_number-n.ensures.number ∙ ap (λ (x : Volume). next_number x.tree) c.volume.view_is in
     let free = subst (λ (k : ℕ). get (nodes_of c.args.volume.now.tree) k ≡ None) number (subst (λ (x : Volume). get (nodes_of x.tree) c.next_number-n.result ≡ None) c.volume.view_is c.next_number-n.ensures.free) in
-    let adm = admitted_from _ c.args.volume.now c.admit_file.new.volume c.next_number-n.new.self c.next_number-n.result (next_number c.args.volume.now.tree) c.args.outgrown.dir c.in-Ok.change.entry c.next_number-n.ensures.same c.volume.view_is number c.in-Ok-admit_file.ensures.ok in
+    let adm = admitted_from _ c.args.volume.now c.admit.new.self c.next_number-n.new.self c.next_number-n.result (next_number c.args.volume.now.tree) c.args.outgrown.dir c.in-Ok.change.entry c.next_number-n.ensures.same c.volume.view_is number c.in-Ok-admit.ensures.ok in
     let is = ready_in _ c.args.volume.now c.volume.view_is map.0 (c.is_new_map.ensures map.0 inner) c.args.p.now c.args.outgrown c.requires.found c.args.words c.in-Ok.change (c.in-Ok.ensures.ready map.0 inner) (next_number c.args.volume.now.tree) free in
-    volume_of.can_take_over g.D.Disk map.0 c.args.volume.now c.args.disk.now c.args.p.now c.args.outgrown.dir c.args.outgrown.len c.args.words c.in-Ok.change map.1 is c.requires.stands c.admit_file.new.volume (next_number c.args.volume.now.tree) adm
+    volume_of.can_take_over g.D.Disk map.0 c.args.volume.now c.args.disk.now c.args.p.now c.args.outgrown.dir c.args.outgrown.len c.args.words c.in-Ok.change map.1 is c.requires.stands c.admit.new.self (next_number c.args.volume.now.tree) adm
 
-pub put_new-requires-clause-room : goal.put_new-requires-clause-room
-put_new-requires-clause-room g c =
+pub write_grown_file-requires-clause-room : goal.write_grown_file-requires-clause-room
+write_grown_file-requires-clause-room g c =
     let number = c.next_number-n.ensures.number ∙ ap (λ (x : Volume). next_number x.tree) c.volume.view_is in
-    let adm = admitted_from _ c.args.volume.now c.admit_file.new.volume c.next_number-n.new.self c.next_number-n.result (next_number c.args.volume.now.tree) c.args.outgrown.dir c.in-Ok.change.entry c.next_number-n.ensures.same c.volume.view_is number c.in-Ok-admit_file.ensures.ok in
+    let adm = admitted_from _ c.args.volume.now c.admit.new.self c.next_number-n.new.self c.next_number-n.result (next_number c.args.volume.now.tree) c.args.outgrown.dir c.in-Ok.change.entry c.next_number-n.ensures.same c.volume.view_is number c.in-Ok-admit.ensures.ok in
     subst (λ (t : Numbers). 0 < t.room) (sym adm.tree) (omega arith)
 
-pub returns-in-Ok-admit_file-clause-refused : goal.returns-in-Ok-admit_file-clause-refused
-returns-in-Ok-admit_file-clause-refused g c = λ k makes v image sound parts.
+pub returns-in-Ok-admit-clause-refused : goal.returns-in-Ok-admit-clause-refused
+returns-in-Ok-admit-clause-refused g c = λ k makes v image sound parts.
     let map = new_layout (parts_of c.args.volume.now).layout c.requires.new_map in
     let inner = ap (λ (x : Volume). layout_of x.space) c.volume.view_is ∙ map.1 in
-    done_by _ c.put_new.result
+    done_by _ c.write_grown_file.result
     (asked_of.by_space _ c.args.volume.now c.volume.view_is map.0 map.1 (c.is_new_map.ensures map.0 inner) c.args.p.now c.args.outgrown c.requires.found c.requires.stands.agree k c.args.words.load c.args.words.exec _ makes c.args.words.len (length-filled c.args.words.len c.args.bytes.now c.requires.long) v sound parts image
-    ∙ asked_of.answered _ c.args.volume.now c.volume.view_is map.0 map.1 (c.is_new_map.ensures map.0 inner) c.args.p.now c.args.outgrown c.requires.found c.requires.stands.agree k c.args.words.load c.args.words.exec _ makes c.args.words.len (length-filled c.args.words.len c.args.bytes.now c.requires.long) v sound parts {T = GrownFile} (Ok c.in-Ok.change) c.in-Ok.ensures.refused) c.put_new.ensures.error
+    ∙ asked_of.answered _ c.args.volume.now c.volume.view_is map.0 map.1 (c.is_new_map.ensures map.0 inner) c.args.p.now c.args.outgrown c.requires.found c.requires.stands.agree k c.args.words.load c.args.words.exec _ makes c.args.words.len (length-filled c.args.words.len c.args.bytes.now c.requires.long) v sound parts {T = GrownFile} (Ok c.in-Ok.change) c.in-Ok.ensures.refused) c.write_grown_file.ensures.error
 
-pub returns-in-Ok-admit_file-clause-changed : goal.returns-in-Ok-admit_file-clause-changed
-returns-in-Ok-admit_file-clause-changed g c =
+pub returns-in-Ok-admit-clause-changed : goal.returns-in-Ok-admit-clause-changed
+returns-in-Ok-admit-clause-changed g c =
     let map = new_layout (parts_of c.args.volume.now).layout c.requires.new_map in
     let inner = ap (λ (x : Volume). layout_of x.space) c.volume.view_is ∙ map.1 in
     let number = c.next_number-n.ensures.number ∙ ap (λ (x : Volume). next_number x.tree) c.volume.view_is in
     let free = subst (λ (k : ℕ). get (nodes_of c.args.volume.now.tree) k ≡ None) number (subst (λ (x : Volume). get (nodes_of x.tree) c.next_number-n.result ≡ None) c.volume.view_is c.next_number-n.ensures.free) in
-    let adm = admitted_from _ c.args.volume.now c.admit_file.new.volume c.next_number-n.new.self c.next_number-n.result (next_number c.args.volume.now.tree) c.args.outgrown.dir c.in-Ok.change.entry c.next_number-n.ensures.same c.volume.view_is number c.in-Ok-admit_file.ensures.ok in
+    let adm = admitted_from _ c.args.volume.now c.admit.new.self c.next_number-n.new.self c.next_number-n.result (next_number c.args.volume.now.tree) c.args.outgrown.dir c.in-Ok.change.entry c.next_number-n.ensures.same c.volume.view_is number c.in-Ok-admit.ensures.ok in
     let is = ready_in _ c.args.volume.now c.volume.view_is map.0 (c.is_new_map.ensures map.0 inner) c.args.p.now c.args.outgrown c.requires.found c.args.words c.in-Ok.change (c.in-Ok.ensures.ready map.0 inner) (next_number c.args.volume.now.tree) free in
     let mid = ap layout_of adm.space ∙ map.1 in
-    ok_then c.put_new.result _ _ (λ both k makes. volume_of.has_changed g.D.Disk map.0 c.args.volume.now c.args.disk.now c.args.p.now c.args.outgrown.dir c.args.outgrown.len c.args.words c.in-Ok.change map.1 is c.requires.stands (subst (λ (x : Volume). HaveOwnNodes x.owners) c.volume.view_is c.list.ensures.nodes) c.admit_file.new.volume c.put_new.new.volume c.put_new.new.disk (both.1 map.0 mid).0 adm both.0 (both.1 map.0 mid).1 (filled c.args.words.len c.args.bytes.now) (length-filled c.args.words.len c.args.bytes.now c.requires.long) (done_filled g.D.Disk map.0 (both.1 map.0 mid).0 c.in-Ok.change.growing c.args.words.len c.args.bytes.now c.args.disk.now c.put_new.new.disk (both.1 map.0 mid).2) (c.put_new.ensures.exits map.0 mid) k makes)
-    (ok_both c.put_new.result _ _ c.put_new.ensures.volume c.put_new.ensures.done)
+    ok_then c.write_grown_file.result _ _ (λ both k makes. volume_of.has_changed g.D.Disk map.0 c.args.volume.now c.args.disk.now c.args.p.now c.args.outgrown.dir c.args.outgrown.len c.args.words c.in-Ok.change map.1 is c.requires.stands (subst (λ (x : Volume). HaveOwnNodes x.owners) c.volume.view_is c.list.ensures.nodes) c.admit.new.self c.write_grown_file.new.volume c.write_grown_file.new.disk (both.1 map.0 mid).0 adm both.0 (both.1 map.0 mid).1 (filled c.args.words.len c.args.bytes.now) (length-filled c.args.words.len c.args.bytes.now c.requires.long) (done_filled g.D.Disk map.0 (both.1 map.0 mid).0 c.in-Ok.change.growing c.args.words.len c.args.bytes.now c.args.disk.now c.write_grown_file.new.disk (both.1 map.0 mid).2) (c.write_grown_file.ensures.exits map.0 mid) k makes)
+    (ok_both c.write_grown_file.result _ _ c.write_grown_file.ensures.volume c.write_grown_file.ensures.done)
 
-pub returns-in-Ok-admit_file-clause-places : goal.returns-in-Ok-admit_file-clause-places
-returns-in-Ok-admit_file-clause-places g c = λ k makes.
+pub returns-in-Ok-admit-clause-places : goal.returns-in-Ok-admit-clause-places
+returns-in-Ok-admit-clause-places g c = λ k makes.
     let map = new_layout (parts_of c.args.volume.now).layout c.requires.new_map in
     let inner = ap (λ (x : Volume). layout_of x.space) c.volume.view_is ∙ map.1 in
     let number = c.next_number-n.ensures.number ∙ ap (λ (x : Volume). next_number x.tree) c.volume.view_is in
     let free = subst (λ (k : ℕ). get (nodes_of c.args.volume.now.tree) k ≡ None) number (subst (λ (x : Volume). get (nodes_of x.tree) c.next_number-n.result ≡ None) c.volume.view_is c.next_number-n.ensures.free) in
-    let adm = admitted_from _ c.args.volume.now c.admit_file.new.volume c.next_number-n.new.self c.next_number-n.result (next_number c.args.volume.now.tree) c.args.outgrown.dir c.in-Ok.change.entry c.next_number-n.ensures.same c.volume.view_is number c.in-Ok-admit_file.ensures.ok in
-    places_written g.D.Disk k c.args.volume.now c.args.disk.now c.put_new.new.disk _ (λ m at. c.put_new.ensures.exits m (ap layout_of adm.space ∙ at)) c.requires.new_map
+    let adm = admitted_from _ c.args.volume.now c.admit.new.self c.next_number-n.new.self c.next_number-n.result (next_number c.args.volume.now.tree) c.args.outgrown.dir c.in-Ok.change.entry c.next_number-n.ensures.same c.volume.view_is number c.in-Ok-admit.ensures.ok in
+    places_written g.D.Disk k c.args.volume.now c.args.disk.now c.write_grown_file.new.disk _ (λ m at. c.write_grown_file.ensures.exits m (ap layout_of adm.space ∙ at)) c.requires.new_map
     (λ kind view m was image opens held here written.
     let within = ap (λ (x : Volume). layout_of x.space) c.volume.view_is ∙ here in
     let is = ready_in _ c.args.volume.now c.volume.view_is m (c.is_new_map.ensures m within) c.args.p.now c.args.outgrown c.requires.found c.args.words c.in-Ok.change (c.in-Ok.ensures.ready m within) (next_number c.args.volume.now.tree) free in
@@ -167,51 +166,51 @@ returns-in-Ok-admit_file-clause-places g c = λ k makes.
     c.args.words.load c.args.words.exec _ makes image written)
     map.0 map.1
 
-pub returns-in-Ok-admit_file-clause-keeps : goal.returns-in-Ok-admit_file-clause-keeps
-returns-in-Ok-admit_file-clause-keeps g c =
+pub returns-in-Ok-admit-clause-keeps : goal.returns-in-Ok-admit-clause-keeps
+returns-in-Ok-admit-clause-keeps g c =
     let map = new_layout (parts_of c.args.volume.now).layout c.requires.new_map in
     let inner = ap (λ (x : Volume). layout_of x.space) c.volume.view_is ∙ map.1 in
     let number = c.next_number-n.ensures.number ∙ ap (λ (x : Volume). next_number x.tree) c.volume.view_is in
     let free = subst (λ (k : ℕ). get (nodes_of c.args.volume.now.tree) k ≡ None) number (subst (λ (x : Volume). get (nodes_of x.tree) c.next_number-n.result ≡ None) c.volume.view_is c.next_number-n.ensures.free) in
-    let adm = admitted_from _ c.args.volume.now c.admit_file.new.volume c.next_number-n.new.self c.next_number-n.result (next_number c.args.volume.now.tree) c.args.outgrown.dir c.in-Ok.change.entry c.next_number-n.ensures.same c.volume.view_is number c.in-Ok-admit_file.ensures.ok in
+    let adm = admitted_from _ c.args.volume.now c.admit.new.self c.next_number-n.new.self c.next_number-n.result (next_number c.args.volume.now.tree) c.args.outgrown.dir c.in-Ok.change.entry c.next_number-n.ensures.same c.volume.view_is number c.in-Ok-admit.ensures.ok in
     let is = ready_in _ c.args.volume.now c.volume.view_is map.0 (c.is_new_map.ensures map.0 inner) c.args.p.now c.args.outgrown c.requires.found c.args.words c.in-Ok.change (c.in-Ok.ensures.ready map.0 inner) (next_number c.args.volume.now.tree) free in
     let mid = ap layout_of adm.space ∙ map.1 in
     record {
-      unchanged = only_faults c.put_new.result _ c.put_new.ensures.error;
-      stands = unless_fault c.put_new.result _ (ok_then c.put_new.result _ _ (λ both. volume_of.stands_now g.D.Disk map.0 c.args.volume.now c.args.disk.now c.args.p.now c.args.outgrown.dir c.args.outgrown.len c.args.words c.in-Ok.change map.1 is c.requires.stands (subst (λ (x : Volume). HaveOwnNodes x.owners) c.volume.view_is c.list.ensures.nodes) c.admit_file.new.volume c.put_new.new.volume c.put_new.new.disk (both.1 map.0 mid).0 adm both.0 (both.1 map.0 mid).1 (filled c.args.words.len c.args.bytes.now) (length-filled c.args.words.len c.args.bytes.now c.requires.long) (done_filled g.D.Disk map.0 (both.1 map.0 mid).0 c.in-Ok.change.growing c.args.words.len c.args.bytes.now c.args.disk.now c.put_new.new.disk (both.1 map.0 mid).2) (c.put_new.ensures.exits map.0 mid) c.put_new.ensures.form)
-          (ok_both c.put_new.result _ _ c.put_new.ensures.volume c.put_new.ensures.done)) c.put_new.ensures.error;
-      settled = unless_fault c.put_new.result _ c.put_new.ensures.durable c.put_new.ensures.error;
-      fit = unless_fault c.put_new.result _ (ok_then c.put_new.result _ _ (λ has. has.fit ∙ adm.fit ∙ c.requires.fit) c.put_new.ensures.volume) c.put_new.ensures.error;
-      unfit = c.put_new.ensures.unfit;
-      new_map = c.put_new.ensures.new_map;
-      rights = c.put_new.ensures.rights ∙ adm.rights;
-      form = c.put_new.ensures.form;
-      goes = weaker (laws g.met.D.Disk) _ (c.put_new.ensures.exits map.0 mid).stops (λ image left. tt);
-      faults = c.put_new.ensures.faults;
-      cause = c.put_new.ensures.cause;
+      unchanged = only_faults c.write_grown_file.result _ c.write_grown_file.ensures.error;
+      stands = unless_fault c.write_grown_file.result _ (ok_then c.write_grown_file.result _ _ (λ both. volume_of.stands_now g.D.Disk map.0 c.args.volume.now c.args.disk.now c.args.p.now c.args.outgrown.dir c.args.outgrown.len c.args.words c.in-Ok.change map.1 is c.requires.stands (subst (λ (x : Volume). HaveOwnNodes x.owners) c.volume.view_is c.list.ensures.nodes) c.admit.new.self c.write_grown_file.new.volume c.write_grown_file.new.disk (both.1 map.0 mid).0 adm both.0 (both.1 map.0 mid).1 (filled c.args.words.len c.args.bytes.now) (length-filled c.args.words.len c.args.bytes.now c.requires.long) (done_filled g.D.Disk map.0 (both.1 map.0 mid).0 c.in-Ok.change.growing c.args.words.len c.args.bytes.now c.args.disk.now c.write_grown_file.new.disk (both.1 map.0 mid).2) (c.write_grown_file.ensures.exits map.0 mid) c.write_grown_file.ensures.form)
+          (ok_both c.write_grown_file.result _ _ c.write_grown_file.ensures.volume c.write_grown_file.ensures.done)) c.write_grown_file.ensures.error;
+      settled = unless_fault c.write_grown_file.result _ c.write_grown_file.ensures.durable c.write_grown_file.ensures.error;
+      fit = unless_fault c.write_grown_file.result _ (ok_then c.write_grown_file.result _ _ (λ has. has.fit ∙ adm.fit ∙ c.requires.fit) c.write_grown_file.ensures.volume) c.write_grown_file.ensures.error;
+      unfit = c.write_grown_file.ensures.unfit;
+      new_map = c.write_grown_file.ensures.new_map;
+      rights = c.write_grown_file.ensures.rights ∙ adm.rights;
+      form = c.write_grown_file.ensures.form;
+      goes = weaker (laws g.met.D.Disk) _ (c.write_grown_file.ensures.exits map.0 mid).stops (λ image left. tt);
+      faults = c.write_grown_file.ensures.faults;
+      cause = c.write_grown_file.ensures.cause;
     }
 
-pub returns-in-Ok-admit_file-clause-form_stays : goal.returns-in-Ok-admit_file-clause-form_stays
-returns-in-Ok-admit_file-clause-form_stays g c =
+pub returns-in-Ok-admit-clause-form_stays : goal.returns-in-Ok-admit-clause-form_stays
+returns-in-Ok-admit-clause-form_stays g c =
     let map = new_layout (parts_of c.args.volume.now).layout c.requires.new_map in
     let inner = ap (λ (x : Volume). layout_of x.space) c.volume.view_is ∙ map.1 in
     let number = c.next_number-n.ensures.number ∙ ap (λ (x : Volume). next_number x.tree) c.volume.view_is in
-    let adm = admitted_from _ c.args.volume.now c.admit_file.new.volume c.next_number-n.new.self c.next_number-n.result (next_number c.args.volume.now.tree) c.args.outgrown.dir c.in-Ok.change.entry c.next_number-n.ensures.same c.volume.view_is number c.in-Ok-admit_file.ensures.ok in
+    let adm = admitted_from _ c.args.volume.now c.admit.new.self c.next_number-n.new.self c.next_number-n.result (next_number c.args.volume.now.tree) c.args.outgrown.dir c.in-Ok.change.entry c.next_number-n.ensures.same c.volume.view_is number c.in-Ok-admit.ensures.ok in
     let mid = ap layout_of adm.space ∙ map.1 in
-    unless_fault c.put_new.result _
-    (ok_then c.put_new.result _ _
-    (λ done. (let t = done map.0 mid in ap dir_form t.1 ∙ ap (λ (h : Geometry). dir_form (Layout.New (record map.0 { geometry = h }))) t.2.grown.growth.geometry ∙ sym (ap dir_form map.1))) c.put_new.ensures.done)
-    c.put_new.ensures.error
+    unless_fault c.write_grown_file.result _
+    (ok_then c.write_grown_file.result _ _
+    (λ done. (let t = done map.0 mid in ap dir_form t.1 ∙ ap (λ (h : Geometry). dir_form (Layout.New (record map.0 { geometry = h }))) t.2.grown.growth.geometry ∙ sym (ap dir_form map.1))) c.write_grown_file.ensures.done)
+    c.write_grown_file.ensures.error
 
-pub returns-in-Err-admit_file-clause-refused : goal.returns-in-Err-admit_file-clause-refused
-returns-in-Err-admit_file-clause-refused g c = λ k makes v image sound parts. no_memory (Unit {0}) (refusal_in v image _ k)
+pub returns-in-Err-admit-clause-refused : goal.returns-in-Err-admit-clause-refused
+returns-in-Err-admit-clause-refused g c = λ k makes v image sound parts. no_memory (Unit {0}) (refusal_in v image _ k)
 
-pub returns-in-Err-admit_file-clause-places : goal.returns-in-Err-admit_file-clause-places
-returns-in-Err-admit_file-clause-places g c = λ k makes was told. (was, told, λ kind view m opens parts at. writes_nothing places_law kind view m k was)
+pub returns-in-Err-admit-clause-places : goal.returns-in-Err-admit-clause-places
+returns-in-Err-admit-clause-places g c = λ k makes was told. (was, told, λ kind view m opens parts at. writes_nothing places_law kind view m k was)
 
-pub returns-in-Err-admit_file-clause-keeps : goal.returns-in-Err-admit_file-clause-keeps
-returns-in-Err-admit_file-clause-keeps g c =
-    let same = kept_from _ c.args.volume.now c.admit_file.new.volume c.next_number-n.new.self c.next_number-n.ensures.same c.volume.view_is c.in-Err-admit_file.ensures.err in
+pub returns-in-Err-admit-clause-keeps : goal.returns-in-Err-admit-clause-keeps
+returns-in-Err-admit-clause-keeps g c =
+    let same = kept_from _ c.args.volume.now c.admit.new.self c.next_number-n.new.self c.next_number-n.ensures.same c.volume.view_is c.in-Err-admit.ensures.err in
     record {
       unchanged = λ other. (same, refl);
       stands = subst (λ (x : Volume). StandsFor g.D.Disk x c.args.disk.now) (sym same) c.requires.stands;
@@ -226,7 +225,7 @@ returns-in-Err-admit_file-clause-keeps g c =
       cause = λ e. absurd (cc);
     }
 
-pub returns-in-Err-admit_file-clause-form_stays : goal.returns-in-Err-admit_file-clause-form_stays
-returns-in-Err-admit_file-clause-form_stays g c =
-    let same = kept_from _ c.args.volume.now c.admit_file.new.volume c.next_number-n.new.self c.next_number-n.ensures.same c.volume.view_is c.in-Err-admit_file.ensures.err in
+pub returns-in-Err-admit-clause-form_stays : goal.returns-in-Err-admit-clause-form_stays
+returns-in-Err-admit-clause-form_stays g c =
+    let same = kept_from _ c.args.volume.now c.admit.new.self c.next_number-n.new.self c.next_number-n.ensures.same c.volume.view_is c.in-Err-admit.ensures.err in
     ap (λ (x : Volume). dir_form (parts_of x).layout) same

@@ -3,8 +3,7 @@ use Rattle.std.proofs.lemmas.Result.{on_ok_weaker}
 use Rattle.fc_device.proofs.DiskLaws.{laws}
 use Rattle.fc_device.proofs.StopLemmas.{keeps_then, keeps_weaker, led}
 use Rattle.fc_objects.specs.Extents.{sectors_in}
-use Rattle.fc_volume.proofs.FilingLemmas.{first_as, kept_as}
-use Rattle.fc_volume.proofs.StoringLemmas.{wider_first, wider_last}
+use Rattle.fc_volume.proofs.StoringLemmas.{first_as, kept_as, wider_first, wider_last}
 use Rattle.fc_volume.proofs.WritingLemmas.{written_then}
 use Rattle.fc_growing.proofs.WritingLemmas.{if_as}
 use Rattle.fc_growing.proofs.writing.lay.Goals as goal
@@ -31,6 +30,6 @@ returns-clause-laid g c =
     let mid = led (laws g.met.D.Disk) c.store_if.ensures.keeps image told' in
     record {
       stored = mid.0;
-      first = first_as c.args.map.now c.args.bytes.now was mid.0 c.deref.ensures.value (c.in_ok-store_first.ensures.stored was told mid.0 mid.1);
+      first = first_as c.args.map.now c.deref.ensures.value refl (c.in_ok-store_first.ensures.stored was told mid.0 mid.1);
       early = if_as mid.0 image refl c.is_some.ensures c.deref-2.ensures.value c.deref-3.ensures.value (stored mid.0 mid.1 image told');
     }) c.store_if.ensures.stored

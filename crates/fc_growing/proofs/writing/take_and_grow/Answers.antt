@@ -5,7 +5,8 @@ use Rattle.fc_device.proofs.DiskLaws.{laws}
 use Rattle.fc_device.proofs.StopLemmas.{keeps_then, keeps_weaker, led}
 use Rattle.fc_objects.specs.Extents.{sectors_in}
 use Rattle.fc_record.specs.declared.Geometry.{Geometry}
-use Rattle.fc_volume.proofs.FilingLemmas.{kept_as, written_by}
+use Rattle.fc_volume.proofs.FilingLemmas.{written_by}
+use Rattle.fc_volume.proofs.StoringLemmas.{kept_as}
 use Rattle.fc_volume.proofs.WritingLemmas.{copies_written, written_then}
 use Rattle.fc_growing.proofs.WritingLemmas.{if_as, turned}
 use Rattle.fc_growing.proofs.writing.take_and_grow.Goals as goal

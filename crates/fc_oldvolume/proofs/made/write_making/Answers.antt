@@ -10,9 +10,9 @@ use Rattle.fc_oldvolume.proofs.ChangeLemmas.{one_space, written_more, written_th
 use Rattle.fc_oldvolume.proofs.MadeLemmas.{wider_first, wider_last}
 use Rattle.fc_oldvolume.proofs.made.write_making.Goals as goal
 
-pub returns-in_err-store_object-clause-exits : goal.returns-in_err-store_object-clause-exits
-returns-in_err-store_object-clause-exits g c = λ space at.
-    keeps_weaker (laws g.met.D.Disk) c.store_object.ensures.keeps
+pub returns-in_err-store_at-clause-exits : goal.returns-in_err-store_at-clause-exits
+returns-in_err-store_at-clause-exits g c = λ space at.
+    keeps_weaker (laws g.met.D.Disk) (rw c.deref.ensures.value, c.deref-2.ensures.value at c.store_at.ensures.keeps)
     (wider_last c.writes.ensures (layout_of c.args.places.now) space at (sectors_in c.args.r.now.directory.place.items) (sectors_in c.args.r.now.taken.place.items) c.args.r.now.bytes.items)
 
 pub returns-in_err-write_some-clause-exits : goal.returns-in_err-write_some-clause-exits
@@ -20,7 +20,7 @@ returns-in_err-write_some-clause-exits g c = λ space at.
     let all = sectors_in c.args.r.now.directory.place.items ++ sectors_in c.args.r.now.taken.place.items in
     let own = c.requires.map in
     keeps_then (laws g.met.D.Disk) (written_then space all)
-    (keeps_weaker (laws g.met.D.Disk) c.store_object.ensures.keeps
+    (keeps_weaker (laws g.met.D.Disk) (rw c.deref.ensures.value, c.deref-2.ensures.value at c.store_at.ensures.keeps)
     (wider_last c.writes.ensures (layout_of c.args.places.now) space at (sectors_in c.args.r.now.directory.place.items) (sectors_in c.args.r.now.taken.place.items) c.args.r.now.bytes.items))
     (keeps_weaker (laws g.met.D.Disk)
     (c.write_some.ensures.keeps space (subst (λ (s : OldMapContent). IsEditOf s c.args.r.now.taken.map) (one_space (layout_of c.args.places.now) own.0 space own.1 at) own.2))
@@ -32,7 +32,7 @@ returns-clause-exits g c = λ space at.
     let own = c.requires.map in
     keeps_then (laws g.met.D.Disk) (written_then space all)
     (keeps_then (laws g.met.D.Disk) (written_then space all)
-    (keeps_weaker (laws g.met.D.Disk) c.store_object.ensures.keeps
+    (keeps_weaker (laws g.met.D.Disk) (rw c.deref.ensures.value, c.deref-2.ensures.value at c.store_at.ensures.keeps)
     (wider_last c.writes.ensures (layout_of c.args.places.now) space at (sectors_in c.args.r.now.directory.place.items) (sectors_in c.args.r.now.taken.place.items) c.args.r.now.bytes.items))
     (keeps_weaker (laws g.met.D.Disk)
     (c.write_some.ensures.keeps space (subst (λ (s : OldMapContent). IsEditOf s c.args.r.now.taken.map) (one_space (layout_of c.args.places.now) own.0 space own.1 at) own.2))
@@ -50,7 +50,7 @@ returns-clause-done g c =
     record {
       stored = mid.0;
       taken = taken.0;
-      object = c.in_ok-store_object.ensures.stored was told mid.0 mid.1;
+      object = rw c.deref.ensures.value, c.deref-2.ensures.value at c.in_ok-store_at.ensures.stored was told mid.0 mid.1;
       map = c.in_ok-write_some.ensures.done mid.0 mid.1 taken.0 taken.1;
       directory = stored taken.0 taken.1 image now;
     }))

@@ -25,7 +25,8 @@ use Rattle.fc_volume.proofs.JudgedLemmas.{done_by, refused_by}
 use Rattle.fc_oldvolume.specs.declared.making.Making.{Making}
 use Rattle.fc_oldvolume.specs.Changing.{IsOldLayout}
 use Rattle.fc_oldvolume.specs.Making.{IsWrittenWith}
-use Rattle.fc_oldvolume.proofs.CdirAskedLemmas.{admitted_from, answered, asked, edit_of, kept_as_it_was, kept_from, no_memory, no_owner, object_on_disk, on_disk, ready, some, space_answer, there, unless_any}
+use Rattle.fc_volume.proofs.AdmittingLemmas.{admitted_from, kept_from}
+use Rattle.fc_oldvolume.proofs.CdirAskedLemmas.{answered, asked, edit_of, kept_as_it_was, no_memory, no_owner, object_on_disk, on_disk, ready, some, space_answer, there, unless_any}
 use Rattle.fc_oldvolume.proofs.CdirVolumeLemmas.{has_changed, places_of, same_nodes, space_is, stands_now}
 use Rattle.fc_oldvolume.proofs.ChangeLemmas.{is_old, old_layout, places_written, still_old, writes_nothing}
 use Rattle.fc_oldvolume.proofs.DeleteVolumeLemmas.{same_form}
@@ -114,7 +115,7 @@ admit-requires g c =
 pub make-requires-clause-size : goal.make-requires-clause-size
 make-requires-clause-size g c =
     let number = c.next_number-n.ensures.number ∙ ap (λ (x : Volume). next_number x.tree) c.volume.view_is in
-    let adm = admitted_from _ c.args.volume.now c.admit.new.volume c.next_number-n.new.self c.next_number-n.result (next_number c.args.volume.now.tree) c.in-Ok-draft_cdir.change c.next_number-n.ensures.same c.volume.view_is number c.in-Ok-admit.ensures.ok in
+    let adm = admitted_from _ c.args.volume.now c.admit.new.self c.next_number-n.new.self c.next_number-n.result (next_number c.args.volume.now.tree) c.in-Ok-draft_cdir.change.directory.node c.in-Ok-draft_cdir.change.entry c.next_number-n.ensures.same c.volume.view_is number c.in-Ok-admit.ensures.ok in
     c.requires.stands.size ∙ ap (λ (x : Space). sector_bytes (layout_of x)) (sym adm.space)
 
 pub make-requires-clause-two : goal.make-requires-clause-two
@@ -138,7 +139,7 @@ pub make-requires-clause-map : goal.make-requires-clause-map
 make-requires-clause-map g c =
     let map = old_layout (parts_of c.args.volume.now).layout c.requires.old_map in
     let number = c.next_number-n.ensures.number ∙ ap (λ (x : Volume). next_number x.tree) c.volume.view_is in
-    let adm = admitted_from _ c.args.volume.now c.admit.new.volume c.next_number-n.new.self c.next_number-n.result (next_number c.args.volume.now.tree) c.in-Ok-draft_cdir.change c.next_number-n.ensures.same c.volume.view_is number c.in-Ok-admit.ensures.ok in (
+    let adm = admitted_from _ c.args.volume.now c.admit.new.self c.next_number-n.new.self c.next_number-n.result (next_number c.args.volume.now.tree) c.in-Ok-draft_cdir.change.directory.node c.in-Ok-draft_cdir.change.entry c.next_number-n.ensures.same c.volume.view_is number c.in-Ok-admit.ensures.ok in (
       map.0,
       ap layout_of adm.space ∙ map.1,
       edit_of c.making_laws.ensures _ c.args.volume.now c.volume.view_is map.0 map.1 c.is_old_map.ensures (lie_behind g.D.Disk c.args.volume.now c.args.disk.now map.0 map.1 c.requires.stands) c.args.p.now c.in-Ok.dir
@@ -149,7 +150,7 @@ pub make-requires-clause-directory : goal.make-requires-clause-directory
 make-requires-clause-directory g c =
     let map = old_layout (parts_of c.args.volume.now).layout c.requires.old_map in
     let number = c.next_number-n.ensures.number ∙ ap (λ (x : Volume). next_number x.tree) c.volume.view_is in
-    let adm = admitted_from _ c.args.volume.now c.admit.new.volume c.next_number-n.new.self c.next_number-n.result (next_number c.args.volume.now.tree) c.in-Ok-draft_cdir.change c.next_number-n.ensures.same c.volume.view_is number c.in-Ok-admit.ensures.ok in
+    let adm = admitted_from _ c.args.volume.now c.admit.new.self c.next_number-n.new.self c.next_number-n.result (next_number c.args.volume.now.tree) c.in-Ok-draft_cdir.change.directory.node c.in-Ok-draft_cdir.change.entry c.next_number-n.ensures.same c.volume.view_is number c.in-Ok-admit.ensures.ok in
     subst (λ (ns : Nodes). IsSome (get ns c.in-Ok-draft_cdir.change.directory.node)) (sym (ap nodes_of adm.tree ∙ same_nodes c.args.volume.now.tree (c.args.volume.now.tree.room + 1)))
     (there c.making_laws.ensures _ c.args.volume.now c.volume.view_is map.0 map.1 c.is_old_map.ensures (lie_behind g.D.Disk c.args.volume.now c.args.disk.now map.0 map.1 c.requires.stands) c.args.p.now c.in-Ok.dir
     c.in-Ok.ensures.vacant c.requires.stands.agree c.in-Ok-draft_cdir.change c.in-Ok-draft_cdir.ensures.ready)
@@ -157,7 +158,7 @@ make-requires-clause-directory g c =
 pub make-requires-clause-room : goal.make-requires-clause-room
 make-requires-clause-room g c =
     let number = c.next_number-n.ensures.number ∙ ap (λ (x : Volume). next_number x.tree) c.volume.view_is in
-    let adm = admitted_from _ c.args.volume.now c.admit.new.volume c.next_number-n.new.self c.next_number-n.result (next_number c.args.volume.now.tree) c.in-Ok-draft_cdir.change c.next_number-n.ensures.same c.volume.view_is number c.in-Ok-admit.ensures.ok in
+    let adm = admitted_from _ c.args.volume.now c.admit.new.self c.next_number-n.new.self c.next_number-n.result (next_number c.args.volume.now.tree) c.in-Ok-draft_cdir.change.directory.node c.in-Ok-draft_cdir.change.entry c.next_number-n.ensures.same c.volume.view_is number c.in-Ok-admit.ensures.ok in
     subst (λ (t : Numbers). 0 < t.room) (sym adm.tree) (omega arith)
 
 pub returns-in-Ok-admit-clause-refused : goal.returns-in-Ok-admit-clause-refused
@@ -177,13 +178,13 @@ pub returns-in-Ok-admit-clause-changed : goal.returns-in-Ok-admit-clause-changed
 returns-in-Ok-admit-clause-changed g c =
     let map = old_layout (parts_of c.args.volume.now).layout c.requires.old_map in
     let number = c.next_number-n.ensures.number ∙ ap (λ (x : Volume). next_number x.tree) c.volume.view_is in
-    let adm = admitted_from _ c.args.volume.now c.admit.new.volume c.next_number-n.new.self c.next_number-n.result (next_number c.args.volume.now.tree) c.in-Ok-draft_cdir.change c.next_number-n.ensures.same c.volume.view_is number c.in-Ok-admit.ensures.ok in
+    let adm = admitted_from _ c.args.volume.now c.admit.new.self c.next_number-n.new.self c.next_number-n.result (next_number c.args.volume.now.tree) c.in-Ok-draft_cdir.change.directory.node c.in-Ok-draft_cdir.change.entry c.next_number-n.ensures.same c.volume.view_is number c.in-Ok-admit.ensures.ok in
     let free = subst (λ (k : ℕ). get (nodes_of c.args.volume.now.tree) k ≡ None) number (subst (λ (x : Volume). get (nodes_of x.tree) c.next_number-n.result ≡ None) c.volume.view_is c.next_number-n.ensures.free) in
     let is = ready c.making_laws.ensures _ c.args.volume.now c.volume.view_is map.0 map.1 c.is_old_map.ensures (lie_behind g.D.Disk c.args.volume.now c.args.disk.now map.0 map.1 c.requires.stands) c.args.p.now
     c.in-Ok.dir c.in-Ok.ensures.vacant c.requires.stands.agree c.in-Ok-draft_cdir.change c.in-Ok-draft_cdir.ensures.ready (next_number c.args.volume.now.tree) free in
     let mid = ap layout_of adm.space ∙ map.1 in
     ok_then c.make.result _ _
-    (λ both. has_changed g.D.Disk c.making_laws.ensures map.0 c.args.volume.now c.args.disk.now c.args.p.now c.in-Ok.dir c.in-Ok-draft_cdir.change map.1 is c.requires.stands c.admit.new.volume c.make.new.volume
+    (λ both. has_changed g.D.Disk c.making_laws.ensures map.0 c.args.volume.now c.args.disk.now c.args.p.now c.in-Ok.dir c.in-Ok-draft_cdir.change map.1 is c.requires.stands c.admit.new.self c.make.new.volume
     c.make.new.disk adm both.0
     (subst (λ (x : Space). ForSome (g.D.Disk.bytes c.args.disk.now) (λ was. ForSome (g.D.Disk.bytes c.make.new.disk) (IsWrittenWith (layout_of x) c.in-Ok-draft_cdir.change was))) adm.space both.1)
     (c.make.ensures.exits map.0 mid))
@@ -193,7 +194,7 @@ pub returns-in-Ok-admit-clause-places : goal.returns-in-Ok-admit-clause-places
 returns-in-Ok-admit-clause-places g c =
     let map = old_layout (parts_of c.args.volume.now).layout c.requires.old_map in
     let number = c.next_number-n.ensures.number ∙ ap (λ (x : Volume). next_number x.tree) c.volume.view_is in
-    let adm = admitted_from _ c.args.volume.now c.admit.new.volume c.next_number-n.new.self c.next_number-n.result (next_number c.args.volume.now.tree) c.in-Ok-draft_cdir.change c.next_number-n.ensures.same c.volume.view_is number c.in-Ok-admit.ensures.ok in
+    let adm = admitted_from _ c.args.volume.now c.admit.new.self c.next_number-n.new.self c.next_number-n.result (next_number c.args.volume.now.tree) c.in-Ok-draft_cdir.change.directory.node c.in-Ok-draft_cdir.change.entry c.next_number-n.ensures.same c.volume.view_is number c.in-Ok-admit.ensures.ok in
     let free = subst (λ (k : ℕ). get (nodes_of c.args.volume.now.tree) k ≡ None) number (subst (λ (x : Volume). get (nodes_of x.tree) c.next_number-n.result ≡ None) c.volume.view_is c.next_number-n.ensures.free) in
     let is = ready c.making_laws.ensures _ c.args.volume.now c.volume.view_is map.0 map.1 c.is_old_map.ensures (lie_behind g.D.Disk c.args.volume.now c.args.disk.now map.0 map.1 c.requires.stands) c.args.p.now
     c.in-Ok.dir c.in-Ok.ensures.vacant c.requires.stands.agree c.in-Ok-draft_cdir.change c.in-Ok-draft_cdir.ensures.ready (next_number c.args.volume.now.tree) free in
@@ -205,7 +206,7 @@ pub returns-in-Ok-admit-clause-keeps : goal.returns-in-Ok-admit-clause-keeps
 returns-in-Ok-admit-clause-keeps g c =
     let map = old_layout (parts_of c.args.volume.now).layout c.requires.old_map in
     let number = c.next_number-n.ensures.number ∙ ap (λ (x : Volume). next_number x.tree) c.volume.view_is in
-    let adm = admitted_from _ c.args.volume.now c.admit.new.volume c.next_number-n.new.self c.next_number-n.result (next_number c.args.volume.now.tree) c.in-Ok-draft_cdir.change c.next_number-n.ensures.same c.volume.view_is number c.in-Ok-admit.ensures.ok in
+    let adm = admitted_from _ c.args.volume.now c.admit.new.self c.next_number-n.new.self c.next_number-n.result (next_number c.args.volume.now.tree) c.in-Ok-draft_cdir.change.directory.node c.in-Ok-draft_cdir.change.entry c.next_number-n.ensures.same c.volume.view_is number c.in-Ok-admit.ensures.ok in
     let free = subst (λ (k : ℕ). get (nodes_of c.args.volume.now.tree) k ≡ None) number (subst (λ (x : Volume). get (nodes_of x.tree) c.next_number-n.result ≡ None) c.volume.view_is c.next_number-n.ensures.free) in
     let is = ready c.making_laws.ensures _ c.args.volume.now c.volume.view_is map.0 map.1 c.is_old_map.ensures (lie_behind g.D.Disk c.args.volume.now c.args.disk.now map.0 map.1 c.requires.stands) c.args.p.now
     c.in-Ok.dir c.in-Ok.ensures.vacant c.requires.stands.agree c.in-Ok-draft_cdir.change c.in-Ok-draft_cdir.ensures.ready (next_number c.args.volume.now.tree) free in
@@ -214,7 +215,7 @@ returns-in-Ok-admit-clause-keeps g c =
       unchanged = only_faults c.make.result _ c.make.ensures.error;
       stands = unless_fault c.make.result _
           (ok_then c.make.result _ _
-          (λ both. stands_now g.D.Disk c.making_laws.ensures map.0 c.args.volume.now c.args.disk.now c.args.p.now c.in-Ok.dir c.in-Ok-draft_cdir.change map.1 is c.requires.stands c.admit.new.volume
+          (λ both. stands_now g.D.Disk c.making_laws.ensures map.0 c.args.volume.now c.args.disk.now c.args.p.now c.in-Ok.dir c.in-Ok-draft_cdir.change map.1 is c.requires.stands c.admit.new.self
           c.make.new.volume c.make.new.disk adm both.0
           (subst (λ (x : Space). ForSome (g.D.Disk.bytes c.args.disk.now) (λ was. ForSome (g.D.Disk.bytes c.make.new.disk) (IsWrittenWith (layout_of x) c.in-Ok-draft_cdir.change was))) adm.space both.1)
           (c.make.ensures.exits map.0 mid) c.make.ensures.form)
@@ -223,7 +224,7 @@ returns-in-Ok-admit-clause-keeps g c =
       settled = unless_fault c.make.result _ c.make.ensures.durable c.make.ensures.error;
       fit = unless_fault c.make.result _ (ok_then c.make.result _ _ (λ has. has.fit ∙ adm.fit ∙ c.requires.fit) c.make.ensures.volume) c.make.ensures.error;
       unfit = c.make.ensures.unfit;
-      old_map = still_old c.make.result (parts_of c.make.new.volume).layout (parts_of c.admit.new.volume).layout (is_old (parts_of c.admit.new.volume).layout map.0 mid) c.make.ensures.kept
+      old_map = still_old c.make.result (parts_of c.make.new.volume).layout (parts_of c.admit.new.self).layout (is_old (parts_of c.admit.new.self).layout map.0 mid) c.make.ensures.kept
           (ok_then c.make.result _ _ (λ has. is_old (parts_of c.make.new.volume).layout _ (has.layout map.0 mid)) c.make.ensures.volume);
       rights = c.make.ensures.rights ∙ adm.rights;
       form = c.make.ensures.form;
@@ -236,7 +237,7 @@ pub returns-in-Ok-admit-clause-form_stays : goal.returns-in-Ok-admit-clause-form
 returns-in-Ok-admit-clause-form_stays g c =
     let map = old_layout (parts_of c.args.volume.now).layout c.requires.old_map in
     let number = c.next_number-n.ensures.number ∙ ap (λ (x : Volume). next_number x.tree) c.volume.view_is in
-    let adm = admitted_from _ c.args.volume.now c.admit.new.volume c.next_number-n.new.self c.next_number-n.result (next_number c.args.volume.now.tree) c.in-Ok-draft_cdir.change c.next_number-n.ensures.same c.volume.view_is number c.in-Ok-admit.ensures.ok in
+    let adm = admitted_from _ c.args.volume.now c.admit.new.self c.next_number-n.new.self c.next_number-n.result (next_number c.args.volume.now.tree) c.in-Ok-draft_cdir.change.directory.node c.in-Ok-draft_cdir.change.entry c.next_number-n.ensures.same c.volume.view_is number c.in-Ok-admit.ensures.ok in
     let free = subst (λ (k : ℕ). get (nodes_of c.args.volume.now.tree) k ≡ None) number (subst (λ (x : Volume). get (nodes_of x.tree) c.next_number-n.result ≡ None) c.volume.view_is c.next_number-n.ensures.free) in
     let is = ready c.making_laws.ensures _ c.args.volume.now c.volume.view_is map.0 map.1 c.is_old_map.ensures (lie_behind g.D.Disk c.args.volume.now c.args.disk.now map.0 map.1 c.requires.stands) c.args.p.now
     c.in-Ok.dir c.in-Ok.ensures.vacant c.requires.stands.agree c.in-Ok-draft_cdir.change c.in-Ok-draft_cdir.ensures.ready (next_number c.args.volume.now.tree) free in
@@ -261,7 +262,7 @@ returns-in-Err-admit-clause-places g c = λ was told. (
 
 pub returns-in-Err-admit-clause-keeps : goal.returns-in-Err-admit-clause-keeps
 returns-in-Err-admit-clause-keeps g c =
-    let same = kept_from _ c.args.volume.now c.admit.new.volume c.next_number-n.new.self c.next_number-n.ensures.same c.volume.view_is c.in-Err-admit.ensures.err in
+    let same = kept_from _ c.args.volume.now c.admit.new.self c.next_number-n.new.self c.next_number-n.ensures.same c.volume.view_is c.in-Err-admit.ensures.err in
     record {
       unchanged = λ other. (same, refl);
       stands = subst (λ (x : Volume). StandsFor g.D.Disk x c.args.disk.now) (sym same) c.requires.stands;
@@ -278,4 +279,4 @@ returns-in-Err-admit-clause-keeps g c =
 
 pub returns-in-Err-admit-clause-form_stays : goal.returns-in-Err-admit-clause-form_stays
 returns-in-Err-admit-clause-form_stays g c =
-    ap (λ (x : Volume). dir_form (parts_of x).layout) (kept_from _ c.args.volume.now c.admit.new.volume c.next_number-n.new.self c.next_number-n.ensures.same c.volume.view_is c.in-Err-admit.ensures.err)
+    ap (λ (x : Volume). dir_form (parts_of x).layout) (kept_from _ c.args.volume.now c.admit.new.self c.next_number-n.new.self c.next_number-n.ensures.same c.volume.view_is c.in-Err-admit.ensures.err)

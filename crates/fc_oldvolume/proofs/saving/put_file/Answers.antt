@@ -22,13 +22,14 @@ use Rattle.fc_oldvolume.specs.declared.making.Making.{Making}
 use Rattle.fc_oldvolume.specs.declared.putting.NewFile.{NewFile}
 use Rattle.fc_oldvolume.specs.Changing.{IsOldLayout}
 use Rattle.fc_oldvolume.specs.Spaces.{LieBehind}
-use Rattle.fc_oldvolume.proofs.CdirAskedLemmas.{kept_as_it_was, kept_from, no_memory, space_answer, unless_any}
+use Rattle.fc_oldvolume.proofs.CdirAskedLemmas.{kept_as_it_was, no_memory, space_answer, unless_any}
 use Rattle.fc_oldvolume.proofs.CdirVolumeLemmas.{same_nodes}
 use Rattle.fc_oldvolume.proofs.MakingLemmas.{other_value}
 use Rattle.fc_oldvolume.proofs.ChangeLemmas.{is_old, old_layout, one_space, places_written, still_old, writes_nothing}
 use Rattle.fc_oldvolume.proofs.DeleteVolumeLemmas.{same_form}
 use Rattle.fc_oldvolume.proofs.FileAskedLemmas.{all_done, by_space}
-use Rattle.fc_oldvolume.proofs.NewFileAskedLemmas.{admitted_from, answered, asked, file_on_disk, no_owner, on_disk, ready, some, there}
+use Rattle.fc_volume.proofs.AdmittingLemmas.{admitted_from, kept_from}
+use Rattle.fc_oldvolume.proofs.NewFileAskedLemmas.{answered, asked, file_on_disk, no_owner, on_disk, ready, some, there}
 use Rattle.fc_oldvolume.proofs.NewFileLemmas.{can_file}
 use Rattle.fc_oldvolume.proofs.NewFileVolumeLemmas.{has_changed, layout', places_of, space_is, stands_now}
 use Rattle.fc_oldvolume.proofs.SetVolumeLemmas.{lie_behind, two_sectors}
@@ -89,7 +90,7 @@ admit-requires g c =
 pub put_new-requires-clause-size : goal.put_new-requires-clause-size
 put_new-requires-clause-size g c =
     let number = c.next_number-n.ensures.number ∙ ap (λ (x : Volume). next_number x.tree) c.volume.view_is in
-    let adm = admitted_from _ c.args.volume.now c.admit.new.volume c.next_number-n.new.self c.next_number-n.result (next_number c.args.volume.now.tree) c.in-Ok.change.filing.directory.node c.in-Ok.change.entry c.next_number-n.ensures.same c.volume.view_is number c.in-Ok-admit.ensures.ok in
+    let adm = admitted_from _ c.args.volume.now c.admit.new.self c.next_number-n.new.self c.next_number-n.result (next_number c.args.volume.now.tree) c.in-Ok.change.filing.directory.node c.in-Ok.change.entry c.next_number-n.ensures.same c.volume.view_is number c.in-Ok-admit.ensures.ok in
     c.requires.stands.size ∙ ap (λ (x : Space). sector_bytes (layout_of x)) (sym adm.space)
 
 pub put_new-requires-clause-two : goal.put_new-requires-clause-two
@@ -102,7 +103,7 @@ put_new-requires-clause-map g c =
     let map = old_layout (parts_of c.args.volume.now).layout c.requires.old_map in
     let behind = lie_behind g.D.Disk c.args.volume.now c.args.disk.now map.0 map.1 c.requires.stands in
     let number = c.next_number-n.ensures.number ∙ ap (λ (x : Volume). next_number x.tree) c.volume.view_is in
-    let adm = admitted_from _ c.args.volume.now c.admit.new.volume c.next_number-n.new.self c.next_number-n.result (next_number c.args.volume.now.tree) c.in-Ok.change.filing.directory.node c.in-Ok.change.entry c.next_number-n.ensures.same c.volume.view_is number c.in-Ok-admit.ensures.ok in
+    let adm = admitted_from _ c.args.volume.now c.admit.new.self c.next_number-n.new.self c.next_number-n.result (next_number c.args.volume.now.tree) c.in-Ok.change.filing.directory.node c.in-Ok.change.entry c.next_number-n.ensures.same c.volume.view_is number c.in-Ok-admit.ensures.ok in
     let free = subst (λ (k : ℕ). get (nodes_of c.args.volume.now.tree) k ≡ None) number (subst (λ (x : Volume). get (nodes_of x.tree) c.next_number-n.result ≡ None) c.volume.view_is c.next_number-n.ensures.free) in
     let is = ready c.filing_laws.ensures _ c.args.volume.now c.volume.view_is map.0 map.1 c.is_old_map.ensures behind c.args.p.now c.args.dir c.args.words c.requires.accepted c.requires.stands.agree c.in-Ok.change c.in-Ok.ensures.ready (next_number c.args.volume.now.tree) free in
     let mid = ap layout_of adm.space ∙ map.1 in
@@ -125,14 +126,14 @@ put_new-requires-clause-directory g c =
     let map = old_layout (parts_of c.args.volume.now).layout c.requires.old_map in
     let behind = lie_behind g.D.Disk c.args.volume.now c.args.disk.now map.0 map.1 c.requires.stands in
     let number = c.next_number-n.ensures.number ∙ ap (λ (x : Volume). next_number x.tree) c.volume.view_is in
-    let adm = admitted_from _ c.args.volume.now c.admit.new.volume c.next_number-n.new.self c.next_number-n.result (next_number c.args.volume.now.tree) c.in-Ok.change.filing.directory.node c.in-Ok.change.entry c.next_number-n.ensures.same c.volume.view_is number c.in-Ok-admit.ensures.ok in
+    let adm = admitted_from _ c.args.volume.now c.admit.new.self c.next_number-n.new.self c.next_number-n.result (next_number c.args.volume.now.tree) c.in-Ok.change.filing.directory.node c.in-Ok.change.entry c.next_number-n.ensures.same c.volume.view_is number c.in-Ok-admit.ensures.ok in
     subst (λ (ns : Nodes). IsSome (get ns c.in-Ok.change.filing.directory.node)) (sym (ap nodes_of adm.tree ∙ same_nodes c.args.volume.now.tree (c.args.volume.now.tree.room + 1)))
     (there c.filing_laws.ensures _ c.args.volume.now c.volume.view_is map.0 map.1 c.is_old_map.ensures behind c.args.p.now c.args.dir c.args.words c.requires.accepted c.requires.stands.agree c.in-Ok.change c.in-Ok.ensures.ready)
 
 pub put_new-requires-clause-room : goal.put_new-requires-clause-room
 put_new-requires-clause-room g c =
     let number = c.next_number-n.ensures.number ∙ ap (λ (x : Volume). next_number x.tree) c.volume.view_is in
-    let adm = admitted_from _ c.args.volume.now c.admit.new.volume c.next_number-n.new.self c.next_number-n.result (next_number c.args.volume.now.tree) c.in-Ok.change.filing.directory.node c.in-Ok.change.entry c.next_number-n.ensures.same c.volume.view_is number c.in-Ok-admit.ensures.ok in
+    let adm = admitted_from _ c.args.volume.now c.admit.new.self c.next_number-n.new.self c.next_number-n.result (next_number c.args.volume.now.tree) c.in-Ok.change.filing.directory.node c.in-Ok.change.entry c.next_number-n.ensures.same c.volume.view_is number c.in-Ok-admit.ensures.ok in
     subst (λ (t : Numbers). 0 < t.room) (sym adm.tree) (omega arith)
 
 pub returns-in-Ok-admit-clause-refused : goal.returns-in-Ok-admit-clause-refused
@@ -148,12 +149,12 @@ returns-in-Ok-admit-clause-changed g c =
     let map = old_layout (parts_of c.args.volume.now).layout c.requires.old_map in
     let behind = lie_behind g.D.Disk c.args.volume.now c.args.disk.now map.0 map.1 c.requires.stands in
     let number = c.next_number-n.ensures.number ∙ ap (λ (x : Volume). next_number x.tree) c.volume.view_is in
-    let adm = admitted_from _ c.args.volume.now c.admit.new.volume c.next_number-n.new.self c.next_number-n.result (next_number c.args.volume.now.tree) c.in-Ok.change.filing.directory.node c.in-Ok.change.entry c.next_number-n.ensures.same c.volume.view_is number c.in-Ok-admit.ensures.ok in
+    let adm = admitted_from _ c.args.volume.now c.admit.new.self c.next_number-n.new.self c.next_number-n.result (next_number c.args.volume.now.tree) c.in-Ok.change.filing.directory.node c.in-Ok.change.entry c.next_number-n.ensures.same c.volume.view_is number c.in-Ok-admit.ensures.ok in
     let free = subst (λ (k : ℕ). get (nodes_of c.args.volume.now.tree) k ≡ None) number (subst (λ (x : Volume). get (nodes_of x.tree) c.next_number-n.result ≡ None) c.volume.view_is c.next_number-n.ensures.free) in
     let is = ready c.filing_laws.ensures _ c.args.volume.now c.volume.view_is map.0 map.1 c.is_old_map.ensures behind c.args.p.now c.args.dir c.args.words c.requires.accepted c.requires.stands.agree c.in-Ok.change c.in-Ok.ensures.ready (next_number c.args.volume.now.tree) free in
     let mid = ap layout_of adm.space ∙ map.1 in
     ok_then c.put_new.result _ _
-    (λ both k makes. has_changed g.D.Disk c.filing_laws.ensures map.0 c.args.volume.now c.args.disk.now c.args.p.now c.args.dir c.args.words c.in-Ok.change map.1 is c.requires.stands (filled c.args.words.len c.args.bytes.now) (length-filled c.args.words.len c.args.bytes.now c.requires.long) c.admit.new.volume c.put_new.new.volume c.put_new.new.disk adm both.0 (all_done g.D.Disk _ (Layout.Old map.0) c.in-Ok.change.filing c.args.words.len c.args.bytes.now c.args.disk.now c.put_new.new.disk mid both.1) (c.put_new.ensures.exits map.0 mid) k makes)
+    (λ both k makes. has_changed g.D.Disk c.filing_laws.ensures map.0 c.args.volume.now c.args.disk.now c.args.p.now c.args.dir c.args.words c.in-Ok.change map.1 is c.requires.stands (filled c.args.words.len c.args.bytes.now) (length-filled c.args.words.len c.args.bytes.now c.requires.long) c.admit.new.self c.put_new.new.volume c.put_new.new.disk adm both.0 (all_done g.D.Disk _ (Layout.Old map.0) c.in-Ok.change.filing c.args.words.len c.args.bytes.now c.args.disk.now c.put_new.new.disk mid both.1) (c.put_new.ensures.exits map.0 mid) k makes)
     (ok_both c.put_new.result _ _ c.put_new.ensures.volume c.put_new.ensures.done)
 
 pub returns-in-Ok-admit-clause-places : goal.returns-in-Ok-admit-clause-places
@@ -161,7 +162,7 @@ returns-in-Ok-admit-clause-places g c = λ k makes.
     let map = old_layout (parts_of c.args.volume.now).layout c.requires.old_map in
     let behind = lie_behind g.D.Disk c.args.volume.now c.args.disk.now map.0 map.1 c.requires.stands in
     let number = c.next_number-n.ensures.number ∙ ap (λ (x : Volume). next_number x.tree) c.volume.view_is in
-    let adm = admitted_from _ c.args.volume.now c.admit.new.volume c.next_number-n.new.self c.next_number-n.result (next_number c.args.volume.now.tree) c.in-Ok.change.filing.directory.node c.in-Ok.change.entry c.next_number-n.ensures.same c.volume.view_is number c.in-Ok-admit.ensures.ok in
+    let adm = admitted_from _ c.args.volume.now c.admit.new.self c.next_number-n.new.self c.next_number-n.result (next_number c.args.volume.now.tree) c.in-Ok.change.filing.directory.node c.in-Ok.change.entry c.next_number-n.ensures.same c.volume.view_is number c.in-Ok-admit.ensures.ok in
     let free = subst (λ (k : ℕ). get (nodes_of c.args.volume.now.tree) k ≡ None) number (subst (λ (x : Volume). get (nodes_of x.tree) c.next_number-n.result ≡ None) c.volume.view_is c.next_number-n.ensures.free) in
     let is = ready c.filing_laws.ensures _ c.args.volume.now c.volume.view_is map.0 map.1 c.is_old_map.ensures behind c.args.p.now c.args.dir c.args.words c.requires.accepted c.requires.stands.agree c.in-Ok.change c.in-Ok.ensures.ready (next_number c.args.volume.now.tree) free in
     let mid = ap layout_of adm.space ∙ map.1 in
@@ -173,7 +174,7 @@ returns-in-Ok-admit-clause-keeps g c =
     let map = old_layout (parts_of c.args.volume.now).layout c.requires.old_map in
     let behind = lie_behind g.D.Disk c.args.volume.now c.args.disk.now map.0 map.1 c.requires.stands in
     let number = c.next_number-n.ensures.number ∙ ap (λ (x : Volume). next_number x.tree) c.volume.view_is in
-    let adm = admitted_from _ c.args.volume.now c.admit.new.volume c.next_number-n.new.self c.next_number-n.result (next_number c.args.volume.now.tree) c.in-Ok.change.filing.directory.node c.in-Ok.change.entry c.next_number-n.ensures.same c.volume.view_is number c.in-Ok-admit.ensures.ok in
+    let adm = admitted_from _ c.args.volume.now c.admit.new.self c.next_number-n.new.self c.next_number-n.result (next_number c.args.volume.now.tree) c.in-Ok.change.filing.directory.node c.in-Ok.change.entry c.next_number-n.ensures.same c.volume.view_is number c.in-Ok-admit.ensures.ok in
     let free = subst (λ (k : ℕ). get (nodes_of c.args.volume.now.tree) k ≡ None) number (subst (λ (x : Volume). get (nodes_of x.tree) c.next_number-n.result ≡ None) c.volume.view_is c.next_number-n.ensures.free) in
     let is = ready c.filing_laws.ensures _ c.args.volume.now c.volume.view_is map.0 map.1 c.is_old_map.ensures behind c.args.p.now c.args.dir c.args.words c.requires.accepted c.requires.stands.agree c.in-Ok.change c.in-Ok.ensures.ready (next_number c.args.volume.now.tree) free in
     let mid = ap layout_of adm.space ∙ map.1 in
@@ -181,13 +182,13 @@ returns-in-Ok-admit-clause-keeps g c =
       unchanged = only_faults c.put_new.result _ c.put_new.ensures.error;
       stands = unless_fault c.put_new.result _
           (ok_then c.put_new.result _ _
-          (λ both. stands_now g.D.Disk c.filing_laws.ensures map.0 c.args.volume.now c.args.disk.now c.args.p.now c.args.dir c.args.words c.in-Ok.change map.1 is c.requires.stands (filled c.args.words.len c.args.bytes.now) (length-filled c.args.words.len c.args.bytes.now c.requires.long) c.admit.new.volume c.put_new.new.volume c.put_new.new.disk adm both.0 (all_done g.D.Disk _ (Layout.Old map.0) c.in-Ok.change.filing c.args.words.len c.args.bytes.now c.args.disk.now c.put_new.new.disk mid both.1) (c.put_new.ensures.exits map.0 mid) c.put_new.ensures.form)
+          (λ both. stands_now g.D.Disk c.filing_laws.ensures map.0 c.args.volume.now c.args.disk.now c.args.p.now c.args.dir c.args.words c.in-Ok.change map.1 is c.requires.stands (filled c.args.words.len c.args.bytes.now) (length-filled c.args.words.len c.args.bytes.now c.requires.long) c.admit.new.self c.put_new.new.volume c.put_new.new.disk adm both.0 (all_done g.D.Disk _ (Layout.Old map.0) c.in-Ok.change.filing c.args.words.len c.args.bytes.now c.args.disk.now c.put_new.new.disk mid both.1) (c.put_new.ensures.exits map.0 mid) c.put_new.ensures.form)
           (ok_both c.put_new.result _ _ c.put_new.ensures.volume c.put_new.ensures.done))
           c.put_new.ensures.error;
       settled = unless_fault c.put_new.result _ c.put_new.ensures.durable c.put_new.ensures.error;
       fit = unless_fault c.put_new.result _ (ok_then c.put_new.result _ _ (λ has. has.fit ∙ adm.fit ∙ c.requires.fit) c.put_new.ensures.volume) c.put_new.ensures.error;
       unfit = c.put_new.ensures.unfit;
-      old_map = still_old c.put_new.result (parts_of c.put_new.new.volume).layout (parts_of c.admit.new.volume).layout (is_old (parts_of c.admit.new.volume).layout map.0 mid) c.put_new.ensures.kept
+      old_map = still_old c.put_new.result (parts_of c.put_new.new.volume).layout (parts_of c.admit.new.self).layout (is_old (parts_of c.admit.new.self).layout map.0 mid) c.put_new.ensures.kept
           (ok_then c.put_new.result _ _ (λ has. is_old (parts_of c.put_new.new.volume).layout _ (has.layout map.0 mid)) c.put_new.ensures.volume);
       rights = c.put_new.ensures.rights ∙ adm.rights;
       form = c.put_new.ensures.form;
@@ -201,14 +202,14 @@ returns-in-Ok-admit-clause-form_stays g c =
     let map = old_layout (parts_of c.args.volume.now).layout c.requires.old_map in
     let behind = lie_behind g.D.Disk c.args.volume.now c.args.disk.now map.0 map.1 c.requires.stands in
     let number = c.next_number-n.ensures.number ∙ ap (λ (x : Volume). next_number x.tree) c.volume.view_is in
-    let adm = admitted_from _ c.args.volume.now c.admit.new.volume c.next_number-n.new.self c.next_number-n.result (next_number c.args.volume.now.tree) c.in-Ok.change.filing.directory.node c.in-Ok.change.entry c.next_number-n.ensures.same c.volume.view_is number c.in-Ok-admit.ensures.ok in
+    let adm = admitted_from _ c.args.volume.now c.admit.new.self c.next_number-n.new.self c.next_number-n.result (next_number c.args.volume.now.tree) c.in-Ok.change.filing.directory.node c.in-Ok.change.entry c.next_number-n.ensures.same c.volume.view_is number c.in-Ok-admit.ensures.ok in
     let free = subst (λ (k : ℕ). get (nodes_of c.args.volume.now.tree) k ≡ None) number (subst (λ (x : Volume). get (nodes_of x.tree) c.next_number-n.result ≡ None) c.volume.view_is c.next_number-n.ensures.free) in
     let is = ready c.filing_laws.ensures _ c.args.volume.now c.volume.view_is map.0 map.1 c.is_old_map.ensures behind c.args.p.now c.args.dir c.args.words c.requires.accepted c.requires.stands.agree c.in-Ok.change c.in-Ok.ensures.ready (next_number c.args.volume.now.tree) free in
     let mid = ap layout_of adm.space ∙ map.1 in
     unless_fault c.put_new.result _
     (ok_then c.put_new.result _ _
     (λ both. same_form (parts_of c.args.volume.now).layout (parts_of c.put_new.new.volume).layout map.0 _ map.1
-    (layout' g.D.Disk c.filing_laws.ensures map.0 c.args.volume.now c.args.disk.now c.args.p.now c.args.dir c.args.words c.in-Ok.change map.1 is c.requires.stands (filled c.args.words.len c.args.bytes.now) (length-filled c.args.words.len c.args.bytes.now c.requires.long) c.admit.new.volume c.put_new.new.volume c.put_new.new.disk adm both.0 (all_done g.D.Disk _ (Layout.Old map.0) c.in-Ok.change.filing c.args.words.len c.args.bytes.now c.args.disk.now c.put_new.new.disk mid both.1) (c.put_new.ensures.exits map.0 mid)) (space_is g.D.Disk c.filing_laws.ensures map.0 c.args.volume.now c.args.disk.now c.args.p.now c.args.dir c.args.words c.in-Ok.change map.1 is c.requires.stands))
+    (layout' g.D.Disk c.filing_laws.ensures map.0 c.args.volume.now c.args.disk.now c.args.p.now c.args.dir c.args.words c.in-Ok.change map.1 is c.requires.stands (filled c.args.words.len c.args.bytes.now) (length-filled c.args.words.len c.args.bytes.now c.requires.long) c.admit.new.self c.put_new.new.volume c.put_new.new.disk adm both.0 (all_done g.D.Disk _ (Layout.Old map.0) c.in-Ok.change.filing c.args.words.len c.args.bytes.now c.args.disk.now c.put_new.new.disk mid both.1) (c.put_new.ensures.exits map.0 mid)) (space_is g.D.Disk c.filing_laws.ensures map.0 c.args.volume.now c.args.disk.now c.args.p.now c.args.dir c.args.words c.in-Ok.change map.1 is c.requires.stands))
     (ok_both c.put_new.result _ _ c.put_new.ensures.volume c.put_new.ensures.done))
     c.put_new.ensures.error
 
@@ -222,7 +223,7 @@ returns-in-Err-admit-clause-places g c = λ k makes was told.
 
 pub returns-in-Err-admit-clause-keeps : goal.returns-in-Err-admit-clause-keeps
 returns-in-Err-admit-clause-keeps g c =
-    let same = kept_from _ c.args.volume.now c.admit.new.volume c.next_number-n.new.self c.next_number-n.ensures.same c.volume.view_is c.in-Err-admit.ensures.err in
+    let same = kept_from _ c.args.volume.now c.admit.new.self c.next_number-n.new.self c.next_number-n.ensures.same c.volume.view_is c.in-Err-admit.ensures.err in
     record {
       unchanged = λ other. (same, refl);
       stands = subst (λ (x : Volume). StandsFor g.D.Disk x c.args.disk.now) (sym same) c.requires.stands;
@@ -239,4 +240,4 @@ returns-in-Err-admit-clause-keeps g c =
 
 pub returns-in-Err-admit-clause-form_stays : goal.returns-in-Err-admit-clause-form_stays
 returns-in-Err-admit-clause-form_stays g c =
-    ap (λ (x : Volume). dir_form (parts_of x).layout) (kept_from _ c.args.volume.now c.admit.new.volume c.next_number-n.new.self c.next_number-n.ensures.same c.volume.view_is c.in-Err-admit.ensures.err)
+    ap (λ (x : Volume). dir_form (parts_of x).layout) (kept_from _ c.args.volume.now c.admit.new.self c.next_number-n.new.self c.next_number-n.ensures.same c.volume.view_is c.in-Err-admit.ensures.err)

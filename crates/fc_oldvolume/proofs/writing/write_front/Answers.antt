@@ -11,20 +11,20 @@ pub returns-clause-keeps : goal.returns-clause-keeps
 returns-clause-keeps g c =
     keeps_then (laws g.met.D.Disk) (front_then c.args.size c.args.row.sectors)
     (keeps_same (laws g.met.D.Disk) (keeps_start (laws g.met.D.Disk) (front_same c.args.size c.args.row.sectors) c.args.disk.now c.requires.settled) c.read_row.ensures.stops c.read_row.ensures.bytes)
-    (keeps_weaker (laws g.met.D.Disk) c.store.ensures.keeps (λ was image part. front_part c.args.size c.args.row.sectors c.args.row _ was image c.requires.first refl part))
+    (keeps_weaker (laws g.met.D.Disk) c.store_in.ensures.keeps (λ was image part. front_part c.args.size c.args.row.sectors c.args.row _ was image c.requires.first refl part))
 
-pub store-requires-clause-on_disk : goal.store-requires-clause-on_disk
-store-requires-clause-on_disk g c =
+pub store_in-requires-clause-on_disk : goal.store_in-requires-clause-on_disk
+store_in-requires-clause-on_disk g c =
     row_low (g.D.Disk.sectors c.read_row.new.self) c.args.row c.requires.first (subst (λ (n : ℕ). c.args.row.sectors ≤ n) (sym c.read_row.ensures.form.sectors_stay) c.requires.on_disk)
 
 pub returns-clause-written : goal.returns-clause-written
 returns-clause-written g c =
     let long : length c.patch.new.front ≡ c.args.row.sectors * c.args.size = (let a = c.patch.auto.front in let b = c.read_row.auto.into in let w = c.requires.whole in omega (arith, a, b, w)) in
     let count = row_long c.args.row c.requires.first in
-    ok_then c.store.result _ _
-    (λ back. λ was told image now.
+    ok_then c.store_in.result _ _
+    (λ stored. λ was told image now.
     front_written c.args.map.now c.args.size c.args.row was image c.read_row.new.into c.patch.new.front c.requires.first
     (c.in_ok-read_row.ensures.filled was told ∙ ap (λ (s : ℕ). row_at s was c.args.row.first c.args.row.sectors) c.requires.size) c.patch.ensures.bytes c.patch.ensures.long long
-    (back (subst AreApart (sym (row_is c.args.row c.requires.first)) (row_apart c.args.row.sectors))
-    (subst (λ (n : ℕ). length c.patch.new.front ≤ n * c.args.size) (sym count) (omega (arith, long))) image now))
-    c.store.ensures.reads_back
+    ((stored was (c.read_row.ensures.bytes ∙ told) image now).reads_back (subst AreApart (sym (row_is c.args.row c.requires.first)) (row_apart c.args.row.sectors))
+    (subst (λ (n : ℕ). length c.patch.new.front ≤ n * c.args.size) (sym count) (omega (arith, long)))))
+    c.store_in.ensures.stored

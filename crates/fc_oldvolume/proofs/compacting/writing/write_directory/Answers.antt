@@ -2,41 +2,35 @@ use Rattle.std.proofs.Common.{◌≡◌, ◌≤◌, ◌*◌, ◌∙◌, ℕ, len
 use Rattle.fc_device.proofs.DiskLaws.{laws}
 use Rattle.fc_device.proofs.StopLemmas.{weaker}
 use Rattle.fc_dirs.specs.Small.{tail_of}
+use Rattle.fc_volume.proofs.ChangeLemmas.{ok_then}
 use Rattle.fc_oldvolume.specs.Compacting.{IsDirWritten}
 use Rattle.fc_oldvolume.proofs.RoomLemmas.{row_part}
 use Rattle.fc_oldvolume.proofs.RowsLemmas.{dir_written, one_row_apart, one_row_low, one_row_room}
 use Rattle.fc_oldvolume.proofs.compacting.writing.write_directory.Goals as goal
 
-pub store-requires-clause-on_disk : goal.store-requires-clause-on_disk
-store-requires-clause-on_disk g c = one_row_low (g.D.Disk.sectors c.args.disk.now) c.args.row c.requires.on_disk
+pub store_in-requires-clause-on_disk : goal.store_in-requires-clause-on_disk
+store_in-requires-clause-on_disk g c = one_row_low (g.D.Disk.sectors c.args.disk.now) c.args.row c.requires.on_disk
 
 pub returns-clause-written : goal.returns-clause-written
-returns-clause-written g c = λ was told.
+returns-clause-written g c =
+    ok_then c.store_in.result _ _
+    (λ stored. λ was told.
     let d = g.D.Disk in
-    let after = c.store.ensures.keeps.exit was told in
+    let after = c.store_in.ensures.keeps.exit was told in
     let long : length c.write.new.b ≡ (tail_of c.args.dir.now.form).size = c.write.auto.b ∙ c.requires.whole in
     let size = c.requires.size in
-    let back = c.in_ok-store.ensures.reads_back (one_row_apart c.args.row) (one_row_room c.args.size (length c.write.new.b) c.args.row (subst (λ (n : ℕ). n ≤ c.args.row.sectors * c.args.size) (sym long) c.requires.room)) after.0 after.1 in (
+    let back = (stored was told after.0 after.1).reads_back (one_row_apart c.args.row) (one_row_room c.args.size (length c.write.new.b) c.args.row (subst (λ (n : ℕ). n ≤ c.args.row.sectors * c.args.size) (sym long) c.requires.room)) in (
       after.0,
       after.1,
       subst (λ (n : ℕ). IsDirWritten n c.args.row.first c.args.row.sectors c.args.dir.now was after.0) (sym size)
           (dir_written c.args.size c.args.row c.args.dir.now c.write.new.b was after.0 long c.write.ensures.written back after.2),
-    )
+    )) c.store_in.ensures.stored
 
 pub returns-clause-stops : goal.returns-clause-stops
-returns-clause-stops g c = weaker (laws g.met.D.Disk) (λ image. Unit {0}) c.store.ensures.keeps.stops (λ image left. tt)
-
-pub returns-in_err-store-clause-stops : goal.returns-in_err-store-clause-stops
-returns-in_err-store-clause-stops g c = weaker (laws g.met.D.Disk) (λ image. Unit {0}) c.store.ensures.keeps.stops (λ image left. tt)
+returns-clause-stops g c = weaker (laws g.met.D.Disk) (λ image. Unit {0}) c.store_in.ensures.keeps.stops (λ image left. tt)
 
 pub returns-clause-told : goal.returns-clause-told
-returns-clause-told g c = c.store.ensures.keeps.told
-
-pub returns-in_err-store-clause-told : goal.returns-in_err-store-clause-told
-returns-in_err-store-clause-told g c = c.store.ensures.keeps.told
+returns-clause-told g c = c.store_in.ensures.keeps.told
 
 pub returns-clause-places : goal.returns-clause-places
-returns-clause-places g c = λ was told. let w = c.store.ensures.keeps.exit was told in (w.0, w.1, row_part c.args.size c.args.row c.write.new.b was w.0 w.2)
-
-pub returns-in_err-store-clause-places : goal.returns-in_err-store-clause-places
-returns-in_err-store-clause-places g c = λ was told. let w = c.store.ensures.keeps.exit was told in (w.0, w.1, row_part c.args.size c.args.row c.write.new.b was w.0 w.2)
+returns-clause-places g c = λ was told. let w = c.store_in.ensures.keeps.exit was told in (w.0, w.1, row_part c.args.size c.args.row c.write.new.b was w.0 w.2)

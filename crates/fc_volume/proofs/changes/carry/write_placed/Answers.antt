@@ -13,8 +13,8 @@ pub write_carrying-requires-clause-map_room : goal.write_carrying-requires-claus
 write_carrying-requires-clause-map_room g c =
     subst (λ (s : Space). HoldsMap (layout_of s) (g.D.Disk.sectors c.args.disk.now)) (sym c.edit.ensures.value ∙ c.in-NewMapped.is) c.requires.map_room
 
-pub returns-in-NewMapped-clause-carried : goal.returns-in-NewMapped-clause-carried
-returns-in-NewMapped-clause-carried g c =
+pub returns-clause-carried : goal.returns-clause-carried
+returns-clause-carried g c =
     on_ok_weaker c.write_carrying.result
     (λ carried m m' at at'.
     by_maps (λ (x y : Map). ForSome (g.D.Disk.bytes c.args.disk.now) (λ was. ForSome (g.D.Disk.bytes c.write_carrying.new.disk) (IsCarried x y c.args.change.now was))) c.in-NewMapped.map m

@@ -6,11 +6,11 @@ use Rattle.fc_volume.specs.Carrying.{IsCopySpace}
 use Rattle.fc_volume.proofs.StoringLemmas.{one_map}
 use Rattle.fc_volume.proofs.changes.carrying.space_for.Goals as goal
 
-pub returns-in-NewMapped-clause-space : goal.returns-in-NewMapped-clause-space
-returns-in-NewMapped-clause-space c =
+pub returns-clause-space : goal.returns-clause-space
+returns-clause-space c =
     IfOk-weaker c.find_space.result _ _
     (λ s found m at. subst (λ (x : Map). IsCopySpace x c.args.len s) (one_map c.in-NewMapped.map m (sym (ap layout_of (sym c.space.ensures ∙ c.in-NewMapped.is)) ∙ at)) found)
     c.find_space.ensures.space
 
-pub returns-in-NewMapped-clause-refused : goal.returns-in-NewMapped-clause-refused
-returns-in-NewMapped-clause-refused c = λ v k at. c.find_space.ensures.refused v k (at ∙ ap layout_of (sym c.space.ensures ∙ c.in-NewMapped.is))
+pub returns-clause-refused : goal.returns-clause-refused
+returns-clause-refused c = λ v k at. c.find_space.ensures.refused v k (at ∙ ap layout_of (sym c.space.ensures ∙ c.in-NewMapped.is))

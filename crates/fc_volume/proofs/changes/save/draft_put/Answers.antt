@@ -11,15 +11,15 @@ use Rattle.fc_volume.proofs.changes.save.draft_put.Goals as goal
 pub draft_in-requires-clause-held : goal.draft_in-requires-clause-held
 draft_in-requires-clause-held c = c.requires.held c.in-NewMapped.map (ap layout_of (sym c.space.ensures ∙ c.in-NewMapped.is))
 
-pub returns-in-NewMapped-clause-ready : goal.returns-in-NewMapped-clause-ready
-returns-in-NewMapped-clause-ready c =
+pub returns-clause-ready : goal.returns-clause-ready
+returns-clause-ready c =
     IfOk-weaker c.draft_in.result _ _
     (λ r made m at.
     subst (λ (x : Map). IsFileDrafted (nodes_of c.args.tree.now) x c.args.owners.now c.args.dir (last_name c.args.p.now) c.args.words r)
     (one_map c.in-NewMapped.map m (sym (ap layout_of (sym c.space.ensures ∙ c.in-NewMapped.is)) ∙ at)) made) c.draft_in.ensures.ready
 
-pub returns-in-NewMapped-clause-refused : goal.returns-in-NewMapped-clause-refused
-returns-in-NewMapped-clause-refused c = λ m v k n content at there says wants.
+pub returns-clause-refused : goal.returns-clause-refused
+returns-clause-refused c = λ m v k n content at there says wants.
     c.draft_in.ensures.refused v k n content there says
     (subst (λ (x : Map). WantsFile x c.args.owners.now c.args.dir c.args.words.len content (last_name c.args.p.now) v k)
     (sym (one_map c.in-NewMapped.map m (sym (ap layout_of (sym c.space.ensures ∙ c.in-NewMapped.is)) ∙ at))) wants)

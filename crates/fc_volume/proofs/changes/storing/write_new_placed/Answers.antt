@@ -14,8 +14,8 @@ pub write_new-requires-clause-map_room : goal.write_new-requires-clause-map_room
 write_new-requires-clause-map_room g c =
     subst (λ (s : Space). HoldsMap (layout_of s) (g.D.Disk.sectors c.args.disk.now)) (sym c.edit.ensures.value ∙ c.in-NewMapped.is) c.requires.map_room
 
-pub returns-in-NewMapped-clause-made : goal.returns-in-NewMapped-clause-made
-returns-in-NewMapped-clause-made g c =
+pub returns-clause-made : goal.returns-clause-made
+returns-clause-made g c =
     on_ok_weaker c.write_new.result
     (λ made m m' at at'.
     by_maps (λ (x y : Map). ForSome (g.D.Disk.bytes c.args.disk.now) (λ was. ForSome (g.D.Disk.bytes c.write_new.new.disk)

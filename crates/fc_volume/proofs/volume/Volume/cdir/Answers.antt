@@ -26,7 +26,8 @@ use Rattle.fc_volume.specs.Volume.{HasCopies, HoldsMap, StandsFor, Volume, parts
 use Rattle.fc_volume.proofs.StandsLemmas.{new_layout}
 use Rattle.fc_volume.proofs.ChangeLemmas.{ok_both, ok_then, only_faults, places_written, unless_fault, writes_nothing}
 use Rattle.fc_volume.proofs.JudgedLemmas.{done_by, refused_by}
-use Rattle.fc_volume.proofs.CdirAskedLemmas.{admitted_from, answered, asked, by_judge, by_space, can_store, kept_as_it_was, kept_from, no_memory, no_owner, object_on_disk, on_disk, ready, some, space_answer, space_answered, there, unless_any}
+use Rattle.fc_volume.proofs.AdmittingLemmas.{admitted_from, kept_from}
+use Rattle.fc_volume.proofs.CdirAskedLemmas.{answered, asked, by_judge, by_space, can_store, kept_as_it_was, no_memory, no_owner, object_on_disk, on_disk, ready, some, space_answer, space_answered, there, unless_any}
 use Rattle.fc_volume.proofs.CdirVolumeLemmas.{has_changed, places_of, same_nodes, stands_now}
 use Rattle.fc_volume.proofs.volume.Volume.cdir.Goals as goal
 
@@ -76,19 +77,19 @@ admit-requires g c =
 pub make-requires-clause-size : goal.make-requires-clause-size
 make-requires-clause-size g c =
     let number = c.next_number-n.ensures.number ∙ ap (λ (x : Volume). next_number x.tree) c.self.view_is in
-    let adm = admitted_from _ c.args.self.now c.admit.new.self c.next_number-n.new.self c.next_number-n.result (next_number c.args.self.now.tree) c.in-Ok-draft_cdir.change c.next_number-n.ensures.same c.self.view_is number c.in-Ok-admit.ensures.ok in
+    let adm = admitted_from _ c.args.self.now c.admit.new.self c.next_number-n.new.self c.next_number-n.result (next_number c.args.self.now.tree) c.in-Ok-draft_cdir.change.directory.node c.in-Ok-draft_cdir.change.entry c.next_number-n.ensures.same c.self.view_is number c.in-Ok-admit.ensures.ok in
     c.requires.stands.size ∙ ap (λ (x : Space). sector_bytes (layout_of x)) (sym adm.space)
 
 pub make-requires-clause-map_room : goal.make-requires-clause-map_room
 make-requires-clause-map_room g c =
     let number = c.next_number-n.ensures.number ∙ ap (λ (x : Volume). next_number x.tree) c.self.view_is in
-    let adm = admitted_from _ c.args.self.now c.admit.new.self c.next_number-n.new.self c.next_number-n.result (next_number c.args.self.now.tree) c.in-Ok-draft_cdir.change c.next_number-n.ensures.same c.self.view_is number c.in-Ok-admit.ensures.ok in
+    let adm = admitted_from _ c.args.self.now c.admit.new.self c.next_number-n.new.self c.next_number-n.result (next_number c.args.self.now.tree) c.in-Ok-draft_cdir.change.directory.node c.in-Ok-draft_cdir.change.entry c.next_number-n.ensures.same c.self.view_is number c.in-Ok-admit.ensures.ok in
     subst (λ (x : Space). HoldsMap (layout_of x) (g.D.Disk.sectors c.args.disk.now)) (sym adm.space) c.requires.stands.map_room
 
 pub make-requires-clause-known : goal.make-requires-clause-known
 make-requires-clause-known g c =
     let number = c.next_number-n.ensures.number ∙ ap (λ (x : Volume). next_number x.tree) c.self.view_is in
-    let adm = admitted_from _ c.args.self.now c.admit.new.self c.next_number-n.new.self c.next_number-n.result (next_number c.args.self.now.tree) c.in-Ok-draft_cdir.change c.next_number-n.ensures.same c.self.view_is number c.in-Ok-admit.ensures.ok in
+    let adm = admitted_from _ c.args.self.now c.admit.new.self c.next_number-n.new.self c.next_number-n.result (next_number c.args.self.now.tree) c.in-Ok-draft_cdir.change.directory.node c.in-Ok-draft_cdir.change.entry c.next_number-n.ensures.same c.self.view_is number c.in-Ok-admit.ensures.ok in
     λ x told.
     subst (λ (k : Copies). HasCopies k (layout_of c.admit.new.self.space) x) (sym adm.copies)
     (subst (λ (y : Space). HasCopies c.args.self.now.copies (layout_of y) x) (sym adm.space) (c.requires.stands.copies x told))
@@ -96,13 +97,13 @@ make-requires-clause-known g c =
 pub make-requires-clause-new_map : goal.make-requires-clause-new_map
 make-requires-clause-new_map g c =
     let number = c.next_number-n.ensures.number ∙ ap (λ (x : Volume). next_number x.tree) c.self.view_is in
-    let adm = admitted_from _ c.args.self.now c.admit.new.self c.next_number-n.new.self c.next_number-n.result (next_number c.args.self.now.tree) c.in-Ok-draft_cdir.change c.next_number-n.ensures.same c.self.view_is number c.in-Ok-admit.ensures.ok in
+    let adm = admitted_from _ c.args.self.now c.admit.new.self c.next_number-n.new.self c.next_number-n.result (next_number c.args.self.now.tree) c.in-Ok-draft_cdir.change.directory.node c.in-Ok-draft_cdir.change.entry c.next_number-n.ensures.same c.self.view_is number c.in-Ok-admit.ensures.ok in
     subst (λ (x : Space). IsNewLayout (layout_of x)) (sym adm.space) c.requires.new_map
 
 pub make-requires-clause-object : goal.make-requires-clause-object
 make-requires-clause-object g c = λ m at.
     let number = c.next_number-n.ensures.number ∙ ap (λ (x : Volume). next_number x.tree) c.self.view_is in
-    let adm = admitted_from _ c.args.self.now c.admit.new.self c.next_number-n.new.self c.next_number-n.result (next_number c.args.self.now.tree) c.in-Ok-draft_cdir.change c.next_number-n.ensures.same c.self.view_is number c.in-Ok-admit.ensures.ok in
+    let adm = admitted_from _ c.args.self.now c.admit.new.self c.next_number-n.new.self c.next_number-n.result (next_number c.args.self.now.tree) c.in-Ok-draft_cdir.change.directory.node c.in-Ok-draft_cdir.change.entry c.next_number-n.ensures.same c.self.view_is number c.in-Ok-admit.ensures.ok in
     let here = ap layout_of (sym adm.space) ∙ at in
     let inner = ap (λ (x : Volume). layout_of x.space) c.self.view_is ∙ here in
     let good = subst (λ (f : NameForm). is_writable f (last_name c.args.p.now) ≡ Rattle.std.proofs.Common.true) (c.dir_form.ensures ∙ ap dir_form inner) c.in-Ok.ensures.name in
@@ -129,7 +130,7 @@ pub make-requires-clause-directory : goal.make-requires-clause-directory
 make-requires-clause-directory g c =
     let map = new_layout (parts_of c.args.self.now).layout c.requires.new_map in
     let number = c.next_number-n.ensures.number ∙ ap (λ (x : Volume). next_number x.tree) c.self.view_is in
-    let adm = admitted_from _ c.args.self.now c.admit.new.self c.next_number-n.new.self c.next_number-n.result (next_number c.args.self.now.tree) c.in-Ok-draft_cdir.change c.next_number-n.ensures.same c.self.view_is number c.in-Ok-admit.ensures.ok in
+    let adm = admitted_from _ c.args.self.now c.admit.new.self c.next_number-n.new.self c.next_number-n.result (next_number c.args.self.now.tree) c.in-Ok-draft_cdir.change.directory.node c.in-Ok-draft_cdir.change.entry c.next_number-n.ensures.same c.self.view_is number c.in-Ok-admit.ensures.ok in
     let inner = ap (λ (x : Volume). layout_of x.space) c.self.view_is ∙ map.1 in
     let good = subst (λ (f : NameForm). is_writable f (last_name c.args.p.now) ≡ Rattle.std.proofs.Common.true) (c.dir_form.ensures ∙ ap dir_form inner) c.in-Ok.ensures.name in
     let made = c.in-Ok-draft_cdir.ensures.ready map.0 inner in
@@ -139,7 +140,7 @@ make-requires-clause-directory g c =
 pub make-requires-clause-room : goal.make-requires-clause-room
 make-requires-clause-room g c =
     let number = c.next_number-n.ensures.number ∙ ap (λ (x : Volume). next_number x.tree) c.self.view_is in
-    let adm = admitted_from _ c.args.self.now c.admit.new.self c.next_number-n.new.self c.next_number-n.result (next_number c.args.self.now.tree) c.in-Ok-draft_cdir.change c.next_number-n.ensures.same c.self.view_is number c.in-Ok-admit.ensures.ok in
+    let adm = admitted_from _ c.args.self.now c.admit.new.self c.next_number-n.new.self c.next_number-n.result (next_number c.args.self.now.tree) c.in-Ok-draft_cdir.change.directory.node c.in-Ok-draft_cdir.change.entry c.next_number-n.ensures.same c.self.view_is number c.in-Ok-admit.ensures.ok in
     subst (λ (t : Numbers). 0 < t.room) (sym adm.tree) (omega arith)
 
 pub returns-in-Ok-admit-clause-refused : goal.returns-in-Ok-admit-clause-refused
@@ -156,7 +157,7 @@ pub returns-in-Ok-admit-clause-changed : goal.returns-in-Ok-admit-clause-changed
 returns-in-Ok-admit-clause-changed g c =
     let map = new_layout (parts_of c.args.self.now).layout c.requires.new_map in
     let number = c.next_number-n.ensures.number ∙ ap (λ (x : Volume). next_number x.tree) c.self.view_is in
-    let adm = admitted_from _ c.args.self.now c.admit.new.self c.next_number-n.new.self c.next_number-n.result (next_number c.args.self.now.tree) c.in-Ok-draft_cdir.change c.next_number-n.ensures.same c.self.view_is number c.in-Ok-admit.ensures.ok in
+    let adm = admitted_from _ c.args.self.now c.admit.new.self c.next_number-n.new.self c.next_number-n.result (next_number c.args.self.now.tree) c.in-Ok-draft_cdir.change.directory.node c.in-Ok-draft_cdir.change.entry c.next_number-n.ensures.same c.self.view_is number c.in-Ok-admit.ensures.ok in
     let free = subst (λ (k : ℕ). get (nodes_of c.args.self.now.tree) k ≡ None) number (subst (λ (x : Volume). get (nodes_of x.tree) c.next_number-n.result ≡ None) c.self.view_is c.next_number-n.ensures.free) in
     let inner = ap (λ (x : Volume). layout_of x.space) c.self.view_is ∙ map.1 in
     let good = subst (λ (f : NameForm). is_writable f (last_name c.args.p.now) ≡ Rattle.std.proofs.Common.true) (c.dir_form.ensures ∙ ap dir_form inner) c.in-Ok.ensures.name in
@@ -170,7 +171,7 @@ pub returns-in-Ok-admit-clause-places : goal.returns-in-Ok-admit-clause-places
 returns-in-Ok-admit-clause-places g c =
     let map = new_layout (parts_of c.args.self.now).layout c.requires.new_map in
     let number = c.next_number-n.ensures.number ∙ ap (λ (x : Volume). next_number x.tree) c.self.view_is in
-    let adm = admitted_from _ c.args.self.now c.admit.new.self c.next_number-n.new.self c.next_number-n.result (next_number c.args.self.now.tree) c.in-Ok-draft_cdir.change c.next_number-n.ensures.same c.self.view_is number c.in-Ok-admit.ensures.ok in
+    let adm = admitted_from _ c.args.self.now c.admit.new.self c.next_number-n.new.self c.next_number-n.result (next_number c.args.self.now.tree) c.in-Ok-draft_cdir.change.directory.node c.in-Ok-draft_cdir.change.entry c.next_number-n.ensures.same c.self.view_is number c.in-Ok-admit.ensures.ok in
     let free = subst (λ (k : ℕ). get (nodes_of c.args.self.now.tree) k ≡ None) number (subst (λ (x : Volume). get (nodes_of x.tree) c.next_number-n.result ≡ None) c.self.view_is c.next_number-n.ensures.free) in
     places_written g.D.Disk (Command.Cdir c.args.p.now) c.args.self.now c.args.disk.now c.make.new.disk _ (λ m at. c.make.ensures.exits m (ap layout_of adm.space ∙ at)) c.requires.new_map
     (λ kind view m was image opens held here written.
@@ -184,7 +185,7 @@ pub returns-in-Ok-admit-clause-keeps : goal.returns-in-Ok-admit-clause-keeps
 returns-in-Ok-admit-clause-keeps g c =
     let map = new_layout (parts_of c.args.self.now).layout c.requires.new_map in
     let number = c.next_number-n.ensures.number ∙ ap (λ (x : Volume). next_number x.tree) c.self.view_is in
-    let adm = admitted_from _ c.args.self.now c.admit.new.self c.next_number-n.new.self c.next_number-n.result (next_number c.args.self.now.tree) c.in-Ok-draft_cdir.change c.next_number-n.ensures.same c.self.view_is number c.in-Ok-admit.ensures.ok in
+    let adm = admitted_from _ c.args.self.now c.admit.new.self c.next_number-n.new.self c.next_number-n.result (next_number c.args.self.now.tree) c.in-Ok-draft_cdir.change.directory.node c.in-Ok-draft_cdir.change.entry c.next_number-n.ensures.same c.self.view_is number c.in-Ok-admit.ensures.ok in
     let free = subst (λ (k : ℕ). get (nodes_of c.args.self.now.tree) k ≡ None) number (subst (λ (x : Volume). get (nodes_of x.tree) c.next_number-n.result ≡ None) c.self.view_is c.next_number-n.ensures.free) in
     let inner = ap (λ (x : Volume). layout_of x.space) c.self.view_is ∙ map.1 in
     let good = subst (λ (f : NameForm). is_writable f (last_name c.args.p.now) ≡ Rattle.std.proofs.Common.true) (c.dir_form.ensures ∙ ap dir_form inner) c.in-Ok.ensures.name in
@@ -246,7 +247,7 @@ pub returns-in-Ok-admit-clause-form_stays : goal.returns-in-Ok-admit-clause-form
 returns-in-Ok-admit-clause-form_stays g c =
     let map = new_layout (parts_of c.args.self.now).layout c.requires.new_map in
     let number = c.next_number-n.ensures.number ∙ ap (λ (x : Volume). next_number x.tree) c.self.view_is in
-    let adm = admitted_from _ c.args.self.now c.admit.new.self c.next_number-n.new.self c.next_number-n.result (next_number c.args.self.now.tree) c.in-Ok-draft_cdir.change c.next_number-n.ensures.same c.self.view_is number c.in-Ok-admit.ensures.ok in
+    let adm = admitted_from _ c.args.self.now c.admit.new.self c.next_number-n.new.self c.next_number-n.result (next_number c.args.self.now.tree) c.in-Ok-draft_cdir.change.directory.node c.in-Ok-draft_cdir.change.entry c.next_number-n.ensures.same c.self.view_is number c.in-Ok-admit.ensures.ok in
     let mid = ap layout_of adm.space ∙ map.1 in
     unless_fault c.make.result _
     (ok_then c.make.result _ _

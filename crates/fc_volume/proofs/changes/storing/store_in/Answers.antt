@@ -4,7 +4,7 @@ use Rattle.fc_device.proofs.StopLemmas.{keeps_same}
 use Rattle.fc_device.specs.Calls.{StopsAndExitsLeave}
 use Rattle.fc_objects.specs.Extents.{sectors_in}
 use Rattle.fc_objects.specs.Written.{IsPartWritten}
-use Rattle.fc_oldvolume.proofs.writing.store.Goals as goal
+use Rattle.fc_volume.proofs.changes.storing.store_in.Goals as goal
 
 pub returns-in_err-sync-clause-keeps : goal.returns-in_err-sync-clause-keeps
 returns-in_err-sync-clause-keeps g c =

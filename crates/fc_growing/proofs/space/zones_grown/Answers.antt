@@ -5,7 +5,7 @@ use Rattle.fc_newmap.proofs.HeldLemmas.{geometry_facts}
 use Rattle.fc_plan.specs.Applied.{is_changed}
 use Rattle.fc_growing.specs.Space.{AreZonesOf, with_zone_0}
 use Rattle.fc_growing.proofs.SpaceLemmas.{listed, unlisted, zones_alone, zones_rooted}
-use Rattle.fc_growing.proofs.space.zones_of.Goals as goal
+use Rattle.fc_growing.proofs.space.zones_grown.Goals as goal
 
 pub returns-then-root : goal.returns-then-root
 returns-then-root c =

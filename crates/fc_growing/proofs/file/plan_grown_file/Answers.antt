@@ -7,8 +7,8 @@ use Rattle.fc_placing.specs.Places.{address_in, slack_left}
 use Rattle.fc_growing.specs.File.{own_bytes, placing_in}
 use Rattle.fc_growing.specs.Place.{IsGrowthPlanned, IsObjectSpace}
 use Rattle.fc_growing.proofs.FileLemmas.{again, few, with_object}
-use Rattle.fc_growing.proofs.file.plan_file.Goals as goal
-use Rattle.fc_growing.proofs.file.plan_file.Goals.{In_ok-planned}
+use Rattle.fc_growing.proofs.file.plan_grown_file.Goals as goal
+use Rattle.fc_growing.proofs.file.plan_grown_file.Goals.{In_ok-planned}
 
 -- what slack there is
 shared : (c : In_ok-planned) → option_map place_in c.in_ok-share.share ≡ slack_left c.args.map.now c.args.owners.now c.args.dir c.args.bytes

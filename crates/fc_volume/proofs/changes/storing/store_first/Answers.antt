@@ -1,4 +1,4 @@
-use Rattle.std.proofs.Common.{ℕ, List, refl}
+use Rattle.std.proofs.Common.{ℕ, List}
 use Rattle.std.proofs.lemmas.Result.{on_ok_weaker}
 use Rattle.fc_device.proofs.DiskLaws.{laws}
 use Rattle.fc_device.proofs.StopLemmas.{keeps_then, keeps_weaker, led}
@@ -6,7 +6,7 @@ use Rattle.fc_objects.specs.Extents.{sectors_in}
 use Rattle.fc_volume.proofs.RepairedLemmas.{keeps_told}
 use Rattle.fc_volume.proofs.StoringLemmas.{first_stored}
 use Rattle.fc_volume.proofs.WritingLemmas.{copies_written, part_written, written_then}
-use Rattle.fc_volume.proofs.changes.filing.store_first.Goals as goal
+use Rattle.fc_volume.proofs.changes.storing.store_first.Goals as goal
 
 pub returns-in_err-match_copies-clause-keeps : goal.returns-in_err-match_copies-clause-keeps
 returns-in_err-match_copies-clause-keeps g c =
@@ -26,5 +26,5 @@ returns-clause-stored g c =
     (λ stored was told image told'.
     let mid = led (laws g.met.D.Disk) c.store.ensures.keeps image told' in
     let start = led (laws g.met.D.Disk) c.match_copies.ensures.keeps mid.0 mid.1 in
-    first_stored g.D.Disk c.args.disk.now c.args.map.now c.args.copies was told c.requires.known start.0 start.1 mid.0 image start.2 (c.in_ok-match_copies.ensures.equal mid.0 mid.1)
-    {place = c.args.place.now} {place' = c.args.place.now} refl refl (stored mid.0 mid.1 image told')) c.store.ensures.stored
+    first_stored g.D.Disk c.args.disk.now c.args.map.now (sectors_in c.args.place.now) c.args.bytes.now c.args.copies was told c.requires.known start.0 start.1 mid.0 image start.2 (c.in_ok-match_copies.ensures.equal mid.0 mid.1)
+    (stored mid.0 mid.1 image told')) c.store.ensures.stored
