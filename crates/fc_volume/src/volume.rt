@@ -50,10 +50,11 @@ impl Volume {
         &self.owners
     }
 
-    /// Makes the index of the map again, which a change of the map drops. If memory is short, places are found as before.
+    /// Before a file's place is looked for: makes the index of the map again, which a change drops, if a place was looked for since. If
+    /// memory is short, places are found as before.
     pub fn renew_index(&mut self, alloc: Global)
         ensures { self.new ≡ self.old }
     {
-        let _ = self.places.index(alloc);
+        self.places.renew_index(alloc);
     }
 }
