@@ -194,7 +194,8 @@ pub fn take_over_name(volume: &mut Volume, change: Naming)
     ensures { HasTakenName volume.old volume.new change }
 {
     let growing = change.growing;
-    let place = growing.growth.place;
+    let growth = growing.growth;
+    let place = growth.place;
     let grown = Regrowth {
         node: growing.node,
         address: place.address,
@@ -212,7 +213,7 @@ pub fn take_over_name(volume: &mut Volume, change: Naming)
         node: growing.node,
         draft: growing.draft,
         place: place.place,
-        bytes: growing.growth.bytes,
+        bytes: growth.bytes,
     };
     let object = Relocation {
         holder,
