@@ -55,9 +55,7 @@ fn find_grown_place(
     ensures refused { AnswersSpace result (short_of map.now (own_bytes (slack_left map.now owners.now dir bytes) bytes) (is_alone_by owners.now dir address)
         (if has_room_by map.now owners.now dir address len then 0 else len)) }
 {
-    Ok(plan_grown_file(
-        alloc, places, map, owners, dir, address, len, bytes,
-    )?)
+    Ok(plan_grown_file(alloc, places, map, owners, dir, address, len, bytes)?)
 }
 
 // The sectors of a file of so many bytes at its place: in slack those that it has there already, else those of its own space.

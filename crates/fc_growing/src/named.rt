@@ -72,9 +72,7 @@ pub(crate) fn plan_for(
         → AnswersSpace result (short_of map.now bytes (is_alone_by owners.now dir node.entry.address) (if has_room_by map.now owners.now dir node.entry.address len then 0 else len)) }
 {
     let address = tree.node(dir).unwrap().entry.address;
-    Ok(plan_growth(
-        alloc, places, map, owners, dir, copied, address, len, bytes,
-    )?)
+    Ok(plan_growth(alloc, places, map, owners, dir, copied, address, len, bytes)?)
 }
 
 // Makes another name for a target in its directory ready, which grows by it to `len` bytes, or says why there is no space.
