@@ -37,7 +37,7 @@ use Rattle.fc_refusals.specs.Targets.{IsVacant}
 use Rattle.fc_space.specs.Space.{PlacesSuffice, layout_of}
 use Rattle.fc_tree.specs.declared.node.Node.{Node}
 use Rattle.fc_tree.specs.Agree.{Agree, HasForm}
-use Rattle.fc_tree.specs.Nodes.{HoldObjects, Numbers, body_in, body_of, nodes_of}
+use Rattle.fc_tree.specs.Nodes.{HoldObjects, body_in, body_of, nodes_of}
 use Rattle.fc_tree.specs.Parts.{AreOwners, ArePartsOf, Parts, owner_of}
 use Rattle.fc_tree.proofs.WalkedLemmas.{find_only, listed_directory, one_listing, place_of}
 use Rattle.fc_volume.specs.declared.lines.CommandError.{CommandError}
@@ -50,7 +50,6 @@ use Rattle.fc_volume.proofs.JudgedLemmas.{refused_by}
 use Rattle.fc_volume.proofs.PieceLemmas.{all_low}
 use Rattle.fc_volume.proofs.TargetLemmas as target_of
 use Rattle.fc_oldvolume.specs.declared.making.Making.{Making}
-use Rattle.fc_volume.specs.Admitting.{IsAdmitted}
 use Rattle.fc_oldvolume.specs.Changing.{ChangeKeeps, IsOldLayout}
 use Rattle.fc_oldvolume.specs.Making.{CanGain, CanMakeIn, IsMakingReady}
 use Rattle.fc_oldvolume.specs.MakingLaws.{MakingLaws}

@@ -9,7 +9,6 @@ use Rattle.fc_names.specs.Names.{Path, is_writable}
 use Rattle.fc_oldmap.specs.OldMap.{OldMapContent, IsOldMap}
 use Rattle.fc_model.specs.Command.{Command}
 use Rattle.fc_model.specs.Tree.{last_name}
-use Rattle.fc_dirs.specs.declared.Entry.{Entry}
 use Rattle.fc_dirs.specs.Directory.{Directory}
 use Rattle.fc_drafts.specs.Draft.{CanAddress}
 use Rattle.fc_image.specs.effects.Short.{gain_of, new_length, replaced_object, short}
@@ -23,7 +22,7 @@ use Rattle.fc_objects.specs.Extents.{sectors_in}
 use Rattle.fc_space.specs.Space.{PlacesSuffice, layout_of}
 use Rattle.fc_tree.specs.declared.node.Node.{Node}
 use Rattle.fc_tree.specs.Agree.{Agree, HasForm}
-use Rattle.fc_tree.specs.Nodes.{Numbers, body_in, nodes_of}
+use Rattle.fc_tree.specs.Nodes.{body_in, nodes_of}
 use Rattle.fc_tree.specs.Parts.{ArePartsOf, Parts}
 use Rattle.fc_tree.proofs.WalkedLemmas.{listed_directory}
 use Rattle.fc_refusals.specs.declared.target.Slot.{Slot}
@@ -38,7 +37,6 @@ use Rattle.fc_volume.proofs.SavingLemmas.{of_both}
 use Rattle.fc_volume.proofs.SettingLemmas.{one_content}
 use Rattle.fc_volume.proofs.TargetLemmas as target_of
 use Rattle.fc_oldvolume.specs.declared.putting.NewFile.{NewFile}
-use Rattle.fc_volume.specs.Admitting.{IsAdmitted}
 use Rattle.fc_oldvolume.specs.Filing.{CanPutIn, IsFileReady, WantsFile}
 use Rattle.fc_oldvolume.specs.FilingLaws.{FilingLaws}
 use Rattle.fc_oldvolume.specs.Making.{CanGain}
