@@ -1,20 +1,15 @@
 //! `fcore IMAGE < script`: runs a script over an image of an Acorn FileCore disc, and writes the replies.
 #![tactic(auto)]
 
-mod file_disk;
-mod opened;
-mod streams;
-
 use fc_cache::CachedDisk;
+use fc_files::{FileDisk, StdSink, StdSource};
 use fc_shell::{End, run};
-use file_disk::FileDisk;
 use std::alloc::Global;
 use std::fs::{self, File};
 use std::io::ErrorKind;
 use std::os::fd::AsFd;
 use std::process::ExitCode;
 use std::{env, io};
-use streams::{StdSink, StdSource};
 
 // The words after the program's name.
 fn words(rt: &HostRuntime, alloc: Global) -> io::Result<Vec<String>> {
@@ -35,7 +30,7 @@ fn is_open(stream: &impl AsFd) -> bool {
 }
 
 // Takes the descriptor of a stream that is closed, the lowest one that is free: else a file that is opened later would have it,
-// and replies would be written into it. A folder has it, which can be opened where there is no /dev, and of which each read and
+// and replies would be written into it. A folder has it, which can be opened even if there is no /dev, and of which each read and
 // each write fails: so an absent script isn't taken for an empty one, and no reply gets lost unseen.
 fn hold(rt: &HostRuntime, stream: &impl AsFd) -> io::Result<Option<File>> {
     if is_open(stream) {
@@ -74,10 +69,3 @@ fn main(rt: HostRuntime) -> ExitCode {
     let end = run(alloc, &words, &mut disk, &mut script, &mut out);
     ExitCode::from(end.status())
 }
-
-#[cfg(test)]
-mod mounts;
-#[cfg(test)]
-mod runs;
-#[cfg(test)]
-mod tests;

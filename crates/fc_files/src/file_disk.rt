@@ -1,4 +1,4 @@
-// A disk over a real file. It tells nothing of its content, nor of what a stop of the machine leaves.
+// A disk over a real file. It makes nothing known of its content, nor of what a crash of the machine leaves.
 ghost use Rattle.std.specs.Prelude.{[], ◌≡◌, ◌<◌, ◌^◌, ◌/◌, ◌||◌, ◌==◌, true, false, None, IsTrue, refl};
 ghost use Rattle.fc_device.specs.Faults.{HasCause};
 ghost use Rattle.fc_device.specs.Untold.{not_some, not_true};
@@ -11,9 +11,9 @@ use std::rt::Files;
 
 /// A disk over a file of the machine.
 ///
-/// A file that is there is opened for reading alone. The first write opens it for writing, and fails where its name leads
-/// to another file by then. A file that the disk made goes with the disk where no sync has succeeded since. A sync that
-/// failed is never made good: the system may have given up what was written, and each later one fails too.
+/// A file that is there is opened for reading alone. The first write opens it for writing, and fails if its name leads to another
+/// file by then. A file that the disk made goes with the disk if no sync has succeeded since. A sync that failed is never made
+/// good: the system may have given up what was written, and each later one fails too.
 #[derive(Drop)]
 pub struct FileDisk<R: Files + Drop>
 where
@@ -37,9 +37,10 @@ impl<R: Files + Drop> FileDisk<R>
 where
     R::File: FileExt,
 {
-    /// No file is open yet, and none was asked for.
+    /// No file is open yet, none was asked for, and no call has failed. Files are opened with the rights of `rt`.
     pub fn new(rt: R) -> FileDisk<R>
-        ensures { result.asks.list ≡ [] }
+        ensures asks { result.asks.list ≡ [] }
+        ensures fresh { (result.attached ≡ false) × (result.pending ≡ false) × (result.faults ≡ 0) }
     {
         FileDisk {
             edge: Edge::new(rt),

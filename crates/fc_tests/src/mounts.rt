@@ -1,6 +1,5 @@
 // Images by hand, good ones and one for each fault that mounting itself decides. The checks were worked out by another
 // program.
-
 use fc_device::{Disk, Failing, MemoryDisk};
 use fc_image::ImageFault;
 use fc_volume::{MountError, Volume};

@@ -128,7 +128,7 @@ fn image_of(alloc: Global, disc: &Disc) -> Result<Vec<u8>, Fail> {
     Ok(image)
 }
 
-// The image with `Hello`, where some of its bytes are others.
+// The image with `Hello`, some of its bytes changed.
 fn hello(alloc: Global, others: &[(usize, u8)]) -> Result<Vec<u8>, Fail> {
     let mut image = image_of(alloc, &HELLO)?;
     change(&mut image, others);

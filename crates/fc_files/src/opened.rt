@@ -36,7 +36,7 @@ fn is_not_given(kind: ErrorKind, make: bool) -> bool {
     }
 }
 
-// None where the name isn't given.
+// None if the name isn't given.
 fn if_given(found: io::Result<u64>, make: bool) -> io::Result<Option<u64>>
     ensures { IfOk result (λ given. IfSome given (λ length. found ≡ Ok length)) }
 {
@@ -104,7 +104,7 @@ struct Opened<F: Drop> {
     lost: bool,
 }
 
-// Takes a file away that this run made and didn't finish. Where its name leads to another by now, that one stays.
+// Takes a file away that this run made and didn't finish. If its name leads to another by now, that one stays.
 fn take_away<R: Files>(rt: &R, opened: &Opened<R::File>) {
     if !opened.unfinished {
         return;
@@ -121,7 +121,7 @@ fn take_away<R: Files>(rt: &R, opened: &Opened<R::File>) {
     }
 }
 
-// Opens a file that is there, for reading alone. None is opened, and so there is nothing to read, where neither a file nor
+// Opens a file that is there, for reading alone. None is opened, and so there is nothing to read, if neither a file nor
 // a folder has the name: a pipe would wait for its other end, and a device may act on it.
 fn open_given<R: Files>(rt: &R, name: &str) -> io::Result<Option<Opened<R::File>>> {
     let kept = kept_name(name)?;
@@ -184,7 +184,7 @@ fn opened_to_write<R: Files>(rt: &R, opened: &Opened<R::File>) -> io::Result<R::
     }
 }
 
-// The file of a disk, where one is open.
+// The file of a disk, if one is open.
 pub struct Edge<R: Files + Drop>
 where
     R::File: FileExt,
@@ -213,7 +213,7 @@ where
         Edge { rt, opened: None }
     }
 
-    // The length of the image that was opened or made, and None where the name isn't given.
+    // The length of the image that was opened or made, and None if the name isn't given.
     pub fn open(&mut self, name: &str, blank: Option<u64>) -> io::Result<Option<u64>>
         ensures { IfOk result (λ given. IfSome given (λ length. ForSome blank (λ n. length ≡ n))) }
     {

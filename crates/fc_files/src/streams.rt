@@ -1,5 +1,5 @@
-// The standard streams as source and sink. Nothing is claimed of what they give and take.
-ghost use Rattle.std.specs.Prelude.{◌<◌, ◌^◌, None};
+// Streams as source and sink. Nothing is claimed of what they give and take.
+ghost use Rattle.std.specs.Prelude.{◌≡◌, ◌<◌, ◌^◌, None};
 ghost use Rattle.std.specs.Io.{ReadsAtMost, WritesAtMost};
 
 use fc_device::{Failed, Sink, Source};
@@ -31,7 +31,7 @@ fn write_some<W: Write>(writer: &mut W, from: &[u8]) -> io::Result<usize>
     Err(io::Error::from(ErrorKind::TimedOut))
 }
 
-/// A source over a reader.
+/// A source over a reader. A read that the system interrupts is tried again; another that fails is a fault.
 #[derive(Drop)]
 pub struct StdSource<R: Read + Drop> {
     reader: R,
@@ -41,7 +41,9 @@ pub struct StdSource<R: Read + Drop> {
 
 impl<R: Read + Drop> StdSource<R> {
     /// No call has failed yet.
-    pub fn new(reader: R) -> StdSource<R> {
+    pub fn new(reader: R) -> StdSource<R>
+        ensures { result.faults ≡ 0 }
+    {
         StdSource { reader, faults: 0 }
     }
 }
@@ -64,7 +66,7 @@ impl<R: Read + Drop> Source for StdSource<R> {
     ghost faults_fit = { λ s. s.few };
 }
 
-/// A sink over a writer.
+/// A sink over a writer. A write that the system interrupts is tried again; another that fails, or takes no byte, is a fault.
 #[derive(Drop)]
 pub struct StdSink<W: Write + Drop> {
     writer: W,
@@ -74,7 +76,9 @@ pub struct StdSink<W: Write + Drop> {
 
 impl<W: Write + Drop> StdSink<W> {
     /// No call has failed yet.
-    pub fn new(writer: W) -> StdSink<W> {
+    pub fn new(writer: W) -> StdSink<W>
+        ensures { result.faults ≡ 0 }
+    {
         StdSink { writer, faults: 0 }
     }
 }

@@ -42,7 +42,7 @@ fn fault_of(kind: usize, number: u64) -> Faults {
     }
 }
 
-// The first number of a kind at which a script makes no call any more. 0 if a call before, where it fails, doesn't end the run with
+// The first number of a kind at which a script makes no call any more. 0 if a call before, if it fails, doesn't end the run with
 // a part of the text.
 fn failing(
     alloc: Global,

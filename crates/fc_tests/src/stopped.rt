@@ -1,7 +1,6 @@
-// What a crash leaves of a disk in memory, on a worked case: the program has no such disk, and the crashes in the tests of fcore
-// rest on it.
-
-use super::*;
+// What a crash leaves of a disk in memory, on a worked case: the program has no such disk, and the crashes in the runs here rest
+// on it.
+use fc_device::{Disk, Failing, MemoryDisk};
 use std::alloc::Global;
 use std::test::Fail;
 

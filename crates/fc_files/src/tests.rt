@@ -99,7 +99,7 @@ fn a_name_is_given_or_not(rt: HostRuntime) -> Result<(), Fail> {
     Ok(())
 }
 
-// Writes bytes of one value to a sector, where there is such a one.
+// Writes bytes of one value to a sector, if there is such a one.
 fn put<D: Disk>(disk: &mut D, n: u64, byte: u8) -> Result<bool, Failed>
     requires attached { IsTrue (D.attached disk.old) }
     requires size { D.sector_size disk.old ≡ 512 }

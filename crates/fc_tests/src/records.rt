@@ -1,7 +1,7 @@
 // Records whose bytes were worked out by other programs, and the faults of others: the program shows no more of these than the
 // offset of a wrong root.
-use crate::measures::geometry;
-use crate::{RecordFault, read_record};
+use fc_record::measures::geometry;
+use fc_record::{RecordFault, read_record};
 use std::test::Fail;
 
 const RECORD_E: &[u8] = b"\x0a\x05\x02\x02\x0f\x07\x01\0\0\x01\x20\x05\x03\x02\0\0\0\x80\x0c";
