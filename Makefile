@@ -5,7 +5,7 @@ PROGRAM = crates/fcore/out/fcore
 INSTALLED = $(DESTDIR)$(PREFIX)
 PAGES = $(wildcard man/*.1 man/*.5)
 
-.PHONY: all build install uninstall demo test bench
+.PHONY: all build install uninstall demo test edits bench
 
 all: build
 
@@ -41,6 +41,10 @@ LANES = $(shell awk -v most=$$(nproc) '/MemAvailable/ {n = int($$2 / 4000000); p
 test:
 	RT_JOBS=$(LANES) rt ci
 	tools/check_program.sh $(PROGRAM)
+
+# Wrong bodies whose checks are too dear for the gate, or those of some crates, as by make edits EDITS=fc_growing
+edits:
+	tools/try_edits.sh $(EDITS)
 
 # The rates of the lower layers and the time of compact, or of those that are named, as by make bench BENCHES=checks
 BENCHES = $(LAYERS) compact

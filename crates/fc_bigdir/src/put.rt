@@ -6,8 +6,8 @@ ghost use Rattle.fc_dirs.specs.Entries.{padded_name};
 ghost use Rattle.fc_bigdir.specs.Laws.{AreBytes, HasWords};
 ghost use Rattle.fc_dirs.specs.BigBytes.{entries_bytes, entry_bytes};
 
-use fc_bytes::put;
-use fc_dirs::{Entry, put_zeros};
+use fc_bytes::{put, put_zeros};
+use fc_dirs::Entry;
 
 // Writes a number in four bytes.
 pub fn put_word(b: &mut [u8], at: usize, word: u32) -> usize

@@ -13,7 +13,8 @@ use crate::entries::{read_entries, read_places};
 use crate::frame::{entries_start, read_frame};
 use crate::space::{ENTRY, HEAD};
 use crate::twins::first_twin;
-use fc_dirs::{DirError, DirFault, Entry, array_at};
+use fc_bytes::array_at;
+use fc_dirs::{DirError, DirFault, Entry};
 use std::alloc::Global;
 
 // The bytes of the name in the head.

@@ -1,10 +1,11 @@
 // Entries, and where they stand among others.
 ghost use Rattle.std.specs.Prelude.{◌≡◌, ◌≤◌, length, IfOk};
 ghost use Rattle.fc_dirs.specs.Entries.{entry_place};
+ghost use Rattle.fc_names.specs.Names.{is_directory};
 
 use crate::Entry;
 use fc_device::NoMemory;
-use fc_names::{Name, fold_less};
+use fc_names::{Attrs, Name, fold_less};
 
 impl Entry {
     /// The same entry, with memory for its name.
@@ -12,6 +13,13 @@ impl Entry {
         ensures { IfOk result (λ copy. copy ≡ self.now) }
     {
         Ok(self.clone()?)
+    }
+
+    /// Whether it is a directory's entry.
+    pub fn is_directory(&self) -> bool
+        ensures { result ≡ is_directory self.now.attrs }
+    {
+        Attrs::new(self.attrs).is_directory()
     }
 }
 

@@ -23,7 +23,6 @@ use fc_alloc::Owners;
 use fc_device::{Disk, DiskFault, NoMemory};
 use fc_dirs::Entry;
 use fc_drafts::{made_entries, regrown_entry};
-use fc_names::Attrs;
 use fc_newmap::NewMap;
 use fc_space::Places;
 use fc_tree::{Body, Tree};
@@ -112,13 +111,6 @@ fn prepare_child(
     Rewrite::prepare(alloc, places, n, node, draft)
 }
 
-// Whether an entry is a directory's.
-fn is_directory(e: &Entry) -> bool
-    ensures { result ≡ is_directory e.now.attrs }
-{
-    Attrs::new(e.attrs).is_directory()
-}
-
 // Adds the object of an entry, if it is a directory.
 fn push_child(
     alloc: Global,
@@ -132,7 +124,7 @@ fn push_child(
     requires { is_directory e.now.attrs ≡ true → CanTurn (nodes_of tree.now) (layout_of places.now) dir parent e.now }
     ensures { OnOk result ((rs : List Rewrite) × AreTurned (nodes_of tree.now) (layout_of places.now) dir parent (subdirectories (e.now ∷ [])) rs × (around.new.items ≡ around.old.items ++ rs)) }
 {
-    if !is_directory(e) {
+    if !e.is_directory() {
         return Ok(());
     }
     let r = prepare_child(alloc, tree, places, dir, parent, e)?;

@@ -14,7 +14,7 @@ use fc_device::{Disk, DiskFault, Extent};
 /// extents, all of which lie on the disk, and none of the sectors is in both. `sector` has the bytes of a sector of the disk,
 /// and then holds anything. Takes a read call and a write call for each sector, and time that is linear in sectors and
 /// extents. After a crash and at every exit each sector is as before, or has its copy; no sector but those that are written
-/// changes. It fails only where the disk's read or write fails.
+/// changes. It fails only if the disk's read or write fails.
 pub fn copy_sectors<D: Disk>(
     disk: &mut D,
     from: &[Extent],

@@ -25,7 +25,7 @@ fn object_sector(at: &[Extent], sector: u64) -> u64
 
 /// Fills `into`, which has the bytes of a sector of the disk, with an object's sector of a number. The object is given
 /// by its extents, all of which lie on the disk, and has a sector of that number. Takes at most one read call, and time
-/// that is linear in the extents. It fails only where the disk's read fails; `into` then holds anything.
+/// that is linear in the extents. It fails only if the disk's read fails; `into` then holds anything.
 pub fn read_piece<D: Disk>(
     disk: &mut D,
     at: &[Extent],
@@ -47,7 +47,7 @@ pub fn read_piece<D: Disk>(
 
 /// Replaces an object's sector of a number, and no other sector. The object is given by its extents, all of which lie
 /// on the disk, and has a sector of that number. Takes one write call, and time that is linear in the extents. Until a
-/// sync, a stop may leave the old sector or the new one. It fails only where the disk's write fails; the sector is then
+/// sync, a crash may leave the old sector or the new one. It fails only if the disk's write fails; the sector is then
 /// as before or new.
 pub fn write_piece<D: Disk>(
     disk: &mut D,

@@ -49,7 +49,7 @@ impl<'a> ObjectReader<'a> {
     }
 
     /// Puts the next bytes of the object at the front of `into`, which has room for a sector at least, and answers how many;
-    /// 0 exactly at the object's end. It fails only where the disk's read fails; the next call then begins at the same byte.
+    /// 0 exactly at the object's end. It fails only if the disk's read fails; the next call then begins at the same byte.
     /// After the bytes, and after a failure, `into` may hold anything. Read calls that were made and sectors that are left don't
     /// grow in sum: if none fails, the whole object takes no more read calls than its bytes have sectors.
     pub fn read<D: Disk>(&mut self, disk: &mut D, into: &mut [u8]) -> Result<usize, DiskFault>

@@ -28,7 +28,7 @@ impl<'a> Sectors<'a> {
         }
     }
 
-    /// The next sectors that lie in a row, `most` of them at most; None exactly where none are ahead. They are not ahead
+    /// The next sectors that lie in a row, `most` of them at most; None exactly if none are ahead. They are not ahead
     /// afterwards.
     pub fn next_row(&mut self, most: u64) -> Option<Extent>
         requires most { 0 < most }

@@ -11,7 +11,7 @@ ghost use Rattle.fc_objects.specs.Written.{AreApart, HasParts, IsPartWritten, St
 use crate::sectors::Sectors;
 use fc_device::{Disk, DiskFault, Extent, MAX_SECTOR};
 
-// The first of these bytes as a sector; where there are fewer, zeros follow them.
+// The first of these bytes as a sector; if there are fewer, zeros follow them.
 fn sector_of(from: &[u8], size: usize) -> [u8; MAX_SECTOR]
     requires { size ≤ 1024 }
     ensures { take size result ≡ padded size from.now }
@@ -22,7 +22,7 @@ fn sector_of(from: &[u8], size: usize) -> [u8; MAX_SECTOR]
     bytes
 }
 
-// Replaces a sector by the first of these bytes; where there are fewer than it has, zeros follow them.
+// Replaces a sector by the first of these bytes; if there are fewer than it has, zeros follow them.
 fn write_front<D: Disk>(
     disk: &mut D,
     size: usize,
@@ -48,7 +48,7 @@ fn write_front<D: Disk>(
 /// Writes bytes into the sectors of an object, one after another, and zeros into what is left of them. Bytes for which the
 /// sectors have no room are left out. The object is given by its extents, all of which lie on the disk, and `size` is the
 /// bytes of a sector. No other sector changes. Until a sync, a crash may leave each of these sectors old or new, and so
-/// does a failure. It fails only where the disk's write fails.
+/// does a failure. It fails only if the disk's write fails.
 pub fn write_object<D: Disk>(
     disk: &mut D,
     size: usize,

@@ -5,7 +5,6 @@ ghost use Rattle.fc_bytes.specs.Words.{bytes_at};
 ghost use Rattle.fc_device.specs.Calls.{FailsByFault, SameForm, StopsAsBefore, OnlyReads};
 ghost use Rattle.fc_device.specs.Faults.{Rose};
 ghost use Rattle.fc_device.specs.Stops.{StillLeaves};
-ghost use Rattle.fc_checks.specs.Checks.{is_half_right};
 ghost use Rattle.fc_record.specs.Front.{HasMapOf};
 ghost use Rattle.fc_record.specs.Kinds.{is_boot, boot_record, is_old_map, kind_calls, kind_of, IsKind, Answers, FitsLength, front_reads, sectors_there};
 ghost use Rattle.fc_record.specs.Parts.{record_in_boot, record_in_map, kind_in_old_map};
@@ -14,7 +13,7 @@ ghost use Rattle.fc_record.specs.Record.{IsRecord};
 use crate::reads::fetch;
 use crate::{DiscRecord, Front, Kind, KindError, read_record};
 use fc_bytes::le24;
-use fc_checks::{boot_check, old_check, zone_check};
+use fc_checks::{boot_check, is_half_right, zone_check};
 use fc_device::{Disk, DiskFault};
 
 /// The units of a D disc.
@@ -57,14 +56,6 @@ fn record_in_map(sector: &[u8]) -> Option<DiscRecord>
         Ok(record) if record.log2_sector == 10 && record.zones == 1 => Some(record),
         _ => None,
     }
-}
-
-// Whether half of an old map has its check. The sum starts at 255 when it is written; 0 is accepted too.
-fn is_half_right(half: &[u8]) -> bool
-    requires { length half.now ≡ 256 }
-    ensures { result ≡ is_half_right half.now }
-{
-    half[255] == old_check(half, 255) || half[255] == old_check(half, 0)
 }
 
 // The kind of a disc with this old map.

@@ -2,7 +2,7 @@
 ghost use Rattle.std.specs.Prelude.{◌≡◌, option_map};
 ghost use Rattle.fc_model.specs.Tree.{holder};
 ghost use Rattle.fc_model.specs.Answer.{is_above, is_root};
-ghost use Rattle.fc_tree.specs.Nodes.{found_in, is_directory_node, nodes_of};
+ghost use Rattle.fc_tree.specs.Nodes.{found_in, nodes_of};
 ghost use Rattle.fc_refusals.specs.Places.{directory_found, entries_at, entries_in, has_entries_at, is_locked_node, number_found, own_name, place_of, target_in};
 
 use crate::target::Target;
@@ -53,16 +53,6 @@ pub fn own_name(path: &Path) -> Option<&[u8]>
     last
 }
 
-/// Whether a directory has this number.
-pub fn is_directory(tree: &Tree, n: u64) -> bool
-    ensures { result ≡ is_directory_node (nodes_of tree.now) n }
-{
-    match tree.node(n) {
-        Some(node) => Attrs::new(node.entry.attrs).is_directory(),
-        None => false,
-    }
-}
-
 // What a path without its last name leads to.
 fn find_holder(tree: &Tree, path: &Path) -> Found
     ensures { result ≡ found_in (nodes_of tree.now) (holder path.now) }
@@ -74,7 +64,7 @@ fn find_holder(tree: &Tree, path: &Path) -> Found
     };
     let mut at = 0;
     for next in names {
-        if !is_directory(tree, at) {
+        if !tree.is_directory(at) {
             return Found::NotDirectory;
         }
         match tree.child(at, name) {
@@ -91,7 +81,7 @@ pub fn holder_at(tree: &Tree, path: &Path) -> Result<u64, Refusal>
     ensures { result ≡ directory_found (nodes_of tree.now) (found_in (nodes_of tree.now) (holder path.now)) }
 {
     match find_holder(tree, path) {
-        Found::Node(n) if is_directory(tree, n) => Ok(n),
+        Found::Node(n) if tree.is_directory(n) => Ok(n),
         Found::Absent => Err(Refusal::NotFound),
         Found::Node(_) | Found::NotDirectory => Err(Refusal::NotDirectory),
     }

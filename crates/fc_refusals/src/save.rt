@@ -12,7 +12,7 @@ ghost use Rattle.fc_tree.specs.Nodes.{HoldObjects, nodes_of};
 ghost use Rattle.fc_refusals.specs.Slots.{IsSlot};
 ghost use Rattle.fc_refusals.specs.Targets.{refusal_of};
 
-use crate::places::{holder_at, is_directory, is_locked, own_name, target_in};
+use crate::places::{holder_at, is_locked, own_name, target_in};
 use crate::target::Slot;
 use fc_names::{NameForm, Path, Refusal, writable_bytes};
 use fc_tree::Tree;
@@ -47,7 +47,7 @@ pub fn judge_save(
         }
         return Ok(Slot::New(dir));
     };
-    if is_directory(tree, n) {
+    if tree.is_directory(n) {
         return Err(Refusal::IsDirectory);
     }
     if is_locked(tree, n) {

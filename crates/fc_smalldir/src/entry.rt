@@ -8,9 +8,9 @@ ghost use Rattle.fc_dirs.specs.SmallBytes.{entry_bytes, last_byte, name_bytes, w
 
 use crate::bytes::padded;
 use byteorder::{ByteOrder, LittleEndian};
-use fc_bytes::{le24, put};
+use fc_bytes::{array_at, le24, put};
 use fc_device::NoMemory;
-use fc_dirs::{Entry, SmallForm, array_at};
+use fc_dirs::{Entry, SmallForm};
 use fc_names::Name;
 use std::alloc::Global;
 

@@ -16,8 +16,8 @@ use crate::head::{
     put_head, put_tail, read_head,
 };
 use crate::{DirError, InsertError};
-use fc_bytes::put;
-use fc_dirs::{DirFault, Entry, SmallForm, place_of, put_zeros};
+use fc_bytes::{put, put_zeros};
+use fc_dirs::{DirFault, Entry, SmallForm, place_of};
 use fc_names::Name;
 use std::alloc::Global;
 use std::marker::Model;

@@ -3,14 +3,14 @@ ghost use Rattle.std.specs.Prelude.{◌≡◌, ◌++◌, Err, List, ℕ, Ok, OnE
 ghost use Rattle.fc_image.specs.declared.ImageFault.TheVariants as faults;
 ghost use Rattle.fc_image.specs.Layout.{dir_form, disc_sectors};
 ghost use Rattle.fc_image.specs.Walk.{Object, object_of, object_size};
-ghost use Rattle.fc_names.specs.Names.{Path, is_directory};
+ghost use Rattle.fc_names.specs.Names.{Path};
 ghost use Rattle.fc_dirs.specs.Directory.{directory_size};
 ghost use Rattle.fc_space.specs.Space.{layout_of};
 ghost use Rattle.fc_tree.specs.Taken.{AreTaken};
 
 use crate::taken::Taken;
 use fc_dirs::Entry;
-use fc_names::{Attrs, NameForm};
+use fc_names::NameForm;
 use fc_space::{PlaceError, Places};
 use std::alloc::Global;
 
@@ -22,13 +22,6 @@ pub enum ClaimError {
     /// One of its sectors is taken.
     Overlap,
     NoMemory,
-}
-
-/// Whether an entry is a directory's.
-pub fn is_directory(entry: &Entry) -> bool
-    ensures { result ≡ is_directory entry.now.attrs }
-{
-    Attrs::new(entry.attrs).is_directory()
 }
 
 /// The bytes of a directory whose entry gives this length.
@@ -46,7 +39,7 @@ pub fn directory_size(form: NameForm, len: u32) -> u32
 pub fn object_size(form: NameForm, entry: &Entry) -> u32
     ensures { result ≡ object_size form entry.now }
 {
-    if is_directory(entry) {
+    if entry.is_directory() {
         directory_size(form, entry.len)
     } else {
         entry.len

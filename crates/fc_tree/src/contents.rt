@@ -11,18 +11,10 @@ use crate::claim::{ClaimError, claim};
 use crate::node::{Body, Node, TreeError};
 use crate::paths::path_in;
 use crate::taken::Taken;
-use fc_device::NoMemory;
 use fc_dirs::Entry;
 use fc_image::ImageFault;
 use fc_space::Places;
 use std::alloc::Global;
-
-// The same entry, with memory for its name.
-fn copy_of(entry: &Entry) -> Result<Entry, NoMemory>
-    ensures { IfOk result (λ copy. copy ≡ entry.now) }
-{
-    Ok(entry.clone()?)
-}
 
 /// Adds a node behind the others.
 pub fn push_node(nodes: &mut Vec<Node>, node: Node) -> Result<(), TreeError>
@@ -40,7 +32,7 @@ fn push_child(nodes: &mut Vec<Node>, at: usize, entry: &Entry) -> Result<(), Tre
     ensures ok { OnOk result (nodes.new.items ≡ nodes.old.items ++ record { holder = at; entry = entry.now; body = bodies.File } ∷ []) }
     ensures err { IfErr result (λ e. e ≡ TreeError.NoMemory) }
 {
-    let Ok(entry) = copy_of(entry) else {
+    let Ok(entry) = entry.copied() else {
         return Err(TreeError::NoMemory);
     };
     let node = Node {

@@ -5,7 +5,6 @@ ghost use Rattle.std.specs.Option.{option_map};
 ghost use Rattle.std.specs.FinMap.{get, insert, remove};
 ghost use Rattle.fc_tree.specs.Nodes.{bound_of, child, found_in, is_directory_node, next_number, nodes_of};
 
-use crate::claim::is_directory;
 use crate::node::{Found, Node};
 use crate::slots::{node_at, push_slot, put_slot, slots_of, take_slot};
 use crate::table::{Table, table_of};
@@ -73,12 +72,12 @@ impl Tree {
         node_at(&self.slots, n)
     }
 
-    // Whether a directory has this number.
-    fn is_directory(&self, n: u64) -> bool
+    /// Whether a directory has this number.
+    pub fn is_directory(&self, n: u64) -> bool
         ensures { result ≡ is_directory_node (nodes_of self.now) n }
     {
         match self.node(n) {
-            Some(node) => is_directory(&node.entry),
+            Some(node) => node.entry.is_directory(),
             None => false,
         }
     }

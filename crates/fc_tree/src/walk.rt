@@ -17,7 +17,7 @@ ghost use Rattle.fc_tree.specs.Reads.{walk_sectors};
 ghost use Rattle.fc_tree.specs.Taken.{AreTaken};
 ghost use Rattle.fc_tree.specs.Walking.{FailsAs, IsDirectoryAt, IsFileAt, IsFound, IsOverlap, Leads};
 
-use crate::claim::{ClaimError, claim, directory_size, is_directory};
+use crate::claim::{ClaimError, claim, directory_size};
 use crate::contents::push_node;
 use crate::directory::visit;
 use crate::node::{Body, Node, TreeError};
@@ -108,7 +108,7 @@ fn next_directory(nodes: &[Node], from: usize) -> Option<usize>
     ensures none { result ≡ None → (i : ℕ) → from ≤ i → IsFileAt nodes.now i }
 {
     for i in from..nodes.len() {
-        if is_directory(&nodes[i].entry) {
+        if nodes[i].entry.is_directory() {
             return Some(i);
         }
     }

@@ -4,7 +4,6 @@ ghost use Rattle.std.specs.FinMap.{get};
 ghost use Rattle.fc_alloc.specs.Owners.{has_node};
 ghost use Rattle.fc_image.specs.Layout.{dir_form, sector_bytes};
 ghost use Rattle.std.specs.Int.{div_ceil};
-ghost use Rattle.fc_names.specs.Names.{is_directory};
 ghost use Rattle.fc_image.specs.Objects.{objects_of};
 ghost use Rattle.fc_image.specs.Walk.{Listing, object_size};
 ghost use Rattle.fc_space.specs.Space.{layout_of};
@@ -16,23 +15,16 @@ ghost use Rattle.fc_volume.specs.Owners.{entry_owner, node_owner, owner_at, owne
 use fc_alloc::{Owner, Owners};
 use fc_device::NoMemory;
 use fc_dirs::Entry;
-use fc_names::{Attrs, NameForm};
+use fc_names::NameForm;
 use fc_space::Space;
 use fc_tree::{Node, Tree};
 use std::alloc::Global;
-
-// Whether an entry is a directory's.
-fn is_directory(e: &Entry) -> bool
-    ensures { result ≡ is_directory e.now.attrs }
-{
-    Attrs::new(e.attrs).is_directory()
-}
 
 // The bytes of an object of an entry. Of a small directory they follow from its form.
 pub fn object_bytes(space: &Space, e: &Entry) -> u64
     ensures { result ≡ object_size (dir_form (layout_of space.now)) e.now }
 {
-    if !is_directory(e) {
+    if !e.is_directory() {
         return u64::from(e.len);
     }
     match space.dir_form() {
@@ -81,7 +73,7 @@ pub fn entry_owner(space: &Space, n: u64, holder: u64, e: &Entry) -> Owner
         id: e.address / 256,
         dir: holder,
         node: n,
-        file: !is_directory(e),
+        file: !e.is_directory(),
         low: (e.address % 256) as u8,
         first: first_in(space, e.address % 256),
         sectors: sectors_for(space, object_bytes(space, e)),

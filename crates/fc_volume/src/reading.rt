@@ -3,7 +3,6 @@ ghost use Rattle.std.specs.Prelude.{◌≡◌, ◌≢◌, ◌⊎◌, ◌<◌, �
 ghost use Rattle.std.specs.FinMap.{get};
 ghost use Rattle.std.specs.List.{fold};
 ghost use Rattle.fc_names.specs.declared.refusal.Refusal.{Refusal};
-ghost use Rattle.fc_names.specs.Names.{is_directory};
 ghost use Rattle.fc_oldmap.specs.Holes.{hole_sum};
 ghost use Rattle.fc_record.specs.declared.Kind.{Kind};
 ghost use Rattle.fc_dirs.specs.declared.Entry.{Entry};
@@ -24,19 +23,12 @@ ghost use Rattle.fc_volume.specs.Volume.{StandsFor, parts_of};
 use crate::{CommandError, FileRef, Line, Listed, Volume};
 use fc_device::{Disk, NoMemory};
 use fc_dirs::Entry;
-use fc_names::{Attrs, Path, Refusal, fold_cmp};
+use fc_names::{Path, Refusal, fold_cmp};
 use fc_newmap::NewMap;
 use fc_oldmap::Hole;
 use fc_space::Space;
 use fc_tree::{Body, Found, Tree};
 use std::alloc::Global;
-
-// Whether attributes are those of a directory.
-fn is_directory(attrs: u32) -> bool
-    ensures { result ≡ is_directory attrs }
-{
-    Attrs::new(attrs).is_directory()
-}
 
 // The number of the node to which a path leads.
 fn number_found(tree: &Tree, p: &Path) -> Result<u64, CommandError>
@@ -56,7 +48,7 @@ fn file_of(tree: &Tree, n: u64) -> Result<FileRef, CommandError>
     ensures { result ≡ file_of n (get (nodes_of tree.now) n) }
 {
     match tree.node(n) {
-        Some(node) if is_directory(node.entry.attrs) => {
+        Some(node) if node.entry.is_directory() => {
             Err(CommandError::Refused(Refusal::IsDirectory))
         }
         Some(node) => Ok(FileRef {
@@ -110,7 +102,7 @@ fn entries_at<'a>(tree: &'a Tree, p: &Path) -> Result<&'a [Entry], CommandError>
 fn line_of(e: &Entry) -> Result<Line, NoMemory>
     ensures { IfOk result (λ line. line ≡ line_of e.now) }
 {
-    let listed = if is_directory(e.attrs) {
+    let listed = if e.is_directory() {
         Listed::Dir
     } else {
         Listed::File(u64::from(e.len))
