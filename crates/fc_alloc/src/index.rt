@@ -1,5 +1,5 @@
 // What is kept beside a list of owners: by node, where its owner stands; by identifier, how many owners have it.
-ghost use Rattle.std.specs.Prelude.{◌≡◌, ◌<◌, ◌≤◌, ◌+◌, ◌-◌, ◌^◌, ◌++◌, ℕ, Some, length, replicate, slice_index, slice_set, vec_len, count_by, IfOk, OnOk, IfSome, IsFalse, MatchOption};
+ghost use Rattle.std.specs.Prelude.{◌≡◌, ◌<◌, ◌≤◌, ◌+◌, ◌-◌, ◌^◌, ◌++◌, ℕ, Some, length, replicate, slice_index, slice_set, vec_len, count_by, IfOk, OnOk, IsFalse, MatchOption};
 ghost use Rattle.std.specs.List.{HoldsAt, filter_map, find};
 ghost use Rattle.fc_alloc.specs.Owners.{has_node, is_node, owns};
 ghost use Rattle.fc_alloc.specs.Index.{AreCounts, ArePlaces};

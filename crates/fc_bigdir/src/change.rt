@@ -1,7 +1,7 @@
 // New directories, and small changes.
-ghost use Rattle.std.specs.Prelude.{◌≡◌, ◌<◌, ◌≤◌, ◌^◌, Some, length, slice_get, IfOk, OnErr, OnOk};
+ghost use Rattle.std.specs.Prelude.{◌≡◌, ◌<◌, Some, length, slice_get, IfOk, OnErr, OnOk};
 ghost use Rattle.std.specs.Option.{option_map};
-ghost use Rattle.fc_dirs.specs.Big.{bytes_for, empty_big, form_of, with_big_changed, with_head_name, without_big_entry};
+ghost use Rattle.fc_dirs.specs.Big.{bytes_for, empty_big, with_big_changed, with_head_name, without_big_entry};
 
 use crate::BigDir;
 use crate::space::{bytes_for, head_space, name_space};

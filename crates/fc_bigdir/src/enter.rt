@@ -1,7 +1,6 @@
 // Entries put into a list, with their names in a heap.
-ghost use Rattle.std.specs.Prelude.{◌≡◌, ◌+◌, ◌*◌, ◌<◌, ◌≤◌, ◌^◌, ◌++◌, [], true, false, length, insert, map, sum_by, vec_len, IfOk, MatchOption, OnErr, OnOk};
+ghost use Rattle.std.specs.Prelude.{◌≡◌, ◌+◌, ◌*◌, ◌<◌, ◌≤◌, ◌^◌, ◌++◌, true, false, length, insert, vec_len, IfOk, MatchOption, OnErr, OnOk};
 ghost use Rattle.std.specs.Bool.{OnFalse, OnTrue};
-ghost use Rattle.std.specs.List.{flat_map};
 ghost use Rattle.std.specs.Vec.{vec_capacity};
 ghost use Rattle.fc_dirs.specs.Entries.{entry_place, padded_name, with_entry};
 ghost use Rattle.fc_dirs.specs.Big.{name_space, packed_heap, packed_places, size_limit};

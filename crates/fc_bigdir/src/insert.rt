@@ -1,5 +1,5 @@
 // Putting entries into big directories.
-ghost use Rattle.std.specs.Prelude.{◌≡◌, ◌<◌, ◌↔◌, IsErrOf, IsFalse, MatchOption, OnErr, OnOk, length};
+ghost use Rattle.std.specs.Prelude.{◌≡◌, ◌<◌, ◌↔◌, IsErrOf, IsFalse, MatchOption, OnErr, OnOk};
 ghost use Rattle.fc_names.specs.Names.{IsName};
 ghost use Rattle.fc_dirs.specs.Entries.{has_name};
 ghost use Rattle.fc_dirs.specs.Big.{size_limit, size_with, with_big_entry};

@@ -1,5 +1,5 @@
 // Writing big directories.
-ghost use Rattle.std.specs.Prelude.{◌≡◌, ◌+◌, ◌≤◌, ◌++◌, ◌∷◌, [], length, take};
+ghost use Rattle.std.specs.Prelude.{◌≡◌, ◌+◌, ◌≤◌, ◌++◌, length, take};
 ghost use Rattle.fc_dirs.specs.Big.{head_space_of};
 ghost use Rattle.fc_bigdir.specs.Laws.{AreBytes, HasWidths};
 ghost use Rattle.fc_dirs.specs.BigBytes.{IsWrittenBig, big_bytes, checked_bytes, free_bytes, head_bytes, laid, parts_end, tail_bytes};

@@ -8,7 +8,7 @@ ghost use Rattle.fc_image.specs.Moves.{KeepsObjects};
 ghost use Rattle.fc_compact.specs.Ready.{IsReady, is_movable_by};
 ghost use Rattle.fc_compact.specs.Compacting.{ChangesLoose, CompactedBy, IsSettledBy, ZoneStays};
 ghost use Rattle.fc_compact.specs.Passing.{AreSettledZones, IsLongest, Tries, TriesAll};
-ghost use Rattle.fc_compact.specs.Steps.{Packs, Preserves};
+ghost use Rattle.fc_compact.specs.Steps.{Preserves};
 
 use crate::joinable::{has_several, in_few_zones, longest_again, longest_hole};
 use crate::joining::join;

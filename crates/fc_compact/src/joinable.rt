@@ -1,5 +1,5 @@
 // Which identifiers can be joined, and into which hole.
-ghost use Rattle.std.specs.Prelude.{◌≡◌, ◌⊎◌, ◌<◌, ◌+◌, ◌^◌, ◌&&◌, false, nat_le, nat_lt, max, length, ℕ};
+ghost use Rattle.std.specs.Prelude.{◌≡◌, ◌⊎◌, ◌<◌, ◌+◌, ◌^◌, ◌&&◌, false, nat_le, nat_lt, max, length};
 ghost use Rattle.fc_newmap.specs.Map.{bits_in, id_runs};
 ghost use Rattle.fc_image.specs.effects.Settled.{zones_with};
 ghost use Rattle.fc_compact.specs.Passing.{IsLongest};

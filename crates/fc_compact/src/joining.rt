@@ -1,5 +1,5 @@
 // All runs of an identifier that are joined into one.
-ghost use Rattle.std.specs.Prelude.{◌≡◌, ◌≢◌, ◌<◌, ◌≤◌, ◌+◌, ◌*◌, ◌%◌, ◌^◌, ◌++◌, ◌∷◌, [], ℕ, List, true, length, All, Contains, IsTrue, IsFalse, OnOk, ◌⊎◌, ◌-◌, ◌==◌, ◌||◌, nat_lt, if◌then◌else◌};
+ghost use Rattle.std.specs.Prelude.{◌≡◌, ◌<◌, ◌≤◌, ◌+◌, ◌*◌, ◌%◌, ◌^◌, ◌++◌, ◌∷◌, [], ℕ, List, true, length, All, Contains, IsTrue, IsFalse, OnOk, ◌⊎◌, ◌-◌, ◌==◌, ◌||◌, nat_lt, if◌then◌else◌};
 ghost use Rattle.std.specs.List.Sorted.{IsStrictlyIncreasing};
 ghost use Rattle.std.specs.Option.{ForSome};
 ghost use Rattle.fc_device.specs.Calls.{FailsByFault, SameForm, StopsAndExitsLeave};

@@ -1,6 +1,6 @@
 // Identifiers that may have several runs, counted without memory: one pass over a map in place of one for each identifier.
-ghost use Rattle.std.specs.Prelude.{◌≡◌, ◌<◌, ◌≤◌, ◌%◌, ◌++◌, ◌∷◌, [], false, get_or, length, List, ℕ};
-ghost use Rattle.fc_newmap.specs.Map.{ZoneRun, id_runs};
+ghost use Rattle.std.specs.Prelude.{◌≡◌, ◌<◌, ◌%◌, ◌++◌, ◌∷◌, [], false, get_or, length, List};
+ghost use Rattle.fc_newmap.specs.Map.{ZoneRun};
 ghost use Rattle.fc_compact.specs.Passing.{AreSeen, SeesFew, places};
 
 use fc_newmap::{NewMap, Walk};

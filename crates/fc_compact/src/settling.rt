@@ -1,5 +1,5 @@
 // A zone whose runs slide and are joined until nothing is left to do in it.
-ghost use Rattle.std.specs.Prelude.{◌≡◌, ◌<◌, ◌≤◌, ◌+◌, ◌*◌, ◌++◌, ◌∷◌, ◌||◌, ◌&&◌, nat_le, ℕ, List, IsTrue, IsFalse, OnOk, IfOk};
+ghost use Rattle.std.specs.Prelude.{◌≡◌, ◌<◌, ◌≤◌, ◌+◌, ◌*◌, ◌++◌, ◌∷◌, ◌||◌, ◌&&◌, ℕ, List, IsTrue, IsFalse, OnOk, IfOk};
 ghost use Rattle.std.specs.Option.{ForSome};
 ghost use Rattle.fc_device.specs.Calls.{FailsByFault, SameForm, StopsAndExitsLeave};
 ghost use Rattle.fc_zone.specs.declared.Run.{Run};
@@ -10,7 +10,7 @@ ghost use Rattle.fc_compact.specs.Compacting.{is_done_by};
 ghost use Rattle.fc_compact.specs.Ready.{IsReady, is_movable_by};
 ghost use Rattle.fc_compact.specs.Joining.{joined};
 ghost use Rattle.fc_compact.specs.Sliding.{HasRuns};
-ghost use Rattle.fc_compact.specs.Steps.{Leads, Packs, Preserves};
+ghost use Rattle.fc_compact.specs.Steps.{Packs, Preserves};
 
 use crate::finding::walk_in;
 use crate::laws;

@@ -1,5 +1,5 @@
 // The words of a demo's lines.
-ghost use Rattle.std.specs.Prelude.{◌≡◌, ◌<◌, ◌≤◌, ◌++◌, ◌^◌, OnOk, length, map, take};
+ghost use Rattle.std.specs.Prelude.{◌≡◌, ◌<◌, ◌++◌, ◌^◌, OnOk, take};
 ghost use Rattle.std.specs.Fmt.{decimal};
 ghost use Rattle.fc_runs.specs.Demo.{dir_path, file_path, saved_bytes, saved_word};
 

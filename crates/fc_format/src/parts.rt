@@ -1,5 +1,5 @@
 // Disc records, maps and boot blocks of fresh volumes.
-ghost use Rattle.std.specs.Prelude.{slice_set, ◌≡◌, ◌+◌, ◌≤◌, ◌<◌, ◌^◌, length};
+ghost use Rattle.std.specs.Prelude.{slice_set, ◌≡◌, ◌≤◌, ◌<◌, ◌^◌};
 ghost use Rattle.fc_bytes.specs.Bits.{overwritten};
 ghost use Rattle.fc_format.specs.Zones.{IsRecordOfF};
 ghost use Rattle.fc_format.specs.Fresh.{boot_block, e_map, e_plus_map, e_record, f_plus_zone2, f_record, f_zone0, f_zone1, f_zone2, f_zone3, old_map_with, plus_record, zeros};

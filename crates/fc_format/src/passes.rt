@@ -1,8 +1,8 @@
 // Rows of sectors written one after another, over the front of an image.
-ghost use Rattle.std.specs.Prelude.{◌≡◌, ◌<◌, ◌≤◌, ◌+◌, ◌-◌, ◌*◌, ◌/◌, ◌%◌, ℕ, List, ◌++◌, length, IsTrue, IfOk, OnOk};
+ghost use Rattle.std.specs.Prelude.{◌≡◌, ◌<◌, ◌≤◌, ◌+◌, ◌-◌, ◌*◌, ◌/◌, ◌%◌, ◌++◌, length, IsTrue, IfOk, OnOk};
 ghost use Rattle.fc_device.specs.Calls.{FailsByFault, SameForm};
 ghost use Rattle.fc_format.specs.Fresh.{zeros};
-ghost use Rattle.fc_format.specs.Passes.{AreParts, HasFront, KeepsBehind, LengthensFront, laid};
+ghost use Rattle.fc_format.specs.Passes.{AreParts, KeepsBehind, LengthensFront, laid};
 
 use fc_device::{Disk, DiskFault};
 

@@ -1,5 +1,5 @@
 // Zones that are laid out by their runs.
-ghost use Rattle.std.specs.Prelude.{◌≡◌, ◌<◌, ◌+◌, ◌^◌, ◌++◌, ◌∷◌, [], ℕ, List};
+ghost use Rattle.std.specs.Prelude.{◌<◌, ◌+◌, ◌^◌, ◌++◌, ◌∷◌, [], ℕ, List};
 ghost use Rattle.fc_bytes.specs.BitLaws.{AreBytes};
 ghost use Rattle.fc_zone.specs.declared.Run.{Run};
 ghost use Rattle.fc_zone.specs.declared.RunKind.TheVariants.{Id};
@@ -7,7 +7,7 @@ ghost use Rattle.fc_zone.specs.Zone.{IsShapeOf, Zone};
 ghost use Rattle.fc_zone.specs.Edits.{CanBeBlank, CanSplit};
 ghost use Rattle.fc_format.specs.Zones.{CanOwn, IsLaid, last_hole, owned_runs};
 
-use fc_zone::{ZoneShape, blank, label, seal, split};
+use fc_zone::{ZoneShape, blank, label, split};
 
 // Gives the front of the hole that begins at `at` and ends the zone to an identifier.
 fn take_front(b: &mut [u8], shape: &ZoneShape, at: u32, len: u32, id: u32)

@@ -1,6 +1,6 @@
 // The directories around one that grows: the one that holds it, whose entry gets its new address and length, and, if it gets another
 // address, those that lie in it, whose heads name it.
-ghost use Rattle.std.specs.Prelude.{◌≡◌, ◌<◌, ◌≤◌, ◌*◌, ◌++◌, ◌∷◌, [], ℕ, List, Some, true, All, IfOk, IsFalse, IsSome, IsTrue, OnOk, length};
+ghost use Rattle.std.specs.Prelude.{◌≡◌, ◌<◌, ◌++◌, ◌∷◌, [], List, Some, true, All, IfOk, IsFalse, IsSome, IsTrue, OnOk};
 ghost use Rattle.std.specs.FinMap.{get};
 ghost use Rattle.std.specs.Option.{ForSome};
 ghost use Rattle.fc_alloc.specs.Owners.{has_node, with_changed};
@@ -10,9 +10,6 @@ ghost use Rattle.fc_dirs.specs.Directory.{Directory, entries_of};
 ghost use Rattle.fc_drafts.specs.Entries.{regrown};
 ghost use Rattle.fc_grownlaws.specs.nodes.Regrown.{with_bodies};
 ghost use Rattle.fc_names.specs.Names.{is_directory};
-ghost use Rattle.fc_objects.specs.Bytes.{first_bytes};
-ghost use Rattle.fc_objects.specs.Extents.{sectors_in};
-ghost use Rattle.fc_objects.specs.Written.{AreApart, IsPartWritten};
 ghost use Rattle.fc_space.specs.Space.{layout_of};
 ghost use Rattle.fc_tree.specs.declared.node.Node.{Node};
 ghost use Rattle.fc_tree.specs.Nodes.{body_in, nodes_of};

@@ -1,5 +1,5 @@
 // A file that shares its identifier, and moves to another directory, which grows: it is copied into space of its own.
-ghost use Rattle.std.specs.Prelude.{◌≡◌, ◌<◌, ◌≤◌, ◌^◌, [], Err, IfErr, IfOk, IsFalse, IsSome, IsTrue, None, OnOk, Some, false, length, true, if◌then◌else◌};
+ghost use Rattle.std.specs.Prelude.{◌≡◌, ◌<◌, ◌≤◌, ◌^◌, Err, IfErr, IfOk, IsFalse, IsTrue, None, OnOk, Some, false, length, true, if◌then◌else◌};
 ghost use Rattle.std.specs.FinMap.{get};
 ghost use Rattle.std.specs.Option.{ForSome};
 ghost use Rattle.fc_changes.specs.Owed.{IsWritten};

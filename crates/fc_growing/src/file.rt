@@ -12,7 +12,6 @@ ghost use Rattle.fc_growing.specs.Room.{has_room_by, is_alone_by};
 
 use crate::place::{GrownPlace, plan_growth};
 use fc_alloc::Owners;
-use fc_device::NoMemory;
 use fc_newmap::NewMap;
 use fc_placing::{Placing, Plan, PlanError, Share, address_of};
 use fc_slack::slack;

@@ -1,7 +1,6 @@
 // A directory that grows, whichever command makes it: made ready in memory with those around it, written, and taken over by the volume.
 
-ghost use Rattle.std.specs.Prelude.{◌≡◌, ◌<◌, ◌≤◌, ◌+◌, ◌*◌, ◌++◌, false, Err, IfErr, IfOk, IsFalse, IsSome, IsTrue, OnErr, OnOk};
-ghost use Rattle.std.specs.FinMap.{get};
+ghost use Rattle.std.specs.Prelude.{◌≡◌, ◌<◌, ◌≤◌, ◌+◌, ◌*◌, false, Err, IfErr, IfOk, IsFalse, IsTrue, OnOk};
 ghost use Rattle.std.specs.Option.{ForSome};
 ghost use Rattle.fc_changes.specs.Owed.{IsWritten};
 ghost use Rattle.fc_device.specs.Calls.{FailsByFault, SameForm, StopsAndExitsLeave};

@@ -1,7 +1,6 @@
 // A new directory in one that grows, made ready in memory.
 
 ghost use Rattle.std.specs.Prelude.{◌≡◌, IfOk};
-ghost use Rattle.fc_dirs.specs.Directory.{Directory};
 ghost use Rattle.fc_drafts.specs.Draft.{directory_in};
 ghost use Rattle.fc_image.specs.Layout.{Layout};
 ghost use Rattle.fc_space.specs.Space.{layout_of};

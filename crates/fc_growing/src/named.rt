@@ -1,5 +1,5 @@
 // `rename`, also if the directory that gets the name grows.
-ghost use Rattle.std.specs.Prelude.{◌≡◌, ◌<◌, ◌≤◌, ℕ, [], Err, IfErr, IfOk, IsFalse, IsSome, IsTrue, OnOk, Some, false, length, if◌then◌else◌};
+ghost use Rattle.std.specs.Prelude.{◌≡◌, ◌<◌, ◌≤◌, [], Err, IfErr, IfOk, IsFalse, IsSome, IsTrue, OnOk, Some, false, length, if◌then◌else◌};
 ghost use Rattle.std.specs.FinMap.{get};
 ghost use Rattle.std.specs.Option.{ForSome};
 ghost use Rattle.fc_changes.specs.Owed.{IsWritten};

@@ -1,10 +1,6 @@
 // A rename by which the directory that gets the name grows, made ready in memory.
-ghost use Rattle.std.specs.Prelude.{◌≡◌, ◌<◌, ◌++◌, IfOk, IsFalse, Option, is_some, length};
+ghost use Rattle.std.specs.Prelude.{◌≡◌, ◌<◌, ◌++◌, IfOk, Option, is_some};
 ghost use Rattle.std.specs.Option.{option_to_list};
-ghost use Rattle.fc_dirs.specs.Directory.{entries_of};
-ghost use Rattle.fc_dirs.specs.Entries.{has_name, without_entry};
-ghost use Rattle.fc_drafts.specs.Draft.{CanAddress, CanHold, CanName, directory_in};
-ghost use Rattle.fc_drafts.specs.Rewriting.{HasRenamed};
 ghost use Rattle.fc_image.specs.Layout.{Layout};
 ghost use Rattle.fc_space.specs.Space.{layout_of};
 ghost use Rattle.fc_tree.specs.Nodes.{nodes_of};

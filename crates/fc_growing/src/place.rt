@@ -1,7 +1,6 @@
 // Where a directory that grows is to lie, and what is taken beside it for a new object.
 
 ghost use Rattle.std.specs.Prelude.{◌≡◌, ◌<◌, ◌^◌, ℕ, List, Option, Some, None, IfOk, IfSome, false, true, if◌then◌else◌};
-ghost use Rattle.std.specs.Option.{option_to_list};
 ghost use Rattle.fc_alloc.specs.declared.owner.Owner.{Owner};
 ghost use Rattle.fc_image.specs.Layout.{Layout, new_sectors};
 ghost use Rattle.fc_objects.specs.Extents.{sectors_in};

@@ -1,6 +1,6 @@
 // Where a zone's bits lie on the disc, and where its bytes lie in a copy of the map.
 
-ghost use Rattle.std.specs.Prelude.{◌≡◌, ◌+◌, ◌*◌, ◌<◌, ◌≤◌, ℕ, List, length};
+ghost use Rattle.std.specs.Prelude.{◌≡◌, ◌+◌, ◌*◌, ◌<◌, ℕ, List, length};
 ghost use Rattle.fc_newmap.specs.Map.{sector_of, shape};
 ghost use Rattle.fc_newmap.specs.NewMap.{IsOfRecord, map_in};
 ghost use Rattle.fc_record.specs.Record.{base, end_bit, first_bit};

@@ -1,7 +1,6 @@
 // A walk over the runs of some zones of a map, in one pass over the zones' words.
 
 ghost use Rattle.std.specs.Prelude.{◌≡◌, ◌+◌, ◌-◌, ◌^◌, ◌<◌, ◌≤◌, ◌++◌, ◌∷◌, [], List, IfSome, IsFalse, IsTrue, MatchOption};
-ghost use Rattle.fc_zone.specs.Cursor.{StandsBetween};
 ghost use Rattle.fc_zone.specs.Edits.{HasRunAt};
 ghost use Rattle.fc_zone.specs.declared.Run.{Run};
 ghost use Rattle.fc_newmap.specs.Map.{ZoneRun, all_runs, runs_in, runs_of, sector_of, shape};

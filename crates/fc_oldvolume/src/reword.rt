@@ -2,7 +2,7 @@
 ghost use Rattle.std.specs.Prelude.{◌≡◌, ◌<◌, ◌≤◌, false, All, Err, IfErr, IsSome, IsTrue, IsFalse, OnOk};
 ghost use Rattle.std.specs.FinMap.{get};
 ghost use Rattle.std.specs.Option.{ForSome};
-ghost use Rattle.fc_device.specs.Calls.{FailsByFault, SameForm, StopsAndExitsLeave};
+ghost use Rattle.fc_device.specs.Calls.{SameForm, StopsAndExitsLeave};
 ghost use Rattle.fc_device.specs.Faults.{Rose};
 ghost use Rattle.fc_image.specs.Layout.{sector_bytes};
 ghost use Rattle.fc_objects.specs.Extents.{sectors_in};

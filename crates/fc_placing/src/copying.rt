@@ -1,6 +1,6 @@
 // Whether a rename copies a file.
 
-ghost use Rattle.std.specs.Prelude.{◌≡◌, List, ℕ};
+ghost use Rattle.std.specs.Prelude.{◌≡◌};
 ghost use Rattle.fc_placing.specs.Copying.{CopiesLaw, SaysCopied, copied_among};
 
 use crate::leaving::has_other;

@@ -1,6 +1,6 @@
 // The extents of an object in new space, before the map has its runs.
 
-ghost use Rattle.std.specs.Prelude.{◌≡◌, ◌<◌, ◌^◌, ◌-◌, ◌++◌, ℕ, true, All, IfOk, length, take};
+ghost use Rattle.std.specs.Prelude.{◌≡◌, ◌<◌, ◌-◌, ◌++◌, ℕ, true, All, IfOk, length, take};
 ghost use Rattle.fc_image.specs.Layout.{Layout, hole_sectors, is_among};
 ghost use Rattle.fc_newmap.specs.Map.{sectors_of};
 ghost use Rattle.fc_newmap.specs.NewMap.{IsOfRecord};

@@ -1,6 +1,6 @@
 // Plans: where an object is to lie.
 
-ghost use Rattle.std.specs.Prelude.{◌≡◌, ℕ, AllPairs, is_none, map, not, IfOk};
+ghost use Rattle.std.specs.Prelude.{◌≡◌, AllPairs, is_none, map, not, IfOk};
 ghost use Rattle.std.specs.List.{find};
 ghost use Rattle.fc_zone.specs.declared.Run.{Run};
 ghost use Rattle.fc_image.specs.effects.Placed.{BeginsBefore, stands_at};

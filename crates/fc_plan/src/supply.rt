@@ -1,8 +1,7 @@
 // The space of a map that is not spoken for, from which the plans of one command are taken one after another.
 
-ghost use Rattle.std.specs.Prelude.{◌≡◌, ◌<◌, ◌+◌, ◌^◌, ◌∷◌, [], map, None, Some, IfOk, IfSome, IsErrOf, MatchOption, OnErr};
+ghost use Rattle.std.specs.Prelude.{◌≡◌, ◌<◌, ◌+◌, ◌^◌, ◌∷◌, [], map, None, Some, IfOk, IsErrOf, OnErr};
 ghost use Rattle.std.specs.Option.{option_map};
-ghost use Rattle.fc_record.specs.Record.{id_limit};
 ghost use Rattle.fc_newmap.specs.Map.{bits_in, hole_runs};
 ghost use Rattle.fc_newmap.specs.NewMap.{IsOfRecord};
 ghost use Rattle.fc_image.specs.effects.Placed.{IsPlan, holes_left};

@@ -6,7 +6,7 @@ ghost use Rattle.fc_device.specs.Calls.{FailsByFault, SameForm, StopsAsBefore, O
 ghost use Rattle.fc_device.specs.Faults.{Rose};
 ghost use Rattle.fc_device.specs.Stops.{StillLeaves};
 ghost use Rattle.fc_record.specs.Front.{HasMapOf};
-ghost use Rattle.fc_record.specs.Kinds.{is_boot, boot_record, is_old_map, kind_calls, kind_of, IsKind, Answers, FitsLength, front_reads, sectors_there};
+ghost use Rattle.fc_record.specs.Kinds.{is_boot, boot_record, kind_calls, kind_of, IsKind, Answers, FitsLength, front_reads, sectors_there};
 ghost use Rattle.fc_record.specs.Parts.{record_in_boot, record_in_map, kind_in_old_map};
 ghost use Rattle.fc_record.specs.Record.{IsRecord};
 

@@ -1,5 +1,5 @@
 // The words of a line.
-ghost use Rattle.std.specs.Prelude.{◌≡◌, ◌∷◌, ◌&&◌, Err, MatchOption, option_map, true, false};
+ghost use Rattle.std.specs.Prelude.{◌≡◌, ◌∷◌, Err, MatchOption, option_map, true, false};
 ghost use Rattle.std.specs.List.{list_all};
 ghost use Rattle.fc_names.specs.declared.refusal.Refusal.TheVariants.{BadCommand};
 ghost use Rattle.fc_script.specs.Lines.{command_in, command_of, is_printed, is_some_word};

@@ -1,5 +1,5 @@
 // The answer to a line of the script.
-ghost use Rattle.std.specs.Prelude.{◌≡◌, ◌≤◌, List, ℕ, length, true, false, Ok, IsFalse, IsTrue};
+ghost use Rattle.std.specs.Prelude.{◌≡◌, ◌≤◌, List, ℕ, length, true, Ok, IsFalse, IsTrue};
 ghost use Rattle.fc_device.specs.Calls.{OnlyReads};
 ghost use Rattle.fc_runs.specs.ReadLaw.{is_reading};
 ghost use Rattle.fc_script.specs.Lines.{command_of};

@@ -1,5 +1,5 @@
 // Replies that are made as a whole before they are written.
-ghost use Rattle.std.specs.Prelude.{◌≡◌, List, ℕ, IfOk};
+ghost use Rattle.std.specs.Prelude.{List, ℕ, IfOk};
 ghost use Rattle.fc_script.specs.Texts.{refusal_line};
 ghost use Rattle.fc_shell.specs.Answered.{Answered, IsReply, OnlyTells};
 

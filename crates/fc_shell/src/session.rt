@@ -1,5 +1,5 @@
 // A script over an image, from its opening to the last reply.
-ghost use Rattle.std.specs.Prelude.{◌≡◌, ◌⊎◌, ◌≤◌, List, ℕ, length, true, false, Err, Some, IfOk, IsFalse, IsTrue};
+ghost use Rattle.std.specs.Prelude.{◌≡◌, ◌⊎◌, ◌≤◌, List, ℕ, length, true, false, Err, Some, IsFalse, IsTrue};
 ghost use Rattle.std.specs.Option.{ForSome};
 ghost use Rattle.fc_device.specs.Calls.{OnlyReads};
 ghost use Rattle.fc_device.specs.Faults.{Rose};

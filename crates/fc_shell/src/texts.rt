@@ -1,5 +1,5 @@
 // The line of an image that isn't accepted.
-ghost use Rattle.std.specs.Prelude.{◌≡◌, ◌++◌, ◌∷◌, [], IfOk, OnOk, codes};
+ghost use Rattle.std.specs.Prelude.{◌≡◌, ◌++◌, ◌∷◌, [], IfOk, OnOk};
 ghost use Rattle.std.specs.Fmt.{decimal};
 ghost use Rattle.fc_names.specs.Paths.{spelled_path};
 ghost use Rattle.fc_runs.specs.Replies.{bad_image_line, dir_fault_words, fault_words};

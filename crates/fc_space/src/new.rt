@@ -1,6 +1,6 @@
 // Places on discs with new maps.
 
-ghost use Rattle.std.specs.Prelude.{◌≡◌, ◌<◌, ◌^◌, ◌+◌, ◌-◌, None, Some, IfOk, IsErrOf, take, drop, length, min, slice_get};
+ghost use Rattle.std.specs.Prelude.{◌≡◌, ◌<◌, ◌^◌, ◌+◌, ◌-◌, None, Some, IfOk, IsErrOf, take, drop, min, slice_get};
 ghost use Rattle.fc_image.specs.Layout.{Layout, first_part, id_sectors, is_object_id, low_start, new_sectors};
 ghost use Rattle.fc_newmap.specs.NewMap.{IsNewMap};
 ghost use Rattle.fc_objects.specs.Extents.{extent_sectors, sectors_in};

@@ -1,5 +1,5 @@
 // The nodes of the objects that a directory holds.
-ghost use Rattle.std.specs.Prelude.{◌≡◌, ◌++◌, ◌∷◌, [], Err, IfErr, IfOk, List, ℕ, Ok, OnOk, map};
+ghost use Rattle.std.specs.Prelude.{◌≡◌, ◌++◌, ◌∷◌, [], Err, IfErr, List, ℕ, Ok, OnOk, map};
 ghost use Rattle.fc_image.specs.Layout.{disc_sectors};
 ghost use Rattle.fc_image.specs.Walk.{Object, children_of, object_of};
 ghost use Rattle.fc_space.specs.Space.{layout_of};

@@ -1,9 +1,9 @@
 // The map of a disk, and where its root is.
-ghost use Rattle.std.specs.Prelude.{◌≡◌, ◌≤◌, ◌<◌, ◌+◌, ◌*◌, ◌/◌, ◌⊎◌, ◌&&◌, ◌==◌, ℕ, List, Ok, Err, Some, None, length, take, slice_index, IsTrue, IfOk, IfErr, OnOk, MatchResult};
+ghost use Rattle.std.specs.Prelude.{◌≡◌, ◌≤◌, ◌<◌, ◌+◌, ◌*◌, ◌/◌, ◌⊎◌, ◌&&◌, ◌==◌, ℕ, List, Ok, Err, Some, None, length, take, slice_index, IsTrue, IfOk, IfErr, MatchResult};
 ghost use Rattle.std.specs.Option.{ForSome};
 ghost use Rattle.fc_device.specs.Faults.{Rose};
 ghost use Rattle.fc_record.specs.Record.{IsRecord, geometry};
-ghost use Rattle.fc_device.specs.Calls.{FailsByFault, OnlyReads};
+ghost use Rattle.fc_device.specs.Calls.{OnlyReads};
 ghost use Rattle.fc_record.specs.declared.DiscRecord.{DiscRecord};
 ghost use Rattle.fc_record.specs.Front.{HasMapOf};
 ghost use Rattle.fc_oldmap.specs.Holes.{AreHoles};

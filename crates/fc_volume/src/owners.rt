@@ -10,7 +10,7 @@ ghost use Rattle.fc_space.specs.Space.{layout_of};
 ghost use Rattle.fc_tree.specs.Agree.{AreWalked, InOrder};
 ghost use Rattle.fc_tree.specs.Nodes.{nodes_of};
 ghost use Rattle.fc_tree.specs.Parts.{AreOwners, first_in};
-ghost use Rattle.fc_volume.specs.Owners.{entry_owner, node_owner, owner_at, owners_below, with_owner};
+ghost use Rattle.fc_volume.specs.Owners.{entry_owner, node_owner, owner_at, with_owner};
 
 use fc_alloc::{Owner, Owners};
 use fc_device::NoMemory;

@@ -2,7 +2,7 @@
 
 ghost use Rattle.std.specs.Prelude.{◌≡◌, ◌<◌, ℕ, [], ◌∷◌, List, MatchOption, None, Some, is_ok, is_some, length, map, option_and_then, option_map, true};
 ghost use Rattle.std.specs.String.{string_bytes};
-ghost use Rattle.fc_words.specs.CommandLine.{Settings, dashed_word, option_named, complete, option_alone, option_with, request_from, request_of, settings_after, word_of};
+ghost use Rattle.fc_words.specs.CommandLine.{Settings, dashed_word, option_named, complete, option_alone, option_with, request_from, request_of, word_of};
 ghost use Rattle.fc_words.specs.Judging.{Holds, put, kind_of, none_given, rest_after, slot, word_in};
 
 use crate::{WordsError, optional_format, optional_number, read_image};

@@ -1,10 +1,9 @@
 // What holds of zones whatever is called.
 
-ghost use Rattle.std.specs.Prelude.{◌≡◌, ◌<◌, ◌≤◌, ◌↔◌, ◌++◌, ◌∷◌, ℕ, List, slice_index, ◌+◌, ◌-◌};
+ghost use Rattle.std.specs.Prelude.{◌≡◌, ◌<◌, ◌≤◌, ◌↔◌, ℕ, List, slice_index};
 ghost use Rattle.fc_bytes.specs.Bits.{bits};
 ghost use Rattle.fc_zone.specs.declared.Run.{Run};
 ghost use Rattle.fc_zone.specs.declared.RunKind.{RunKind};
-ghost use Rattle.fc_zone.specs.declared.ZoneFault.{ZoneFault};
 ghost use Rattle.fc_zone.specs.declared.ZoneShape.{ZoneShape};
 ghost use Rattle.fc_zone.specs.Edits.{HasHoleAt, HasRunToSplit, IsWritten, KeepsLinks, Merges, Relabels, Splits, WritesLinks};
 ghost use Rattle.fc_zone.specs.Laws.{IsAgain, LeavesRest};

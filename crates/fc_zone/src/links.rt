@@ -1,7 +1,7 @@
 // The links between holes: FreeLink names the first, and each hole's field the next. A holder of a link is a hole, by
 // its place, or FreeLink (`None`).
 
-ghost use Rattle.std.specs.Prelude.{◌≡◌, ◌+◌, ◌*◌, ◌^◌, ◌<◌, ◌≤◌, ◌++◌, ◌∷◌, ℕ, List, length, slice_index, IfSome, MatchOption};
+ghost use Rattle.std.specs.Prelude.{◌≡◌, ◌+◌, ◌*◌, ◌^◌, ◌<◌, ◌≤◌, ◌++◌, ◌∷◌, List, length, slice_index, IfSome, MatchOption};
 ghost use Rattle.fc_bytes.specs.Bits.{bits, SameOutside};
 ghost use Rattle.fc_zone.specs.declared.Run.{Run};
 ghost use Rattle.fc_zone.specs.Zone.{IsShapeOf, IsZone, Zone, field_at, first_hole, hole_from, holder_after, link_end, link_place, link_target, link_to, next_hole};

@@ -1,6 +1,6 @@
 // Reading a zone: whether its bits are runs, and which.
 
-ghost use Rattle.std.specs.Prelude.{◌≡◌, ◌+◌, ◌-◌, ◌*◌, ◌^◌, ◌<◌, ◌≤◌, ◌↔◌, ◌++◌, ◌∷◌, ℕ, List, length, slice_get, IfSome, IfNone, IsOk, IfErr, OnOk, MatchResult, IsTrue};
+ghost use Rattle.std.specs.Prelude.{◌≡◌, ◌+◌, ◌-◌, ◌^◌, ◌<◌, ◌≤◌, ◌↔◌, ◌++◌, ◌∷◌, ℕ, List, slice_get, IfSome, IfNone, IsOk, IfErr, OnOk, MatchResult, IsTrue};
 ghost use Rattle.fc_bytes.specs.Bits.{bits};
 ghost use Rattle.fc_zone.specs.Cursor.{HasLeft};
 ghost use Rattle.fc_zone.specs.Edits.{HasRunAt};

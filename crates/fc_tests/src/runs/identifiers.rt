@@ -4,7 +4,6 @@ ghost use Rattle.std.specs.Prelude.{◌<◌};
 use super::{copied, put, texts};
 use fc_device::{ListSink, ListSource, PlainDisk};
 use fc_shell::run;
-use std::alloc::Global;
 use std::test::Fail;
 
 // A disc with a boot block, 16 zones and identifiers of 11 bits.

@@ -1,5 +1,5 @@
 // `cdir` of a volume.
-ghost use Rattle.std.specs.Prelude.{◌≡◌, ◌<◌, length, IfErr, IfOk, IsTrue, IsFalse, None, OnErr, OnOk, Some};
+ghost use Rattle.std.specs.Prelude.{◌≡◌, ◌<◌, length, IfOk, IsTrue, IsFalse, None, OnOk, Some};
 ghost use Rattle.std.specs.FinMap.{get};
 ghost use Rattle.fc_dirs.specs.Directory.{Directory};
 ghost use Rattle.fc_drafts.specs.Gains.{GetsName};

@@ -2,7 +2,7 @@
 // then the map without the space of a file that was saved over.
 ghost use Rattle.std.specs.Prelude.{◌≡◌, ◌<◌, ◌≤◌, ◌+◌, ◌*◌, ◌++◌, [], true, false, None, All, Err, IfErr, IsTrue, IsFalse, OnOk};
 ghost use Rattle.std.specs.Option.{ForSome};
-ghost use Rattle.fc_changes.specs.Owed.{IsMapAfter, IsSpaceEdit, IsWritten};
+ghost use Rattle.fc_changes.specs.Owed.{IsSpaceEdit, IsWritten};
 ghost use Rattle.fc_copies.specs.Copies.{ChangesCopies, HoldsCopies};
 ghost use Rattle.fc_device.specs.Calls.{FailsByFault, SameForm, StopsAndExitsLeave};
 ghost use Rattle.fc_device.specs.Faults.{Rose};
@@ -13,7 +13,6 @@ ghost use Rattle.fc_objects.specs.Extents.{sectors_in};
 ghost use Rattle.fc_placing.specs.Space.{IsMapEdited, zones_changed};
 ghost use Rattle.fc_space.specs.Space.{layout_of};
 ghost use Rattle.fc_volume.specs.Filing.{CanFile, CanTake, HasPlanned, HasWritten, IsFileDone, IsNamedAndGiven, IsStoredAndTaken};
-ghost use Rattle.fc_volume.specs.Storing.{IsFirstStored};
 ghost use Rattle.fc_volume.specs.Volume.{HasCopies, HoldsMap, parts_of};
 
 use crate::changes::rewrite::Rewrite;

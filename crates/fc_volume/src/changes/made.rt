@@ -9,7 +9,6 @@ ghost use Rattle.fc_image.specs.Layout.{Layout, sector_bytes};
 ghost use Rattle.fc_image.specs.Stays.{IsNewLayout};
 ghost use Rattle.fc_newmap.specs.Map.{Map};
 ghost use Rattle.fc_objects.specs.Extents.{sectors_in};
-ghost use Rattle.fc_space.specs.Space.{layout_of};
 ghost use Rattle.fc_tree.specs.Nodes.{next_number, nodes_of};
 ghost use Rattle.fc_volume.specs.Making.{HasMade, nodes_made};
 ghost use Rattle.fc_volume.specs.Storing.{CanStore, HasSpaceOf, IsObjectMade};

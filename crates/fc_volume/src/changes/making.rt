@@ -1,7 +1,7 @@
 // `cdir`: a new directory.
-ghost use Rattle.std.specs.Prelude.{◌≡◌, ◌<◌, ℕ, not, length, IfOk, IsFalse, OnOk, IsSome, None};
+ghost use Rattle.std.specs.Prelude.{◌≡◌, ◌<◌, not, length, IfOk, IsFalse, OnOk, None};
 ghost use Rattle.std.specs.FinMap.{get};
-ghost use Rattle.fc_dirs.specs.Directory.{Directory, entries_of};
+ghost use Rattle.fc_dirs.specs.Directory.{entries_of};
 ghost use Rattle.fc_dirs.specs.Entries.{has_name};
 ghost use Rattle.fc_drafts.specs.Draft.{CanAddress, CanHold, CanName, directory_in};
 ghost use Rattle.fc_drafts.specs.Rewriting.{HasEntered};
@@ -12,19 +12,19 @@ ghost use Rattle.fc_image.specs.Opening.{Opened};
 ghost use Rattle.fc_model.specs.Command.{Command};
 ghost use Rattle.fc_model.specs.Tree.{last_name};
 ghost use Rattle.fc_names.specs.Names.{Path};
-ghost use Rattle.fc_placing.specs.Places.{AnswersShort, IsOwnPlan};
+ghost use Rattle.fc_placing.specs.Places.{IsOwnPlan};
 ghost use Rattle.fc_space.specs.Space.{layout_of};
 ghost use Rattle.fc_tree.specs.declared.node.Node.{Node};
 ghost use Rattle.fc_tree.specs.Nodes.{body_in, nodes_of};
 ghost use Rattle.fc_volume.specs.Making.{AnswersSpace, CanMakeIn, IsMakingReady};
 
 use crate::CommandError;
-use crate::changes::rewrite::{Rewrite, bytes_of, draft_of, holder_address};
+use crate::changes::rewrite::{Rewrite, bytes_of, holder_address};
 use crate::changes::storing::NewObject;
 use fc_device::NoMemory;
 use fc_dirs::Entry;
 use fc_drafts::{Draft, Room, directory_entry};
-use fc_names::{Name, NameForm, Path, Refusal};
+use fc_names::{Name, Path, Refusal};
 use fc_newmap::NewMap;
 use fc_placing::{Plan, place_directory};
 use fc_space::Places;

@@ -1,16 +1,10 @@
 // Moves to another directory, made ready in memory.
-ghost use Rattle.std.specs.Prelude.{◌≡◌, ◌<◌, ◌≤◌, Bool, IfOk, IsFalse, false, length, nat_le, option_map};
+ghost use Rattle.std.specs.Prelude.{◌≡◌, ◌<◌, IfOk, false, length, option_map};
 ghost use Rattle.std.specs.List.{find};
-ghost use Rattle.std.specs.Option.{option_map_or};
-ghost use Rattle.std.specs.FinMap.{get};
 ghost use Rattle.fc_alloc.specs.Owners.{is_node};
-ghost use Rattle.fc_dirs.specs.Directory.{entries_of};
 ghost use Rattle.fc_dirs.specs.Big.{BigDir};
 ghost use Rattle.fc_dirs.specs.Small.{SmallDir, is_full_small};
 ghost use Rattle.fc_dirs.specs.declared.SmallForm.{SmallForm};
-ghost use Rattle.fc_dirs.specs.Entries.{has_name};
-ghost use Rattle.fc_drafts.specs.Draft.{CanAddress, CanHold, CanName, directory_in};
-ghost use Rattle.fc_drafts.specs.Rewriting.{HasEntered};
 ghost use Rattle.fc_space.specs.Space.{layout_of};
 ghost use Rattle.fc_model.specs.Tree.{last_name};
 ghost use Rattle.fc_tree.specs.Counts.{address_in};

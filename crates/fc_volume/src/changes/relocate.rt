@@ -1,9 +1,8 @@
 // An object that gets another name, or another directory: the directories are written, and then the volume has it so.
-ghost use Rattle.std.specs.Prelude.{◌≡◌, ◌+◌, ◌*◌, ◌<◌, ◌≤◌, Bool, All, Err, IfErr, IsSome, IsTrue, IsFalse, OnOk, false, if◌then◌else◌};
+ghost use Rattle.std.specs.Prelude.{◌≡◌, ◌+◌, ◌*◌, ◌<◌, ◌≤◌, All, Err, IfErr, IsSome, IsTrue, IsFalse, OnOk, false, if◌then◌else◌};
 ghost use Rattle.std.specs.FinMap.{get};
 ghost use Rattle.std.specs.Option.{ForSome};
 ghost use Rattle.fc_changes.specs.Owed.{IsWritten};
-ghost use Rattle.fc_copies.specs.Copies.{HoldsCopies};
 ghost use Rattle.fc_device.specs.Calls.{FailsByFault, SameForm, StopsAndExitsLeave};
 ghost use Rattle.fc_device.specs.Faults.{Rose};
 ghost use Rattle.fc_image.specs.Layout.{Layout, sector_bytes};
@@ -11,7 +10,7 @@ ghost use Rattle.fc_image.specs.Stays.{IsNewLayout};
 ghost use Rattle.fc_newmap.specs.Map.{Map};
 ghost use Rattle.fc_laws.specs.nodes.Edits.{with_holder};
 ghost use Rattle.fc_space.specs.Space.{layout_of};
-ghost use Rattle.fc_tree.specs.Nodes.{bound_of, nodes_of};
+ghost use Rattle.fc_tree.specs.Nodes.{nodes_of};
 ghost use Rattle.fc_volume.specs.Relocating.{AreMoreFilled, CanTakeOver, HasMore, HasOwner, HasRelocated, IsRelocationWritten, LieWithin, more_sectors, relocated, sectors_of_relocation, with_more, with_owner};
 ghost use Rattle.fc_volume.specs.Volume.{HasCopies, HoldsMap, StandsFor, parts_of};
 

@@ -1,5 +1,5 @@
 // Directories as a command leaves them, made ready in memory before anything is written.
-ghost use Rattle.std.specs.Prelude.{◌≡◌, ◌≤◌, ◌*◌, ℕ, List, Some, IfOk, IsSome, length};
+ghost use Rattle.std.specs.Prelude.{◌≡◌, Some, IfOk, IsSome, length};
 ghost use Rattle.fc_dirs.specs.Directory.{Directory};
 ghost use Rattle.fc_drafts.specs.Draft.{directory_in, size_of};
 ghost use Rattle.fc_image.specs.effects.Steady.{AreWritten};
