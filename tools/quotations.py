@@ -45,13 +45,19 @@ def stands_in(block, lines):
     return True
 
 
+def is_edit(crate, name):
+    """Whether a crate has an edit of a name, among those that the gate tries or those that make edits tries."""
+    folders = (("crates", crate, "must-fail"), ("tools", "edits", crate))
+    return any(os.path.exists(os.path.join(TOP, *folder, name + ".edit")) for folder in folders)
+
+
 def claims(page):
     """What a page says of other files, and whether it is so."""
     for name, block in BLOCK.findall(page):
         with open(os.path.join(TOP, name)) as file:
             yield "a quotation of " + name, stands_in(block, file.read().splitlines())
     for crate, name in EDIT.findall(page):
-        yield "the edit %s/%s" % (crate, name), os.path.exists(os.path.join(TOP, "crates", crate, "must-fail", name + ".edit"))
+        yield "the edit %s/%s" % (crate, name), is_edit(crate, name)
 
 
 def main(paths):

@@ -2,6 +2,7 @@
 ghost use Rattle.std.specs.Prelude.{◌≡◌};
 ghost use Rattle.fc_volume.specs.NoSpace.{no_space};
 
+use fc_device::NoMemory;
 use fc_image::ImageFault;
 use fc_names::{Name, Refusal};
 use fc_plan::PlanError;
@@ -27,6 +28,16 @@ impl From<PlanError> for CommandError {
             PlanError::DiscFull => CommandError::Refused(Refusal::DiscFull),
             PlanError::NoMemory => CommandError::NoMemory,
         }
+    }
+}
+
+impl From<NoMemory> for CommandError {
+    ghost from_gives = { λ _ answer. answer ≡ CommandError.NoMemory };
+
+    fn from(_: NoMemory) -> Self
+        ensures { result ≡ CommandError.NoMemory }
+    {
+        CommandError::NoMemory
     }
 }
 
