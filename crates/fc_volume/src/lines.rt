@@ -1,5 +1,6 @@
 // What calls of volumes answer.
 ghost use Rattle.std.specs.Prelude.{◌≡◌};
+ghost use Rattle.fc_volume.specs.declared.lines.CommandError.TheVariants as errors;
 ghost use Rattle.fc_volume.specs.NoSpace.{no_space};
 
 use fc_device::NoMemory;
@@ -32,10 +33,10 @@ impl From<PlanError> for CommandError {
 }
 
 impl From<NoMemory> for CommandError {
-    ghost from_gives = { λ _ answer. answer ≡ CommandError.NoMemory };
+    ghost from_gives = { λ _ answer. answer ≡ errors.NoMemory };
 
     fn from(_: NoMemory) -> Self
-        ensures { result ≡ CommandError.NoMemory }
+        ensures { result ≡ errors.NoMemory }
     {
         CommandError::NoMemory
     }
