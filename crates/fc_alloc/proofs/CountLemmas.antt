@@ -106,7 +106,7 @@ none_above owners top id highest above = list_any_none (owns id) owners (λ k d 
 
 -- ---- the tables after each call
 
--- an owner is put behind the others
+-- an owner is put after the others
 pub counts_push : (owners : List Owner) (counts up : List ℕ) (o : Owner) → AreCounts owners counts → up ≡ set counts o.id (get_or counts o.id 0 + 1)
     → AreCounts (owners ++ o ∷ []) up
 counts_push owners counts up o counted is id within =

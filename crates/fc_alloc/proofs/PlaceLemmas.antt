@@ -38,7 +38,7 @@ at_place owners places node place placed has is =
 pub node_at : (owners : List Owner) (k node : ℕ) (d : Owner) → k < length owners → (get_or owners k d).node ≡ node → has_node owners node ≡ true
 node_at owners k node d within is = list_any_at (is_node node) owners k d within (eq-eqb _ _ is)
 
--- an owner of a new node is put behind the others
+-- an owner of a new node is put after the others
 pub places_push : (owners : List Owner) (places : List ℕ) (o : Owner) → ArePlaces owners places → has_node owners o.node ≡ false → o.node < length places
     → ArePlaces (owners ++ o ∷ []) (set places o.node (length owners))
 places_push owners places o placed absent room k d within =

@@ -101,7 +101,7 @@ fn count_from(counts: &mut Vec<usize>, list: &[Owner], from: usize)
     }
 }
 
-// Counts one owner more of an identifier, where the table has it.
+// Counts one owner more of an identifier, if the table has it.
 pub fn count_up(counts: &mut Vec<usize>, id: u32)
     requires { id < vec_len counts.old → slice_index counts.old.items id + 1 < 2 ^ 64 }
     ensures { counts.new.items ≡ slice_set counts.old.items id (slice_index counts.old.items id + 1) }
@@ -112,7 +112,7 @@ pub fn count_up(counts: &mut Vec<usize>, id: u32)
     }
 }
 
-// Counts one owner less of an identifier, where the table has it.
+// Counts one owner less of an identifier, if the table has it.
 pub fn count_down(counts: &mut Vec<usize>, id: u32)
     requires { id < vec_len counts.old → 0 < slice_index counts.old.items id }
     ensures { counts.new.items ≡ slice_set counts.old.items id (slice_index counts.old.items id - 1) }

@@ -4,7 +4,7 @@ ghost use Rattle.fc_alloc.specs.Lists.{nodes_at};
 
 use std::alloc::AllocError;
 
-/// Puts a node behind the others of a directory. There may be more lists even if there's no memory for the node.
+/// Puts a node after the others of a directory. There may be more lists even if there's no memory for the node.
 pub fn put_last(lists: &mut Vec<Vec<u64>>, dir: u64, node: u64) -> Result<(), AllocError>
     ensures here { IsOk result → nodes_at lists.new.items dir ≡ nodes_at lists.old.items dir ++ node ∷ [] }
     ensures elsewhere { (d : ℕ) → d ≢ dir → nodes_at lists.new.items d ≡ nodes_at lists.old.items d }

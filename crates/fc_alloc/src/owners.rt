@@ -53,7 +53,7 @@ impl Owners {
         }
     }
 
-    /// Puts an owner behind the others, of which none may have its node. After `NoMemory` the list is as before.
+    /// Puts an owner after the others, of which none may have its node. After `NoMemory` the list is as before.
     pub fn add(&mut self, o: Owner) -> Result<(), NoMemory>
         requires { IsFalse (has_node self.old o.node) }
         ensures ok { OnOk result (self.new ≡ self.old ++ o ∷ []) }
@@ -102,7 +102,7 @@ impl Owners {
         self.top = self.top.max(o.id);
     }
 
-    /// The owners. `add` puts one behind the others; `remove` may change their order.
+    /// The owners. `add` puts one after the others; `remove` may change their order.
     pub fn list(&self) -> &[Owner]
         ensures same { result.now ≡ self.now }
         ensures nodes { HaveOwnNodes self.now }

@@ -6,7 +6,7 @@
 // directories in a step of its own, and is in no time but its own. The name for which the lists have to grow, which
 // happens once in as many names as they hold, is a step of its own, too: whether the allocator then moves what they hold
 // depends on the size. All sizes do the same work, so that their times are compared as they stand. Rounds go over all
-// sizes, and the least time of each is told, since other work slows some of them down.
+// sizes, and the least time of each is printed, since other work slows some of them down.
 use crate::timing::{micros_since, rate};
 use crate::visits::{enter_all, look};
 use fc_bigdir::BigDir;
@@ -25,7 +25,7 @@ const NAMES: u32 = 16;
 
 const ROUNDS: u32 = 5;
 
-// The sizes, and the time of each in hundredths of that of the first, where time grows as n log n.
+// The sizes, and the time of each in hundredths of that of the first, if time grows as n log n.
 const SIZES: [(u16, u64); 4] = [(5_000, 100), (10_000, 108), (20_000, 116), (50_000, 127)];
 
 // What the numbers of names are multiplied by: they rise, or they stand in no order.
@@ -111,7 +111,7 @@ fn directory(alloc: Global, entries: u16, order: u32) -> io::Result<Vec<u8>> {
     Ok(b)
 }
 
-// A name that no directory here has, behind those of lesser numbers: the letters of the number, and one more.
+// A name that no directory here has, after those of lesser numbers: the letters of the number, and one more.
 fn new_name(alloc: Global, number: u32) -> Option<Name> {
     let mut name = [b'Z'; 8];
     put(&mut name, 0, &letters(number));

@@ -37,7 +37,7 @@ fn hole_bits(z: u32, i: u32) -> u32
     HOLE_BITS + (z * 7 + i * 37) % 199
 }
 
-// Fills a zone with runs and so many holes, each behind a run. What is left is a run too.
+// Fills a zone with runs and so many holes, each after a run. What is left is a run too.
 fn put_zone(sector: &mut [u8], z: u32, holes: u32)
     requires size { length sector.old ≡ 1024 }
     requires zone { z ≤ 4000 }

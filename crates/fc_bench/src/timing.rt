@@ -13,7 +13,7 @@ pub fn micros_since<R: Clock>(rt: &R, start: Instant) -> io::Result<u64> {
     )
 }
 
-/// How many units of work are done in a second, where so many were done in so many microseconds.
+/// How many units of work are done in a second, if so many were done in so many microseconds.
 pub fn rate(units: u64, micros: u64) -> u64 {
     units
         .saturating_mul(1_000_000)

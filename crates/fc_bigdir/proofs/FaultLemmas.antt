@@ -1,4 +1,4 @@
--- The first fault of a directory, and what stands where there is none around the entries.
+-- The first fault of a directory, and what stands if there is none around the entries.
 use Rattle.std.proofs.Common.{◌≡◌, ◌≤◌, ◌≢◌, ℕ, ◌+◌, ◌*◌, ◌%◌, ◌-◌, ◌&&◌, ◌||◌, ◌==◌, Bool, true, false, not, nat_le, List, [], ◌∷◌, length, slice_index, Some, None, Option, refl, sym, ap, ◌∙◌, arith, subst, inl, inr}
 use Rattle.std.specs.Int.{is_in_range}
 use Rattle.std.proofs.lemmas.Bool.{cases_eq}

@@ -57,7 +57,7 @@ at_front bytes at x rest here =
     let place : at + 0 ≡ at = omega arith in
     sym (rw place at (get_or-drop at bytes 0 0)) ∙ ap (λ r. slice_index r 0) here
 
--- what stands behind the entries
+-- what stands after the entries
 abbrev pub behind_entries : BigDir → List ℕ → ℕ → List ℕ
 behind_entries dir free check = dir.heap ++ (free ++ (tail_word ++ (dir.sequence ∷ (dir.reserved ++ check ∷ []))))
 

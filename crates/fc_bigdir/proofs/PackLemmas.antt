@@ -6,7 +6,7 @@ use Rattle.fc_dirs.specs.Entries.{padded_name}
 use Rattle.fc_dirs.specs.Big.{name_space, packed_heap, packed_places}
 use Rattle.fc_smalldir.proofs.NameLemmas.{length-padded}
 
--- the place behind the names of entries
+-- the place after the names of entries
 abbrev pub names_end : ℕ → List Entry → ℕ
 names_end at [] = at
 names_end at (e ∷ es) = names_end (at + name_space e.name) es

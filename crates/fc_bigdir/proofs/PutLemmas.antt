@@ -6,7 +6,7 @@ use Rattle.fc_dirs.specs.declared.Entry.{Entry}
 use Rattle.fc_dirs.specs.Entries.{padded_name}
 use Rattle.fc_dirs.specs.BigBytes.{entry_bytes, entries_bytes}
 
--- a name with 13 and zeros behind it, where there is room
+-- a name with 13 and zeros after it, if there is room
 padded_room : (n k m : ℕ) (name : List ℕ) → n ≡ length name + suc k → k ≤ m → take n (name ++ 13 ∷ replicate m 0) ≡ name ++ 13 ∷ replicate k 0
 padded_room zero k m name is few = absurd (omega arith)
 padded_room (suc n) k m [] is few =
@@ -29,7 +29,7 @@ set_first_zero front (suc n) at x rest len some =
       set_at_of : (front : List ℕ) (n at x : ℕ) (rest : List ℕ) → length front ≡ at → set (front ++ 0 ∷ (replicate n 0 ++ rest)) at x ≡ front ++ x ∷ replicate n 0 ++ rest
       set_at_of front n at x rest len = set_at front 0 (replicate n 0 ++ rest) x at len ∙ sym (append_assoc front (x ∷ replicate n 0) rest)
 
--- a name was written, then zeros, then the byte behind it
+-- a name was written, then zeros, then the byte after it
 pub name_put : (b0 b1 b2 name : List ℕ) (at behind space : ℕ) → take behind b1 ≡ take at b0 ++ name → behind ≡ at + length name → at + space ≤ length b0
     → take (at + space) b2 ≡ take behind b1 ++ replicate (at + space - behind) 0 → behind < at + space
     → take (at + space) (set b2 behind 13) ≡ take at b0 ++ padded_name space name

@@ -109,7 +109,7 @@ laid_reads dir free check big widths len is form =
       };
     }
 
--- ---- the word behind the heap
+-- ---- the word after the heap
 
 zeros_four : (n : ℕ) → 4 ≤ n → replicate {A = ℕ} n 0 ≡ 0 ∷ 0 ∷ 0 ∷ 0 ∷ replicate (n - 4) 0
 zeros_four zero few = absurd (omega arith)
@@ -122,7 +122,7 @@ left_true : (a b : Bool) → (a && b) ≡ true → a ≡ true
 left_true true b is = refl
 left_true false b is = absurd (cc)
 
--- there is room for a word behind the heap, where the parts fit in the first form, too
+-- there is room for a word after the heap, if the parts fit in the first form, too
 room_for_word : (dir : BigDir) (free : List ℕ) (check : ℕ) → IsBig dir → length free ≡ dir.size - bytes_taken dir → dir.second_form ≡ true
     → is_check_right false (laid dir free check) ≡ true → 4 ≤ dir.size - bytes_taken dir
 room_for_word dir free check big len form right =
@@ -135,7 +135,7 @@ room_for_word dir free check big len form right =
     let end = end_said bytes dir free check false says in
     omega (arith, inside, says.size, space, whole, end)
 
--- the bytes with the word behind the heap that is asked for
+-- the bytes with the word after the heap that is asked for
 pub marked_bytes : (dir : BigDir) → IsBig dir → dir.second_form ≡ true → is_check_right false (checked_bytes dir) ≡ true → (free : List ℕ)
     × (set (checked_bytes dir) (parts_end dir) 1 ≡ laid dir (1 ∷ 0 ∷ 0 ∷ 0 ∷ free) (sum_over (parts_bytes dir) dir)) × (4 + length free ≡ dir.size - bytes_taken dir)
     × (is_check_right false (laid dir (0 ∷ 0 ∷ 0 ∷ 0 ∷ free) (sum_over (parts_bytes dir) dir)) ≡ true)

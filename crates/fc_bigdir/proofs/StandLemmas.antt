@@ -68,7 +68,7 @@ space_holds name = omega arith
 pub name_whole : (name : List ℕ) → name_space name % 4 ≡ 0
 name_whole name = omega arith
 
--- a name behind the heap
+-- a name after the heap
 pub stands_behind : (heap name : List ℕ) → StandsInHeap (heap ++ padded_name (name_space name) name) (length heap) name
 stands_behind heap name =
     let space = name_space name in

@@ -13,7 +13,7 @@ check_set d b last check end whole at place is =
     ap (λ l. set l last check) whole ∙ set_at u 0 [] check last len
     ∙ ap (λ n. u ++ n ∷ []) (is ∙ ap₂ big_dir_check whole place)
 
--- then the word behind the heap
+-- then the word after the heap
 pub word_set : (d : BigDir) (b : List ℕ) (end : ℕ) → b ≡ checked_bytes d → end ≡ parts_end d → d.second_form ≡ true → is_check_right false b ≡ true → set b end 1 ≡ big_bytes d
 unfolding big_bytes
 word_set d b end whole place form right =

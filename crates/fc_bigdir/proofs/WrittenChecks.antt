@@ -16,7 +16,7 @@ use Rattle.fc_bigdir.proofs.LaidLemmas.{SaysLaid, says_laid, length-parts, parts
 
 -- ---- words
 
--- behind whole words stand those of the rest
+-- after whole words stand those of the rest
 words-append : (xs ys : List ℕ) → length xs % 4 ≡ 0 → words (xs ++ ys) ≡ words xs ++ words ys
 words-append (a ∷ b ∷ c ∷ d ∷ xs) ys whole = ap (λ l. little_number 4 (a ∷ b ∷ c ∷ d ∷ []) ∷ l) (words-append xs ys (omega arith))
 words-append [] ys whole = refl
@@ -104,7 +104,7 @@ check_over bytes front dir free check upto says two before =
 front_regrouped : (a w f t c : List ℕ) → a ++ (w ++ f) ++ t ++ c ≡ (a ++ w) ++ (f ++ (t ++ c))
 front_regrouped a w f t c = simp append_assoc
 
--- so many of the bytes behind the heap are taken besides
+-- so many of the bytes after the heap are taken besides
 front_taken : (dir : BigDir) (w free : List ℕ) (check : ℕ) (at : ℕ) → IsBig dir → at ≡ parts_end dir + length w → take at (laid dir (w ++ free) check) ≡ parts_bytes dir ++ w
 front_taken dir w free check at big place =
     ap (take at) (front_regrouped (parts_bytes dir) w free (tail_bytes dir) (check ∷ []))
@@ -152,7 +152,7 @@ two_of (a ∷ []) is = absurd (omega arith)
 two_of (a ∷ b ∷ []) is = (a, b, refl)
 two_of (a ∷ b ∷ c ∷ xs) is = absurd (omega arith)
 
--- the check that the first form takes over a word behind the heap
+-- the check that the first form takes over a word after the heap
 first_form_check : (dir : BigDir) (w free : List ℕ) (check : ℕ) → IsBig dir → length w ≡ 4 → length (w ++ free) ≡ dir.size - bytes_taken dir → dir.second_form ≡ true
     → is_check_right false (laid dir (w ++ free) check) ≡ true → check ≡ sum_over (parts_bytes dir ++ w) dir
 first_form_check dir w free check big wide len form right =
@@ -169,7 +169,7 @@ first_form_check dir w free check big wide len form right =
 taken_regrouped : (xs : List ℕ) (x v s a b : ℕ) → xs ++ x ∷ [] ++ v ∷ [] ++ s ∷ a ∷ b ∷ [] ≡ xs ++ x ∷ v ∷ s ∷ a ∷ b ∷ []
 taken_regrouped xs x v s a b = simp append_assoc
 
--- Another lowest bit behind the heap gives another check.
+-- Another lowest bit after the heap gives another check.
 pub first_form_wrong : (dir : BigDir) (free : List ℕ) (check : ℕ) → IsBig dir → HasWidths dir → 4 + length free ≡ dir.size - bytes_taken dir → dir.second_form ≡ true
     → is_check_right false (laid dir (0 ∷ 0 ∷ 0 ∷ 0 ∷ free) check) ≡ true → is_check_right false (laid dir (1 ∷ 0 ∷ 0 ∷ 0 ∷ free) check) ≡ false
 first_form_wrong dir free check big widths len form right = not_true (is_check_right false (laid dir (1 ∷ 0 ∷ 0 ∷ 0 ∷ free) check)) (λ too.
@@ -192,7 +192,7 @@ first_form_wrong dir free check big widths len form right = not_true (is_check_r
     flipped (words front) 1852143215 dir.sequence two.0 two.1 (words_below front (parts_of_bytes dir big.sequence widths)) (omega arith) big.sequence small.0 small.1.0
     (sym s0 ∙ sym c0 ∙ c1 ∙ s1))
 
--- the byte behind the heap set
+-- the byte after the heap set
 pub behind_heap_set : (dir : BigDir) (x y : ℕ) (free : List ℕ) (check : ℕ) → IsBig dir → set (laid dir (x ∷ free) check) (parts_end dir) y ≡ laid dir (y ∷ free) check
 behind_heap_set dir x y free check big =
     let rest : List ℕ = free ++ (tail_bytes dir ++ check ∷ []) in

@@ -12,7 +12,7 @@ use Rattle.fc_dirs.specs.Big.{AllStand, StandsInHeap, FitsBig, big_entry, is_ent
 use Rattle.fc_dirs.specs.BigBytes.{entry_bytes, entries_bytes}
 use Rattle.fc_bigdir.specs.Laws.{HasWords}
 
--- one step further behind a part
+-- one step further after a part
 pub behind : (bytes part rest : List ℕ) (at size next : ℕ) → drop at bytes ≡ part ++ rest → length part ≡ size → next ≡ at + size → drop next bytes ≡ rest
 behind bytes part rest at size next here is sum =
     rw sum (sym (drop-drop size at bytes) ∙ ap (drop size) here ∙ drop_at part rest size is)

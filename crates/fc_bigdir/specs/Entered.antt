@@ -1,4 +1,4 @@
--- What a directory becomes where an entry is put in: its heap and places, with the names as they stand or made anew.
+-- What a directory becomes if an entry is put in: its heap and places, with the names as they stand or made anew.
 use Rattle.std.specs.Prelude.{◌≡◌, ◌<◌, ◌≤◌, ◌+◌, ◌^◌, ℕ, Bool, true, false, List, ◌++◌, length, insert, min, max, nat_le}
 use Rattle.fc_dirs.specs.declared.Entry.{Entry}
 use Rattle.fc_dirs.specs.Entries.{entry_place, padded_name, with_entry}
@@ -7,7 +7,7 @@ use Rattle.fc_bigdir.specs.declared.enter.Room.{Room}
 use Rattle.fc_bigdir.specs.declared.needed.Parts.{Parts}
 use Rattle.fc_bigdir.specs.Fields.{packed_size}
 
--- the heap: the present one with the new name behind it, or all names alone
+-- the heap: the present one with the new name after it, or all names alone
 abbrev pub entered_heap : Bool → List ℕ → Entry → List Entry → List ℕ
 entered_heap true heap e entries = heap ++ padded_name (name_space e.name) e.name
 entered_heap false heap e entries = packed_heap (with_entry e entries)
@@ -17,7 +17,7 @@ abbrev pub entered_places : Bool → List ℕ → List ℕ → Entry → List En
 entered_places true heap places e entries = insert places (entry_place e.name entries) (length heap)
 entered_places false heap places e entries = packed_places 0 (with_entry e entries)
 
--- the needed size, where so many entries have a heap of `loose` or of `tight` bytes
+-- the needed size, if so many entries have a heap of `loose` or of `tight` bytes
 abbrev pub needed_for : ℕ → ℕ → ℕ → ℕ → ℕ
 needed_for head entries loose tight = min (size_for head entries loose) (size_for head entries tight)
 

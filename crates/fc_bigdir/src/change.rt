@@ -50,7 +50,7 @@ impl BigDir {
         self.entries[at] = e;
     }
 
-    /// Replaces the head's name, which keeps its form, where the size holds it, and else changes nothing. A name in the
+    /// Replaces the head's name, which keeps its form, if the size holds it, and else changes nothing. A name in the
     /// second form is whole words; one that isn't is the same bytes in both forms, and then has the first.
     pub fn set_name(&mut self, name: &Name) -> Result<(), NoMemory>
         ensures ok { OnOk result (self.new ≡ with_head_name name.now self.old) }

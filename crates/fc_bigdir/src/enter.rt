@@ -40,7 +40,7 @@ pub fn room_for(size: u32, parts: Parts) -> Option<Room>
     })
 }
 
-// Puts a name behind a heap.
+// Puts a name after a heap.
 fn push_name(heap: &mut Vec<u8>, name: &Name) -> Result<(), AllocError>
     ensures ok { OnOk result (heap.new.items ≡ heap.old.items ++ padded_name (name_space name.now) name.now) }
     ensures err { OnErr result (heap.new.items ≡ heap.old.items) }
@@ -50,7 +50,7 @@ fn push_name(heap: &mut Vec<u8>, name: &Name) -> Result<(), AllocError>
     heap.extend_from_slice(&field[..end])
 }
 
-// Puts the names of entries behind a heap.
+// Puts the names of entries after a heap.
 fn push_names(heap: &mut Vec<u8>, entries: &[Entry]) -> Result<(), AllocError>
     ensures { OnOk result (heap.new.items ≡ heap.old.items ++ packed_heap entries.now) }
 {
@@ -112,7 +112,7 @@ fn number_places(places: &mut [u32], entries: &[Entry])
     }
 }
 
-// Puts an entry in its place, and its name behind the heap. Where there is no memory nothing changes.
+// Puts an entry in its place, and its name after the heap. If there is no memory nothing changes.
 fn enter_loose(
     heap: &mut Vec<u8>,
     places: &mut Vec<u32>,
@@ -139,7 +139,7 @@ fn enter_loose(
     true
 }
 
-// Puts an entry in its place, and makes the heap anew. Where there is no memory nothing changes.
+// Puts an entry in its place, and makes the heap anew. If there is no memory nothing changes.
 fn enter_tight(
     heap: &mut Vec<u8>,
     places: &mut Vec<u32>,
@@ -175,7 +175,7 @@ fn enter_tight(
     true
 }
 
-// Puts an entry in its place, and its name behind the heap, or makes the heap anew. Where there is no memory nothing
+// Puts an entry in its place, and its name after the heap, or makes the heap anew. If there is no memory nothing
 // changes.
 pub fn enter(
     heap: &mut Vec<u8>,

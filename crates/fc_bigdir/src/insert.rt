@@ -19,10 +19,10 @@ impl BigDir {
     }
 
     /// Puts an entry before the first whose folded name is greater, and else last. Its name folds to no name of the
-    /// directory, and its last byte is 0. The directory grows where it must; only where the heap is too long for that
+    /// directory, and its last byte is 0. The directory grows if it must; only if the heap is too long for that
     /// size with the new name, it is made anew, of exactly the names. After a refusal the directory is as before.
     ///
-    /// `DirFull` comes where the directory would need more than 4,194,304 bytes.
+    /// `DirFull` comes if the directory would need more than 4,194,304 bytes.
     pub fn insert(&mut self, e: Entry) -> Result<(), InsertError>
         requires absent { IsFalse (has_name self.old.entries e.name) }
         requires last { e.last ≡ 0 }

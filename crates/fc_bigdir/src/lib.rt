@@ -1,7 +1,7 @@
 //! Big directories, on E+ and F+ discs.
 //!
 //! A directory is read whole, kept as its head, its heap of names and its entries in stored order, and written whole.
-//! The layout is that of the RISC OS 4 notes on big directories; where they leave a choice, of docs/FORMAT.md.
+//! The layout is that of the RISC OS 4 notes on big directories; if they leave a choice, of docs/FORMAT.md.
 #![tactic(auto)]
 
 mod big;

@@ -10,7 +10,7 @@ use crate::space::{name_space, size_for};
 use fc_names::Name;
 
 // What a directory has with a new name: the space of its head's name, its number of entries, and the bytes of its heap,
-// with the name behind the present one (`loose`) or made anew of exactly the names (`tight`).
+// with the name after the present one (`loose`) or made anew of exactly the names (`tight`).
 #[derive(Clone, Copy)]
 pub struct Parts {
     pub head: usize,

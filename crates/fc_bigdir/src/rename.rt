@@ -72,7 +72,7 @@ impl BigDir {
     /// name folds to no other name of the directory. A name that stays as it is, byte for byte, stays where it is in the
     /// heap; any other makes the directory grow as `insert` does. After a refusal the directory is as before.
     ///
-    /// `DirFull` comes where the name is another and the directory would need more than 4,194,304 bytes.
+    /// `DirFull` comes if the name is another and the directory would need more than 4,194,304 bytes.
     pub fn rename(&mut self, at: usize, e: Entry) -> Result<(), InsertError>
         requires present { at < length self.old.entries }
         requires absent { IsFalse (has_name (without_entry at self.old.entries) e.name) }

@@ -35,7 +35,7 @@ pub fn name_space(name: &Name) -> usize
     (name.bytes().len() + 4) / 4 * 4
 }
 
-// The bytes that head, name, entries, heap and tail take, where the head's name and the heap have these spaces.
+// The bytes that head, name, entries, heap and tail take, if the head's name and the heap have these spaces.
 pub fn bytes_for(head_name: usize, entries: usize, heap: usize) -> usize
     requires head_name { head_name < 2 ^ 32 }
     requires entries { entries < 2 ^ 32 }

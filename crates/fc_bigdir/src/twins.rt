@@ -67,7 +67,7 @@ fn sorted_names(alloc: Global, entries: &[Entry]) -> Result<Vec<Numbered<'_>>, A
     Ok(names)
 }
 
-// The lesser of a number and that of the second name, where the names are the same.
+// The lesser of a number and that of the second name, if the names are the same.
 fn least_with(least: u32, a: &Numbered<'_>, b: &Numbered<'_>) -> u32
     requires first { IsLettered a.now }
     requires second { IsLettered b.now }

@@ -12,7 +12,7 @@ use fc_bytes::{put, put_zeros};
 use fc_checks::big_dir_check;
 
 impl BigDir {
-    // Writes the head with its name, and answers the place behind it.
+    // Writes the head with its name, and answers the place after it.
     fn put_head(&self, b: &mut [u8]) -> usize
         requires { length b.old ≡ self.now.size }
         ensures end { result ≡ 28 + head_space_of self.now }
@@ -81,7 +81,7 @@ impl BigDir {
         ensures written { IsWrittenBig b.new self.now }
     {
         let end = self.put_checked(b);
-        // The check of the first form takes the word behind the heap, too.
+        // The check of the first form takes the word after the heap, too.
         if self.second_form && is_check_right(b, false) {
             b[end] = 1;
         }

@@ -23,7 +23,7 @@ pub struct CachedDisk<D: Disk> {
 }
 
 impl<D: Disk> CachedDisk<D> {
-    /// A disk over `inner` that keeps nothing yet. Where no memory is found for the cache, it never keeps anything.
+    /// A disk over `inner` that keeps nothing yet. If no memory is found for the cache, it never keeps anything.
     pub fn new(alloc: Global, inner: D) -> CachedDisk<D>
         ensures inner { result.inner ≡ inner }
         ensures empty { entries_of result.kept ≡ [] }

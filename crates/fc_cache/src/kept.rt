@@ -12,7 +12,7 @@ use std::num::NonZeroUsize;
 /// How many sectors are kept at most.
 const MOST_SECTORS: usize = 64;
 
-/// The sectors that were used last, each under its number. Where no memory was found for it there is no cache.
+/// The sectors that were used last, each under its number. If no memory was found for it there is no cache.
 #[derive(Drop)]
 pub struct Kept {
     cache: Option<LruCache<u64, Vec<u8>>>,
@@ -54,7 +54,7 @@ impl Kept {
         }
     }
 
-    /// Keeps these bytes as sector n, if memory is found. The sector that was used longest ago goes where there are too
+    /// Keeps these bytes as sector n, if memory is found. The sector that was used longest ago goes if there are too
     /// many.
     pub fn put(&mut self, n: u64, from: &[u8])
         ensures no_more { (m : ℕ) (bytes : Vec ℕ Global) → Holds self.new m bytes → Holds self.old m bytes ⊎ ((m ≡ n) × (bytes.items ≡ from.now)) }

@@ -10,7 +10,7 @@ use Rattle.fc_changes.specs.Owed.{GivesBack, IsSpaceEdit}
 abbrev pub a_file : Object
 a_file = record { path = (65 ∷ []) ∷ []; entry = record { name = 65 ∷ []; load = 0; exec = 0; len = 2048; address = 769; attrs = 3; last = 0 }; sectors = 4 ∷ 5 ∷ [] }
 
--- the map with one hole in the place of identifier 3 and of the hole behind it
+-- the map with one hole in the place of identifier 3 and of the hole after it
 abbrev pub given_back : Map
 given_back = map_with 15 fresh_sector
 

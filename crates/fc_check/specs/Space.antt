@@ -37,7 +37,7 @@ abbrev pub left_sectors : OldMapContent → List Owner → ℕ
 left_sectors space owners =
     left_by (space.disc_units / space.sector_units - map_units space.sector_units / space.sector_units - hole_sum space.holes / space.sector_units) owners
 
--- the bytes that are lost where these are all owners
+-- the bytes that are lost if these are all owners
 abbrev pub bytes_lost_to : Layout → List Owner → ℕ
 bytes_lost_to (Layout.Old space) owners = left_sectors space owners * sector_bytes (Layout.Old space)
 bytes_lost_to (Layout.New m) owners = bits_in (filter (λ p. is_lost_kind owners p.1.kind) (all_runs m)) * m.geometry.bit_bytes

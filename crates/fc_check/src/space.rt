@@ -128,7 +128,7 @@ fn old_counts(map: &OldMap, owners: &[Owner]) -> SpaceCounts
     }
 }
 
-/// The holes of a disc, and what is lost where these are all owners.
+/// The holes of a disc, and what is lost if these are all owners.
 pub fn space_counts(space: &Space, owners: &Owners) -> SpaceCounts
     ensures holes { result.holes ≡ hole_count (layout_of space.now) }
     ensures free { result.free ≡ free_bytes (layout_of space.now) }

@@ -15,7 +15,7 @@ words-first (a ∷ []) h = absurd (omega arith)
 words-first (a ∷ b ∷ []) h = absurd (omega arith)
 words-first (a ∷ b ∷ c ∷ []) h = absurd (omega arith)
 
--- the word at a place stands before those behind it
+-- the word at a place stands before those after it
 pub words-drop : (bs : List ℕ) (i : ℕ) → i + 4 ≤ length bs → words (drop i bs) ≡ u32_at bs i ∷ words (drop (i + 4) bs)
 words-drop bs i h =
     words-first (drop i bs) (omega (arith, length-drop i bs)) ∙ ap (λ rest. u32_at bs i ∷ words rest) (drop-drop 4 i bs)
@@ -28,7 +28,7 @@ words-few (a ∷ b ∷ []) h = refl
 words-few (a ∷ b ∷ c ∷ []) h = refl
 words-few (a ∷ b ∷ c ∷ d ∷ bs) h = absurd (omega arith)
 
--- the sum up to a word, from the sum behind it
+-- the sum up to a word, from the sum after it
 pub carry_sum-drop : (base : ℕ) (bs : List ℕ) (i j sum word : ℕ) → i + 4 ≡ j → j ≤ length bs
     → sum ≡ carry_sum base 0 (words (drop j bs)) → word ≡ u32_at bs i
     → sum % base + sum / base + word ≡ carry_sum base 0 (words (drop i bs))

@@ -66,7 +66,7 @@ bytes_same s t at n size same =
     let low : k < n = omega (arith, h, length-take n (drop at t)) in
     get_or-take n (drop at t) k 0 low ∙ get_or-drop at t k 0 ∙ same (at + k) (omega arith) (omega (arith, low)) ∙ sym (get_or-take n (drop at s) k 0 low ∙ get_or-drop at s k 0))
 
--- the bits behind a place
+-- the bits after a place
 behind_same : (xs ys : List ℕ) (at : ℕ) → length ys ≡ length xs → ((k : ℕ) → at ≤ k → slice_index ys k ≡ slice_index xs k) → drop at ys ≡ drop at xs
 behind_same xs ys at size same =
     ext_get_or 0 (drop at ys) (drop at xs) (omega (arith, length-drop at ys, length-drop at xs, size))

@@ -140,7 +140,7 @@ module _ (g : Geometry) (is : IsGeometry g) where
           ∙ ap (λ (xs : List ℕ). taken id front ++ xs) (append_assoc (stretch start d) (stretch (start + d) n) kept_back)
           ∙ sym (append_assoc (taken id front) (stretch start d) (stretch (start + d) n ++ kept_back))
 
--- one part moves, and what lies before it and behind it stays
+-- one part moves, and what lies before it and after it stays
 pub carried_between : (law : Laws) (size : ℕ) (image holes front moved moved' back : List ℕ) → Carried size image image holes moved moved' → length moved ≡ length moved'
     → Carried size image image holes (front ++ (moved ++ back)) (front ++ (moved' ++ back))
 carried_between law size image holes front moved moved' back c len =

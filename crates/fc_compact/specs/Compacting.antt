@@ -36,7 +36,7 @@ pub record CompactedBy (m m' : Map) (owners : List Owner) : Type 0 where
   pub bits : (id : ℕ) → is_movable_by owners id ≡ true → KeepsBits m m' id
   pub runs : (id : ℕ) → is_movable_by owners id ≡ true → length (id_runs m' id) ≤ length (id_runs m id)
 
--- Where the owners own what the objects own, this is what is said of the objects.
+-- If the owners own what the objects own, this is what is said of the objects.
 pub record ByOwnersLaw : Type 0 where
   pub settled : (m : Map) (owners : List Owner) (objects : List Object) → AreOwnersOf owners objects → IsSettledBy m owners → is_settled_map m objects ≡ true
   pub compacted : (m m' : Map) (owners : List Owner) (objects : List Object) → AreOwnersOf owners objects → CompactedBy m m' owners → CompactedMap m m' objects

@@ -37,7 +37,7 @@ fn cut_back(map: &mut NewMap, z: u16, start: u32, id: u32, len: u32, left: u32)
     }
 }
 
-// Makes one run of a hole and the parts of a run before and behind it.
+// Makes one run of a hole and the parts of a run before and after it.
 fn close(map: &mut NewMap, z: u16, start: u32, id: u32, done: u32, hole: u32, left: u32)
     requires zone { z < map.old.geometry.zones }
     requires some_id { 0 < id }
@@ -55,7 +55,7 @@ fn close(map: &mut NewMap, z: u16, start: u32, id: u32, done: u32, hole: u32, le
     map.merge(z, start);
 }
 
-// Cuts a hole out of a run, `done` bits behind its start.
+// Cuts a hole out of a run, `done` bits after its start.
 fn open(map: &mut NewMap, z: u16, start: u32, id: u32, done: u32, hole: u32, left: u32)
     requires zone { z < map.old.geometry.zones }
     requires fits { start + done + hole + left < 2 ^ 32 }

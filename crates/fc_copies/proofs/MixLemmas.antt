@@ -35,7 +35,7 @@ not_contained [] z out there = omega (arith, there.1)
 not_contained (y ∷ ys) z out (zero, lt, is) = out.0 is
 not_contained (y ∷ ys) z out (suc k, lt, is) = not_contained ys z out.1 (k, omega (arith, lt), is)
 
--- what all of them have, the zone has, where it isn't none of them
+-- what all of them have, the zone has, if it isn't none of them
 pub at_or_out : (zones : List ℕ) (z : ℕ) (P : ℕ → Type 0) → AllByRecursion P zones → NotIn z zones ⊎ P z
 at_or_out [] z P all = inl tt
 at_or_out (y ∷ ys) z P all = elim (cases_eq y z) [

@@ -29,11 +29,11 @@ cross_of zones = xor_all (map (λ sector. slice_index sector 3) zones)
 unfoldable pub is_sound : List (List ℕ) → Bool
 is_sound zones = list_all is_check_right zones && (cross_of zones == 255)
 
--- of a copy that isn't sound: the first zone whose check is wrong, or the number of zones, where none is
+-- of a copy that isn't sound: the first zone whose check is wrong, or the number of zones, if none is
 abbrev pub unsound_zone : List (List ℕ) → ℕ
 unsound_zone zones = position_or_len (λ sector. not (is_check_right sector)) zones
 
--- copy 1 where it is sound, else copy 2 where it is; else where each of the two is wrong
+-- copy 1 if it is sound, else copy 2 if it is; else where each of the two is wrong
 unfoldable pub chosen : Geometry → List ℕ → Result Which (ℕ × ℕ)
 chosen g image =
     if is_sound (copy_of g One image) then Ok One

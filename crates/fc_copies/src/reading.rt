@@ -25,7 +25,7 @@ pub fn start_of(g: &Geometry, w: Which) -> u64
     }
 }
 
-// The CrossCheck of a zone's sector, where its ZoneCheck is right.
+// The CrossCheck of a zone's sector, if its ZoneCheck is right.
 fn cross_in(sector: &[u8]) -> Option<u8>
     requires header { 3 < length sector.now }
     requires words { length sector.now % 4 ≡ 0 }
@@ -38,8 +38,8 @@ fn cross_in(sector: &[u8]) -> Option<u8>
     }
 }
 
-// Where the zones of a copy are wrong: the first zone whose ZoneCheck is, or the number of zones where only the total
-// of the CrossChecks is. None where the copy is sound.
+// Where the zones of a copy are wrong: the first zone whose ZoneCheck is, or the number of zones if only the total
+// of the CrossChecks is. None if the copy is sound.
 fn fault_in(zones: &[u8], g: &Geometry) -> Option<u16>
     requires whole { length zones.now ≡ g.now.zones * g.now.sector }
     requires size { IsSectorSize g.now.sector }

@@ -55,7 +55,7 @@ free_bytes dir = replicate (dir.size - bytes_taken dir) 0
 abbrev pub checked_bytes : BigDir → List ℕ
 checked_bytes dir = laid dir (free_bytes dir) (big_dir_check (laid dir (free_bytes dir) 0) (parts_end dir))
 
--- The bytes of a directory. Where one of the second form would be read by the first, whose check takes the word behind the
+-- The bytes of a directory. If one of the second form would be read by the first, whose check takes the word after the
 -- heap, too, that word becomes 1.
 unfoldable pub big_bytes : BigDir → List ℕ
 big_bytes dir =

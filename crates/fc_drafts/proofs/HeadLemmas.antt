@@ -120,7 +120,7 @@ pub heap_stays : (old new : BigDir) → new.heap ≡ old.heap → names_added ol
 heap_stays old new same none =
     inr (same ∙ sym (append-nil old.heap) ∙ ap (λ (ns : List (List ℕ)). old.heap ++ flat_map (λ (n : List ℕ). padded_name (name_space n) n) ns) (sym none))
 
--- one new name stands behind it
+-- one new name stands after it
 pub heap_longer : (old new : BigDir) (name : List ℕ) → new.heap ≡ old.heap ++ padded_name (name_space name) name → names_added old new ≡ name ∷ [] → HeapAfter old new
 heap_longer old new name longer one =
     inr (longer ∙ ap (λ (xs : List ℕ). old.heap ++ xs) (sym (append-nil (padded_name (name_space name) name)))

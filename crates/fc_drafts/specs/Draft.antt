@@ -95,7 +95,7 @@ abbrev pub IsFullFor : Entry → Directory → Type 0
 IsFullFor e (Directory.Small dir) = IsTrue (is_full_small dir)
 IsFullFor e (Directory.Big dir) = size_limit < size_with e dir
 
--- An entry in place of another finds none: only a big directory may be too small for its name, where that is spelled anew.
+-- An entry in place of another finds none: only a big directory may be too small for its name, if that is spelled anew.
 abbrev pub IsFullForRenamed : ℕ → Entry → Directory → Type 0
 IsFullForRenamed at e (Directory.Small dir) = ⊥
 IsFullForRenamed at e (Directory.Big dir) = (is_spelled at e dir ≡ false) × (size_limit < size_with e (without_big_entry at dir))

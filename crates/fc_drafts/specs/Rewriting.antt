@@ -74,7 +74,7 @@ pub record HasNewHolder (parent : ℕ) (old new : Directory) : Type 0 where
   pub size : size_of new ≡ size_of old
 
 -- An entry has been changed before a rewriting: what is a rewriting of the new directory is one of the old, and there is the same
--- room as before. Where the entry is that of a grown directory, and gets its address and length, all entries are as after growth.
+-- room as before. If the entry is that of a grown directory, and gets its address and length, all entries are as after growth.
 pub record HasAmended (at : ℕ) (e : Entry) (old new : Directory) : Type 0 where
   pub is : new ≡ with_changed at e old
   pub carries : (c : Command) (path : Path) (parent : ℕ) (later : Directory) → IsRewritten c path parent new later → IsRewritten c path parent old later

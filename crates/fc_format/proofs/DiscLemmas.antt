@@ -158,7 +158,7 @@ pub fresh_long : (format : Format) (old : List ℕ) → format_size format ≤ l
 unfolding fresh_image disc_of
 fresh_long format old = omega (arith, length-append (disc_of format) (drop (format_size format) old), length-disc format)
 
--- What holds where there is a value, leads on.
+-- What holds if there is a value, leads on.
 pub on_ok : {T E : Type 0} {P Q : Type 0} (r : Result T E) → OnOk r P → (P → Q) → OnOk r Q
 on_ok (Ok x) has leads = leads has
 on_ok (Err e) has leads = tt

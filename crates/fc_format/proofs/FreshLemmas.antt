@@ -12,7 +12,7 @@ use Rattle.fc_format.proofs.OneZoneLemmas.{opens_E, opens_E+}
 use Rattle.fc_format.proofs.OpenLemmas.{OpensAlone}
 use Rattle.fc_format.proofs.DiscLemmas.{fresh_long, front_long, length-front}
 
--- what comes behind the front
+-- what comes after the front
 abbrev rest_of : Format → List ℕ → List ℕ
 rest_of format old = zeros (format_size format - front_long format) ++ drop (format_size format) old
 

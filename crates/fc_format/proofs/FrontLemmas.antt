@@ -5,7 +5,7 @@ use Rattle.std.proofs.lemmas.Slice.{drop-append-drop}
 use Rattle.std.proofs.lemmas.Bool.{cases_lt}
 use Rattle.fc_device.specs.Sectors.{with_sector}
 
--- one sector more behind a front
+-- one sector more after a front
 pub front_more : (front piece image : List ℕ) (n : ℕ) → length front ≡ n * 256 → length piece ≡ 256
     → with_sector 256 (front ++ drop (length front) image) n piece ≡ front ++ piece ++ drop (length (front ++ piece)) image
 unfolding with_sector
@@ -25,7 +25,7 @@ front_written front piece n None old new long whole had written = written ∙ ap
 front_written front piece n (Some image) old new long whole had written =
     written ∙ ap (option_map (λ image. with_sector 256 image n piece)) had ∙ ap Some (front_more front piece image n long whole)
 
--- what stands behind a written sector stays
+-- what stands after a written sector stays
 pub behind_stays : (n at : ℕ) (piece image : List ℕ) → at * 256 + 256 ≤ n → length piece ≡ 256 → drop n (with_sector 256 image at piece) ≡ drop n image
 unfolding with_sector
 behind_stays n at piece image far whole = elim (cases_lt (length image) (at * 256)) [ inl short ↦ past short | inr long ↦ whole_sector long ]

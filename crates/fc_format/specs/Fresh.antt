@@ -148,6 +148,6 @@ front_of FPlus = zeros 0xC00 ++ boot_block (plus_record f_record) ++ zeros (0xC6
 front_of D = old_map_with 3200 12 ++ zeros 512 ++ new_root 4
 front_of L = old_map_with 2560 7 ++ old_root 2
 
--- the disc, and then what stood behind its end
+-- the disc, and then what stood after its end
 unfoldable pub fresh_image : Format → List ℕ → List ℕ
 fresh_image format old = front_of format ++ zeros (format_size format - length (front_of format)) ++ drop (format_size format) old

@@ -10,7 +10,7 @@ use Rattle.fc_device.specs.Calls.{StopsAndExitsLeave}
 abbrev pub HasFront : {D : Type 0} → Ghosts D → D → List ℕ → D → Type 0
 HasFront d start front now = d.bytes now ≡ option_map (λ image. front ++ drop (length front) image) (d.bytes start)
 
--- Where a front of this length was written at old, these bytes are written behind it at new.
+-- If a front of this length was written at old, these bytes are written after it at new.
 abbrev pub LengthensFront : {D : Type 0} → Ghosts D → D → D → ℕ → List ℕ → Type 0
 LengthensFront {D} d old new long bytes = (start : D) (front : List ℕ) → length front ≡ long → HasFront d start front old → HasFront d start (front ++ bytes) new
 
@@ -18,7 +18,7 @@ LengthensFront {D} d old new long bytes = (start : D) (front : List ℕ) → len
 abbrev pub SameBehind : ℕ → List ℕ → List ℕ → Type 0
 SameBehind n was image = drop n image ≡ drop n was
 
--- Where each stop and each exit since some start left the bytes from place n on, those from place `from` or an earlier one, it still does.
+-- If each crash and each exit since some start left the bytes from place n on, those from place `from` or an earlier one, it still does.
 abbrev pub KeepsBehind : {D : Type 0} → Ghosts D → D → D → ℕ → Type 0
 KeepsBehind {D} d old new from = (start : D) (n : ℕ) → from ≤ n → StopsAndExitsLeave d start old (SameBehind n) → StopsAndExitsLeave d start new (SameBehind n)
 
@@ -31,7 +31,7 @@ abbrev pub AreParts : ℕ → List Part → ℕ → Type 0
 AreParts at [] end = at ≤ end
 AreParts at (part ∷ parts) end = (at ≤ part.0) × (length part.1.now % 256 ≡ 0) × AreParts (part.0 + length part.1.now / 256) parts end
 
--- the bytes of the sectors from `at` up to `end`: the parts, and bytes 0 between and behind them
+-- the bytes of the sectors from `at` up to `end`: the parts, and bytes 0 between and after them
 abbrev pub laid : ℕ → List Part → ℕ → List ℕ
 laid at [] end = zeros (256 * (end - at))
 laid at (part ∷ parts) end = zeros (256 * (part.0 - at)) ++ part.1.now ++ laid (part.0 + length part.1.now / 256) parts end

@@ -1,4 +1,4 @@
--- Zones that are laid out afresh: runs of identifiers from the first bit on, and one hole behind them.
+-- Zones that are laid out afresh: runs of identifiers from the first bit on, and one hole after them.
 use Rattle.std.specs.Prelude.{◌≡◌, ◌⊎◌, ◌<◌, ℕ, ◌+◌, ◌-◌, ◌^◌, List, [], ◌∷◌, length}
 use Rattle.fc_bytes.specs.Bits.{bits}
 use Rattle.fc_format.specs.Fresh.{f_record, plus_record}
@@ -12,12 +12,12 @@ use Rattle.fc_zone.specs.Edits.{CanSplit, IsWritten, KeepsOutside}
 abbrev pub last_hole : ZoneShape → ℕ → Run
 last_hole shape at = record { start = at; len = shape.end - at; kind = Hole }
 
--- runs of these lengths and identifiers from a place on, and one hole behind them
+-- runs of these lengths and identifiers from a place on, and one hole after them
 abbrev pub owned_runs : ZoneShape → ℕ → List (ℕ × ℕ) → List Run
 owned_runs shape at [] = last_hole shape at ∷ []
 owned_runs shape at (owned ∷ rest) = record { start = at; len = owned.0; kind = Id owned.1 } ∷ owned_runs shape (at + owned.0) rest
 
--- such runs have room, and the hole behind them too
+-- such runs have room, and the hole after them too
 abbrev pub CanOwn : ZoneShape → ℕ → List (ℕ × ℕ) → Type 0
 CanOwn shape at [] = Unit {0}
 CanOwn shape at (owned ∷ rest) = CanSplit shape (last_hole shape at) owned.0 × (0 < owned.1) × (owned.1 < 2 ^ shape.idlen) × CanOwn shape (at + owned.0) rest

@@ -63,8 +63,8 @@ fn write_zeros<D: Disk>(disk: &mut D, first: u64, end: u64) -> Result<(), DiskFa
 /// A part of a disc: its first sector, and its bytes.
 pub type Part<'a> = (u64, &'a [u8]);
 
-// Writes bytes 0 from sector `at` up to sector `first`, and bytes, which are whole sectors, behind them. Answers the
-// sector behind all.
+// Writes bytes 0 from sector `at` up to sector `first`, and bytes, which are whole sectors, after them. Answers the
+// sector after all.
 fn write_part<D: Disk>(disk: &mut D, at: u64, first: u64, bytes: &[u8]) -> Result<u64, DiskFault>
     requires attached { IsTrue (D.attached disk.old) }
     requires size { D.sector_size disk.old ≡ 256 }
@@ -82,7 +82,7 @@ fn write_part<D: Disk>(disk: &mut D, at: u64, first: u64, bytes: &[u8]) -> Resul
     Ok(first + (bytes.len() / SECTOR) as u64)
 }
 
-/// Writes the sectors up to `end`: the parts, which stand in this order, and bytes 0 between and behind them.
+/// Writes the sectors up to `end`: the parts, which stand in this order, and bytes 0 between and after them.
 pub fn write_parts<D: Disk>(disk: &mut D, parts: &[Part], end: u64) -> Result<(), DiskFault>
     requires attached { IsTrue (D.attached disk.old) }
     requires size { D.sector_size disk.old ≡ 256 }

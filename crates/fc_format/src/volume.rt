@@ -121,12 +121,12 @@ fn write_volume<D: Disk>(disk: &mut D, f: Format) -> Result<(), DiskFault>
 
 /// Makes the disk a fresh volume. The disk is attached, with sectors of any size, and nothing is pending.
 ///
-/// Then the image is the fresh one of the format, with the bytes that stood behind the disc's end; the disk has sectors
-/// of 256 bytes, and nothing is pending. What stands behind the disc's end stays in any case, at each stop of the machine
+/// Then the image is the fresh one of the format, with the bytes that stood after the disc's end; the disk has sectors
+/// of 256 bytes, and nothing is pending. What stands after the disc's end stays in any case, at each crash of the machine
 /// too.
 ///
-/// The answer is `TooSmall` exactly where the image is shorter than the disc, and then nothing has changed. It is
-/// `DiskFault` only where the disk's count of faults rose. No memory is taken.
+/// The answer is `TooSmall` exactly if the image is shorter than the disc, and then nothing has changed. It is
+/// `DiskFault` only if the disk's count of faults rose. No memory is taken.
 pub fn make<D: Disk>(disk: &mut D, f: Format) -> Result<(), FormatError>
     requires attached { IsTrue (D.attached disk.old) }
     requires settled { IsFalse (D.pending disk.old) }

@@ -23,7 +23,7 @@ fn take_front(b: &mut [u8], shape: &ZoneShape, at: u32, len: u32, id: u32)
     label(b, shape, at, id);
 }
 
-/// Lays out a zone: runs of these lengths and identifiers from its first bit on, and one hole behind them. FreeLink is
+/// Lays out a zone: runs of these lengths and identifiers from its first bit on, and one hole after them. FreeLink is
 /// written too, and no other byte.
 pub fn lay_out(b: &mut [u8], shape: &ZoneShape, owned: &[(u32, u32)])
     requires shape { IsShapeOf b.old shape.now }

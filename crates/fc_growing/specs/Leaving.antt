@@ -1,4 +1,4 @@
--- The directory that an object leaves, where the directory to which the object goes grows: it may hold the grown one, or lie in it.
+-- The directory that an object leaves, if the directory to which the object goes grows: it may hold the grown one, or lie in it.
 use Rattle.std.specs.Prelude.{◌≡◌, ◌==◌, ℕ, Bool, true, false, not, List, IsTrue, if◌then◌else◌, Some, slice_get}
 use Rattle.std.specs.FinMap.{get}
 use Rattle.std.specs.Option.{option_map_or}

@@ -1,4 +1,4 @@
--- `rename` where the directory that gets the name may grow: what the judge accepts, and what room there is for the name.
+-- `rename` if the directory that gets the name may grow: what the judge accepts, and what room there is for the name.
 use Rattle.std.specs.Prelude.{◌≡◌, ◌<◌, ℕ, List, None, Some, IsTrue, length, slice_get}
 use Rattle.std.specs.FinMap.{get}
 use Rattle.fc_names.specs.Names.{Path, is_writable}

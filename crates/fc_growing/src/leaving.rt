@@ -1,4 +1,4 @@
-// The directory that an object leaves, where the directory to which the object goes grows: it may hold the grown one, or lie in it, so
+// The directory that an object leaves, if the directory to which the object goes grows: it may hold the grown one, or lie in it, so
 // that it isn't one of those that are written around that.
 ghost use Rattle.std.specs.Prelude.{◌≡◌, filter, IfOk};
 ghost use Rattle.fc_drafts.specs.Draft.{directory_in};

@@ -178,7 +178,7 @@ fn make<D: Disk>(volume: &mut Volume, disk: &mut D, change: GrownMaking) -> Resu
     }
 }
 
-// Makes an empty directory where the one that is to hold it, that of a node, grows to `len` bytes.
+// Makes an empty directory if the one that is to hold it, that of a node, grows to `len` bytes.
 fn cdir_growing<D: Disk>(
     volume: &mut Volume,
     alloc: Global,

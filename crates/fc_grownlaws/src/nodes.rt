@@ -7,7 +7,7 @@ pub fn regrown()
     ensures { RegrownLaw }
 {}
 
-/// A node that is told something twice says the second.
+/// Of two edits of a node the second counts.
 pub fn absorbed()
     ensures { AbsorbedLaw }
 {}

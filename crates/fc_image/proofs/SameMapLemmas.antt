@@ -111,7 +111,7 @@ same_map_law image kind other r s v w m n new new' e e' layout layout' same =
           (subst (λ (x : Object). Follows (reader_of image (Layout.New m)) (Layout.New m) (x ∷ []) w.listings) root follows') a.2,
     )
 
--- ---- what each stop keeps
+-- ---- what each crash keeps
 
 pub keeps_objects_law : KeepsObjectsLaw
 keeps_objects_law = record {

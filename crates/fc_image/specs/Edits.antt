@@ -44,7 +44,7 @@ pub record IsRoot (layout : Layout) (address size : ℕ) (root : Object) : Type 
   pub entry : root.entry ≡ root_entry address (directory_size (dir_form layout) size)
   pub placed : IsAt layout root
 
--- The walk finds the listings that follow from the root, where all objects are apart and there are no more directories
+-- The walk finds the listings that follow from the root, if all objects are apart and there are no more directories
 -- than sectors and one; and it finds no others.
 pub record WalkFormLaw : Type 0 where
   pub makes : (read : Reader) (layout : Layout) (reserved : List ℕ) (address size : ℕ) (root : Object) (listings : List Listing)
@@ -78,7 +78,7 @@ pub record EditLaw : Type 0 where
   pub dir_added : (read : Reader) (layout : Layout) (front rest : List Object) (listings : List Listing) (l : Listing)
       → Follows read layout (front ++ rest) listings → IsListing read layout l → filter is_directory_object l.children ≡ []
       → Follows read layout (front ++ l.object ∷ rest) (take (length front) listings ++ l ∷ drop (length front) listings)
-  -- or goes, where it has one listing.
+  -- or goes, if it has one listing.
   pub dir_removed : (read : Reader) (layout : Layout) (front rest : List Object) (o : Object) (early late : List Listing) (l : Listing)
       → Follows read layout (front ++ o ∷ rest) (early ++ l ∷ late) → l.object ≡ o → filter is_directory_object l.children ≡ []
       → ((k : Listing) → Contains (early ++ late) k → k.object ≡ o → ⊥)
@@ -108,7 +108,7 @@ pub record StayLaw : Type 0 where
   -- each listing of a walk is one that its reader and layout have
   pub listed : (read : Reader) (layout : Layout) (reserved : List ℕ) (address size : ℕ) (listings : List Listing)
       → walk read layout reserved address size ≡ Ok listings → StayListed read layout listings
-  -- Another image says the same by another layout, where the objects have their places and the directories their bytes.
+  -- Another image says the same by another layout, if the objects have their places and the directories their bytes.
   pub other : (image other : List ℕ) (layout layout' : Layout) (listings : List Listing) → dir_form layout' ≡ dir_form layout → sector_bytes layout' ≡ sector_bytes layout
       → StayListed (reader_of image layout) layout listings
       → ((l : Listing) → Contains listings l → HasSectorsOf (sector_bytes layout) l.object.sectors image other)

@@ -26,7 +26,7 @@ dir_form (Old space) = if space.sector_units == 4 then Ten else Seven
 dir_form (New m) = if m.geometry.version == 0 then Ten else Long
 
 -- The sectors of the disc. On a new map they are those that map bits stand for, which may be a few less than the disc's,
--- where a map bit stands for several sectors.
+-- if a map bit stands for several sectors.
 abbrev pub disc_sectors : Layout → ℕ
 disc_sectors (Old space) = space.disc_units / space.sector_units
 disc_sectors (New m) = m.geometry.disc_bits * m.geometry.bit_bytes / m.geometry.sector
@@ -57,7 +57,7 @@ id_of address = address / 256
 abbrev pub low_of : ℕ → ℕ
 low_of address = address % 256
 
--- the first n, where there are so many
+-- the first n, if there are so many
 abbrev pub first_part : ℕ → List ℕ → Option (List ℕ)
 first_part n xs = if nat_le n (length xs) then Some (take n xs) else None
 

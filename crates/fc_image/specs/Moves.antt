@@ -15,14 +15,14 @@ use Rattle.fc_image.specs.Objects.{objects_of, tree_of, is_movable, is_owned}
 use Rattle.fc_image.specs.Opening.{Opened, MapAndRoot, map_and_root, is_hole_or_movable, boot_place}
 use Rattle.fc_image.specs.Stays.{IsNewKind, OpensAs, StaysWhole, stored_objects, FixedStay, FixedBytesStay, SameOutsideHoles}
 
--- ---- what is opened, where the map is another
+-- ---- what is opened, if the map is another
 
 -- the sectors, if there are any
 abbrev pub sectors_or_none : Option (List ℕ) → List ℕ
 sectors_or_none None = []
 sectors_or_none (Some sectors) = sectors
 
--- the object where the layout has its address
+-- the object if the layout has its address
 abbrev pub object_in : Layout → Object → Object
 object_in layout o = record o { sectors = sectors_or_none (sectors_at layout o.entry.address (object_size (dir_form layout) o.entry)) }
 
@@ -50,7 +50,7 @@ pub record Turns (m m' : Map) (image other : List ℕ) : Type 0 where
 pub record Carries (m m' : Map) (objects : List Object) (image other : List ℕ) (f : ℕ → ℕ) : Type 0 where
   pub turns : Turns m m' image other
   pub fixed : (k : ℕ) → is_movable objects k ≡ false → id_runs m' k ≡ id_runs m k
-  -- an identifier's sectors are carried, in order, and there may be more behind them
+  -- an identifier's sectors are carried, in order, and there may be more after them
   pub ids : (k : ℕ) → (extra : List ℕ) × (id_sectors m' k ≡ map f (id_sectors m k) ++ extra)
   pub bytes : (k s : ℕ) → is_among (id_sectors m k) s ≡ true → is_among (map_sectors m.geometry) s ≡ false
       → sector_at m.geometry.sector other (f s) ≡ sector_at m.geometry.sector image s
@@ -93,7 +93,7 @@ abbrev pub BootApartLaw : Type 0
 BootApartLaw = (image : List ℕ) (kind : Kind) (v : Opened) (m : Map) → OpensAs image kind v → v.layout ≡ Layout.New m
     → is_apart (boot_place kind m.geometry.sector) (map_sectors m.geometry) ≡ true
 
--- A disc with a boot block passes its kind's own test, where it differs from one that opens only in the map and in holes.
+-- A disc with a boot block passes its kind's own test, if it differs from one that opens only in the map and in holes.
 abbrev pub BootStaysLaw : Type 0
 BootStaysLaw = (image other : List ℕ) (r : DiscRecord) (v : Opened) (m : Map) → OpensAs image (Boot r) v → v.layout ≡ Layout.New m
     → length other ≡ length image
@@ -101,7 +101,7 @@ BootStaysLaw = (image other : List ℕ) (r : DiscRecord) (v : Opened) (m : Map) 
     → sector_at m.geometry.sector other s ≡ sector_at m.geometry.sector image s)
     → fits_kind other (Boot r) ≡ true
 
--- A disc of one zone passes its kind's own test, where its map is found.
+-- A disc of one zone passes its kind's own test, if its map is found.
 abbrev pub ZoneFitsLaw : Type 0
 ZoneFitsLaw = (image : List ℕ) (r : DiscRecord) (found : MapAndRoot) → IsKind (OneZone r) → r.size ≤ length image → map_and_root image (OneZone r) ≡ Ok found
     → fits_kind image (OneZone r) ≡ true
@@ -149,7 +149,7 @@ pub record CanMerge (m m' : Map) (objects : List Object) : Type 0 where
 abbrev pub CanCommit : Map → Map → List Object → List ℕ → Type 0
 CanCommit m m' objects image = ((id : ℕ) × CanMove m m' objects id image) ⊎ CanMerge m m' objects
 
--- Each image that a stop inside a commit may leave, and the one after it, has the tree whole, by the old map or the new one.
+-- Each image that a crash inside a commit may leave, and the one after it, has the tree whole, by the old map or the new one.
 abbrev pub CommitLaw : Type 0
 CommitLaw = (image other : List ℕ) (kind : Kind) (r : DiscRecord) (v : Opened) (m m' : Map) → IsNewKind kind r
     → OpensAs image kind v → v.layout ≡ Layout.New m → CanCommit m m' (objects_of v.listings) image → CommitLeaves m.geometry image m.zones m'.zones other
@@ -170,7 +170,7 @@ ThenLaw = (first second third : List ℕ) (kind : Kind) (r : DiscRecord) (v : Op
 abbrev pub WholeLaw : Type 0
 WholeLaw = (image other : List ℕ) (kind : Kind) (v : Opened) (m' : Map) → StaysBy kind image v m' other → StaysWhole kind image v other
 
--- A disc of one zone with sector 3 in identifier 2 doesn't come to look like one with a boot block, where it stays whole.
+-- A disc of one zone with sector 3 in identifier 2 doesn't come to look like one with a boot block, if it stays whole.
 abbrev pub LooksLaw : Type 0
 LooksLaw = (image other : List ℕ) (r : DiscRecord) (v : Opened) (m : Map) → OpensAs image (OneZone r) v → v.layout ≡ Layout.New m
     → is_among (id_sectors m 2) 3 ≡ true → StaysWhole (OneZone r) image v other → length other ≡ length image
@@ -181,7 +181,7 @@ abbrev pub SameMapLaw : Type 0
 SameMapLaw = (image : List ℕ) (kind other : Kind) (r s : DiscRecord) (v w : Opened) (m n : Map) → IsNewKind kind r → IsNewKind other s → OpensAs image kind v → OpensAs image other w
     → v.layout ≡ Layout.New m → w.layout ≡ Layout.New n → n.geometry ≡ m.geometry → (n ≡ m) × (w.listings ≡ v.listings)
 
--- From one image to another the tree is whole, as each kind whose map has this geometry: what each stop and each exit keeps.
+-- From one image to another the tree is whole, as each kind whose map has this geometry: what each crash and each exit keeps.
 -- (An image may open as another kind too, with other bytes as its map; that isn't kept.)
 abbrev pub KeepsObjects : Geometry → List ℕ → List ℕ → Type 0
 KeepsObjects g image other = (kind : Kind) (r : DiscRecord) (v : Opened) (m : Map) → IsNewKind kind r → OpensAs image kind v → v.layout ≡ Layout.New m
@@ -204,7 +204,7 @@ pub record CarriedLaw : Type 0 where
   -- what isn't moved has its bytes,
   pub stay : (size : ℕ) (image other holes xs : List ℕ) → ((s : ℕ) → is_among xs s ≡ true → sector_at size other s ≡ sector_at size image s)
       → Carried size image other holes xs xs
-  -- what lies behind comes behind,
+  -- what lies after comes after,
   pub both : (size : ℕ) (image other holes old new old' new' : List ℕ) → Carried size image other holes old new → length old ≡ length new
       → Carried size image other holes old' new' → Carried size image other holes (old ++ old') (new ++ new')
   -- a piece of a run moves into a hole, and all sectors move into one.

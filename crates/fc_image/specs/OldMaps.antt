@@ -17,7 +17,7 @@ pub record LiesOnOldMap (space : OldMapContent) (o : Object) : Type 0 where
   pub apart : (s : ℕ) → is_among o.sectors s ≡ true → is_among (hole_sectors (Layout.Old space)) s ≡ false
   pub root : length o.path ≡ 0 → o.entry.address ≡ map_units space.sector_units
 
--- Sectors have 256 or 1024 bytes. The holes are whole sectors, rise, and lie behind the map.
+-- Sectors have 256 or 1024 bytes. The holes are whole sectors, rise, and lie after the map.
 pub record IsOldDisc (space : OldMapContent) (objects : List Object) : Type 0 where
   pub units : (space.sector_units ≡ 1) ⊎ (space.sector_units ≡ 4)
   pub holes : AreHoles space.disc_units space.sector_units (map_units space.sector_units) space.holes

@@ -42,7 +42,7 @@ byte_compared r at = if at == 40 then slice_index r.raw at % 16 else slice_index
 abbrev pub difference : DiscRecord → DiscRecord → Option ℕ
 difference r s = find (λ at. not (byte_compared r at == byte_compared s at)) compared_offsets
 
--- the map's own record, where it agrees with the kind's and has a right root
+-- the map's own record, if it agrees with the kind's and has a right root
 abbrev pub agreement : DiscRecord → DiscRecord → Option ℕ → Result DiscRecord ImageFault
 agreement r s (Some at) = Err (faults.Differs at)
 agreement r s None =
@@ -92,7 +92,7 @@ map_and_root image (DiscL units) = old_layout image 1 2
 
 -- ---- what no object may take
 
--- the sectors of the bytes from &C00 to &DFF, where there is a boot block
+-- the sectors of the bytes from &C00 to &DFF, if there is a boot block
 abbrev pub boot_place : Kind → ℕ → List ℕ
 boot_place (Boot r) sector = range_with_len (0xC00 / sector) (div_ceil 512 sector)
 boot_place (OneZone r) sector = []
@@ -133,7 +133,7 @@ unless_misplaced v (Some sector) = Err (faults.MapPlace sector)
 
 -- ---- opening
 
--- what an image opens as, where it passes the test of the kind and is long enough
+-- what an image opens as, if it passes the test of the kind and is long enough
 abbrev pub open_parts : List ℕ → Kind → Result Opened ImageFault
 open_parts image kind = do
   found ← map_and_root image kind

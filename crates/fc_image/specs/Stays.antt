@@ -70,7 +70,7 @@ pub record KeepsTree (kind : Kind) (old : List ℕ) (v : Opened) (image : List �
   pub opens : OpensAs image kind view
   pub tree : tree_of image view.layout view.listings ≡ tree_of old v.layout v.listings
 
--- Where all objects are stored alike, the trees are the same.
+-- If all objects are stored alike, the trees are the same.
 abbrev pub StoredLaw : Type 0
 StoredLaw = (image other : List ℕ) (v w : Opened) → stored_objects other w ≡ stored_objects image v
     → tree_of other w.layout w.listings ≡ tree_of image v.layout v.listings

@@ -70,8 +70,8 @@ at_path path (Err fault) = Err (faults.Directory path fault)
 abbrev pub is_directory_object : Object → Bool
 is_directory_object o = is_directory o.entry.attrs
 
--- The directories that wait are read in turn, and those that they hold wait behind the others. Since each takes sectors
--- that are not taken yet, `fuel` doesn't run out where it is above the number of sectors; if it did, it would be a fault.
+-- The directories that wait are read in turn, and those that they hold wait after the others. Since each takes sectors
+-- that are not taken yet, `fuel` doesn't run out if it is above the number of sectors; if it did, it would be a fault.
 unfoldable pub listings_from : Reader → Layout → ℕ → List ℕ → List Object → Result (List Listing) ImageFault
 listings_from read layout zero taken [] = Ok []
 listings_from read layout zero taken (o ∷ waiting) = Err (faults.Overlap o.path)
@@ -86,7 +86,7 @@ listings_from read layout (suc fuel) taken (o ∷ waiting) = do
 abbrev pub root_entry : ℕ → ℕ → Entry
 root_entry address size = record { name = 36 ∷ []; load = 0; exec = 0; len = size; address = address; attrs = 8; last = 0 }
 
--- the listings of all directories, the root's first, where some sectors are reserved
+-- the listings of all directories, the root's first, if some sectors are reserved
 unfoldable pub walk : Reader → Layout → List ℕ → ℕ → ℕ → Result (List Listing) ImageFault
 walk read layout reserved address size = do
   root ← object_of layout reserved [] (root_entry address (directory_size (dir_form layout) size))

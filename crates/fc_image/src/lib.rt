@@ -31,7 +31,7 @@ ghost use Rattle.fc_image.specs.Stays.{FreeLaw, HoleWriteLaw, HolesLaw, StoredLa
 use fc_dirs::DirFault;
 use fc_names::Path;
 
-/// Why an image isn't accepted, in the order in which faults are told.
+/// Why an image isn't accepted, in the order in which faults are reported.
 #[derive(Drop)]
 pub enum ImageFault {
     /// It is no disc of a known kind.
@@ -68,7 +68,7 @@ pub fn walking()
     ensures { WalkLaw }
 {}
 
-/// An image opens where its parts are right and its bytes spell them.
+/// An image opens if its parts are right and its bytes spell them.
 pub fn opens()
     ensures { OpensLaw }
 {}
@@ -78,7 +78,7 @@ pub fn accepted()
     ensures { AcceptedLaw }
 {}
 
-/// Opening an image by itself gives what opening it as a kind gives, where no earlier kind fits.
+/// Opening an image by itself gives what opening it as a kind gives, if no earlier kind fits.
 pub fn opened_again()
     ensures { LaterOpeningLaw }
 {}
@@ -88,7 +88,7 @@ pub fn free()
     ensures { FreeLaw }
 {}
 
-/// Where all objects are stored alike, the trees are the same.
+/// If all objects are stored alike, the trees are the same.
 pub fn stored()
     ensures { StoredLaw }
 {}
@@ -108,12 +108,12 @@ pub fn boot_apart()
     ensures { BootApartLaw }
 {}
 
-/// A disc with a boot block keeps its kind, where only the map and holes change.
+/// A disc with a boot block keeps its kind, if only the map and holes change.
 pub fn boot_stays()
     ensures { BootStaysLaw }
 {}
 
-/// A disc of one zone keeps its kind, where its map is found.
+/// A disc of one zone keeps its kind, if its map is found.
 pub fn zone_fits()
     ensures { ZoneFitsLaw }
 {}
@@ -138,7 +138,7 @@ pub fn maps()
     ensures { WithMapLaw }
 {}
 
-/// Each image that a stop inside a commit may leave has all objects as they were.
+/// Each image that a crash inside a commit may leave has all objects as they were.
 pub fn commits()
     ensures { CommitLaw }
 {}
@@ -158,7 +158,7 @@ pub fn wholes()
     ensures { WholeLaw }
 {}
 
-/// A disc of one zone doesn't come to look like one with a boot block, where sector 3 lies in identifier 2.
+/// A disc of one zone doesn't come to look like one with a boot block, if sector 3 lies in identifier 2.
 pub fn looks()
     ensures { LooksLaw }
 {}
@@ -168,7 +168,7 @@ pub fn one_map()
     ensures { SameMapLaw }
 {}
 
-/// What each stop of compaction keeps, is kept from one to the next.
+/// What each crash of compaction keeps, is kept from one to the next.
 pub fn keeps_objects()
     ensures { KeepsObjectsLaw }
 {}
@@ -178,7 +178,7 @@ pub fn pieces()
     ensures { CarriedLaw }
 {}
 
-/// A walk finds the listings that follow from the root, where all objects are apart, and no others.
+/// A walk finds the listings that follow from the root, if all objects are apart, and no others.
 pub fn walk_form()
     ensures { WalkFormLaw }
 {}
@@ -188,7 +188,7 @@ pub fn room()
     ensures { RoomLaw }
 {}
 
-/// Listings that follow, where one of them is edited.
+/// Listings that follow, if one of them is edited.
 pub fn edits()
     ensures { EditLaw }
 {}

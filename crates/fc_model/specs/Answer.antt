@@ -16,7 +16,7 @@ abbrev pub node_or_absent : Option Node → Result Node Refusal
 node_or_absent None = Err refusals.NotFound
 node_or_absent (Some node) = Ok node
 
--- The shortest prefix that is no directory decides: it isn't there, or it is a file with names behind it.
+-- The shortest prefix that is no directory decides: it isn't there, or it is a file with names after it.
 abbrev pub found_below : Tree → Path → Path → Result Node Refusal
 found_below t seen [] = node_or_absent (node_at t seen)
 found_below t seen (name ∷ names) = below (node_at t seen) (found_below t (seen ++ name ∷ []) names)
@@ -88,7 +88,7 @@ is_name_bad form path = not (is_root path || is_writable form (last_name path))
 
 -- ---- refusals
 
--- the refusal, where the test holds
+-- the refusal, if the test holds
 abbrev pub when : Bool → Refusal → Option Refusal
 when test refusal = if test then Some refusal else None
 

@@ -58,7 +58,7 @@ other_from_test r first dollar test h e same =
     let unequal = not_true _ (sym test ∙ h) in
     cc (equal, unequal)
 
--- the names before, and then those that are left, where there are any
+-- the names before, and then those that are left, if there are any
 abbrev pub after_names : Path → Option Path → Option Path
 after_names done left = option_map (λ names. done ++ names) left
 

@@ -21,7 +21,7 @@ pub three-appended : (xs : List ℕ) (a b c : ℕ) → xs ++ a ∷ [] ++ b ∷ [
 three-appended xs a b c =
     append_assoc (xs ++ a ∷ []) (b ∷ []) (c ∷ []) ∙ append_assoc xs (a ∷ []) (b ∷ c ∷ [])
 
--- the bytes before, and then those that are left, where there are any
+-- the bytes before, and then those that are left, if there are any
 abbrev pub after_some : List ℕ → Option (List ℕ) → Option (List ℕ)
 after_some done left = option_map (λ bytes. done ++ bytes) left
 

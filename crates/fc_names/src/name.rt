@@ -152,7 +152,7 @@ fn name_limit(form: NameForm) -> usize
 }
 
 /// Whether the name of these bytes may be written in directories of this form; no bytes are no name. They must be 33 to
-/// 126, or 128 to 255 where the form has them, without `$ & % @ \ ^ : . # * " |`. A name that is read may have other
+/// 126, or 128 to 255 if the form has them, without `$ & % @ \ ^ : . # * " |`. A name that is read may have other
 /// bytes.
 pub fn writable_bytes(name: &[u8], form: NameForm) -> bool
     ensures { result ≡ is_writable form name.now }

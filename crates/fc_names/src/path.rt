@@ -121,7 +121,7 @@ pub enum PathError {
     NoMemory,
 }
 
-// What stands before the first full stop of a text, and what after it, where there is one.
+// What stands before the first full stop of a text, and what after it, if there is one.
 fn cut(text: &[u8]) -> (&[u8], Option<&[u8]>)
     ensures parts { slice_split is_stop text.now ≡ result.0.now ∷ parts_after (option_map (λ after. after.now) result.1) }
     ensures shorter { IfSome result.1 (λ after. length after.now < length text.now) }
@@ -142,7 +142,7 @@ fn push_unless(full: bool, path: &mut Path, name: &[u8]) -> bool
 
 /// Reads a path: `$`, followed by any number of times `.` and a name of 1 to 255 spelled bytes. A byte from 33 to 126
 /// outside `$ & % @ \ ^ : . # * " |` is spelled by itself or by `%` and two hexadecimal digits of either case, and
-/// every other byte from 32 on by these digits. Any other text is `BadName`, also where there is no memory.
+/// every other byte from 32 on by these digits. Any other text is `BadName`, also if there is no memory.
 pub fn read_path(alloc: Global, text: &[u8]) -> Result<Path, PathError>
     ensures path { IfOk result (λ path. path_of text.now ≡ Some path) }
     ensures bad_name { (result ≡ Err PathError.BadName) ↔ (path_of text.now ≡ None) }

@@ -2,7 +2,7 @@
 ghost use Rattle.std.specs.Prelude.{◌≡◌};
 ghost use Rattle.fc_names.specs.Refusals.{refusal_number, refusal_word};
 
-/// Why a command is refused. Where several reasons hold, the first in this order is answered; the last four come right
+/// Why a command is refused. If several reasons hold, the first in this order is answered; the last four come right
 /// after `ReadOnly`.
 #[derive(Clone, Copy, Debug, PartialEq, Eq)]
 pub enum Refusal {

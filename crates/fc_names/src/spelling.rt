@@ -1,4 +1,4 @@
-// The spelling of names in paths and replies: a byte by itself where it is plain, and else by `%` and two
+// The spelling of names in paths and replies: a byte by itself if it is plain, and else by `%` and two
 // hexadecimal digits.
 ghost use Rattle.std.specs.Prelude.{◌≡◌, ◌≢◌, ◌↔◌, ◌+◌, ◌<◌, ◌≤◌, [], ◌∷◌, ◌++◌, length, take, Some, None, Err, IsSome, IfSome, IfNone, IfOk, IsOk, OnOk, OnErr, option_map, vec_len, vec_capacity};
 ghost use Rattle.std.specs.Int.{IsInRange};
@@ -49,7 +49,7 @@ pub fn write_name(n: &Name, into: &mut Vec<u8>) -> Result<(), NoMemory>
     ensures ok { OnOk result (into.new.items ≡ into.old.items ++ spelled_name n.now) }
     ensures err { OnErr result (into.new.items ≡ into.old.items) }
 
-    // It fails only where room was missing.
+    // It fails only if room was missing.
     ensures room { vec_len into.old + length (spelled_name n.now) ≤ vec_capacity into.old → IsOk result }
 {
     let text = spelled(n.bytes());
@@ -127,7 +127,7 @@ fn read_byte(text: &[u8]) -> Option<(u8, &[u8])>
     }
 }
 
-/// The bytes of the name that a text spells, by the rule of names in paths. `None` where it spells none.
+/// The bytes of the name that a text spells, by the rule of names in paths. `None` if it spells none.
 pub fn spelled_bytes(text: &[u8]) -> Option<ArrayVec<u8, LONGEST>>
     ensures name { option_map (λ bytes. bytes.items) result ≡ name_of text.now }
     ensures is_name { IfSome result (λ bytes. IsName bytes.items) }
@@ -148,7 +148,7 @@ pub fn spelled_bytes(text: &[u8]) -> Option<ArrayVec<u8, LONGEST>>
     }
 }
 
-/// The name that a text spells, by the rule of names in paths. Any other text is `BadName`, also where there is no
+/// The name that a text spells, by the rule of names in paths. Any other text is `BadName`, also if there is no
 /// memory.
 pub fn read_name(alloc: Global, text: &[u8]) -> Result<Name, PathError>
     ensures name { IfOk result (λ name. name_of text.now ≡ Some name) }

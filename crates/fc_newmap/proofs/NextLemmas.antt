@@ -17,7 +17,7 @@ use Rattle.fc_newmap.proofs.CoverLemmas.{order_Distinct, split_once}
 use Rattle.fc_newmap.proofs.PlaceLemmas.{filter_in, home_low, in_order_of, is_in, order_in, zone_in}
 use Rattle.fc_newmap.proofs.WalkLemmas.{IsStepOf, after_last, after_other, filter_first, of_id, order_is}
 
--- ---- the zones behind one
+-- ---- the zones after one
 
 cons_first : (x y : ℕ) (xs ys : List ℕ) → x ∷ xs ≡ y ∷ ys → (x ≡ y) × (xs ≡ ys)
 cons_first x y xs ys e = (cc, cc)
@@ -121,7 +121,7 @@ run_once m z front rest run zone = (
       let long = ap length same.0 ∙ length-append front (run ∷ s.0) in omega arith),
 )
 
--- a run of an identifier among those of its zone, and what is left behind it
+-- a run of an identifier among those of its zone, and what is left after it
 pub record RunCut (m : Map) (id : ℕ) (p : ZoneRun) (more : ℕ) : Type 0 where
   pub front : List Run
   pub rest : List Run

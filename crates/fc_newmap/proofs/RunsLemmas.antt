@@ -1,4 +1,4 @@
--- Runs lie one behind another on the disc.
+-- Runs lie one after another on the disc.
 use Rattle.std.proofs.Common.{◌≡◌, ◌<◌, ◌≤◌, ℕ, zero, suc, ◌+◌, ◌-◌, ◌*◌, ◌/◌, ◌%◌, List, [], ◌∷◌, ◌++◌, map, sym, ap, subst, ◌∙◌, arith}
 use Rattle.std.specs.Prelude.{Contains, Result, Ok, Err}
 use Rattle.std.specs.List.{range_with_len}
@@ -33,7 +33,7 @@ sectors_add q unit sector x y some whole on =
 
 -- ---- rows of runs
 
--- the runs lie one behind another, from a sector on and up to one
+-- the runs lie one after another, from a sector on and up to one
 abbrev pub Rises : Geometry → ℕ → List ZoneRun → ℕ → Type 0
 Rises g from [] to = from ≤ to
 Rises g from (p ∷ places) to = (from ≤ first_sector g p) × Rises g (first_sector g p + sector_count g p) places to
@@ -53,7 +53,7 @@ cases x xs y (suc k, h, e) = Err (k, omega arith, e)
 pub not_in : (y : ZoneRun) → Contains [] y → ⊥
 not_in y (k, h, e) = omega arith
 
--- each run begins behind where the row does
+-- each run begins after where the row does
 pub behind : (g : Geometry) (from to : ℕ) (places : List ZoneRun) (p : ZoneRun) → Rises g from places to → Contains places p → from ≤ first_sector g p
 behind g from to [] p r c = absurd (not_in p c)
 behind g from to (x ∷ places) p r c =

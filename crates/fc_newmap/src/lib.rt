@@ -52,12 +52,12 @@ pub fn zone_shapes()
     ensures { ShapeLaw }
 {}
 
-/// An identifier has the runs that it had, where it has them in each zone.
+/// An identifier has the runs that it had, if it has them in each zone.
 pub fn ids()
     ensures { IdsLaw }
 {}
 
-/// Where the runs of one zone change, an identifier's sectors change in one place.
+/// If the runs of one zone change, an identifier's sectors change in one place.
 pub fn one_zone()
     ensures { ZoneSectorsLaw }
 {}

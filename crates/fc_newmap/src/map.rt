@@ -27,7 +27,7 @@ use std::marker::Model;
 /// One copy of a new map, read and edited in place: its zones in one buffer, one sector each.
 ///
 /// Contracts see its geometry and the list of its sectors. The geometry is that of a valid record, and each zone has
-/// runs. A zone's number, where a call takes one, is less than the geometry's number of zones.
+/// runs. A zone's number, if a call takes one, is less than the geometry's number of zones.
 ///
 /// `tally` counts the runs of each identifier, so that searches for them are short. Every edit keeps the counts right.
 #[derive(Drop)]
@@ -79,7 +79,7 @@ fn first_fault(zones: &[u8], g: &Geometry) -> Option<ZoneFault>
 
 impl NewMap {
     /// The map whose zones stand one after another in `zones`, which is one whole copy. The geometry is that of a valid
-    /// record. `Zone` exactly where a zone has no runs, with the fault of the first such zone. No memory is taken.
+    /// record. `Zone` exactly if a zone has no runs, with the fault of the first such zone. No memory is taken.
     pub fn load(zones: Vec<u8>, g: Geometry) -> Result<NewMap, MapError>
         requires whole { length zones.items ≡ g.zones * g.sector }
         requires geometry { IsOfRecord g }
@@ -224,7 +224,7 @@ impl NewMap {
         put_root(&mut self.zones[from..from + sector], root, size);
     }
 
-    /// The first run of a zone, and `None` where the zone has no bits.
+    /// The first run of a zone, and `None` if the zone has no bits.
     pub fn first_in(&self, z: u16) -> Option<Run>
         requires { z < self.now.geometry.zones }
         ensures value { result ≡ slice_get (runs_of self.now z) 0 }
@@ -245,7 +245,7 @@ impl NewMap {
         fc_zone::next(sector_in(&self.zones, &self.geometry, z), &shape, after)
     }
 
-    /// The run that begins at a place of a zone, where one does. Of the zone only the links of the holes before the place
+    /// The run that begins at a place of a zone, if one does. Of the zone only the links of the holes before the place
     /// are read, and no other run.
     pub fn run_from(&self, z: u16, start: u32) -> Run
         requires zone { z < self.now.geometry.zones }

@@ -30,7 +30,7 @@ pub fn base(g: &Geometry, z: u16) -> u64
     }
 }
 
-// The place behind a zone's last bit.
+// The place after a zone's last bit.
 fn end_bit(g: &Geometry, z: u16) -> u32
     requires geometry { IsOfRecord g.now }
     requires zone { z < g.now.zones }

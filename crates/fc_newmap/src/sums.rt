@@ -11,7 +11,7 @@ use crate::walk::Walk;
 pub struct HoleSums {
     /// All holes together.
     pub total: u64,
-    /// The longest hole; 0 where there is none.
+    /// The longest hole; 0 if there is none.
     pub longest: u64,
 }
 
@@ -42,7 +42,7 @@ impl NewMap {
         self.hole_sums().total
     }
 
-    /// The bits of the longest hole, and 0 where there is none.
+    /// The bits of the longest hole, and 0 if there is none.
     pub fn largest_hole(&self) -> u64
         ensures { result ≡ longest (hole_runs self.now) }
     {

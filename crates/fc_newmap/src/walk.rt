@@ -108,7 +108,7 @@ impl Walk {
         }
     }
 
-    /// Goes past the next hole and gives it, with its zone. `None` exactly where none is left. It costs a step for each hole and
+    /// Goes past the next hole and gives it, with its zone. `None` exactly if none is left. It costs a step for each hole and
     /// each zone, by the links between the holes of a zone.
     pub fn next_hole(&mut self, map: &NewMap) -> Option<(u16, Run)>
         requires { (left : List ZoneRun) × StandsBefore map.now left self.old }

@@ -16,7 +16,7 @@ use Rattle.fc_objects.proofs.AheadLemmas.{row_both}
 take-past : (xs : List ℕ) (k : ℕ) → take (length xs + k) xs ≡ xs
 take-past xs k = grind (arith, common_steps)
 
--- so many bytes, or all where there are fewer
+-- so many bytes, or all if there are fewer
 pub take_most : (n : ℕ) (xs : List ℕ) → take n xs ≡ take (min n (length xs)) xs
 take_most n xs = elim (cases_lt n (length xs)) [
   | inl below ↦ ap (λ (k : ℕ). take k xs) (let e : n ≡ min n (length xs) = omega arith in e)

@@ -83,7 +83,7 @@ module _ {D : Type 0} {d : Ghosts D} (law : Laws d) where
         subst (HasParts size (done ++ (n ∷ [])) bytes)
         (ap (with_sector size from.0 n) (sym is) ∙ ap (λ (k : ℕ). with_sector k from.0 n piece) (sym same) ∙ from.2) all
 
-  -- the image is told only where it was
+  -- the image is told only if it was
   pub told_more : {start mid new : D} (f : List ℕ → List ℕ) → (d.bytes new ≡ d.bytes mid) ⊎ (d.bytes new ≡ option_map f (d.bytes mid))
       → ForSome (d.bytes mid) (λ image. (was : List ℕ) × (d.bytes start ≡ Some was)) → ForSome (d.bytes new) (λ image. (was : List ℕ) × (d.bytes start ≡ Some was))
   told_more {mid = mid} f old_or_new before image told =

@@ -4,7 +4,7 @@ use Rattle.fc_device.specs.declared.disk.Disk.{Ghosts}
 use Rattle.fc_device.specs.Sectors.{sector_at}
 use Rattle.fc_device.specs.Stops.{LeavesOnly}
 
--- the first bytes as a whole sector: where there are fewer, zeros follow them
+-- the first bytes as a whole sector: if there are fewer, zeros follow them
 unfoldable pub padded : ℕ → List ℕ → List ℕ
 padded size bytes = take size (bytes ++ replicate size 0)
 

@@ -40,7 +40,7 @@ number-at (x ∷ numbers) (suc i) rest there fits =
     let e : 3 * suc i ≡ suc (suc (suc (3 * i))) = omega arith in
     rw e (number-at numbers i rest (omega arith) fits)
 
--- written numbers are read, wherever other bytes stand behind
+-- written numbers are read, wherever other bytes stand after
 triple-at : (numbers : List ℕ) (i : ℕ) (rest : List ℕ) → length numbers ≤ 82 → i < length numbers → get_or numbers i 0 < 2 ^ 24
     → u24_at (triples numbers ++ rest) (3 * i) ≡ get_or numbers i 0
 unfolding padded

@@ -83,7 +83,7 @@ unfolding tidied joined_below
 tidied-below [] = refl
 tidied-below (x ∷ holes) = joined_below-cons (length holes) x holes ∙ ap (joined_with x) (tidied-below holes)
 
--- a space that touches a hole's end stands before the holes behind
+-- a space that touches a hole's end stands before the holes after
 pub raised : (space x : Hole) (holes : List Hole) (d s : ℕ) → hole_end x ≡ space.start → AreHoles d s (hole_end x) holes → All (AreApart space) holes
     → AreHoles d s (hole_end (hole x.start (x.len + space.len))) holes
 raised space x [] d s touch h apart = tt

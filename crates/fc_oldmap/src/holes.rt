@@ -44,7 +44,7 @@ fn first_fit(holes: &[Hole], n: u32) -> Option<(usize, Hole)>
     None
 }
 
-// The index of the first hole that ends at a unit or behind it, or the number of holes.
+// The index of the first hole that ends at a unit or after it, or the number of holes.
 fn first_reaching(holes: &[Hole], start: u32) -> usize
     requires { All (λ h. hole_end h < 2 ^ 32) holes.now }
     ensures { IsFirstReaching holes.now start result }
@@ -150,7 +150,7 @@ pub fn give_to(holes: &mut Holes, space: Hole) -> Result<(), MapFull>
     Ok(())
 }
 
-/// Moves a hole `n` units up, and joins it with the next where the two then touch.
+/// Moves a hole `n` units up, and joins it with the next if the two then touch.
 pub fn shift_at(holes: &mut Holes, index: usize, n: u32)
     requires holes { AreOfSomeDisc holes.old.items }
     requires there { index < array_vec_len holes.old }

@@ -34,10 +34,10 @@ impl Model for OldMap {
 impl OldMap {
     ghost use Rattle.fc_oldmap.specs.OldMap.{IsOldMap, old_map, with_holes};
 
-    /// Reads a map of 512 bytes, of a disc whose sectors have 1 or 4 units. `Check` where the check of
-    /// a half is wrong for both starts; `Bad` where the checks are right, with the index of the first
-    /// hole that is empty, begins before the end of the one before or of the map, ends behind the disc
-    /// or is no whole sectors, or with a third of FreeEnd where that is no multiple of 3 up to 246.
+    /// Reads a map of 512 bytes, of a disc whose sectors have 1 or 4 units. `Check` if the check of
+    /// a half is wrong for both starts; `Bad` if the checks are right, with the index of the first
+    /// hole that is empty, begins before the end of the one before or of the map, ends after the disc
+    /// or is no whole sectors, or with a third of FreeEnd if that is no multiple of 3 up to 246.
     pub fn read(b: &[u8], sector_units: u32) -> Result<OldMap, OldMapFault>
         requires size { length b.now ≡ 512 }
         requires units { (sector_units ≡ 1) ⊎ (sector_units ≡ 4) }
@@ -99,7 +99,7 @@ impl OldMap {
     }
 
     /// Moves the hole of an index `n` units up, a multiple of a sector's, and joins it with the next
-    /// hole where the two then touch.
+    /// hole if the two then touch.
     pub fn shift(&mut self, index: u32, n: u32)
         requires there { index < length self.old.holes }
         requires whole { n % self.old.sector_units ≡ 0 }
@@ -120,8 +120,8 @@ impl OldMap {
     }
 
     /// Takes the front `n` units, a multiple of a sector's, of the first hole that is long enough, and
-    /// answers where they begin. `DiscFull` where the sum of holes is less than `n`, and
-    /// `CompactionRequired` where the sum suffices and no hole does; the map is then unchanged.
+    /// answers where they begin. `DiscFull` if the sum of holes is less than `n`, and
+    /// `CompactionRequired` if the sum suffices and no hole does; the map is then unchanged.
     pub fn take(&mut self, n: u32) -> Result<u32, TakeError>
         requires { n % self.old.sector_units ≡ 0 }
         ensures answer { result ≡ take_answer n self.old.holes }
@@ -136,7 +136,7 @@ impl OldMap {
 
     /// Adds the space of `n` units from `start` on, and joins it with the hole that ends at its start
     /// and the hole that starts at its end. The space is whole sectors of the disc, and no unit of it
-    /// lies in a hole. `MapFull` where 83 holes would stand; the map is then unchanged.
+    /// lies in a hole. `MapFull` if 83 holes would stand; the map is then unchanged.
     pub fn give(&mut self, start: u32, n: u32) -> Result<(), MapFull>
         requires positive { 0 < n }
         requires inside { start + n ≤ self.old.disc_units }

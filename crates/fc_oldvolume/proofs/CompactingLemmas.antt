@@ -77,7 +77,7 @@ skipped (o ∷ was) (p ∷ now) (suc k) address few low =
     skipped was now k address (omega (arith, few)) (λ i d lt. low (suc i) d (omega (arith, lt)))
     ∙ sym (ap (λ (b : Bool). cond b p.start (start_after was now address)) other)
 
--- all from one on began behind it
+-- all from one on began after it
 past : (was now : List Owned) (k address : ℕ) → ((i : ℕ) (d : Owned) → k ≤ i → i < length was → address < (get_or was i d).start) → start_after (drop k was) (drop k now) address ≡ address
 unfolding start_after
 past [] now zero address high = refl
@@ -94,7 +94,7 @@ past (o ∷ was) (p ∷ now) zero address high =
     ap (λ (b : Bool). cond b p.start (start_after was now address)) other ∙ past was now 0 address (λ i d le lt. high (suc i) d (omega arith) (omega (arith, lt)))
 past (o ∷ was) (p ∷ now) (suc k) address high = past was now k address (λ i d le lt. high (suc i) d (omega (arith, le)) (omega (arith, lt)))
 
--- What a search by halves finds: k is the first that began there or behind.
+-- What a search by halves finds: k is the first that began there or after.
 module _ (was now : List Owned) (k address : ℕ) (few : k ≤ length was) (cut : IsPartitionPoint (λ (o : Owned). nat_lt o.start address ≡ true) (λ (o : Owned). nat_lt o.start address ≡ false) was k) where
   same : start_after (drop k was) (drop k now) address ≡ start_after was now address
   same = skipped was now k address few (λ i d lt. ltb-true _ _ (cut.0 i d (omega arith) lt))

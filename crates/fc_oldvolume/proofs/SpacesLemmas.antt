@@ -40,7 +40,7 @@ u24_put b at v within fits =
     let front : drop at (take at b ++ tail) ≡ tail = ap (λ (n : ℕ). drop n (take at b ++ tail)) (sym (length-take-le at b within)) ∙ drop-append_seam (take at b) tail in
     ap (little_number 3) front ∙ little_from-bytes 3 0 v (drop (at + length (little_bytes 3 v)) b) ∙ ap (λ (n : ℕ). n % 2 ^ 24) (div-one v) ∙ mod-eq_of_lt fits
 
--- A map whose holes lie behind it is read as it was written.
+-- A map whose holes lie after it is read as it was written.
 pub copied : ReadsBack → (space : OldMapContent) (blank mid bytes : List ℕ) (disc units : ℕ) → 252 ≤ length blank → IsOldMap space → LieBehind space → disc ≡ space.disc_units
     → mid ≡ overwritten blank 252 (little_bytes 3 disc) → length mid ≡ 512 → bytes ≡ with_holes mid space.holes → units ≡ space.sector_units → old_map bytes units ≡ Ok space
 copied back space blank mid bytes disc units long is behind disc_is mid_is whole written units_is =

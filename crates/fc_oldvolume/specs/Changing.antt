@@ -28,7 +28,7 @@ IsOldLayout (Layout.Old space) = Unit {0}
 -- ---- what every exit leaves of the disk
 
 -- Some sectors were written, and besides them only those of the map. Each was free, or lies in a directory that the command may rewrite:
--- so none lies in a file, in another directory, in lost space or behind the disc.
+-- so none lies in a file, in another directory, in lost space or after the disc.
 pub record WritesPlaces (view : Opened) (space : OldMapContent) (c : Command) (image other : List ℕ) : Type 0 where
   pub sectors : List ℕ
   pub written : IsWritten space sectors image other

@@ -72,7 +72,7 @@ IsNotBig bodies.File = Unit {0}
 IsNotBig (bodies.Small dir) = Unit {0}
 IsNotBig (bodies.Big dir) = ⊥
 
--- The copies of one node stand behind the others.
+-- The copies of one node stand after the others.
 pub record HasSpare (o : Option Node) (old new : List Spare) : Type 0 where
   pub spare : Spare
   pub is : new ≡ old ++ spare ∷ []
@@ -85,7 +85,7 @@ pub record AreSpares (nodes : FinMap nat_cmp Node) (bound : ℕ) (spares : List 
   pub each : (n : ℕ) (spare : Spare) → slice_get spares n ≡ Some spare → (spare.entries.items ≡ entries_at (get nodes n)) × (spare.changed ≡ false)
 
 -- Of the entries of a directory the last ones have become f of them, and copies of the others are left. Whether an address of the
--- last ones has changed is told.
+-- last ones has changed is the answer.
 pub record IsReaddressing (f : Entry → Entry) (old now : SmallDir) (spare : Spare) : Type 0 where
   pub front : List Entry
   pub back : List Entry
@@ -113,7 +113,7 @@ changes_at form move nodes o = option_map_or (λ (node : Node). is_changed form 
 abbrev pub addressed : NameForm → (ℕ → ℕ) → Node → Node
 addressed form move node = record node { entry = entry_after form move node.entry }
 
--- The nodes below a number say what they say afterwards, and of each is told whether something has changed; the others are as before.
+-- The nodes below a number say what they say afterwards, and the answer says of each whether something has changed; the others are as before.
 pub record AreReaddressed (form : NameForm) (move : ℕ → ℕ) (nodes nodes' : FinMap nat_cmp Node) (spares : List Spare) (k : ℕ) : Type 0 where
   pub done : (n : ℕ) → n < k → get nodes' n ≡ option_map (readdressed_node form move nodes) (get nodes n)
   pub left : (n : ℕ) → k ≤ n → get nodes' n ≡ get nodes n

@@ -10,7 +10,7 @@ use Rattle.fc_image.specs.effects.Short.{old_need}
 use Rattle.fc_oldchanges.specs.Owed.{holding}
 use Rattle.fc_oldmap.specs.declared.Hole.{Hole}
 
--- The holes lie behind the map.
+-- The holes lie after the map.
 abbrev pub LieBehind : OldMapContent → Type 0
 LieBehind space = AreHoles space.disc_units space.sector_units (map_units space.sector_units) space.holes
 

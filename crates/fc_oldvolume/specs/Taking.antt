@@ -19,7 +19,7 @@ use Rattle.fc_oldvolume.specs.Spaces.{LieBehind}
 abbrev pub IsAddressFor : OldMapContent → ℕ → ℕ → Type 0
 IsAddressFor space n address = ((0 < n) × (first_fit_place (old_need space n) space.holes ≡ Some address)) ⊎ ((n ≡ 0) × (address ≡ 0))
 
--- The map is without the space of n bytes, some, and its holes still lie behind it. No bytes take no space.
+-- The map is without the space of n bytes, some, and its holes still lie after it. No bytes take no space.
 abbrev pub HasTaken : OldMapContent → ℕ → Option OldMapContent → Type 0
 HasTaken space n None = n ≡ 0
 HasTaken space n (Some now) = (0 < n) × (now ≡ holding space (after_take (old_need space n) space.holes)) × (length now.holes ≤ hole_limit) × LieBehind now

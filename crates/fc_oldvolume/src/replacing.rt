@@ -45,7 +45,7 @@ pub struct Replacement {
     pub owner: Option<Owner>,
 }
 
-// Makes a file ready in the place of a target, where space was taken for it, and this map has the space that goes back.
+// Makes a file ready in the place of a target, if space was taken for it, and this map has the space that goes back.
 fn prepare_replacing(
     alloc: Global,
     tree: &Tree,

@@ -21,7 +21,7 @@ unused_on m (suc n) from id rest e is = by (is_unused m from) (sym (unused_step 
     by true same later = ap (λ (k : ℕ). unused_from m (k + 1)) (sym (ap (λ (xs : List ℕ). get_or xs 0 0) same)) ∙ ap (drop 1) same
     by false same later = later same
 
--- Where the map may be another one and the same is left, the least one comes first, and the others are behind it.
+-- Where the map may be another one and the same is left, the least one comes first, and the others are after it.
 pub unused_behind : (m now : Map) (from next id : ℕ) (ids : List ℕ) → unused_from m from ≡ ids → unused_from m from ≡ id ∷ unused_from m (id + 1) → unused_from now next ≡ ids
     → ids ≡ id ∷ unused_from now (id + 1)
 unused_behind m now from next id ids is least same =

@@ -72,7 +72,7 @@ left_in (h ∷ holes) parts r at = elim (Contains-append_cases (left_behind h (f
   | inr later ↦ (let k = left_in holes parts r later in (k.0, (suc k.1.0, (let low = k.1.1 in omega arith), k.1.2), k.2))
 ]
 
--- a rest lies in its hole, behind the part that was taken
+-- a rest lies in its hole, after the part that was taken
 pub record LiesIn (k r : ZoneRun) (o : Option ZoneRun) : Type 0 where
   pub zone : k.0 ≡ r.0
   pub from : k.1.start ≤ r.1.start

@@ -57,7 +57,7 @@ stands_again shape s t done front left place stands zone =
     let same : place_after shape front ≡ place_after shape done = omega arith in
     stands_still shape s t done front left place stands zone same
 
--- in a map: the runs behind the place are as they were
+-- in a map: the runs after the place are as they were
 pub stands_in_map : (m : Map) (z : ℕ) (shape_is : ZoneShape) (s : List ℕ) (done front left : List Run) (place : Cursor) → IsNewMap m → z < m.geometry.zones → shape_is ≡ shape m.geometry z
     → StandsBetween shape_is s done left place → runs_of m z ≡ front ++ left → StandsBetween shape_is (sector_of m z) front left place
 stands_in_map m z shape_is s done front left place is low same stands runs =

@@ -24,7 +24,7 @@ use Rattle.fc_plan.specs.Taking.{as_runs}
 abbrev pub OrderLaw : Type 0
 OrderLaw = (g : Geometry) (holes parts runs : List ZoneRun) (bits id : ℕ) → IsPermutation (as_runs id parts) runs → IsTaken g holes bits parts → IsTaken g holes bits runs
 
--- Where all holes have the bits of two takings and twice the shortest run, the first leaves those of the second.
+-- If all holes have the bits of two takings and twice the shortest run, the first leaves those of the second.
 abbrev pub SecondLaw : Type 0
 SecondLaw = (m : Map) (parts : List ZoneRun) (first second : ℕ) → IsNewMap m → IsTaken m.geometry (hole_runs m) first parts
     → first + second + 2 * m.geometry.min ≤ bits_in (hole_runs m) → second ≤ bits_in (holes_left (hole_runs m) parts)
@@ -37,7 +37,7 @@ LeftLaw = (holes parts runs : List ZoneRun) (id : ℕ) → AreApart parts → Is
 abbrev pub ApartLaw : Type 0
 ApartLaw = (m : Map) (parts : List ZoneRun) → IsNewMap m → AreParts m.geometry (hole_runs m) parts → AreApart parts
 
--- Where nothing is taken, all holes are left.
+-- If nothing is taken, all holes are left.
 abbrev pub NothingLaw : Type 0
 NothingLaw = (holes : List ZoneRun) → holes_left holes [] ≡ holes
 
@@ -60,7 +60,7 @@ pub record AreNewIds (m : Map) : Type 0 where
 abbrev pub NewIdsLaw : Type 0
 NewIdsLaw = (m : Map) → AreNewIds m
 
--- A plan with one of a map's new identifiers can be carried out where its holes are, and the identifier has no run.
+-- A plan with one of a map's new identifiers can be carried out if its holes are there, and the identifier has no run.
 abbrev pub CanLaw : Type 0
 CanLaw = (m : Map) (holes : List ZoneRun) (bits : ℕ) (plan : Plan) → IsPlan m.geometry holes bits (fronts plan.parts.items) → Contains (new_ids m) plan.id
     → CanTakePlan m.geometry holes plan × (is_used m plan.id ≡ false)
@@ -79,7 +79,7 @@ abbrev pub TwoLaw : Type 0
 TwoLaw = (m : Map) (first second : ℕ) (object dir : Plan) (rest : List ℕ) → IsNewMap m → IsPlan m.geometry (hole_runs m) first (fronts object.parts.items)
     → IsPlan m.geometry (holes_left (hole_runs m) (fronts object.parts.items)) second (fronts dir.parts.items) → new_ids m ≡ object.id ∷ rest → Contains rest dir.id → AreTwo object dir
 
--- What `apply` gives back is what a command gives back, where the identifiers `gone` are those of the map's whose space it gives
+-- What `apply` gives back is what a command gives back, if the identifiers `gone` are those of the map's whose space it gives
 -- back.
 abbrev pub BackLaw : Type 0
 BackLaw = (m : Map) (v w : Opened) (c : Command) (gone : List ℕ) → ((id : ℕ) → is_used m id ≡ true → is_one_of gone id ≡ goes_back v w c id)
@@ -90,7 +90,7 @@ abbrev pub growth_ids : Opened → Command → ℕ
 growth_ids v c = option_map_or (λ growth. one_if (not (is_alone (objects_of v.listings) growth.0))) (moved_growth v c) 0
 
 -- A map has what the command needs: identifiers; bits for the object; and for a grown directory, in what the object's
--- parts leave, where it has any.
+-- parts leave, if it has any.
 pub record Suffices (m : Map) (v : Opened) (c : Command) : Type 0 where
   pub ids : one_if (nat_lt 0 (object_units m v c)) + growth_ids v c ≤ length (new_ids m)
   pub object : object_units m v c ≤ bits_in (hole_runs m)
@@ -98,6 +98,6 @@ pub record Suffices (m : Map) (v : Opened) (c : Command) : Type 0 where
   pub both : (parts : List ZoneRun) → IsTaken m.geometry (hole_runs m) (object_units m v c) parts → 0 < object_units m v c
       → growth_units m v c ≤ bits_in (holes_left (hole_runs m) parts)
 
--- Where a command is not short of space, a plan for the object is not refused, and then none for the grown directory.
+-- If a command is not short of space, a plan for the object is not refused, and then none for the grown directory.
 abbrev pub ShortLaw : Type 0
 ShortLaw = (m : Map) (v : Opened) (c : Command) → IsNewMap m → v.layout ≡ Layout.New m → short v c ≡ None → Suffices m v c

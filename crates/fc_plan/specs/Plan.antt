@@ -38,7 +38,7 @@ pub record IsLast (holes : List ZoneRun) (bits place missing : ℕ) : Type 0 whe
 abbrev pub EndsBefore : ZoneRun → ZoneRun → Type 0
 EndsBefore p q = (p.0 < q.0) ⊎ ((p.0 ≡ q.0) × (p.1.start + p.1.len ≤ q.1.start))
 
--- each ends before those behind it begin
+-- each ends before those after it begin
 abbrev pub AreInOrder : List ZoneRun → Type 0
 AreInOrder [] = Unit {0}
 AreInOrder (p ∷ rest) = AllByRecursion (EndsBefore p) rest × AreInOrder rest
@@ -65,7 +65,7 @@ abbrev pub first_at : ZoneRun → List ZoneRun → Option ZoneRun
 first_at hole [] = None
 first_at hole (part ∷ parts) = if stands_at hole part then Some part else None
 
--- the parts behind the first, if that stands at the hole
+-- the parts after the first, if that stands at the hole
 abbrev pub rest_at : ZoneRun → List ZoneRun → List ZoneRun
 rest_at hole [] = []
 rest_at hole (part ∷ parts) = if stands_at hole part then parts else part ∷ parts

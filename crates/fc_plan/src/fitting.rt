@@ -13,7 +13,7 @@ use fc_record::Geometry;
 use fc_zone::Run;
 use std::alloc::Global;
 
-// The parts of these holes that are taken: of the first hole that has all the bits, where there is one. Else the holes
+// The parts of these holes that are taken: of the first hole that has all the bits, if there is one. Else the holes
 // from the first one on are taken whole, and of the last one what is still missing.
 fn first_parts(holes: Vec<(u16, Run)>, bits: u64, g: &Geometry) -> Option<Vec<(u16, Run)>>
     requires some { 0 < bits }
@@ -35,7 +35,7 @@ fn first_parts(holes: Vec<(u16, Run)>, bits: u64, g: &Geometry) -> Option<Vec<(u
 }
 
 /// Takes so many bits from holes by first fit: the parts, and what they leave. No rest is shorter than a run may be.
-/// `None` exactly where the holes together have too few bits.
+/// `None` exactly if the holes together have too few bits.
 pub fn first_fitting(
     alloc: Global,
     holes: &[(u16, Run)],

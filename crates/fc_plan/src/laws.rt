@@ -57,7 +57,7 @@ pub fn new_ids_rise()
     ensures { NewIdsLaw }
 {}
 
-/// Where a command is not short of space, neither of its plans is refused.
+/// If a command is not short of space, neither of its plans is refused.
 pub fn plans_exist()
     ensures { ShortLaw }
 {}

@@ -71,7 +71,7 @@ pub fn last_needed(holes: &[(u16, Run)], bits: u64) -> Option<(usize, u64)>
     None
 }
 
-// The parts of these holes that are taken: where one hole has all the bits, of the first such hole. Else the longest
+// The parts of these holes that are taken: if one hole has all the bits, of the first such hole. Else the longest
 // holes are taken whole, and of the last one what is still missing.
 fn parts_of(holes: Vec<(u16, Run)>, bits: u64, g: &Geometry) -> Option<Vec<(u16, Run)>>
     requires some { 0 < bits }
@@ -160,7 +160,7 @@ fn first_at(hole: (u16, Run), parts: &[(u16, Run)]) -> Option<(u16, Run)>
     }
 }
 
-// The parts behind the first, if that stands at a hole.
+// The parts after the first, if that stands at a hole.
 fn rest_at(hole: (u16, Run), parts: &[(u16, Run)]) -> &[(u16, Run)]
     ensures { result.now ≡ rest_at hole parts.now }
 {
@@ -189,9 +189,9 @@ pub fn holes_left(
     Ok(left)
 }
 
-/// Takes so many bits from holes: the parts, and what they leave. Where one hole has them all, the first such hole gives
+/// Takes so many bits from holes: the parts, and what they leave. If one hole has them all, the first such hole gives
 /// them. Else the longest holes are taken whole, and of the last one what is still missing. No rest is shorter than a run
-/// may be. `None` exactly where the holes together have too few bits.
+/// may be. `None` exactly if the holes together have too few bits.
 pub fn fewest(
     alloc: Global,
     holes: &[(u16, Run)],

@@ -160,7 +160,7 @@ impl<'a> Supply<'a> {
     }
 
     /// Plans parts for so many bytes, without an identifier: as few holes as can be, no rest shorter than a run may be.
-    /// `DiscFull` exactly where the holes together have too few bits.
+    /// `DiscFull` exactly if the holes together have too few bits.
     pub fn take_parts(&mut self, alloc: Global, bytes: u64) -> Result<Vec<Part>, PlanError>
         requires some { 0 < bytes }
         requires few { bytes < 2 ^ 63 }
@@ -176,8 +176,8 @@ impl<'a> Supply<'a> {
         Ok(cut.parts)
     }
 
-    /// Plans an object of so many bytes: the least identifier that is left, and parts. `IdsFull` exactly where no
-    /// identifier is left, `DiscFull` exactly where one is and the holes together have too few bits.
+    /// Plans an object of so many bytes: the least identifier that is left, and parts. `IdsFull` exactly if no
+    /// identifier is left, `DiscFull` exactly if one is and the holes together have too few bits.
     pub fn plan(&mut self, alloc: Global, bytes: u64) -> Result<Plan, PlanError>
         requires some { 0 < bytes }
         requires few { bytes < 2 ^ 63 }
@@ -197,7 +197,7 @@ impl<'a> Supply<'a> {
         Ok(Plan { id, parts })
     }
 
-    /// Plans parts for so many bytes by first fit, without an identifier. `DiscFull` exactly where the first fit fails.
+    /// Plans parts for so many bytes by first fit, without an identifier. `DiscFull` exactly if the first fit fails.
     pub fn take_first(&mut self, alloc: Global, bytes: u64) -> Result<Vec<Part>, PlanError>
         requires some { 0 < bytes }
         requires few { bytes < 2 ^ 63 }
@@ -214,7 +214,7 @@ impl<'a> Supply<'a> {
     }
 
     /// Plans an object of so many bytes by first fit: the least identifier that is left, and parts. `IdsFull` exactly
-    /// where no identifier is left, `DiscFull` exactly where one is and the first fit fails.
+    /// if no identifier is left, `DiscFull` exactly if one is and the first fit fails.
     pub fn plan_first(&mut self, alloc: Global, bytes: u64) -> Result<Plan, PlanError>
         requires some { 0 < bytes }
         requires few { bytes < 2 ^ 63 }

@@ -9,7 +9,7 @@ use Rattle.fc_record.specs.declared.Kind.TheVariants.{DiscD, DiscL}
 use Rattle.fc_record.specs.Record.{record_of, is_valid}
 use Rattle.fc_record.specs.Kinds.{map_record, is_whole_map, is_old_map, old_units}
 
--- the record in a boot block whose check is right, where it is valid
+-- the record in a boot block whose check is right, if it is valid
 abbrev pub record_in_boot : List ℕ → Option DiscRecord
 record_in_boot block =
     let r = record_of (bytes_at block 0x1C0 60) in

@@ -31,7 +31,7 @@ const MAP: u64 = 1024;
 /// The bytes of an old map.
 const OLD_MAP: usize = 512;
 
-// The record in a boot block whose check is right, where it is valid.
+// The record in a boot block whose check is right, if it is valid.
 fn record_in_boot(block: &[u8]) -> Option<DiscRecord>
     requires { length block.now ≡ 512 }
     ensures value { result ≡ record_in_boot block.now }
@@ -75,7 +75,7 @@ fn kind_in_old_map(map: &[u8]) -> Option<Kind>
     }
 }
 
-// The record in the boot block, where the image has a right one.
+// The record in the boot block, if the image has a right one.
 fn boot_record<D: Disk>(disk: &mut D) -> Result<Option<DiscRecord>, DiskFault>
     requires attached { IsTrue (D.attached disk.old) }
     requires size { D.sector_size disk.old ≡ 256 }
@@ -93,8 +93,8 @@ fn boot_record<D: Disk>(disk: &mut D) -> Result<Option<DiscRecord>, DiskFault>
     Ok(record_in_boot(&block))
 }
 
-// The record in the 1024 bytes from sector `first` on, where they are the whole of a sound map. They are read into
-// `sector`, where the image has them.
+// The record in the 1024 bytes from sector `first` on, if they are the whole of a sound map. They are read into
+// `sector`, if the image has them.
 fn map_record<D: Disk>(
     disk: &mut D,
     first: u64,
@@ -117,7 +117,7 @@ fn map_record<D: Disk>(
     Ok(record_in_map(sector))
 }
 
-// The kind of a disc with an old map, where an image that is too short for a map of one zone has a right one. The map is
+// The kind of a disc with an old map, if an image that is too short for a map of one zone has a right one. The map is
 // read into `first`.
 fn old_kind<D: Disk>(disk: &mut D, first: &mut [u8; 1024]) -> Result<Option<Kind>, DiskFault>
     requires attached { IsTrue (D.attached disk.old) }
@@ -171,8 +171,8 @@ fn first_kind<D: Disk>(disk: &mut D, front: &mut Front) -> Result<Option<Kind>, 
 /// record, and nothing is written. What was read of a map of one zone, or of an old map, stands in `front` afterwards, so that
 /// no one has to read it again.
 ///
-/// The answer is `NoKind` exactly where none fits, `Short` exactly where the image is shorter than the disc of the
-/// kind that fits, and `DiskFault` only where the disk's count of faults rose.
+/// The answer is `NoKind` exactly if none fits, `Short` exactly if the image is shorter than the disc of the
+/// kind that fits, and `DiskFault` only if the disk's count of faults rose.
 pub fn kind<D: Disk>(disk: &mut D, front: &mut Front) -> Result<Kind, KindError>
     requires attached { IsTrue (D.attached disk.old) }
     requires size { D.sector_size disk.old ≡ 256 }

@@ -11,7 +11,7 @@ use fc_device::{Disk, DiskFault, Extent};
 pub const SECTOR: usize = 256;
 
 /// Fills `into`, which is as long as some sectors of 256 bytes, with the bytes from sector `first` on. Answers
-/// whether the image has as many; where it hasn't, nothing is read.
+/// whether the image has as many; if it hasn't, nothing is read.
 pub fn fetch<D: Disk>(disk: &mut D, first: u64, into: &mut [u8]) -> Result<bool, DiskFault>
     requires attached { IsTrue (D.attached disk.old) }
     requires size { D.sector_size disk.old ≡ 256 }

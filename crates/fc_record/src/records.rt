@@ -93,14 +93,14 @@ fn is_size_right(r: &DiscRecord, g: &Geometry) -> bool
 }
 
 /// Whether the root's indirect address is one that a valid record may have: its identifier is at least 2, and it is
-/// below 2^24 where the format version is 0.
+/// below 2^24 if the format version is 0.
 pub fn is_root_right(r: &DiscRecord) -> bool
     ensures { result ≡ is_root_right r.now }
 {
     r.root / 256 >= 2 && (r.version > 0 || r.root < 1 << 24)
 }
 
-/// Whether the root's size is one that a valid record may have: where the format version isn't 0, one of a big directory.
+/// Whether the root's size is one that a valid record may have: if the format version isn't 0, one of a big directory.
 pub fn is_root_size_right(r: &DiscRecord) -> bool
     ensures { result ≡ is_root_size_right r.now }
 {
@@ -146,7 +146,7 @@ fn fault(field: u8, value: u64) -> Option<RecordFault>
     Some(RecordFault { field, value })
 }
 
-/// Reads the 60 bytes of a disc record, which may stand in a boot block or in zone 0 of a map. Where it isn't valid
+/// Reads the 60 bytes of a disc record, which may stand in a boot block or in zone 0 of a map. If it isn't valid
 /// (docs/FORMAT.md, "Valid records"), the answer is the first condition that fails, by the offset and the value of
 /// its field.
 pub fn read_record(b: &[u8]) -> Result<DiscRecord, RecordFault>

@@ -24,12 +24,12 @@ Files = FinMap (slice_cmp nat_cmp) (List ℕ)
 abbrev pub HostRefuses : State → Files → Refusal → List ℕ → State → Files → Type 0
 HostRefuses s files refusal reply s' files' = Refuses s (refusal_line refusal) reply s' × (files' ≡ files)
 
--- what `put` does with a file, which may be too long, where the model accepts it
+-- what `put` does with a file, which may be too long, if the model accepts it
 abbrev pub PutsBytes : Bool → Mode → State → Files → Command → List ℕ → State → Files → Type 0
 PutsBytes true mode s files save reply s' files' = HostRefuses s files refusals.HostTooLong reply s' files'
 PutsBytes false mode s files save reply s' files' = Takes mode s (Ok save) reply s' × (files' ≡ files)
 
--- what `put` does where the model accepts it
+-- what `put` does if the model accepts it
 abbrev pub PutsFile : Mode → State → Files → (List ℕ → Command) → Option (List ℕ) → List ℕ → State → Files → Type 0
 PutsFile mode s files save None reply s' files' = HostRefuses s files refusals.NoHostFile reply s' files'
 PutsFile mode s files save (Some bytes) reply s' files' = PutsBytes (nat_lt 1073741824 (length bytes)) mode s files (save bytes) reply s' files'
@@ -93,7 +93,7 @@ HasPartOf mode s files _ left = ⊥
 abbrev pub FilesLeft : Mode → State → Files → List ℕ → Files → Type 0
 FilesLeft mode s files line left = (left ≡ files) ⊎ HasPartOf mode s files (host_line_of line) left
 
--- ---- stops
+-- ---- crashes
 
 -- a line that leaves the tree as it is
 abbrev pub host_keeps_tree : Bool → Result HostLine Refusal → Bool

@@ -20,7 +20,7 @@ is_reading Command.Free = true
 is_reading Command.Check = true
 is_reading _ = false
 
--- the reply where the model accepts the command
+-- the reply if the model accepts the command
 abbrev pub served_reply : State → Command → Option (List ℕ) → List ℕ
 served_reply s c (Some line) = line
 served_reply s c None = reply_to (tree_in s) s.view c

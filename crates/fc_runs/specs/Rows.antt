@@ -25,7 +25,7 @@ pub record RunRows : Type 0 where
   pub listed : is_error (codes "error 00000003 00000000 00000000 0" ++ 10 ∷ codes "ok" ++ 10 ∷ []) ≡ false
   pub refused : is_error (refusal_line NotNewMap) ≡ true
   pub taken : whole_replies 7 ((codes "ok" ++ 10 ∷ []) ∷ (codes "ok" ++ 10 ∷ []) ∷ (codes "ok" ++ 10 ∷ []) ∷ []) ≡ 2
-  -- A `save` that broke off, or was done, may leave another tree, and one that was refused doesn't; no line behind the one
+  -- A `save` that broke off, or was done, may leave another tree, and one that was refused doesn't; no line after the one
   -- that broke off was begun.
   pub broke_off : all_keep_tree (codes "save $.A 00000000 00000000 41" ∷ []) [] ≡ false
   pub done : all_keep_tree (codes "save $.A 00000000 00000000 41" ∷ []) ((codes "ok" ++ 10 ∷ []) ∷ []) ≡ false

@@ -94,7 +94,7 @@ Takes mode s (Ok c) reply s' = Answers mode s c (answer (tree_in s) (dir_form s.
 abbrev pub Step : Mode → State → List ℕ → List ℕ → State → Type 0
 Step mode s line reply s' = Takes mode s (command_of line) reply s'
 
--- Lines in turn, with their replies. Each image between passes `May`, as that a stop might have left it.
+-- Lines in turn, with their replies. Each image between passes `May`, as that a crash might have left it.
 abbrev pub Steps : (List ℕ → Type 0) → Mode → State → List (List ℕ) → List (List ℕ) → State → Type 0
 Steps May mode s [] [] s' = s' ≡ s
 Steps May mode s (line ∷ lines) (reply ∷ replies) s' =
@@ -139,7 +139,7 @@ pub record Run (May : List ℕ → Type 0) (mode : Mode) (demo : Option ℕ) (s 
   pub steps : Steps May mode s (commands_in (script_for demo script)) replies s'
   pub told : text ≡ text_for demo replies
 
--- ---- stops
+-- ---- crashes
 
 -- the commands that leave the tree as it is
 abbrev pub keeps_tree : Command → Bool
@@ -157,18 +157,18 @@ abbrev pub keeps_tree_or : Bool → Result Command Refusal → Bool
 keeps_tree_or refused (Err refusal) = true
 keeps_tree_or refused (Ok c) = refused || keeps_tree c
 
--- Each line with a reply passes a test, which is told whether it was refused, and so does the line that broke off without a reply,
--- which wasn't refused. Those behind it were not begun.
+-- Each line with a reply passes a test, which gets whether it was refused, and so does the line that broke off without a reply,
+-- which wasn't refused. Those after it were not begun.
 abbrev pub each_line : (Bool → List ℕ → Bool) → List (List ℕ) → List (List ℕ) → Bool
 each_line test (line ∷ lines) (reply ∷ replies) = test (is_error reply) line && each_line test lines replies
 each_line test (line ∷ lines) [] = test false line
 each_line test [] replies = true
 
--- Every line that isn't refused leaves the tree: then every stop of the run has the tree from before, by `KeepsTree`.
+-- Every line that isn't refused leaves the tree: then every crash of the run has the tree from before, by `KeepsTree`.
 abbrev pub all_keep_tree : List (List ℕ) → List (List ℕ) → Bool
 all_keep_tree lines replies = each_line (λ refused line. keeps_tree_or refused (command_of line)) lines replies
 
--- the replies of which the sink took all, where it took so many bytes
+-- the replies of which the sink took all, if it took so many bytes
 abbrev pub whole_replies : ℕ → List (List ℕ) → ℕ
 whole_replies n [] = 0
 whole_replies n (reply ∷ replies) = if nat_le (length reply) n then suc (whole_replies (n - length reply) replies) else 0
@@ -188,12 +188,12 @@ abbrev pub HasTreeAround : Mode → State → Option (List ℕ) → List ℕ →
 HasTreeAround mode s None image = HasTree mode.kind (tree_in s) image
 HasTreeAround mode s (Some line) image = HasTreeBeforeOrAfter mode.kind s (tree_after mode s (command_of line)) image
 
--- the line that broke off after so many lines: the one behind all that were done
+-- the line that broke off after so many lines: the one after all that were done
 abbrev pub line_begun : List (List ℕ) → List (List ℕ) → ℕ → Option (List ℕ)
 line_begun lines replies count = if count == length replies then slice_get lines count else None
 
 -- The image has the tree that stands after some of the lines done with these replies, at least so many, or that after the
--- line that broke off. In the safe mode every stop leaves such an image, and every exit one with at least the lines whose
+-- line that broke off. In the safe mode every crash leaves such an image, and every exit one with at least the lines whose
 -- whole replies the sink took.
 pub record HasTreeAfter (May : List ℕ → Type 0) (mode : Mode) (s : State) (lines replies : List (List ℕ)) (least : ℕ) (image : List ℕ) : Type 0 where
   pub count : ℕ

@@ -16,7 +16,7 @@ spaced_more start now words i word below same so_far =
     let more : take (i + 1) words ≡ take i words ++ word ∷ [] = take_more words i word below ∙ ap (λ w. take i words ++ w ∷ []) (sym same) in
     rw (more, spaced-push, so_far) (append_assoc start (spaced (take i words)) (32 ∷ word_text word))
 
--- what was appended comes behind
+-- what was appended comes after
 pub Extends-append : (old more : List ℕ) → Extends old (old ++ more)
 Extends-append [] more = refl
 Extends-append (c ∷ old) more = ap (λ cs. c ∷ cs) (Extends-append old more)

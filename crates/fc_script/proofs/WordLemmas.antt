@@ -47,7 +47,7 @@ too_many a b c d e text = go (split_words text) (omega (arith, length-slice_spli
     go [] h = absurd (omega arith)
     go (f ∷ words) h = refl
 
--- a text that was cut at a space goes on with the words behind it
+-- a text that was cut at a space goes on with the words after it
 pub cut_on : (text word : List ℕ) (rest : Option (Bor (List ℕ))) (after : Bor (List ℕ))
     → split_words text ≡ word ∷ words_after (option_map (λ t. t.now) rest) → rest ≡ Some after
     → split_words text ≡ word ∷ split_words after.now

@@ -12,7 +12,7 @@ is_space c = c == 32
 abbrev pub split_words : List ℕ → List (List ℕ)
 split_words text = slice_split is_space text
 
--- the words of what stands behind a space, where there is one
+-- the words of what stands after a space, if there is one
 abbrev pub words_after : Option (List ℕ) → List (List ℕ)
 words_after (Some text) = split_words text
 words_after None = []
@@ -24,6 +24,6 @@ word_list (Words.Two word path) = word.now ∷ path.now ∷ []
 word_list (Words.Three word from to) = word.now ∷ from.now ∷ to.now ∷ []
 word_list (Words.Five word path load exec last) = word.now ∷ path.now ∷ load.now ∷ exec.now ∷ last.now ∷ []
 
--- the number that digits of a base say, where it fits 32 bits
+-- the number that digits of a base say, if it fits 32 bits
 abbrev pub number_of : ℕ → List ℕ → Option ℕ
 number_of base digits = if nat_lt (digits_value base digits) (2 ^ 32) then Some (digits_value base digits) else None

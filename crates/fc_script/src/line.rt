@@ -200,8 +200,8 @@ fn read_of_words(
     }
 }
 
-/// The command that a line spells. The line has no byte 10. It is `BadCommand` exactly where the line breaks the grammar
-/// apart from its paths, and `BadName` exactly where only a path does. The words are separated by one space each.
+/// The command that a line spells. The line has no byte 10. It is `BadCommand` exactly if the line breaks the grammar
+/// apart from its paths, and `BadName` exactly if only a path does. The words are separated by one space each.
 ///
 /// - `cat`, `load`, `digest`, `cdir` and `delete` have a path;
 /// - `rename` has two paths;

@@ -29,7 +29,7 @@ fn are_digits(text: &str) -> bool
     text.bytes().all(|c| c.is_ascii_digit())
 }
 
-// The number that digits of a base say, where it fits.
+// The number that digits of a base say, if it fits.
 fn read_number(digits: &str, base: u32) -> Option<u32>
     requires low { 2 ≤ base }
     requires high { base ≤ 36 }

@@ -110,7 +110,7 @@ fn length_word<'a>(len: Option<u64>) -> Word<'a>
 }
 
 /// Appends the line of an entry: its name as it is spelled, its attributes, load and execution word of eight hexadecimal
-/// digits each, and its length in bytes, or `dir` where it has none. After `NoMemory` the vector is as before.
+/// digits each, and its length in bytes, or `dir` if it has none. After `NoMemory` the vector is as before.
 pub fn entry_text(
     name: &Name,
     attrs: u32,

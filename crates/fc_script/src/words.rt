@@ -40,7 +40,7 @@ fn printed_text(line: &[u8]) -> Option<&str>
     }
 }
 
-// The first word of a text, and what stands behind the space after it, where there is one.
+// The first word of a text, and what stands after the space after it, if there is one.
 fn cut(text: &str) -> (&str, Option<&str>)
     ensures { split_words text.now ≡ result.0.now ∷ words_after (option_map (λ after. after.now) result.1) }
 {
@@ -84,7 +84,7 @@ fn split_words(text: &str) -> Option<Words<'_>>
     }
 }
 
-/// The words of a line. `None` where it breaks the grammar by a byte, an empty word, or the number of its words.
+/// The words of a line. `None` if it breaks the grammar by a byte, an empty word, or the number of its words.
 pub fn read_words(line: &[u8]) -> Option<Words<'_>>
     ensures { MatchOption result (command_of line.now ≡ Err BadCommand) (λ words. command_of line.now ≡ command_in (word_list words)) }
 {

@@ -5,7 +5,7 @@ use Rattle.std.proofs.lemmas.List.{drop_at, length-append}
 use Rattle.fc_shell.specs.Replies.{script_limit}
 use Rattle.fc_shell.specs.Script.{Gave, IsScript}
 
--- all behind the bytes that it gave
+-- all after the bytes that it gave
 pub left_behind : (before after : Option (List ℕ)) (bytes : List ℕ) (n : ℕ) → length bytes ≡ n → Gave before after bytes → after ≡ option_map (drop n) before
 left_behind before None bytes n long gave = ap (option_map (drop n)) (sym gave)
 left_behind before (Some rest) bytes n long gave = ap Some (sym (drop_at bytes rest n long)) ∙ ap (option_map (drop n)) (sym gave)

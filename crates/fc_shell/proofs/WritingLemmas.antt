@@ -15,7 +15,7 @@ pub wrote_nothing : (told : Option (List ℕ)) → Wrote told told []
 wrote_nothing None = refl
 wrote_nothing (Some taken) = grind (arith, common_steps)
 
--- one text behind another
+-- one text after another
 pub wrote_both : (before mid after : Option (List ℕ)) (a b : List ℕ) → Wrote before mid a → Wrote mid after b → Wrote before after (a ++ b)
 wrote_both None mid after a b first second = second ∙ ap (option_map (λ taken. taken ++ b)) first
 wrote_both (Some taken) mid after a b first second = second ∙ ap (option_map (λ taken. taken ++ b)) first ∙ ap Some (append_assoc taken a b)
@@ -66,7 +66,7 @@ all_given text (Some rest) count into given end =
     let is : text ≡ take count into ++ rest = cc in
     is ∙ ap (λ xs. take count into ++ xs) (end rest refl) ∙ append-nil (take count into)
 
--- what holds at Ok, where there is no error
+-- what holds at Ok, if there is no error
 pub ok_holds : {T E : Type 0} (result : Result T E) (P : Type 0) → false ≡ is_err result → OnOk result P → P
 ok_holds (Ok v) P none holds = holds
 ok_holds (Err e) P none holds = absurd (cc)

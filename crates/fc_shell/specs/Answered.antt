@@ -55,7 +55,7 @@ pub record OnlyTells {K T : Type 0} (k : Sinks K) (before after : K) (result : R
 abbrev pub ForImage : Volume → List ℕ → (Kind → State → Type 0) → Type 0
 ForImage v image P = (kind : Kind) (view : Opened) → OpensAs image kind view → ArePartsOf (parts_of v) view → P kind (record { image = image; view = view })
 
--- The same for each image, and for one that is told.
+-- The same for each image, and for one that is known.
 abbrev pub ForView : Volume → (Kind → State → Type 0) → Type 0
 ForView v P = (image : List ℕ) → ForImage v image P
 

@@ -1,4 +1,4 @@
--- Commands that change the disc, and what is told of them.
+-- Commands that change the disc, and what is answered to them.
 use Rattle.std.specs.Prelude.{◌≡◌, ◌⊎◌, ◌↔◌, ◌≤◌, ℕ, Bool, true, false, List, Some, Result, Ok, Err, IfErr, IsFalse, OnOk}
 use Rattle.std.specs.Option.{ForSome}
 use Rattle.fc_device.specs.declared.disk.Disk.{Ghosts}
@@ -46,7 +46,7 @@ pub record IsAsked {D : Type 0} (d : Ghosts D) (c : Command) (was v : Volume) (o
 abbrev pub HasCompacted : {D : Type 0} → Ghosts D → Parts → Parts → D → D → Type 0
 HasCompacted d was now old new = ForSome (d.bytes old) (λ image. (other : List ℕ) × (d.bytes new ≡ Some other) × CompactsParts was now image other)
 
--- A volume was asked to compact its disc. On a new map no memory is needed, and every stop and every exit keeps the objects.
+-- A volume was asked to compact its disc. On a new map no memory is needed, and every crash and every exit keeps the objects.
 pub record IsCompacting {D : Type 0} (d : Ghosts D) (was v : Volume) (old new : D) (answer : Result (Unit {0}) CommandError) : Type 0 where
   pub refused : (answer ≡ Err (Refused Refusal.ReadOnly)) ↔ (was.read_only ≡ true)
   pub errors : IfErr answer (λ error. (error ≡ Refused Refusal.ReadOnly) ⊎ ((error ≡ DiskFault) ⊎ ((error ≡ NoMemory) × IsOldLayout (parts_of was).layout)))
@@ -54,7 +54,7 @@ pub record IsCompacting {D : Type 0} (d : Ghosts D) (was v : Volume) (old new : 
   pub keeps : KeepsVolume d old new was v answer
   pub objects : (m : Map) → (parts_of was).layout ≡ Layout.New m → StopsAndExitsLeave d old new (KeepsObjects m.geometry)
 
--- What is told of its answer: `ok`, or the line of the refusal. After any other error nothing is.
+-- Its answer as a line: `ok`, or the line of the refusal. After any other error nothing is.
 abbrev pub Tells : {K : Type 0} → Sinks K → K → K → Result (Unit {0}) CommandError → Result Bool LineFault → Type 0
 Tells k before after (Ok done) result = Answered ok_line (k.taken before) (k.taken after) result × OnlyTells k before after result
 Tells k before after (Err (Refused refusal)) result = Answered (refusal_line refusal) (k.taken before) (k.taken after) result × OnlyTells k before after result

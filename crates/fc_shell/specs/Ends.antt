@@ -24,7 +24,7 @@ status_of NoImage = 12
 
 -- ---- when a run ends so
 
--- how a run ends at its script's end, where a line was refused, and else
+-- how a run ends at its script's end, if a line was refused, and else
 abbrev pub end_after : Bool → End
 end_after true = Refused
 end_after false = Done
@@ -53,11 +53,11 @@ is_over_image (BadImage fault) = true
 is_over_image OutFault = true
 is_over_image end = false
 
--- Where the disk gives the name, the run doesn't end without an image; where it doesn't, the run doesn't end over one.
+-- If the disk gives the name, the run doesn't end without an image; if it doesn't, the run doesn't end over one.
 abbrev pub FitsGiven : Bool → End → Type 0
 FitsGiven given end = (end ≡ NoImage → given ≡ false) × (is_over_image end ≡ true → given ≡ true)
 
--- What was asked of the disk, by how the run ends: nothing; or this image, and once; and where memory was short, either.
+-- What was asked of the disk, by how the run ends: nothing; or this image, and once; and if memory was short, either.
 abbrev pub AsksFor : Asked → End → List Asked → List Asked → Type 0
 AsksFor image BadWords old new = new ≡ old
 AsksFor image ScriptFault old new = new ≡ old

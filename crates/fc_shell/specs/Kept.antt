@@ -23,7 +23,7 @@ abbrev pub LeavesDisk : {D : Type 0} → Ghosts D → Request → Type 0 → D �
 LeavesDisk d r reads old new = (new ≡ old)
     ⊎ ((d.asked new ≡ d.asked old ++ (r.image, blank_size r) ∷ []) × (reads → HasImage d r old new) × (d.pending new ≡ false))
 
--- The run writes nothing over an image that is there: it may not change it, or its script, which is told, only reads.
+-- The run writes nothing over an image that is there: it may not change it, or its script, which is known, only reads.
 abbrev pub RunSpares : Request → Option (List ℕ) → Type 0
 RunSpares r told = (r.read_only ≡ true) ⊎ ((text : List ℕ) × (told ≡ Some text) × (only_reads text ≡ true))
 

@@ -4,7 +4,7 @@ use Rattle.std.specs.List.{slice_split}
 use Rattle.fc_script.specs.Lines.{is_command_line}
 use Rattle.fc_shell.specs.declared.lines.CommandLines.{CommandLines}
 
--- the lines of a text, if any is left; behind the last line's end stands an empty one
+-- the lines of a text, if any is left; after the last line's end stands an empty one
 abbrev pub lines_left : Option (List ℕ) → List (List ℕ)
 lines_left None = []
 lines_left (Some text) = slice_split (λ c. c == 10) text

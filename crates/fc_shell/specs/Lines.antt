@@ -1,4 +1,4 @@
--- Words behind others in a line.
+-- Words after others in a line.
 use Rattle.std.specs.Prelude.{ℕ, List, [], ◌∷◌, ◌++◌}
 
 -- each with a space before it

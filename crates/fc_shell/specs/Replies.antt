@@ -43,12 +43,12 @@ script_limit = 2 ^ 24
 abbrev pub demo_limit : ℕ
 demo_limit = 10000
 
--- The script of a run, where it is told: a demo's is its own, any other the source has.
+-- The script of a run, if it is known: a demo's is its own, any other the source has.
 abbrev pub told_script : Option ℕ → Option (List ℕ) → Option (List ℕ)
 told_script None told = told
 told_script (Some n) told = Some (demo_script n)
 
--- by the words; where they are bad, no script is run
+-- by the words; if they are bad, no script is run
 abbrev pub asked_script : Option Request → Option (List ℕ) → Option (List ℕ)
 asked_script None told = told
 asked_script (Some r) told = told_script r.demo told
@@ -116,7 +116,7 @@ attached_reply true r script image = image_reply r.read_only script (image_for r
 abbrev pub is_unbuilt : Request → Bool
 is_unbuilt r = r.safe
 
--- What the words ask for isn't built yet, or, where the script is told, it isn't too long and has a command that isn't.
+-- What the words ask for isn't built yet, or, if the script is known, it isn't too long and has a command that isn't.
 abbrev pub AsksUnbuilt : Request → Option (List ℕ) → Type 0
 AsksUnbuilt r told = (is_unbuilt r ≡ true) ⊎ ForSome told (λ text. (length text ≤ script_limit) × (has_unbuilt text ≡ true))
 
@@ -138,7 +138,7 @@ run_reply words gives script image = request_reply gives script image (request_o
 
 -- ---- how a run ends
 
--- The run ended so. Where a call of the outside failed or memory was short, a part of the reply was written; else the
+-- The run ended so. If a call of the outside failed or memory was short, a part of the reply was written; else the
 -- reply decides, and all of it was.
 abbrev pub EndsAs : Outcome → End → Option (List ℕ) → Option (List ℕ) → Type 0
 EndsAs reply DiskFault before after = WrotePart before after reply.text

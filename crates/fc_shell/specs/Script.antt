@@ -7,7 +7,7 @@ use Rattle.fc_shell.specs.Replies.{script_limit}
 abbrev pub Gave : Option (List ℕ) → Option (List ℕ) → List ℕ → Type 0
 Gave before after bytes = before ≡ option_map (λ rest. bytes ++ rest) after
 
--- what is left behind the first byte past the limit
+-- what is left after the first byte past the limit
 abbrev pub behind_limit : Option (List ℕ) → Option (List ℕ)
 behind_limit before = option_map (drop (script_limit + 1)) before
 

@@ -1,7 +1,7 @@
 -- What a run writes.
 use Rattle.std.specs.Prelude.{◌≡◌, ℕ, List, ◌++◌, take, Option, option_map}
 
--- The whole text stands behind what was taken before, where that is told.
+-- The whole text stands after what was taken before, if that is known.
 abbrev pub Wrote : Option (List ℕ) → Option (List ℕ) → List ℕ → Type 0
 Wrote before after text = after ≡ option_map (λ taken. taken ++ text) before
 

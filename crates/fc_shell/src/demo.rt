@@ -17,7 +17,7 @@ use fc_device::{Failed, NoMemory, Sink};
 use sha2::{Digest, Sha256};
 use std::alloc::Global;
 
-/// A sink in memory for the replies of a demo. It fails only where no memory is found.
+/// A sink in memory for the replies of a demo. It fails only if no memory is found.
 #[derive(Drop)]
 pub struct Replies {
     bytes: Vec<u8>,

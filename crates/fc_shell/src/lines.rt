@@ -34,7 +34,7 @@ impl<'a> CommandLines<'a> {
     }
 }
 
-// The first line of a text, and what stands behind its end, where it has one.
+// The first line of a text, and what stands after its end, if it has one.
 fn cut_line(text: &[u8]) -> (&[u8], Option<&[u8]>)
     ensures cut { slice_split (λ c. c == 10) text.now ≡ result.0.now ∷ lines_left (option_map (λ left. left.now) result.1) }
     ensures shorter { size_left (option_map (λ left. left.now) result.1) ≤ length text.now }

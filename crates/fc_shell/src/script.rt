@@ -19,7 +19,7 @@ pub enum ScriptError {
     NoMemory,
 }
 
-/// Reads the script to its end. None where it is longer than 16,777,216 bytes; then the first 16,777,217 were taken, and
+/// Reads the script to its end. None if it is longer than 16,777,216 bytes; then the first 16,777,217 were taken, and
 /// the others are left.
 pub fn read_script<S: Source>(alloc: Global, script: &mut S) -> Result<Option<Vec<u8>>, ScriptError>
     ensures script { IfOk result (λ read. IsScript (S.left script.old) (S.left script.new) (option_map (λ bytes. bytes.items) read)) }

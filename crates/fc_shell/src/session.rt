@@ -121,7 +121,7 @@ fn answer_demo<D: Disk, K: Sink>(
     match serve(alloc, volume, disk, &mut replies, script) {
         Ok(tally) => tell_tally(alloc, out, n, tally, replies.text()),
         Err(LineFault::Disk) => End::DiskFault,
-        // The sink of the replies fails only where no memory is found.
+        // The sink of the replies fails only if no memory is found.
         Err(LineFault::Out) => End::NoMemory,
         Err(LineFault::NoMemory) => End::NoMemory,
     }

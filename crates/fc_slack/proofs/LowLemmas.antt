@@ -26,7 +26,7 @@ or_true : (b : Bool) → (b || true) ≡ true
 or_true true = refl
 or_true false = refl
 
--- an owner that is in the way, and what is behind it
+-- an owner that is in the way, and what is after it
 pub moves : (m : Map) (need : ℕ) (o : Owner) (low new : ℕ) → is_clear (low_start m low) need o ≡ false → low ≤ new → new ≤ 256 → (new < 256 → o.first + o.sectors ≤ low_start m new)
     → ((k : ℕ) → low ≤ k → k < new → low_start m k < o.first + o.sectors) → IsPast m need o low new
 moves m need o low new in_way from byte behind before = record {

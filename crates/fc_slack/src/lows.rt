@@ -27,7 +27,7 @@ fn is_clear(o: &Owner, first: u64, need: u64) -> bool
     first + need <= o.first || ends_by(o, first) || o.sectors == 0
 }
 
-// The least low byte, from one on, that begins behind what an owner has.
+// The least low byte, from one on, that begins after what an owner has.
 fn low_behind(map: &NewMap, low: u32, o: &Owner) -> u32
     requires { low < 256 }
     ensures from { low ≤ result }
@@ -59,7 +59,7 @@ fn low_past(map: &NewMap, low: u32, o: &Owner, need: u64) -> u32
 }
 
 /// The least low byte at which none of these owners of one identifier, in the order of their first sectors, is in the way
-/// of `need` sectors; `LOW_LIMIT` where each low byte has one in the way.
+/// of `need` sectors; `LOW_LIMIT` if each low byte has one in the way.
 pub fn free_low(map: &NewMap, owners: &[Owner], need: u64) -> u32
     requires few { need < 2 ^ 63 }
     requires sorted { IsNonDecreasingBy (λ o. o.first) owners.now }

@@ -1,4 +1,4 @@
-// Whether an identifier has room behind a low byte.
+// Whether an identifier has room after a low byte.
 
 ghost use Rattle.std.specs.Prelude.{◌≡◌, ◌<◌, ◌^◌, IfSome, length, nat_lt};
 ghost use Rattle.fc_image.specs.Layout.{id_sectors};

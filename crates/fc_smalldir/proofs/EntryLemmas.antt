@@ -18,7 +18,7 @@ pub length-name_bytes : (form : SmallForm) (e : Entry) → length (name_bytes fo
 length-name_bytes Bytes2048 e = length-padded 10 e.name
 length-name_bytes Bytes1280 e = length-with_tops e.attrs (padded_name 10 e.name) ∙ length-padded 10 e.name
 
--- the numbers of an entry, each at its place behind a name of ten bytes
+-- the numbers of an entry, each at its place after a name of ten bytes
 pub record SaysNumbers (bytes name : List ℕ) (load exec len address last : ℕ) : Type 0 where
   pub name_is : take 10 bytes ≡ name
   pub load_is : little_number 4 (drop 10 bytes) ≡ load

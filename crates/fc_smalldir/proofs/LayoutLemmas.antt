@@ -38,7 +38,7 @@ pub record SaysTail (bytes : List ℕ) (n first last : ℕ) (a title b : List �
 tail_regrouped : (f a p t b h c : List ℕ) → f ++ (a ++ p ++ t ++ b ++ h) ++ c ≡ f ++ (a ++ (p ++ (t ++ (b ++ (h ++ c)))))
 tail_regrouped f a p t b h c = simp append_assoc
 
--- one step further behind a part
+-- one step further after a part
 step : (bytes part rest : List ℕ) (at size next : ℕ) → drop at bytes ≡ part ++ rest → length part ≡ size → next ≡ at + size → drop next bytes ≡ rest
 step bytes part rest at size next here is sum =
     rw sum (sym (drop-drop size at bytes) ∙ ap (drop size) here ∙ drop_at part rest size is)

@@ -20,7 +20,7 @@ abbrev pub attrs_in : SmallForm → List ℕ → ℕ
 attrs_in Bytes2048 bytes = slice_index bytes 25
 attrs_in Bytes1280 bytes = num (map (λ c. c / 128) (take 10 bytes))
 
--- the last of the 26 bytes, where it is no attribute
+-- the last of the 26 bytes, if it is no attribute
 abbrev pub last_in : SmallForm → List ℕ → ℕ
 last_in Bytes2048 bytes = 0
 last_in Bytes1280 bytes = slice_index bytes 25

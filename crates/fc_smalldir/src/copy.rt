@@ -6,7 +6,7 @@ use fc_device::NoMemory;
 use fc_dirs::{Entry, SmallForm};
 use std::alloc::Global;
 
-// Puts a copy of an entry behind others.
+// Puts a copy of an entry after others.
 fn push_copy(entries: &mut Vec<Entry>, entry: &Entry) -> Result<(), NoMemory>
     ensures { OnOk result (entries.new.items ≡ entries.old.items ++ entry.now ∷ []) }
 {

@@ -86,7 +86,7 @@ pub fn read_entries(
     Ok(entries)
 }
 
-// Writes entries from byte `at` on, and answers the place behind them.
+// Writes entries from byte `at` on, and answers the place after them.
 pub fn put_entries(b: &mut [u8], at: usize, entries: &[Entry], form: SmallForm) -> usize
     requires fit { AllByRecursion (FitsSmall form) entries.now }
     requires within { at + 26 * length entries.now ≤ length b.old }

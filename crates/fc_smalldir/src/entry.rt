@@ -80,7 +80,7 @@ fn attrs_in(b: &[u8], form: SmallForm) -> u32
     }
 }
 
-// The last byte of an entry, where it is no attribute.
+// The last byte of an entry, if it is no attribute.
 fn last_in(b: &[u8], form: SmallForm) -> u8
     requires { length b.now ≡ 26 }
     ensures { result ≡ last_in form b.now }
@@ -148,7 +148,7 @@ pub fn words_fit(e: &Entry)
     let _len = e.len;
 }
 
-// Writes an entry from byte `at` on, and answers the place behind it.
+// Writes an entry from byte `at` on, and answers the place after it.
 pub fn put_entry(b: &mut [u8], at: usize, e: &Entry, form: SmallForm) -> usize
     requires fits { FitsSmall form e.now }
     requires within { at + 26 ≤ length b.old }

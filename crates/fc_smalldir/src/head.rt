@@ -66,7 +66,7 @@ pub fn is_sequence_right(b: &[u8], form: SmallForm) -> bool
     b[0] == b[b.len() - 6]
 }
 
-// Whether the check is right, where it is read. `count` is the number of the entries.
+// Whether the check is right, if it is read. `count` is the number of the entries.
 pub fn is_check_right(b: &[u8], form: SmallForm, count: usize) -> bool
     requires size { length b.now ≡ (tail_of form).size }
     requires count { count ≡ length (small_entries form b.now) }
@@ -124,7 +124,7 @@ fn magic_word(is_hugo: bool) -> [u8; 4]
     if is_hugo { *b"Hugo" } else { *b"Nick" }
 }
 
-// Writes the sequence byte and the word, and answers the place behind them.
+// Writes the sequence byte and the word, and answers the place after them.
 pub fn put_head(b: &mut [u8], at: usize, head: &Head) -> usize
     requires { at + 5 ≤ length b.old }
     ensures end { result ≡ at + 5 }
@@ -170,7 +170,7 @@ pub fn put_tail(b: &mut [u8], at: usize, head: &Head) -> usize
     put_head(b, at, head)
 }
 
-// The check of a directory, which is 0 where none is read. `count` is the number of the entries.
+// The check of a directory, which is 0 if none is read. `count` is the number of the entries.
 pub fn check_of(b: &[u8], form: SmallForm, count: usize) -> u8
     requires size { length b.now ≡ (tail_of form).size }
     requires few { count ≤ (tail_of form).places }

@@ -1,7 +1,7 @@
 //! Small directories: those of 2048 bytes on D, E and F discs, and those of 1280 bytes on L discs.
 //!
 //! A directory is read whole, kept as its head and its entries in stored order, and written whole. The layout is that
-//! of the RISC OS PRM, chapter FileCore; where it leaves a choice, of docs/FORMAT.md.
+//! of the RISC OS PRM, chapter FileCore; if it leaves a choice, of docs/FORMAT.md.
 #![tactic(auto)]
 
 mod bytes;

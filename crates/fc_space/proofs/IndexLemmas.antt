@@ -136,7 +136,7 @@ range_cut (suc k) a (suc n) within =
 both_rows : (g : Geometry) (id : ℕ) (xs ys : List IdRow) → places_in (rows_of id (xs ++ ys)) ≡ places_in (rows_of id xs) ++ places_in (rows_of id ys)
 both_rows g id xs ys = ap places_in (filter-append (λ (r : IdRow). r.id == id) xs ys) ∙ map-append (λ (r : IdRow). r.place) (rows_of id xs) (rows_of id ys)
 
--- Those before the turn, and then those behind it, stand in the order of the search.
+-- Those before the turn, and then those after it, stand in the order of the search.
 pub rows_found : (m : Map) (id : ℕ) → 1 ≤ m.geometry.zones
     → places_in (rows_of id (rows_with m.geometry true (all_runs m) ++ rows_with m.geometry false (all_runs m))) ≡ map (extent_of m.geometry) (id_runs m id)
 rows_found m id some =

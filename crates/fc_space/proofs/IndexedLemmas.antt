@@ -15,7 +15,7 @@ use Rattle.fc_space.specs.declared.index.IdRow.{IdRow}
 use Rattle.fc_space.specs.Index.{IsIndex, IsLow, places_in, rows_of}
 use Rattle.fc_space.proofs.PartLemmas.{map_more, wanted_behind}
 
--- The sectors that are wanted are those that were found, and `need` sectors behind `skip` sectors of the rows that are left.
+-- The sectors that are wanted are those that were found, and `need` sectors after `skip` sectors of the rows that are left.
 abbrev pub AreSought : List IdRow → ℕ → ℕ → List Extent → List IdRow → ℕ → ℕ → Type 0
 AreSought rows skip need found left skip' need' =
     first_part need (drop skip (sectors_in (places_in rows))) ≡ option_map (λ (more : List ℕ). sectors_in found ++ more) (first_part need' (drop skip' (sectors_in (places_in left))))
@@ -63,7 +63,7 @@ sought_behind rows skip need found row rest part skip' need' skip'' need'' s tak
     let empty : extent_sectors part ≡ [] = ap (λ (n : ℕ). extent_sectors (record { first = part.first; sectors = n })) zero in
     behind_row rows skip need found found row rest part skip' need' skip'' need'' s takes (sym (append-nil (sectors_in found)) ∙ ap (λ (xs : List ℕ). sectors_in found ++ xs) (sym empty)) skipped needed
 
--- the row at a place, and those behind it
+-- the row at a place, and those after it
 pub next_row : (rows : List IdRow) (i : ℕ) (d : IdRow) → i < length rows → drop i rows ≡ slice_index_or rows i d ∷ drop (i + 1) rows
 next_row [] i d within = absurd (omega (arith, within))
 next_row (r ∷ rows) zero d within = refl

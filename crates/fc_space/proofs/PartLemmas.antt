@@ -29,7 +29,7 @@ pub take_none : (k : ℕ) → take {A = ℕ} k [] ≡ []
 take_none zero = refl
 take_none (suc k) = refl
 
--- the row behind `skip` sectors of a row, with at most `need` of them
+-- the row after `skip` sectors of a row, with at most `need` of them
 pub part_sectors : (first n skip need passed kept : ℕ) → passed ≡ min skip n → kept ≡ min need (n - passed)
     → range_with_len (first + passed) kept ≡ take need (drop skip (range_with_len first n))
 part_sectors first n skip need passed kept p k = elim (cases_lt skip n) [
@@ -93,7 +93,7 @@ drop_both zero xs ys = ap (λ (k : ℕ). xs ++ drop k ys) (let e : 0 ≡ 0 - len
 drop_both (suc k) [] ys = ap (λ (j : ℕ). drop j ys) (let e : suc k ≡ suc k - 0 = omega arith in e)
 drop_both (suc k) (x ∷ xs) ys = drop_both k xs ys ∙ ap (λ (j : ℕ). drop k xs ++ drop j ys) (let e : k - length xs ≡ suc k - suc (length xs) = omega arith in e)
 
--- what is still wanted behind the first row, where its part has been taken
+-- what is still wanted after the first row, where its part has been taken
 pub wanted_behind : (need skip : ℕ) (xs ys : List ℕ)
     → first_part need (drop skip (xs ++ ys))
     ≡ option_map (λ (more : List ℕ). take need (drop skip xs) ++ more) (first_part (need - length (take need (drop skip xs))) (drop (skip - length xs) ys))
@@ -105,7 +105,7 @@ pub map_more : (front part : List ℕ) (o : Option (List ℕ))
 map_more front part None = refl
 map_more front part (Some more) = ap (λ (xs : List ℕ). let o : Option (List ℕ) = Some xs in o) (sym (append_assoc front part more))
 
--- nothing is behind the sectors of no row
+-- nothing is after the sectors of no row
 pub none_behind : (need skip : ℕ) → 0 < need → first_part need (drop skip []) ≡ None
 none_behind need skip some =
     ap (first_part need) (drop_of_length-le {A = ℕ} [] {i = skip} (omega arith)) ∙ ap (λ (b : Bool). if b then Some (take {A = ℕ} need []) else None) (lt-leb need 0 some)

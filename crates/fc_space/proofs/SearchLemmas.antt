@@ -17,7 +17,7 @@ abbrev pub IsNextOf : Map → List ZoneRun → RunCursor → Option ZoneRun → 
 IsNextOf m left new result =
     MatchOption result ((left ≡ []) × StandsAt m [] new) (λ (p : ZoneRun). (rest : List ZoneRun) × ((left ≡ p ∷ rest) × StandsAt m rest new))
 
--- The sectors that are wanted are those that were found, and `need` sectors behind `skip` sectors of the runs that are left.
+-- The sectors that are wanted are those that were found, and `need` sectors after `skip` sectors of the runs that are left.
 pub record Searches (m : Map) (id skip need : ℕ) (found : List Extent) (cursor : RunCursor) (skip' need' : ℕ) : Type 0 where
   pub done : List ZoneRun
   pub left : List ZoneRun

@@ -11,7 +11,7 @@ use fc_device::Extent;
 use fc_newmap::{MAP_ID, NewMap, RunCursor, extent_of, id_limit};
 use std::alloc::Global;
 
-// The part of an extent that stands behind `skip` sectors and has at most `need`.
+// The part of an extent that stands after `skip` sectors and has at most `need`.
 pub fn part_of(extent: Extent, skip: u64, need: u64) -> Extent
     requires { extent.first + extent.sectors < 2 ^ 64 }
     ensures sectors { extent_sectors result ≡ take need (drop skip (extent_sectors extent)) }

@@ -1,4 +1,4 @@
--- Disks that tell their bytes only where they told them before.
+-- Disks that tell their bytes only if they told them before.
 use Rattle.std.proofs.Common.{◌≡◌, ◌⊎◌, ⊎_elim, ℕ, List, sym, ◌∙◌, Some, None, Option, option_map, refl}
 use Rattle.fc_device.specs.declared.disk.Disk.{Ghosts}
 use Rattle.fc_squash.specs.Sliding.{TellsAsBefore}

@@ -31,7 +31,7 @@ pub record IsPulledDown (holes holes' : List Hole) (body : Hole) (start : ℕ) :
   pub begins : start ≡ hole.start
   pub moved : holes' ≡ shifted index body.len holes
 
--- An object stays where no hole ends at its start.
+-- An object stays if no hole ends at its start.
 pub record Rests (holes holes' : List Hole) (body : Hole) (start : ℕ) : Type 0 where
   pub alone : All (λ h. hole_end h ≢ body.start) holes
   pub begins : start ≡ body.start

@@ -29,7 +29,7 @@ fn hole_before(holes: &[Hole], start: u32) -> Option<(u32, Hole)>
 }
 
 /// Slides an object into the hole that ends where it begins, if there is one, and answers where it begins then. The
-/// hole moves up behind it, and is joined with the next where the two then touch.
+/// hole moves up after it, and is joined with the next if the two then touch.
 pub fn pull<D: Disk>(
     disk: &mut D,
     map: &mut OldMap,

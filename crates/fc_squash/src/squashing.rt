@@ -56,7 +56,7 @@ fn pull_all<D: Disk>(
 /// Slides each object of a disc with an old map into the hole before it, in rising order, and gives the new starts. No
 /// hole is then directly followed by an object or another hole. The objects are all but the root, rising by their
 /// starts, each some whole sectors of the disc and apart from all others and all holes. Entries and parent fields that
-/// name the old starts are the caller's to rewrite, and the map to write. It fails only where a call of the disk fails;
+/// name the old starts are the caller's to rewrite, and the map to write. It fails only if a call of the disk fails;
 /// map and list then speak of the objects that slid before, and holes and objects that were to slide may have any bytes.
 /// Takes no memory.
 pub fn squash<D: Disk>(

@@ -8,7 +8,7 @@ use std::test::Fail;
 
 type Part = (usize, &'static [u8]);
 
-// What is told of an answer: its name, and the numbers that it has.
+// An answer as the rows have it: its name, and the numbers that it has.
 type Told = (&'static str, u64, u64);
 
 const RECORD_E: &[u8] = b"\x0a\x05\x02\x02\x0f\x07\x01\0\0\x01\x20\x05\x03\x02\0\0\0\x80\x0c";
@@ -65,7 +65,7 @@ const L: &[Part] = &[
 // An F's boot block. Both places of its map are 0, so that each zone has its right check, and not their total.
 const F: &[Part] = &[(0xdc0, RECORD_F), (0xdff, b"\x9e")];
 
-// The bytes of an image, what is changed in them, its length, and what is told of it.
+// The bytes of an image, what is changed in them, its length, and the answer.
 type Row = (&'static [Part], &'static [Part], usize, Told);
 
 const ROWS: &[Row] = &[
@@ -144,7 +144,7 @@ fn put(b: &mut [u8], parts: &[Part]) {
     }
 }
 
-// What is told of a fault.
+// A fault as the rows have it.
 fn told_of(fault: &ImageFault) -> Told {
     match fault {
         ImageFault::NoKind => ("NoKind", 0, 0),
@@ -161,7 +161,7 @@ fn told_of(fault: &ImageFault) -> Told {
     }
 }
 
-// What is told of the answer of mounting a disk of these bytes, of which some read calls fail.
+// The answer, as the rows have it, of mounting a disk of these bytes, of which some read calls fail.
 fn mounted(alloc: Global, row: &Row, failing: Failing) -> Result<Told, Fail> {
     let (parts, changes, size, _) = row;
     let mut bytes = vec![in alloc; 0; *size]?;

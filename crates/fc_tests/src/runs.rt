@@ -176,140 +176,144 @@ fn outcome(
     ))
 }
 
+// Words that make a fresh volume, a script, and its text.
+const FRESH_VOLUMES: &[(&[&str], &[u8], &[u8])] = &[
+    (
+        &["--new", "E", "disc"],
+        b"free\n",
+        b"free 815104 815104\nok\n",
+    ),
+    (
+        &["disc", "--new=F"],
+        b"free\n",
+        b"free 1624064 421888\nok\n",
+    ),
+    (
+        &["--new", "D", "disc"],
+        b"free\n",
+        b"free 816128 816128\nok\n",
+    ),
+    (
+        &["--new", "L", "disc"],
+        b"free",
+        b"free 653568 653568\nok\n",
+    ),
+    (
+        &["--new", "E+", "disc"],
+        b"free",
+        b"free 815104 815104\nok\n",
+    ),
+    (
+        &["--new", "F+", "disc"],
+        b"free",
+        b"free 1624064 421888\nok\n",
+    ),
+    (
+        &["--new", "E", "disc"],
+        b"check\n",
+        b"files 0 dirs 1 lost 0 holes 1 free 815104 unsorted 0 parents 0\nok\n",
+    ),
+    (
+        &["--read-only", "--new", "D", "disc"],
+        b"cat $\n\n# end",
+        b"ok\n",
+    ),
+];
+
 #[test]
 fn fresh_volumes(rt: HostRuntime) -> Result<(), Fail> {
     let alloc = rt.alloc();
-    let cases: [(&[&str], &[u8], &[u8]); 8] = [
-        (
-            &["--new", "E", "disc"],
-            b"free\n",
-            b"free 815104 815104\nok\n",
-        ),
-        (
-            &["disc", "--new=F"],
-            b"free\n",
-            b"free 1624064 421888\nok\n",
-        ),
-        (
-            &["--new", "D", "disc"],
-            b"free\n",
-            b"free 816128 816128\nok\n",
-        ),
-        (
-            &["--new", "L", "disc"],
-            b"free",
-            b"free 653568 653568\nok\n",
-        ),
-        (
-            &["--new", "E+", "disc"],
-            b"free",
-            b"free 815104 815104\nok\n",
-        ),
-        (
-            &["--new", "F+", "disc"],
-            b"free",
-            b"free 1624064 421888\nok\n",
-        ),
-        (
-            &["--new", "E", "disc"],
-            b"check\n",
-            b"files 0 dirs 1 lost 0 holes 1 free 815104 unsorted 0 parents 0\nok\n",
-        ),
-        (
-            &["--read-only", "--new", "D", "disc"],
-            b"cat $\n\n# end",
-            b"ok\n",
-        ),
-    ];
-    for (words, script, text) in cases {
+    for (words, script, text) in FRESH_VOLUMES {
         let (status, written, _) = outcome(alloc, words, Vec::new(alloc), script)?;
         assert!(rt; status == 0);
-        assert!(rt; written.as_slice() == text);
+        assert!(rt; written.as_slice() == *text);
     }
     Ok(())
 }
 
+// Words, a script, and the status and the text that it has over the image with `Hello`, which stays as it is.
+const ONE_FILE: &[(&[&str], &[u8], u8, &[u8])] = &[
+    (&["disc"], b"load $.hello\n", 0, b"48656c6c6f\nok\n"),
+    (&["disc"], b"load $.None", 1, b"error 3 NotFound\n"),
+    (
+        &["--read-only", "disc"],
+        b"cat $\nfree\nload $.Hello.X\n",
+        1,
+        b"Hello 00000003 00000000 00000000 5\nok\nfree 813056 813056\nok\nerror 4 NotDirectory\n",
+    ),
+    (
+        &["disc"],
+        b"digest $.Hello\n",
+        0,
+        b"185f8db32271fe25f561a6fc938b2e264306ec304eda518007d1764826381969\nok\n",
+    ),
+    (
+        &["disc"],
+        b"lod $\nload $\n#\n\nload $.a:b\n",
+        1,
+        b"error 1 BadCommand\nerror 5 IsDirectory\nerror 2 BadName\n",
+    ),
+    (&["disc"], b"", 0, b""),
+    (&["other"], b"load $.hello\n", 12, b""),
+    (&[], b"load $.hello\n", 2, b""),
+    (&["--help", "disc"], b"load $.hello\n", 2, b""),
+    (&["--safe", "disc"], b"load $.hello\n", 9, b""),
+    (
+        &["--demo", "1", "--safe", "disc"],
+        b"load $.hello\n",
+        9,
+        b"",
+    ),
+    (
+        &["--read-only", "--demo", "1", "disc"],
+        b"load $.hello\n",
+        1,
+        b"demo 1 commands 11 refused 9 sha256 9dd5e13ddca647ed805e3182b8f7470e33637ab0f56d72768e535c6c93a9025e\n",
+    ),
+    (
+        &["disc"],
+        b"save $.A.B 00000000 00000000 -\ncreate $ 00000000 00000000 1\nrename $.A $.B\n",
+        1,
+        b"error 3 NotFound\nerror 5 IsDirectory\nerror 3 NotFound\n",
+    ),
+    (&["disc"], b"free\nreclaim\n", 9, b""),
+    (&["other"], b"free\ncdir $.A\nfree\n", 12, b""),
+    (
+        &["disc"],
+        b"cdir $.A.B\ncdir $.Hello\ncdir $\ndelete $.A\n",
+        1,
+        b"error 3 NotFound\nerror 6 Exists\nerror 6 Exists\nerror 3 NotFound\n",
+    ),
+    (
+        &["disc"],
+        b"set $.A 00000000 00000000 RWL\nset $ 00000000 00000000 R\ndelete $.Hello.A\ndelete $\n",
+        1,
+        b"error 3 NotFound\nerror 7 RootRefused\nerror 4 NotDirectory\nerror 7 RootRefused\n",
+    ),
+    (
+        &["--read-only", "disc"],
+        b"delete $.None\ndelete $.Hello\nset $.Hello 00000000 00000000 L\ncdir $.Hello\ncdir $.D\ncompact\n",
+        1,
+        b"error 3 NotFound\nerror 11 ReadOnly\nerror 11 ReadOnly\nerror 6 Exists\nerror 11 ReadOnly\n\
+            error 11 ReadOnly\n",
+    ),
+    (
+        &["--read-only", "disc"],
+        b"\n#\ncompact",
+        1,
+        b"error 11 ReadOnly\n",
+    ),
+    (&["disc"], b"reclaim\nlod\n", 9, b""),
+];
+
 #[test]
 fn an_image_with_one_file(rt: HostRuntime) -> Result<(), Fail> {
     let alloc = rt.alloc();
-    let cases: [(&[&str], &[u8], u8, &[u8]); 20] = [
-        (&["disc"], b"load $.hello\n", 0, b"48656c6c6f\nok\n"),
-        (&["disc"], b"load $.None", 1, b"error 3 NotFound\n"),
-        (
-            &["--read-only", "disc"],
-            b"cat $\nfree\nload $.Hello.X\n",
-            1,
-            b"Hello 00000003 00000000 00000000 5\nok\nfree 813056 813056\nok\nerror 4 NotDirectory\n",
-        ),
-        (
-            &["disc"],
-            b"digest $.Hello\n",
-            0,
-            b"185f8db32271fe25f561a6fc938b2e264306ec304eda518007d1764826381969\nok\n",
-        ),
-        (
-            &["disc"],
-            b"lod $\nload $\n#\n\nload $.a:b\n",
-            1,
-            b"error 1 BadCommand\nerror 5 IsDirectory\nerror 2 BadName\n",
-        ),
-        (&["disc"], b"", 0, b""),
-        (&["other"], b"load $.hello\n", 12, b""),
-        (&[], b"load $.hello\n", 2, b""),
-        (&["--help", "disc"], b"load $.hello\n", 2, b""),
-        (&["--safe", "disc"], b"load $.hello\n", 9, b""),
-        (
-            &["--demo", "1", "--safe", "disc"],
-            b"load $.hello\n",
-            9,
-            b"",
-        ),
-        (
-            &["--read-only", "--demo", "1", "disc"],
-            b"load $.hello\n",
-            1,
-            b"demo 1 commands 11 refused 9 sha256 9dd5e13ddca647ed805e3182b8f7470e33637ab0f56d72768e535c6c93a9025e\n",
-        ),
-        (
-            &["disc"],
-            b"save $.A.B 00000000 00000000 -\ncreate $ 00000000 00000000 1\nrename $.A $.B\n",
-            1,
-            b"error 3 NotFound\nerror 5 IsDirectory\nerror 3 NotFound\n",
-        ),
-        (&["disc"], b"free\nreclaim\n", 9, b""),
-        (&["other"], b"free\ncdir $.A\nfree\n", 12, b""),
-        (
-            &["disc"],
-            b"cdir $.A.B\ncdir $.Hello\ncdir $\ndelete $.A\n",
-            1,
-            b"error 3 NotFound\nerror 6 Exists\nerror 6 Exists\nerror 3 NotFound\n",
-        ),
-        (
-            &["disc"],
-            b"set $.A 00000000 00000000 RWL\nset $ 00000000 00000000 R\ndelete $.Hello.A\ndelete $\n",
-            1,
-            b"error 3 NotFound\nerror 7 RootRefused\nerror 4 NotDirectory\nerror 7 RootRefused\n",
-        ),
-        (
-            &["--read-only", "disc"],
-            b"delete $.None\ndelete $.Hello\nset $.Hello 00000000 00000000 L\ncdir $.Hello\ncdir $.D\ncompact\n",
-            1,
-            b"error 3 NotFound\nerror 11 ReadOnly\nerror 11 ReadOnly\nerror 6 Exists\nerror 11 ReadOnly\n\
-                error 11 ReadOnly\n",
-        ),
-        (
-            &["--read-only", "disc"],
-            b"\n#\ncompact",
-            1,
-            b"error 11 ReadOnly\n",
-        ),
-        (&["disc"], b"reclaim\nlod\n", 9, b""),
-    ];
-    for (words, script, wanted, text) in cases {
+    for (words, script, wanted, text) in ONE_FILE {
         let image = hello(alloc, &[])?;
         let (status, written, left) = outcome(alloc, words, image, script)?;
-        assert!(rt; status == wanted);
-        assert!(rt; written.as_slice() == text);
+        assert!(rt; status == *wanted);
+        assert!(rt; written.as_slice() == *text);
         assert!(rt; left == hello(alloc, &[])?);
     }
     Ok(())
@@ -414,37 +418,39 @@ fn damaged(
     Ok(image)
 }
 
+// A format, bytes of its fresh volume that are others, the length that is left, and what the run answers.
+const DAMAGED: &[(&str, &[(usize, u8)], usize, &[u8])] = &[
+    ("E", &[], 0, b"bad-image NoKind\n"),
+    ("F", &[], 1_000_000, b"bad-image Short 1638400 1000000\n"),
+    ("D", &[], 800_000, b"bad-image Short 819200 800000\n"),
+    (
+        "E",
+        &[(0, 0xf0), (1024, 0xf0)],
+        FRESH,
+        b"bad-image NoKind\n",
+    ),
+    (
+        "F",
+        &[(814_080, 0x4d), (820_224, 0x4d)],
+        FRESH,
+        b"bad-image Copies 1 3\n",
+    ),
+    (
+        "F",
+        &[(814_080, 0x98), (814_907, 0), (818_176, 0x98), (819_003, 0)],
+        FRESH,
+        b"bad-image Zone 1 32\n",
+    ),
+];
+
 #[test]
 fn fresh_volumes_damaged(rt: HostRuntime) -> Result<(), Fail> {
     let alloc = rt.alloc();
-    let cases: [(&str, &[(usize, u8)], usize, &[u8]); 6] = [
-        ("E", &[], 0, b"bad-image NoKind\n"),
-        ("F", &[], 1_000_000, b"bad-image Short 1638400 1000000\n"),
-        ("D", &[], 800_000, b"bad-image Short 819200 800000\n"),
-        (
-            "E",
-            &[(0, 0xf0), (1024, 0xf0)],
-            FRESH,
-            b"bad-image NoKind\n",
-        ),
-        (
-            "F",
-            &[(814_080, 0x4d), (820_224, 0x4d)],
-            FRESH,
-            b"bad-image Copies 1 3\n",
-        ),
-        (
-            "F",
-            &[(814_080, 0x98), (814_907, 0), (818_176, 0x98), (819_003, 0)],
-            FRESH,
-            b"bad-image Zone 1 32\n",
-        ),
-    ];
-    for (format, others, length, text) in cases {
-        let image = damaged(alloc, format, others, length)?;
+    for (format, others, length, text) in DAMAGED {
+        let image = damaged(alloc, format, others, *length)?;
         let (status, written, _) = outcome(alloc, &["disc"], image, b"free\n")?;
         assert!(rt; status == 3);
-        assert!(rt; written.as_slice() == text);
+        assert!(rt; written.as_slice() == *text);
     }
     Ok(())
 }

@@ -28,7 +28,7 @@ upto_more w [] at x is = absurd (cc)
 upto_more w (y ∷ xs) zero x is = let same : w y ≡ w x = ap w (some_same y x is) in omega (arith, same)
 upto_more w (y ∷ xs) (suc at) x is = let more = upto_more w xs at x is in omega (arith, more, sum_by-cons w y (take at xs), sum_by-cons w y (take (suc at) xs))
 
--- one node is set, and others come behind
+-- one node is set, and others come after
 pub upto_set : {X : Type 0} (w : X → ℕ) (was news : List X) (at : ℕ) (n m : X) → slice_get was at ≡ Some n → sum_by w (take (suc at) (slice_set (was ++ news) at m)) ≡ sum_by w (take at was) + w m
 upto_set w [] news at n m is = absurd (cc)
 upto_set w (x ∷ xs) news zero n m is = omega arith

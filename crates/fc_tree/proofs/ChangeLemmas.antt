@@ -44,7 +44,7 @@ slot_pushed_other (x ∷ slots) o (suc m) apart = slot_pushed_other slots o m (�
 
 -- ---- vacant numbers
 
--- the search may begin behind numbers that have nodes
+-- the search may begin after numbers that have nodes
 vacant_from : (slots : List (Option Node)) (least : ℕ) → least ≤ length slots → AreFull slots least → position_or_len is_none slots ≡ least + position_or_len is_none (drop least slots)
 vacant_from slots zero within full = omega arith
 vacant_from [] (suc least) within full = absurd (omega (arith, within))

@@ -205,7 +205,7 @@ module _ {X : Type 0} (num : Object → ℕ) where
       let less = one_less m (num o) (each o (contains_here o os)) in
       omega (arith, less, rest)
 
-  -- where there are no more entries than objects, each number is an object's
+  -- if there are no more entries than objects, each number is an object's
   pub each_taken : (os : List Object) (m : FinMap nat_cmp X) (n : ℕ) → ((o : Object) → Contains os o → is_some (get m (num o)) ≡ true)
       → ((o p : Object) → Contains os o → Contains os p → num o ≡ num p → is_same_path o.path p.path ≡ true)
       → ((path : Path) → many (is_at path) os ≤ 1) → len m ≡ length os → is_some (get m n) ≡ true → (o : Object) × Contains os o × (num o ≡ n)

@@ -49,7 +49,7 @@ abbrev pub IsDirectory : Directory → Type 0
 IsDirectory (Directory.Small dir) = IsSmall dir
 IsDirectory (Directory.Big dir) = IsBig dir
 
--- Nodes that a walk over their own directories finds, where some sectors are reserved: it meets no fault, they are its
+-- Nodes that a walk over their own directories finds, if some sectors are reserved: it meets no fault, they are its
 -- objects', and bytes can say each directory.
 pub record AreWalked (nodes : FinMap nat_cmp Node) (layout : Layout) (reserved : List ℕ) (address size : ℕ) (listings : List Listing) : Type 0 where
   pub walked : walk (reader_of_nodes nodes) layout reserved address size ≡ Ok listings

@@ -11,12 +11,12 @@ use Rattle.fc_tree.specs.declared.node.Node.{Node}
 use Rattle.fc_tree.specs.declared.node.TreeError.{TreeError}
 use Rattle.fc_tree.specs.Agree.{AreWalked, InOrder}
 
--- what no object may take, where these sectors are reserved: on an old map the holes too
+-- what no object may take, if these sectors are reserved: on an old map the holes too
 abbrev pub not_free : Layout → List ℕ → List ℕ
 not_free (Layout.Old space) reserved = reserved ++ hole_sectors (Layout.Old space)
 not_free (Layout.New m) reserved = reserved
 
--- The nodes are those of a walk from the root's address and size, in the order in which it finds them; where the disk tells
+-- The nodes are those of a walk from the root's address and size, in the order in which it finds them; if the disk tells
 -- its bytes, they say what the nodes' directories say.
 pub record IsLoaded (nodes : FinMap nat_cmp Node) (layout : Layout) (reserved : List ℕ) (address size : ℕ) (told : Option (List ℕ)) : Type 0 where
   pub listings : List Listing
@@ -24,7 +24,7 @@ pub record IsLoaded (nodes : FinMap nat_cmp Node) (layout : Layout) (reserved : 
   pub in_order : InOrder nodes listings
   pub tells : ForSome told (λ image. Tells (reader_of image layout) listings)
 
--- The error is the walk's first fault. A disk's fault and want of memory say nothing.
+-- The error is the walk's first fault. A disk's fault and out of memory say nothing.
 abbrev pub IsFaultOf : Result (List Listing) ImageFault → TreeError → Type 0
 IsFaultOf walked (TreeError.Image fault) = walked ≡ Err fault
 IsFaultOf walked TreeError.DiskFault = Unit {0}

@@ -52,7 +52,7 @@ IsDirectoryAt nodes i = (n : Node) → slice_get nodes i ≡ Some n → is_direc
 
 -- ---- errors
 
--- The error is this fault. A disk's fault and want of memory say nothing.
+-- The error is this fault. A disk's fault and out of memory say nothing.
 abbrev pub FailsAs : {A : Type 0} → Result A ImageFault → TreeError → Type 0
 FailsAs result (TreeError.Image fault) = result ≡ Err fault
 FailsAs result TreeError.DiskFault = Unit {0}
@@ -64,20 +64,20 @@ IsOverlap path (TreeError.Image fault) = fault ≡ faults.Overlap path
 IsOverlap path TreeError.DiskFault = ⊥
 IsOverlap path TreeError.NoMemory = Unit {0}
 
--- The error is that the directory at this path has this fault. Want of memory says nothing.
+-- The error is that the directory at this path has this fault. Out of memory says nothing.
 abbrev pub IsDamaged : Path → DirFault → TreeError → Type 0
 IsDamaged path damage (TreeError.Image fault) = fault ≡ faults.Directory path damage
 IsDamaged path damage TreeError.DiskFault = ⊥
 IsDamaged path damage TreeError.NoMemory = Unit {0}
 
--- The error is the fault of a directory's bytes. Want of memory says nothing.
+-- The error is the fault of a directory's bytes. Out of memory says nothing.
 abbrev pub IsSaidBy : Result Directory DirFault → DirError → Type 0
 IsSaidBy said (errors.Fault fault) = said ≡ Err fault
 IsSaidBy said errors.NoMemory = Unit {0}
 
 -- ---- a directory that is visited
 
--- the node, where its directory says this
+-- the node, if its directory says this
 abbrev pub with_body : Node → Directory → Node
 with_body n dir = record { holder = n.holder; entry = n.entry; body = body_in dir }
 
@@ -86,7 +86,7 @@ abbrev pub said_children : Layout → List ℕ → Path → Result Directory Dir
 said_children layout before path said = at_path path said >>= λ dir. children_of layout before path (entries_of dir)
 
 -- The directory of the object of node `at` was read. Its node has what it says, and the nodes of the objects that it holds
--- stand behind the others.
+-- stand after the others.
 pub record IsVisited (layout : Layout) (told : Option (List ℕ)) (was nodes : List Node) (at : ℕ) (o : Object) (before : List ℕ) (marks : Marks) : Type 0 where
   pub node : Node
   pub node_is : slice_get was at ≡ Some node
@@ -103,7 +103,7 @@ pub record IsVisited (layout : Layout) (told : Option (List ℕ)) (was nodes : L
 -- ---- the whole walk
 
 -- The nodes are those of the objects that a walk finds, in its order, by each reader that tells what the nodes' directories
--- say; and where the disk tells its bytes, they say that.
+-- say; and if the disk tells its bytes, they say that.
 pub record IsFound (layout : Layout) (reserved : List ℕ) (address size : ℕ) (told : Option (List ℕ)) (nodes : List Node) : Type 0 where
   pub listings : List Listing
   pub walks : (read : Reader) → Tells read listings → walk read layout reserved address size ≡ Ok listings

@@ -16,7 +16,7 @@ use fc_image::ImageFault;
 use fc_space::Places;
 use std::alloc::Global;
 
-/// Adds a node behind the others.
+/// Adds a node after the others.
 pub fn push_node(nodes: &mut Vec<Node>, node: Node) -> Result<(), TreeError>
     ensures ok { OnOk result (nodes.new.items ≡ nodes.old.items ++ node ∷ []) }
     ensures err { IfErr result (λ e. e ≡ TreeError.NoMemory) }

@@ -73,7 +73,7 @@ pub fn rank_of(slots: &[Option<Node>], order: &[u64], n: u64) -> usize
     rank(slots, order, &place_of(n, node))
 }
 
-// The number of the node of a name in a directory: the least, where several have the name.
+// The number of the node of a name in a directory: the least, if several have the name.
 pub fn first_child(slots: &[Option<Node>], order: &[u64], dir: u64, name: &[u8]) -> Option<u64>
     requires { IsIndex dir slots.now order.now }
     ensures { result ≡ child (nodes_of (record { slots = slots.now; room = 0 })) dir name.now }

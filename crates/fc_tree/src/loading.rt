@@ -29,7 +29,7 @@ use std::alloc::Global;
 ///
 /// Each number below the tree's bound has a node, and there is no room for more yet.
 ///
-/// The answer is `Image` exactly where the walk meets a fault, with the first, and `DiskFault` only where the disk's count
+/// The answer is `Image` exactly if the walk meets a fault, with the first, and `DiskFault` only if the disk's count
 /// of faults rose.
 pub fn load<D: Disk>(
     alloc: Global,

@@ -83,7 +83,7 @@ pub fn push_slot(slots: &mut Vec<Option<Node>>, node: Node)
     let _ = slots.push(Some(node));
 }
 
-// The least number that no node has, where those below `least` have nodes.
+// The least number that no node has, if those below `least` have nodes.
 pub fn first_vacant(slots: &[Option<Node>], least: usize) -> usize
     requires within { least ≤ length slots.now }
     requires full { AreFull slots.now least }

@@ -64,7 +64,7 @@ impl Table {
         remove_number(&mut self.lists, dir, at);
     }
 
-    // The number of the node of a name in a directory: the least, where several have the name.
+    // The number of the node of a name in a directory: the least, if several have the name.
     pub fn child(&self, slots: &[Option<Node>], dir: u64, name: &[u8]) -> Option<u64>
         requires { AreIndexed slots.now self.now }
         ensures { result ≡ child (nodes_of (record { slots = slots.now; room = 0 })) dir name.now }
@@ -98,7 +98,7 @@ fn remove_number(lists: &mut Vec<Vec<u64>>, dir: u64, at: usize)
     lists[dir as usize].remove(at);
 }
 
-// Puts the number of a node behind the others of the directory that holds it.
+// Puts the number of a node after the others of the directory that holds it.
 fn put_node(lists: &mut Vec<Vec<u64>>, nodes: &[Node], n: u64) -> Result<(), AllocError>
     ensures { IsOk result → (dir : ℕ) → nodes_at lists.new.items dir ≡ nodes_at lists.old.items dir ++ filter (is_in nodes.now dir) (n ∷ []) }
 {

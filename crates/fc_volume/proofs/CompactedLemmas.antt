@@ -40,7 +40,7 @@ use Rattle.fc_compact.specs.Compacting.{ByOwnersLaw, ChangesLoose, is_loose, loo
 use Rattle.fc_volume.specs.Compacting.{IsCompacted}
 use Rattle.fc_volume.proofs.AgreeLemmas.{movable_same}
 
--- ---- bytes behind the sectors that change
+-- ---- bytes after the sectors that change
 
 module _ (size : ℕ) (some : 0 < size) (xs ys : List ℕ) (long : length xs ≡ length ys) where
   tail_from : (fuel k : ℕ) → length xs ≤ (k + fuel) * size → ((s : ℕ) → k ≤ s → sector_at size xs s ≡ sector_at size ys s) → drop (k * size) xs ≡ drop (k * size) ys
@@ -56,7 +56,7 @@ module _ (size : ℕ) (some : 0 < size) (xs ys : List ℕ) (long : length xs ≡
       λ zs. ap (λ (l : List ℕ). take size (drop (k * size) zs) ++ l) (ap (λ (n : ℕ). drop n zs) next ∙ sym (drop-drop size (k * size) zs)) ∙ take-append-drop size (drop (k * size) zs) in
       sym (cut xs) ∙ ap₂ (λ (a b : List ℕ). a ++ b) (same k (omega arith)) rest ∙ cut ys
 
-  -- Where all sectors from the last that begins before a byte on are the same, so is what is behind that byte.
+  -- Where all sectors from the last that begins before a byte on are the same, so is what is after that byte.
   behind_same : (bytes : ℕ) → ((s : ℕ) → bytes / size ≤ s → sector_at size xs s ≡ sector_at size ys s) → drop bytes xs ≡ drop bytes ys
   behind_same bytes same =
       let k = bytes / size in

@@ -1,4 +1,4 @@
--- A file of which only the first bytes are given: writing these writes the zeros behind them too.
+-- A file of which only the first bytes are given: writing these writes the zeros after them too.
 use Rattle.std.proofs.Common.{◌≡◌, ◌≤◌, inl, inr, ℕ, ◌+◌, ◌-◌, ◌*◌, List, [], ◌++◌, length, take, drop, replicate, append_assoc, length-append, sym, ap, ◌∙◌, arith}
 use Rattle.std.proofs.lemmas.Bool.{cases_lt}
 use Rattle.std.proofs.lemmas.List.{append-nil, length-replicate, drop-append-le, drop-replicate, drop_all, replicate-append-replicate, take-replicate}
@@ -53,7 +53,7 @@ drop_both n xs ys = elim (cases_lt n (length xs)) [
       ∙ ap (λ (zs : List ℕ). zs ++ drop (n - length xs) ys) (sym (drop_all n xs (omega (arith, above))))
 ]
 
--- a sector has zeros behind the bytes in any case
+-- a sector has zeros after the bytes in any case
 padded_more : (size k : ℕ) (xs : List ℕ) → padded size (xs ++ replicate k 0) ≡ padded size xs
 unfolding padded
 padded_more size k xs =

@@ -74,7 +74,7 @@ module _ (bytes : List ℕ) (units : ℕ) where
       go (Some i) f s h = (let is = hole_wrong f s i h in cc)
       go None f s h = (let is = all_right f s h in cc)
 
-  -- its holes lie behind it
+  -- its holes lie after it
   pub behind : hole_fault bytes units ≡ None → AreHoles (u24_at bytes 252) units (map_units units) (stored_holes bytes)
   behind e = AreHoles-right (u24_at bytes 252) units 0 (map_units units) (stored_holes bytes) (by (is_free_end (free_end bytes)) e)
     where

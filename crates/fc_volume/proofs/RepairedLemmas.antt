@@ -29,7 +29,7 @@ use Rattle.fc_volume.specs.declared.copies.Copies.{Copies}
 
 -- ---- disks
 
--- R leads only where Q leads too, from what is told.
+-- R leads only if Q leads too, from what is known.
 pub keeps_told : {D : Type 0} {d : Ghosts D} (law : Laws d) {R Q : List ℕ → List ℕ → Type 0} {old new : D} → Keeps d.moment d.left_since d.bytes old new R
     → ((was image : List ℕ) → d.bytes old ≡ Some was → R was image → Q was image) → Keeps d.moment d.left_since d.bytes old new Q
 keeps_told {d = d} law {Q = Q} {old = old} keeps less = record {
@@ -125,7 +125,7 @@ loose_then m owners a b c first second = record {
   outside = λ s out firm. second.outside s out firm ∙ first.outside s out firm;
 }
 
--- ---- stops and exits
+-- ---- crashes and exits
 
 pub matched : {D : Type 0} {d : Ghosts D} (law : Laws d) (commits : CommitLaw) (keeps : KeepsObjectsLaw) (maps : WithMapLaw) (m : Map) (copies : Copies) (owners : List Owner) {old new : D}
     → ForSome (d.bytes old) (CanCompact m copies owners) → StopsAndExitsLeave d old new (λ was image. HasCopies copies (Layout.New m) was → KeepsMap m was image) → KeepsDisc d m owners old new

@@ -67,7 +67,7 @@ module _ (v : Opened) (from to : Path) (l : Listing) (o : Object) (there : objec
       still_roomy l.content l.object p gain g (sym gets.names_are) (sym gets.name_is)
       (sym (growth_is ∙ ap (λ (b : Bool). option_and_then growth_of (cond b None (let g : Option Gain = Some gain in g))) (unlike o.entry.name (last_name to) differ)) ∙ none)
 
-  -- and where there is room, none grows
+  -- and if there is room, none grows
   pub other_kept : HasRoomForOther l.content o.entry.name (last_name to) → growth_in v (Command.Rename from to) ≡ None
   other_kept room = growth_is ∙ by (bytes_eq o.entry.name (last_name to)) refl
     where

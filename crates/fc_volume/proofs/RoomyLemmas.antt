@@ -44,7 +44,7 @@ pub room_found : (v : Opened) (c : Command) (path : Path) (l : Listing) → gain
 room_found v c path l gains none o gain gets =
     still_roomy l.content l.object o (gain_of path l) gain (sym gets.names_are) (sym gets.name_is) (sym (ap (option_and_then growth_of) gains) ∙ none)
 
--- and where there is room, none grows
+-- and if there is room, none grows
 pub room_kept : (v : Opened) (c : Command) (path : Path) (l : Listing) → gain_in v c ≡ Some (gain_of path l) → HasRoomFor l.content (last_name path) → growth_in v c ≡ None
 room_kept v c path l gains room = ap (option_and_then growth_of) gains ∙ room l.object (gain_of path l) (record { name_is = refl; names_are = refl })
 
@@ -76,7 +76,7 @@ entries_entered parent e old new is absent = is.entries ∙ ap (λ (b : Bool). c
 
 -- ---- the form of a new map's directories
 
--- an address fits where it fits a small one
+-- an address fits if it fits a small one
 pub addressed_by : (m : Map) (content : Directory) (len address : ℕ) → HasForm (dir_form (Layout.New m)) len content → (dir_form (Layout.New m) ≡ forms.Ten → address < 2 ^ 24) → CanAddress content address
 addressed_by m (Directory.Big dir) len address has low = tt
 addressed_by m (Directory.Small dir) len address has low = low (by (m.geometry.version == 0) has)

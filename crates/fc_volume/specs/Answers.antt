@@ -21,7 +21,7 @@ use Rattle.fc_volume.specs.Volume.{Volume, parts_of}
 
 -- ---- mounting
 
--- The error is the first fault of the image. A disk's fault and want of memory say nothing.
+-- The error is the first fault of the image. A disk's fault and out of memory say nothing.
 abbrev pub IsFaultOf : {T : Type 0} → Result T ImageFault → MountError → Type 0
 IsFaultOf opened (MountError.Image fault) = opened ≡ Err fault
 IsFaultOf opened MountError.DiskFault = Unit {0}
@@ -29,7 +29,7 @@ IsFaultOf opened MountError.NoMemory = Unit {0}
 
 -- ---- commands that read
 
--- The error is the refusal that the model answers. A disk's fault and want of memory say nothing.
+-- The error is the refusal that the model answers. A disk's fault and out of memory say nothing.
 abbrev pub IsRefusalOf : Result Tree Refusal → CommandError → Type 0
 IsRefusalOf answered (CommandError.Refused refusal) = answered ≡ Err refusal
 IsRefusalOf answered CommandError.DiskFault = Unit {0}

@@ -58,7 +58,7 @@ pub record IsCompacted (m m' : Map) (owners : List Owner) : Type 0 where
   pub fixed : (id : ℕ) → is_movable_by owners id ≡ false → id_runs m' id ≡ id_runs m id
   pub zones : (z : ℕ) → z < m.geometry.zones → ZoneStays m m' z
 
--- Every stop and every exit keeps all objects, and changes only the map, holes and what may move.
+-- Every crash and every exit keeps all objects, and changes only the map, holes and what may move.
 pub record KeepsDisc {D : Type 0} (d : Ghosts D) (m : Map) (owners : List Owner) (old new : D) : Type 0 where
   pub objects : StopsAndExitsLeave d old new (KeepsObjects m.geometry)
   pub frame : StopsAndExitsLeave d old new (ChangesLoose m owners)

@@ -13,7 +13,7 @@ use Rattle.fc_alloc.specs.Owners.{is_id_owned}
 abbrev pub lies_in : Extent → ℕ → Bool
 lies_in e s = nat_le e.first s && nat_lt s (e.first + e.sectors)
 
--- None where no sector passes, else the least that does.
+-- None if no sector passes, else the least that does.
 abbrev pub IsLeast : (ℕ → Bool) → Option ℕ → Type 0
 IsLeast p None = (s : ℕ) → p s ≡ false
 IsLeast p (Some least) = (p least ≡ true) × ((s : ℕ) → p s ≡ true → least ≤ s)

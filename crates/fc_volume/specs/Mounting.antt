@@ -12,13 +12,13 @@ use Rattle.fc_tree.specs.Agree.{AreWalked}
 use Rattle.fc_tree.specs.Parts.{Parts, AreOwners}
 use Rattle.fc_volume.specs.declared.lines.MountError.{MountError}
 
--- what the image says, where its map and root were found
+-- what the image says, if its map and root were found
 abbrev pub opened_with : List ℕ → Kind → MapAndRoot → Result Opened ImageFault
 opened_with image kind found = do
   listings ← walk (reader_of image found.0) found.0 (reserved_in kind found.0) found.1 found.2
   unless_misplaced (record { kind = kind; layout = found.0; listings = listings }) (misplaced_sector kind found.0 (objects_of listings))
 
--- The parts are those of a walk from the root's address and size, and none of the map's sectors is misplaced; where the disk
+-- The parts are those of a walk from the root's address and size, and none of the map's sectors is misplaced; if the disk
 -- tells its bytes, they say what the nodes' directories say.
 pub record AreMounted (kind : Kind) (address size : ℕ) (parts : Parts) (told : Option (List ℕ)) : Type 0 where
   pub listings : List Listing

@@ -80,7 +80,7 @@ pub record CanMove (nodes : FinMap nat_cmp Node) (layout : Layout) (t : Target) 
   pub holds : (e : Entry) → CanHold held.content e → CanHold content e
   pub turnable : IsTurnable nodes layout t.node (address_in nodes dir) name
 
--- It says whether the directory of the node, if it is one of 2,048 bytes, has as many entries as it can hold. A big one is never full where it
+-- It says whether the directory of the node, if it is one of 2,048 bytes, has as many entries as it can hold. A big one is never full if it
 -- needn't grow.
 pub record SaysFull (nodes : FinMap nat_cmp Node) (n : ℕ) (full : Bool) : Type 0 where
   pub small : (node : Node) (dir : SmallDir) → get nodes n ≡ Some node → node.body ≡ body_in (Directory.Small dir) → dir.form ≡ Bytes2048 → full ≡ is_full_small dir

@@ -27,7 +27,7 @@ entry_owner layout n holder e = record {
 abbrev pub node_owner : Layout → ℕ → Node → Owner
 node_owner layout n node = entry_owner layout n node.holder node.entry
 
--- an owner with at least one sector behind the others
+-- an owner with at least one sector after the others
 abbrev pub with_owner : List Owner → Owner → List Owner
 with_owner owners o = if nat_lt 0 o.sectors then owners ++ o ∷ [] else owners
 

@@ -8,8 +8,8 @@ use Rattle.fc_model.specs.Command.{Command}
 use Rattle.fc_names.specs.Names.{Path}
 use Rattle.fc_tree.specs.Parts.{ArePartsOf, Parts}
 
--- No directory grows by the command, over each walk whose objects the nodes hold. So it is with each command where the directories are
--- small ones, and where the directory that gets a name has room for it.
+-- No directory grows by the command, over each walk whose objects the nodes hold. So it is with each command if the directories are
+-- small ones, and if the directory that gets a name has room for it.
 abbrev pub IsRoomy : Parts → Command → Type 0
 IsRoomy parts c = (v : Opened) → AreSound v.layout v.listings → ArePartsOf parts v → growth_in v c ≡ None
 

@@ -47,7 +47,7 @@ HasCopies Equal layout image = HasEqualCopies image layout
 HasCopies (Chosen which) (Layout.New m) image = CountsAs m which image
 HasCopies (Chosen which) (Layout.Old space) image = ⊥
 
--- The map lies within so many sectors. The holes of an old map lie behind it.
+-- The map lies within so many sectors. The holes of an old map lie after it.
 abbrev pub HoldsMap : Layout → ℕ → Type 0
 HoldsMap (Layout.New m) sectors = m.geometry.map_sector + 2 * m.geometry.zones ≤ sectors
 HoldsMap (Layout.Old space) sectors = (2 ≤ sectors) × AreHoles space.disc_units space.sector_units (map_units space.sector_units) space.holes

@@ -77,7 +77,7 @@ fn difference(r: &DiscRecord, s: &DiscRecord) -> Option<u8>
     None
 }
 
-// The record in a map's first sector, where it agrees with the kind's and has a right root.
+// The record in a map's first sector, if it agrees with the kind's and has a right root.
 fn own_record(r: &DiscRecord, sector: &[u8]) -> Result<DiscRecord, ImageFault>
     requires { 64 ≤ length sector.now }
     ensures { result ≡ agreement r.now (map_record sector.now) (difference r.now (map_record sector.now)) }
@@ -286,8 +286,8 @@ fn map_of_old(
 /// the kind, so that none of it is read again. Of other maps each sector of a copy is read once, and copy 2 only if copy 1
 /// isn't sound, whatever is answered.
 ///
-/// The answer is `Image` exactly where the copies of a new map, its record or its zones are wrong, or a hole of an
-/// old map, with the first fault; and `DiskFault` only where the disk's count of faults rose.
+/// The answer is `Image` exactly if the copies of a new map, its record or its zones are wrong, or a hole of an
+/// old map, with the first fault; and `DiskFault` only if the disk's count of faults rose.
 pub fn read_map<D: Disk>(
     alloc: Global,
     disk: &mut D,

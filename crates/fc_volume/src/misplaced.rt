@@ -33,7 +33,7 @@ const NONE: Extent = Extent {
     sectors: 0,
 };
 
-// The sectors of a boot block, where the kind has one.
+// The sectors of a boot block, if the kind has one.
 fn boot_row(kind: &Kind, sector: u64) -> Extent
     requires { 256 ≤ sector }
     ensures sectors { extent_sectors result ≡ boot_place kind.now sector }
@@ -108,7 +108,7 @@ fn is_loose(owners: &Owners, kind: RunKind) -> bool
     }
 }
 
-// The least sector of two rows that lies in a run of a zone, where the run is a hole or of an identifier that may move.
+// The least sector of two rows that lies in a run of a zone, if the run is a hole or of an identifier that may move.
 fn least_in_run(
     map: &NewMap,
     owners: &Owners,

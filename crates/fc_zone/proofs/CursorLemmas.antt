@@ -63,7 +63,7 @@ module _ (shape : ZoneShape) (bs : List ℕ) where
       let same : run ≡ r = cc in
       rw same (h.spelled.0, h.spelled.1.long, h.spelled.1.within)
 
-  -- the first hole behind a run
+  -- the first hole after a run
   pub first_past : (run : Run) (rest : List Run) (at : ℕ) (hole next : Option ℕ) → HasLeft shape bs at hole (run ∷ rest) → (run.kind ≡ Hole → next ≡ next_hole shape bs run.start)
       → ((run.kind ≡ Hole → ⊥) → next ≡ hole) → Chain shape bs next (hole_starts rest) None
   first_past run rest at hole next h after_hole other = by run.kind refl h.chain
@@ -72,7 +72,7 @@ module _ (shape : ZoneShape) (bs : List ℕ) where
       by Hole e c = rw (after_hole e) c.1
       by (Id id) e c = rw (other (λ f. cc)) c
 
--- what is left behind a run of the zone
+-- what is left after a run of the zone
 pub left_after : (shape : ZoneShape) (s : List ℕ) (front rest : List Run) (run : Run) (next : Option ℕ) → Zone shape s (front ++ run ∷ rest) → (run.kind ≡ Hole → next ≡ next_hole shape (bits s) run.start)
     → ((run.kind ≡ Hole → ⊥) → next ≡ hole_from shape (bits s) (holder_after front)) → HasLeft shape (bits s) (run.start + run.len) next rest
 left_after shape s front rest run next zone after_hole other =
@@ -83,7 +83,7 @@ left_after shape s front rest run next zone after_hole other =
       chain = first_past shape (bits s) run rest run.start (hole_from shape (bits s) (holder_after front)) next left after_hole other;
     }
 
--- what is left behind a cursor
+-- what is left after a cursor
 pub left_of : (shape : ZoneShape) (s : List ℕ) (done left : List Run) (cursor : Cursor) → StandsBetween shape s done left cursor → HasLeft shape (bits s) cursor.at cursor.hole left
 left_of shape s done left cursor stands =
     let zone = stands.zone in
@@ -108,7 +108,7 @@ stepped shape s done rest run old new stands place after_hole other =
       hole = chain_first shape (bits s) new.hole (hole_starts rest) chain;
     }
 
--- a zone whose runs behind the cursor stay, and whose runs before it take the same bits, keeps the cursor right
+-- a zone whose runs after the cursor stay, and whose runs before it take the same bits, keeps the cursor right
 pub stands_still : (shape : ZoneShape) (s t : List ℕ) (done new left : List Run) (cursor : Cursor) → StandsBetween shape s done left cursor → Zone shape t (new ++ left) → place_after shape new ≡ place_after shape done
     → StandsBetween shape t new left cursor
 stands_still shape s t done new left cursor stands zone same = record { zone = zone; place = stands.place ∙ sym same; hole = stands.hole }

@@ -49,7 +49,7 @@ module _ (shape : ZoneShape) (bs : List ℕ) where
   unfolding tail
   tail_at s k h = get_or-take (shape.end - s) (drop s bs) k 0 h ∙ get_or-drop s bs k 0
 
-  -- the first 1 behind the field ends the run
+  -- the first 1 after the field ends the run
   pub IsRun-end_of_run : (at end : ℕ) → IsRun shape bs at end → end_of_run shape bs at ≡ end
   unfolding tail
   IsRun-end_of_run at end r =

@@ -10,7 +10,7 @@ pub record HasLeft (shape : ZoneShape) (bits : List ℕ) (at : ℕ) (hole : Opti
   pub spelled : Spells shape bits at left shape.end
   pub chain : Chain shape bits hole (hole_starts left) None
 
--- the place behind these runs of a zone
+-- the place after these runs of a zone
 abbrev pub place_after : ZoneShape → List Run → ℕ
 place_after shape runs = shape.first + sum_by (λ run. run.len) runs
 

@@ -12,7 +12,7 @@ pub record LeavesRest (shape : ZoneShape) (old new : List ℕ) : Type 0 where
   pub outside : KeepsOutside shape old new
   pub bytes : KeepsBytes shape old new
 
--- the sector has its runs again, and all its bits where its links were written in full
+-- the sector has its runs again, and all its bits if its links were written in full
 pub record IsAgain (shape : ZoneShape) (old new : List ℕ) : Type 0 where
   pub runs : runs_of shape new ≡ runs_of shape old
   pub all_bits : IsWritten shape (bits old) (runs_of shape old) → bits new ≡ bits old

@@ -13,7 +13,7 @@ use Rattle.fc_zone.specs.Zone.{field_at, first_hole, next_hole}
 abbrev pub is_on_sector : ZoneShape → ℕ → Bool
 is_on_sector shape at = (shape.base + (at - shape.first)) % shape.q == 0
 
--- behind the first 1 after the field that begins at `at`; past the zone's end where there is none
+-- after the first 1 after the field that begins at `at`; past the zone's end if there is none
 abbrev pub end_of_run : ZoneShape → List ℕ → ℕ → ℕ
 end_of_run shape bits at = at + shape.idlen + prefix_len (λ b. b == 0) (slice_range bits (at + shape.idlen) shape.end) + 1
 
@@ -35,7 +35,7 @@ abbrev pub cons_ok : Run → Result (List Run) ℕ → Result (List Run) ℕ
 cons_ok run (Ok runs) = Ok (run ∷ runs)
 cons_ok run (Err place) = Err place
 
--- The runs from `at` on, where the chain names `hole` as the first hole from there, or the place of the first fault: no
+-- The runs from `at` on, if the chain names `hole` as the first hole from there, or the place of the first fault: no
 -- run begins there, or at the zone's end a place is named still. `fuel` bounds the number of runs.
 unfoldable pub runs_from : ℕ → ZoneShape → List ℕ → ℕ → Option ℕ → Result (List Run) ℕ
 runs_from zero shape bits at hole = if at == shape.end then end_of_chain hole else Err at
@@ -54,7 +54,7 @@ in_zone zone (Err place) = Err (record { zone = zone; bit = place })
 abbrev pub zone_of : ZoneShape → List ℕ → Result (List Run) ZoneFault
 zone_of shape sector = in_zone shape.zone (runs_from (shape.end - shape.first) shape (bits sector) shape.first (first_hole (bits sector)))
 
--- the runs that were read, and none where there is a fault
+-- the runs that were read, and none if there is a fault
 abbrev pub runs_or_none : Result (List Run) ZoneFault → List Run
 runs_or_none (Ok runs) = runs
 runs_or_none (Err fault) = []

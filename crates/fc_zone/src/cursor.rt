@@ -37,7 +37,7 @@ impl Cursor {
         }
     }
 
-    /// Before the run of a zone that begins at `start`, where one does. The chain of holes is followed up to it; no run is
+    /// Before the run of a zone that begins at `start`, if one does. The chain of holes is followed up to it; no run is
     /// read.
     pub fn before_run(b: &[u8], shape: &ZoneShape, start: u32) -> Self
         requires shape { IsShapeOf b.now shape.now }
@@ -66,7 +66,7 @@ impl Cursor {
         Some(run)
     }
 
-    /// Goes past the next hole and all runs before it, which aren't read, and gives it. `None` where no hole is left: then
+    /// Goes past the next hole and all runs before it, which aren't read, and gives it. `None` if no hole is left: then
     /// it stands at the zone's end.
     pub fn next_hole(&mut self, b: &[u8], shape: &ZoneShape) -> Option<Run>
         requires shape { IsShapeOf b.now shape.now }

@@ -45,13 +45,13 @@ pub fn one_result()
         → LeavesRest shape s t → LeavesRest shape s u → bits t ≡ bits u }
 {}
 
-/// `split` and then `merge` give the runs back, and the very sector where its links were written in full.
+/// `split` and then `merge` give the runs back, and the very sector if its links were written in full.
 pub fn split_then_merge()
     ensures { (shape : ZoneShape) (s t u : List ℕ) (start len : ℕ) → 32 ≤ shape.first → HasRunToSplit shape s start len
         → Splits shape s t start len → LeavesRest shape s t → Merges shape t u start → LeavesRest shape t u → IsAgain shape s u }
 {}
 
-/// `label` and then `release` give the runs back, and the very sector where its links were written in full.
+/// `label` and then `release` give the runs back, and the very sector if its links were written in full.
 pub fn label_then_release()
     ensures { (shape : ZoneShape) (s t u : List ℕ) (start id : ℕ) → 32 ≤ shape.first → HasHoleAt shape s start
         → Relabels shape s t start (RunKind.Id id) → LeavesRest shape s t → Relabels shape t u start RunKind.Hole → LeavesRest shape t u → IsAgain shape s u }

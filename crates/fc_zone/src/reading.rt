@@ -41,7 +41,7 @@ fn run_end(b: &[u8], shape: &ZoneShape, at: u32) -> Option<u32>
 /// Whether the sector's bits are a zone of this shape, in one pass over its words.
 ///
 /// The fault is at the start of the first run that is too short, has no last 1, or begins or ends inside a sector of
-/// the disc; where all runs are right, at the first place that the chain of holes names and where no run begins.
+/// the disc; if all runs are right, at the first place that the chain of holes names and where no run begins.
 pub fn check_zone(b: &[u8], shape: &ZoneShape) -> Result<(), ZoneFault>
     requires { IsShapeOf b.now shape.now }
     ensures exact { IsOk result ↔ IsZone shape.now b.now }
@@ -82,7 +82,7 @@ pub fn end_of(b: &[u8], shape: &ZoneShape, at: u32) -> u32
     next_one(b, at + u32::from(shape.idlen), shape.end).unwrap() + 1
 }
 
-// The run that begins at `at`, where the chain names `hole` as the first hole from there on.
+// The run that begins at `at`, if the chain names `hole` as the first hole from there on.
 pub fn run_at(b: &[u8], shape: &ZoneShape, at: u32, hole: Option<u32>) -> Run
     requires shape { IsShapeOf b.now shape.now }
     requires begins { (end : ℕ) × IsRun shape.now (bits b.now) at end }
@@ -102,7 +102,7 @@ pub fn run_at(b: &[u8], shape: &ZoneShape, at: u32, hole: Option<u32>) -> Run
     }
 }
 
-// The first of the runs from `at` on, where the chain names `hole` as their first hole.
+// The first of the runs from `at` on, if the chain names `hole` as their first hole.
 pub fn run_from(b: &[u8], shape: &ZoneShape, at: u32, hole: Option<u32>) -> Option<Run>
     requires shape { IsShapeOf b.now shape.now }
     requires left { (left : List Run) × HasLeft shape.now (bits b.now) at hole left }
@@ -130,7 +130,7 @@ pub fn kind_at(b: &[u8], shape: &ZoneShape, at: u32) -> RunKind
     }
 }
 
-/// The run that begins at `start`, where one does. The chain of holes is followed up to it; no other run is read.
+/// The run that begins at `start`, if one does. The chain of holes is followed up to it; no other run is read.
 pub fn run_beginning(b: &[u8], shape: &ZoneShape, start: u32) -> Run
     requires shape { IsShapeOf b.now shape.now }
     requires run { HasRunAt shape.now b.now start }
@@ -142,7 +142,7 @@ pub fn run_beginning(b: &[u8], shape: &ZoneShape, start: u32) -> Run
     Run { start, len, kind }
 }
 
-/// The first run of a zone that `check_zone` passes, and `None` where the zone has no bits.
+/// The first run of a zone that `check_zone` passes, and `None` if the zone has no bits.
 pub fn first(b: &[u8], shape: &ZoneShape) -> Option<Run>
     requires shape { IsShapeOf b.now shape.now }
     requires zone { IsZone shape.now b.now }

@@ -1,5 +1,5 @@
 -- Edits of a volume's objects by commands that make a directory grow: what they make of the listings, and what they make of the nodes.
--- Each is the growth, and then what the command does to a directory that has room; no node is told anything twice.
+-- Each is the growth, and then what the command does to a directory that has room; no node is edited twice.
 use Rattle.std.specs.Prelude.{◌≡◌, ℕ, true, false, List, [], ◌∷◌, ◌++◌, insert, remove, Some, None, Contains, IsPermutation, map}
 use Rattle.std.specs.FinMap.{get, insert as put}
 use Rattle.fc_names.specs.Names.{folded_path, is_same_path}

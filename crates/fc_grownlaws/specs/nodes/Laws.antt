@@ -26,7 +26,7 @@ pub record RegrownLaw : Type 0 where
       → IsHeld nodes layout listings → IsRegrown nodes nodes' listings listings' again again' keep l content place said dir
       → (path : Path) (n : ℕ) → number_of nodes path ≡ Some n → number_of nodes' path ≡ Some n
 
--- What a node says is what it was told last.
+-- A node says what its last edit made it say.
 pub record AbsorbedLaw : Type 0 where
   pub body : (nodes : Nodes) (n : ℕ) (old new : Body) → with_body n new (with_body n old nodes) ≡ with_body n new nodes
   pub bodies : (nodes : Nodes) (m n : ℕ) (b c : Body) → (m ≡ n → ⊥) → with_body m b (with_body n c nodes) ≡ with_body n c (with_body m b nodes)

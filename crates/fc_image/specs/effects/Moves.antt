@@ -90,7 +90,7 @@ SameBodies old new (o ∷ was) (p ∷ now) =
     (bytes_at new (256 * p.start) (256 * p.len) ≡ bytes_at old (256 * o.start) (256 * o.len)) × SameBodies old new was now
 SameBodies old new _ _ = ⊥
 
--- Each object begins at the end of the one before, or behind it.
+-- Each object begins at the end of the one before, or after it.
 abbrev pub AreInOrder : ℕ → List Owned → Type 0
 AreInOrder floor [] = Unit {0}
 AreInOrder floor (o ∷ owned) = (floor ≤ o.start) × AreInOrder (o.start + o.len) owned

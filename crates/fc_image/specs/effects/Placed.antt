@@ -22,7 +22,7 @@ use Rattle.fc_image.specs.effects.Short.{Growth, new_length, slack_for, old_need
 abbrev pub stands_at : ZoneRun → ZoneRun → Bool
 stands_at p q = (p.0 == q.0) && (p.1.start == q.1.start)
 
--- what a part leaves of a hole: all, nothing, or what is behind it
+-- what a part leaves of a hole: all, nothing, or what is after it
 abbrev pub left_behind : ZoneRun → Option ZoneRun → List ZoneRun
 left_behind hole None = hole ∷ []
 left_behind hole (Some part) =
@@ -34,7 +34,7 @@ left_behind hole (Some part) =
 abbrev pub holes_left : List ZoneRun → List ZoneRun → List ZoneRun
 holes_left holes parts = flat_map (λ hole. left_behind hole (find (stands_at hole) parts)) holes
 
--- the front bits of a hole; all of it, where less than min would stay
+-- the front bits of a hole; all of it, if less than min would stay
 abbrev pub front_of : Geometry → ℕ → ZoneRun → ZoneRun
 front_of g bits hole = if nat_lt hole.1.len (bits + g.min) then hole else (hole.0, record hole.1 { len = bits })
 
@@ -171,7 +171,7 @@ GrowthPlacedIn v w c None = Unit {0}
 GrowthPlacedIn v w c (Some growth) =
     IsSomeAnd (object_at w.listings growth.0.path) (λ new. GrowthPlaced v.layout w.layout v c (made_object w c) new (Some growth) (moved_growth v c))
 
--- what the command takes, where it is accepted: v is the opened image before it, and w after it
+-- what the command takes, if it is accepted: v is the opened image before it, and w after it
 pub record Placed (v w : Opened) (c : Command) : Type 0 where
   pub object : ObjectPlaced v.layout w.layout (new_length v c) (slack_for v c) (made_object w c)
   pub empty : is_written_empty c ≡ true → HasAddress (made_object w c) 0

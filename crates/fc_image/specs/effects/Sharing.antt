@@ -20,7 +20,7 @@ units g bytes = if bytes == 0 then 0 else max g.min (next_multiple_of (div_ceil 
 abbrev pub new_ids : Map → List ℕ
 new_ids m = filter (λ id. not (is_used m id)) (range_with_len 3 (id_limit m.geometry - 3))
 
--- what an owner has of its identifier. Directories are told apart by their paths here, and by their numbers in fc_alloc.
+-- what an owner has of its identifier. Directories are known by their paths here, and by their numbers in fc_alloc.
 pub record Holding (D : Type 0) : Type 0 where
   pub id : ℕ
   pub dir : D

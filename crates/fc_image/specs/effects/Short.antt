@@ -38,7 +38,7 @@ abbrev pub is_sharing : Layout → List Object → Object → Bool
 is_sharing (Layout.Old space) objects o = false
 is_sharing (Layout.New m) objects o = has_sectors o && nat_lt 1 (owner_count objects (id_of o.entry.address))
 
--- A file that shares its identifier is copied where it is moved to another directory.
+-- A file that shares its identifier is copied if it is moved to another directory.
 abbrev pub is_copied : Opened → Path → Path → Object → Bool
 is_copied v from to o =
     not (is_directory_object o) && not (is_same_path (holder from) (holder to)) && is_sharing v.layout (objects_of v.listings) o
@@ -90,7 +90,7 @@ gain_if_absent v path = if is_some (object_at v.listings path) then None else ga
 abbrev pub gain_by_new_name : List ℕ → List ℕ → Listing → Gain
 gain_by_new_name old new l = record { listing = l; name = new; names = filter (λ name. not (is_same_name name old)) (names_in l) ++ new ∷ [] }
 
--- the entry's name as it stands, and the new one, where they differ byte for byte
+-- the entry's name as it stands, and the new one, if they differ byte for byte
 abbrev pub gain_by_rename : Opened → Path → Path → Object → Option Gain
 gain_by_rename v from to o =
     if not (is_same_path (holder from) (holder to)) then gain_at v to
@@ -167,7 +167,7 @@ needed_bits m v c =
     let b = growth_units m v c in
     if nat_lt 0 a && nat_lt 0 b then a + b + 2 * m.geometry.min else a + b
 
--- 1 where the test holds, else 0
+-- 1 if the test holds, else 0
 abbrev pub one_if : Bool → ℕ
 one_if test = if test then 1 else 0
 

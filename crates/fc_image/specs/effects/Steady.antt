@@ -113,7 +113,7 @@ entries_after v w c l = edited c l.object.path (named_entry w c) (map (regrown_e
 
 -- ---- heads
 
--- The head's name stays, or is the new last name, where the directory is the one that is renamed.
+-- The head's name stays, or is the new last name, if the directory is the one that is renamed.
 abbrev pub small_name_after : Command → Path → List ℕ → List ℕ
 small_name_after (Command.Rename from to) path name = if is_same_path from path then padded_name 10 (last_name to) else name
 small_name_after _ path name = name
@@ -126,8 +126,8 @@ holds_name dir heap name = nat_le (size_for (head_space dir.second_form (length 
 abbrev pub packed_len : BigDir → ℕ
 packed_len dir = sum_by (λ e. name_space e.name) dir.entries
 
--- A renamed big directory has its new name in its head where the larger of the two heaps leaves space for it, its old one
--- where not even the smaller does, and else either.
+-- A renamed big directory has its new name in its head if the larger of the two heaps leaves space for it, its old one
+-- if not even the smaller does, and else either.
 abbrev pub RenamedHead : Bool → BigDir → List ℕ → List ℕ → Type 0
 RenamedHead false dir last name = name ≡ dir.name
 RenamedHead true dir last name =
@@ -143,7 +143,7 @@ BigNameAfter _ path dir name = name ≡ dir.name
 abbrev pub names_added : BigDir → BigDir → List (List ℕ)
 names_added old new = filter (λ name. not (list_any (λ e. bytes_eq e.name name) old.entries)) (map (λ e. e.name) new.entries)
 
--- The heap is made anew, or it is the old one with the new names behind it.
+-- The heap is made anew, or it is the old one with the new names after it.
 abbrev pub HeapAfter : BigDir → BigDir → Type 0
 HeapAfter old new =
     (new.heap ≡ packed_heap new.entries)
@@ -360,7 +360,7 @@ NewMapSteady v w c m m' =
 abbrev pub SameSectors : ℕ → List ℕ → List ℕ → List ℕ → Type 0
 SameSectors size sectors old new = All (λ s. sector_at size new s ≡ sector_at size old s) sectors
 
--- the record in zone 0, with the root's new address and size where the root grows
+-- the record in zone 0, with the root's new address and size if the root grows
 abbrev pub zone0_after : Opened → Option Growth → List ℕ → List ℕ
 zone0_after w None sector = sector
 zone0_after w (Some growth) sector =
@@ -371,7 +371,7 @@ pub record ZoneSteady (g : Geometry) (z : ℕ) (old new : List ℕ) : Type 0 whe
   pub header : slice_range (bits new) 32 (first_bit z) ≡ slice_range (bits old) 32 (first_bit z)
   pub behind : drop (end_bit g z) (bits new) ≡ drop (end_bit g z) (bits old)
 
--- a zone's sector, with the root's new place in zone 0 where the root grows
+-- a zone's sector, with the root's new place in zone 0 if the root grows
 abbrev pub expected_zone : Opened → Opened → Command → Map → ℕ → List ℕ
 expected_zone v w c m z = if z == 0 then zone0_after w (growth_in v c) (sector_of m 0) else sector_of m z
 

@@ -18,7 +18,7 @@ use Rattle.fc_image.specs.Stays.{OpensAs}
 use Rattle.fc_image.specs.effects.Steady.{zone_holes, keeps_runs, SameSectors, MapOutside}
 use Rattle.fc_image.specs.effects.Effect.{State, tree_in, OpensAgain}
 
--- the sectors from &C00 to &DFF, where the image fits a boot block, whatever kind it was opened as
+-- the sectors from &C00 to &DFF, if the image fits a boot block, whatever kind it was opened as
 abbrev pub boot_sectors : List ℕ → ℕ → List ℕ
 boot_sectors image sector = filter (λ s. is_boot image) (range_with_len (0xC00 / sector) (div_ceil 512 sector))
 
@@ -79,7 +79,7 @@ OwnedStay old new (Layout.New m) (Layout.New m') objects =
     × SameSectors m.geometry.sector (sectors_that (λ p. is_owned_run objects p.1.kind) m) old new
 OwnedStay old new _ _ objects = ⊥
 
--- what every stop and every exit leaves
+-- what every crash and every exit leaves
 pub record StaysOwned (kind : Kind) (old : List ℕ) (v : Opened) (image : List ℕ) : Type 0 where
   pub view : Opened
   pub opens : OpensAs image kind view

@@ -67,7 +67,7 @@ sectors_after m v c o =
 abbrev pub end_of : Map → Opened → Command → Object → ℕ
 end_of m v c o = (low_start m (low_of o.entry.address) + sectors_after m v c o) * m.geometry.sector
 
--- the end of the last owner, in bytes; no new file lies behind it, since only identifiers whose owners are all files are shared
+-- the end of the last owner, in bytes; no new file lies after it, since only identifiers whose owners are all files are shared
 abbrev pub last_end : Map → Opened → Command → ℕ → ℕ
 last_end m v c id = fold (λ n o. max n (end_of m v c o)) 0 (filter (remains_in v c id) (objects_of v.listings))
 
@@ -131,7 +131,7 @@ places_given_up m v c = flat_map (λ id. if is_given_up m v c id then id_runs m 
 abbrev pub root_grows : Opened → Command → Bool
 root_grows v c = option_map_or (λ growth. length growth.0.path == 0) (growth_in v c) false
 
--- the number of zones in which a run is taken or given back; zone 0 is one of them where the root grows
+-- the number of zones in which a run is taken or given back; zone 0 is one of them if the root grows
 abbrev pub changed_zones : Map → Opened → Command → List (List ZoneRun) → ℕ
 changed_zones m v c parts =
     length (filter (λ z. list_any (λ p. p.0 == z) (flat_map (λ ps. ps) parts ++ places_given_up m v c) || ((z == 0) && root_grows v c)) (zone_numbers m.geometry))
@@ -145,7 +145,7 @@ abbrev pub fit_refusal : Map → Opened → Command → Option (List (List ZoneR
 fit_refusal m v c None = Some (Refused refusals.DiscFull)
 fit_refusal m v c (Some parts) = spread_or (changed_zones m v c parts)
 
--- DirFull and IdsFull are as ever; DiscFull comes where the needs find no holes
+-- DirFull and IdsFull are as ever; DiscFull comes if the needs find no holes
 abbrev pub early_refusal : Option Refusal → Option SafeRefusal
 early_refusal (Some refusals.DirFull) = Some (Refused refusals.DirFull)
 early_refusal (Some refusals.IdsFull) = Some (Refused refusals.IdsFull)

@@ -80,7 +80,7 @@ holes_unneeded m parts = fold holes_left (hole_runs m) parts
 abbrev pub safe_holes_after : Map → Opened → Command → List (List ZoneRun) → ℕ → List Hole
 safe_holes_after m v c parts z = holes_with (zone_holes (holes_unneeded m parts) z) (zone_holes (places_given_up m v c) z)
 
--- what a changing command does to the map, where its needs are met by these parts
+-- what a changing command does to the map, if its needs are met by these parts
 pub record SafeMapSteady (m m' : Map) (v w : Opened) (c : Command) (parts : List (List ZoneRun)) : Type 0 where
   pub needs_met : HaveRuns m' (need_ids m v w c) parts
   pub least : AreLeast m (new_id_list m v w c)

@@ -35,7 +35,7 @@ entry_after form move e = record e { address = address_after form move e }
 
 -- ---- directories
 
--- the parent field afterwards, where the holder had this address: its new address if the holder moved
+-- the parent field afterwards, if the holder had this address: its new address if the holder moved
 abbrev pub parent_after : (ℕ → ℕ) → ℕ → ℕ → ℕ
 parent_after move holder parent = if holder == move holder then parent else move holder
 

@@ -23,7 +23,7 @@ use Rattle.fc_oldlaws.specs.moves.After.{Slide, dir_after, entry_after, form_of,
 
 -- ---- nodes
 
--- what a node says afterwards, where its holder had this address
+-- what a node says afterwards, if its holder had this address
 abbrev pub body_after : NameForm → (ℕ → ℕ) → ℕ → Body → Body
 body_after form move holder bodies.File = bodies.File
 body_after form move holder (bodies.Small dir) = bodies.Small (dir_after form move holder dir)

@@ -44,7 +44,7 @@ fn entries_of(alloc: Global, tree: &Tree, n: u64) -> Result<Vec<Entry>, NoMemory
     }
 }
 
-// Puts them behind the others.
+// Puts them after the others.
 fn push_spare(alloc: Global, spares: &mut Vec<Spare>, tree: &Tree, n: u64) -> Result<(), NoMemory>
     ensures { OnOk result (HasSpare (get (nodes_of tree.now) n) spares.old.items spares.new.items) }
 {
@@ -81,7 +81,7 @@ pub fn address_after(space: &Space, moves: &Moves, e: &Entry) -> u32
     }
 }
 
-// The entries of a directory get their addresses. Whether one has changed is told.
+// The entries of a directory get their addresses. The answer is whether one has changed.
 fn move_entries(dir: &mut SmallDir, spare: &mut Spare, space: &Space, moves: &Moves)
     requires copies { spare.old.entries.items ≡ dir.old.entries }
     requires sorted { AreSorted moves.now.before.items }
@@ -101,7 +101,7 @@ fn move_entries(dir: &mut SmallDir, spare: &mut Spare, space: &Space, moves: &Mo
     }
 }
 
-// The parent field of a directory afterwards, where its holder had this address.
+// The parent field of a directory afterwards, if its holder had this address.
 fn parent_after(moves: &Moves, holder: u32, parent: u32) -> u32
     requires { AreSorted moves.now.before.items }
     ensures { result ≡ parent_after (start_after moves.now.before.items moves.now.after.items) holder parent }
@@ -110,7 +110,7 @@ fn parent_after(moves: &Moves, holder: u32, parent: u32) -> u32
     if holder == now { parent } else { now }
 }
 
-// A directory whose holder had this address says what it says afterwards, and whether something has changed is told.
+// A directory whose holder had this address says what it says afterwards, and the answer is whether something has changed.
 fn readdress(dir: &mut SmallDir, spare: &mut Spare, space: &Space, moves: &Moves, holder: u32)
     requires copies { spare.old.entries.items ≡ dir.old.entries }
     requires sorted { AreSorted moves.now.before.items }
@@ -169,7 +169,7 @@ fn readdress_number(tree: &mut Tree, n: u64, spare: &mut Spare, space: &Space, m
     tree.put_back(n, node);
 }
 
-/// Each directory of a tree says what it says afterwards, and of each is told whether something has changed in it. The
+/// Each directory of a tree says what it says afterwards, and the answer says of each whether something has changed in it. The
 /// entries of the nodes stay.
 pub fn readdress_all(tree: &mut Tree, spares: &mut Vec<Spare>, space: &Space, moves: &Moves)
     requires spares { AreSpares (nodes_of tree.old) (bound_of tree.old) spares.old.items }

@@ -19,7 +19,7 @@ const ROOT_E: &[Part] = &[
     (4091, b"Nick"),
 ];
 
-// Files `A` and `B` of 2048 bytes and `C` of 4096, one behind the other.
+// Files `A` and `B` of 2048 bytes and `C` of 4096, one after the other.
 const THREE_FILES: Disc = Disc {
     format: "",
     length: 819_200,
@@ -70,7 +70,7 @@ const TWO_FILES: Disc = Disc {
     ],
 };
 
-// Two zones with sectors of 256 bytes. Zone 0 has a hole of 16 bits behind those of the boot block, and the file `A` behind it.
+// Two zones with sectors of 256 bytes. Zone 0 has a hole of 16 bits after those of the boot block, and the file `A` after it.
 const TWO_ZONES: &[Part] = &[
     (3520, b"\x08\0\0\0\x0b\x05\0\0\0\x02 \0\0\x03\0\0\0\xbc\x01"),
     (3583, b"\xfa"),

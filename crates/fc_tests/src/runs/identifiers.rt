@@ -71,7 +71,7 @@ fn put_map(map: &mut Vec<u8>) {
         zone = zone.saturating_add(256);
     }
     put(map, 64, b"\x02\0\x80");
-    // The last identifier has the last run of zone 12. The hole behind it ends with the zone, as those of the zones after it.
+    // The last identifier has the last run of zone 12. The hole after it ends with the zone, as those of the zones after it.
     put(map, 3187, b"\xff\x0f");
     for end in [3327, 3583, 3839, 4095] {
         put(map, end, b"\x80");

@@ -94,7 +94,7 @@ fn has_no_place(body: &Body) -> bool
     }
 }
 
-/// Whether the directory of a node, if it is one of 2,048 bytes, has as many entries as it can hold. A big one has room where it
+/// Whether the directory of a node, if it is one of 2,048 bytes, has as many entries as it can hold. A big one has room if it
 /// needn't grow.
 pub fn is_full(tree: &Tree, n: u64) -> bool
     ensures { SaysFull (nodes_of tree.now) n result }
