@@ -311,7 +311,7 @@ def publish_without_links(checks):
 
 
 def unread_copy(checks):
-    """A copy that can't be read has no name to be told."""
+    """A copy that can't be read has no name for the message."""
     from fcdisc_lib import images as parts, messages
     told = ""
     with open(os.open(os.path.join(checks.fresh(b"work"), b"x"), os.O_WRONLY | os.O_CREAT), "rb") as file:

@@ -1,5 +1,5 @@
 /* Stands between fcore and the system for check_outside.py: a shared object for LD_PRELOAD that notes the program's calls, and lets
-   those fail that it is told to.
+   calls of given numbers fail.
 
    OUTSIDE_LOG     the file that has a line for each call: kind, answer, number of the error, and what it was about
    OUTSIDE_FAULTS  items KIND:FIRST:LAST:HOW, with commas between: the calls of the kind from number FIRST to LAST (from 1) are

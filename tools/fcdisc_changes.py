@@ -353,7 +353,7 @@ def programs_that_go(c):
 
 
 def removing_levels(c):
-    """What is told while the levels of directories are read."""
+    """What is said while the levels of directories are read."""
     c.start("l-files.adf")
     c.refused("rm -r of a directory that is gone when it is read", ["rm", "-r", "a.adf", "Outer"],
               "a.adf: " + fcdisc_cases.CHANGED, fcore=c.fake(fcdisc_cases.GONE))

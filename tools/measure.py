@@ -108,7 +108,7 @@ class Hollow:
 
 
 def of_a_terabyte():
-    """240 files of 4 GB, which lie one behind the other in all zones but the first and the map's."""
+    """240 files of 4 GB, which lie one after the other in all zones but the first and the map's."""
     zones, bits = 1028, 32767
     volume = empty_volume(zones, 17, -(-2 * zones // 128))
     free = [[zone, 8000] for zone in range(1, zones) if zone != zones // 2]

@@ -2,7 +2,7 @@
 """Runs the examples of a page in the current folder, and compares what they print with what the page says.
 
 usage: tools/readme_examples.py PAGE
-An example is an indented line that begins with `$ `; the indented lines behind it, up to the next one or an empty line, are what
+An example is an indented line that begins with `$ `; the indented lines after it, up to the next one or an empty line, are what
 it prints. A line `...` stands for lines that the page leaves out.
 """
 import re

@@ -44,8 +44,8 @@ class Directory(Entry):
         self.word = None  # `Hugo` or `Nick`, where it isn't the format's
         self.size = 2048  # of a big directory
         self.form = 1  # of a big directory's head name: 1 or 2
-        self.heap_tail = 0  # bytes of the heap behind the names
-        self.spare_words = 0  # what stands behind the heap
+        self.heap_tail = 0  # bytes of the heap after the names
+        self.spare_words = 0  # what comes after the heap
         self.guards_form = False  # of a big directory: whether the word after the heap keeps the second form from being read as the first
         self.reserved = b""  # what the reserved bytes begin with
 
@@ -164,7 +164,7 @@ class Volume:
         return big_directory(directory) if self.form == "big" else small_directory(directory, self.form)
 
     def is_in_one_piece(self, entry):
-        """Whether an object's bytes lie one behind the other."""
+        """Whether an object's bytes lie one after the other."""
         return True
 
     def content(self, entry):
@@ -310,7 +310,7 @@ class NewVolume(Volume):
         self.cross_checks = cross_checks or [0xFF] + [0] * (shape.zones - 1)
         self.next_identifier = 3
         self.extents = {}  # of all identifiers, found anew for each image
-        self.past_end = 0  # the bits that stand behind the last map bit of each zone
+        self.past_end = 0  # the bits that come after the last map bit of each zone
         self.high_bits = 0  # what holes have in the bits of their fields above the distance
 
     def take(self, identifier, zone, bits, skip=0):

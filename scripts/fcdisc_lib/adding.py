@@ -24,7 +24,7 @@ class Item(NamedTuple):
 
 
 def scan(folder: bytes, start: Path, fail: Failures) -> Iterator[Item]:
-    """What is to be added, a folder before what is in it. What can't be added is told."""
+    """What is to be added, a folder before what is in it. What can't be added is named in a message."""
     waiting = [(folder, start)]
     while waiting:
         outer, path = waiting.pop()
@@ -65,7 +65,7 @@ def item_of(entry: os.DirEntry[bytes], path: Path, taken: Dict[bytes, bytes], fa
 
 
 class Failures:
-    """What can't be added, told as it is found."""
+    """What can't be added, named in a message as it is found."""
 
     def __init__(self) -> None:
         self.count = 0

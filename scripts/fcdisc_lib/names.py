@@ -1,7 +1,7 @@
 """Names on a disc and names on the host, both ways.
 
 A name on a disc is 1 to 255 bytes of at least 32, in the letters of Latin 1; `.` stands between the names of a path. fcore spells
-what isn't plain as `%XX`. On the host a file's name carries its type, or its load and exec words, behind a comma: `Prog,ffb`,
+what isn't plain as `%XX`. On the host a file's name carries its type, or its load and exec words, after a comma: `Prog,ffb`,
 `Code,00008000-00008000`; `/` and `.` change places, and what a host can't have is `%XX`. Every name has one name on the host, and
 `disc_name` finds it again.
 """

@@ -76,7 +76,7 @@ def read_level(program: str, tree: Tree, level: List[Entry], progress: Progress)
 
 
 def tell_doubt(image: Image, order: str, counts: Dict[str, int]) -> None:
-    """Nothing shows whether it was the right order. That a name says .adl is told already."""
+    """Nothing shows whether it was the right order. That a name says .adl is said already."""
     if image.how == AS_IT_IS and has_doubtful_order(image, order, counts):
         tell("%s: taken to be in disc order; if files look wrong, its sides are interleaved: use --order adl" % shown(image.path))
 
