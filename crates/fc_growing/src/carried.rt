@@ -147,7 +147,7 @@ fn draft_in(
 {
     map.is_map();
     let bytes = tree.node(target.node).unwrap().entry.len;
-    let planned = match plan_for(
+    let planned = plan_for(
         alloc,
         tree,
         places,
@@ -157,18 +157,10 @@ fn draft_in(
         Some(target.node),
         len,
         bytes,
-    ) {
-        Ok(planned) => planned,
-        Err(error) => return Err(error),
-    };
+    )?;
     let (address, place) = addressed(map, planned, bytes);
-    let Ok(name) = last_name(alloc, to) else {
-        return Err(CommandError::NoMemory);
-    };
-    match prepare_copied(alloc, tree, places, map, target, dir, &name, place, address) {
-        Ok(change) => Ok(change),
-        Err(NoMemory) => Err(CommandError::NoMemory),
-    }
+    let name = last_name(alloc, to)?;
+    Ok(prepare_copied(alloc, tree, places, map, target, dir, &name, place, address)?)
 }
 
 // The same with the map of a volume, which is a new one.

@@ -133,7 +133,7 @@ fn draft_in(
 {
     let dir = outgrown.dir;
     let address = tree.node(dir).unwrap().entry.address;
-    let found = find_grown_place(
+    let place = find_grown_place(
         alloc,
         places,
         map,
@@ -142,15 +142,8 @@ fn draft_in(
         address,
         outgrown.len,
         words.len,
-    );
-    let place = match found {
-        Ok(place) => place,
-        Err(error) => return Err(error),
-    };
-    match prepare_grown_file(alloc, tree, places, map, outgrown, words, place) {
-        Ok(file) => Ok(file),
-        Err(NoMemory) => Err(CommandError::NoMemory),
-    }
+    )?;
+    Ok(prepare_grown_file(alloc, tree, places, map, outgrown, words, place)?)
 }
 
 /// Makes a new file ready, and the directory that is too small for its name, on the map of a volume, which is a new one; or says

@@ -56,17 +56,13 @@ fn growth_at(
     ensures { (content : Directory) → IsDirectoryAt (nodes_of tree.now) dir content → AnswersRoom content (last_name p.now) dir result }
 {
     let node = tree.node(dir).unwrap();
-    let Ok(name) = last_name(alloc, p) else {
-        return Err(CommandError::NoMemory);
-    };
+    let name = last_name(alloc, p)?;
     let len = match room_in(&node.body, &name) {
         Room::Full => return Err(CommandError::Refused(Refusal::DirFull)),
         Room::Fits => return Ok(None),
         Room::Grows(len) => len,
     };
-    let Ok(draft) = draft_of(alloc, &node.body) else {
-        return Err(CommandError::NoMemory);
-    };
+    let draft = draft_of(alloc, &node.body)?;
     Ok(Some(Outgrown {
         dir,
         draft,

@@ -82,18 +82,11 @@ fn draft_in(
         → AnswersSpace result (short_of map.now 2048 (is_alone_by owners.now dir node.entry.address) (if has_room_by map.now owners.now dir node.entry.address len then 0 else len)) }
 {
     let node = tree.node(dir).unwrap();
-    let Ok(name) = last_name(alloc, p) else {
-        return Err(CommandError::NoMemory);
-    };
-    let Ok(draft) = draft_of(alloc, &node.body) else {
-        return Err(CommandError::NoMemory);
-    };
+    let name = last_name(alloc, p)?;
+    let draft = draft_of(alloc, &node.body)?;
     let address = node.entry.address;
     let place = plan_growth(alloc, places, map, owners, dir, None, address, len, 2048)?;
-    match prepare_grown(alloc, tree, places, map, dir, draft, name, place) {
-        Ok(change) => Ok(change),
-        Err(NoMemory) => Err(CommandError::NoMemory),
-    }
+    Ok(prepare_grown(alloc, tree, places, map, dir, draft, name, place)?)
 }
 
 // The same with the map of a volume, which is a new one.

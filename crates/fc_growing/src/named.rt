@@ -93,27 +93,10 @@ fn draft_in(
     ensures refused { (node : Node) → get (nodes_of tree.now) target.holder ≡ Some node
         → AnswersSpace result (short_of map.now 0 (is_alone_by owners.now target.holder node.entry.address) (if has_room_by map.now owners.now target.holder node.entry.address len then 0 else len)) }
 {
-    let place = match plan_for(
-        alloc,
-        tree,
-        places,
-        map,
-        owners,
-        target.holder,
-        None,
-        len,
-        0,
-    ) {
-        Ok(place) => place,
-        Err(error) => return Err(error),
-    };
-    let Ok(name) = last_name(alloc, to) else {
-        return Err(CommandError::NoMemory);
-    };
-    match prepare_named(alloc, tree, places, map, target, &name, place) {
-        Ok(change) => Ok(change),
-        Err(NoMemory) => Err(CommandError::NoMemory),
-    }
+    let holder = target.holder;
+    let place = plan_for(alloc, tree, places, map, owners, holder, None, len, 0)?;
+    let name = last_name(alloc, to)?;
+    Ok(prepare_named(alloc, tree, places, map, target, &name, place)?)
 }
 
 // The same with the map of a volume, which is a new one.
@@ -158,17 +141,9 @@ fn draft_out(
     ensures refused { (node : Node) → get (nodes_of tree.now) dir ≡ Some node
         → AnswersSpace result (short_of map.now 0 (is_alone_by owners.now dir node.entry.address) (if has_room_by map.now owners.now dir node.entry.address len then 0 else len)) }
 {
-    let place = match plan_for(alloc, tree, places, map, owners, dir, None, len, 0) {
-        Ok(place) => place,
-        Err(error) => return Err(error),
-    };
-    let Ok(name) = last_name(alloc, to) else {
-        return Err(CommandError::NoMemory);
-    };
-    match prepare_moved(alloc, tree, places, map, owners, target, dir, &name, place) {
-        Ok(change) => Ok(change),
-        Err(NoMemory) => Err(CommandError::NoMemory),
-    }
+    let place = plan_for(alloc, tree, places, map, owners, dir, None, len, 0)?;
+    let name = last_name(alloc, to)?;
+    Ok(prepare_moved(alloc, tree, places, map, owners, target, dir, &name, place)?)
 }
 
 // The same with the map of a volume, which is a new one.

@@ -38,9 +38,7 @@ fn prepare_delete(
     ensures ready { IfOk result (IsDeleteReady (nodes_of tree.now) (layout_of places.now) target) }
     ensures refused { IfErr result (RefusesFull (nodes_of tree.now) (layout_of places.now) target.node) }
 {
-    let Ok(directory) = prepare_directory(alloc, tree, places, target) else {
-        return Err(CommandError::NoMemory);
-    };
+    let directory = prepare_directory(alloc, tree, places, target)?;
     let object = tree.node(target.node).unwrap();
     match map_without(places, &object.entry) {
         Ok(map) => Ok(Removal {

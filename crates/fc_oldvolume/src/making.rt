@@ -124,20 +124,10 @@ fn draft_cdir(
         → AnswersSpace result (short v (Command.Cdir p.now)) }
 {
     let node = tree.node(dir).unwrap();
-    let Ok(name) = last_name(alloc, p) else {
-        return Err(CommandError::NoMemory);
-    };
-    let Ok(draft) = draft_of(alloc, &node.body) else {
-        return Err(CommandError::NoMemory);
-    };
-    let taken = match place_cdir(alloc, places, &draft, &name) {
-        Ok(taken) => taken,
-        Err(error) => return Err(error),
-    };
-    match prepare_cdir(alloc, tree, places, dir, draft, name, taken) {
-        Ok(change) => Ok(change),
-        Err(NoMemory) => Err(CommandError::NoMemory),
-    }
+    let name = last_name(alloc, p)?;
+    let draft = draft_of(alloc, &node.body)?;
+    let taken = place_cdir(alloc, places, &draft, &name)?;
+    Ok(prepare_cdir(alloc, tree, places, dir, draft, name, taken)?)
 }
 
 /// Makes an empty directory. The disc has an old map, and nothing is pending. The new directory is written into the first hole that

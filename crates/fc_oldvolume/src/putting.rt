@@ -112,18 +112,8 @@ pub fn draft_file(
         → node.body ≡ body_in content → WantsFile space words.len content (last_name p.now) v c → AnswersSpace result (short v c) }
 {
     let node = tree.node(dir).unwrap();
-    let Ok(name) = last_name(alloc, p) else {
-        return Err(CommandError::NoMemory);
-    };
-    let Ok(draft) = draft_of(alloc, &node.body) else {
-        return Err(CommandError::NoMemory);
-    };
-    let taken = match place_file(alloc, places, &draft, &name, words.len) {
-        Ok(taken) => taken,
-        Err(error) => return Err(error),
-    };
-    match prepare_file(alloc, tree, places, dir, draft, name, words, taken) {
-        Ok(file) => Ok(file),
-        Err(NoMemory) => Err(CommandError::NoMemory),
-    }
+    let name = last_name(alloc, p)?;
+    let draft = draft_of(alloc, &node.body)?;
+    let taken = place_file(alloc, places, &draft, &name, words.len)?;
+    Ok(prepare_file(alloc, tree, places, dir, draft, name, words, taken)?)
 }

@@ -99,17 +99,11 @@ pub fn draft_replacing(
 {
     fc_oldlaws::agree::spaces();
     is_old_map(places);
-    let taken = match take_place(alloc, places, u64::from(words.len)) {
-        Ok(taken) => taken,
-        Err(error) => return Err(error),
-    };
+    let taken = take_place(alloc, places, u64::from(words.len))?;
     let object = tree.node(target.node).unwrap();
     let given = match map_given(places, &taken.map, &object.entry) {
         Ok(given) => given,
         Err(MapFull) => return Err(CommandError::Refused(Refusal::MapFull)),
     };
-    match prepare_replacing(alloc, tree, places, target, words, taken, given) {
-        Ok(change) => Ok(change),
-        Err(NoMemory) => Err(CommandError::NoMemory),
-    }
+    Ok(prepare_replacing(alloc, tree, places, target, words, taken, given)?)
 }

@@ -41,10 +41,8 @@ fn take_from(map: &OldMap, bytes: u64) -> Result<(u32, OldMap), TakeError>
         return Err(TakeError::DiscFull);
     };
     let mut now = copy_of(map);
-    match now.take(units) {
-        Ok(start) => Ok((start, now)),
-        Err(error) => Err(error),
-    }
+    let start = now.take(units)?;
+    Ok((start, now))
 }
 
 // What a command answers if no space is taken.

@@ -25,7 +25,7 @@ returns-in_err-place-clause-refused c = λ node there.
     let own = sym c.node.ensures ∙ ap (option_map (λ x. x.now)) c.unwrap-node.ensures in
     let m = c.args.map.now in
     let owners = c.args.owners.now in
-    let p = err_from_is_err_and c.from_residual.result c.from_residual.ensures.1 in
+    let p = err_from_is_err_and c.from_residual-in_err-place.result c.from_residual-in_err-place.ensures.1 in
     rw (p.1, p.2)
     (space_said GrownPlace GrownMaking c.in_err-place.field-0.0 _
     (subst (λ (x : Node). AnswersShort {T = GrownPlace} (Err c.in_err-place.field-0.0) (short_of m 2048 (is_alone_by owners c.args.dir x.entry.address) (if has_room_by m owners c.args.dir x.entry.address c.args.len then 0 else c.args.len)))
@@ -36,21 +36,21 @@ prepare_grown-requires-clause-can c =
     let own = sym c.node.ensures ∙ ap (option_map (λ x. x.now)) c.unwrap-node.ensures in
     let can = c.requires.can in
     let same : c.unwrap-node.result.now ≡ can.node = same_some c.unwrap-node.result.now can.node (sym own ∙ can.there) in
-    let drafted : can.content ≡ directory_in c.in-Ok-draft_of.draft =
-    one_content can.content (directory_in c.in-Ok-draft_of.draft) (sym can.says ∙ ap (λ (x : Node). x.body) (sym same) ∙ c.in-Ok-draft_of.ensures) in (
+    let drafted : can.content ≡ directory_in c.in_ok-draft.draft =
+    one_content can.content (directory_in c.in_ok-draft.draft) (sym can.says ∙ ap (λ (x : Node). x.body) (sym same) ∙ c.in_ok-draft.ensures) in (
       can.node,
-      subst (λ (name : List ℕ). CanMakeGrown (nodes_of c.args.tree.now) c.args.map.now c.args.dir name can.node (directory_in c.in-Ok-draft_of.draft) c.in_ok-place.place) (sym c.in-Ok.ensures)
+      subst (λ (name : List ℕ). CanMakeGrown (nodes_of c.args.tree.now) c.args.map.now c.args.dir name can.node (directory_in c.in_ok-draft.draft) c.in_ok-place.place) (sym c.in_ok-name.ensures)
           (subst (λ (d : Directory). CanMakeGrown (nodes_of c.args.tree.now) c.args.map.now c.args.dir (last_name c.args.p.now) can.node d c.in_ok-place.place) drafted
           (can.each c.in_ok-place.place
           (subst (λ (x : Node). IsGrowthPlanned c.args.map.now c.args.owners.now c.args.dir None x.entry.address c.args.len 2048 c.in_ok-place.place) same c.in_ok-place.ensures.planned))),
     )
 
-pub returns-in-Ok-prepare_grown-clause-ready : goal.returns-in-Ok-prepare_grown-clause-ready
-returns-in-Ok-prepare_grown-clause-ready c =
+pub returns-clause-ready : goal.returns-clause-ready
+returns-clause-ready c =
     let own = sym c.node.ensures ∙ ap (option_map (λ x. x.now)) c.unwrap-node.ensures in
-    let r = c.in-Ok-prepare_grown.change in
+    let r = c.in_ok-prepare_grown.field-0 in
     let nodes = nodes_of c.args.tree.now in
-    let ready = subst (λ (name : List ℕ). IsGrownMakingReady nodes c.args.map.now c.args.dir name c.in_ok-place.place r) c.in-Ok.ensures c.in-Ok-prepare_grown.ensures in
+    let ready = subst (λ (name : List ℕ). IsGrownMakingReady nodes c.args.map.now c.args.dir name c.in_ok-place.place r) c.in_ok-name.ensures c.in_ok-prepare_grown.ensures in
     let same = ready.growing.place in
     record {
       ready = ready_by nodes c.args.map.now c.args.dir (last_name c.args.p.now) c.in_ok-place.place r.growing.growth.place r same ready;

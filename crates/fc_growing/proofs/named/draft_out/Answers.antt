@@ -7,13 +7,13 @@ use Rattle.fc_growing.specs.Naming.{IsNamedAcross}
 use Rattle.fc_growing.specs.Place.{IsGrowthPlanned}
 use Rattle.fc_growing.proofs.named.draft_out.Goals as goal
 
-pub returns-in-Ok-prepare_moved-clause-ready : goal.returns-in-Ok-prepare_moved-clause-ready
-returns-in-Ok-prepare_moved-clause-ready c =
-    let r = c.in-Ok-prepare_moved.change in
+pub returns-clause-ready : goal.returns-clause-ready
+returns-clause-ready c =
+    let r = c.in_ok-prepare_moved.field-0 in
     let nodes = nodes_of c.args.tree.now in
-    let ready = subst (λ (name : List ℕ). IsNamedAcross nodes c.args.map.now c.args.owners.now c.args.target c.args.dir name c.in-Ok.place r) c.in-Ok-last_name.ensures c.in-Ok-prepare_moved.ensures in
-    let same : c.in-Ok.place ≡ r.growing.growth.place = sym (ap (λ (g : Growth). g.place) ready.apart.growth ∙ ready.growing.place) in
+    let ready = subst (λ (name : List ℕ). IsNamedAcross nodes c.args.map.now c.args.owners.now c.args.target c.args.dir name c.in_ok-place.place r) c.in_ok-name.ensures c.in_ok-prepare_moved.ensures in
+    let same : c.in_ok-place.place ≡ r.growing.growth.place = sym (ap (λ (g : Growth). g.place) ready.apart.growth ∙ ready.growing.place) in
     record {
       ready = subst (λ (q : GrownPlace). IsNamedAcross nodes c.args.map.now c.args.owners.now c.args.target c.args.dir (last_name c.args.to.now) q r) same ready;
-      planned = subst (λ (q : GrownPlace). IsGrowthPlanned c.args.map.now c.args.owners.now c.args.dir None ready.node.entry.address c.args.len 0 q) same (c.in-Ok.ensures.planned ready.node ready.there);
+      planned = subst (λ (q : GrownPlace). IsGrowthPlanned c.args.map.now c.args.owners.now c.args.dir None ready.node.entry.address c.args.len 0 q) same (c.in_ok-place.ensures.planned ready.node ready.there);
     }
