@@ -6,14 +6,17 @@
 //! (docs/FORMAT.md, "Two copies").
 #![tactic(auto)]
 
+ghost use Rattle.std.specs.Prelude.{◌≡◌};
 ghost use Rattle.fc_copies.specs.CopiesLaw.{CopiesLaw};
 ghost use Rattle.fc_copies.specs.Gate.{GateHolds, MixLaw};
+ghost use Rattle.fc_copies.specs.declared.CopyError.TheVariants as errors;
 
 mod committing;
 mod reading;
 mod repairing;
 
 pub use committing::{commit, commit_wide};
+use fc_device::DiskFault;
 pub use reading::fetch;
 pub use repairing::repair;
 
@@ -32,6 +35,16 @@ pub enum CopyError {
     BothBad { c1: u16, c2: u16 },
     /// A read failed.
     DiskFault,
+}
+
+impl From<DiskFault> for CopyError {
+    ghost from_gives = { λ _ e. e ≡ errors.DiskFault };
+
+    fn from(_: DiskFault) -> Self
+        ensures { result ≡ errors.DiskFault }
+    {
+        CopyError::DiskFault
+    }
 }
 
 /// For 2 to 9 changed zones: the deltas of no mix of old and new zones cancel, and all of them together do.

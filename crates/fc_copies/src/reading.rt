@@ -101,14 +101,11 @@ pub fn fetch<D: Disk>(disk: &mut D, g: &Geometry, into: &mut [u8]) -> Result<Whi
     ensures first_alone { ForSome (D.bytes disk.old) (λ image. chosen g.now image ≡ Ok Which.One → D.read_calls disk.new ≤ D.read_calls disk.old + g.now.zones) }
     ensures cause { result ≡ Err CopyError.DiskFault → Rose (D.faults disk.old) (D.faults disk.new) }
 {
-    let c1 = match read_copy(disk, g, Which::One, into) {
-        Ok(None) => return Ok(Which::One),
-        Ok(Some(zone)) => zone,
-        Err(DiskFault) => return Err(CopyError::DiskFault),
+    let Some(c1) = read_copy(disk, g, Which::One, into)? else {
+        return Ok(Which::One);
     };
-    match read_copy(disk, g, Which::Two, into) {
-        Ok(None) => Ok(Which::Two),
-        Ok(Some(c2)) => Err(CopyError::BothBad { c1, c2 }),
-        Err(DiskFault) => Err(CopyError::DiskFault),
+    match read_copy(disk, g, Which::Two, into)? {
+        None => Ok(Which::Two),
+        Some(c2) => Err(CopyError::BothBad { c1, c2 }),
     }
 }

@@ -1,5 +1,5 @@
 -- Blocks whose last byte is their check.
-use Rattle.std.proofs.Common.{◌≡◌, ℕ, ◌+◌, ◌%◌, List, [], ◌∷◌, ◌++◌, length, take, drop, slice_set, refl, sym, ap, ◌∙◌, arith, append_assoc, length-append}
+use Rattle.std.proofs.Common.{◌≡◌, ℕ, ◌+◌, ◌%◌, List, [], ◌∷◌, ◌++◌, length, drop, slice_set, sym, ap, ◌∙◌, arith, append_assoc, length-append}
 use Rattle.std.proofs.lemmas.List.{set_at, take-append-le}
 use Rattle.fc_bytes.specs.Bits.{overwritten}
 use Rattle.fc_checks.specs.Checks.{boot_check, carry_sum}

@@ -5,6 +5,7 @@ ghost use Rattle.fc_device.specs.Faults.{Rose};
 ghost use Rattle.fc_format.specs.Fresh.{boot_block, f_zone0, f_zone1, f_zone3, format_size, fresh_image, zeros};
 ghost use Rattle.fc_format.specs.Zones.{IsRecordOfF};
 ghost use Rattle.fc_format.specs.Passes.{KeepsBehind, LengthensFront, SameBehind, SameImage, disc_of};
+ghost use Rattle.fc_format.specs.declared.volume.FormatError.TheVariants as errors;
 
 use crate::Format;
 use crate::parts::{
@@ -22,6 +23,16 @@ pub enum FormatError {
     TooSmall { need: u64, have: u64 },
     /// A call of the disk failed.
     DiskFault,
+}
+
+impl From<DiskFault> for FormatError {
+    ghost from_gives = { λ _ e. e ≡ errors.DiskFault };
+
+    fn from(_: DiskFault) -> Self
+        ensures { result ≡ errors.DiskFault }
+    {
+        FormatError::DiskFault
+    }
 }
 
 // Writes a disc of one zone: both copies of the map, and the root.
@@ -146,8 +157,5 @@ pub fn make<D: Disk>(disk: &mut D, f: Format) -> Result<(), FormatError>
         return Err(FormatError::TooSmall { need, have });
     }
     disk.shape(8);
-    match write_volume(disk, f) {
-        Ok(()) => Ok(()),
-        Err(DiskFault) => Err(FormatError::DiskFault),
-    }
+    Ok(write_volume(disk, f)?)
 }

@@ -191,10 +191,8 @@ pub fn kind<D: Disk>(disk: &mut D, front: &mut Front) -> Result<Kind, KindError>
     ensures cause { result ≡ Err KindError.DiskFault → Rose (D.faults disk.old) (D.faults disk.new) }
 {
     let have = disk.length();
-    let found = match first_kind(disk, front) {
-        Ok(Some(kind)) => kind,
-        Ok(None) => return Err(KindError::NoKind),
-        Err(DiskFault) => return Err(KindError::DiskFault),
+    let Some(found) = first_kind(disk, front)? else {
+        return Err(KindError::NoKind);
     };
     let need = found.disc_size();
     if have < need {

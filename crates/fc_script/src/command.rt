@@ -1,7 +1,10 @@
 // Commands, as lines give them.
 ghost use Rattle.std.specs.Prelude.{◌≡◌};
+ghost use Rattle.fc_script.specs.PathErrors.{of_path};
+ghost use Rattle.fc_script.specs.declared.command.LineError.TheVariants as errors;
 
-use fc_names::Path;
+use fc_device::NoMemory;
+use fc_names::{Path, PathError};
 use std::marker::Model;
 
 /// The bytes that a `save` gives to a file.
@@ -102,4 +105,27 @@ pub enum LineError {
     BadName,
     /// No memory was found. The line is a command.
     NoMemory,
+}
+
+impl From<PathError> for LineError {
+    ghost from_gives = { λ error e. e ≡ of_path error };
+
+    fn from(error: PathError) -> Self
+        ensures { result ≡ of_path error }
+    {
+        match error {
+            PathError::BadName => LineError::BadName,
+            PathError::NoMemory => LineError::NoMemory,
+        }
+    }
+}
+
+impl From<NoMemory> for LineError {
+    ghost from_gives = { λ _ e. e ≡ errors.NoMemory };
+
+    fn from(_: NoMemory) -> Self
+        ensures { result ≡ errors.NoMemory }
+    {
+        LineError::NoMemory
+    }
 }

@@ -10,18 +10,14 @@ use crate::numbers::{are_hex_digits, read_access, read_length, read_word};
 use crate::words::{Words, read_words};
 use crate::{Bytes, Command, LineError};
 use fc_device::NoMemory;
-use fc_names::{Path, PathError, read_path};
+use fc_names::{Path, read_path};
 use std::alloc::Global;
 
 // The path of a command.
 fn command_path(alloc: Global, text: &str) -> Result<Path, LineError>
     ensures { Gives (λ path. path) result (read_path_of text.now) }
 {
-    match read_path(alloc, text.as_bytes()) {
-        Ok(path) => Ok(path),
-        Err(PathError::BadName) => Err(LineError::BadName),
-        Err(PathError::NoMemory) => Err(LineError::NoMemory),
-    }
+    Ok(read_path(alloc, text.as_bytes())?)
 }
 
 // A command without arguments.
@@ -121,9 +117,7 @@ fn read_save(
         return Err(LineError::BadCommand);
     };
     let path = command_path(alloc, path)?;
-    let Ok(bytes) = read_bytes(alloc, digits) else {
-        return Err(LineError::NoMemory);
-    };
+    let bytes = read_bytes(alloc, digits)?;
     Ok(Command::Save {
         path,
         load,

@@ -10,14 +10,14 @@ write_volume-requires-clause-on_disk g c =
     sectors_reach c.args.f _ _ _ c.shape.ensures.size (g.met.D.Disk.whole_sectors c.shape.new.self)
     (omega (arith, c.shape.ensures.length, c.if-have-need.false, c.length-have.ensures, c.size-need.ensures))
 
-pub returns-in-Ok-clause-keeps : goal.returns-in-Ok-clause-keeps
-returns-in-Ok-clause-keeps g c =
+pub returns-clause-keeps : goal.returns-clause-keeps
+returns-clause-keeps g c =
     let law = laws g.met.D.Disk in
     c.write_volume.ensures.keeps c.args.disk.now (format_size c.args.f) (omega arith)
     (keeps_same law (keeps_start law (λ image. refl) c.args.disk.now c.requires.settled) c.shape.ensures.stops c.shape.ensures.bytes)
 
-pub returns-in-Err-clause-keeps : goal.returns-in-Err-clause-keeps
-returns-in-Err-clause-keeps g c =
+pub returns-in_err-write_volume-clause-keeps : goal.returns-in_err-write_volume-clause-keeps
+returns-in_err-write_volume-clause-keeps g c =
     let law = laws g.met.D.Disk in
     c.write_volume.ensures.keeps c.args.disk.now (format_size c.args.f) (omega arith)
     (keeps_same law (keeps_start law (λ image. refl) c.args.disk.now c.requires.settled) c.shape.ensures.stops c.shape.ensures.bytes)
