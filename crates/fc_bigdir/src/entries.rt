@@ -74,23 +74,18 @@ pub fn read_entries(
 {
     let start = entries_start(b, second_form);
     let count = word_at(b, 16) as usize;
-    let Ok(mut entries) = Vec::with_capacity(alloc, count) else {
-        return Err(DirError::NoMemory);
-    };
+    let mut entries = Vec::with_capacity(alloc, count)?;
     let mut packed = 0;
     for i in 0..count {
         let at = start + ENTRY * i;
-        let Ok(read) = read_entry(alloc, heap, &b[at..at + ENTRY]) else {
-            return Err(DirError::NoMemory);
-        };
-        match read {
+        match read_entry(alloc, heap, &b[at..at + ENTRY])? {
             Some(e) => {
                 packed += name_space(&e.name);
                 if entries.push(e).is_err() {
                     return Err(DirError::NoMemory);
                 }
             }
-            None => return Err(DirError::Fault(DirFault::BadEntry { at: i as u32 })),
+            None => return Err(DirFault::BadEntry { at: i as u32 }.into()),
         }
     }
     Ok((entries, packed))
@@ -105,9 +100,7 @@ pub fn read_places(alloc: Global, b: &[u8], second_form: bool) -> Result<Vec<u32
 {
     let start = entries_start(b, second_form);
     let count = word_at(b, 16) as usize;
-    let Ok(mut places) = Vec::with_capacity(alloc, count) else {
-        return Err(DirError::NoMemory);
-    };
+    let mut places = Vec::with_capacity(alloc, count)?;
     for i in 0..count {
         if places.push(word_at(b, start + ENTRY * i + 24)).is_err() {
             return Err(DirError::NoMemory);

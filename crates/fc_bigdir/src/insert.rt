@@ -33,9 +33,8 @@ impl BigDir {
         let Some(room) = self.room_with(&e) else {
             return Err(InsertError::DirFull);
         };
-        if self.entries.reserve(1).is_err() || self.places.reserve(1).is_err() {
-            return Err(InsertError::NoMemory);
-        }
+        self.entries.reserve(1)?;
+        self.places.reserve(1)?;
         if !enter(&mut self.heap, &mut self.places, &mut self.entries, e, room) {
             return Err(InsertError::NoMemory);
         }

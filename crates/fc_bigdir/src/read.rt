@@ -42,10 +42,9 @@ fn check_twins(alloc: Global, entries: &[Entry]) -> Result<(), DirError>
     ensures ok { OnOk result (first_twin entries.now ≡ None) }
     ensures err { IfErr result (IsFaultOf (option_map faults.Twin (first_twin entries.now))) }
 {
-    match first_twin(alloc, entries) {
-        Ok(None) => Ok(()),
-        Ok(Some(at)) => Err(DirError::Fault(DirFault::Twin { at })),
-        Err(_) => Err(DirError::NoMemory),
+    match first_twin(alloc, entries)? {
+        None => Ok(()),
+        Some(at) => Err(DirFault::Twin { at }.into()),
     }
 }
 
@@ -61,12 +60,8 @@ fn read_parts(alloc: Global, b: &[u8], second_form: bool) -> Result<BigDir, DirE
     let (entries, packed) = read_entries(alloc, b, second_form, heap)?;
     check_twins(alloc, &entries)?;
     let places = read_places(alloc, b, second_form)?;
-    let (Ok(name), Ok(heap)) = (
-        Vec::from_slice(alloc, head_name(b, second_form)),
-        Vec::from_slice(alloc, heap),
-    ) else {
-        return Err(DirError::NoMemory);
-    };
+    let name = Vec::from_slice(alloc, head_name(b, second_form))?;
+    let heap = Vec::from_slice(alloc, heap)?;
     Ok(BigDir {
         size: b.len() as u32,
         sequence: b[0],
@@ -89,9 +84,6 @@ impl BigDir {
         ensures ok { IfOk result (λ dir. IsBigDir b.now dir) }
         ensures err { IfErr result (IsFaultOf (big_fault b.now)) }
     {
-        match read_frame(b) {
-            Ok(second_form) => read_parts(alloc, b, second_form),
-            Err(fault) => Err(DirError::Fault(fault)),
-        }
+        read_parts(alloc, b, read_frame(b)?)
     }
 }

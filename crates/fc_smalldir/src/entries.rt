@@ -66,21 +66,16 @@ pub fn read_entries(
     ensures ok { IfOk result (λ entries. AreRead form b.now entries.items) }
     ensures err { IfErr result (IsFaultOf (option_map faults.BadEntry (first_nameless (small_entries form b.now)))) }
 {
-    let Ok(mut entries) = Vec::with_capacity(alloc, count) else {
-        return Err(DirError::NoMemory);
-    };
+    let mut entries = Vec::with_capacity(alloc, count)?;
     for i in 0..count {
         let at = HEAD + ENTRY * i;
-        let Ok(read) = read_entry(alloc, &b[at..at + ENTRY], form) else {
-            return Err(DirError::NoMemory);
-        };
-        match read {
+        match read_entry(alloc, &b[at..at + ENTRY], form)? {
             Some(e) => {
                 if entries.push(e).is_err() {
                     return Err(DirError::NoMemory);
                 }
             }
-            None => return Err(DirError::Fault(DirFault::BadEntry { at: i as u32 })),
+            None => return Err(DirFault::BadEntry { at: i as u32 }.into()),
         }
     }
     Ok(entries)

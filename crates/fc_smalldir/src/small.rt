@@ -74,18 +74,18 @@ impl SmallDir {
         ensures err { IfErr result (IsFaultOf (small_fault form b.now)) }
     {
         if !is_magic_right(b, form) {
-            return Err(DirError::Fault(DirFault::Magic));
+            return Err(DirFault::Magic.into());
         }
         if !is_sequence_right(b, form) {
-            return Err(DirError::Fault(DirFault::Sequence));
+            return Err(DirFault::Sequence.into());
         }
         let count = count_entries(b, form);
         if !is_check_right(b, form, count) {
-            return Err(DirError::Fault(DirFault::Check));
+            return Err(DirFault::Check.into());
         }
         let entries = read_entries(alloc, b, form, count)?;
         if let Some(at) = first_twin(&entries) {
-            return Err(DirError::Fault(DirFault::Twin { at }));
+            return Err(DirFault::Twin { at }.into());
         }
         Ok(SmallDir {
             head: read_head(b, form),

@@ -16,8 +16,8 @@ returns-in-None-clause-err c =
     let form = c.args.second_form in
     let i = c.loop-i.i in
     let slice = entry_slice form b c.entries_start-start.result i c.entries_start-start.ensures.start in
-    let wrong : is_entry_right (heap_of form b) (entry_bytes form b i) ≡ false = rw (← c.requires.heap, ← slice) (rw c.in-None.is at c.in-Ok-read_entry.ensures.says) in
-    ap (option_map BadEntry) (bad_found form b i (omega (arith, c.word_at-count.ensures)) c.loop-i.invariant.1 wrong)
+    let wrong : is_entry_right (heap_of form b) (entry_bytes form b i) ≡ false = rw (← c.requires.heap, ← slice) (rw c.in-None.is at c.in_ok-e.ensures.says) in
+    rw c.into.ensures (ap (option_map BadEntry) (bad_found form b i (omega (arith, c.word_at-count.ensures)) c.loop-i.invariant.1 wrong))
 
 pub loop-i-preserved : goal.loop-i-preserved
 loop-i-preserved c =
@@ -26,8 +26,8 @@ loop-i-preserved c =
     let i = c.loop-i.i in
     let heap = heap_of form b in
     let slice = entry_slice form b c.entries_start-start.result i c.entries_start-start.ensures.start in
-    let here : c.in-Some.e ≡ big_entry heap (entry_bytes form b i) = rw (← c.requires.heap, ← slice) (rw c.in-Some.is at c.in-Ok-read_entry.ensures.says) in
-    let right : is_entry_right heap (entry_bytes form b i) ≡ true = rw (← c.requires.heap, ← slice) (rw c.in-Some.is at c.in-Ok-read_entry.ensures.right) in
+    let here : c.in-Some.e ≡ big_entry heap (entry_bytes form b i) = rw (← c.requires.heap, ← slice) (rw c.in-Some.is at c.in_ok-e.ensures.says) in
+    let right : is_entry_right heap (entry_bytes form b i) ≡ true = rw (← c.requires.heap, ← slice) (rw c.in-Some.is at c.in_ok-e.ensures.right) in
     let done : is_ok c.push.result ≡ true = c.is_err.ensures.negation ∙ ap not c.if-is_err.false in
     let pushed : c.push.new.self.items ≡ c.loop-i.entries.items ++ c.in-Some.e ∷ [] = rw done at c.push.ensures.items in (
       pushed ∙ ap (λ l. l ++ c.in-Some.e ∷ []) c.loop-i.invariant.0

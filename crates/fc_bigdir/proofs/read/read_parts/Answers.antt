@@ -39,7 +39,7 @@ invariant_of-result c =
     let right : first_bad_entry (has_second_form b) b ≡ None = ap (λ form. first_bad_entry form b) (sym c.requires.form) ∙ c.in_ok-entries.ensures.right in
     let entries = c.deref.ensures.value ∙ c.in_ok-entries.ensures.ok ∙ ap (λ form. big_entries form b) c.requires.form in
     let apart : first_twin (big_entries (has_second_form b) b) ≡ None = ap first_twin (sym entries) ∙ c.in_ok-check_twins.ensures.ok in
-    let says = same_parts b _ _ _ _ _ _ _ _ _ refl refl c.word_at.ensures (c.in-Ok-Ok.ensures.items ∙ c.head_name.ensures) c.requires.form c.array_at.ensures (c.in-Ok-Ok.ensures'.items ∙ c.heap_of-heap.ensures)
+    let says = same_parts b _ _ _ _ _ _ _ _ _ refl refl c.word_at.ensures (c.in_ok-name.ensures.items ∙ c.head_name.ensures) c.requires.form c.array_at.ensures (c.in_ok-heap.ensures.items ∙ c.heap_of-heap.ensures)
     c.in_ok-places.ensures.ok c.in_ok-entries.ensures.ok in
     record {
       big = subst IsBig (sym says) (says_big b (λ i. omega (arith, c.type_inv.b i)) c.requires.frame right apart);
@@ -52,6 +52,6 @@ returns-clause-ok c =
     let right : first_bad_entry (has_second_form b) b ≡ None = ap (λ form. first_bad_entry form b) (sym c.requires.form) ∙ c.in_ok-entries.ensures.right in
     let entries = c.deref.ensures.value ∙ c.in_ok-entries.ensures.ok ∙ ap (λ form. big_entries form b) c.requires.form in
     let apart : first_twin (big_entries (has_second_form b) b) ≡ None = ap first_twin (sym entries) ∙ c.in_ok-check_twins.ensures.ok in
-    let says = same_parts b _ _ _ _ _ _ _ _ _ refl refl c.word_at.ensures (c.in-Ok-Ok.ensures.items ∙ c.head_name.ensures) c.requires.form c.array_at.ensures (c.in-Ok-Ok.ensures'.items ∙ c.heap_of-heap.ensures)
+    let says = same_parts b _ _ _ _ _ _ _ _ _ refl refl c.word_at.ensures (c.in_ok-name.ensures.items ∙ c.head_name.ensures) c.requires.form c.array_at.ensures (c.in_ok-heap.ensures.items ∙ c.heap_of-heap.ensures)
     c.in_ok-places.ensures.ok c.in_ok-entries.ensures.ok in
     record { right = no_fault b c.requires.frame right apart; says = sym says }

@@ -10,7 +10,7 @@ use Rattle.fc_bigdir.proofs.big.BigDir.insert.Goals as goal
 pub enter-requires-clause-many : goal.enter-requires-clause-many
 enter-requires-clause-many c =
     let many = places_as_many _ _ _ c.self.invariant.big.names in
-    omega (arith, many, c.reserve.ensures.len, c.reserve-else-is_err.ensures.len, c.self.inside.entries.ok, c.self.inside.places.ok)
+    omega (arith, many, c.reserve.ensures.len, c.reserve-2.ensures.len, c.self.inside.entries.ok, c.self.inside.places.ok)
 
 pub invariant_of-self-2 : goal.invariant_of-self-2
 invariant_of-self-2 c =
@@ -20,7 +20,7 @@ invariant_of-self-2 c =
     let done = c.if-not-enter.ensures in
     let same = c.reserve.ensures.items in
     let heap = done.heap ∙ ap (entered_heap room.is_loose heap0 e) same in
-    let places = done.places ∙ ap₂ (λ p es. entered_places room.is_loose heap0 p e es) c.reserve-else-is_err.ensures.items same in
+    let places = done.places ∙ ap₂ (λ p es. entered_places room.is_loose heap0 p e es) c.reserve-2.ensures.items same in
     let entries = done.entries ∙ ap (with_entry e) same in
     let found : HasRoomFor e (dir_of c.self.inside.size c.self.inside.sequence c.self.inside.parent c.self.inside.name.items c.self.inside.second_form c.self.inside.reserved heap0 c.self.inside.places.items c.self.inside.entries.items) room =
     subst (λ d. HasRoomFor e d room) (sym c.self.view_is) c.in-Some.ensures.room in

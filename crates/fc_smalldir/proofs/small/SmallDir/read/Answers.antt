@@ -8,16 +8,17 @@ use Rattle.fc_smalldir.proofs.FaultLemmas.{IsChecked, fault_magic, fault_sequenc
 use Rattle.fc_smalldir.proofs.small.SmallDir.read.Goals as goal
 
 pub returns-then-not-is_magic_right-clause-err : goal.returns-then-not-is_magic_right-clause-err
-returns-then-not-is_magic_right-clause-err c = fault_magic c.args.form c.args.b.now (sym c.is_magic_right.ensures ∙ c.if-not-is_magic_right.true)
+returns-then-not-is_magic_right-clause-err c = rw c.into.ensures (fault_magic c.args.form c.args.b.now (sym c.is_magic_right.ensures ∙ c.if-not-is_magic_right.true))
 
 pub returns-then-not-is_sequence_right-clause-err : goal.returns-then-not-is_sequence_right-clause-err
 returns-then-not-is_sequence_right-clause-err c =
-    fault_sequence c.args.form c.args.b.now (sym c.is_magic_right.ensures ∙ c.if-not-is_magic_right.false) (sym c.is_sequence_right.ensures ∙ c.if-not-is_sequence_right.true)
+    rw c.into-then-not-is_sequence_right.ensures (fault_sequence c.args.form c.args.b.now (sym c.is_magic_right.ensures ∙ c.if-not-is_magic_right.false) (sym c.is_sequence_right.ensures ∙ c.if-not-is_sequence_right.true))
 
 pub returns-then-not-is_check_right-clause-err : goal.returns-then-not-is_check_right-clause-err
 returns-then-not-is_check_right-clause-err c =
-    fault_check c.args.form c.args.b.now (sym c.is_magic_right.ensures ∙ c.if-not-is_magic_right.false) (sym c.is_sequence_right.ensures ∙ c.if-not-is_sequence_right.false)
-    (sym c.is_check_right.ensures ∙ c.if-not-is_check_right.true)
+    rw c.into-then-not-is_check_right.ensures
+    (fault_check c.args.form c.args.b.now (sym c.is_magic_right.ensures ∙ c.if-not-is_magic_right.false) (sym c.is_sequence_right.ensures ∙ c.if-not-is_sequence_right.false)
+    (sym c.is_check_right.ensures ∙ c.if-not-is_check_right.true))
 
 pub returns-in_err-entries-clause-err : goal.returns-in_err-entries-clause-err
 returns-in_err-entries-clause-err c =
@@ -41,7 +42,7 @@ returns-in-Some-clause-err c =
       sequence = sym c.is_sequence_right.ensures ∙ c.if-not-is_sequence_right.false;
       check = sym c.is_check_right.ensures ∙ c.if-not-is_check_right.false;
     } in
-    fault_twin c.args.form c.args.b.now c.in_ok-entries.entries.items c.in-Some.at checked c.in_ok-entries.ensures.ok (c.in-Some.ensures ∙ ap first_twin c.deref.ensures.value)
+    rw c.into-in-Some.ensures (fault_twin c.args.form c.args.b.now c.in_ok-entries.entries.items c.in-Some.at checked c.in_ok-entries.ensures.ok (c.in-Some.ensures ∙ ap first_twin c.deref.ensures.value))
 
 pub invariant_of-result : goal.invariant_of-result
 invariant_of-result c =
