@@ -29,8 +29,5 @@ pub fn old_place(
     if address % units != 0 || first + sectors > u64::from(map.disc_units() / units) {
         return Err(PlaceError::Outside);
     }
-    match vec![in alloc; Extent { first, sectors }; 1] {
-        Ok(place) => Ok(place),
-        Err(_) => Err(PlaceError::NoMemory),
-    }
+    Ok(vec![in alloc; Extent { first, sectors }; 1]?)
 }

@@ -7,6 +7,7 @@ ghost use Rattle.fc_names.specs.Names.{Path};
 ghost use Rattle.fc_dirs.specs.Directory.{directory_size};
 ghost use Rattle.fc_space.specs.Space.{layout_of};
 ghost use Rattle.fc_tree.specs.Taken.{AreTaken};
+ghost use Rattle.fc_tree.specs.Unplaced.{unplaced};
 
 use crate::taken::Taken;
 use fc_dirs::Entry;
@@ -22,6 +23,19 @@ pub enum ClaimError {
     /// One of its sectors is taken.
     Overlap,
     NoMemory,
+}
+
+impl From<PlaceError> for ClaimError {
+    ghost from_gives = { λ error answer. answer ≡ unplaced error };
+
+    fn from(error: PlaceError) -> Self
+        ensures { result ≡ unplaced error }
+    {
+        match error {
+            PlaceError::Outside => ClaimError::Outside,
+            PlaceError::NoMemory => ClaimError::NoMemory,
+        }
+    }
 }
 
 /// The bytes of a directory whose entry gives this length.
@@ -63,13 +77,10 @@ pub fn claim(
     ensures err { OnErr result (taken.new ≡ taken.old) }
 {
     let bytes = u64::from(object_size(places.dir_form(), entry));
-    match places.place_of(alloc, entry.address, bytes) {
-        Ok(place) if taken.are_free(&place) => {
-            taken.take(&place);
-            Ok(())
-        }
-        Ok(_) => Err(ClaimError::Overlap),
-        Err(PlaceError::Outside) => Err(ClaimError::Outside),
-        Err(PlaceError::NoMemory) => Err(ClaimError::NoMemory),
+    let place = places.place_of(alloc, entry.address, bytes)?;
+    if !taken.are_free(&place) {
+        return Err(ClaimError::Overlap);
     }
+    taken.take(&place);
+    Ok(())
 }

@@ -32,12 +32,9 @@ fn push_child(nodes: &mut Vec<Node>, at: usize, entry: &Entry) -> Result<(), Tre
     ensures ok { OnOk result (nodes.new.items ≡ nodes.old.items ++ record { holder = at; entry = entry.now; body = bodies.File } ∷ []) }
     ensures err { IfErr result (λ e. e ≡ TreeError.NoMemory) }
 {
-    let Ok(entry) = entry.copied() else {
-        return Err(TreeError::NoMemory);
-    };
     let node = Node {
         holder: at as u64,
-        entry,
+        entry: entry.copied()?,
         body: Body::File,
     };
     push_node(nodes, node)
@@ -67,9 +64,7 @@ fn add_child(
         Ok(()) => return push_child(nodes, at, entry),
         Err(unclaimed) => unclaimed,
     };
-    let Ok(path) = path_in(alloc, nodes, at, &entry.name) else {
-        return Err(TreeError::NoMemory);
-    };
+    let path = path_in(alloc, nodes, at, &entry.name)?;
     match unclaimed {
         ClaimError::Outside => Err(TreeError::Image(ImageFault::Place { path })),
         ClaimError::Overlap => Err(TreeError::Image(ImageFault::Overlap { path })),

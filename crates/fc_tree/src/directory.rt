@@ -19,7 +19,7 @@ ghost use Rattle.fc_tree.specs.Walking.{FailsAs, HoldsObject, IsDamaged, IsSaidB
 use crate::contents::add_children;
 use crate::node::{Body, Node, TreeError};
 use crate::paths::path_of;
-use crate::reading::{ReadError, read_object};
+use crate::reading::read_object;
 use crate::taken::Taken;
 use fc_bigdir::BigDir;
 use fc_checks::is_big_size;
@@ -108,11 +108,7 @@ fn read_directory<D: Disk>(
         places.places_suffice();
         return Err(damage_at(alloc, nodes, at, DirFault::Size));
     }
-    match read_object(alloc, disk, places, &node.entry, bytes) {
-        Ok(()) => {}
-        Err(ReadError::DiskFault) => return Err(TreeError::DiskFault),
-        Err(ReadError::NoMemory) => return Err(TreeError::NoMemory),
-    }
+    read_object(alloc, disk, places, &node.entry, bytes)?;
     match body_of(alloc, form, bytes) {
         Ok(body) => Ok(body),
         Err(DirError::Fault(fault)) => Err(damage_at(alloc, nodes, at, fault)),

@@ -53,8 +53,5 @@ pub fn load<D: Disk>(
     ensures cause { result ≡ Err TreeError.DiskFault → Rose (D.faults disk.old) (D.faults disk.new) }
 {
     let nodes = walk_disk(alloc, disk, places, root, root_size, reserved)?;
-    match Tree::from_nodes(alloc, nodes) {
-        Ok(tree) => Ok(tree),
-        Err(_) => Err(TreeError::NoMemory),
-    }
+    Ok(Tree::from_nodes(alloc, nodes)?)
 }

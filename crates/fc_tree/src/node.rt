@@ -1,6 +1,11 @@
 // Nodes of trees.
+ghost use Rattle.std.specs.Prelude.{◌≡◌};
+ghost use Rattle.fc_tree.specs.declared.node.TreeError.TheVariants as errors;
+ghost use Rattle.fc_tree.specs.Unread.{unread};
 
+use crate::reading::ReadError;
 use fc_bigdir::BigDir;
+use fc_device::NoMemory;
 use fc_dirs::Entry;
 use fc_image::ImageFault;
 use fc_smalldir::SmallDir;
@@ -41,4 +46,27 @@ pub enum TreeError {
     /// A read failed.
     DiskFault,
     NoMemory,
+}
+
+impl From<ReadError> for TreeError {
+    ghost from_gives = { λ error answer. answer ≡ unread error };
+
+    fn from(error: ReadError) -> Self
+        ensures { result ≡ unread error }
+    {
+        match error {
+            ReadError::DiskFault => TreeError::DiskFault,
+            ReadError::NoMemory => TreeError::NoMemory,
+        }
+    }
+}
+
+impl From<NoMemory> for TreeError {
+    ghost from_gives = { λ _ answer. answer ≡ errors.NoMemory };
+
+    fn from(_: NoMemory) -> Self
+        ensures { result ≡ errors.NoMemory }
+    {
+        TreeError::NoMemory
+    }
 }

@@ -11,9 +11,10 @@ ghost use Rattle.fc_image.specs.Layout.{dir_form, disc_sectors, sector_bytes, se
 ghost use Rattle.fc_image.specs.Walk.{Object, object_bytes, object_size};
 ghost use Rattle.fc_space.specs.Space.{layout_of};
 ghost use Rattle.fc_tree.specs.Calls.{entry_sectors};
+ghost use Rattle.fc_tree.specs.declared.reading.ReadError.TheVariants as errors;
 
 use crate::claim::object_size;
-use fc_device::{Disk, Extent};
+use fc_device::{Disk, DiskFault, Extent};
 use fc_dirs::Entry;
 use fc_objects::ObjectReader;
 use fc_space::{PlaceError, Places};
@@ -24,6 +25,16 @@ use std::alloc::Global;
 pub enum ReadError {
     DiskFault,
     NoMemory,
+}
+
+impl From<DiskFault> for ReadError {
+    ghost from_gives = { λ _ e. e ≡ errors.DiskFault };
+
+    fn from(_: DiskFault) -> Self
+        ensures { result ≡ errors.DiskFault }
+    {
+        ReadError::DiskFault
+    }
 }
 
 // How many bytes are read at once.
@@ -49,9 +60,7 @@ fn append_bytes<D: Disk>(
     let mut reader = ObjectReader::new(place, size, len);
     let mut block = [0; BLOCK];
     loop {
-        let Ok(count) = reader.read(disk, &mut block) else {
-            return Err(ReadError::DiskFault);
-        };
+        let count = reader.read(disk, &mut block)?;
         if count == 0 {
             return Ok(());
         }

@@ -149,12 +149,8 @@ pub fn walk_disk<D: Disk>(
     ensures cause { result ≡ Err TreeError.DiskFault → Rose (D.faults disk.old) (D.faults disk.new) }
 {
     let space = places.space();
-    let Ok(mut taken) = reserve(alloc, space, reserved) else {
-        return Err(TreeError::NoMemory);
-    };
-    let Ok(node) = root_node(alloc, space.dir_form(), root, root_size) else {
-        return Err(TreeError::NoMemory);
-    };
+    let mut taken = reserve(alloc, space, reserved)?;
+    let node = root_node(alloc, space.dir_form(), root, root_size)?;
     claim_root(alloc, places, &mut taken, &node.entry)?;
     let mut nodes = Vec::new(alloc);
     push_node(&mut nodes, node)?;

@@ -25,19 +25,19 @@ body_of-requires g c =
     let node = c.in-Some.node.now in
     let is : slice_get c.args.nodes.now c.args.at ≡ Some node = slice_get_read c.args.nodes.now (length c.args.nodes.now) c.args.at node refl h.3.0 h.1 in
     let size : length c.deref.result.now ≡ directory_size (dir_form layout) node.entry.len =
-    ap length c.deref.ensures.value ∙ c.in-Ok.ensures.long ∙ node_size layout c.args.nodes.now c.args.at c.requires.there.0 c.requires.there.1 node is c.requires.there.2 in
+    ap length c.deref.ensures.value ∙ c.in_ok-read_object.ensures.long ∙ node_size layout c.args.nodes.now c.args.at c.requires.there.0 c.requires.there.1 node is c.requires.there.2 in
     size_again c.dir_form-form.result node.entry.len (length c.deref.result.now) (size ∙ ap (λ f. directory_size f node.entry.len) (sym c.dir_form-form.ensures))
 
-pub returns-in-Ok-body_of-clause-ok : goal.returns-in-Ok-body_of-clause-ok
-returns-in-Ok-body_of-clause-ok g c = λ o stands.
+pub returns-in-Ok-clause-ok : goal.returns-in-Ok-clause-ok
+returns-in-Ok-clause-ok g c = λ o stands.
     let h = c.in-Some.ensures.lookup in
     let layout = layout_of c.args.places.now in
     let node = c.in-Some.node.now in
     let is : slice_get c.args.nodes.now c.args.at ≡ Some node = slice_get_read c.args.nodes.now (length c.args.nodes.now) c.args.at node refl h.3.0 h.1 in
     let size : length c.deref.result.now ≡ directory_size (dir_form layout) node.entry.len =
-    ap length c.deref.ensures.value ∙ c.in-Ok.ensures.long ∙ node_size layout c.args.nodes.now c.args.at c.requires.there.0 c.requires.there.1 node is c.requires.there.2 in
+    ap length c.deref.ensures.value ∙ c.in_ok-read_object.ensures.long ∙ node_size layout c.args.nodes.now c.args.at c.requires.there.0 c.requires.there.1 node is c.requires.there.2 in
     node_says layout c.args.nodes.now c.args.at o stands node is (g.D.Disk.bytes c.args.disk.now) c.dir_form-form.result c.deref.result.now c.dir_form-form.ensures size
-    (λ image told p e at. c.deref.ensures.value ∙ c.in-Ok.ensures.bytes image told p e at) c.in-Ok-body_of.body c.in-Ok-body_of.ensures.ok
+    (λ image told p e at. c.deref.ensures.value ∙ c.in_ok-read_object.ensures.bytes image told p e at) c.in-Ok.body c.in-Ok.ensures.ok
 
 pub returns-in-Err-Fault-clause-err : goal.returns-in-Err-Fault-clause-err
 returns-in-Err-Fault-clause-err g c = λ o stands.
@@ -46,9 +46,9 @@ returns-in-Err-Fault-clause-err g c = λ o stands.
     let node = c.in-Some.node.now in
     let is : slice_get c.args.nodes.now c.args.at ≡ Some node = slice_get_read c.args.nodes.now (length c.args.nodes.now) c.args.at node refl h.3.0 h.1 in
     let size : length c.deref.result.now ≡ directory_size (dir_form layout) node.entry.len =
-    ap length c.deref.ensures.value ∙ c.in-Ok.ensures.long ∙ node_size layout c.args.nodes.now c.args.at c.requires.there.0 c.requires.there.1 node is c.requires.there.2 in
+    ap length c.deref.ensures.value ∙ c.in_ok-read_object.ensures.long ∙ node_size layout c.args.nodes.now c.args.at c.requires.there.0 c.requires.there.1 node is c.requires.there.2 in
     node_fails layout c.args.nodes.now c.args.at o stands node is (g.D.Disk.bytes c.args.disk.now) c.dir_form-form.result c.deref.result.now c.dir_form-form.ensures size
-    (λ image told p e at. c.deref.ensures.value ∙ c.in-Ok.ensures.bytes image told p e at) c.in-Err-Fault.fault c.damage_at-in-Err-Fault.result
+    (λ image told p e at. c.deref.ensures.value ∙ c.in_ok-read_object.ensures.bytes image told p e at) c.in-Err-Fault.fault c.damage_at-in-Err-Fault.result
     (subst (λ e. IsSaidBy (directory_of c.dir_form-form.result c.deref.result.now) e) c.in-Err-Fault.field-0-is c.in-Err-Fault.ensures.err)
     (subst (λ p. IsDamaged p c.in-Err-Fault.fault c.damage_at-in-Err-Fault.result) (sym stands.path) (c.damage_at-in-Err-Fault.ensures stands.names stands.leads))
 

@@ -6,14 +6,14 @@ use Rattle.fc_tree.proofs.CallLemmas.{of_tree}
 use Rattle.fc_tree.proofs.LoadedLemmas.{loaded}
 use Rattle.fc_tree.proofs.loading.load.Goals as goal
 
-pub returns-in-Ok-clause-tree : goal.returns-in-Ok-clause-tree
-returns-in-Ok-clause-tree g c =
-    loaded (layout_of c.args.places.now) (sectors_in c.args.reserved.now) c.args.root c.args.root_size (g.D.Disk.bytes c.args.disk.now) c.in_ok-nodes.nodes.items c.in-Ok.tree c.in_ok-nodes.ensures.ok
-    (ap (λ (tree : Numbers). tree.slots) c.in-Ok.ensures)
+pub returns-clause-tree : goal.returns-clause-tree
+returns-clause-tree g c =
+    loaded (layout_of c.args.places.now) (sectors_in c.args.reserved.now) c.args.root c.args.root_size (g.D.Disk.bytes c.args.disk.now) c.in_ok-nodes.nodes.items c.in_ok-from_nodes.field-0 c.in_ok-nodes.ensures.ok
+    (ap (λ (tree : Numbers). tree.slots) c.in_ok-from_nodes.ensures)
 
-pub returns-in-Ok-clause-numbers : goal.returns-in-Ok-clause-numbers
-returns-in-Ok-clause-numbers g c = (c.in_ok-nodes.nodes.items, c.in-Ok.ensures)
+pub returns-clause-numbers : goal.returns-clause-numbers
+returns-clause-numbers g c = (c.in_ok-nodes.nodes.items, c.in_ok-from_nodes.ensures)
 
-pub returns-in-Ok-clause-few : goal.returns-in-Ok-clause-few
-returns-in-Ok-clause-few g c =
-    omega (arith, c.in_ok-nodes.ensures.few, of_tree (layout_of c.args.places.now) c.in_ok-nodes.nodes.items c.in-Ok.tree (ap (λ (tree : Numbers). tree.slots) c.in-Ok.ensures))
+pub returns-clause-few : goal.returns-clause-few
+returns-clause-few g c =
+    omega (arith, c.in_ok-nodes.ensures.few, of_tree (layout_of c.args.places.now) c.in_ok-nodes.nodes.items c.in_ok-from_nodes.field-0 (ap (λ (tree : Numbers). tree.slots) c.in_ok-from_nodes.ensures))

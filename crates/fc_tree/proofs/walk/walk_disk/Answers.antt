@@ -22,28 +22,28 @@ use Rattle.fc_tree.proofs.walk.walk_disk.Goals as goal
 pub returns-in_err-claim_root-clause-err : goal.returns-in_err-claim_root-clause-err
 returns-in_err-claim_root-clause-err g c =
     let same : c.space-space.result.now ≡ c.args.places.now = c.space-space.ensures in
-    let p = err_from_is_err_and c.from_residual.result c.from_residual.ensures.1 in
+    let p = err_from_is_err_and c.from_residual-in_err-claim_root.result c.from_residual-in_err-claim_root.ensures.1 in
     let layout = layout_of c.args.places.now in
     let reserved = not_free layout (sectors_in c.args.reserved.now) in
     rw (p.1, p.2) (λ image told. root_fails (reader_of image layout) layout reserved c.args.root c.args.root_size c.in_err-claim_root.field-0.0
     (subst (λ n. FailsAs (object_of layout reserved [] (root_entry c.args.root n)) c.in_err-claim_root.field-0.0) (ap (λ f. directory_size f c.args.root_size) (rw same at c.dir_form.ensures))
-    (subst (λ e. FailsAs (object_of layout reserved [] e) c.in_err-claim_root.field-0.0) (ap (λ n. n.entry) c.in-Ok-root_node.ensures) (c.in_err-claim_root.ensures.err reserved (rw same at c.in-Ok.ensures.taken)))))
+    (subst (λ e. FailsAs (object_of layout reserved [] e) c.in_err-claim_root.field-0.0) (ap (λ n. n.entry) c.in_ok-node.ensures) (c.in_err-claim_root.ensures.err reserved (rw same at c.in_ok-taken.ensures.taken)))))
 
 pub loop-at-init : goal.loop-at-init
 loop-at-init g c =
     let same : c.space-space.result.now ≡ c.args.places.now = c.space-space.ensures in
     let layout = layout_of c.args.places.now in
     let reserved = not_free layout (sectors_in c.args.reserved.now) in
-    let node : c.in-Ok-root_node.node ≡ record { holder = 0; entry = root_entry c.args.root (directory_size (dir_form layout) c.args.root_size); body = bodies.File } =
-    c.in-Ok-root_node.ensures ∙ ap (λ f. let n : Node = record { holder = 0; entry = root_entry c.args.root (directory_size f c.args.root_size); body = bodies.File } in n) (rw same at c.dir_form.ensures) in
-    let nodes : c.push_node.new.nodes.items ≡ c.in-Ok-root_node.node ∷ [] = c.in_ok-push_node.ensures.ok ∙ ap (λ (ns : List Node). ns ++ c.in-Ok-root_node.node ∷ []) c.new-nodes.ensures.items in
+    let node : c.in_ok-node.node ≡ record { holder = 0; entry = root_entry c.args.root (directory_size (dir_form layout) c.args.root_size); body = bodies.File } =
+    c.in_ok-node.ensures ∙ ap (λ f. let n : Node = record { holder = 0; entry = root_entry c.args.root (directory_size f c.args.root_size); body = bodies.File } in n) (rw same at c.dir_form.ensures) in
+    let nodes : c.push_node.new.nodes.items ≡ c.in_ok-node.node ∷ [] = c.in_ok-push_node.ensures.ok ∙ ap (λ (ns : List Node). ns ++ c.in_ok-node.node ∷ []) c.new-nodes.ensures.items in
     record {
       reads = reads_start (laws g.met.D.Disk) c.args.disk.now;
       few = omega arith;
-      sectors = c.claim_root.ensures.sectors ∙ (rw same at c.in-Ok.ensures.sectors);
-      walking = walk_starts layout reserved c.args.root c.args.root_size (g.D.Disk.bytes c.args.disk.now) c.push_node.new.nodes.items c.in-Ok-root_node.node (c.disc_sectors-left.result + 1) c.claim_root.new.taken nodes node
+      sectors = c.claim_root.ensures.sectors ∙ (rw same at c.in_ok-taken.ensures.sectors);
+      walking = walk_starts layout reserved c.args.root c.args.root_size (g.D.Disk.bytes c.args.disk.now) c.push_node.new.nodes.items c.in_ok-node.node (c.disc_sectors-left.result + 1) c.claim_root.new.taken nodes node
           (ap (λ n. n + 1) (rw same at c.disc_sectors-left.ensures.value))
-          (rw (ap (λ n. n.entry) node) at (c.in_ok-claim_root.ensures.ok reserved (rw same at c.in-Ok.ensures.taken)));
+          (rw (ap (λ n. n.entry) node) at (c.in_ok-claim_root.ensures.ok reserved (rw same at c.in_ok-taken.ensures.taken)));
     }
 
 pub overlap_at-requires : goal.overlap_at-requires
@@ -108,7 +108,7 @@ returns-clause-few g c =
 pub returns-clause-ok : goal.returns-clause-ok
 returns-clause-ok g c =
     walk_ends (layout_of c.args.places.now) _ _ _ (g.D.Disk.bytes c.args.disk.now) c.loop-at.nodes.items c.loop-at.from c.loop-at.left c.loop-at.taken c.loop-at.invariant.walking
-    (λ i le. subst (λ ns. IsFileAt ns i) c.deref.ensures.value (c.in_default-next_directory.ensures.none refl i le))
+    (λ i le. subst (λ ns. IsFileAt ns i) c.deref.ensures.value (c.in_default.ensures.none refl i le))
 
 pub returns-then-left-eq0-clause-most : goal.returns-then-left-eq0-clause-most
 returns-then-left-eq0-clause-most g c =
