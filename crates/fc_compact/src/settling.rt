@@ -17,7 +17,7 @@ use crate::laws;
 use crate::sliding::{commit_zone, slide};
 use fc_alloc::Owners;
 use fc_device::{Disk, DiskFault};
-use fc_newmap::NewMap;
+use fc_newmap::{MAP_ID, NewMap};
 use fc_record::Geometry;
 use fc_zone::{Run, RunKind};
 
@@ -42,7 +42,7 @@ ghost use Rattle.fc_compact.specs.Settling.{CanMergeRuns, IsSettledZone, Passes,
 pub fn is_movable(owners: &Owners, id: u32) -> bool
     ensures { result ≡ is_movable_by owners.now id }
 {
-    owners.owned(id) && 3 <= id
+    owners.owned(id) && MAP_ID < id
 }
 
 // Whether a run of `len` bits can slide into a hole of `hole` bits.

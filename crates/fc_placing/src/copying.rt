@@ -5,6 +5,7 @@ ghost use Rattle.fc_placing.specs.Copying.{CopiesLaw, SaysCopied, copied_among};
 
 use crate::leaving::has_other;
 use fc_alloc::Owners;
+use fc_newmap::MAP_ID;
 
 // Whether a node's object is copied if it goes to a directory.
 fn copied_among(owners: &Owners, node: u64, dir: u64) -> bool
@@ -12,7 +13,7 @@ fn copied_among(owners: &Owners, node: u64, dir: u64) -> bool
 {
     match owners.of(node) {
         Some(own) => {
-            own.file && own.dir != dir && (own.id == 2 || has_other(owners, node, own.id))
+            own.file && own.dir != dir && (own.id == MAP_ID || has_other(owners, node, own.id))
         }
         None => false,
     }

@@ -7,6 +7,7 @@ ghost use Rattle.fc_alloc.specs.Owners.{is_node, owns};
 ghost use Rattle.fc_placing.specs.Leaving.{LeavesIds, LeavesUsed, has_other, is_kept, left_among};
 
 use fc_alloc::Owners;
+use fc_newmap::MAP_ID;
 
 // Whether an identifier is the one that is kept.
 fn is_kept(kept: Option<u32>, id: u32) -> bool
@@ -43,7 +44,7 @@ fn left_among(owners: &Owners, node: u64, kept: Option<u32>) -> Option<u32>
 {
     let own = owners.of(node)?;
     let id = own.id;
-    if id == 2 || is_kept(kept, id) || has_other(owners, node, id) {
+    if id == MAP_ID || is_kept(kept, id) || has_other(owners, node, id) {
         return None;
     }
     Some(id)

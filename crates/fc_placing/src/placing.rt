@@ -78,8 +78,5 @@ pub fn place_file(
     if let Some(share) = slack(alloc, map, owners, dir, bytes)? {
         return Ok(Placing::Shared(share));
     }
-    match place_alone(alloc, map, bytes) {
-        Ok(plan) => Ok(Placing::New(plan)),
-        Err(error) => Err(error),
-    }
+    Ok(Placing::New(place_alone(alloc, map, bytes)?))
 }

@@ -1,5 +1,6 @@
 use Rattle.std.proofs.Common.{◌≡◌, ◌∙◌, ap, sym, Some, None}
 use Rattle.std.specs.Option.{option_map}
+use Rattle.std.proofs.lemmas.Result.{err_from_is_err_and}
 use Rattle.fc_slack.specs.Slack.{place_in}
 use Rattle.fc_placing.specs.declared.placing.Placing.TheVariants.{Nowhere, Shared, New}
 use Rattle.fc_placing.specs.declared.placing.Placing.{Placing}
@@ -16,20 +17,21 @@ returns-in-Some-clause-refused c =
     let found : slack_left c.args.map.now c.args.owners.now c.args.dir c.args.bytes ≡ Some (place_in c.in-Some.share) = sym c.in_ok-share.ensures ∙ ap (option_map place_in) c.in-Some.is in
     shared_refused c.args.map.now c.is_map.ensures c.args.owners.now c.args.dir c.args.bytes (Shared c.in-Some.share) (place_in c.in-Some.share) found
 
-pub returns-in-Ok-clause-refused : goal.returns-in-Ok-clause-refused
-returns-in-Ok-clause-refused c =
+pub returns-clause-refused : goal.returns-clause-refused
+returns-clause-refused c =
     let none : slack_left c.args.map.now c.args.owners.now c.args.dir c.args.bytes ≡ None = sym c.in_ok-share.ensures ∙ ap (option_map place_in) c.in_default.is in
-    new_refused c.args.map.now c.is_map.ensures c.args.owners.now c.args.dir c.args.bytes (New c.in-Ok.plan) c.in-Ok.plan none c.in-Ok.ensures.refused
+    new_refused c.args.map.now c.is_map.ensures c.args.owners.now c.args.dir c.args.bytes (New c.in_ok-place_alone.field-0) c.in_ok-place_alone.field-0 none c.in_ok-place_alone.ensures.refused
 
-pub returns-in-Err-clause-refused : goal.returns-in-Err-clause-refused
-returns-in-Err-clause-refused c =
+pub returns-in_err-place_alone-clause-refused : goal.returns-in_err-place_alone-clause-refused
+returns-in_err-place_alone-clause-refused c =
     let none : slack_left c.args.map.now c.args.owners.now c.args.dir c.args.bytes ≡ None = sym c.in_ok-share.ensures ∙ ap (option_map place_in) c.in_default.is in
-    error_refused c.args.map.now c.is_map.ensures c.args.owners.now c.args.dir c.args.bytes Placing c.in-Err.error none c.in-Err.ensures.refused
+    let p = err_from_is_err_and c.from_residual-in_err-place_alone.result c.from_residual-in_err-place_alone.ensures.1 in
+    rw (p.1, p.2) (error_refused c.args.map.now c.is_map.ensures c.args.owners.now c.args.dir c.args.bytes Placing c.in_err-place_alone.field-0.0 none c.in_err-place_alone.ensures.refused)
 
 pub returns-in-Some-clause-id : goal.returns-in-Some-clause-id
 returns-in-Some-clause-id c =
     let found : slack_left c.args.map.now c.args.owners.now c.args.dir c.args.bytes ≡ Some (place_in c.in-Some.share) = sym c.in_ok-share.ensures ∙ ap (option_map place_in) c.in-Some.is in
     share_id c.args.map.now c.is_map.ensures c.args.owners.now c.args.dir c.args.bytes (place_in c.in-Some.share) found
 
-pub returns-in-Ok-clause-id : goal.returns-in-Ok-clause-id
-returns-in-Ok-clause-id c = plan_id c.args.map.now c.is_map.ensures c.args.bytes c.in-Ok.plan c.in-Ok.ensures.place
+pub returns-clause-id : goal.returns-clause-id
+returns-clause-id c = plan_id c.args.map.now c.is_map.ensures c.args.bytes c.in_ok-place_alone.field-0 c.in_ok-place_alone.ensures.place
