@@ -1,6 +1,6 @@
 -- What an image opens as, from the kind, the map and the walk that were found.
 use Rattle.std.proofs.Common.{◌≡◌, ◌<◌, ◌≤◌, ◌∷◌, ◌+◌, ℕ, Bool, true, false, List, [], ◌++◌, length, refl, sym, ap, subst, ◌∙◌, arith}
-use Rattle.std.specs.Prelude.{Option, Some, None, Result, Ok, Err, Contains, is_none, nat_lt}
+use Rattle.std.specs.Prelude.{Option, Some, None, Result, Ok, Err, IfOk, Contains, is_none, nat_lt}
 use Rattle.std.specs.FinMap.{get}
 use Rattle.std.specs.List.{flat_map}
 use Rattle.std.proofs.lemmas.Bool.{lt-ltb, ltb-true}
@@ -34,6 +34,12 @@ use Rattle.fc_volume.specs.declared.lines.MountError.{MountError}
 use Rattle.fc_volume.specs.Answers.{IsFaultOf}
 use Rattle.fc_volume.specs.Mounting.{AreMounted, opened_with}
 use Rattle.fc_volume.specs.Volume.{OnlyShapes}
+
+-- ---- two things that are so of an answer
+
+pub both_of : {X Y : Type 0} (r : Result X Y) (P Q : X → Type 0) → IfOk r P → IfOk r Q → IfOk r (λ x. P x × Q x)
+both_of (Ok x) P Q p q = (p, q)
+both_of (Err e) P Q p q = tt
 
 -- ---- the kind
 

@@ -295,23 +295,6 @@ module _ (image : List ℕ) (layout : Layout) (listings : List Listing) (nodes :
 abbrev pub IsRefused : CommandError → Type 0
 IsRefused error = (refusal : Refusal) × (error ≡ Refused refusal)
 
-refused_file : (n : ℕ) (m : Option Node) → IfErr (file_of n m) IsRefused
-refused_file n None = (refusals.NotFound, refl)
-refused_file n (Some node) = by (is_directory node.entry.attrs)
-  where
-    by : (b : Bool) → (let r : Result FileRef CommandError = if b then Err (Refused refusals.IsDirectory) else Ok (record { len = node.entry.len; node = n }) in IfErr r IsRefused)
-    by true = (refusals.IsDirectory, refl)
-    by false = tt
-
--- only refusals are answered
-pub load_refuses : (nodes : FinMap nat_cmp Node) (path : Path) → IfErr (file_at nodes path) IsRefused
-load_refuses nodes path = by (found_in nodes path)
-  where
-    by : (f : Found) → IfErr (file_from nodes (number_found f)) IsRefused
-    by founds.Absent = (refusals.NotFound, refl)
-    by founds.NotDirectory = (refusals.NotDirectory, refl)
-    by (founds.Node n) = refused_file n (get nodes n)
-
 refused_entries : (m : Option Node) → IfErr (entries_in m) IsRefused
 refused_entries None = (refusals.NotFound, refl)
 refused_entries (Some node) = by node.body

@@ -1,5 +1,5 @@
 -- Small directories, of 2,048 bytes, never grow: no command makes one of such a disc's directories grow.
-use Rattle.std.proofs.Common.{◌≡◌, ℕ, Bool, true, false, cond, not, List, Option, Some, None, refl, sym, ap, subst, ◌∙◌}
+use Rattle.std.proofs.Common.{◌≡◌, ℕ, Bool, true, false, cond, not, Option, Some, None, refl, sym, ap, subst, ◌∙◌}
 use Rattle.std.specs.Prelude.{Contains, is_some, option_map}
 use Rattle.std.specs.Option.{option_and_then}
 use Rattle.std.specs.Str.{bytes_eq}
@@ -13,7 +13,7 @@ use Rattle.fc_model.specs.Tree.{holder, last_name}
 use Rattle.fc_dirs.specs.Small.{SmallDir}
 use Rattle.fc_dirs.specs.Directory.{Directory}
 use Rattle.fc_image.specs.effects.Short.{Gain, gain_at, gain_by_new_name, gain_by_rename, gain_of, growth_in, growth_of, growth_with}
-use Rattle.fc_image.specs.Layout.{Layout, dir_form}
+use Rattle.fc_image.specs.Layout.{dir_form}
 use Rattle.fc_image.specs.Objects.{listing_at, object_at}
 use Rattle.fc_image.specs.Opening.{Opened}
 use Rattle.fc_image.specs.Sound.{AreSound}
@@ -21,13 +21,12 @@ use Rattle.fc_image.specs.Walk.{Listing, Object}
 use Rattle.fc_tree.specs.declared.node.Node.{Node}
 use Rattle.fc_tree.specs.Agree.{Agree, HasForm}
 use Rattle.fc_tree.specs.Nodes.{HoldObjects}
-use Rattle.fc_tree.specs.Parts.{ArePartsOf, Parts}
+use Rattle.fc_tree.specs.Parts.{Parts}
 use Rattle.fc_tree.proofs.FindLemmas.{object_of_number}
 use Rattle.fc_tree.proofs.FoundLemmas.{listing_of_body}
 use Rattle.fc_tree.proofs.WalkedLemmas.{listed_directory, same_some}
 use Rattle.fc_laws.proofs.lemmas.agree.BeforeLemmas.{agreed_law}
 use Rattle.fc_tree.proofs.MemberLemmas.{found_passes}
-use Rattle.fc_volume.specs.Roomy.{IsRoomy}
 use Rattle.fc_volume.proofs.TargetLemmas as target_of
 
 -- a small directory
@@ -99,7 +98,3 @@ module _ (kind : Kind) (parts : Parts) (agree : Agree kind parts) (ten : dir_for
       (ap (λ (x : Node). x.body) same ∙ target_of.says parts.nodes v.layout v.listings sound_v held l listed n has.at_path) in
       small_of_form k.0.object.entry.len l.content
       (subst (λ (f : NameForm). HasForm f k.0.object.entry.len l.content) ten (subst (HasForm (dir_form parts.layout) k.0.object.entry.len) k.3 (agree.walked.forms k.0 k.1)))
-
-  -- No directory of the disc grows, whatever the command.
-  pub small_is_roomy : (c : Command) → IsRoomy parts c
-  small_is_roomy c v sound_v are = none_grows v (all_small v sound_v are.nodes) c

@@ -1,12 +1,15 @@
 // What calls of volumes answer.
 ghost use Rattle.std.specs.Prelude.{◌≡◌};
 ghost use Rattle.fc_volume.specs.declared.lines.CommandError.TheVariants as errors;
+ghost use Rattle.fc_volume.specs.declared.lines.MountError.TheVariants as mount_errors;
+ghost use Rattle.fc_volume.specs.Mounting.{mount_error};
 ghost use Rattle.fc_volume.specs.NoSpace.{no_space};
 
 use fc_device::NoMemory;
 use fc_image::ImageFault;
 use fc_names::{Name, Refusal};
 use fc_plan::PlanError;
+use fc_tree::TreeError;
 
 /// Why a command isn't done.
 #[derive(Clone, Copy)]
@@ -50,6 +53,40 @@ pub enum MountError {
     NoMemory,
     /// A call of the disk failed.
     DiskFault,
+}
+
+impl From<NoMemory> for MountError {
+    ghost from_gives = { λ _ answer. answer ≡ mount_errors.NoMemory };
+
+    fn from(_: NoMemory) -> Self
+        ensures { result ≡ mount_errors.NoMemory }
+    {
+        MountError::NoMemory
+    }
+}
+
+impl From<ImageFault> for MountError {
+    ghost from_gives = { λ fault answer. answer ≡ mount_errors.Image fault };
+
+    fn from(fault: ImageFault) -> Self
+        ensures { result ≡ mount_errors.Image fault }
+    {
+        MountError::Image(fault)
+    }
+}
+
+impl From<TreeError> for MountError {
+    ghost from_gives = { λ error answer. answer ≡ mount_error error };
+
+    fn from(error: TreeError) -> Self
+        ensures { result ≡ mount_error error }
+    {
+        match error {
+            TreeError::Image(fault) => MountError::Image(fault),
+            TreeError::DiskFault => MountError::DiskFault,
+            TreeError::NoMemory => MountError::NoMemory,
+        }
+    }
 }
 
 /// A file of a volume: its length in bytes, and its number in the volume's tree.

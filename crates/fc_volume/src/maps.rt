@@ -173,14 +173,8 @@ fn read_new<D: Disk>(alloc: Global, disk: &mut D, r: &DiscRecord) -> Result<MapF
     ensures cause { result ≡ Err MountError.DiskFault → Rose (D.faults disk.old) (D.faults disk.new) }
 {
     let g = geometry(r);
-    let copy = match read_copy(alloc, disk, &g) {
-        Ok(copy) => copy,
-        Err(error) => return Err(error),
-    };
-    match map_in(copy, r) {
-        Ok(found) => Ok(found),
-        Err(fault) => Err(MountError::Image(fault)),
-    }
+    let copy = read_copy(alloc, disk, &g)?;
+    Ok(map_in(copy, r)?)
 }
 
 // Whether a sector is a sound copy of a map of one zone.
@@ -223,13 +217,8 @@ fn map_of_one(alloc: Global, r: &DiscRecord, front: &Front) -> Result<MapFound, 
     ensures fault { IfErr result (λ e. (image : List ℕ) → HasMapOf image (Kind.OneZone r.now) front.now → IsFaultOf (new_layout image r.now) e) }
     ensures no_fault { result ≡ Err MountError.DiskFault → ⊥ }
 {
-    let Ok(copy) = held_copy(alloc, front) else {
-        return Err(MountError::NoMemory);
-    };
-    match map_in(copy, r) {
-        Ok(found) => Ok(found),
-        Err(fault) => Err(MountError::Image(fault)),
-    }
+    let copy = held_copy(alloc, front)?;
+    Ok(map_in(copy, r)?)
 }
 
 // The old map at the front of a disc of so many units. Its checks, and its units, gave the kind.
@@ -270,15 +259,13 @@ fn map_of_old(
     ensures fault { IfErr result (λ e. (image : List ℕ) → HasOldMap image units front.now.first → IsFaultOf (old_layout image sector_units root) e) }
     ensures no_fault { result ≡ Err MountError.DiskFault → ⊥ }
 {
-    match old_map_in(&front.first, units, sector_units) {
-        Ok(map) => Ok(MapFound {
-            space: Space::OldMapped(map),
-            copies: Copies::Equal,
-            root,
-            root_size: 0,
-        }),
-        Err(fault) => Err(MountError::Image(fault)),
-    }
+    let map = old_map_in(&front.first, units, sector_units)?;
+    Ok(MapFound {
+        space: Space::OldMapped(map),
+        copies: Copies::Equal,
+        root,
+        root_size: 0,
+    })
 }
 
 /// The map of a disk and where its root is, as a disc of a kind whose test the image passes. The disk is attached, has

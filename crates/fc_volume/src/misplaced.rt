@@ -16,7 +16,7 @@ ghost use Rattle.fc_volume.specs.Misplaced.{IsLeast, is_in_loose, is_in_some_loo
 
 use fc_alloc::Owners;
 use fc_device::Extent;
-use fc_newmap::{NewMap, Walk, extent_of};
+use fc_newmap::{MAP_ID, NewMap, Walk, extent_of};
 use fc_record::Kind;
 use fc_space::Space;
 use fc_zone::{Run, RunKind};
@@ -104,7 +104,7 @@ fn is_loose(owners: &Owners, kind: RunKind) -> bool
 {
     match kind {
         RunKind::Hole => true,
-        RunKind::Id(id) => owners.owned(id) && id >= 3,
+        RunKind::Id(id) => owners.owned(id) && MAP_ID < id,
     }
 }
 

@@ -14,7 +14,7 @@ ghost use Rattle.fc_tree.specs.Parts.{ArePartsOf};
 ghost use Rattle.fc_volume.specs.Answers.{IsFaultOf};
 ghost use Rattle.fc_volume.specs.Calls.{map_reads, open_reads, walk_reads};
 ghost use Rattle.fc_volume.specs.Maps.{found_of};
-ghost use Rattle.fc_volume.specs.Mounting.{AreMounted, mount_error, opened_with};
+ghost use Rattle.fc_volume.specs.Mounting.{AreMounted, opened_with};
 ghost use Rattle.fc_volume.specs.Volume.{OnlyShapes, StandsFor, parts_of};
 
 use crate::maps::{MapFound, read_map};
@@ -26,7 +26,7 @@ use fc_image::ImageFault;
 use fc_record::kinds::kind;
 use fc_record::{Front, Kind, KindError};
 use fc_space::{Places, Space};
-use fc_tree::{TreeError, load};
+use fc_tree::load;
 use std::alloc::Global;
 
 // The kind of the disk's image, and what was read of its map on the way.
@@ -70,17 +70,6 @@ fn log2_sector(kind: &Kind) -> u8
     }
 }
 
-// A tree's error as a mount's.
-fn mount_error(error: TreeError) -> MountError
-    ensures { result ≡ mount_error error }
-{
-    match error {
-        TreeError::Image(fault) => MountError::Image(fault),
-        TreeError::DiskFault => MountError::DiskFault,
-        TreeError::NoMemory => MountError::NoMemory,
-    }
-}
-
 // A map with its index.
 fn with_index(alloc: Global, space: Space) -> Result<Places, NoMemory>
     ensures { IfOk result (λ places. places ≡ space) }
@@ -112,18 +101,11 @@ fn volume_of<D: Disk>(
     ensures cause { result ≡ Err MountError.DiskFault → Rose (D.faults disk.old) (D.faults disk.new) }
 {
     fc_image::walking();
-    let Ok(places) = with_index(alloc, found.space) else {
-        return Err(MountError::NoMemory);
-    };
+    let places = with_index(alloc, found.space)?;
     let space = places.space();
     let rows = reserved_rows(kind, space);
-    let tree = match load(alloc, disk, &places, found.root, found.root_size, &rows) {
-        Ok(tree) => tree,
-        Err(error) => return Err(mount_error(error)),
-    };
-    let Ok(owners) = owners_of(alloc, &tree, space) else {
-        return Err(MountError::NoMemory);
-    };
+    let tree = load(alloc, disk, &places, found.root, found.root_size, &rows)?;
+    let owners = owners_of(alloc, &tree, space)?;
     match misplaced_sector(kind, space, &owners) {
         None => Ok(Volume {
             places,
@@ -166,18 +148,9 @@ impl Volume {
     {
         fc_image::opens();
         let mut front = Front::new();
-        let kind = match find_kind(disk, &mut front) {
-            Ok(kind) => kind,
-            Err(error) => return Err(error),
-        };
+        let kind = find_kind(disk, &mut front)?;
         disk.shape(log2_sector(&kind));
-        let found = match read_map(alloc, disk, &kind, &front) {
-            Ok(found) => found,
-            Err(error) => return Err(error),
-        };
-        match volume_of(alloc, disk, &kind, found, read_only) {
-            Ok(volume) => Ok(volume),
-            Err(error) => Err(error),
-        }
+        let found = read_map(alloc, disk, &kind, &front)?;
+        volume_of(alloc, disk, &kind, found, read_only)
     }
 }

@@ -142,10 +142,7 @@ fn lines_at(alloc: Global, tree: &Tree, p: &Path) -> Result<Vec<Line>, CommandEr
     ensures error { IfErr result (λ error. (error ≡ CommandError.NoMemory) ⊎ (entries_at (nodes_of tree.now) p.now ≡ Err error)) }
 {
     let entries = entries_at(tree, p)?;
-    match lines_of(alloc, entries) {
-        Ok(lines) => Ok(lines),
-        Err(NoMemory) => Err(CommandError::NoMemory),
-    }
+    Ok(lines_of(alloc, entries)?)
 }
 
 // ---- free space

@@ -107,10 +107,7 @@ fn find_space(alloc: Global, map: &NewMap, len: u32) -> Result<CopySpace, Comman
 {
     let bytes = u64::from(len);
     let plan = place_alone(alloc, map, bytes)?;
-    match space_by(alloc, map, plan, bytes) {
-        Ok(found) => Ok(found),
-        Err(NoMemory) => Err(CommandError::NoMemory),
-    }
+    Ok(space_by(alloc, map, plan, bytes)?)
 }
 
 // The same with the map of a volume, which is a new one.
@@ -191,12 +188,6 @@ pub fn prepare_carrying(
 {
     is_new_map(places);
     let node = tree.node(target.node).unwrap();
-    let found = match space_for(alloc, places, node.entry.len) {
-        Ok(found) => found,
-        Err(error) => return Err(error),
-    };
-    match prepare_copy(alloc, tree, places, target, dir, to, found) {
-        Ok(change) => Ok(change),
-        Err(NoMemory) => Err(CommandError::NoMemory),
-    }
+    let found = space_for(alloc, places, node.entry.len)?;
+    Ok(prepare_copy(alloc, tree, places, target, dir, to, found)?)
 }

@@ -49,20 +49,10 @@ fn draft_in(
         → AnswersSpace result (short v (Command.Cdir p.now)) }
 {
     let node = tree.node(dir).unwrap();
-    let Ok(name) = last_name(alloc, p) else {
-        return Err(CommandError::NoMemory);
-    };
-    let Ok(draft) = draft_of(alloc, &node.body) else {
-        return Err(CommandError::NoMemory);
-    };
-    let plan = match plan_cdir(alloc, map, &draft, &name) {
-        Ok(plan) => plan,
-        Err(error) => return Err(error),
-    };
-    match prepare_cdir(alloc, tree, places, map, dir, draft, name, plan) {
-        Ok(change) => Ok(change),
-        Err(NoMemory) => Err(CommandError::NoMemory),
-    }
+    let name = last_name(alloc, p)?;
+    let draft = draft_of(alloc, &node.body)?;
+    let plan = plan_cdir(alloc, map, &draft, &name)?;
+    Ok(prepare_cdir(alloc, tree, places, map, dir, draft, name, plan)?)
 }
 
 // The same with the map of a volume, which is a new one.

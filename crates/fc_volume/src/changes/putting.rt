@@ -240,15 +240,7 @@ pub fn draft_file(
     ensures refused { (v : Opened) (c : Command) → WantsFile map.now owners.now dir words.len (directory_in draft) name v c → AnswersSpace result (short v c) }
 {
     let bytes = u64::from(words.len);
-    let place = match plan_file(alloc, map, owners, dir, &draft, &name, bytes) {
-        Ok(place) => place,
-        Err(error) => return Err(error),
-    };
-    let Ok(space) = space_of(alloc, places, map, place, bytes) else {
-        return Err(CommandError::NoMemory);
-    };
-    match prepare_file(alloc, tree, places, dir, draft, name, words, space) {
-        Ok(file) => Ok(file),
-        Err(NoMemory) => Err(CommandError::NoMemory),
-    }
+    let place = plan_file(alloc, map, owners, dir, &draft, &name, bytes)?;
+    let space = space_of(alloc, places, map, place, bytes)?;
+    Ok(prepare_file(alloc, tree, places, dir, draft, name, words, space)?)
 }

@@ -151,18 +151,10 @@ fn draft_in(
     ensures refused { (v : Opened) (c : Command) → WantsPlace map.now owners.now target.holder words.len v c → AnswersSpace result (short v c) }
 {
     let bytes = u64::from(words.len);
-    let place = match find_place(alloc, map, owners, target.holder, bytes) {
-        Ok(place) => place,
-        Err(error) => return Err(error),
-    };
+    let place = find_place(alloc, map, owners, target.holder, bytes)?;
     let shared = shared_id(&place);
-    let Ok(space) = space_of(alloc, places, map, place, bytes) else {
-        return Err(CommandError::NoMemory);
-    };
-    match prepare_replacing(alloc, tree, places, owners, target, words, space, shared) {
-        Ok(change) => Ok(change),
-        Err(NoMemory) => Err(CommandError::NoMemory),
-    }
+    let space = space_of(alloc, places, map, place, bytes)?;
+    Ok(prepare_replacing(alloc, tree, places, owners, target, words, space, shared)?)
 }
 
 /// Makes a file ready in the place of a target, by the map of a volume, which is a new one; or says why there is no space.

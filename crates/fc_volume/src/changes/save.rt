@@ -57,12 +57,8 @@ fn draft_in(
         → WantsFile map.now owners.now dir words.len content (last_name p.now) v c → AnswersSpace result (short v c) }
 {
     let node = tree.node(dir).unwrap();
-    let Ok(name) = last_name(alloc, p) else {
-        return Err(CommandError::NoMemory);
-    };
-    let Ok(draft) = draft_of(alloc, &node.body) else {
-        return Err(CommandError::NoMemory);
-    };
+    let name = last_name(alloc, p)?;
+    let draft = draft_of(alloc, &node.body)?;
     draft_file(alloc, tree, places, map, owners, dir, draft, name, words)
 }
 

@@ -1,4 +1,5 @@
 use Rattle.std.proofs.Common.{◌≡◌, ap, ap₂, subst, sym, ◌∙◌, arith}
+use Rattle.std.proofs.lemmas.Result.{err_from_is_err_and}
 use Rattle.fc_image.specs.Layout.{Layout}
 use Rattle.fc_record.specs.declared.Geometry.{Geometry}
 use Rattle.fc_record.specs.Record.{geometry}
@@ -14,47 +15,52 @@ read_copy-requires-clause-on_disk g c =
     let room = new_room c.args.r.now _ _ _ c.requires.«record» c.requires.size (g.met.D.Disk.whole_sectors c.args.disk.now) c.requires.long in
     rw c.geometry-g.ensures room.0
 
-pub returns-in-Err-clause-fault : goal.returns-in-Err-clause-fault
-returns-in-Err-clause-fault g c = λ image told. no_copy image c.args.r.now c.in-Err.error (let f = c.in-Err.ensures.fault image told in rw c.geometry-g.ensures at f)
+pub returns-in_err-copy-clause-fault : goal.returns-in_err-copy-clause-fault
+returns-in_err-copy-clause-fault g c =
+    let p = err_from_is_err_and c.from_residual.result c.from_residual.ensures.1 in
+    rw (p.1, p.2) (λ image told.
+    no_copy image c.args.r.now c.in_err-copy.field-0.0 (let f = c.in_err-copy.ensures.fault image told in rw c.geometry-g.ensures at f))
 
-pub returns-in-Ok-map_in-clause-found : goal.returns-in-Ok-map_in-clause-found
-returns-in-Ok-map_in-clause-found g c = λ image told.
-    let copy = rw c.geometry-g.ensures at (c.in-Ok.ensures.copy image told) in
-    new_is image c.args.r.now c.in-Ok.copy.which (zones_in (geometry c.args.r.now) c.in-Ok.copy.zones.items) copy.0 copy.1 ∙ c.in-Ok-map_in.ensures.found
+pub returns-clause-found : goal.returns-clause-found
+returns-clause-found g c = λ image told.
+    let copy = rw c.geometry-g.ensures at (c.in_ok-copy.ensures.copy image told) in
+    new_is image c.args.r.now c.in_ok-copy.copy.which (zones_in (geometry c.args.r.now) c.in_ok-copy.copy.zones.items) copy.0 copy.1 ∙ c.in_ok-map_in.ensures.found
 
-pub returns-in-Ok-map_in-clause-copies : goal.returns-in-Ok-map_in-clause-copies
-returns-in-Ok-map_in-clause-copies g c = λ image told.
-    let copy = rw c.geometry-g.ensures at (c.in-Ok.ensures.copy image told) in
-    counted c.in-Ok-map_in.found.copies (layout_of c.in-Ok-map_in.found.space) c.in-Ok.copy.which _ image c.in-Ok-map_in.ensures.copies c.in-Ok-map_in.ensures.map
+pub returns-clause-copies : goal.returns-clause-copies
+returns-clause-copies g c = λ image told.
+    let copy = rw c.geometry-g.ensures at (c.in_ok-copy.ensures.copy image told) in
+    counted c.in_ok-map_in.field-0.copies (layout_of c.in_ok-map_in.field-0.space) c.in_ok-copy.copy.which _ image c.in_ok-map_in.ensures.copies c.in_ok-map_in.ensures.map
     (record { counts = copy.0; content = sym copy.1 })
 
-pub returns-in-Ok-map_in-clause-room : goal.returns-in-Ok-map_in-clause-room
-returns-in-Ok-map_in-clause-room g c =
+pub returns-clause-room : goal.returns-clause-room
+returns-clause-room g c =
     let room = new_room c.args.r.now _ _ _ c.requires.«record» c.requires.size (g.met.D.Disk.whole_sectors c.args.disk.now) c.requires.long in
-    omega (arith, room.1, c.in-Ok-map_in.ensures.geometry.1)
+    omega (arith, room.1, c.in_ok-map_in.ensures.geometry.1)
 
-pub returns-in-Ok-map_in-clause-map_room : goal.returns-in-Ok-map_in-clause-map_room
-returns-in-Ok-map_in-clause-map_room g c =
+pub returns-clause-map_room : goal.returns-clause-map_room
+returns-clause-map_room g c =
     let room = new_room c.args.r.now _ _ _ c.requires.«record» c.requires.size (g.met.D.Disk.whole_sectors c.args.disk.now) c.requires.long in
-    subst (λ (l : Layout). HoldsMap l (g.D.Disk.sectors c.args.disk.now)) (sym c.in-Ok-map_in.ensures.map) room.0
+    subst (λ (l : Layout). HoldsMap l (g.D.Disk.sectors c.args.disk.now)) (sym c.in_ok-map_in.ensures.map) room.0
 
-pub returns-in-Ok-map_in-clause-few : goal.returns-in-Ok-map_in-clause-few
-returns-in-Ok-map_in-clause-few g c =
+pub returns-clause-few : goal.returns-clause-few
+returns-clause-few g c =
     let zones : c.geometry-g.result.zones ≡ (geometry c.args.r.now).zones = ap (λ (x : Geometry). x.zones) c.geometry-g.ensures in
-    let reads : layout_reads (layout_of c.in-Ok-map_in.found.space) c.in-Ok-map_in.found.copies ≡ copy_reads c.in-Ok.copy.which (geometry c.args.r.now).zones =
-    ap₂ layout_reads c.in-Ok-map_in.ensures.map c.in-Ok-map_in.ensures.copies in
-    omega (arith, c.in-Ok.ensures.few, ap (copy_reads c.in-Ok.copy.which) zones, reads)
+    let reads : layout_reads (layout_of c.in_ok-map_in.field-0.space) c.in_ok-map_in.field-0.copies ≡ copy_reads c.in_ok-copy.copy.which (geometry c.args.r.now).zones =
+    ap₂ layout_reads c.in_ok-map_in.ensures.map c.in_ok-map_in.ensures.copies in
+    omega (arith, c.in_ok-copy.ensures.few, ap (copy_reads c.in_ok-copy.copy.which) zones, reads)
 
-pub returns-in-Err-map_in-clause-fault : goal.returns-in-Err-map_in-clause-fault
-returns-in-Err-map_in-clause-fault g c = λ image told.
-    let copy = rw c.geometry-g.ensures at (c.in-Ok.ensures.copy image told) in
-    new_is image c.args.r.now c.in-Ok.copy.which (zones_in (geometry c.args.r.now) c.in-Ok.copy.zones.items) copy.0 copy.1 ∙ c.in-Err-map_in.ensures.found
+pub returns-in_err-map_in-clause-fault : goal.returns-in_err-map_in-clause-fault
+returns-in_err-map_in-clause-fault g c =
+    let p = err_from_is_err_and c.from_residual-in_err-map_in.result c.from_residual-in_err-map_in.ensures.1 in
+    rw (p.1, p.2) (λ image told.
+    let copy = rw c.geometry-g.ensures at (c.in_ok-copy.ensures.copy image told) in
+    new_is image c.args.r.now c.in_ok-copy.copy.which (zones_in (geometry c.args.r.now) c.in_ok-copy.copy.zones.items) copy.0 copy.1 ∙ c.in_err-map_in.ensures.found)
 
-pub returns-in-Err-clause-most : goal.returns-in-Err-clause-most
-returns-in-Err-clause-most g c = λ image told. (let most = c.read_copy.ensures.most image told in rw c.geometry-g.ensures at most)
+pub returns-in_err-copy-clause-most : goal.returns-in_err-copy-clause-most
+returns-in_err-copy-clause-most g c = λ image told. (let most = c.read_copy.ensures.most image told in rw c.geometry-g.ensures at most)
 
-pub returns-in-Ok-map_in-clause-most : goal.returns-in-Ok-map_in-clause-most
-returns-in-Ok-map_in-clause-most g c = λ image told. (let most = c.read_copy.ensures.most image told in rw c.geometry-g.ensures at most)
+pub returns-clause-most : goal.returns-clause-most
+returns-clause-most g c = λ image told. (let most = c.read_copy.ensures.most image told in rw c.geometry-g.ensures at most)
 
-pub returns-in-Err-map_in-clause-most : goal.returns-in-Err-map_in-clause-most
-returns-in-Err-map_in-clause-most g c = λ image told. (let most = c.read_copy.ensures.most image told in rw c.geometry-g.ensures at most)
+pub returns-in_err-map_in-clause-most : goal.returns-in_err-map_in-clause-most
+returns-in_err-map_in-clause-most g c = λ image told. (let most = c.read_copy.ensures.most image told in rw c.geometry-g.ensures at most)

@@ -13,8 +13,8 @@ returns-in_err-plan-clause-refused c = λ v k at wants fits.
     let p = err_from_is_err_and c.from_residual.result c.from_residual.ensures.1 in
     rw (p.1, p.2) (space_said Plan CopySpace c.in_err-plan.field-0.0 (short v k) (c.in_err-plan.ensures.refused v k at (subst (WantsOwnSpace v k) (sym c.from-bytes.ensures) wants) fits))
 
-pub returns-in-Ok-clause-refused : goal.returns-in-Ok-clause-refused
-returns-in-Ok-clause-refused c = λ v k at wants fits. c.in_ok-plan.ensures.refused v k at (subst (WantsOwnSpace v k) (sym c.from-bytes.ensures) wants) fits
+pub returns-clause-refused : goal.returns-clause-refused
+returns-clause-refused c = λ v k at wants fits. c.in_ok-plan.ensures.refused v k at (subst (WantsOwnSpace v k) (sym c.from-bytes.ensures) wants) fits
 
-pub returns-in-Ok-clause-space : goal.returns-in-Ok-clause-space
-returns-in-Ok-clause-space c = subst (λ (n : ℕ). IsCopySpace c.args.map.now n c.in-Ok.found) c.from-bytes.ensures c.in-Ok.ensures
+pub returns-clause-space : goal.returns-clause-space
+returns-clause-space c = subst (λ (n : ℕ). IsCopySpace c.args.map.now n c.in_ok-space_by.field-0) c.from-bytes.ensures c.in_ok-space_by.ensures

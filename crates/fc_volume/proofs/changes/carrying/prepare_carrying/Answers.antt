@@ -1,5 +1,6 @@
 use Rattle.std.proofs.Common.{ℕ, ap, sym, subst, ◌∙◌}
 use Rattle.std.specs.Option.{option_map}
+use Rattle.std.proofs.lemmas.Result.{err_from_is_err_and}
 use Rattle.fc_image.specs.effects.Short.{short}
 use Rattle.fc_image.specs.Layout.{dir_form}
 use Rattle.fc_placing.specs.Places.{WantsOwnSpace}
@@ -22,22 +23,23 @@ space_for-requires-clause-some c =
 pub prepare_copy-requires-clause-address : goal.prepare_copy-requires-clause-address
 prepare_copy-requires-clause-address c = λ n content there says.
     let map = new_layout (layout_of c.args.places.now) c.requires.new_map in
-    c.requires.fields n content c.in-Ok.found.address there says
-    (λ small. low_address map.0 c.unwrap-node.result.now.entry.len c.in-Ok.found (c.is_new_map.ensures map.0 map.1) (sym (ap dir_form map.1) ∙ small) (c.in-Ok.ensures.space map.0 map.1))
+    c.requires.fields n content c.in_ok-found.found.address there says
+    (λ small. low_address map.0 c.unwrap-node.result.now.entry.len c.in_ok-found.found (c.is_new_map.ensures map.0 map.1) (sym (ap dir_form map.1) ∙ small) (c.in_ok-found.ensures.space map.0 map.1))
 
-pub returns-in-Err-clause-refused : goal.returns-in-Err-clause-refused
-returns-in-Err-clause-refused c = λ v k n at there wants fits.
+pub returns-in_err-found-clause-refused : goal.returns-in_err-found-clause-refused
+returns-in_err-found-clause-refused c = λ v k n at there wants fits.
     let own = sym c.node.ensures ∙ ap (option_map (λ x. x.now)) c.unwrap-node.ensures in
-    other_value CopySpace Carrying c.in-Err.error (short v k)
-    (c.in-Err.ensures.refused v k at (subst (WantsOwnSpace v k) (ap (λ (x : Node). x.entry.len) (same_some n c.unwrap-node.result.now (sym there ∙ own))) wants) fits)
+    let p = err_from_is_err_and c.from_residual.result c.from_residual.ensures.1 in
+    rw (p.1, p.2) (other_value CopySpace Carrying c.in_err-found.field-0.0 (short v k)
+    (c.in_err-found.ensures.refused v k at (subst (WantsOwnSpace v k) (ap (λ (x : Node). x.entry.len) (same_some n c.unwrap-node.result.now (sym there ∙ own))) wants) fits))
 
-pub returns-in-Ok-prepare_copy-clause-refused : goal.returns-in-Ok-prepare_copy-clause-refused
-returns-in-Ok-prepare_copy-clause-refused c = λ v k n at there wants fits.
+pub returns-clause-refused : goal.returns-clause-refused
+returns-clause-refused c = λ v k n at there wants fits.
     let own = sym c.node.ensures ∙ ap (option_map (λ x. x.now)) c.unwrap-node.ensures in
-    c.in-Ok.ensures.refused v k at (subst (WantsOwnSpace v k) (ap (λ (x : Node). x.entry.len) (same_some n c.unwrap-node.result.now (sym there ∙ own))) wants) fits
+    c.in_ok-found.ensures.refused v k at (subst (WantsOwnSpace v k) (ap (λ (x : Node). x.entry.len) (same_some n c.unwrap-node.result.now (sym there ∙ own))) wants) fits
 
-pub returns-in-Ok-prepare_copy-clause-space : goal.returns-in-Ok-prepare_copy-clause-space
-returns-in-Ok-prepare_copy-clause-space c = λ m n at there.
+pub returns-clause-space : goal.returns-clause-space
+returns-clause-space c = λ m n at there.
     let own = sym c.node.ensures ∙ ap (option_map (λ x. x.now)) c.unwrap-node.ensures in
-    subst (λ (s : CopySpace). IsCopySpace m n.entry.len s) (sym c.in-Ok-prepare_copy.ensures.same)
-    (subst (λ (k : ℕ). IsCopySpace m k c.in-Ok.found) (ap (λ (x : Node). x.entry.len) (sym (same_some n c.unwrap-node.result.now (sym there ∙ own)))) (c.in-Ok.ensures.space m at))
+    subst (λ (s : CopySpace). IsCopySpace m n.entry.len s) (sym c.in_ok-prepare_copy.ensures.same)
+    (subst (λ (k : ℕ). IsCopySpace m k c.in_ok-found.found) (ap (λ (x : Node). x.entry.len) (sym (same_some n c.unwrap-node.result.now (sym there ∙ own)))) (c.in_ok-found.ensures.space m at))
