@@ -24,9 +24,6 @@ module _ (nodes : Nodes) (layout : Layout) (dir parent : ℕ) where
   pub turned_one : (e : Entry) (r : Rewrite) → is_directory e.attrs ≡ true → IsTurned nodes layout dir parent e r → AreTurned nodes layout dir parent (subdirectories (e ∷ [])) (r ∷ [])
   turned_one e r is turned = subst (λ (b : Bool). AreTurned nodes layout dir parent (cond b (e ∷ []) []) (r ∷ [])) (sym is) (turned, tt)
 
-  pub turned_none : (e : Entry) → is_directory e.attrs ≡ false → AreTurned nodes layout dir parent (subdirectories (e ∷ [])) []
-  turned_none e is = subst (λ (b : Bool). AreTurned nodes layout dir parent (cond b (e ∷ []) []) []) (sym is) tt
-
   -- one entry more
   pub turned_more : (es : List Entry) (e : Entry) (old now new rs ss : List Rewrite) → AreTurned nodes layout dir parent (subdirectories es) rs → now ≡ old ++ rs
       → AreTurned nodes layout dir parent (subdirectories (e ∷ [])) ss → new ≡ now ++ ss

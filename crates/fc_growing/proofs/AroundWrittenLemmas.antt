@@ -69,6 +69,3 @@ module _ {D : Type 0} {d : Ghosts D} (law : Laws d) (m : Map) (around : List Rew
   filled_more done next was told image told' =
       let before = led law kept image told' in
       filled_push m around r was before.0 image (done was told before.0 before.1) (next before.0 before.1 image told')
-
-pub filled_none : {D : Type 0} (d : Ghosts D) (m : Map) (s : D) → ForSome (d.bytes s) (λ was. ForSome (d.bytes s) (AreAllFilled m [] was))
-filled_none d m s was told image told' = same_told image was (sym told' ∙ told)

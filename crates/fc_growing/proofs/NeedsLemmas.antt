@@ -2,7 +2,6 @@
 use Rattle.std.proofs.Common.{◌≡◌, ◌<◌, ◌≤◌, ◌+◌, ℕ, Bool, true, false, cond, [], ◌∷◌, length, refl, sym, ap, ap₂, subst, ◌∙◌, ◌^◌, arith, inl, inr, Some, None, Option, lt-ltb}
 use Rattle.std.specs.Prelude.{not, nat_lt}
 use Rattle.std.specs.Option.{option_and_then, option_map_or}
-use Rattle.std.proofs.lemmas.Bool.{le-ltb}
 use Rattle.fc_names.specs.declared.refusal.Refusal.TheVariants as refusals
 use Rattle.fc_record.specs.declared.Geometry.{Geometry}
 use Rattle.fc_record.specs.Record.{id_limit}
@@ -89,25 +88,6 @@ module _ (m : Map) (v : Opened) (c : Command) (o : Object) (len bytes : ℕ) (is
 
 pub short_law : ShortLaw
 short_law m v c o len bytes is new grows some object = short_is m v c o len bytes is new grows some object
-
--- what a map is short of
-module _ (m : Map) (bytes : ℕ) (alone : Bool) (len ids bits : ℕ) (ids_are : ids ≡ ids_for (units m.geometry bytes) alone (units m.geometry len))
-    (bits_are : bits ≡ bits_for m.geometry (units m.geometry bytes) (units m.geometry len)) where
-  short_by : short_of m bytes alone len ≡ first_of (when (nat_lt (length (new_ids m)) ids) refusals.IdsFull ∷ when (nat_lt (bits_in (hole_runs m)) bits) refusals.DiscFull ∷ [])
-  short_by = ap₂ (λ (i b : ℕ). first_of (when (nat_lt (length (new_ids m)) i) refusals.IdsFull ∷ when (nat_lt (bits_in (hole_runs m)) b) refusals.DiscFull ∷ [])) (sym ids_are) (sym bits_are)
-
-  pub ids_short : length (new_ids m) < ids → short_of m bytes alone len ≡ Some refusals.IdsFull
-  ids_short few = short_by ∙ ap (λ (b : Bool). first_of (when b refusals.IdsFull ∷ when (nat_lt (bits_in (hole_runs m)) bits) refusals.DiscFull ∷ [])) (lt-ltb (length (new_ids m)) ids few)
-
-  pub bits_short : ids ≤ length (new_ids m) → bits_in (hole_runs m) < bits → short_of m bytes alone len ≡ Some refusals.DiscFull
-  bits_short some few =
-      short_by
-      ∙ ap₂ (λ (a b : Bool). first_of (when a refusals.IdsFull ∷ when b refusals.DiscFull ∷ [])) (le-ltb (length (new_ids m)) ids some) (lt-ltb (bits_in (hole_runs m)) bits few)
-
-  pub none_short : ids ≤ length (new_ids m) → bits ≤ bits_in (hole_runs m) → short_of m bytes alone len ≡ None
-  none_short some enough =
-      short_by
-      ∙ ap₂ (λ (a b : Bool). first_of (when a refusals.IdsFull ∷ when b refusals.DiscFull ∷ [])) (le-ltb (length (new_ids m)) ids some) (le-ltb (bits_in (hole_runs m)) bits enough)
 
 -- ---- identifiers
 

@@ -46,10 +46,6 @@ module _ (m : Map) (is : IsNewMap m) (old left : Stock) (all : old ≡ stock_of 
   object_own None p = tt
   object_own (Some plan) p = own_plan m is bytes p.some old left all (let r : Result Plan PlanError = Ok plan in r) p.plan p.id
 
-  pub object_none : (object : Option Plan) → IsObjectPlan old left bytes object → object ≡ None → bytes ≡ 0
-  object_none None p e = p.0
-  object_none (Some plan) p e = absurd (cc)
-
   -- what the object leaves
   pub holes_then : (object : Option Plan) → IsObjectPlan old left bytes object → left.holes ≡ holes_left (hole_runs m) (parts_in object)
   holes_then None p = ap (λ (s : Stock). s.holes) (p.1 ∙ all) ∙ sym (left_of_none (hole_runs m))

@@ -43,7 +43,7 @@ use Rattle.fc_growing.specs.Around.{AreAllFilled, IsAroundReady, LieOn, said_in,
 use Rattle.fc_growing.specs.Leaving.{is_of_other}
 use Rattle.fc_growing.proofs.AroundListingsLemmas.{in_filtered, one_first}
 use Rattle.fc_growing.proofs.AroundLemmas as lemma
-use Rattle.fc_growing.proofs.AroundLemmas.{AreReady, Grows, IsOneReady}
+use Rattle.fc_growing.proofs.AroundLemmas.{AreReady, Grows}
 use Rattle.fc_growing.proofs.AroundGrownLemmas as whole
 use Rattle.fc_growing.proofs.AroundStepsLemmas as step
 use Rattle.fc_growing.proofs.AroundTakingLemmas.{regrown_is}
@@ -83,10 +83,6 @@ other_than nodes n k = option_map_or (λ (j : ℕ). not (j == n)) (number_of nod
 
 pub number_tells : (nodes : Nodes) (n j : ℕ) (k : Listing) → number_of nodes k.object.path ≡ Some j → other_than nodes n k ≡ not (j == n)
 number_tells nodes n j k number = ap (λ (x : Option ℕ). option_map_or (λ (i : ℕ). not (i == n)) x true) number
-
-not_not : (b : Bool) → not b ≡ false → b ≡ true
-not_not true e = refl
-not_not false e = absurd (cc)
 
 -- a directory of this number, and one of another
 pub is_that : (nodes : Nodes) (n : ℕ) (k : Listing) → not (other_than nodes n k) ≡ true → number_of nodes k.object.path ≡ Some n

@@ -5,6 +5,7 @@ ghost use Rattle.std.specs.Option.{option_to_list};
 ghost use Rattle.fc_growing.specs.Gone.{LeavesGrown, has_third, left_with};
 
 use fc_alloc::Owners;
+use fc_newmap::MAP_ID;
 use fc_placing::{has_other, left_by};
 
 // Whether an owner of another node than these two has an identifier. The owners are gone over only if one of another node
@@ -27,7 +28,7 @@ fn left_with(owners: &Owners, node: u64, file: u64) -> Option<u32>
 {
     let own = owners.of(node)?;
     let id = own.id;
-    if id == 2 || has_third(owners, node, file, id) {
+    if id == MAP_ID || has_third(owners, node, file, id) {
         return None;
     }
     Some(id)

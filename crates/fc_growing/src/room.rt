@@ -8,7 +8,7 @@ ghost use Rattle.fc_growing.specs.Room.{RoomLaw, has_room_by, is_alone_by, leave
 
 use fc_alloc::{Owner, Owners};
 use fc_device::{Extent, NoMemory};
-use fc_newmap::NewMap;
+use fc_newmap::{MAP_ID, NewMap};
 use fc_placing::has_other;
 use fc_space::{PlaceError, Places, low_start};
 use std::alloc::Global;
@@ -60,7 +60,7 @@ pub fn room_for(
         (λ place. (has_room_by map.now owners.now dir address len ≡ true) × (new_sectors map.now address len ≡ Some (sectors_in place.items)))) }
 {
     let id = address / 256;
-    if id == 2 {
+    if id == MAP_ID {
         return Ok(None);
     }
     let bytes = u64::from(len);

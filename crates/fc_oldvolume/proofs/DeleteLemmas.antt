@@ -70,10 +70,6 @@ pub after_is : (space : OldMapContent) (o : Object) (map : Option OldMapContent)
 after_is space o None none = refl
 after_is space o (Some now) gives = gives.1 ∙ ap (λ (m : OldMapContent). holding space m.holes) (sym gives.1)
 
-few_now : (space : OldMapContent) (o : Object) (map : Option OldMapContent) → IsOldMap space → GivesBack space o.entry (Ok map) → length (map_after space map).holes ≤ hole_limit
-few_now space o None is none = is.few
-few_now space o (Some now) is gives = gives.2
-
 -- the step that writes the map
 map_step : (space : OldMapContent) (o : Object) (map : Option OldMapContent) (mid image : List ℕ) → IsOldMap space → GivesBack space o.entry (Ok map) → IsMapDone map mid image
     → IsMapStep space (map_after space map).holes mid image

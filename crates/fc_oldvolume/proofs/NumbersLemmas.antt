@@ -114,9 +114,6 @@ module _ (form : NameForm) (move : ℕ → ℕ) (nodes now next : Nodes) (spares
     each = λ n s more at. left.each n s (omega (arith, more)) (sym (set_other spares k n spare (λ e. omega (arith, e, more))) ∙ at);
   }
 
-pub none_readdressed : (form : NameForm) (move : ℕ → ℕ) (nodes : Nodes) (spares : List Spare) → AreReaddressed form move nodes nodes spares 0
-none_readdressed form move nodes spares = record { done = λ n less. absurd (omega (arith, less)); left = λ n more. refl; many = refl; told = λ n s less at. absurd (omega (arith, less)) }
-
 pub all_left : (nodes : Nodes) (spares : List Spare) (bound : ℕ) → AreSpares nodes bound spares → AreLeft nodes spares bound 0
 all_left nodes spares bound r = record { many = r.many; each = λ n s more at. r.each n s at }
 
@@ -134,9 +131,6 @@ module _ (form : NameForm) (move : ℕ → ℕ) (nodes now next : Nodes) (k : �
     where
       off : (n : ℕ) → (n ≡ k → ⊥) → get next n ≡ get now n
       off n other = ap (λ (m : Nodes). get m n) is ∙ edited_other now k (addressed form move) n other
-
-pub none_addressed : (form : NameForm) (move : ℕ → ℕ) (nodes : Nodes) → AreAddressed form move nodes nodes 0
-none_addressed form move nodes = record { done = λ n less. absurd (omega (arith, less)); left = λ n more. refl; many = refl }
 
 -- ---- owners
 

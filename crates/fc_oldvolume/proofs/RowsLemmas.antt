@@ -11,7 +11,7 @@ use Rattle.fc_device.specs.Sectors.{sector_at}
 use Rattle.fc_oldmap.specs.OldMap.{OldMapContent}
 use Rattle.fc_dirs.specs.Small.{SmallDir, tail_of}
 use Rattle.fc_dirs.specs.SmallBytes.{IsWrittenSmall}
-use Rattle.fc_image.specs.Layout.{Layout, bytes_in, dir_form, is_among, is_apart, sector_bytes}
+use Rattle.fc_image.specs.Layout.{Layout, bytes_in, dir_form, is_among, sector_bytes}
 use Rattle.fc_image.specs.Walk.{object_size}
 use Rattle.fc_image.proofs.FreeLemmas.{flat_same, range_bounds}
 use Rattle.fc_image.proofs.HolesLemmas.{apart_at}
@@ -23,7 +23,7 @@ use Rattle.fc_tree.specs.declared.node.Body.TheVariants as bodies
 use Rattle.fc_tree.specs.declared.node.Node.{Node}
 use Rattle.fc_tree.proofs.WalkedLemmas.{same_some}
 use Rattle.fc_laws.specs.nodes.Edits.{Nodes}
-use Rattle.fc_oldlaws.specs.moves.Writes.{AreDirectoriesPlaced, AreDirectoriesWritten, IsDirAt, count_of, row_of}
+use Rattle.fc_oldlaws.specs.moves.Writes.{AreDirectoriesPlaced, AreDirectoriesWritten, IsDirAt, row_of}
 use Rattle.fc_volume.proofs.PieceLemmas.{all_low}
 use Rattle.fc_oldvolume.specs.Compacting.{IsDirWritten, IsNumberWritten}
 
@@ -88,13 +88,6 @@ bytes_same size was image xs n same = ap (λ (bs : List ℕ). take n bs) (flat_s
 module _ (space : OldMapContent) (nodes : Nodes) (placed : AreDirectoriesPlaced space nodes) where
   abbrev size : ℕ
   size = sector_bytes (Layout.Old space)
-
-  pub number_on_disc : (n : ℕ) (node : Node) (dir : SmallDir) (first sectors : ℕ) → IsDirAt nodes n node dir → first ≡ node.entry.address / space.sector_units
-      → sectors ≡ div_ceil (tail_of dir.form).size (256 * space.sector_units) → first + sectors ≤ Rattle.fc_image.specs.Layout.disc_sectors (Layout.Old space)
-  number_on_disc n node dir first sectors is begins long =
-      let few = placed.inside n node dir is in
-      let count : sectors ≡ count_of space node.entry = long ∙ ap (λ (k : ℕ). div_ceil k (256 * space.sector_units)) (sym (placed.size n node dir is)) in
-      omega (arith, few, count, begins)
 
   pub number_written : (n : ℕ) (node : Node) (dir : SmallDir) (first sectors : ℕ) (was image : List ℕ) → IsDirAt nodes n node dir → first ≡ node.entry.address / space.sector_units
       → sectors ≡ div_ceil (tail_of dir.form).size (256 * space.sector_units) → IsDirWritten (256 * space.sector_units) first sectors dir was image → IsNumberWritten space nodes n was image

@@ -1,18 +1,10 @@
 -- Which script a run has, and what is told of it.
-use Rattle.std.proofs.Common.{◌≡◌, ◌⊎◌, ◌<◌, ◌≤◌, inl, inr, ℕ, false, true, List, length, Option, Some, None, refl, sym, ap, subst, ◌∙◌, arith}
+use Rattle.std.proofs.Common.{◌≡◌, ◌⊎◌, ◌<◌, ◌≤◌, inl, inr, ℕ, true, List, length, Option, Some, None, refl, sym, ap, subst, ◌∙◌, arith}
 use Rattle.std.specs.Option.{ForSome}
 use Rattle.fc_runs.specs.Demo.{demo_script}
 use Rattle.fc_words.specs.CommandLine.{Request}
-use Rattle.fc_shell.specs.declared.ending.End.{End}
-use Rattle.fc_shell.specs.declared.ending.End.TheVariants.{BadWords, ScriptFault, ScriptTooLong, NotBuilt, NoImage}
 use Rattle.fc_shell.specs.Built.{has_unbuilt}
-use Rattle.fc_shell.specs.Ends.{is_late}
 use Rattle.fc_shell.specs.Replies.{AsksNoDemo, AsksUnbuilt, asked_script, script_limit, told_script}
-use Rattle.fc_shell.proofs.PromiseLemmas.{no_fresh}
-
-pub no_demo : (demo : Option ℕ) → ((n : ℕ) → demo ≡ Some n → ⊥) → demo ≡ None
-no_demo None other = refl
-no_demo (Some n) other = absurd (other n refl)
 
 -- Without a demo it is the source's,
 pub told_plain : (demo : Option ℕ) (told : Option (List ℕ)) → demo ≡ None → told_script demo told ≡ told
@@ -39,9 +31,3 @@ module _ (told : Option (List ℕ)) (text : List ℕ) (is : (other : List ℕ) �
 
   pub unbuilt_told : (r : Request) → has_unbuilt text ≡ true → AsksUnbuilt r told
   unbuilt_told r unbuilt = inr (λ other left. (subst (λ (t : List ℕ). length t ≤ script_limit) (is other left) short, sym (ap has_unbuilt (is other left)) ∙ unbuilt))
-
--- how such a run doesn't end
-pub ran_late : (end : End) → (is_late end ≡ true) ⊎ ((end ≡ NoImage) ⊎ (end ≡ NotBuilt)) → (end ≡ ScriptFault → ⊥) × (end ≡ ScriptTooLong → ⊥) × (end ≡ BadWords → ⊥)
-ran_late end (inl late) = ((λ e. no_fresh (sym (ap is_late e) ∙ late)), (λ e. no_fresh (sym (ap is_late e) ∙ late)), (λ e. no_fresh (sym (ap is_late e) ∙ late)))
-ran_late end (inr (inl is)) = ((λ e. absurd (cc)), (λ e. absurd (cc)), (λ e. absurd (cc)))
-ran_late end (inr (inr is)) = ((λ e. absurd (cc)), (λ e. absurd (cc)), (λ e. absurd (cc)))

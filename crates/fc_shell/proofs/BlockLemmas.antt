@@ -1,13 +1,10 @@
 -- The bytes of a file, one block after another.
 use Rattle.std.proofs.Common.{◌≡◌, ℕ, List, ◌++◌, ap, ap₂, sym, ◌∙◌}
 use Rattle.hex.specs.Hex.{encode_lower}
-use Rattle.fc_device.specs.declared.disk.Disk.{Ghosts}
-use Rattle.fc_device.specs.Calls.{SameForm}
 use Rattle.fc_image.specs.Layout.{bytes_in}
 use Rattle.fc_objects.specs.declared.reader.ObjectReader.{ObjectReader}
 use Rattle.fc_objects.specs.Ahead.{ahead}
 use Rattle.fc_objects.specs.Bytes.{bytes_ahead, first_bytes}
-use Rattle.fc_shell.specs.Readable.{IsReadable}
 use Rattle.fc_shell.proofs.DigitLemmas.{encode-append}
 
 -- at first a reader has all bytes ahead
@@ -21,12 +18,3 @@ all_ahead size image sectors len r at sized long =
 pub block_digits : (all done before block after : List ℕ) → all ≡ done ++ encode_lower before → before ≡ block ++ after → all ≡ done ++ (encode_lower block ++ encode_lower after)
 block_digits all done before block after so_far step =
     so_far ∙ ap (λ (xs : List ℕ). done ++ xs) (ap encode_lower step ∙ encode-append block after)
-
-module _ {D : Type 0} (d : Ghosts D) {old new : D} (form : SameForm d old new) where
-  -- a disk that was read stays readable
-  pub still_readable : (size : ℕ) → IsReadable d old size → IsReadable d new size
-  still_readable size readable = record {
-    is_attached = form.attached_stays ∙ readable.is_attached;
-    sized = form.size_stays ∙ readable.sized;
-    few = readable.few;
-  }

@@ -1,8 +1,7 @@
 -- A demo: its script, and its line in place of the replies.
-use Rattle.std.proofs.Common.{◌≡◌, ◌≤◌, ◌⊎◌, inl, inr, ℕ, ◌+◌, ◌*◌, nat_le, Bool, true, false, ◌&&◌, List, [], ◌∷◌, length, take, Option, Some, None, Ok, Err, refl, sym, ap, subst, ◌∙◌, arith}
-use Rattle.std.specs.Prelude.{codes, if◌then◌else◌, slice_get}
+use Rattle.std.proofs.Common.{◌≡◌, ◌≤◌, ◌⊎◌, inl, inr, ℕ, nat_le, Bool, true, false, List, [], ◌∷◌, length, take, Option, Some, None, Ok, Err, refl, sym, ap, subst, ◌∙◌, arith}
+use Rattle.std.specs.Prelude.{codes, slice_get}
 use Rattle.std.specs.Fmt.{decimal}
-use Rattle.std.specs.List.{count_by}
 use Rattle.std.specs.Option.{ForSome, option_and_then, option_map}
 use Rattle.std.specs.Str.Parse.{digits_value}
 use Rattle.std.proofs.lemmas.Bool.Decides.{nat_tests}
@@ -11,9 +10,6 @@ use Rattle.hex.specs.Hex.{encode_lower}
 use Rattle.sha2.specs.Sha256.{sha256}
 use Rattle.fc_demo.proofs.SizeLemmas.{script_short}
 use Rattle.fc_device.specs.declared.disk.Disk.{Ghosts}
-use Rattle.fc_device.specs.declared.streams.Sink.{Ghosts as Sinks}
-use Rattle.fc_device.specs.Calls.{OnlyReads}
-use Rattle.fc_device.specs.Faults.{Rose}
 use Rattle.fc_record.specs.declared.Kind.{Kind}
 use Rattle.fc_image.specs.effects.Effect.{State}
 use Rattle.fc_script.specs.Lines.{command_of}
@@ -21,26 +17,24 @@ use Rattle.fc_script.specs.Texts.{line_of}
 use Rattle.fc_runs.specs.Demo.{demo_script}
 use Rattle.fc_runs.specs.Early.{reply_begun, text_begun}
 use Rattle.fc_runs.specs.Promises.{Cause, HasRun, HasStopped, spares_disk}
-use Rattle.fc_runs.specs.Run.{Mode, Steps, commands_in, demo_line, is_error, text_of}
+use Rattle.fc_runs.specs.Run.{Mode, Steps, commands_in, demo_line, text_of}
 use Rattle.fc_runs.specs.Stops.{MayHaveLeft, Stops, next_keeps_tree, next_leaves_image}
 use Rattle.fc_words.specs.CommandLine.{Request, Settings, Text, format_of, image_of, is_decimal, is_set, number_of, optional, request_from, request_of, settings_after, value_of}
 use Rattle.fc_words.specs.declared.Format.{Format as Word}
 use Rattle.fc_shell.specs.declared.answer.LineFault.{LineFault}
 use Rattle.fc_shell.specs.declared.answer.LineFault.TheVariants as lines
 use Rattle.fc_shell.specs.declared.ending.End.{End}
-use Rattle.fc_shell.specs.declared.ending.End.TheVariants.{Done, Refused, DiskFault, OutFault, NoMemory}
+use Rattle.fc_shell.specs.declared.ending.End.TheVariants.{DiskFault, OutFault, NoMemory}
 use Rattle.fc_shell.specs.declared.tally.Tally.{Tally}
 use Rattle.fc_shell.specs.Counted.{AreCounted, has_refused, tally_line}
-use Rattle.fc_shell.specs.Ends.{end_after, is_late}
-use Rattle.fc_shell.specs.Kept.{SessionKeeps}
-use Rattle.fc_shell.specs.Line.{GoesOn}
+use Rattle.fc_shell.specs.Ends.{end_after}
 use Rattle.fc_shell.specs.Modes.{plain_mode}
 use Rattle.fc_shell.specs.Promise.{EndsOver}
 use Rattle.fc_shell.specs.Replies.{demo_limit, script_limit}
 use Rattle.fc_shell.specs.Serving.{ServesAs, cause_of}
 use Rattle.fc_shell.specs.Writing.{Wrote, WrotePart}
-use Rattle.fc_shell.proofs.PromiseLemmas.{late_after, no_fresh, reads_unwritten}
-use Rattle.fc_shell.proofs.ServingLemmas.{both_true, steps_long}
+use Rattle.fc_shell.proofs.PromiseLemmas.{no_fresh}
+use Rattle.fc_shell.proofs.ServingLemmas.{steps_long}
 use Rattle.fc_shell.proofs.WritingLemmas.{wrote_nothing}
 
 -- ---- its script
@@ -220,28 +214,3 @@ module _ {D : Type 0} (d : Ghosts D) (old new : D) (kind : Kind) (read_only : Bo
       → (text : List ℕ) × Wrote told told text × EndsOver d old new mode false (Some n) s script text NoMemory
   demo_memory fault before after told (inl is) served = ([], wrote_nothing told, inl (broke_demo served.0 (cause_of fault) Cause.Memory (λ same. ap (λ (f : LineFault). spares_disk (cause_of f)) is) served.2))
   demo_memory fault before after told (inr is) served = ([], wrote_nothing told, inl (broke_demo served.0 (cause_of fault) Cause.Memory (λ same. ap (λ (f : LineFault). spares_disk (cause_of f)) is) served.2))
-
--- what a demo keeps
-pub session_demo : {D K : Type 0} (d : Ghosts D) (k : Sinks K) (reads : Type 0) (old new : D) (before after : K) (end : End) → GoesOn d old new → ((end ≡ DiskFault → ⊥) → d.pending new ≡ false)
-    → (reads → OnlyReads d old new) → (end ≡ DiskFault → Rose (d.faults old) (d.faults new)) → (end ≡ OutFault → Rose (k.faults before) (k.faults after)) → is_late end ≡ true
-    → SessionKeeps d k reads old new before after end
-session_demo d k reads old new before after end goes settled only disk out late = record {
-  asked_stays = goes.form.asked_stays;
-  goes = goes.stops;
-  faults = goes.faults;
-  disk_fault = disk;
-  out_fault = out;
-  settled = settled;
-  unwritten = λ r. reads_unwritten (only r);
-  late = late;
-}
-
--- a demo whose line was told, or wasn't
-pub told_demo : (refused : Bool) (end : End) → (end ≡ end_after refused) ⊎ ((end ≡ OutFault) ⊎ (end ≡ NoMemory)) → (is_late end ≡ true) × (end ≡ DiskFault → ⊥)
-told_demo refused end (inl is) = (ap is_late is ∙ late_after refused, by refused is)
-  where
-    by : (refused : Bool) → end ≡ end_after refused → end ≡ DiskFault → ⊥
-    by true is e = absurd (cc)
-    by false is e = absurd (cc)
-told_demo refused end (inr (inl is)) = (ap is_late is, (λ e. absurd (cc)))
-told_demo refused end (inr (inr is)) = (ap is_late is, (λ e. absurd (cc)))

@@ -1,7 +1,6 @@
 -- Hexadecimal digits.
 use Rattle.std.proofs.Common.{◌≡◌, ◌<◌, ℕ, ◌+◌, ◌*◌, ◌/◌, ◌%◌, List, [], ◌∷◌, ◌++◌, length, slice_index, take, get_or, set, refl, sym, ap, ap₂, ◌∙◌, arith, append_assoc}
 use Rattle.std.proofs.lemmas.List.{take_more, take_more_set, length-set}
-use Rattle.std.proofs.Math.Seq.{take-length}
 use Rattle.hex.specs.Hex.{encode_lower, encode_with, lower_digits}
 
 -- digits of bytes one after another
@@ -33,9 +32,3 @@ digits_more bytes text i high low within long so_far up down =
     ∙ ap₂ (λ (xs ys : List ℕ). xs ++ ys) so_far (sym (one_byte (get_or bytes i 0) high low up down))
     ∙ sym (encode-append (take i bytes) (get_or bytes i 0 ∷ []))
     ∙ ap encode_lower (sym (take_more bytes i 0 within))
-
--- all of them
-pub digits_all : (bytes text : List ℕ) (i : ℕ) → length bytes ≡ i → length text ≡ 2 * length bytes → take (2 * i) text ≡ encode_lower (take i bytes) → text ≡ encode_lower bytes
-digits_all bytes text i end long so_far =
-    sym (take-length text) ∙ ap (λ (n : ℕ). take n text) (let e : length text ≡ 2 * i = omega (arith, end, long) in e) ∙ so_far
-    ∙ ap encode_lower (ap (λ (n : ℕ). take n bytes) (sym end) ∙ take-length bytes)

@@ -23,11 +23,10 @@ use Rattle.fc_shell.specs.declared.answer.LineFault.{LineFault}
 use Rattle.fc_shell.specs.declared.answer.LineFault.TheVariants as lines
 use Rattle.fc_shell.specs.declared.tally.Tally.{Tally}
 use Rattle.fc_words.specs.declared.Format.{Format as Word}
-use Rattle.fc_shell.specs.Built.{has_unbuilt}
 use Rattle.fc_shell.specs.Counted.{has_refused}
 use Rattle.fc_shell.specs.Ends.{end_after, end_of, is_late}
 use Rattle.fc_shell.specs.Modes.{plain_mode}
-use Rattle.fc_shell.specs.Promise.{EndsByGiving, EndsByLength, EndsByOpening, EndsByScript, EndsOnFault, EndsOver}
+use Rattle.fc_shell.specs.Promise.{EndsByGiving, EndsByOpening, EndsByScript, EndsOnFault, EndsOver}
 use Rattle.fc_shell.specs.Reading.{IsUnwritten}
 use Rattle.fc_shell.specs.Replies.{blank_size, image_for}
 use Rattle.fc_shell.specs.Serving.{ServesAs}
@@ -256,22 +255,6 @@ module _ {D : Type 0} {d : Ghosts D} (law : Laws d) (disk : D) where
       → EndsByScript d disk disk gives r image script [] unbuilt NoMemory
   memory_ends accepts gives r image script true told = (inr (inr refl), none)
   memory_ends accepts gives r image script false told = memory_giving accepts r image script (gives r.image (blank_size r)) told
-
-  fault_giving : (r : Request) (image script : List ℕ) (given : Bool) → EndsByGiving d disk disk r image script [] given ScriptFault
-  fault_giving r image script false = none
-  fault_giving r image script true = by (open_image (image_for r.new image))
-    where
-      by : (o : Result Opened ImageFault) → EndsByOpening d disk disk r.read_only (is_some r.new) r.demo (image_for r.new image) script [] o ScriptFault
-      by (Err fault) = none
-      by (Ok v) = none
-
-  -- an I/O error of the script
-  pub script_fault_ends : (gives : List ℕ → Option ℕ → Bool) (r : Request) (image script : List ℕ) (long unbuilt : Bool) → has_unbuilt script ≡ unbuilt
-      → EndsByLength d disk disk gives r image script [] long ScriptFault
-  script_fault_ends gives r image script true unbuilt is = (inr (inl refl), none)
-  script_fault_ends gives r image script false true is = subst (λ (b : Bool). EndsByScript d disk disk gives r image script [] b ScriptFault) (sym is) (inr (inl refl), none)
-  script_fault_ends gives r image script false false is =
-      subst (λ (b : Bool). EndsByScript d disk disk gives r image script [] b ScriptFault) (sym is) (fault_giving r image script (gives r.image (blank_size r)))
 
 -- ---- a run over an attached image
 

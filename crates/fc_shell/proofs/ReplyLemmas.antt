@@ -1,8 +1,6 @@
 -- The reply of a command, by what a volume answers.
 use Rattle.std.proofs.Common.{◌≡◌, ℕ, Bool, true, false, not, List, [], ◌∷◌, ◌++◌, map, refl, sym, ap, ap₂, ◌∙◌, Some, Option, Ok, Err}
 use Rattle.std.specs.List.{flat_map}
-use Rattle.std.specs.Option.{option_map_or, unwrap_or}
-use Rattle.fc_device.specs.declared.disk.Extent.{Extent}
 use Rattle.fc_names.specs.declared.refusal.Refusal.{Refusal}
 use Rattle.fc_names.specs.declared.name.NameForm.{NameForm}
 use Rattle.fc_names.specs.Names.{Path}
@@ -10,10 +8,9 @@ use Rattle.fc_record.specs.declared.Kind.{Kind}
 use Rattle.fc_model.specs.Tree.{Body, Node as ModelNode, Tree, children}
 use Rattle.fc_model.specs.Command.{Command}
 use Rattle.fc_model.specs.Answer.{answer}
-use Rattle.fc_image.specs.Layout.{bytes_in, dir_form, sector_bytes, sectors_at}
+use Rattle.fc_image.specs.Layout.{dir_form}
 use Rattle.fc_image.specs.Opening.{Opened}
 use Rattle.fc_image.specs.Stays.{OpensAs}
-use Rattle.fc_objects.specs.Extents.{sectors_in}
 use Rattle.fc_image.specs.effects.Effect.{State, tree_in}
 use Rattle.fc_script.specs.Reading.{command}
 use Rattle.fc_script.specs.declared.command.Command.{Command as Told}
@@ -21,10 +18,9 @@ use Rattle.fc_script.specs.Texts.{cat_reply, node_line, ok_line, refusal_line}
 use Rattle.fc_runs.specs.ReadLaw.{answered_reply, is_reading, served_reply}
 use Rattle.fc_runs.specs.Replies.{reply_to}
 use Rattle.fc_tree.specs.declared.node.Node.{Node}
-use Rattle.fc_volume.specs.declared.lines.FileRef.{FileRef}
 use Rattle.fc_volume.specs.declared.lines.Line.{Line}
-use Rattle.fc_volume.specs.Answers.{IsPlace, IsRef, file_bytes, line_in, lines_in, ref_bytes}
-use Rattle.fc_volume.specs.Volume.{Volume, parts_of}
+use Rattle.fc_volume.specs.Answers.{line_in, lines_in}
+use Rattle.fc_volume.specs.Volume.{Volume}
 use Rattle.fc_shell.specs.Built.{is_built}
 use Rattle.fc_shell.specs.Answered.{IsReply, volume_reply}
 use Rattle.fc_shell.specs.Modes.{plain_mode}
@@ -137,15 +133,3 @@ cat_told t path lines is = ap told_lines is ∙ ap (λ text. text ++ ok_line) (a
 
 same_node : (x y : Node) → (let o : Option Node = Some x in o) ≡ Some y → x ≡ y
 same_node x y e = cc
-
--- the bytes at a file's place
-pub place_bytes : (image : List ℕ) (v : Volume) (f : FileRef) (place : List Extent) → IsRef v f → IsPlace v f place
-    → ref_bytes image v f ≡ bytes_in (sector_bytes (parts_of v).layout) image (sectors_in place) f.len
-place_bytes image v f place named is =
-    let node = named.0 in
-    let layout = (parts_of v).layout in
-    let same : is.node ≡ node = same_node is.node node (sym is.named ∙ named.1) in
-    let at : sectors_at layout node.entry.address node.entry.len ≡ Some (sectors_in place) =
-    ap₂ (λ (n : Node) (len : ℕ). sectors_at layout n.entry.address len) (sym same) (sym named.3) ∙ is.sectors in
-    ap (λ (o : Option Node). option_map_or (λ n. file_bytes image layout n.entry) o []) named.1
-    ∙ ap₂ (λ (o : Option (List ℕ)) (len : ℕ). bytes_in (sector_bytes layout) image (unwrap_or o []) len) at (sym named.3)

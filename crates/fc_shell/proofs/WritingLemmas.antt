@@ -1,12 +1,7 @@
 -- Parts of texts, one after another.
-use Rattle.std.specs.Prelude.{OnOk}
-use Rattle.std.specs.Result.{is_err}
-use Rattle.std.proofs.Common.{◌≡◌, ℕ, ◌+◌, ◌≤◌, min, false, Result, Ok, Err, List, [], ◌++◌, length, take, drop, Option, Some, None, option_map, refl, ap, sym, subst, ◌∙◌, arith, append_assoc}
-use Rattle.std.proofs.lemmas.List.{append-nil, take-append-le, take-take, length-take-le}
+use Rattle.std.proofs.Common.{◌≡◌, ℕ, ◌+◌, ◌≤◌, min, List, [], ◌++◌, length, take, drop, Option, Some, None, option_map, refl, ap, sym, subst, ◌∙◌, arith, append_assoc}
+use Rattle.std.proofs.lemmas.List.{append-nil, take-append-le, take-take}
 use Rattle.std.proofs.Math.Seq.{take-add, take-append-add, take-length}
-use borrow.Rule.Slice.PartMut.{put_mid}
-use Rattle.std.specs.Option.{ForSome}
-use Rattle.fc_device.specs.Streams.{Gives}
 use Rattle.std.proofs.lemmas.Grind.{common_steps}
 use Rattle.fc_shell.specs.Writing.{Wrote, WrotePart}
 
@@ -45,31 +40,6 @@ part_of_first before after a b part =
 pub part_of_second : (before mid after : Option (List ℕ)) (a b : List ℕ) → Wrote before mid a → WrotePart mid after b → WrotePart before after (a ++ b)
 part_of_second before mid after a b first part =
     (length a + part.0, subst (Wrote before after) (sym (take-append-add a b part.0)) (wrote_both before mid after a (take part.0 b) first part.1))
-
--- a source goes on into the rest of a buffer
-pub gives_more : (old mid new : Option (List ℕ)) (count more k : ℕ) (buffer into : List ℕ) → count ≤ length buffer → more ≤ length into
-    → Gives old mid count buffer → Gives mid new more into → Gives old new (count + more) (put_mid count k buffer into)
-gives_more old mid None count more k buffer into within bound first second = first ∙ ap (option_map (λ rest. take count buffer ++ rest)) second
-gives_more old mid (Some left) count more k buffer into within bound first second =
-    let front : length (take count buffer) ≡ count = length-take-le count buffer within in
-    let rest = drop k (drop count buffer) in
-    let cut : take (count + more) (take count buffer ++ (into ++ rest)) ≡ take count buffer ++ take more into =
-    subst (λ (n : ℕ). take (n + more) (take count buffer ++ (into ++ rest)) ≡ take count buffer ++ take more into) front
-    (take-append-add (take count buffer) (into ++ rest) more ∙ ap (λ xs. take count buffer ++ xs) (take-append-le more into rest bound)) in
-    first ∙ ap (option_map (λ rest. take count buffer ++ rest)) second
-    ∙ ap Some (sym (append_assoc (take count buffer) (take more into) left) ∙ ap (λ xs. xs ++ left) (sym cut))
-
--- a source that has come to its end has given all its bytes
-pub all_given : (text : List ℕ) (new : Option (List ℕ)) (count : ℕ) (into : List ℕ) → Gives (Some text) new count into → ForSome new (λ rest. rest ≡ []) → text ≡ take count into
-all_given text None count into given end = absurd (cc)
-all_given text (Some rest) count into given end =
-    let is : text ≡ take count into ++ rest = cc in
-    is ∙ ap (λ xs. take count into ++ xs) (end rest refl) ∙ append-nil (take count into)
-
--- what holds at Ok, if there is no error
-pub ok_holds : {T E : Type 0} (result : Result T E) (P : Type 0) → false ≡ is_err result → OnOk result P → P
-ok_holds (Ok v) P none holds = holds
-ok_holds (Err e) P none holds = absurd (cc)
 
 -- nothing is a part of each text
 pub part_none : (told : Option (List ℕ)) (text : List ℕ) → WrotePart told told text

@@ -9,6 +9,7 @@ ghost use Rattle.fc_shell.specs.Answered.{Answered, ForState, IsCaused, volume_r
 ghost use Rattle.fc_shell.specs.Built.{is_built, is_unbuilt_command};
 ghost use Rattle.fc_shell.specs.Replies.{script_limit};
 ghost use Rattle.fc_shell.specs.Line.{KeepsGoing, LineEnds};
+ghost use Rattle.fc_shell.specs.declared.answer.LineFault.TheVariants as errors;
 
 use crate::built::is_reading;
 use crate::cat::cat;
@@ -19,7 +20,7 @@ use crate::digest::digest;
 use crate::free::free;
 use crate::load::load;
 use crate::reply::{refusal, tell};
-use fc_device::{Disk, Sink};
+use fc_device::{Disk, DiskFault, Failed, NoMemory, Sink};
 use fc_names::Refusal;
 use fc_script::{Command, LineError, read_line};
 use fc_volume::Volume;
@@ -33,6 +34,37 @@ pub enum LineFault {
     /// A call of the output failed.
     Out,
     NoMemory,
+}
+
+impl From<DiskFault> for LineFault {
+    ghost from_gives = { λ _ e. e ≡ errors.Disk };
+
+    fn from(_: DiskFault) -> Self
+        ensures { result ≡ errors.Disk }
+    {
+        LineFault::Disk
+    }
+}
+
+/// A failure is the output's, since a disk's is a `DiskFault`.
+impl From<Failed> for LineFault {
+    ghost from_gives = { λ _ e. e ≡ errors.Out };
+
+    fn from(_: Failed) -> Self
+        ensures { result ≡ errors.Out }
+    {
+        LineFault::Out
+    }
+}
+
+impl From<NoMemory> for LineFault {
+    ghost from_gives = { λ _ e. e ≡ errors.NoMemory };
+
+    fn from(_: NoMemory) -> Self
+        ensures { result ≡ errors.NoMemory }
+    {
+        LineFault::NoMemory
+    }
 }
 
 // Answers a command that changes nothing.

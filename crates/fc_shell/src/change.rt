@@ -27,10 +27,8 @@ fn tell_done<K: Sink>(out: &mut K) -> Result<bool, LineFault>
     ensures answered { Answered ok_line (K.taken out.old) (K.taken out.new) result }
     ensures only { OnlyTells K.Sink out.old out.new result }
 {
-    match write_all(out, b"ok\n") {
-        Ok(()) => Ok(false),
-        Err(_) => Err(LineFault::Out),
-    }
+    write_all(out, b"ok\n")?;
+    Ok(false)
 }
 
 // Writes the line of a refusal. After any other error nothing is written.

@@ -58,15 +58,11 @@ fn write_blocks<D: Disk, K: Sink>(
 {
     let mut reader = ObjectReader::new(place, size, len);
     loop {
-        let Ok(count) = reader.read(disk, block) else {
-            return Err(LineFault::Disk);
-        };
+        let count = reader.read(disk, block)?;
         if count == 0 {
             return Ok(());
         }
-        if write_hex(out, &block[..count], text).is_err() {
-            return Err(LineFault::Out);
-        }
+        write_hex(out, &block[..count], text)?;
     }
 }
 
@@ -160,9 +156,7 @@ pub fn write_file<D: Disk, K: Sink>(
     ensures out_cause { result ≡ Err LineFault.Out → Rose (K.faults out.old) (K.faults out.new) }
 {
     write_place(disk, out, size, place, len)?;
-    if write_all(out, b"\nok\n").is_err() {
-        return Err(LineFault::Out);
-    }
+    write_all(out, b"\nok\n")?;
     Ok(())
 }
 
@@ -192,11 +186,7 @@ pub fn write_digest<D: Disk, K: Sink>(
     ensures disk_cause { result ≡ Err LineFault.Disk → Rose (D.faults disk.old) (D.faults disk.new) }
     ensures out_cause { result ≡ Err LineFault.Out → Rose (K.faults out.old) (K.faults out.new) }
 {
-    let Ok(sum) = hash_place(disk, size, place, len) else {
-        return Err(LineFault::Disk);
-    };
-    if write_sum(out, &sum).is_err() {
-        return Err(LineFault::Out);
-    }
+    let sum = hash_place(disk, size, place, len)?;
+    write_sum(out, &sum)?;
     Ok(())
 }

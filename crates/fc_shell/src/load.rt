@@ -31,9 +31,7 @@ fn tell_file<D: Disk, K: Sink>(
     ensures reads { OnlyReads D.Disk disk.old disk.new }
     ensures caused { IsCaused D.Disk K.Sink disk.old disk.new out.old out.new result }
 {
-    let Ok(place) = volume.place(alloc, file) else {
-        return Err(LineFault::NoMemory);
-    };
+    let place = volume.place(alloc, file)?;
     let size = volume.space().sector_bytes() as usize;
     write_file(disk, out, size, &place, file.len)?;
     Ok(false)

@@ -34,11 +34,7 @@ pub fn tell<K: Sink>(out: &mut K, reply: Result<Reply, NoMemory>) -> Result<bool
     ensures answered { (text : List ℕ) → IfOk reply (λ reply. IsReply reply text) → Answered text (K.taken out.old) (K.taken out.new) result }
     ensures only { OnlyTells K.Sink out.old out.new result }
 {
-    let Ok(reply) = reply else {
-        return Err(LineFault::NoMemory);
-    };
-    match write_all(out, &reply.text) {
-        Ok(()) => Ok(reply.is_error),
-        Err(_) => Err(LineFault::Out),
-    }
+    let reply = reply?;
+    write_all(out, &reply.text)?;
+    Ok(reply.is_error)
 }

@@ -18,7 +18,7 @@ returns-then-others_leave_free c =
     let m = c.args.map.now in
     room_there m c.args.owners.now c.args.dir c.args.address c.args.len (sectors_in c.in-Ok.place.items) c.requires.some
     (ap₂ (λ (l : Layout) (n : ℕ). sectors_at l c.args.address n) (sym c.requires.map) (sym c.from-bytes.ensures) ∙ c.in-Ok.ensures.place)
-    c.if-id-eq2.false
+    c.if-id-eq-MAP_ID.false
     (ap (λ (first : ℕ). others_leave_free c.args.owners.now c.args.dir (id_of c.args.address) first (div_ceil c.args.len m.geometry.sector)) (sym c.low_start-first.ensures.value)
     ∙ ap (λ (need : ℕ). others_leave_free c.args.owners.now c.args.dir (id_of c.args.address) c.low_start-first.result need)
     (sym (c.div_ceil-need.ensures ∙ ap₂ div_ceil c.from-bytes.ensures (c.from.ensures ∙ ap (λ (g : Geometry). g.sector) c.geometry.ensures.value)))

@@ -14,8 +14,10 @@ returns-in_err-write_place-clause-told g c image told =
     told_stopped (load_reply bytes) (taken c.args.out.now) (taken c.write_place.new.out) c.from_residual.result p.0 p.1
     (digits_cut (taken c.args.out.now) (taken c.write_place.new.out) (encode_lower bytes) (c.in_err-write_place.ensures.told image told))
 
-pub returns-then-is_err-clause-told : goal.returns-then-is_err-clause-told
-returns-then-is_err-clause-told g c image told =
+pub returns-in_err-write_all-clause-told : goal.returns-in_err-write_all-clause-told
+returns-in_err-write_all-clause-told g c image told =
     let taken = g.K.Sink.taken in
     let bytes = bytes_in c.args.size image (sectors_in c.args.place.now) c.args.len in
-    end_cut (taken c.args.out.now) (taken c.write_place.new.out) (taken c.write_all.new.out) (encode_lower bytes) (c.in_ok-write_place.ensures.told image told) c.write_all.ensures.part
+    let p = err_from_is_err_and c.from_residual-in_err-write_all.result c.from_residual-in_err-write_all.ensures.1 in
+    told_stopped (load_reply bytes) (taken c.args.out.now) (taken c.write_all.new.out) c.from_residual-in_err-write_all.result p.0 p.1
+    (end_cut (taken c.args.out.now) (taken c.write_place.new.out) (taken c.write_all.new.out) (encode_lower bytes) (c.in_ok-write_place.ensures.told image told) c.write_all.ensures.part)
