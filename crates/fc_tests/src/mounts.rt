@@ -1,24 +1,14 @@
 // Images by hand, good ones and one for each fault that mounting itself decides. The checks were worked out by another
 // program.
+use crate::images::{PLUS, Part, RECORD_E, RECORD_E_PLUS, RECORD_F, never, put};
 use fc_device::{Disk, Failing, MemoryDisk};
 use fc_image::ImageFault;
 use fc_volume::{MountError, Volume};
 use std::alloc::Global;
 use std::test::Fail;
 
-type Part = (usize, &'static [u8]);
-
 // An answer as the rows have it: its name, and the numbers that it has.
 type Told = (&'static str, u64, u64);
-
-const RECORD_E: &[u8] = b"\x0a\x05\x02\x02\x0f\x07\x01\0\0\x01\x20\x05\x03\x02\0\0\0\x80\x0c";
-
-const RECORD_F: &[u8] = b"\x0a\x0a\x02\x04\x0f\x06\x01\0\0\x04\x40\x06\x09\x02\0\0\0\0\x19";
-
-const RECORD_E_PLUS: &[u8] = b"\x0a\x05\x02\x02\x0f\x07\x01\0\0\x01\x20\x05\x01\x03\0\0\0\x80\x0c";
-
-// What a record with big directories has from byte 44 on.
-const PLUS: &[u8] = b"\x01\0\0\0\0\x08";
 
 const E: &[Part] = &[
     (0, b"\x0f\x18\x82\xff"),
@@ -126,23 +116,6 @@ const ROWS: &[Row] = &[
         ("MapPlace", 0, 0),
     ),
 ];
-
-fn never(alloc: Global) -> Failing {
-    Failing {
-        reads: Vec::new(alloc),
-        writes: Vec::new(alloc),
-        syncs: Vec::new(alloc),
-    }
-}
-
-// Bytes put at places.
-fn put(b: &mut [u8], parts: &[Part]) {
-    for (at, bytes) in parts {
-        for (place, byte) in b.iter_mut().skip(*at).zip(*bytes) {
-            *place = *byte;
-        }
-    }
-}
 
 // A fault as the rows have it.
 fn told_of(fault: &ImageFault) -> Told {

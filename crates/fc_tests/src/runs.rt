@@ -7,6 +7,7 @@ mod failing;
 mod identifiers;
 mod old_maps;
 
+use crate::images::{Part, put, put_at};
 use fc_device::{Failing, ListSink, ListSource, MemoryDisk, PlainDisk};
 use fc_shell::run;
 use std::alloc::Global;
@@ -14,8 +15,6 @@ use std::test::Fail;
 
 // The bytes in the longest disc that is made here.
 const FRESH: usize = 1_638_400;
-
-type Part = (usize, &'static [u8]);
 
 // A disc: a fresh volume of a format, or so many bytes 0 if there is none, with parts put over it. The copies of its map, of so
 // many bytes, lie one after the other; an image has the first alone among its parts. There is none on a disc with an old map.
@@ -93,12 +92,6 @@ fn fresh(alloc: Global, format: &str) -> Result<Vec<u8>, Fail> {
     Ok(image)
 }
 
-fn put(image: &mut Vec<u8>, at: usize, bytes: &[u8]) {
-    for (place, byte) in image.iter_mut().skip(at).zip(bytes) {
-        *place = *byte;
-    }
-}
-
 // So many bytes of an image from a place on.
 fn part_of(alloc: Global, image: &[u8], at: usize, length: usize) -> Result<Vec<u8>, Fail> {
     let mut part = Vec::new(alloc);
@@ -117,13 +110,11 @@ fn image_of(alloc: Global, disc: &Disc) -> Result<Vec<u8>, Fail> {
         vec![in alloc; 0; disc.length]?
     };
     for parts in disc.parts {
-        for (at, bytes) in *parts {
-            put(&mut image, *at, bytes);
-        }
+        put(&mut image, parts);
     }
     if !is_fresh {
         let map = part_of(alloc, &image, disc.map, disc.copy)?;
-        put(&mut image, disc.map.saturating_add(disc.copy), &map);
+        put_at(&mut image, disc.map.saturating_add(disc.copy), &map);
     }
     Ok(image)
 }

@@ -1,16 +1,9 @@
 // What a crash leaves of a disk in memory, on a worked case: the program has no such disk, and the crashes in the runs here rest
 // on it.
-use fc_device::{Disk, Failing, MemoryDisk};
+use crate::images::never;
+use fc_device::{Disk, MemoryDisk};
 use std::alloc::Global;
 use std::test::Fail;
-
-fn never(alloc: Global) -> Failing {
-    Failing {
-        reads: Vec::new(alloc),
-        writes: Vec::new(alloc),
-        syncs: Vec::new(alloc),
-    }
-}
 
 // Whether each sector of 256 bytes has this value throughout.
 fn has_sectors(bytes: &[u8], values: &[u8]) -> bool {

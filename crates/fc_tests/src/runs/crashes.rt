@@ -1,6 +1,7 @@
 // Crashes and failing calls inside `compact`, over a disk in memory that tells what they may leave. The images were worked out by
 // another program.
-use super::{Disc, Faults, NONE, Part, copied, faulty, image_of, outcome, part_of};
+use super::{Disc, Faults, NONE, copied, faulty, image_of, outcome, part_of};
+use crate::images::Part;
 use fc_device::MemoryDisk;
 use std::alloc::Global;
 use std::test::Fail;

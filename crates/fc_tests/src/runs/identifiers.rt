@@ -1,7 +1,8 @@
 // A whole run over a disc on which every identifier has a run, while space is left.
 ghost use Rattle.std.specs.Prelude.{◌<◌};
 
-use super::{copied, put, texts};
+use super::{copied, texts};
+use crate::images::{Part, put, put_at};
 use fc_device::{ListSink, ListSource, PlainDisk};
 use fc_shell::run;
 use std::test::Fail;
@@ -10,7 +11,7 @@ use std::test::Fail;
 const SIZE: usize = 8_134_656;
 
 // What stands before the runs: the disc record, and the root, which is empty.
-const PARTS: &[(usize, &[u8])] = &[
+const PARTS: &[Part] = &[
     (3520, b"\x08\0\0\0\x0b\x08\0\0\0\x10 \0\0\x03\0\0\0 |"),
     (3583, b"\xea"),
     (6145, b"Nick"),
@@ -61,20 +62,20 @@ fn two_runs(id: u32) -> [u8; 3]
 fn put_map(map: &mut Vec<u8>) {
     let mut zone: usize = 0;
     for (head, start, first, pairs) in ZONES {
-        put(map, zone, head);
+        put_at(map, zone, head);
         let mut place = zone.saturating_add(*start);
         for pair in 0..*pairs {
             let id = first.saturating_add(pair.saturating_mul(2)) % 2047;
-            put(map, place, &two_runs(id));
+            put_at(map, place, &two_runs(id));
             place = place.saturating_add(3);
         }
         zone = zone.saturating_add(256);
     }
-    put(map, 64, b"\x02\0\x80");
+    put_at(map, 64, b"\x02\0\x80");
     // The last identifier has the last run of zone 12. The hole after it ends with the zone, as those of the zones after it.
-    put(map, 3187, b"\xff\x0f");
+    put_at(map, 3187, b"\xff\x0f");
     for end in [3327, 3583, 3839, 4095] {
-        put(map, end, b"\x80");
+        put_at(map, end, b"\x80");
     }
 }
 
@@ -82,13 +83,11 @@ fn put_map(map: &mut Vec<u8>) {
 fn identifiers_run_out(rt: HostRuntime) -> Result<(), Fail> {
     let alloc = rt.alloc();
     let mut image = vec![in alloc; 0; SIZE]?;
-    for (at, bytes) in PARTS {
-        put(&mut image, *at, bytes);
-    }
+    put(&mut image, PARTS);
     let mut map = vec![in alloc; 0; 4096]?;
     put_map(&mut map);
-    put(&mut image, 4_005_888, &map);
-    put(&mut image, 4_009_984, &map);
+    put_at(&mut image, 4_005_888, &map);
+    put_at(&mut image, 4_009_984, &map);
     let mut disk = PlainDisk::new(
         String::from_str(alloc, "disc")?,
         copied(alloc, &image)?,
