@@ -25,6 +25,11 @@ USING = re.compile(r"using\(([^)]*)\)")
 WRITTEN_BY_GOALS = ("Answers.antt", "Invariants.antt", "Proof.antt", "Lib.antt")
 
 
+def read(path):
+    with open(path, encoding="utf-8") as it:
+        return it.read()
+
+
 class Item:
     """A definition or lemma at the top of a file: its name, its statement, and the lines of its body."""
 
@@ -34,20 +39,22 @@ class Item:
 
 
 class File:
-    """A file of definitions or lemmas: what it imports, and its items."""
+    """A file of the kit, or of a crate: its items, and what it imports."""
 
     def __init__(self, path):
-        self.path, self.crate = path, path.split("/")[1]
-        self.module = "Rattle." + path[len("crates/"):-len(".antt")].replace("/", ".")
-        with open(path, encoding="utf-8") as it:
-            self.lines = it.read().split("\n")
-        self.imports, self.items = {}, []
-        for line in self.lines:
-            found = USE.match(line)
-            for name in found[2].split(",") if found else ():
-                self.imports[name.split(" as ")[-1].strip()] = found[1]
+        self.path, self.lines, self.imports, self.items = path, read(path).split("\n"), {}, []
+        for line in filter(None, map(USE.match, self.lines)):
+            self.imports.update((name.split(" as ")[-1].strip(), line[1]) for name in line[2].split(","))
         self.read_items()
         self.names = {item.name for item in self.items}
+
+    @property
+    def crate(self):
+        return self.path.split("/")[1]
+
+    @property
+    def module(self):
+        return "Rattle." + self.path[len("crates/"):-len(".antt")].replace("/", ".")
 
     def read_items(self):
         """An item goes on with indented lines, closing brackets, and lines that begin with its name."""
@@ -116,13 +123,13 @@ def lemmas_of_std(kit):
 
     @functools.lru_cache(maxsize=None)
     def statements(path):
-        return {item.name: item for item in FileOfKit(path).items if item.is_pub} if os.path.isfile(path) else {}
+        return {item.name: item for item in File(path).items if item.is_pub} if os.path.isfile(path) else {}
 
     for path in sorted(glob.glob(f"{root}/std/proofs/lemmas/**/*.antt", recursive=True)):
         module = "Rattle.std." + os.path.relpath(path, f"{root}/std")[:-len(".antt")].replace("/", ".")
         for name, item in statements(path).items():
             found[statement_of(item)].add(f"{module}.{name}")
-        for passed in re.finditer(r"^pub use ([\w.]+)\.\{(.*)\}", open(path, encoding="utf-8").read(), re.MULTILINE):
+        for passed in re.finditer(r"^pub use ([\w.]+)\.\{(.*)\}", read(path), re.MULTILINE):
             above = passed[1].split(".")
             folder = {"Rattle": root, "borrow": f"{root}/logic/Borrow"}.get(above[0])
             there = statements("/".join([folder, *above[1:]]) + ".antt") if folder else {}
@@ -133,26 +140,15 @@ def lemmas_of_std(kit):
     return found
 
 
-class FileOfKit(File):
-    """A file of the kit, of which only the items are asked."""
-
-    def __init__(self, path):
-        self.path, self.crate, self.module, self.imports, self.items = path, "", "", {}, []
-        with open(path, encoding="utf-8") as it:
-            self.lines = it.read().split("\n")
-        self.read_items()
-
-
 def crates_in_order():
     """The crates, lowest first, each with those that it uses."""
-    with open("crates.txt", encoding="utf-8") as it:
-        rows = [line.split("#")[0].split(":") for line in it if ":" in line.split("#")[0]]
+    rows = [line.split("#")[0].split(":") for line in read("crates.txt").split("\n") if ":" in line.split("#")[0]]
     return {row[0].strip(): row[1].split() for row in rows}
 
 
 def copies_of_std(files, std):
-    """The lemmas of these files that std has."""
-    for item in (item for file in files for item in file.items if "/proofs/" in file.path and "→" in item.statement):
+    """The lemmas of these files that std has. What only names types says too little to be one."""
+    for item in (item for file in files if "/proofs/" in file.path for item in file.items if re.search("→.*[≡≤<⊥]", item.statement)):
         for name in sorted(std.get(statement_of(item), ()))[:1]:
             yield f"{item.file.path}:{item.start + 1} {item.name} is {name}"
 
@@ -189,7 +185,7 @@ def names_asked_for():
     """What any file imports of another, or gives to the prover by `using(crate::proofs::MODULE::NAME)`."""
     found = set()
     for path in glob.glob("crates/*/**/*.antt", recursive=True) + glob.glob("crates/*/**/*.rt", recursive=True):
-        text = open(path, encoding="utf-8").read()
+        text = read(path)
         for line in filter(None, map(USE.match, text.split("\n"))):
             found |= {f"{line[1]}.{name.split(' as ')[0].strip()}" for name in line[2].split(",")}
         for given in re.finditer(r"crate((?:::[\w'-]+)+)", " ".join(USING.findall(text))):
