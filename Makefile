@@ -1,3 +1,4 @@
+# SPDX-License-Identifier: MIT
 # fcore: see README.md. `rt` is the command of the Rattle kit.
 PREFIX ?= /usr/local
 PROGRAM = crates/fcore/out/fcore

@@ -1,3 +1,4 @@
+# SPDX-License-Identifier: MIT
 """What each fault of an image means to its owner, and what to do about it; and why fcore refused a line."""
 from __future__ import annotations
 

@@ -1,4 +1,5 @@
 #!/usr/bin/env python3
+# SPDX-License-Identifier: MIT
 """Runs fcdisc over images of all kinds: its cases, each disc that fcore accepts, each that it refuses, and its names alone.
 
 usage: tools/run checks/fcdisc FCDISC FCORE [changes]    with `changes`, the jobs that change a disc alone

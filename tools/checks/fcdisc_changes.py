@@ -1,3 +1,4 @@
+# SPDX-License-Identifier: MIT
 """Checks of the jobs of fcdisc that change a disc.
 
 The trees are read by tools/reference/read_image.py; what has to be on a disc is written here, or follows from the disc that was extracted.

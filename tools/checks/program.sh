@@ -1,4 +1,5 @@
 #!/usr/bin/env bash
+# SPDX-License-Identifier: MIT
 # Runs the built program over the images of tools/images/table.py, and compares output and status with that table; then the examples
 # of README.md. No image may be changed. Then demos, the program where the system fails it, commands that change, fcdisc over the
 # program, what `make install` puts there, and the man pages. Pages are tried first: the reader that was written from that of the
@@ -18,6 +19,8 @@ cd "$folder" || exit 1
 "$tools/run" images/table --check || exit 1
 "$tools/run" reference/format_reader --compare || exit 1
 "$tools/run" checks/quotations "$top/docs/PROVED.md" "$top/docs/CHANGING.md" || exit 1
+"$tools/run" checks/bounds || exit 1
+"$tools/run" checks/licence || exit 1
 "$tools/run" images/table "$folder" || exit 1
 mkdir run bin
 ln -s "$program" bin/fcore

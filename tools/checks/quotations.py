@@ -1,4 +1,5 @@
 #!/usr/bin/env python3
+# SPDX-License-Identifier: MIT
 """Compares what pages quote of the repository's files with these files, and sees that the edits that they name are there.
 
 usage: tools/run checks/quotations PAGE...

@@ -1,4 +1,5 @@
 #!/usr/bin/env python3
+# SPDX-License-Identifier: MIT
 """Builds images of FileCore discs of every kind, and a table of what fcore has to answer over them.
 
 usage: tools/run images/table FOLDER    fills an empty folder with the images and, in FOLDER/cases, a folder for each case:

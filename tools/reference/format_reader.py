@@ -1,4 +1,5 @@
 #!/usr/bin/env python3
+# SPDX-License-Identifier: MIT
 """A reader of disc images that uses docs/FORMAT.md and nothing else, to show that the page is complete.
 
 usage: tools/run reference/format_reader IMAGE       prints the fault, or what `check` and `free` count and each object with its SHA-256
