@@ -211,7 +211,8 @@ def folder_of_images(checks, files):
 
 # ---- the examples of the man pages
 
-EXAMPLE_IMAGES = {b"f-user.adf": "f-user.adf", b"d-twin.adf": "d-twin.adf", b"old.adl": "sides.adl", b"disc.hdf": "header.hdf"}
+EXAMPLE_IMAGES = {b"f-user.adf": "f-user.adf", b"d-twin.adf": "d-twin.adf", b"old.adl": "sides.adl", b"disc.hdf": "header.hdf",
+                  **{name: name.decode() for name in (b"named.adf", b"hello.adf", b"e-plus-grown.adf")}}
 
 
 def examples_of(page):
