@@ -11,15 +11,12 @@ import re
 import sys
 from typing import Dict, Iterator, List, NamedTuple, Tuple
 
-from tools.files import TOOLS, TOP
+from tools.checks import sources
+from tools.files import TOOLS
 
 BOUNDS: Dict[str, int] = {"clauses": 15, "parameters": 7, "law": 10}
 TOLD: Dict[str, str] = {"clauses": "clauses", "parameters": "parameters", "law": "parameters of a law"}
 EXCEPTIONS = os.path.join(TOOLS, "checks", "bounds.txt")
-FUNCTION = re.compile(r"^[ \t]*(?:pub(?:\([a-z]+\))? )?(?:const )?fn (\w+)", re.MULTILINE)
-LAW = re.compile(r"^(?:pub )?record (\w*Laws?)\b.*?\bwhere\n((?:[ \t].*\n|\n)*)", re.MULTILINE)
-FIELD = re.compile(r"^  (?:pub )?(\w+) : (.*\n(?:    .*\n|\n)*)", re.MULTILINE)
-
 Key = Tuple[str, str, str]  # what is counted, crate, name
 
 
@@ -29,56 +26,14 @@ class Found(NamedTuple):
     place: str  # file and line
 
 
-def files(crate: str, folder: str, ending: str) -> Iterator[Tuple[str, str]]:
-    for place, folders, names in os.walk(os.path.join(TOP, "crates", crate, folder)):
-        folders.sort()
-        for name in sorted(names):
-            if name.endswith(ending) and "test" not in name:
-                path = os.path.join(place, name)
-                with open(path) as file:
-                    yield os.path.relpath(path, TOP), file.read()
-
-
-def enclosed(text: str, at: int) -> Tuple[str, int]:
-    """What stands between the bracket at a place and its partner, and the place after that."""
-    depth = 0
-    for end in range(at, len(text)):
-        depth += {"(": 1, ")": -1}.get(text[end], 0)
-        if depth == 0:
-            return text[at + 1:end], end + 1
-    return text[at + 1:], len(text)
-
-
-def parts(text: str) -> List[str]:
-    """What commas separate that stand in no bracket of any kind."""
-    found, depth = [""], 0
-    for letter in text.replace("->", "  "):
-        depth += {"(": 1, "<": 1, "[": 1, ")": -1, ">": -1, "]": -1}.get(letter, 0)
-        if letter == "," and depth == 0:
-            found.append("")
-        else:
-            found[-1] += letter
-    return [one for one in found if one.strip()]
-
-
-def head_after(text: str, at: int) -> str:
-    """What stands between a function's parameters and its body."""
-    line = text[at:text.index("\n", at)]
-    if "{" in line or line.endswith(";"):  # a function without clauses
-        return line
-    return re.split(r"^[ \t]*\{\}?[ \t]*$|;[ \t]*$", text[at:], maxsplit=1, flags=re.MULTILINE)[0]
-
-
-def functions(crate: str) -> Iterator[Found]:
-    """The clauses and the parameters of each function; `self` counts."""
-    for path, text in files(crate, "src", ".rt"):
-        for match in FUNCTION.finditer(text):
-            place = "%s:%d" % (path, text.count("\n", 0, match.start()) + 1)
-            start = text.index("(", match.end())
-            inner, after = enclosed(text, start)
-            clauses = len(re.findall(r"^[ \t]*(?:requires|ensures) ", head_after(text, after), re.MULTILINE))
-            yield Found(("clauses", crate, match[1]), clauses, place)
-            yield Found(("parameters", crate, match[1]), len(parts(inner)), place)
+def counted(crate: str) -> Iterator[Found]:
+    """The clauses and the parameters of each function, `self` too, and the parameters of each law."""
+    for one in sources.functions(crate):
+        yield Found(("clauses", crate, one.name), len(one.requires) + len(one.ensures), one.place)
+        yield Found(("parameters", crate, one.name), one.parameters, one.place)
+    for record in sources.records(crate):
+        for name, (kind, place) in record.fields.items() if re.search("Laws?$", record.name) else ():
+            yield Found(("law", crate, "%s.%s" % (record.name, name)), named_parameters(kind), place)
 
 
 def named_parameters(kind: str) -> int:
@@ -88,26 +43,18 @@ def named_parameters(kind: str) -> int:
         begin = re.compile(r"\s*(?:→\s*)?(?=\()").match(kind, at)
         if not begin:
             return count
-        inner, at = enclosed(kind, begin.end())
+        inner, at = sources.enclosed(kind, begin.end())
         names, colon, _ = inner.partition(" : ")
         if not colon or not re.fullmatch(r"[^\s(){}]+(\s+[^\s(){}]+)*", names):
             return count
         count += len(names.split())
 
 
-def laws(crate: str) -> Iterator[Found]:
-    for path, text in files(crate, "", ".antt"):
-        for record in LAW.finditer(text):
-            for field in FIELD.finditer(record[2]):
-                line = text.count("\n", 0, record.start(2) + field.start()) + 1
-                yield Found(("law", crate, "%s.%s" % (record[1], field[1])), named_parameters(field[2]), "%s:%d" % (path, line))
-
-
 def measured(crates: List[str]) -> Dict[Key, Found]:
     """The most of each name of a crate, since files are moved oftener than functions get other names."""
     most: Dict[Key, Found] = {}
     for crate in crates:
-        for found in (*functions(crate), *laws(crate)):
+        for found in counted(crate):
             if found.key not in most or found.count > most[found.key].count:
                 most[found.key] = found
     return most
@@ -127,7 +74,7 @@ def write(listed: Dict[Key, int]) -> None:
 
 
 def main(words: List[str]) -> bool:
-    every = sorted(os.listdir(os.path.join(TOP, "crates")))
+    every = sources.crates()
     crates = [word for word in words if word in every] or every
     found, listed = measured(crates), exceptions()
     above = {key: one for key, one in found.items() if one.count > BOUNDS[key[0]]}

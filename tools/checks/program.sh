@@ -18,7 +18,7 @@ trap 'rm -rf "$folder"' EXIT
 cd "$folder" || exit 1
 "$tools/run" images/table --check || exit 1
 "$tools/run" reference/format_reader --compare || exit 1
-"$tools/run" checks/quotations "$top/docs/PROVED.md" "$top/docs/CHANGING.md" || exit 1
+"$tools/run" checks/quotations || exit 1
 "$tools/run" checks/bounds || exit 1
 "$tools/run" checks/licence || exit 1
 "$tools/run" images/table "$folder" || exit 1
