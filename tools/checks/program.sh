@@ -19,6 +19,7 @@ cd "$folder" || exit 1
 "$tools/run" images/table --check || exit 1
 "$tools/run" reference/format_reader --compare || exit 1
 "$tools/run" checks/quotations || exit 1
+"$tools/run" checks/definitions --check || exit 1
 "$tools/run" checks/bounds || exit 1
 "$tools/run" checks/licence || exit 1
 "$tools/run" images/table "$folder" || exit 1
