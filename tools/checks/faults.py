@@ -19,8 +19,6 @@ sys.dont_write_bytecode = True
 
 from fcdisc_lib.meanings import DIRECTORY_FAULTS, FAULTS, REFUSALS  # noqa: E402
 
-COMMANDS = ("cdir", "rename", "delete", "save", "create", "compact")
-
 
 def sentence(text: str) -> str:
     return text[0].upper() + text[1:] + ("" if text.endswith(".") else ".")
@@ -64,9 +62,10 @@ def directory_items() -> Iterator[str]:
 
 def refusal_items() -> List[str]:
     """The list of fcore(1)."""
-    lines = ['.Bl -tag -width "error 4 NotDirectory"']
-    for name, refusal in REFUSALS.items():
-        lines.append(".It Li error %d %s" % (refusal.number, name))
+    items = ["error %d %s" % (refusal.number, name) for name, refusal in REFUSALS.items()]
+    lines = ['.Bl -tag -width "%s"' % max(items, key=len)]
+    for words, refusal in zip(items, REFUSALS.values()):
+        lines.append(".It Li " + words)
         lines += roff(sentence(refusal.meaning))
     return [*lines, ".El"]
 
