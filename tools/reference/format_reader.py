@@ -13,7 +13,7 @@ from __future__ import annotations
 import hashlib
 import signal
 import sys
-from typing import Any, Dict, List, Optional, Set, Tuple
+from typing import Any, Dict, List, Optional, Set, Tuple, Union
 
 Fields = Dict[str, Any]  # of an entry, by their names
 
