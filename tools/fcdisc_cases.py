@@ -346,7 +346,7 @@ def making(files, extra):
     yield Case("new-lower", ["new", "e+", "x.adf"], left={b"x.adf": bytes(files["fresh-E+.adf"])})
     yield Case("new-there", ["new", "E", "x.adf"], err="fcdisc: x.adf: " + THERE + "\n", status=1, before={b"x.adf": b"mine"})
     yield Case("new-no-folder", ["new", "E", "none/x.adf"], err="fcdisc: none/x.adf: No such file or directory\n", status=1)
-    yield Case("new-full-disk", ["new", "E", "x.adf"], ". ./pad\n", "fcdisc: x.adf: %s\n" % WRITE_FAILED, 1, within=FULL_DISK % (
+    yield Case("new-full-disk", ["new", "E", "x.adf"], ". ./pad\n", "fcdisc: x.adf: No space left on device\n", 1, within=FULL_DISK % (
         16, "head -c 20000 /dev/zero > pad 2> /dev/null"))
     yield Case("new-too-large", ["new", "F", "x.adf"], err="fcdisc: x.adf: ...\n", status=1,
                within='ulimit -f 16; exec "$@"')

@@ -11,11 +11,13 @@ import signal
 import stat
 import subprocess
 
+import fcdisc_backups
 import fcdisc_cases
 import images
 from change_state import State
+from fcdisc_hosts import on_host
 from filecore import NOT_SPELLED, spelled_path
-from files import TOOLS, read
+from files import read
 
 SETTABLE = 15
 LOST = "lost what others than the owner may do: fcore can't set that"
@@ -73,11 +75,12 @@ class Changes:
         return sorted(map(os.fsdecode, os.listdir(self.work)))
 
     def good(self, name, words, tree, out="", image="a.adf", **more):
-        """A job that does all: the tree afterwards, and the image as it was beside it."""
-        before = read(self.at(image))
+        """A job that does all: the tree afterwards, and the image as it was before the first change beside it."""
+        before, first = self.both(image)
         got = self.run(*words, **more)
-        backup = os.path.exists(self.at(image + "~")) and read(self.at(image + "~")) == before
-        self.checks.expect(name, result=((out, "", 0), got), tree=(tree, short_tree(read(self.at(image)))), backup=(True, backup))
+        backup = before if first is None else first
+        self.checks.expect(name, result=((out, "", 0), got), tree=(tree, short_tree(read(self.at(image)))),
+                           backup=(True, backup == self.both(image)[1]))
 
     def refused(self, name, words, error, status=1, out="", image="a.adf", notes=0, **more):
         """A job that does nothing: image and folder stay as they were. `notes`: lines that may come before the error."""
@@ -370,7 +373,7 @@ def no_room(c):
               'cd ../room && head -c 300000 /dev/zero > pad; "$@"; status=$?; echo $(find . | sort); exit $status\' sh "$@"; '
               'status=$?; rmdir ../room; exit $status')
     c.refused("no room for a copy", ["put", "a.adf", "note", "$.N"],
-              "a.adf: no copy of it can be made beside it (No space left on device); --in-place does without",
+              "a.adf: its changed copy can't be written beside it (No space left on device): 0.7 MB more are needed; nothing was changed",
               out=". ./a.adf ./note ./pad\n", within=within)
 
 
@@ -382,15 +385,10 @@ HOSTS = (
 DENIED = "fcdisc: a.adf: its changed copy can't take its name (Permission denied): it stays as it was, and a.adf~ is the same now\n"
 
 
-def on_host(host):
-    """The words before those of fcdisc."""
-    return "exec python3 '%s' %s \"$@\"" % (os.path.join(TOOLS, "fcdisc_hosts.py"), host)
-
-
 def other_hosts(c):
     """Whatever the host can't do and whenever a signal comes, the image's name leads to a whole image, and so does the backup's."""
     for host, status, is_changed, is_backed in HOSTS:
-        before, seen = c.start(files={"note": b"Hello", "a.adf~": b"older"}), c.checks.place(b"seen")
+        before, seen = c.start(files={"note": b"Hello"}), c.checks.place(b"seen")
         os.chmod(c.at("a.adf"), 0o640)
         with open(seen, "wb"):
             pass  # what other jobs left
@@ -401,9 +399,9 @@ def other_hosts(c):
         looks = read(seen).decode().split("\n")[:-1]
         c.checks.expect("put on the host " + host, result=(("", DENIED if "denied" in host else "", status), got),
                         tree=({**NAMED, "$.N": (3, b"Hello")} if is_changed else NAMED, short_tree(after)),
-                        same=(not is_changed, after == before), backup=(True, backup == (before if is_backed else b"older")),
+                        same=(not is_changed, after == before), backup=(True, backup == (before if is_backed else None)),
                         seen=([], [one for one in looks if one not in allowed]), some=(is_backed, bool(looks)),
-                        left=(["a.adf", "a.adf~", "note"], c.names()), mode=(0o640, stat.S_IMODE(os.stat(c.at("a.adf")).st_mode)))
+                        left=(["a.adf", *["a.adf~"][:is_backed], "note"], c.names()), mode=(0o640, stat.S_IMODE(os.stat(c.at("a.adf")).st_mode)))
         if is_backed:
             found = os.stat(c.at("a.adf~"))
             c.checks.expect("the backup on the host " + host, kept=((0o640, time), (stat.S_IMODE(found.st_mode), found.st_mtime_ns)))
@@ -516,6 +514,7 @@ def run_all(checks, mounts):
     if mounts:
         no_room(c)
     kept_words(c)
+    fcdisc_backups.run_all(c, mounts)
     seen = []
     discs = [(name, volume, data) for name, volume, data in images.accepted() if len(data) < 2000000]
     for name in ("hostile", "one"):

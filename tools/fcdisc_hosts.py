@@ -50,6 +50,11 @@ class Host:
         self.system["fsync"](number)
 
 
+def on_host(host):
+    """The words before those of fcdisc, for a shell."""
+    return "exec python3 '%s' %s \"$@\"" % (os.path.realpath(__file__), host)
+
+
 def digest():
     try:
         with open(IMAGE, "rb") as file:

@@ -7,11 +7,11 @@ from typing import Dict, Iterator, List, NamedTuple, Optional, Set, Tuple
 from . import names
 from .editing import NOT_ADDED, Step, longest_content, save_line, set_line
 from .hostfiles import NEW_FILE, HostFile, Kept, kept_with, read_host_file
+from .leftovers import is_temporary
 from .messages import Trouble, reason, shown, tell
 from .program import DIRECTORY, Entry, Path, Refused, Run, command
 
 SETTABLE = 7  # of attributes, those that fcore can set
-TEMPORARY = (b".fcdisc-", b".tmp")
 
 
 class Item(NamedTuple):
@@ -46,7 +46,7 @@ def scan(folder: bytes, start: Path, fail: Failures) -> Iterator[Item]:
 
 def item_of(entry: os.DirEntry[bytes], path: Path, taken: Dict[bytes, bytes], fail: Failures) -> Optional[Item]:
     """The entry of a folder with its path on the disc, if it can have one that no other of the folder has."""
-    if entry.name.startswith(TEMPORARY[0]) and entry.name.endswith(TEMPORARY[1]):
+    if is_temporary(entry.name):
         return None
     is_directory = entry.is_dir(follow_symlinks=False)
     if not is_directory and not entry.is_file(follow_symlinks=False):

@@ -7,11 +7,11 @@ import signal
 import sys
 from typing import Any, Callable, List, NoReturn
 
-from . import changes, jobs
+from . import backups, changes, jobs
 from .conversion import convert
 from .images import ORDERS
+from .leftovers import remove_unfinished
 from .messages import FAILED, Trouble, clear_progress, reason, shown, tell
-from .output import remove_unfinished
 from .program import BadImage
 
 DESCRIPTION = "Daily jobs with images of Acorn discs (RISC OS, ADFS), by the program fcore."
@@ -113,6 +113,11 @@ def add_changing(added: Any) -> None:
 
     add_change(added, "compact", changes.compact, "Bring the free space of a disc together.")
 
+    job = add_job(added, "undo", backups.undo, "Give an image its state before the first change again. What it was until then is "
+                  "called IMAGE~undone.")
+    job.add_argument("--back", action="store_true", help="take the last undo back")
+    job.add_argument("image", metavar="IMAGE")
+
     job = add_job(added, "convert", convert, "Make a disc of another format with all files of a disc. What can't be on it is "
                   "reported; the rest is copied.")
     add_order(job)
@@ -123,8 +128,11 @@ def add_changing(added: Any) -> None:
 
 def add_change(added: Any, name: str, run: Callable[[argparse.Namespace], int], text: str) -> argparse.ArgumentParser:
     """A subcommand that changes an image."""
-    job = add_job(added, name, run, text + " The image as it was is then called IMAGE~.")
+    job = add_job(added, name, run, text + " The image as it was before the first change is "
+                  "called IMAGE~.")
     add_order(job)
+    job.add_argument("--backup", choices=backups.KINDS, default=backups.FIRST, help="`first`: IMAGE~ is the image before the first "
+                     "change, and stays; `each`: every change leaves one more, IMAGE~1~, IMAGE~2~ and so on")
     job.add_argument("--in-place", action="store_true", help="change the image itself, without a copy: if that is cut off, the "
                      "disc may be damaged; only in disc order and without a header")
     job.add_argument("image", metavar="IMAGE")
@@ -168,7 +176,7 @@ def main(arguments: List[str]) -> int:
     words = parser().parse_args(arguments)
     try:
         catch_signals()
-        status = words.run(words)
+        status: int = words.run(words)
         sys.stdout.flush()
         return status
     except Stopped as stopped:

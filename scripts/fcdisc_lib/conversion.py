@@ -8,12 +8,14 @@ from typing import Iterator, List
 from .adding import SETTABLE, loses_access
 from .changes import tell_lost_access
 from .editing import Failure, Step, longest_content, save_line, set_line, tell_failures
+from .fresh import fresh_disc
 from .hostfiles import NEW_FILE, TOO_LONG
-from .jobs import refusal
+from .images import pieces_from
+from .jobs import refusal, write_new
 from .listing import counted
 from .messages import FAILED, Progress, Trouble, say, shown, tell
 from .names import spelled_path
-from .output import TAKEN, published
+from .output import TAKEN
 from .program import Entry, Refused, Run, batches, command, find_program, scripts
 from .tree import Tree, read_tree
 
@@ -29,22 +31,15 @@ class Conversion:
         self.too_long = self.lost_access = 0
         self.files: List[Entry] = []
 
-    def run(self, form: str, place: str, kept_open: List[int]) -> None:
-        """Makes the fresh disc with the first script, and goes on with the others."""
-        words = ["--new", form, "--", place]
+    def run(self, number: int) -> None:
+        """Fills the fresh disc that is the open file of that number."""
         for script, batch in scripts((step.line, step) for step in self.steps()):
-            self.perform(words, script, batch, kept_open)
-            words = ["--", place]
-        if "--new" in words:
-            self.perform(words, b"", [], kept_open)
-
-    def perform(self, words: List[str], script: bytes, batch: List[Step], kept_open: List[int]) -> None:
-        with Run(self.program, self.name, words, script, kept_open) as run:
-            for step in batch:
-                try:
-                    list(run.lines())
-                except Refused as refused:
-                    self.failures.append(Failure(step, refused.name))
+            with Run(self.program, self.name, ["--", "/dev/fd/%d" % number], script, [number]) as run:
+                for step in batch:
+                    try:
+                        list(run.lines())
+                    except Refused as refused:
+                        self.failures.append(Failure(step, refused.name))
 
     def steps(self) -> Iterator[Step]:
         self.files = [entry for entry in self.tree.files() if self.fits(entry)]
@@ -94,8 +89,9 @@ def convert(words: Namespace) -> int:
     except Refused as refused:
         raise refusal(refused, words) from None
     conversion = Conversion(program, tree, words.out)
-    with published(words.out) as (holder, temporary):
-        conversion.run(words.format, holder.place(temporary), [holder.number])
+    with fresh_disc(program, words.out, words.format) as file:
+        conversion.run(file.fileno())
+        write_new(words.out, pieces_from(file, 0))
     return verdict(words, conversion)
 
 

@@ -16,6 +16,7 @@ HEADER = 512
 PIECE = 1 << 20
 HEAD = 4096  # what tells the kind of a disc lies before this
 ORDERS = ("auto", "disc", "adl")
+MEMORY_LIMIT = 256 << 20  # bytes of the longest image of which a copy lies in memory
 
 AS_IT_IS, SIDES, HEADED = "as it is", "sides", "header"
 NOTES = {
@@ -122,30 +123,33 @@ class Image:
 
 
 def interleaved_image(path: str, file: BinaryIO) -> Image:
-    turned = nameless_file()
+    turned = nameless_file(L_SIZE)
     turned.write(to_disc_order(read_at(file, 0, L_SIZE)))
-    turned.flush()
     return Image(path, turned, SIDES)
 
 
 def headed_image(path: str, file: BinaryIO) -> Image:
-    bare = nameless_file()
+    bare = nameless_file(size_of(file))
     copy(file, HEADER, bare)
-    bare.flush()
     return Image(path, bare, HEADED)
 
 
 def head_alone(path: str, file: BinaryIO) -> Image:
     """As `headed_image`, but zeros follow the head: that is enough to see whether a disc begins there."""
-    bare = nameless_file()
+    bare = nameless_file(size_of(file))
     bare.write(read_at(file, HEADER, HEAD))
     bare.truncate(size_of(file) - HEADER)
-    bare.flush()
     return Image(path, bare, HEADED)
 
 
-def nameless_file() -> BinaryIO:
-    return tempfile.TemporaryFile()  # type: ignore[return-value]
+def nameless_file(size: int, folder: Optional[str] = None) -> BinaryIO:
+    """A file without a name for that many bytes: in memory; or, if it is long, in that folder or the host's for such files.
+
+    It has no buffer here, since fcore may write it too.
+    """
+    if size <= MEMORY_LIMIT and hasattr(os, "memfd_create"):
+        return open(os.memfd_create("fcdisc"), "w+b", buffering=0)
+    return tempfile.TemporaryFile(buffering=0, dir=folder)  # type: ignore[return-value]
 
 
 def begins_disc(program: str, image: Image) -> bool:

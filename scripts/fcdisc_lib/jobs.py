@@ -10,6 +10,7 @@ from typing import Callable, Dict, Iterable, Iterator, List, Optional
 from . import names
 from .extraction import Extraction, words_of
 from .faults import explained, refusal_explained
+from .fresh import fresh_disc
 from .hostfiles import keep
 from .images import HEADER, L_SIZE, open_file, open_image, pieces_from, read_at, size_of, to_disc_order, to_interleaved
 from .listing import counted, row, rows
@@ -185,10 +186,8 @@ def found(counts: Dict[str, int]) -> str:
 
 
 def new(words: Namespace) -> int:
-    program = find_program()
-    with published(words.image) as (holder, temporary):
-        with Run(program, words.image, ["--new", words.format, "--", holder.place(temporary)], b"", [holder.number]):
-            pass
+    with fresh_disc(find_program(), words.image, words.format) as file:
+        write_new(words.image, pieces_from(file, 0))
     return 0
 
 
@@ -214,7 +213,7 @@ def strip(words: Namespace) -> int:
 
 def write_new(path: str, pieces: Iterable[bytes]) -> None:
     """A new file of the host; nothing may have its name yet."""
-    with published(path, lambda holder: NewFile(holder, pieces)):
+    with published(path, lambda holder: NewFile(holder, pieces, mark=os.fsync, sparse=True)):
         pass
 
 
