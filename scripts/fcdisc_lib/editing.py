@@ -13,18 +13,20 @@ from typing import BinaryIO, Callable, Dict, Iterable, Iterator, List, NamedTupl
 
 from . import names
 from .backups import Backup
+from .complaints import Complaints
 from .faults import refusal_explained
-from .images import (AS_IT_IS, HEADER, L_SIZE, SIDES, Image, copy, has_doubtful_order, nameless_file, open_image,
+from .fitting import SHORT_NAME
+from .hostitems import FIT_HELP, NOT_ADDED
+from .images import (AS_IT_IS, L_SIZE, SIDES, Image, copy, has_doubtful_order, nameless_file, open_image,
                      pieces_from, read_at, size_of, to_interleaved)
 from .listing import counted
 from .locks import is_same, locked_file, unbroken
-from .messages import FAILED, Trouble, reason, shown, tell
+from .messages import FAILED, Trouble, reason, shown
 from .output import Folder, NewFile, split_path
 from .program import SCRIPT_LIMIT, BadImage, Path, Refused, Run, scripts
 
 Result = TypeVar("Result")
-NOT_ADDED = "not added"
-SHORT_NAME = 10  # bytes of the longest name on a disc without big directories
+NOT_COPIED = "not copied"
 
 
 class Step(NamedTuple):
@@ -92,6 +94,7 @@ class Edit:
         self.backup = Backup(self.name, self.file_name, words.backup)
         self.changes = 0
         self.failures: List[Failure] = []
+        self.is_open = False
         self.working: Optional[BinaryIO] = None  # what fcore changes: the copy, or the image itself
         self.stack = ExitStack()
 
@@ -115,6 +118,7 @@ class Edit:
         self.image, (self.counts, result) = open_image(self.program, self.path, self.order, b"check\n" + script,
                                                        lambda run: (run.check(), read(run)), self.name)
         self.stack.callback(self.image.file.close)
+        self.is_open = True
         # the name doesn't decide here, as it does if the disc is only read
         if has_doubtful_order(self.image, self.order, self.counts):
             raise self.trouble("nothing shows whether its sides are interleaved, and in the wrong order a change would spoil "
@@ -180,7 +184,7 @@ class Edit:
 
     # the end
 
-    def finish(self) -> int:
+    def finish(self, verbose: bool = False) -> int:
         """Makes the changes stand, and tells which were refused. Answers the status."""
         if self.changes and not self.in_place:
             try:
@@ -188,7 +192,7 @@ class Edit:
                     self.replace(holder)
             except OSError as error:
                 raise self.no_copy(error) from None
-        tell_failures(self.name, self.failures)
+        tell_failures(self.name, self.failures, verbose)
         return FAILED if self.failures else 0
 
     def replace(self, holder: Folder) -> None:
@@ -226,20 +230,21 @@ class Edit:
             yield from pieces_from(self.original, L_SIZE)
             return
         if self.image.how != AS_IT_IS:
-            yield read_at(self.original, 0, HEADER)
+            yield from pieces_from(self.original, 0, self.image.start)
         yield from pieces_from(self.working, 0)
 
 
-def tell_failures(name: str, failures: List[Failure]) -> None:
-    """Names each object that was refused, with the reason. What is in a directory that isn't there is only counted."""
-    unmade = {step.path for step, _ in failures if step.line.startswith(b"cdir ")}
+def tell_failures(name: str, failures: List[Failure], verbose: bool = False) -> None:
+    """Names the objects that were refused, with the reason. What is in a directory that isn't there is only counted."""
+    unmade = {step.path for step, refusal in failures if step.line.startswith(b"cdir ") and refusal != "Exists"}
+    complain = Complaints(verbose)
     inner: Dict[Path, int] = {}
     told: Set[Path] = set()
     first: List[Failure] = []
     for failure in failures:
         path = failure.step.path
         outer = next((path[:size] for size in range(1, len(path)) if path[:size] in unmade), None)
-        if outer is not None and failure.name == "NotFound":
+        if outer is not None and failure.name in ("NotFound", "BadName"):
             inner[outer] = inner.get(outer, 0) + (path not in told)
         elif path not in told:
             first.append(failure)
@@ -247,7 +252,8 @@ def tell_failures(name: str, failures: List[Failure]) -> None:
     for step, refusal in first:
         rest = "; nor what is in it: %s" % counted(inner[step.path], "object") if step.path in inner else ""
         text = reason_of(step, refusal, failures) + rest
-        tell("%s: %s: %s: %s" % (shown(name), names.spelled_path(step.path), step.failure, text))
+        complain("%s: %s" % (shown(name), names.spelled_path(step.path)), "%s: %s" % (step.failure, text))
+    complain.sum_up()
 
 
 def reason_of(step: Step, refusal: str, failures: List[Failure]) -> str:
@@ -255,7 +261,8 @@ def reason_of(step: Step, refusal: str, failures: List[Failure]) -> str:
         return "there is no directory for it on the disc"
     if refusal == "NotEmpty" and any(is_below(other.path, step.path) for other, _ in failures):
         return "something in it is left"
-    return why(step.path, refusal)
+    text = why(step.path, refusal)
+    return text + FIT_HELP if refusal == "BadName" and step.failure in (NOT_ADDED, NOT_COPIED) else text
 
 
 def is_below(path: Path, holder: Path) -> bool:

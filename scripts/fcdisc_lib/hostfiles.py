@@ -22,6 +22,16 @@ TOO_LONG = "it has %d bytes, and fcore takes files of no more than %d here"
 OPEN_FILE = os.O_RDONLY | os.O_NONBLOCK  # to open it doesn't wait, as for the other end of a pipe
 
 
+def system_attributes(attributes: int) -> int:
+    """A disc's attributes as RISC OS and other filing systems number them: there 8 is locked."""
+    return attributes & 0x33 | (attributes & 4) << 1
+
+
+def disc_attributes(attributes: int) -> int:
+    """The other way of `system_attributes`."""
+    return attributes & 0x33 | (attributes & 8) >> 1
+
+
 class Kept(NamedTuple):
     """What `extract` knew of an object, and the time that the file then had, in nanoseconds."""
 
@@ -31,18 +41,19 @@ class Kept(NamedTuple):
     time: int
 
 
-def keep(number: int, load: int, execution: int, attributes: int) -> None:
-    """Keeps an object's words and attributes with the open file or folder. A host that can't do so does without."""
+def keep(number: int, load: int, execution: int, attributes: int) -> bool:
+    """Keeps an object's words and attributes with the open file or folder. Answers whether the host could."""
     if hasattr(os, "setxattr"):
         text = b"%08x %08x %08x %d" % (load, execution, attributes, os.fstat(number).st_mtime_ns)
         with suppress(OSError):
             os.setxattr(number, KEPT_NAME, text, os.XATTR_CREATE)
+            return True
+    return False
 
 
-def keep_of_file(number: int, load: int, execution: int, attributes: int) -> None:
-    """Keeps what the file's name and time don't say already, if there is any."""
-    if attributes != NEW_FILE or has_type(load) and unix_time(load, execution) != os.fstat(number).st_mtime_ns:
-        keep(number, load, execution, attributes)
+def is_told(number: int, load: int, execution: int, attributes: int) -> bool:
+    """Whether a file's name, with a type or with words, and its time say all of the object that has these."""
+    return attributes == NEW_FILE and (not has_type(load) or unix_time(load, execution) == os.fstat(number).st_mtime_ns)
 
 
 def kept_with(number: int) -> Optional[Kept]:

@@ -63,10 +63,11 @@ def read_at(file: BinaryIO, at: int, length: int) -> bytes:
         raise Trouble("%s: %s" % (shown(name), reason(error))) from None
 
 
-def pieces_from(file: BinaryIO, start: int) -> Iterator[bytes]:
-    """What is in the file from there on."""
-    for at in range(start, size_of(file), PIECE):
-        yield read_at(file, at, PIECE)
+def pieces_from(file: BinaryIO, start: int, end: Optional[int] = None) -> Iterator[bytes]:
+    """What is in the file from there on, or up to that byte."""
+    end = size_of(file) if end is None else end
+    for at in range(start, end, PIECE):
+        yield read_at(file, at, min(PIECE, end - at))
 
 
 def copy(source: BinaryIO, start: int, target: BinaryIO) -> None:
@@ -113,8 +114,9 @@ def track_at(content: bytes, place: int) -> bytes:
 class Image:
     """A file that fcore reads: the one that the user named, or a copy in disc order, which has no name."""
 
-    def __init__(self, path: str, file: BinaryIO, how: str):
+    def __init__(self, path: str, file: BinaryIO, how: str, start: int = 0):
         self.path, self.file, self.how = path, file, how
+        self.start = start  # the bytes before the disc, which the copy has not
 
     def run(self, program: str, script: bytes) -> Run:
         """A run that only reads. The name is that of an open file, so that every run of a job is over the same one."""
@@ -128,18 +130,18 @@ def interleaved_image(path: str, file: BinaryIO) -> Image:
     return Image(path, turned, SIDES)
 
 
-def headed_image(path: str, file: BinaryIO) -> Image:
+def headed_image(path: str, file: BinaryIO, start: int = HEADER) -> Image:
     bare = nameless_file(size_of(file))
-    copy(file, HEADER, bare)
-    return Image(path, bare, HEADED)
+    copy(file, start, bare)
+    return Image(path, bare, HEADED, start)
 
 
-def head_alone(path: str, file: BinaryIO) -> Image:
+def head_alone(path: str, file: BinaryIO, start: int = HEADER) -> Image:
     """As `headed_image`, but zeros follow the head: that is enough to see whether a disc begins there."""
     bare = nameless_file(size_of(file))
-    bare.write(read_at(file, HEADER, HEAD))
-    bare.truncate(size_of(file) - HEADER)
-    return Image(path, bare, HEADED)
+    bare.write(read_at(file, start, HEAD))
+    bare.truncate(size_of(file) - start)
+    return Image(path, bare, HEADED, start)
 
 
 def nameless_file(size: int, folder: Optional[str] = None) -> BinaryIO:
@@ -161,7 +163,15 @@ def begins_disc(program: str, image: Image) -> bool:
 
 
 def readings(program: str, path: str, file: BinaryIO, order: str, faults: List[BadImage]) -> Iterator[Image]:
-    """The ways to read the file, the likeliest first. `faults` grows by the fault of each way that fails."""
+    """The ways to read the file, the likeliest first. `faults` grows by the fault of each way that fails.
+
+    `order` is one of ORDERS, or in digits the byte at which the disc begins.
+    """
+    if order.isdigit():
+        if int(order) >= size_of(file):
+            raise Trouble("%s: it has no more than %d bytes" % (shown(path), size_of(file)))
+        yield headed_image(path, file, int(order))
+        return
     can_turn = order != "disc" and has_l_size(file)
     if order == "adl" and not can_turn:
         raise Trouble("%s: no L disc of %d bytes begins here, so it has no sides to put into order" % (shown(path), L_SIZE))
@@ -215,7 +225,7 @@ def open_image(program: str, path: str, order: str, script: bytes, read: Callabl
 
 def tell_reading(image: Image, order: str) -> None:
     """What was found out, and wasn't asked for."""
-    if image.how == HEADED or image.how == SIDES and order == "auto":
+    if image.how == HEADED and not order.isdigit() or image.how == SIDES and order == "auto":
         tell("%s: %s" % (shown(image.path), NOTES[image.how]))
     elif image.how == AS_IT_IS and order == "auto" and is_named_adl(image.path) and has_l_size(image.file):
         tell("%s: its name says interleaved sides, but it is in disc order: read so" % shown(image.path))

@@ -17,6 +17,7 @@ from .messages import Trouble, reason, shown
 Inode = Tuple[int, int]
 AnyFolder = TypeVar("AnyFolder", bound="Folder")
 NAME_LIMIT = 255
+PIECE = 1 << 20
 TAKEN = "there is something of this name already"
 # A system that has no hard links says one of these
 NO_LINKS = (errno.EPERM, errno.EOPNOTSUPP, errno.ENOSYS, errno.EMLINK)
@@ -69,9 +70,21 @@ class Folder:
         found = os.stat(name, dir_fd=self.number, follow_symlinks=False)
         return found.st_dev, found.st_ino
 
-    def place(self, name: bytes) -> str:
-        """The path of a file in it for a program that has the folder open too, under the same number."""
-        return "/dev/fd/%d/%s" % (self.number, os.fsdecode(name))
+    def are_alike(self, one: bytes, other: bytes) -> bool:
+        """Whether both are files of the same bytes."""
+        flags = os.O_RDONLY | os.O_NOFOLLOW | os.O_NONBLOCK
+        try:
+            with open(os.open(one, flags, dir_fd=self.number), "rb") as first, open(os.open(other, flags, dir_fd=self.number), "rb") as second:
+                if not all(stat.S_ISREG(os.fstat(file.fileno()).st_mode) for file in (first, second)):
+                    return False
+                while True:
+                    piece = first.read(PIECE)
+                    if piece != second.read(PIECE):
+                        return False
+                    if not piece:
+                        return True
+        except OSError:
+            return False
 
     def make(self, name: bytes) -> None:
         """Makes a folder in it. FileExistsError if the name is there, whatever has it."""
