@@ -11,48 +11,23 @@ import signal
 import subprocess
 import sys
 import tempfile
-import time
 
 import damaged_images
 import fcdisc_cases
 import fcdisc_changes
+import fcdisc_collections
+import fcdisc_everyday
+import fcdisc_exchange
 import images
 import readme_examples
 from filecore import folded, spelled
-from files import TOOLS, read
+from files import TOOLS
+from work_folders import fill, snapshot, wait_for
 
 LONGEST = 255
 
 
 # ---- folders and runs
-
-
-def fill(folder, content):
-    """Makes what stands in a folder before a case."""
-    for name, data in content.items():
-        path = os.path.join(folder, name)
-        if data is None:
-            os.mkdir(path)
-        elif isinstance(data, str):
-            os.symlink(data[3:].encode(), path)
-        else:
-            with open(path, "wb") as file:
-                file.write(data)
-
-
-def snapshot(folder):
-    """What stands in a folder: bytes, None for a folder, `-> TARGET` for a link."""
-    found = {}
-    for place, folders, files in os.walk(folder):
-        for name in folders + files:
-            path = os.path.join(place, name)
-            if os.path.islink(path):
-                found[os.path.relpath(path, folder)] = "-> " + os.fsdecode(os.readlink(path))
-            elif os.path.isdir(path):
-                found[os.path.relpath(path, folder)] = None
-            else:
-                found[os.path.relpath(path, folder)] = read(path)
-    return found
 
 
 def agrees(wanted, got):
@@ -164,7 +139,7 @@ def list_rows(holder, depth=0):
 
 
 def read_row(line):
-    found = re.fullmatch(r"(.{17}) (.{10})  (.{6})  ((?: {2})*)(\S+)", line)
+    found = re.fullmatch(r"(.{17}) (.{10})  (.{6})  .{16}  ((?: {2})*)(\S+)", line)
     return (found[1].split()[0], found[2].strip(), found[3].strip(), len(found[4]) // 2, found[5]) if found else line
 
 
@@ -181,7 +156,7 @@ def accepted_disc(checks, name, volume):
                   errors=(long_names, err.count("has another name here")),
                   times=(times, {one: int(os.stat(checks.place(b"work/" + one)).st_mtime // 1) for one in times}))
     out, err, status = checks.run(["list", path])
-    checks.expect("list of " + name, rows=(list(list_rows(volume.root)), list(map(read_row, out.splitlines()[:-1]))),
+    checks.expect("list of " + name, rows=(list(list_rows(volume.root)), list(map(read_row, out.splitlines()[1:-1]))),
                   status=(0, status))
 
 
@@ -194,21 +169,27 @@ def found_lines():
     for name, volume, data in images.accepted():
         if name not in damaged:
             counted = len(volume.objects()) - len(volume.directories()), len(volume.directories()) - 1
-            yield name + ".adf", "whole: %d file%s, %d director%s, %d byte" % (
+            yield name + ".adf", ": %d file%s, %d director%s, %d byte" % (
                 counted[0], "s" * (counted[0] != 1), counted[1], "y" if counted[1] == 1 else "ies", sum(volume.hole_lengths()))
 
 
 def folder_of_images(checks, files):
     """One `check` of the folder: a line for each image, with the fault that the table says."""
     out, err, status = checks.run(["check", "../images"])
-    lines = dict(line[len("../images/"):].split(": ", 1) for line in out.splitlines())
-    checks.expect("check of a folder", status=(1, status), names=(sorted(files), sorted(lines)))
+    lines = dict(line[len("../images/"):].split(": ", 1) for line in out.splitlines() if line.startswith("../images/"))
+    listed = {name for name in files if name.endswith((".adf", ".adl", ".hdf"))}
+    checks.expect("check of a folder", status=(1, status), names=([], sorted(listed - set(lines))),
+                  sums=("%d files: " % len(files), out.splitlines()[-1][:len("%d files: " % len(files))]))
     for name, text in found_lines():
-        checks.expect("check of " + name, line=(text, lines.get(name, "")[:len(text)]))
+        line = lines.get(name, "")
+        checks.expect("check of " + name, line=(True, line.startswith("whole: ") and text in line))
+    kinds = set()
     for name, data, fault in damaged_images.damaged():
-        line = lines.get(name + ".adf", "")
-        checks.expect("check of " + name, line=(True, line.startswith("not accepted: ") and "[%s]. What to do: " % fault in line),
-                      braces=(False, "{" in line))
+        line, words = lines.get(name + ".adf", ""), fault.split(" ")
+        kinds.add(" ".join(words[0:3:2]) if words[0] == "Directory" else words[0])
+        checks.expect("check of " + name, line=(True, line.startswith("not accepted: ") and "[%s]" % fault in line), braces=(False, "{" in line))
+    told = [re.match(r"What to do about (.*?) \(", line) for line in out.splitlines() if line.startswith("What to do")]
+    checks.expect("advice once for each kind", kinds=([], sorted(kinds - {one[1] for one in told if one})), some=(True, len(told) < 40))
 
 
 # ---- the examples of the man pages
@@ -404,12 +385,6 @@ def interrupted(checks):
                       errors=(b"", errors))
 
 
-def wait_for(there, seconds=60):
-    end = time.monotonic() + seconds
-    while not there() and time.monotonic() < end:
-        time.sleep(0.02)
-
-
 # ---- all of it
 
 
@@ -432,7 +407,9 @@ def run_all(checks, changes_alone):
     mounts = can_mount()
     if not changes_alone:
         run_reading(checks, files, extra, mounts)
-    fcdisc_changes.run_all(checks, mounts)
+    c = fcdisc_changes.run_all(checks, mounts)
+    fcdisc_exchange.run_all(c, mounts)
+    fcdisc_everyday.run_all(c)
 
 
 def run_reading(checks, files, extra, mounts):
@@ -446,6 +423,7 @@ def run_reading(checks, files, extra, mounts):
     folder_of_images(checks, {**files, **extra})
     for page in ("fcore.1", "fcdisc.1"):
         page_examples(checks, os.path.join(TOOLS, "..", "man", page))
+    fcdisc_collections.run_all(checks)
     unit_checks(checks)
     folding_host(checks)
     interrupted(checks)

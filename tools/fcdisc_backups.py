@@ -8,6 +8,7 @@ import time
 
 from fcdisc_hosts import on_host
 from files import read
+from work_folders import wait_for
 
 NOTE = {"note": b"Hello"}
 
@@ -106,7 +107,6 @@ runpy.run_path(sys.argv[0], run_name="__main__")
 
 def killed(c):
     """kill -9 while the changed copy is written, or a file: image and names stay, and the next job clears away what is left."""
-    from check_fcdisc import wait_for
     for words, after in ((["mkdir", "a.adf", "E"], ["mkdir", "a.adf", "F"]), (["extract", "a.adf", "o"], ["extract", "a.adf", "o"])):
         before = c.start(files={"slow.py": SLOW_WRITE.encode()})
         run = subprocess.Popen(["python3", "slow.py", c.checks.fcdisc, *words], cwd=c.work, env=c.checks.environment(),

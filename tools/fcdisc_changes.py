@@ -18,6 +18,7 @@ from change_state import State
 from fcdisc_hosts import on_host
 from filecore import NOT_SPELLED, spelled_path
 from files import read
+from work_folders import wait_for
 
 SETTABLE = 15
 LOST = "lost what others than the owner may do: fcore can't set that"
@@ -148,7 +149,7 @@ def moving(c):
     c.good("mkdir", ["mkdir", "a.adf", "E", "$.E.F"], {**NAMED, "$.E": 0, "$.E.F": 0})
     got = c.run("mkdir", "a.adf", "G", "D", "x.y", "Ab.y")
     told = ("D: not made: there is something of this name on the disc already",
-            "x.y: not made: there is no directory for it on the disc", "Ab.y: not made: a file stands where a directory has to")
+            "x.y: not made: there is no directory for it on the disc (mkdir -p makes it)", "Ab.y: not made: a file stands where a directory has to")
     c.checks.expect("mkdir in part", result=(("", "".join("fcdisc: a.adf: $.%s\n" % text for text in told), 1), got),
                     there=(True, "$.G" in short_tree(read(c.at("a.adf")))))
     c.start()
@@ -416,7 +417,6 @@ SLOW = '#!/bin/sh\ncase "$*" in *read-only*) exec FCORE "$@";; esac\ntouch begun
 
 def signals(c):
     """A signal leaves the image as it was; if it is changed in place, it waits for the end."""
-    from check_fcdisc import wait_for
     for number in (signal.SIGINT, signal.SIGTERM):
         for place in ([], ["--in-place"]):
             before = c.start(files={"note": b"Hello"})
@@ -515,6 +515,13 @@ def run_all(checks, mounts):
         no_room(c)
     kept_words(c)
     fcdisc_backups.run_all(c, mounts)
+    for name, volume, data in whole_discs(checks):
+        round_trip(c, name, data, (own_format(data, volume), "F+"))
+    return c
+
+
+def whole_discs(checks):
+    """The discs of the table that differ in more than their maps: name, volume, image."""
     seen = []
     discs = [(name, volume, data) for name, volume, data in images.accepted() if len(data) < 2000000]
     for name in ("hostile", "one"):
@@ -523,4 +530,4 @@ def run_all(checks, mounts):
         tree = tree_of(data)
         if tree and (len(data), tree) not in seen:  # many discs differ in their maps alone
             seen.append((len(data), tree))
-            round_trip(c, name, data, (own_format(data, volume), "F+"))
+            yield name, volume, data

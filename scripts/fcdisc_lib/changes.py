@@ -10,7 +10,7 @@ from . import names
 from .adding import Addition, Present, file_steps
 from .archives import archive_items, is_archive
 from .description import describe
-from .editing import Edit, Step, longest_content, set_line, why
+from .editing import NOT_MADE, Edit, Step, longest_content, set_line, why
 from .filetypes import Types, read_types
 from .fitting import Limits
 from .hostfiles import TEXT, HostFile, read_host_file
@@ -207,7 +207,7 @@ def mkdir(words: Namespace) -> int:
             paths = [path for path, (entries, _) in zip(wanted, holders) if entries is None]
         else:
             read_listings(edit, [])
-        edit.change(Step(command("cdir", path), path, "not made") for path in paths)
+        edit.change(Step(command("cdir", path), path, NOT_MADE) for path in paths)
         return edit.finish()
 
 

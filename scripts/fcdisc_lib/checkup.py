@@ -4,7 +4,7 @@ from __future__ import annotations
 import json
 import sys
 from argparse import Namespace
-from typing import Any, Dict, Iterator, List, NamedTuple, Optional, Tuple
+from typing import Any, Dict, Iterator, List, NamedTuple, Optional, Sequence, Tuple
 
 from . import names
 from .collection import Files, Found, over_files, status_of
@@ -16,7 +16,7 @@ from .messages import Progress, clear_progress, say, shown, tell
 from .otherfiles import TEXT
 from .program import BadImage, Entry, Run, command, find_program
 from .tree import MAX_DEPTH, Tree, read_below
-from .unread import EqualTracks, equal_tracks
+from .unread import files_in_equal_tracks
 from .verdicts import fault_of, is_no_disc
 
 WHOLE, DAMAGED, UNREAD, NO_DISC = "whole", "damaged", "not read", "no disc"
@@ -33,7 +33,7 @@ class Finding(NamedTuple):
     disc: Optional[Description] = None
     counts: Dict[str, int] = {}
     dates: Tuple[str, ...] = ()  # of the oldest and the newest file that tells a date
-    equal: EqualTracks = EqualTracks([], [])
+    equal: Sequence[Entry] = ()  # files in tracks of equal bytes
 
     def advice(self) -> Iterator[Tuple[str, str]]:
         """What to do about what: faults of a kind have the same advice."""
@@ -41,7 +41,7 @@ class Finding(NamedTuple):
             yield self.fault.kind, self.fault.advice
         if self.counts.get("lost") and self.disc and self.disc.record:
             yield "bytes that nothing owns", LOST_ADVICE
-        if self.equal.files:
+        if self.equal:
             yield "tracks of equal bytes", EQUAL_ADVICE
 
 
@@ -113,7 +113,7 @@ def examine(program: str, file: Found, order: str) -> Finding:
             tell("%s: directories more than %d deep are left out" % (shown(file.path), MAX_DEPTH))
         disc, inner = describe(image.file), tree.files()
         dated = sorted(filter(None, map(day, inner)))
-        return Finding(WHOLE, None, disc, counts, tuple(dated[:1] + dated[-1:]), equal_tracks(program, image, disc, inner))
+        return Finding(WHOLE, None, disc, counts, tuple(dated[:1] + dated[-1:]), files_in_equal_tracks(program, image, disc, inner))
 
 
 def refused(file: Found, fault: Fault) -> Finding:
@@ -144,12 +144,9 @@ def whole_in_words(finding: Finding) -> str:
     if finding.dates:
         text += ", newest file of " + finding.dates[-1]
     remarks = ["%s %s" % (counted(counts[key], what), state) for key, what, state in REMARKS if counts[key]]
-    if finding.equal.files:
-        equal = finding.equal
-        verb = "lies" if len(equal.files) == 1 else "lie"
-        remarks.append("%s %s in a track of equal bytes (%s), unread? (%s%s)" % (
-            counted(len(equal.files), "file"), verb, " ".join("&%02X" % value for value in equal.values),
-            names.spelled_path(equal.files[0].path), ", ..." if len(equal.files) > 1 else ""))
+    if finding.equal:
+        remarks.append("%s in a track of equal bytes, unread? (%s%s)" % (
+            counted(len(finding.equal), "file"), names.spelled_path(finding.equal[0].path), ", ..." if len(finding.equal) > 1 else ""))
     return "; ".join([text, *remarks])
 
 
@@ -162,5 +159,5 @@ def as_row(path: str, finding: Finding) -> Dict[str, Any]:
         row.update(disc_row(finding.disc), files=counts["files"], directories=counts["dirs"] - 1, free=counts["free"], lost=counts["lost"],
                    unsorted=counts["unsorted"], wrong_parents=counts["parents"], oldest=finding.dates[0] if finding.dates else None,
                    newest=finding.dates[-1] if finding.dates else None,
-                   in_equal_tracks=[names.spelled_path(file.path) for file in finding.equal.files])
+                   in_equal_tracks=[names.spelled_path(file.path) for file in finding.equal])
     return row

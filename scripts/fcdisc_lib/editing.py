@@ -26,7 +26,7 @@ from .output import Folder, NewFile, split_path
 from .program import SCRIPT_LIMIT, BadImage, Path, Refused, Run, scripts
 
 Result = TypeVar("Result")
-NOT_COPIED = "not copied"
+NOT_COPIED, NOT_MADE = "not copied", "not made"
 
 
 class Step(NamedTuple):
@@ -258,7 +258,7 @@ def tell_failures(name: str, failures: List[Failure], verbose: bool = False) -> 
 
 def reason_of(step: Step, refusal: str, failures: List[Failure]) -> str:
     if refusal == "NotFound" and not step.line.startswith(b"delete"):
-        return "there is no directory for it on the disc"
+        return "there is no directory for it on the disc" + (" (mkdir -p makes it)" if step.failure == NOT_MADE else "")
     if refusal == "NotEmpty" and any(is_below(other.path, step.path) for other, _ in failures):
         return "something in it is left"
     text = why(step.path, refusal)

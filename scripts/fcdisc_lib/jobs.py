@@ -44,7 +44,7 @@ def list_disc(words: Namespace) -> int:
         json.dump(tree_row(tree, disc), sys.stdout, indent=1)
         say("")
     else:
-        for line in rows(tree, heading(disc) if not tree.start else ""):
+        for line in rows(tree, heading(disc) if words.path == "$" else ""):
             say(line)
     return FAILED if tree.too_deep else 0
 

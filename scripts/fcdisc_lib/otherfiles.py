@@ -88,9 +88,17 @@ def disc_offsets(file: BinaryIO) -> Iterator[int]:
     size = size_of(file)
     for at in places(file, size):
         head = read_at(file, at, 512)
-        if len(head) == 512 and (is_old_map(head) or boot_record(read_at(file, at + BOOT_BLOCK, BLOCK))
-                                 or zone_record(read_at(file, at, 1024)) or zone_record(read_at(file, at + 1024, 1024))):
+        if len(head) < 512 or begins_later(file, at):
+            continue
+        if is_old_map(head) or boot_record(read_at(file, at + BOOT_BLOCK, BLOCK)) or any(
+                zone_record(read_at(file, at + place, 1024)) for place in (0, 1024)):
             yield at
+
+
+def begins_later(file: BinaryIO, at: int) -> bool:
+    """Whether a disc of one zone begins 1024 bytes later: a map there would do as the second copy of one that begins here."""
+    here, first, second = (zone_record(read_at(file, at + place, 1024)) for place in (0, 1024, 2048))
+    return not here and bool(first) and bool(second)
 
 
 def places(file: BinaryIO, size: int) -> Iterator[int]:

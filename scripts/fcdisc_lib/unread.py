@@ -5,30 +5,22 @@ image whose bytes in those tracks are others, the digests of just these files ar
 """
 from __future__ import annotations
 
-from typing import BinaryIO, Dict, Iterator, List, NamedTuple
+from typing import BinaryIO, Dict, Iterator, List
 
-from .description import Description, Range, free_ranges
+from .description import Description, free_ranges
 from .images import AS_IT_IS, MEMORY_LIMIT, Image, copy, nameless_file, read_at, size_of
 from .program import BadImage, Entry, Path, batches
 
 TURNED = bytes(byte ^ 0xFF for byte in range(256))
 
 
-class EqualTracks(NamedTuple):
-    """Files in tracks of equal bytes, and these bytes."""
-
-    files: List[Entry]
-    values: List[int]
-
-
-def equal_tracks(program: str, image: Image, disc: Description, files: List[Entry]) -> EqualTracks:
-    """The files of the disc that lie in such a track. Of very long images none is looked for."""
-    none = EqualTracks([], [])
+def files_in_equal_tracks(program: str, image: Image, disc: Description, files: List[Entry]) -> List[Entry]:
+    """The files of the disc that have bytes in such a track. On very long images none is looked for."""
     if not files or disc.size > MEMORY_LIMIT:
-        return none
-    tracks = dict(used_tracks(image.file, disc))
+        return []
+    tracks = list(used_tracks(image.file, disc))
     if not tracks:
-        return none
+        return []
     with nameless_file(size_of(image.file)) as turned:
         copy(image.file, 0, turned)
         for at in tracks:
@@ -37,13 +29,13 @@ def equal_tracks(program: str, image: Image, disc: Description, files: List[Entr
         try:
             others = digests(program, Image(image.path, turned, AS_IT_IS), files)
         except BadImage:  # no file, but a directory lies there
-            return none
+            return []
     own = digests(program, image, files)
-    return EqualTracks([file for file in files if own[file.path] != others[file.path]], sorted(set(tracks.values())))
+    return [file for file in files if own[file.path] != others[file.path]]
 
 
-def used_tracks(file: BinaryIO, disc: Description) -> Iterator[Range]:
-    """The places of tracks of equal bytes that aren't free space alone, and the bytes."""
+def used_tracks(file: BinaryIO, disc: Description) -> Iterator[int]:
+    """The places of tracks of equal bytes that aren't free space alone."""
     holes = free_ranges(file, disc)
     for at in range(0, disc.size - disc.track + 1, disc.track):
         while holes and holes[0][1] <= at:
@@ -52,7 +44,7 @@ def used_tracks(file: BinaryIO, disc: Description) -> Iterator[Range]:
             continue
         content = read_at(file, at, disc.track)
         if content and content.count(content[:1]) == disc.track:
-            yield at, content[0]
+            yield at
 
 
 def digests(program: str, image: Image, files: List[Entry]) -> Dict[Path, str]:

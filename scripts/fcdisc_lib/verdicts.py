@@ -7,7 +7,7 @@ from .description import BLOCK, BOOT_BLOCK, boot_record, zones_of
 from .faults import IT_IS, Fault, copies_explained, explained
 from .images import HEADED, Image, begins_disc, head_alone, open_file, read_at
 from .messages import Trouble
-from .otherfiles import disc_offsets, looks_like_image, recognised
+from .otherfiles import begins_later, disc_offsets, looks_like_image, recognised
 from .program import BadImage
 
 ELSEWHERE = "no FileCore disc begins here, but one begins at byte %d"
@@ -20,6 +20,8 @@ def fault_of(program: str, path: str, bad: BadImage) -> Fault:
         with open_file(path) as file:
             if bad.words[0] == "NoKind":
                 return no_kind(program, path, file) or fault
+            if begins_later(file, 0):
+                return at_offset(1024)
             if bad.words[0] == "Copies":
                 record = boot_record(read_at(file, BOOT_BLOCK, BLOCK))
                 return fault._replace(meaning=copies_explained(bad.words[1:], zones_of(record))) if record else fault
@@ -36,8 +38,12 @@ def no_kind(program: str, path: str, file: BinaryIO) -> Optional[Fault]:
     for start in disc_offsets(file):
         with head_alone(path, file, start).file as head:
             if begins_disc(program, Image(path, head, HEADED, start)):
-                return Fault(ELSEWHERE % start, "NoKind", "say --offset %d" % start)
+                return at_offset(start)
     return None
+
+
+def at_offset(start: int) -> Fault:
+    return Fault(ELSEWHERE % start, "NoKind", "say --offset %d" % start)
 
 
 def is_no_disc(path: str, fault: Fault) -> bool:
