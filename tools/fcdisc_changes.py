@@ -265,14 +265,14 @@ def adding(c):
     os.mkfifo(c.at("o/pipe"))
     got = c.run("add", "a.adf", "o")
     told = ["o/link: not added: it is a link", "o/loop: not added: it is a link", "o/pipe: not added: not a file",
-            "o/p\u0416: not added: a disc's names have no letters but those of Latin 1",
-            "o/In/x,ffb: not added: on a disc it has the same name as X,fff",
+            "o/p\u0416: not added: a disc's names have no letters but those of Latin 1 (--fit gives it another name)",
+            "o/In/x,ffb: not added: on a disc it has the same name as X,fff (--fit gives it another name)",
             "o/Ab: not added: a file of its name is on the disc; nor what is in it",
             "o/D/error,fff: not added: there is something of its name on the disc already (--replace puts files in its place)",
-            "a.adf: $.Eleven/bytes: not added: its name has 12 letters, and this disc takes no more than 10; "
-            "nor what is in it: 3 objects"]
+            "a.adf: $.Eleven/bytes: not added: its name has 12 letters, and this disc takes no more than 10 "
+            "(--fit gives it another name); nor what is in it: 3 objects"]
     tree = {**NAMED, "$.Read/Me": (3, b"read"), "$.In": 0, "$.In.X": (3, b"y"), "$.n": (3, b"n")}
-    c.checks.expect("add", out=("3 of 7 files added to a.adf\n", got[0]), status=(1, got[2]),
+    c.checks.expect("add", out=("3 of 12 files added to a.adf\n", got[0]), status=(1, got[2]),
                     told=(sorted("fcdisc: " + text for text in told), sorted(got[1].splitlines())),
                     tree=(tree, short_tree(read(c.at("a.adf")))))
 

@@ -6,7 +6,7 @@ import signal
 import subprocess
 
 import fcdisc_cases
-from fcdisc_changes import NAMED, SLOW, short_tree, tree_of
+from fcdisc_changes import NAMED, SLOW, tree_of
 from files import read
 from work_folders import snapshot, wait_for
 

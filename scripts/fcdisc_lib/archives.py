@@ -150,7 +150,8 @@ class Unpacking:
             if parts[:size] not in self.places:
                 is_own = info.is_dir() and size == len(parts)
                 place = os.fsencode("/".join(parts[:size]))
-                self.places[parts[:size]] = self.add(parts[:size], MemberSource(self.archive, info) if is_own else Source(place), True)
+                source = MemberSource(self.archive, info) if is_own else Source(place)
+                self.places[parts[:size]] = self.add(parts[:size], source, True)
         if not info.is_dir():
             self.add(parts, MemberSource(self.archive, info), False)
 

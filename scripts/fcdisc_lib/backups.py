@@ -1,7 +1,8 @@
 """The image as it was before a change: IMAGE~ is it before the first change, and stays until the keeper removes it.
 
-With `--backup each` every change keeps the image as it was before: IMAGE~1~, IMAGE~2~ and so on. `undo` gives an image the state of
-IMAGE~ again; what it was before `undo` is IMAGE~undone then. (If the two changed places, the next change would keep no first state.)
+With `--backup each` every change keeps the image as it was before: IMAGE~1~, IMAGE~2~ and so on. `undo` gives an image the state
+of IMAGE~ again; what it was before `undo` is IMAGE~undone then. (If the two changed places, the next change would keep no first
+state.)
 """
 from __future__ import annotations
 
@@ -49,8 +50,8 @@ class Backup:
         if stat.S_ISDIR(found.st_mode):
             raise self.trouble("Is a directory")
         if not stat.S_ISREG(found.st_mode) or found.st_size != before.st_size:
-            raise self.trouble("it has another length than the image, so it is no earlier state of it: give it another name, or say "
-                               "--backup each")
+            raise self.trouble("it has another length than the image, so it is no earlier state of it: give it another name, or "
+                               "say --backup each")
         self.is_wanted = False
 
     def trouble(self, text: str) -> Trouble:

@@ -47,7 +47,8 @@ def rows_of(program: str, file: Found, order: str) -> List[Row]:
     with tree.image.file:
         disc = disc_row(describe(tree.image.file))
         sums = digests(program, tree.image, tree.files())
-        return [{"image": shown(file.path), **disc, **object_row(entry), "sha256": sums.get(entry.path, "")} for entry in tree.walk()]
+        return [{"image": shown(file.path), **disc, **object_row(entry), "sha256": sums.get(entry.path, "")}
+                for entry in tree.walk()]
 
 
 def disc_in(program: str, file: Found, order: str) -> Optional[Tree]:

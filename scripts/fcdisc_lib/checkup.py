@@ -22,7 +22,8 @@ from .verdicts import fault_of, is_no_disc
 WHOLE, DAMAGED, UNREAD, NO_DISC = "whole", "damaged", "not read", "no disc"
 LOST_ADVICE = "fcdisc reclaim gives these bytes back to the free space"
 EQUAL_ADVICE = "look into these files: an imaging tool may have filled in a track that it couldn't read"
-REMARKS = (("lost", "byte", "that nothing owns"), ("unsorted", "directory", "out of order"), ("parents", "directory", "with a wrong parent"))
+REMARKS = (("lost", "byte", "that nothing owns"), ("unsorted", "directory", "out of order"),
+           ("parents", "directory", "with a wrong parent"))
 
 
 class Finding(NamedTuple):
@@ -87,7 +88,8 @@ def say_together(states: Dict[str, int], advice: Dict[Tuple[str, str], int]) -> 
         say("What to do about %s%s: %s" % (kind, " (%s)" % counted(count, "image") if total > 1 else "", text))
     if total > 1:
         order = [state for state in (WHOLE, DAMAGED, UNREAD, NO_DISC, "not opened") if state in states]
-        say("%s: %s" % (counted(total, "file"), ", ".join("%d %s" % (states[state], plural(state, states[state])) for state in order)))
+        sums = ", ".join("%d %s" % (states[state], plural(state, states[state])) for state in order)
+        say("%s: %s" % (counted(total, "file"), sums))
 
 
 def plural(state: str, count: int) -> str:
@@ -146,7 +148,8 @@ def whole_in_words(finding: Finding) -> str:
     remarks = ["%s %s" % (counted(counts[key], what), state) for key, what, state in REMARKS if counts[key]]
     if finding.equal:
         remarks.append("%s in a track of equal bytes, unread? (%s%s)" % (
-            counted(len(finding.equal), "file"), names.spelled_path(finding.equal[0].path), ", ..." if len(finding.equal) > 1 else ""))
+            counted(len(finding.equal), "file"), names.spelled_path(finding.equal[0].path),
+            ", ..." if len(finding.equal) > 1 else ""))
     return "; ".join([text, *remarks])
 
 
@@ -156,8 +159,8 @@ def as_row(path: str, finding: Finding) -> Dict[str, Any]:
         row.update(fault=finding.fault.meaning, line=finding.fault.line, advice=finding.fault.advice)
     if finding.disc:
         counts = finding.counts
-        row.update(disc_row(finding.disc), files=counts["files"], directories=counts["dirs"] - 1, free=counts["free"], lost=counts["lost"],
-                   unsorted=counts["unsorted"], wrong_parents=counts["parents"], oldest=finding.dates[0] if finding.dates else None,
-                   newest=finding.dates[-1] if finding.dates else None,
+        row.update(disc_row(finding.disc), files=counts["files"], directories=counts["dirs"] - 1, free=counts["free"],
+                   lost=counts["lost"], unsorted=counts["unsorted"], wrong_parents=counts["parents"],
+                   oldest=finding.dates[0] if finding.dates else None, newest=finding.dates[-1] if finding.dates else None,
                    in_equal_tracks=[names.spelled_path(file.path) for file in finding.equal])
     return row

@@ -99,15 +99,19 @@ def add_changing(added: Any) -> None:
     job.add_argument("path", metavar="PATH", help="of the file, or of the directory that gets it; " + PATH_HELP)
 
     job = add_change(added, "add", changes.add, "Put all files of a folder or of a zip archive onto a disc. Their names "
-                     "are those that extract gives: a type after a comma, `.` for `/`. Links are left out. NAME.inf beside NAME tells "
-                     "its words and access.")
+                     "are those that extract gives: a type after a comma, `.` for `/`. Links are left out. NAME.inf beside NAME "
+                     "tells its words and access.")
     job.add_argument("--fit", action="store_true", help="give other names to what the disc doesn't take, and list them")
     job.add_argument("-v", "--verbose", action="store_true", help="name all that is refused, not only the first of each kind")
     add_types(job)
     job.add_argument("--replace", action="store_true", help="files take the place of those that are on the disc")
     job.add_argument("folder", metavar="FOLDER", help="a folder, or a zip archive")
     job.add_argument("path", metavar="PATH", nargs="?", default="$", help="of the directory for them; it is made if need be")
+    add_moving(added)
+    add_whole(added)
 
+
+def add_moving(added: Any) -> None:
     job = add_change(added, "mkdir", changes.mkdir, "Make directories.")
     job.add_argument("-p", action="store_true", help="those that lead there, too; what is there stays")
     job.add_argument("path", metavar="PATH", nargs="+", help=PATH_HELP)
@@ -129,6 +133,8 @@ def add_changing(added: Any) -> None:
     job.add_argument("access", metavar="ACCESS", type=changes.access_bits, help="letters of L (locked), W, R, as in WR; - for none")
     job.add_argument("path", metavar="PATH", nargs="+", help=WILD_HELP)
 
+
+def add_whole(added: Any) -> None:
     add_change(added, "compact", changes.compact, "Bring the free space of a disc together.")
 
     add_change(added, "reclaim", copying.reclaim, "Make the space free that nothing on the disc owns.", "+")

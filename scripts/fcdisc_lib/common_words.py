@@ -15,14 +15,15 @@ def add_job(added: Any, name: str, run: Callable[[argparse.Namespace], int], tex
             aliases: Sequence[str] = ()) -> argparse.ArgumentParser:
     """A subcommand. The first sentence of its text stands in the list of them."""
     first = text.split(". ")[0].rstrip(".")
-    job = added.add_parser(name, help=first[0].lower() + first[1:], description=text, epilog=EPILOG, allow_abbrev=False, aliases=aliases)
+    job = added.add_parser(name, help=first[0].lower() + first[1:], description=text, epilog=EPILOG, allow_abbrev=False,
+                           aliases=aliases)
     job.set_defaults(run=run)
     return job  # type: ignore[no-any-return]
 
 
 def add_types(job: argparse.ArgumentParser) -> None:
-    job.add_argument("--types", metavar="TABLE", help="file types by the endings in that file, or, with `default`, in the table that "
-                     "`fcdisc types` prints")
+    job.add_argument("--types", metavar="TABLE", help="file types by the endings in that file, or, with `default`, in the table "
+                     "that `fcdisc types` prints")
 
 
 def offset(text: str) -> str:
@@ -34,7 +35,7 @@ def offset(text: str) -> str:
 
 
 def add_order(job: argparse.ArgumentParser) -> None:
-    job.add_argument("--offset", metavar="N", type=offset, dest="order", default=argparse.SUPPRESS, help="the byte of the image at which "
-                     "the disc begins: it is read from a copy")
+    job.add_argument("--offset", metavar="N", type=offset, dest="order", default=argparse.SUPPRESS,
+                     help="the byte of the image at which the disc begins: it is read from a copy")
     job.add_argument("--order", choices=ORDERS, default="auto", help="of the bytes of an L disc's image: `disc`, or `adl` for "
                      "interleaved sides; else fcdisc finds it out, and says so if the image isn't in disc order")

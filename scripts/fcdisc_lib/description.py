@@ -34,7 +34,8 @@ class Description(NamedTuple):
 
 
 def describe(file: BinaryIO) -> Description:
-    record = boot_record(read_at(file, BOOT_BLOCK, BLOCK)) or zone_record(read_at(file, 0, 1024)) or zone_record(read_at(file, 1024, 1024))
+    record = boot_record(read_at(file, BOOT_BLOCK, BLOCK))
+    record = record or zone_record(read_at(file, 0, 1024)) or zone_record(read_at(file, 1024, 1024))
     if not record:
         return old_description(read_at(file, 0, 512))
     place = map_place(record)
@@ -125,7 +126,8 @@ def map_place(record: bytes) -> int:
 
 def is_old_map(sectors: bytes) -> bool:
     """Whether both halves of an old map have right checks."""
-    return len(sectors) >= 512 and all(half[255] in (half_check(half, 255), half_check(half, 0)) for half in (sectors[:256], sectors[256:512]))
+    return len(sectors) >= 512 and all(
+        half[255] in (half_check(half, 255), half_check(half, 0)) for half in (sectors[:256], sectors[256:512]))
 
 
 def half_check(half: bytes, total: int) -> int:

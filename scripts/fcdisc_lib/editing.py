@@ -196,7 +196,7 @@ class Edit:
         return FAILED if self.failures else 0
 
     def replace(self, holder: Folder) -> None:
-        """The copy takes the image's name, and the image as it was has another one then. At each moment a whole image has its name."""
+        """The copy takes the image's name, and the image as it was has another one then. Its name is always a whole one's."""
         with ExitStack() as stack:
             new = stack.enter_context(NewFile(holder, self.pieces_back(), mark=self.make_alike, sparse=True))
             self.backup.prepare(stack, holder, self.original, self.before, self.make_alike)

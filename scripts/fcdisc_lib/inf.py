@@ -1,7 +1,7 @@
 """`.inf` files, as archives for the BBC Micro and the Electron have them: `NAME.inf` tells name, words, length and access of NAME.
 
-Two forms are read: `NAME LOAD EXEC LENGTH ACCESS` and `NAME LOAD EXEC [Locked]`, all numbers hexadecimal. The first is written, with the
-name as fcore spells it. The access is a number, or letters of LWR and, after a slash, wr.
+Two forms are read: `NAME LOAD EXEC LENGTH ACCESS` and `NAME LOAD EXEC [Locked]`, all numbers hexadecimal. The first is written,
+with the name as fcore spells it. The access is a number, or letters of LWR and, after a slash, wr.
 """
 from __future__ import annotations
 

@@ -7,7 +7,6 @@ import sys
 from argparse import Namespace
 from typing import Iterable, Tuple
 
-from . import names
 from .description import Description, describe
 from .faults import refusal_explained
 from .filetypes import TABLE

@@ -62,7 +62,8 @@ def minute(entry: Entry) -> str:
 def row(entry: Entry, depth: int) -> str:
     """A line. The name is spelled as in a path, so that it can be copied from here, and can't upset a terminal."""
     size = "" if entry.is_directory else str(entry.length)
-    return "%-17s %10s  %-6s  %-16s  %s%s" % (kind(entry), size, access(entry), minute(entry), "  " * depth, names.spelled(entry.name))
+    told = kind(entry), size, access(entry), minute(entry)
+    return "%-17s %10s  %-6s  %-16s  %s%s" % (*told, "  " * depth, names.spelled(entry.name))
 
 
 def heading(disc: Description) -> str:

@@ -84,7 +84,7 @@ def looks_like_image(file: BinaryIO, name: str) -> bool:
 
 
 def disc_offsets(file: BinaryIO) -> Iterator[int]:
-    """Where in the file a disc may begin: fcore has to be asked. Byte 0 and a header of one sector are left to the usual readings."""
+    """Where in the file a disc may begin: fcore has to be asked. Byte 0 and a header of one sector are read as usual."""
     size = size_of(file)
     for at in places(file, size):
         head = read_at(file, at, 512)

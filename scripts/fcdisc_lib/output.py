@@ -8,7 +8,7 @@ from __future__ import annotations
 import errno
 import os
 import stat
-from contextlib import contextmanager, suppress
+from contextlib import ExitStack, contextmanager, suppress
 from typing import Callable, Iterable, Iterator, Optional, Sequence, Tuple, TypeVar
 
 from .leftovers import fresh_name, is_locked_here, remove_leftovers, unfinished
@@ -73,18 +73,15 @@ class Folder:
     def are_alike(self, one: bytes, other: bytes) -> bool:
         """Whether both are files of the same bytes."""
         flags = os.O_RDONLY | os.O_NOFOLLOW | os.O_NONBLOCK
-        try:
-            with open(os.open(one, flags, dir_fd=self.number), "rb") as first, open(os.open(other, flags, dir_fd=self.number), "rb") as second:
-                if not all(stat.S_ISREG(os.fstat(file.fileno()).st_mode) for file in (first, second)):
+        with suppress(OSError), ExitStack() as stack:
+            first, second = (stack.enter_context(open(os.open(name, flags, dir_fd=self.number), "rb")) for name in (one, other))
+            piece = b"x"
+            while piece and all(stat.S_ISREG(os.fstat(file.fileno()).st_mode) for file in (first, second)):
+                piece = first.read(PIECE)
+                if piece != second.read(PIECE):
                     return False
-                while True:
-                    piece = first.read(PIECE)
-                    if piece != second.read(PIECE):
-                        return False
-                    if not piece:
-                        return True
-        except OSError:
-            return False
+            return not piece
+        return False
 
     def make(self, name: bytes) -> None:
         """Makes a folder in it. FileExistsError if the name is there, whatever has it."""
@@ -186,7 +183,7 @@ class NewFile(TemporaryName):
 
 @contextmanager
 def published(path: str, make: Callable[[Folder], TemporaryName] = TemporaryName) -> Iterator[Tuple[Folder, bytes]]:
-    """A folder and a temporary name in it, for a file that gets the path's name at the end. Trouble if it can't, or something has it."""
+    """A folder and a temporary name in it, for a file that gets the path's name at the end. Trouble if it can't."""
     folder, name = split_path(path)
     try:
         with Folder.at(folder) as holder, make(holder) as temporary:

@@ -171,7 +171,8 @@ def extract_each(program: str, words: Namespace, form: Form) -> int:
     files, done, discs, failed = Files([words.image]), 0, 0, False
 
     def job(file: Found) -> Optional[Outcome]:
-        place = os.path.join(words.folder, os.path.relpath(file.path, words.image) if not file.is_named else os.path.basename(file.path))
+        inner = os.path.basename(file.path) if file.is_named else os.path.relpath(file.path, words.image)
+        place = os.path.join(words.folder, inner)
         try:
             os.makedirs(os.path.dirname(place) or ".", exist_ok=True)
             return extract_one(program, words, file.path, place, form)

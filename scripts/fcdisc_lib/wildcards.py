@@ -1,4 +1,4 @@
-"""Paths with wildcards: `*` stands for any letters of a name, and `#` for one, as in RISC OS. Written as %2A and %23 they are letters."""
+"""Paths with wildcards: `*` stands for any letters of a name, and `#` for one, as in RISC OS. %2A and %23 are letters."""
 from __future__ import annotations
 
 import re
@@ -19,12 +19,16 @@ def is_wild(text: str) -> bool:
 
 def matcher(part: str) -> Pattern[str]:
     """What matches the names that are meant, in the case that `folded` gives and the letters of Latin 1."""
-    pieces = [MEANINGS.get(piece) or re.escape(names.folded(names.plain_bytes(piece)).decode("latin-1")) for piece in WILD.split(part) if piece]
+    pieces = [MEANINGS.get(piece) or re.escape(comparable(names.plain_bytes(piece))) for piece in WILD.split(part) if piece]
     return re.compile("".join(pieces), re.DOTALL)
 
 
+def comparable(name: bytes) -> str:
+    return names.folded(name).decode("latin-1")
+
+
 def matches(pattern: Pattern[str], name: bytes) -> bool:
-    return pattern.fullmatch(names.folded(name).decode("latin-1")) is not None
+    return pattern.fullmatch(comparable(name)) is not None
 
 
 def matchers(text: str) -> List[Pattern[str]]:
