@@ -1,0 +1,39 @@
+"""Folders in which the checks of fcdisc run it."""
+import os
+import time
+
+from tools.files import read
+
+
+def fill(folder, content):
+    """Makes what stands in a folder before a case."""
+    for name, data in content.items():
+        path = os.path.join(folder, name)
+        if data is None:
+            os.mkdir(path)
+        elif isinstance(data, str):
+            os.symlink(data[3:].encode(), path)
+        else:
+            with open(path, "wb") as file:
+                file.write(data)
+
+
+def snapshot(folder):
+    """What stands in a folder: bytes, None for a folder, `-> TARGET` for a link."""
+    found = {}
+    for place, folders, files in os.walk(folder):
+        for name in folders + files:
+            path = os.path.join(place, name)
+            if os.path.islink(path):
+                found[os.path.relpath(path, folder)] = "-> " + os.fsdecode(os.readlink(path))
+            elif os.path.isdir(path):
+                found[os.path.relpath(path, folder)] = None
+            else:
+                found[os.path.relpath(path, folder)] = read(path)
+    return found
+
+
+def wait_for(there, seconds=60):
+    end = time.monotonic() + seconds
+    while not there() and time.monotonic() < end:
+        time.sleep(0.02)
