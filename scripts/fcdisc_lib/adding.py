@@ -1,3 +1,4 @@
+# SPDX-License-Identifier: MIT
 """Files and folders onto a disc: by the names, types and times that `extract` gives them."""
 from __future__ import annotations
 

@@ -1,3 +1,4 @@
+# SPDX-License-Identifier: MIT
 """Zip archives with Acorn's extra field, as SparkFS and Info-ZIP have it: load and exec words and access of each object."""
 from __future__ import annotations
 

@@ -1,3 +1,4 @@
+# SPDX-License-Identifier: MIT
 """The image as it was before a change: IMAGE~ is it before the first change, and stays until the keeper removes it.
 
 With `--backup each` every change keeps the image as it was before: IMAGE~1~, IMAGE~2~ and so on. `undo` gives an image the state

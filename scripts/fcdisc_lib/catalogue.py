@@ -1,3 +1,4 @@
+# SPDX-License-Identifier: MIT
 """A list of all objects of all images in folders, with the digests of the files: CSV or JSON."""
 from __future__ import annotations
 

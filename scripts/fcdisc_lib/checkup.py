@@ -1,3 +1,4 @@
+# SPDX-License-Identifier: MIT
 """The job `check`: what each image is, whether it is whole, what is wrong, and what to do."""
 from __future__ import annotations
 

@@ -1,3 +1,4 @@
+# SPDX-License-Identifier: MIT
 """The files of a keeper's folders, and one job over all of them, several at once."""
 from __future__ import annotations
 

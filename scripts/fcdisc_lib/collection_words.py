@@ -1,3 +1,4 @@
+# SPDX-License-Identifier: MIT
 """The words of the jobs over folders of images."""
 from __future__ import annotations
 

@@ -1,3 +1,4 @@
+# SPDX-License-Identifier: MIT
 """Words that several jobs have."""
 from __future__ import annotations
 

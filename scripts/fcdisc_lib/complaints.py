@@ -1,3 +1,4 @@
+# SPDX-License-Identifier: MIT
 """Many messages of a kind: the first few are told, the others are counted."""
 from __future__ import annotations
 

@@ -1,3 +1,4 @@
+# SPDX-License-Identifier: MIT
 """What a disc says of itself and fcore doesn't tell: format, name, boot option, the length of a track, and its free space.
 
 It is read from an image in disc order that fcore has accepted, by docs/FORMAT.md, so that every number is in its bounds.

@@ -1,3 +1,4 @@
+# SPDX-License-Identifier: MIT
 """What two discs have that is different; or a disc and a folder as `extract` makes it."""
 from __future__ import annotations
 

@@ -1,3 +1,4 @@
+# SPDX-License-Identifier: MIT
 """An image that is changed. The changes are made to a copy, which takes its name when all is done; or in place.
 
 The copy lies in memory, and is written once, at the end; that of a long image lies where the host keeps files without a name.

@@ -1,3 +1,4 @@
+# SPDX-License-Identifier: MIT
 """File types by the endings that other systems have in place of them: `--types`."""
 from __future__ import annotations
 

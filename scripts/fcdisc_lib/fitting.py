@@ -1,3 +1,4 @@
+# SPDX-License-Identifier: MIT
 """Names for a disc that doesn't take a name as it is: `--fit`."""
 from __future__ import annotations
 

@@ -1,3 +1,4 @@
+# SPDX-License-Identifier: MIT
 """A fresh disc in memory, before it gets a name on the host."""
 from __future__ import annotations
 

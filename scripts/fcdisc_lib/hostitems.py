@@ -1,3 +1,4 @@
+# SPDX-License-Identifier: MIT
 """What of a folder of the host, or of a zip archive, goes onto a disc, and by which names."""
 from __future__ import annotations
 

@@ -1,3 +1,4 @@
+# SPDX-License-Identifier: MIT
 """`.inf` files, as archives for the BBC Micro and the Electron have them: `NAME.inf` tells name, words, length and access of NAME.
 
 Two forms are read: `NAME LOAD EXEC LENGTH ACCESS` and `NAME LOAD EXEC [Locked]`, all numbers hexadecimal. The first is written,

@@ -1,3 +1,4 @@
+# SPDX-License-Identifier: MIT
 """Temporary names of files, and those that a killed job left: the next job in their folder removes them.
 
 A file that a job is writing is locked, so a leftover is one that nobody has locked. On a host without locks nothing is removed.

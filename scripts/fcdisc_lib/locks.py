@@ -1,3 +1,4 @@
+# SPDX-License-Identifier: MIT
 """Images that no other fcdisc changes meanwhile, and moments that no signal breaks."""
 from __future__ import annotations
 

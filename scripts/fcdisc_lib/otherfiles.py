@@ -1,3 +1,4 @@
+# SPDX-License-Identifier: MIT
 """Files that are no image of a FileCore disc as it is: what they are, and where in them a disc begins."""
 from __future__ import annotations
 

@@ -1,3 +1,4 @@
+# SPDX-License-Identifier: MIT
 """Files of discs onto the host: `get`, and `extract`, of one image or of each in a folder."""
 from __future__ import annotations
 

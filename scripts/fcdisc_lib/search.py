@@ -1,3 +1,4 @@
+# SPDX-License-Identifier: MIT
 """Files and directories that match a pattern, in all images of folders."""
 from __future__ import annotations
 

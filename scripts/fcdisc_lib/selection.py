@@ -1,3 +1,4 @@
+# SPDX-License-Identifier: MIT
 """The part of a disc that paths mean: a directory, a file, or what paths with wildcards mean."""
 from __future__ import annotations
 

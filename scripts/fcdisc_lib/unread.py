@@ -1,3 +1,4 @@
+# SPDX-License-Identifier: MIT
 """Files that lie in a track of equal bytes: an imaging tool may have filled in what it couldn't read.
 
 FileCore has no check over a file's bytes, so fcore can't see that. Which files lie there, fcore itself tells: over a copy of the

@@ -1,3 +1,4 @@
+# SPDX-License-Identifier: MIT
 """Why an image isn't accepted, in words: by fcore's line, and by what the file turns out to be."""
 from __future__ import annotations
 

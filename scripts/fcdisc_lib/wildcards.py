@@ -1,3 +1,4 @@
+# SPDX-License-Identifier: MIT
 """Paths with wildcards: `*` stands for any letters of a name, and `#` for one, as in RISC OS. %2A and %23 are letters."""
 from __future__ import annotations
 

@@ -1,3 +1,4 @@
+# SPDX-License-Identifier: MIT
 """Checks of what fcdisc leaves beside an image: the state before the first change, leftovers of killed jobs; and of early signals."""
 import fcntl
 import os
@@ -173,8 +174,5 @@ def fresh_names(c):
         shutil.rmtree(place)
 
 
-def run_all(c, mounts):
-    for part in (first_state, each_state, unfit_backups, undo_troubles, leftovers, killed, early, fresh_names):
-        part(c)
-    if mounts:
-        read_only_folder(c)
+PARTS = (first_state, each_state, unfit_backups, undo_troubles, leftovers, killed, early, fresh_names)
+MOUNTED = (read_only_folder,)  # these need to mount something

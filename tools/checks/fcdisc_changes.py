@@ -1,3 +1,4 @@
+# SPDX-License-Identifier: MIT
 """Checks of the jobs of fcdisc that change a disc.
 
 The trees are read by tools/reference/read_image.py; what has to be on a disc is written here, or follows from the disc that was extracted.
@@ -11,7 +12,7 @@ import signal
 import stat
 import subprocess
 
-from tools.checks import fcdisc_backups, fcdisc_cases
+from tools.checks import fcdisc_cases
 from tools.checks.fcdisc_hosts import on_host
 from tools.checks.work_folders import wait_for
 from tools.files import read
@@ -325,7 +326,7 @@ def troubles(c):
     c.checks.expect("changed meanwhile", result=(("", text, 1), got),
                     left=(["a.adf", "note"], c.names()), tree=(NAMED, short_tree(read(c.at("a.adf")))))
     c.start(files={"o/gone": b"", "o/stays": b"s"})
-    removing_it = c.fake('#!/bin/sh\nrm -f o/gone\nexec FCORE "$@"\n')
+    removing_it = c.fake('#!/bin/sh\n[ -e ran ] && rm -f o/gone\ntouch ran\nexec FCORE "$@"\n')
     got = c.run("add", "a.adf", "o", fcore=removing_it)
     text = "fcdisc: o/gone: not added: No such file or directory\n"
     c.checks.expect("a file that vanishes", result=(("1 of 2 files added to a.adf\n", text, 1), got),
@@ -505,18 +506,22 @@ def converting(c):
     c.checks.expect("convert an .adl", status=(1, got[2]), told=(True, got[1].startswith("fcdisc: a.adl: " + fcdisc_cases.SIDES)))
 
 
-def run_all(checks, mounts):
+PARTS = (putting, moving, removing, over_big_directories, over_old_maps, squashing, forms, adding, adding_somewhere, adding_much,
+         troubles, other_programs, programs_that_go, removing_levels, other_hosts, signals, converting)
+
+
+def run_parts(checks, mounts):
     c = Changes(checks)
-    for part in (putting, moving, removing, over_big_directories, over_old_maps, squashing, forms, adding, adding_somewhere,
-                 adding_much, troubles, other_programs, programs_that_go, removing_levels, other_hosts, signals, converting):
-        part(c)
-    if mounts:
-        no_room(c)
-    kept_words(c)
-    fcdisc_backups.run_all(c, mounts)
+    for part in [*PARTS, *([no_room] if mounts else []), kept_words]:
+        if checks.suite.wants(part.__name__):
+            part(c)
+
+
+def run_rounds(checks):
+    c = Changes(checks)
     for name, volume, data in whole_discs(checks):
-        round_trip(c, name, data, (own_format(data, volume), "F+"))
-    return c
+        if checks.suite.wants(name):
+            round_trip(c, name, data, (own_format(data, volume), "F+"))
 
 
 def whole_discs(checks):

@@ -1,3 +1,4 @@
+# SPDX-License-Identifier: MIT
 """Checks of the jobs of fcdisc over many images: check, extract --each, catalogue, find, diff."""
 import csv
 import hashlib
@@ -300,6 +301,4 @@ def progress(checks):
     checks.expect("progress of check", steps=(["files checked: 1 of 2", "files checked: 2 of 2"], re.findall("files checked[^\r]*\\d", err)))
 
 
-def run_all(checks):
-    for part in (check_collection, other_files, behind_an_offset, equal_tracks, catalogue, finding, differing, each, each_interrupted, progress):
-        part(checks)
+PARTS = (check_collection, other_files, behind_an_offset, equal_tracks, catalogue, finding, differing, each, each_interrupted, progress)

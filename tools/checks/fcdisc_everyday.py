@@ -1,3 +1,4 @@
+# SPDX-License-Identifier: MIT
 """Checks of what people do with fcdisc every day: wildcards, several files, mkdir -p, cp, other names of jobs, completion; and reclaim."""
 import json
 import os
@@ -167,6 +168,5 @@ def interrupted_jobs(c):
                             left=(["a.adf", "begun", "note", "note2", "o"], c.names()))
 
 
-def run_all(c):
-    for part in (wildcards, several, directories, copies, words, completion, reclaiming, interrupted_jobs):
-        part(c)
+PARTS = (wildcards, several, directories, copies, words, completion, reclaiming, interrupted_jobs)
+MOUNTED = ()

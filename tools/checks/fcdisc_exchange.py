@@ -1,3 +1,4 @@
+# SPDX-License-Identifier: MIT
 """Checks of what fcdisc exchanges with other systems: zip archives, .inf files, endings, names that fit; and that nothing is lost in silence."""
 import struct
 import zipfile
@@ -236,10 +237,5 @@ def many_refusals(c):
     c.checks.expect("what a folder needs", first=("fcdisc: a.adf: the files need 2.7 MB, and the disc has 0.8 MB free", err.splitlines()[0]), status=(1, status))
 
 
-def run_all(c, mounts):
-    for part in (archives, latin_names, infs, endings, fitting, converting_to_fit, many_refusals):
-        part(c)
-    if mounts:
-        without_attributes(c)
-    for name, _, data in whole_discs(c.checks):
-        round_trip(c, name, data)
+PARTS = (archives, latin_names, infs, endings, fitting, converting_to_fit, many_refusals)
+MOUNTED = (without_attributes,)

@@ -1,3 +1,4 @@
+# SPDX-License-Identifier: MIT
 """Folders in which the checks of fcdisc run it."""
 import os
 import time
