@@ -124,7 +124,7 @@ def words(c):
 
 def completion(c):
     """What bash offers."""
-    script = os.path.join(TOP, "scripts", "completion", "fcdisc")
+    script = os.path.join(TOP, "scripts", "completion", "fcdisc.bash")
     c.start()
     for typed, offered in (("fcdisc ex", ["extract"]), ("fcdisc c", ["catalogue", "check", "compact", "convert", "cp"]), ("fcdisc new E", ["E", "E+"]),
                            ("fcdisc add --f", ["--fit"]), ("fcdisc list --order a", ["adl", "auto"]), ("fcdisc list a", ["a.adf"]), ("fcdisc undo --b", ["--back"])):
