@@ -20,7 +20,6 @@ from .messages import Trouble, reason, shown
 from .output import NO_LINKS, TAKEN, Folder, NewFile, TemporaryName, split_path
 
 FIRST, EACH = "first", "each"
-KINDS = (FIRST, EACH)
 UNDONE = b"undone"
 BACKUP_NAME = re.compile(rb"~(?:undone|[0-9]+~)?\Z")
 NOTHING_CHANGED = "%s: %s: nothing was changed"

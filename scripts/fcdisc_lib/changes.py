@@ -3,8 +3,7 @@
 from __future__ import annotations
 
 import os
-import re
-from argparse import ArgumentTypeError, Namespace
+from argparse import Namespace
 from typing import Dict, List, Optional, Tuple
 
 from . import names
@@ -143,13 +142,6 @@ def named_for(given: bytes, wanted_type: Optional[int], types: Optional[Types]) 
     return told
 
 
-def file_type(text: str) -> int:
-    """Three hexadecimal digits, with `&` before them or without."""
-    if not re.fullmatch("&?[0-9A-Fa-f]{3}", text):
-        raise ArgumentTypeError("a file type is three hexadecimal digits, not %r" % text)
-    return int(text[-3:], 16)
-
-
 # ---- add
 
 
@@ -257,14 +249,6 @@ def move_step(edit: Edit, source: Path, holder: Listing, target: Path, there: Li
 
 
 # ---- access, compact
-
-
-def access_bits(text: str) -> int:
-    """The attributes of `LWR`, in any order and case; `/` with nothing after it may follow, and `-` or `/` alone is none."""
-    letters = text.upper().rstrip("/") if text != "-" else ""
-    if not set(letters) <= set("LWR") or len(set(letters)) != len(letters) or not text:
-        raise ArgumentTypeError("ACCESS has letters of LWR, or is -, and is not %r" % text)
-    return sum({"R": 1, "W": 2, "L": 4}[letter] for letter in letters)
 
 
 def access(words: Namespace) -> int:

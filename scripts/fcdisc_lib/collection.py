@@ -10,6 +10,7 @@ from typing import Callable, Iterator, List, NamedTuple, Optional, Tuple, TypeVa
 from .backups import is_backup
 from .leftovers import is_temporary
 from .messages import FAILED, Progress, Trouble, collecting, reason, shown, tell
+from .program import BadImage, Refused
 
 Answer = TypeVar("Answer")
 DESCRIPTORS = 10  # that a job needs at once; the program itself has some more
@@ -92,6 +93,8 @@ def told_together(job: Callable[[Found], Answer], file: Found) -> Tuple[Optional
             return job(file), lines
         except Trouble as trouble:
             return None, [*lines, str(trouble)]
+        except (BadImage, Refused):  # after it was opened
+            return None, [*lines, "%s: it changed while it was read" % shown(file.path)]
 
 
 def finished(file: Found, future: Future[Tuple[Optional[Answer], List[str]]], progress: Progress) -> Tuple[Found, Optional[Answer]]:

@@ -6,12 +6,11 @@ import argparse
 import os
 import signal
 import sys
-from typing import Any, Callable, List, NoReturn, Optional
+from typing import Any, List, NoReturn, Optional
 
-from . import backups, changes, checkup, copying, jobs, retrieval
 from .collection_words import add_collections
-from .common_words import EPILOG, PATH_HELP, WILD_HELP, add_job, add_order, add_types
-from .conversion import convert
+from .common_words import (BACKUPS, EPILOG, FORMATS, PATH_HELP, WILD_HELP, Job, access_bits, add_job, add_order, add_types,
+                           file_type, later)
 from .leftovers import remove_unfinished
 from .messages import FAILED, Trouble, clear_progress, reason, shown, tell
 from .program import BadImage
@@ -43,20 +42,22 @@ def version() -> str:
 
 
 def add_reading(added: Any) -> None:
-    job = add_job(added, "list", jobs.list_disc, "List a disc as a tree: type, size, access, date, name. fcore runs once for each "
+    job = add_job(added, "list", later("jobs", "list_disc"),
+                  "List a disc as a tree: type, size, access, date, name. fcore runs once for each "
                   "level of directories.", ["ls"])
     add_order(job)
     job.add_argument("--json", action="store_true", help="print all that the disc says as JSON")
     job.add_argument("image", metavar="IMAGE")
     job.add_argument("path", metavar="PATH", nargs="?", default="$", help=WILD_HELP)
 
-    job = add_job(added, "get", retrieval.get, "Extract one file, or several. fcore runs twice.")
+    job = add_job(added, "get", later("retrieval", "get"), "Extract one file, or several. fcore runs twice.")
     add_order(job)
     job.add_argument("image", metavar="IMAGE")
     job.add_argument("path", metavar="PATH... [FILE]", nargs="+", help=WILD_HELP + "; and the file to make, or the folder; - is "
                      "standard output")
 
-    job = add_job(added, "extract", retrieval.extract, "Extract all files into a folder, or into a zip archive with Acorn's extra "
+    job = add_job(added, "extract", later("retrieval", "extract"),
+                  "Extract all files into a folder, or into a zip archive with Acorn's extra "
                   "field. A folder is made if need be; no file that exists is replaced. fcore runs once for each level of "
                   "directories, and once for all files.")
     add_order(job)
@@ -67,8 +68,8 @@ def add_reading(added: Any) -> None:
     job.add_argument("folder", metavar="OUT", help="a folder, or a name that ends in .zip")
     job.add_argument("path", metavar="PATH", nargs="*", help="of a directory, to extract that alone; or " + WILD_HELP)
 
-    job = add_job(added, "check", checkup.check, "Say of each image whether it is whole, what is wrong, and what to do. fcore runs "
-                  "once for each image.")
+    job = add_job(added, "check", later("checkup", "check"),
+                  "Say of each image whether it is whole, what is wrong, and what to do. Several are checked at once.")
     add_order(job)
     job.add_argument("--json", action="store_true", help="print all that was found as JSON")
     job.add_argument("--damaged", action="store_true", help="print only what isn't whole")
@@ -76,30 +77,31 @@ def add_reading(added: Any) -> None:
 
 
 def add_making(added: Any) -> None:
-    job = add_job(added, "new", jobs.new, "Make an empty disc.")
-    job.add_argument("format", metavar="FORMAT", type=str.upper, choices=jobs.FORMATS, help=", ".join(jobs.FORMATS))
+    job = add_job(added, "new", later("jobs", "new"), "Make an empty disc.")
+    job.add_argument("format", metavar="FORMAT", type=str.upper, choices=FORMATS, help=", ".join(FORMATS))
     job.add_argument("image", metavar="IMAGE", help="the file to make")
 
-    job = add_job(added, "adl", jobs.adl, "Copy the image of an L disc, whose sides are interleaved, into disc order.")
+    job = add_job(added, "adl", later("jobs", "adl"), "Copy the image of an L disc, whose sides are interleaved, into disc order.")
     job.add_argument("--back", action="store_true", help="the other way: from disc order to interleaved sides")
     job.add_argument("image", metavar="IMAGE")
     job.add_argument("out", metavar="OUT", help="the file to make")
 
-    job = add_job(added, "strip", jobs.strip, "Copy an image without its header of 512 bytes.")
+    job = add_job(added, "strip", later("jobs", "strip"), "Copy an image without its header of 512 bytes.")
     job.add_argument("image", metavar="IMAGE")
     job.add_argument("out", metavar="OUT", help="the file to make")
 
 
 def add_changing(added: Any) -> None:
-    job = add_change(added, "put", changes.put, "Put one file onto a disc, or several into a directory.")
+    job = add_change(added, "put", later("changes", "put"), "Put one file onto a disc, or several into a directory.")
     job.add_argument("--replace", action="store_true", help="take the place of a file that is on the disc")
-    job.add_argument("--type", metavar="XXX", type=changes.file_type, help="its file type; else that of its name, as in "
+    job.add_argument("--type", metavar="XXX", type=file_type, help="its file type; else that of its name, as in "
                      "Prog,ffb, or that of the file whose place it takes, or fff (Text)")
     add_types(job)
     job.add_argument("file", metavar="FILE", nargs="+")
     job.add_argument("path", metavar="PATH", help="of the file, or of the directory that gets it; " + PATH_HELP)
 
-    job = add_change(added, "add", changes.add, "Put all files of a folder or of a zip archive onto a disc. Their names "
+    job = add_change(added, "add", later("changes", "add"),
+                     "Put all files of a folder or of a zip archive onto a disc. Their names "
                      "are those that extract gives: a type after a comma, `.` for `/`. Links are left out. NAME.inf beside NAME "
                      "tells its words and access.")
     job.add_argument("--fit", action="store_true", help="give other names to what the disc doesn't take, and list them")
@@ -113,55 +115,57 @@ def add_changing(added: Any) -> None:
 
 
 def add_moving(added: Any) -> None:
-    job = add_change(added, "mkdir", changes.mkdir, "Make directories.")
+    job = add_change(added, "mkdir", later("changes", "mkdir"), "Make directories.")
     job.add_argument("-p", action="store_true", help="those that lead there, too; what is there stays")
     job.add_argument("path", metavar="PATH", nargs="+", help=PATH_HELP)
 
-    job = add_change(added, "rm", changes.remove, "Remove files and empty directories.")
+    job = add_change(added, "rm", later("changes", "remove"), "Remove files and empty directories.")
     job.add_argument("-r", action="store_true", help="directories with all that is in them, too")
     job.add_argument("path", metavar="PATH", nargs="+", help=WILD_HELP)
 
-    job = add_change(added, "mv", changes.move, "Rename a file or directory, or move it, or several.")
+    job = add_change(added, "mv", later("changes", "move"), "Rename a file or directory, or move it, or several.")
     job.add_argument("source", metavar="FROM", nargs="+", help=WILD_HELP)
     job.add_argument("target", metavar="TO", help="the new path, or that of a directory that gets them")
 
-    job = add_change(added, "cp", copying.copy_within, "Copy a file on a disc, or several.")
+    job = add_change(added, "cp", later("copying", "copy_within"), "Copy a file on a disc, or several.")
     job.add_argument("-r", action="store_true", help="directories with all that is in them, too")
     job.add_argument("source", metavar="FROM", nargs="+", help=WILD_HELP)
     job.add_argument("target", metavar="TO", help="the new path, or that of a directory that gets them")
 
-    job = add_change(added, "access", changes.access, "Lock objects, or say what their owner may do.")
-    job.add_argument("access", metavar="ACCESS", type=changes.access_bits, help="letters of L (locked), W, R, as in WR; - for none")
+    job = add_change(added, "access", later("changes", "access"), "Lock objects, or say what their owner may do.")
+    job.add_argument("access", metavar="ACCESS", type=access_bits, help="letters of L (locked), W, R, as in WR; - for none")
     job.add_argument("path", metavar="PATH", nargs="+", help=WILD_HELP)
 
 
 def add_whole(added: Any) -> None:
-    add_change(added, "compact", changes.compact, "Bring the free space of a disc together.")
+    add_change(added, "compact", later("changes", "compact"), "Bring the free space of a disc together.")
 
-    add_change(added, "reclaim", copying.reclaim, "Make the space free that nothing on the disc owns.", "+")
+    add_change(added, "reclaim", later("copying", "reclaim"), "Make the space free that nothing on the disc owns.", "+")
 
-    job = add_job(added, "undo", backups.undo, "Give an image its state before the first change again. What it was until then is "
+    job = add_job(added, "undo", later("backups", "undo"),
+                  "Give an image its state before the first change again. What it was until then is "
                   "called IMAGE~undone.")
     job.add_argument("--back", action="store_true", help="take the last undo back")
     job.add_argument("image", metavar="IMAGE")
 
-    job = add_job(added, "convert", convert, "Make a disc of another format with all files of a disc. What can't be on it is "
+    job = add_job(added, "convert", later("conversion", "convert"),
+                  "Make a disc of another format with all files of a disc. What can't be on it is "
                   "reported; the rest is copied.")
     add_order(job)
-    job.add_argument("format", metavar="FORMAT", type=str.upper, choices=jobs.FORMATS, help=", ".join(jobs.FORMATS))
+    job.add_argument("format", metavar="FORMAT", type=str.upper, choices=FORMATS, help=", ".join(FORMATS))
     job.add_argument("--fit", action="store_true", help="give other names to what the disc doesn't take, and list them")
     job.add_argument("-v", "--verbose", action="store_true", help="name all that is refused, not only the first of each kind")
     job.add_argument("image", metavar="FROM")
     job.add_argument("out", metavar="TO", help="the file to make")
 
 
-def add_change(added: Any, name: str, run: Callable[[argparse.Namespace], int], text: str,
+def add_change(added: Any, name: str, run: Job, text: str,
                count: Optional[str] = None) -> argparse.ArgumentParser:
     """A subcommand that changes an image."""
     job = add_job(added, name, run, text + " The image as it was before the first change is "
                   "called IMAGE~.")
     add_order(job)
-    job.add_argument("--backup", choices=backups.KINDS, default=backups.FIRST, help="`first`: IMAGE~ is the image before the first "
+    job.add_argument("--backup", choices=BACKUPS, default=BACKUPS[0], help="`first`: IMAGE~ is the image before the first "
                      "change, and stays; `each`: every change leaves one more, IMAGE~1~, IMAGE~2~ and so on")
     job.add_argument("--in-place", action="store_true", help="change the image itself, without a copy: if that is cut off, the "
                      "disc may be damaged; only in disc order and without a header")
@@ -218,7 +222,8 @@ def main(arguments: List[str]) -> int:
         tell(str(trouble))
         return trouble.status
     except BadImage as fault:
-        tell(jobs.not_accepted(words.image, fault))
+        from .jobs import not_accepted
+        tell(not_accepted(words.image, fault))
         return FAILED
     except BrokenPipeError:
         drop_output()  # whoever read the output has seen enough

@@ -52,9 +52,12 @@ def save_line(path: Path, load: int, execution: int, content: bytes) -> bytes:
     return b"save %s %08x %08x %s\n" % (names.path_bytes(path), load, execution, content.hex().encode("ascii") or b"-")
 
 
+SHORTEST_SAVE = len(save_line((), 0, 0, b"")) - 1  # of a file of no bytes in the root, without its name and content
+
+
 def longest_content(path: Path) -> int:
-    """The bytes of the longest file that one line can hold."""
-    return (SCRIPT_LIMIT - len(save_line(path, 0, 0, b"")) + 1) // 2
+    """The bytes of the longest file that one line can hold. Each name has a dot before it."""
+    return (SCRIPT_LIMIT - SHORTEST_SAVE - len(names.path_bytes(path)) + 1) // 2
 
 
 def set_line(path: Path, load: int, execution: int, attributes: int) -> bytes:

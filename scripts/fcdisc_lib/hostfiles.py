@@ -101,14 +101,27 @@ def read_host_file(path: bytes, limit: int, flags: int = 0) -> HostFile:
     Raises OSError, or ValueError with the reason where it isn't to be had as it is.
     """
     number = os.open(path, OPEN_FILE | flags)
-    with open(number, "rb") as file:
+    try:
         before = os.fstat(number)
         if not stat.S_ISREG(before.st_mode):
             raise ValueError("not a file")
         if before.st_size > limit:
             raise ValueError(TOO_LONG % (before.st_size, limit))
-        content = file.read(limit + 1)
+        content = read_all(number, before.st_size)
         after = os.fstat(number)
         if len(content) != before.st_size or (before.st_size, before.st_mtime_ns) != (after.st_size, after.st_mtime_ns):
             raise ValueError("it changed while it was read")
         return HostFile(content, before.st_mtime_ns, kept_with(number))
+    finally:
+        os.close(number)
+
+
+def read_all(number: int, size: int) -> bytes:
+    """The bytes of the open file; one more than `size` if there are more. Most files come by one call of the system."""
+    content = os.read(number, size + 1)
+    while 0 < len(content) < size:
+        piece = os.read(number, size + 1 - len(content))
+        if not piece:
+            break
+        content += piece
+    return content

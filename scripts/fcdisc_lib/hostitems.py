@@ -141,11 +141,13 @@ def scan(folder: bytes, start: Path, fail: Failures, wishes: Wishes) -> Iterator
 
 def tell_fitted(item: Item, host: bytes, wishes: Wishes) -> None:
     """The line of the list of old and new names, if the name is another than the host's."""
+    if not wishes.limits:
+        return
     try:
         is_same = names.disc_name(host, item.is_directory).name == item.named.name
     except ValueError:
         is_same = False
-    if wishes.limits and not is_same:
+    if not is_same:
         wishes.say("%s -> %s" % (shown(item.place), names.spelled_path(item.path)))
 
 

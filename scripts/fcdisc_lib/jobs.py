@@ -22,7 +22,6 @@ from .selection import meant_tree
 from .tree import Tree
 from .verdicts import fault_of
 
-FORMATS = ("E", "F", "D", "L", "E+", "F+")
 
 
 def refusal(refused: Refused, words: Namespace) -> Trouble:

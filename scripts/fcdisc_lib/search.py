@@ -2,7 +2,7 @@
 """Files and directories that match a pattern, in all images of folders."""
 from __future__ import annotations
 
-from argparse import ArgumentTypeError, Namespace
+from argparse import Namespace
 from typing import List, Pattern, Set
 
 from . import names
@@ -64,11 +64,3 @@ def by_content(program: str, tree: Tree, files: List[Entry], words: Namespace) -
                 if words.holds in b"".join(run.load(entry.length)):
                     kept.add(entry.path)
     return kept
-
-
-def looked_for(text: str) -> bytes:
-    """The bytes of a text as a disc has them, in Latin 1."""
-    try:
-        return names.latin_bytes(names.host_text(text))
-    except ValueError as error:
-        raise ArgumentTypeError(str(error)) from None
