@@ -6,6 +6,7 @@ import argparse
 import os
 import signal
 import sys
+from contextlib import suppress
 from typing import Any, List, NoReturn, Optional
 
 from .collection_words import add_collections
@@ -30,14 +31,12 @@ def parser() -> argparse.ArgumentParser:
 
 
 def version() -> str:
-    """What the file VERSION says, which lies at the top of the repository, or beside the installed parts."""
-    here = os.path.dirname(os.path.dirname(os.path.realpath(__file__)))
+    """What the file VERSION says, which lies at the top of the repository, or beside the installed parts, as in an archive of them."""
+    here = os.path.dirname(os.path.dirname(__file__))
     for place in (here, os.path.dirname(here)):
-        try:
-            with open(os.path.join(place, "VERSION"), encoding="utf-8") as file:
-                return file.read().strip()
-        except OSError:
-            continue
+        with suppress(OSError):
+            content: bytes = __loader__.get_data(os.path.join(place, "VERSION"))  # type: ignore[name-defined]
+            return content.decode("utf-8").strip()
     return "of an unknown version"
 
 
