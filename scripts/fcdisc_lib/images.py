@@ -2,6 +2,7 @@
 """Images as people have them: in disc order, with the two sides of an L disc track by track, or with a header before the disc."""
 from __future__ import annotations
 
+import errno
 import os
 import stat
 import tempfile
@@ -15,6 +16,7 @@ TRACKS = 80  # on each of two sides
 L_SIZE = 2 * TRACKS * TRACK
 HEADER = 512
 PIECE = 1 << 20
+ZEROS = bytes(PIECE)
 HEAD = 4096  # what tells the kind of a disc lies before this
 ORDERS = ("auto", "disc", "adl")
 MEMORY_LIMIT = 256 << 20  # bytes of the longest image of which a copy lies in memory
@@ -56,8 +58,7 @@ def size_of(file: BinaryIO) -> int:
 
 def read_at(file: BinaryIO, at: int, length: int) -> bytes:
     try:
-        file.seek(at)
-        return file.read(length)
+        return os.pread(file.fileno(), length, at)
     except OSError as error:
         # a file that was opened by a number, or has no name, is a copy
         name = file.name if isinstance(file.name, str) else "a copy of the image"
@@ -65,17 +66,25 @@ def read_at(file: BinaryIO, at: int, length: int) -> bytes:
 
 
 def pieces_from(file: BinaryIO, start: int, end: Optional[int] = None) -> Iterator[bytes]:
-    """What is in the file from there on, or up to that byte."""
+    """What is in the file from there on, or up to that byte. Pieces that take no room on the host aren't read."""
     end = size_of(file) if end is None else end
     for at in range(start, end, PIECE):
-        yield read_at(file, at, min(PIECE, end - at))
+        length = min(PIECE, end - at)
+        yield ZEROS[:length] if is_hole(file, at, length) else read_at(file, at, length)
+
+
+def is_hole(file: BinaryIO, at: int, length: int) -> bool:
+    """Whether the host says that nothing was ever written there."""
+    try:
+        return os.lseek(file.fileno(), at, os.SEEK_DATA) >= at + length
+    except OSError as error:
+        return error.errno == errno.ENXIO  # nothing from there on
 
 
 def copy(source: BinaryIO, start: int, target: BinaryIO) -> None:
     """Copies from there to the end; pieces of zeros take no room in the copy."""
-    zeros = bytes(PIECE)
     for piece in pieces_from(source, start):
-        if piece == zeros[:len(piece)]:
+        if piece == ZEROS[:len(piece)]:
             target.seek(len(piece), os.SEEK_CUR)
         else:
             target.write(piece)

@@ -12,13 +12,13 @@ import stat
 from contextlib import ExitStack, contextmanager, suppress
 from typing import Callable, Iterable, Iterator, Optional, Sequence, Tuple, TypeVar
 
+from .images import PIECE, ZEROS
 from .leftovers import fresh_name, is_locked_here, remove_leftovers, unfinished
 from .messages import Trouble, reason, shown
 
 Inode = Tuple[int, int]
 AnyFolder = TypeVar("AnyFolder", bound="Folder")
 NAME_LIMIT = 255
-PIECE = 1 << 20
 TAKEN = "there is something of this name already"
 # A system that has no hard links says one of these
 NO_LINKS = (errno.EPERM, errno.EOPNOTSUPP, errno.ENOSYS, errno.EMLINK)
@@ -171,7 +171,7 @@ class NewFile(TemporaryName):
 
     def write(self) -> None:
         for piece in self.pieces:
-            if self.sparse and not piece.strip(b"\0"):
+            if self.sparse and piece == ZEROS[:len(piece)]:
                 os.lseek(self.number, len(piece), os.SEEK_CUR)
             else:
                 write_all(self.number, piece)
