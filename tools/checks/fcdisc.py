@@ -15,12 +15,13 @@ import signal
 import subprocess
 import sys
 import tempfile
-import time
 from typing import Any, Dict, Iterator, List, Optional, Tuple
 
-from tools.checks import examples, fcdisc_cases, fcdisc_changes
+from tools.checks import (examples, fcdisc_backups, fcdisc_cases, fcdisc_changes, fcdisc_collections, fcdisc_everyday,
+                          fcdisc_exchange)
 from tools.checks.selection import Suite, shortened
-from tools.files import TOP, read
+from tools.checks.work_folders import fill, snapshot, wait_for
+from tools.files import TOP
 from tools.images import damaged, table
 from tools.images.volumes import Directory
 from tools.reference.filecore import folded, spelled
@@ -30,34 +31,6 @@ FCDISC = os.path.join(TOP, "scripts", "fcdisc")
 
 
 # ---- folders and runs
-
-
-def fill(folder: bytes, content: Dict[Any, Any]) -> None:
-    """Makes what stands in a folder before a case."""
-    for name, data in content.items():
-        path = os.path.join(folder, name)
-        if data is None:
-            os.mkdir(path)
-        elif isinstance(data, str):
-            os.symlink(data[3:].encode(), path)
-        else:
-            with open(path, "wb") as file:
-                file.write(data)
-
-
-def snapshot(folder: bytes) -> Dict[Any, Any]:
-    """What stands in a folder: bytes, None for a folder, `-> TARGET` for a link."""
-    found = {}
-    for place, folders, files in os.walk(folder):
-        for name in folders + files:
-            path = os.path.join(place, name)
-            if os.path.islink(path):
-                found[os.path.relpath(path, folder)] = "-> " + os.fsdecode(os.readlink(path))
-            elif os.path.isdir(path):
-                found[os.path.relpath(path, folder)] = None
-            else:
-                found[os.path.relpath(path, folder)] = read(path)
-    return found
 
 
 def agrees(wanted: str, got: str) -> bool:
@@ -169,7 +142,7 @@ def list_rows(holder: Directory, depth: int = 0) -> Iterator[Any]:
 
 
 def read_row(line: Any) -> Any:
-    found = re.fullmatch(r"(.{17}) (.{10})  (.{6})  ((?: {2})*)(\S+)", line)
+    found = re.fullmatch(r"(.{17}) (.{10})  (.{6})  .{16}  ((?: {2})*)(\S+)", line)
     return (found[1].split()[0], found[2].strip(), found[3].strip(), len(found[4]) // 2, found[5]) if found else line
 
 
@@ -186,7 +159,7 @@ def accepted_disc(checks: Checks, name: Any, volume: Any) -> None:
                   errors=(long_names, err.count("has another name here")),
                   times=(times, {one: int(os.stat(checks.place(b"work/" + one)).st_mtime // 1) for one in times}))
     out, err, status = checks.run(["list", path])
-    checks.expect("list of " + name, rows=(list(list_rows(volume.root)), list(map(read_row, out.splitlines()[:-1]))),
+    checks.expect("list of " + name, rows=(list(list_rows(volume.root)), list(map(read_row, out.splitlines()[1:-1]))),
                   status=(0, status))
 
 
@@ -199,21 +172,27 @@ def found_lines() -> Iterator[Any]:
     for name, volume, data in table.accepted():
         if name not in refused:
             counted = len(volume.objects()) - len(volume.directories()), len(volume.directories()) - 1
-            yield name + ".adf", "whole: %d file%s, %d director%s, %d byte" % (
+            yield name + ".adf", ": %d file%s, %d director%s, %d byte" % (
                 counted[0], "s" * (counted[0] != 1), counted[1], "y" if counted[1] == 1 else "ies", sum(volume.hole_lengths()))
 
 
 def folder_of_images(checks: Checks, files: Any) -> None:
     """One `check` of the folder: a line for each image, with the fault that the table says."""
     out, err, status = checks.run(["check", "../images"])
-    lines = dict(line[len("../images/"):].split(": ", 1) for line in out.splitlines())
-    checks.expect("check of a folder", status=(1, status), names=(sorted(files), sorted(lines)))
+    lines = dict(line[len("../images/"):].split(": ", 1) for line in out.splitlines() if line.startswith("../images/"))
+    listed = {name for name in files if name.endswith((".adf", ".adl", ".hdf"))}
+    checks.expect("check of a folder", status=(1, status), names=([], sorted(listed - set(lines))),
+                  sums=("%d files: " % len(files), out.splitlines()[-1][:len("%d files: " % len(files))]))
     for name, text in found_lines():
-        checks.expect("check of " + name, line=(text, lines.get(name, "")[:len(text)]))
+        line = lines.get(name, "")
+        checks.expect("check of " + name, line=(True, line.startswith("whole: ") and text in line))
+    kinds = set()
     for name, data, fault in damaged.damaged():
-        line = lines.get(name + ".adf", "")
-        checks.expect("check of " + name, line=(True, line.startswith("not accepted: ") and "[%s]. What to do: " % fault in line),
-                      braces=(False, "{" in line))
+        line, words = lines.get(name + ".adf", ""), fault.split(" ")
+        kinds.add(" ".join(words[0:3:2]) if words[0] == "Directory" else words[0])
+        checks.expect("check of " + name, line=(True, line.startswith("not accepted: ") and "[%s]" % fault in line), braces=(False, "{" in line))
+    told = [re.match(r"What to do about (.*?) \(", line) for line in out.splitlines() if line.startswith("What to do")]
+    checks.expect("advice once for each kind", kinds=([], sorted(kinds - {one[1] for one in told if one})), some=(True, len(told) < 40))
 
 
 # ---- the examples of the man pages
@@ -410,12 +389,6 @@ def interrupted(checks: Checks) -> None:
                       errors=(b"", errors))
 
 
-def wait_for(there: Any, seconds: int = 60) -> None:
-    end = time.monotonic() + seconds
-    while not there() and time.monotonic() < end:
-        time.sleep(0.02)
-
-
 # ---- all of it
 
 
@@ -478,7 +451,30 @@ def changing(suite: Suite, fcore: str) -> None:
         fcdisc_changes.run_parts(checks, can_mount())
 
 
+def run_parts(checks: Checks, subject: Any, parts: Any) -> None:
+    for part in parts:
+        if checks.suite.wants(part.__name__):
+            part(subject)
+
+
+def collections(suite: Suite, fcore: str) -> None:
+    """Jobs over many images."""
+    with prepared(suite, fcore) as checks:
+        run_parts(checks, checks, fcdisc_collections.PARTS)
+
+
+def keeping(suite: Suite, fcore: str) -> None:
+    """What is kept of an image and of its files: backups, archives, .inf files, names; and what people do every day."""
+    with prepared(suite, fcore) as checks:
+        mounts = can_mount()
+        for module in (fcdisc_backups, fcdisc_exchange, fcdisc_everyday):
+            run_parts(checks, fcdisc_changes.Changes(checks), (*module.PARTS, *(module.MOUNTED if mounts else ())))
+
+
 def rounds(suite: Suite, fcore: str) -> None:
-    """`extract` and `add`, and `convert`, of each disc."""
+    """`extract` and `add`, and `convert`, of each disc; and by archives and .inf files."""
     with prepared(suite, fcore) as checks:
         fcdisc_changes.run_rounds(checks)
+        for name, _, data in fcdisc_changes.whole_discs(checks):
+            if suite.wants("exchange-" + name):
+                fcdisc_exchange.round_trip(fcdisc_changes.Changes(checks), name, data)

@@ -118,23 +118,29 @@ def extra_images(files: Dict[str, bytearray]) -> Dict[str, bytes]:
 
 
 NAMED_ROWS = """\
-00000000-00000000          4  WR/     A%20B
-fff Text                   1  WR/     Ab
-directory                     /       D
-00000000-00000000          0  WR/       error
+E disc
+00000000-00000000          4  WR/                       A%20B
+fff Text                   1  WR/                       Ab
+directory                     /                         D
+00000000-00000000          0  WR/                         error
 3 files, 1 directory, 5 bytes
 """
 USER_ROWS = """\
-directory                     /       !Boot
-feb Obey                   8  WR/       !Run
-directory                     /       Docs
-aff DrawFile               0  WR/       Note0
-fff Text                  90  WR/       Note1
+F disc
+directory                     /                         !Boot
+feb Obey                   8  WR/     ...    !Run
+directory                     /                         Docs
+aff DrawFile               0  WR/     ...    Note0
+fff Text                  90  WR/     ...    Note1
 ...
 41 files, 2 directories, 70208 bytes
 """
-TWIN_TEXT = ("directory $.D is damaged: entry 3 has the name of one before it [Directory $.D Twin 3]. What to do: read its "
-             "sectors again from the disc; else change one of the names in a copy of the image, with a new check")
+TWIN_MEANING = "directory $.D is damaged: entry 3 has the name of one before it [Directory $.D Twin 3]"
+TWIN_ADVICE = "read its sectors again from the disc; else change one of the names in a copy of the image, with a new check"
+TWIN_TEXT = "%s. What to do: %s" % (TWIN_MEANING, TWIN_ADVICE)
+USER_FOUND = ("whole: F disc: 41 files, 2 directories, 1525760 bytes free, newest file of 1924-12-24; 1 directory out of order\n")
+HELLO_FOUND = "../images/hello.adf: whole: E disc: 1 file, 0 directories, 813056 bytes free\n"
+NO_DISC = "no FileCore disc begins here [NoKind]"
 NO_KIND = "no FileCore disc begins here [NoKind]. What to do: "
 NO_KIND_ADVICE = ("see that the file is an image of an Acorn FileCore disc, byte by byte and not packed; if it is one, read the "
                   "disc's first 4096 bytes again")
@@ -154,9 +160,11 @@ def listing() -> Iterator[Case]:
     yield Case("list", ["list", image("named.adf")], NAMED_ROWS)
     yield Case("list-user", ["list", image("f-user.adf")], USER_ROWS)
     yield Case("list-part", ["list", image("f-user.adf"), "$.!BOOT"],
-               "feb Obey                   8  WR/     !Run\n1 file, 0 directories, 8 bytes\n")
-    yield Case("list-file", ["list", image("f-user.adf"), "docs.Note1"], "fff Text                  90  WR/     Note1\n")
-    yield Case("list-spelled", ["list", image("named.adf"), "$.A B"], "00000000-00000000          4  WR/     A%20B\n")
+               "feb Obey                   8  WR/     ...  !Run\n1 file, 0 directories, 8 bytes\n")
+    yield Case("list-file", ["list", image("f-user.adf"), "docs.Note1"],
+               "fff Text                  90  WR/     ...  Note1\n1 file, 0 directories, 90 bytes\n")
+    yield Case("list-spelled", ["list", image("named.adf"), "$.A B"],
+               "00000000-00000000          4  WR/                       A%20B\n1 file, 0 directories, 4 bytes\n")
     yield Case("list-none", ["list", image("named.adf"), "$.D.x"],
                err=told("named.adf", "$.D.x: there is no such object on the disc"),
                status=1)
@@ -168,7 +176,7 @@ def listing() -> Iterator[Case]:
                err="fcdisc: \u0416: a disc's names have no letters but those of Latin 1\n", status=2)
     yield Case("list-damaged", ["list", image("d-twin.adf")], err=told("d-twin.adf", "not accepted: " + TWIN_TEXT), status=1)
     yield Case("list-deep", ["list", image("deep.adf")],
-               "directory                     /       d\n...\n0 files, 128 directories, 0 bytes\n",
+               "E disc\ndirectory                     /                         d\n...\n0 files, 128 directories, 0 bytes\n",
                told("deep.adf", "directories more than 127 deep are left out"), 1)
     yield Case("list-no-image", ["list", "none.adf"], err="fcdisc: none.adf: No such file or directory\n", status=1)
     yield Case("list-a-folder", ["list", "."], err="fcdisc: .: Is a directory\n", status=1)
@@ -181,7 +189,7 @@ def listing() -> Iterator[Case]:
     yield Case("list-closed-input", ["list", image("named.adf")], NAMED_ROWS, within='exec "$@" <&- 2>&-')
     yield Case("list-a-pipe", ["list", "p"], err="fcdisc: p" + NO_FILE, status=1,
                within='mkfifo p; "$@"; status=$?; rm p; exit $status')
-    yield Case("list-closed-pipe", ["list", image("f-user.adf")], "directory                     /       !Boot\n", status=0,
+    yield Case("list-closed-pipe", ["list", image("f-user.adf")], "F disc\n", status=0,
                within='"$@" | head -n 1')
 
 
@@ -257,8 +265,7 @@ def extracting() -> Iterator[Case]:
     yield Case("extract-no-folder", ["extract", names, "none/o"], err="fcdisc: none/o: No such file or directory\n", status=1)
     yield Case("extract-damaged", ["extract", image("d-twin.adf"), "o"], err=told("d-twin.adf", "not accepted: " + TWIN_TEXT),
                status=1)
-    yield Case("extract-a-file", ["extract", names, "o", "$.Ab"],
-               err=told("named.adf", "$.Ab: a file stands where a directory has to"), status=1)
+    yield Case("extract-a-file", ["extract", names, "o", "$.Ab"], "1 of 1 file written to o\n", left={b"o": None, b"o/Ab,fff": b"\2"})
     yield Case("extract-hostile", ["extract", image("hostile.adf"), "o"], "19 of 19 files written to o\n",
                left=hostile_tree(b"o"))
     fitted = [LONG + b"a,fff", LONG[:249] + b"~2,fff", LONG[:249] + b"~3,fff"]
@@ -290,41 +297,42 @@ FULL_DISK = ('unshare -m sh -c \'mount -t tmpfs -o size=%dk none . && cd "$PWD" 
 
 def checking() -> Iterator[Case]:
     yield Case("check", ["check", image("f-user.adf"), image("named.adf")],
-               "../images/f-user.adf: whole: 41 files, 2 directories, 1525760 bytes free; 1 directory out of order\n"
-               "../images/named.adf: whole: 3 files, 1 directory, 808960 bytes free\n")
+               "../images/f-user.adf: " + USER_FOUND + "../images/named.adf: whole: E disc: 3 files, 1 directory, 808960 bytes free\n"
+               "2 files: 2 whole\n")
     yield Case("check-damaged", ["check", image("d-twin.adf"), image("hello.adf")],
-               "../images/d-twin.adf: not accepted: %s\n"
-               "../images/hello.adf: whole: 1 file, 0 directories, 813056 bytes free\n" % TWIN_TEXT,
+               "../images/d-twin.adf: not accepted: %s\n" % TWIN_MEANING + HELLO_FOUND
+               + "What to do about Directory Twin (1 image): %s\n2 files: 1 whole, 1 damaged\n" % TWIN_ADVICE,
                status=1)
     yield Case("check-short", ["check", image("short.adl")],
                "../images/short.adl: not accepted: it has 400000 bytes, and its disc 655360 "
-               "[Short 655360 400000]. What to do: %s\n" % SHORT_ADVICE, status=1)
+               "[Short 655360 400000]\nWhat to do about Short: %s\n" % SHORT_ADVICE, status=1)
     yield Case("check-none", ["check", "none.adf", image("hello.adf")],
-               "../images/hello.adf: whole: 1 file, 0 directories, 813056 bytes free\n",
+               HELLO_FOUND + "2 files: 1 whole, 1 not opened\n",
                "fcdisc: none.adf: No such file or directory\n", 1)
-    for name, advice in (("packed.gz", "it is packed by gzip: unpack it first, with gunzip"),
-                         ("archive.zip", "it is a zip archive: unpack it first"), ("text.txt", NO_KIND_ADVICE)):
-        yield Case("check-" + name, ["check", image(name)], "../images/%s: not accepted: %s%s\n" % (name, NO_KIND, advice),
-                   status=1)
+    for name, text in (("packed.gz", "packed by gzip: unpack it first, with gunzip"), ("archive.zip", "a zip archive: unpack it first"),
+                       ("text.txt", "a text: look for an image elsewhere")):
+        yield Case("check-" + name, ["check", image(name)], "../images/%s: no disc: %s\n" % (name, text), status=1)
+    yield Case("list-a-zip", ["list", image("archive.zip")],
+               err=told("archive.zip", "not accepted: it is a zip archive [NoKind]. What to do: unpack it first"), status=1)
     yield Case("check-empty-folder", ["check", "."])
-    many = [b"%02d" % at for at in range(40)]
+    many = [b"%02d.adf" % at for at in range(40)]
     yield Case("check-few-descriptors", ["check", "."], "".join(
-        "./%s: not accepted: %s%s\n" % (name.decode(), NO_KIND, NO_KIND_ADVICE) for name in many), status=1,
-        before=dict.fromkeys(many, b"no disc"), within='ulimit -n 24; exec "$@"')
-    yield Case("check-names", ["check", "."], "./a\\x0a\\x1b[31m: not accepted: %s%s\n./\\xff.adf: not accepted: %s%s\n" % (
-        NO_KIND, NO_KIND_ADVICE, NO_KIND, NO_KIND_ADVICE), status=1,
-               before={b"a\n\x1b[31m": b"no disc", b"\xff.adf": b"no disc"})
-    yield Case("check-dash", ["check", "--", "-x.adf"], "-x.adf: not accepted: %s%s\n" % (NO_KIND, NO_KIND_ADVICE), status=1,
-               before={b"-x.adf": b""})
+        "./%s: not accepted: %s\n" % (name.decode(), NO_DISC) for name in many)
+        + "What to do about NoKind (40 images): %s\n40 files: 40 damaged\n" % NO_KIND_ADVICE, status=1,
+        before=dict.fromkeys(many, b"\0\1"), within='ulimit -n 24; exec "$@"')
+    yield Case("check-names", ["check", "."], "./a\\x0a\\x1b[31m.adf: not accepted: %s\n./\\xff.adf: not accepted: %s\n"
+               "What to do about NoKind (2 images): %s\n2 files: 2 damaged\n" % (NO_DISC, NO_DISC, NO_KIND_ADVICE), status=1,
+               before={b"a\n\x1b[31m.adf": b"\0\1", b"\xff.adf": b"\0\1"})
+    yield Case("check-dash", ["check", "--", "-x.adf"], "-x.adf: not accepted: %s\nWhat to do about NoKind: %s\n" % (
+        NO_DISC, NO_KIND_ADVICE), status=1, before={b"-x.adf": b""})
 
 
 # ---- orders and headers
 
 
 def found_out() -> Iterator[Any]:
-    whole = ("whole: 62 files, 5 directories, 520704 bytes free; 3072 bytes that nothing owns; 1 directory out of order; "
-             "1 directory with a wrong parent\n")
-    user = "whole: 41 files, 2 directories, 1525760 bytes free; 1 directory out of order\n"
+    whole = ('whole: L disc "OldDisc", boot option Exec: 62 files, 5 directories, 520704 bytes free, newest file of 1924-07-01; '
+             "3072 bytes that nothing owns; 1 directory out of order; 1 directory with a wrong parent\n")
     yield Case("sides-adl", ["check", image("sides.adl")], "../images/sides.adl: " + whole, told("sides.adl", SIDES))
     yield Case("sides-adf", ["check", image("sides.adf")], "../images/sides.adf: " + whole, told("sides.adf", SIDES))
     yield Case("ordered-adl", ["check", image("ordered.adl")], "../images/ordered.adl: " + whole,
@@ -333,9 +341,10 @@ def found_out() -> Iterator[Any]:
     yield Case("asked-disc", ["check", "--order", "disc", image("ordered.adl")], "../images/ordered.adl: " + whole)
     yield Case("asked-wrong", ["check", "--order=adl", image("f-user.adf")], err=told(
         "f-user.adf", "no L disc of 655360 bytes begins here, so it has no sides to put into order"), status=1)
-    yield Case("header", ["check", image("header.hdf")], "../images/header.hdf: " + user,
+    yield Case("header", ["check", image("header.hdf")], "../images/header.hdf: " + USER_FOUND,
                told("header.hdf", "it has a header of 512 bytes: read without it"))
-    yield Case("header-damaged", ["check", image("header.adf")], "../images/header.adf: not accepted: %s\n" % TWIN_TEXT,
+    yield Case("header-damaged", ["check", image("header.adf")], "../images/header.adf: not accepted: %s\nWhat to do about Directory Twin: %s\n" % (
+        TWIN_MEANING, TWIN_ADVICE),
                told("header.adf", "it has a header of 512 bytes: read without it"), 1)
     song = bytes(range(256)) * 200
     for name, words, err in (("flat.adf", [], told("flat.adf", DOUBT)), ("flat.adl", [], told("flat.adl", SIDES)),
@@ -353,7 +362,7 @@ def making(files: Dict[str, bytearray], extra: Dict[str, bytes]) -> Iterator[Any
     yield Case("new-lower", ["new", "e+", "x.adf"], left={b"x.adf": bytes(files["fresh-E+.adf"])})
     yield Case("new-there", ["new", "E", "x.adf"], err="fcdisc: x.adf: " + THERE + "\n", status=1, before={b"x.adf": b"mine"})
     yield Case("new-no-folder", ["new", "E", "none/x.adf"], err="fcdisc: none/x.adf: No such file or directory\n", status=1)
-    yield Case("new-full-disk", ["new", "E", "x.adf"], ". ./pad\n", "fcdisc: x.adf: %s\n" % WRITE_FAILED, 1, within=FULL_DISK % (
+    yield Case("new-full-disk", ["new", "E", "x.adf"], ". ./pad\n", "fcdisc: x.adf: No space left on device\n", 1, within=FULL_DISK % (
         16, "head -c 20000 /dev/zero > pad 2> /dev/null"))
     yield Case("new-too-large", ["new", "F", "x.adf"], err="fcdisc: x.adf: ...\n", status=1,
                within='ulimit -f 16; exec "$@"')
@@ -399,7 +408,7 @@ def words() -> Iterator[Any]:
     for job in ("list", "get", "extract", "check", "new", "adl", "strip", "put", "add", "mkdir", "rm", "mv", "access", "compact",
                 "convert"):
         yield Case("help-" + job, [job, "--help"], "usage: fcdisc %s [-h]...\n" % job)
-    yield Case("help", ["--help"], "usage: fcdisc [-h] JOB ...\n...\n")
+    yield Case("help", ["--help"], "usage: fcdisc [-h] [--version] JOB ...\n...\n")
 
 
 # ---- other programs in fcore's place

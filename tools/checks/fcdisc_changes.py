@@ -13,10 +13,12 @@ import shutil
 import signal
 import stat
 import subprocess
-from typing import TYPE_CHECKING, Any, Dict, List, Optional, Tuple, Union
+from typing import TYPE_CHECKING, Any, Dict, Iterator, List, Optional, Tuple, Union
 
 from tools.checks import fcdisc_cases
-from tools.files import TOOLS, read
+from tools.checks.fcdisc_hosts import on_host
+from tools.checks.work_folders import wait_for
+from tools.files import read
 from tools.images import table
 from tools.reference.change_state import State
 from tools.reference.filecore import NOT_SPELLED, spelled_path
@@ -68,7 +70,7 @@ class Changes:
     def run(self, *words: str, fcore: Optional[str] = None, within: Any = None) -> Optional[Tuple[str, str, int]]:
         return self.checks.run(list(words), fcore, within)
 
-    def fake(self, text: str) -> str:
+    def fake(self, text: Any) -> str:
         """A program in fcore's place."""
         path = os.path.join(self.checks.fresh(b"fake"), b"fcore")
         with open(path, "w") as file:
@@ -81,11 +83,12 @@ class Changes:
 
     def good(self, name: str, words: List[str], tree: Dict[str, Union[Tuple[int, bytes], int]], out: str = "", image: str = "a.adf",
              **more: Any) -> None:
-        """A job that does all: the tree afterwards, and the image as it was beside it."""
-        before = read(self.at(image))
+        """A job that does all: the tree afterwards, and the image as it was before the first change beside it."""
+        before, first = self.both(image)
         got = self.run(*words, **more)
-        backup = os.path.exists(self.at(image + "~")) and read(self.at(image + "~")) == before
-        self.checks.expect(name, result=((out, "", 0), got), tree=(tree, short_tree(read(self.at(image)))), backup=(True, backup))
+        backup = before if first is None else first
+        self.checks.expect(name, result=((out, "", 0), got), tree=(tree, short_tree(read(self.at(image)))),
+                           backup=(True, backup == self.both(image)[1]))
 
     def refused(self, name: str, words: List[str], error: str, status: int = 1, out: str = "", image: str = "a.adf", notes: int = 0,
                 **more: Any) -> None:
@@ -154,7 +157,7 @@ def moving(c: Changes) -> None:
     c.good("mkdir", ["mkdir", "a.adf", "E", "$.E.F"], {**NAMED, "$.E": 0, "$.E.F": 0})
     got = c.run("mkdir", "a.adf", "G", "D", "x.y", "Ab.y")
     told = ("D: not made: there is something of this name on the disc already",
-            "x.y: not made: there is no directory for it on the disc", "Ab.y: not made: a file stands where a directory has to")
+            "x.y: not made: there is no directory for it on the disc (mkdir -p makes it)", "Ab.y: not made: a file stands where a directory has to")
     c.checks.expect("mkdir in part", result=(("", "".join("fcdisc: a.adf: $.%s\n" % text for text in told), 1), got),
                     there=(True, "$.G" in short_tree(read(c.at("a.adf")))))
     c.start()
@@ -270,14 +273,14 @@ def adding(c: Changes) -> None:
     os.mkfifo(c.at("o/pipe"))
     got = c.run("add", "a.adf", "o")
     told = ["o/link: not added: it is a link", "o/loop: not added: it is a link", "o/pipe: not added: not a file",
-            "o/p\u0416: not added: a disc's names have no letters but those of Latin 1",
-            "o/In/x,ffb: not added: on a disc it has the same name as X,fff",
+            "o/p\u0416: not added: a disc's names have no letters but those of Latin 1 (--fit gives it another name)",
+            "o/In/x,ffb: not added: on a disc it has the same name as X,fff (--fit gives it another name)",
             "o/Ab: not added: a file of its name is on the disc; nor what is in it",
             "o/D/error,fff: not added: there is something of its name on the disc already (--replace puts files in its place)",
-            "a.adf: $.Eleven/bytes: not added: its name has 12 letters, and this disc takes no more than 10; "
-            "nor what is in it: 3 objects"]
+            "a.adf: $.Eleven/bytes: not added: its name has 12 letters, and this disc takes no more than 10 "
+            "(--fit gives it another name); nor what is in it: 3 objects"]
     tree = {**NAMED, "$.Read/Me": (3, b"read"), "$.In": 0, "$.In.X": (3, b"y"), "$.n": (3, b"n")}
-    c.checks.expect("add", out=("3 of 7 files added to a.adf\n", got[0]), status=(1, got[2]),
+    c.checks.expect("add", out=("3 of 12 files added to a.adf\n", got[0]), status=(1, got[2]),
                     told=(sorted("fcdisc: " + text for text in told), sorted(got[1].splitlines())),
                     tree=(tree, short_tree(read(c.at("a.adf")))))
 
@@ -331,7 +334,7 @@ def troubles(c: Changes) -> None:
     c.checks.expect("changed meanwhile", result=(("", text, 1), got),
                     left=(["a.adf", "note"], c.names()), tree=(NAMED, short_tree(read(c.at("a.adf")))))
     c.start(files={"o/gone": b"", "o/stays": b"s"})
-    removing_it = c.fake('#!/bin/sh\nrm -f o/gone\nexec FCORE "$@"\n')
+    removing_it = c.fake('#!/bin/sh\n[ -e ran ] && rm -f o/gone\ntouch ran\nexec FCORE "$@"\n')
     got = c.run("add", "a.adf", "o", fcore=removing_it)
     text = "fcdisc: o/gone: not added: No such file or directory\n"
     c.checks.expect("a file that vanishes", result=(("1 of 2 files added to a.adf\n", text, 1), got),
@@ -379,7 +382,7 @@ def no_room(c: Changes) -> None:
               'cd ../room && head -c 300000 /dev/zero > pad; "$@"; status=$?; echo $(find . | sort); exit $status\' sh "$@"; '
               'status=$?; rmdir ../room; exit $status')
     c.refused("no room for a copy", ["put", "a.adf", "note", "$.N"],
-              "a.adf: no copy of it can be made beside it (No space left on device); --in-place does without",
+              "a.adf: its changed copy can't be written beside it (No space left on device): 0.7 MB more are needed; nothing was changed",
               out=". ./a.adf ./note ./pad\n", within=within)
 
 
@@ -391,15 +394,10 @@ HOSTS = (
 DENIED = "fcdisc: a.adf: its changed copy can't take its name (Permission denied): it stays as it was, and a.adf~ is the same now\n"
 
 
-def on_host(host: Any) -> str:
-    """The words before those of fcdisc."""
-    return "exec python3 '%s' checks/fcdisc_hosts %s \"$@\"" % (os.path.join(TOOLS, "run"), host)
-
-
 def other_hosts(c: Changes) -> None:
     """Whatever the host can't do and whenever a signal comes, the image's name leads to a whole image, and so does the backup's."""
     for host, status, is_changed, is_backed in HOSTS:
-        before, seen = c.start(files={"note": b"Hello", "a.adf~": b"older"}), c.checks.place(b"seen")
+        before, seen = c.start(files={"note": b"Hello"}), c.checks.place(b"seen")
         os.chmod(c.at("a.adf"), 0o640)
         with open(seen, "wb"):
             pass  # what other jobs left
@@ -410,9 +408,9 @@ def other_hosts(c: Changes) -> None:
         looks = read(seen).decode().split("\n")[:-1]
         c.checks.expect("put on the host " + host, result=(("", DENIED if "denied" in host else "", status), got),
                         tree=({**NAMED, "$.N": (3, b"Hello")} if is_changed else NAMED, short_tree(after)),
-                        same=(not is_changed, after == before), backup=(True, backup == (before if is_backed else b"older")),
+                        same=(not is_changed, after == before), backup=(True, backup == (before if is_backed else None)),
                         seen=([], [one for one in looks if one not in allowed]), some=(is_backed, bool(looks)),
-                        left=(["a.adf", "a.adf~", "note"], c.names()), mode=(0o640, stat.S_IMODE(os.stat(c.at("a.adf")).st_mode)))
+                        left=(["a.adf", *["a.adf~"][:is_backed], "note"], c.names()), mode=(0o640, stat.S_IMODE(os.stat(c.at("a.adf")).st_mode)))
         if is_backed:
             found = os.stat(c.at("a.adf~"))
             c.checks.expect("the backup on the host " + host, kept=((0o640, time), (stat.S_IMODE(found.st_mode), found.st_mtime_ns)))
@@ -427,7 +425,6 @@ SLOW = '#!/bin/sh\ncase "$*" in *read-only*) exec FCORE "$@";; esac\ntouch begun
 
 def signals(c: Changes) -> None:
     """A signal leaves the image as it was; if it is changed in place, it waits for the end."""
-    from tools.checks.fcdisc import wait_for
     for number in (signal.SIGINT, signal.SIGTERM):
         for place in ([], ["--in-place"]):
             before = c.start(files={"note": b"Hello"})
@@ -529,7 +526,15 @@ def run_parts(checks: Checks, mounts: bool) -> None:
 
 
 def run_rounds(checks: Checks) -> None:
-    c, seen = Changes(checks), []
+    c = Changes(checks)
+    for name, volume, data in whole_discs(checks):
+        if checks.suite.wants(name):
+            round_trip(c, name, data, (own_format(data, volume), "F+"))
+
+
+def whole_discs(checks: Checks) -> Iterator[Any]:
+    """The discs of the table that differ in more than their maps: name, volume, image."""
+    seen = []
     discs = [(name, volume, data) for name, volume, data in table.accepted() if len(data) < 2000000]
     for name in ("hostile", "one"):
         discs.append((name, None, read(checks.place(b"images/%s.adf" % name.encode()))))
@@ -537,5 +542,4 @@ def run_rounds(checks: Checks) -> None:
         tree = tree_of(data)
         if tree and (len(data), tree) not in seen:  # many discs differ in their maps alone
             seen.append((len(data), tree))
-            if checks.suite.wants(name):
-                round_trip(c, name, data, (own_format(data, volume), "F+"))
+            yield name, volume, data

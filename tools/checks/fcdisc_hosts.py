@@ -19,6 +19,8 @@ import signal
 import sys
 from typing import Any
 
+from tools.files import TOOLS
+
 IMAGE, SEEN = b"a.adf", "../seen"
 
 
@@ -54,6 +56,11 @@ class Host:
         self.system["fsync"](number)
 
 
+def on_host(host: Any) -> str:
+    """The words before those of fcdisc, for a shell."""
+    return "exec python3 '%s' checks/fcdisc_hosts %s \"$@\"" % (os.path.join(TOOLS, "run"), host)
+
+
 def digest() -> Any:
     try:
         with open(IMAGE, "rb") as file:
@@ -62,7 +69,7 @@ def digest() -> Any:
         return "no image"
 
 
-def note(text: str) -> None:
+def note(text: Any) -> None:
     with open(SEEN, "a") as file:
         file.write(text + "\n")
 

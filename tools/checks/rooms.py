@@ -18,7 +18,7 @@ from tools.files import TOP
 PAGE = os.path.join(TOP, "docs", "CHANGING.md")
 SEARCH = re.compile(r"^    \$ (grep .*)$", re.MULTILINE)
 CRATE = re.compile(r"\bfc_[a-z]+\b|\bfcore\b(?=/| \(src)")
-FILE = re.compile(r"(?<![\w/])((?:\w+/)*\w+\.(?:py|sh|c|1|5))(?!\w|\.\w)")
+FILE = re.compile(r"(?<![\w/])((?:\w+/)*\w+\.(?:py|sh|bash|c|1|5))(?!\w|\.\w)")
 FOLDERS = ("tools", "scripts", "man")
 LEFT_OUT = ("tools/checks/bounds.txt",)  # made from the sources
 

@@ -56,7 +56,8 @@ PLAIN: Dict[str, Callable[[Suite], None]] = {
     "pages": pages, "man": program.man_pages, "embedded": program.embedded, "images": readers.images, "readers": readers.readers}
 OVER_PROGRAM: Dict[str, Callable[[Suite, str], None]] = {
     "cases": program.cases, "streams": program.streams, "examples": program.readme, "install": program.installed,
-    "fcdisc": fcdisc.reading, "fcdisc-discs": fcdisc.discs, "fcdisc-changes": fcdisc.changing, "fcdisc-round": fcdisc.rounds}
+    "fcdisc": fcdisc.reading, "fcdisc-discs": fcdisc.discs, "fcdisc-changes": fcdisc.changing,
+    "fcdisc-collections": fcdisc.collections, "fcdisc-keeping": fcdisc.keeping, "fcdisc-round": fcdisc.rounds}
 
 
 def run_long(suite: Suite, path: str) -> None:
