@@ -1,16 +1,21 @@
+# SPDX-License-Identifier: MIT
 # fcore: see README.md. `rt` is the command of the Rattle kit.
 PREFIX ?= /usr/local
 PROGRAM = crates/fcore/out/fcore
 
-INSTALLED = $(DESTDIR)$(PREFIX)
+INSTALLED = $(abspath $(DESTDIR)$(PREFIX))
 PAGES = $(wildcard man/*.1 man/*.5)
+COMPLETION = $(wildcard scripts/completion/*.bash)
 
-.PHONY: all build install uninstall demo test edits bench
+.PHONY: all kit build install uninstall dist demo test check edits bench
 
 all: build
 
+kit:
+	@command -v rt > /dev/null || { echo "The Rattle kit (rt on the PATH), which builds fcore, is missing; without it there are make check, fcdisc over a built fcore (FCORE=PATH scripts/fcdisc; make install PROGRAM=PATH) and tools/run reference/format_reader IMAGE." >&2; exit 1; }
+
 # The proved program. It is run once on the embedded image, so that it is seen to work.
-build:
+build: kit
 	cd crates/fcore && rt run -- data/hello.adf < stdin
 	@echo "the program lies in $(PROGRAM)"
 
@@ -19,18 +24,24 @@ install:
 	@test -x $(PROGRAM) || { echo "$(PROGRAM) isn't there: run make first" >&2; exit 1; }
 	install -D $(PROGRAM) $(INSTALLED)/bin/fcore
 	install -D scripts/fcdisc $(INSTALLED)/bin/fcdisc
-	install -d $(INSTALLED)/lib/fcore/fcdisc_lib
-	install -m 644 scripts/fcdisc_lib/*.py $(INSTALLED)/lib/fcore/fcdisc_lib
+	install -m 644 -D VERSION $(INSTALLED)/lib/fcore/VERSION
+	cd scripts && find fcdisc_lib -name '*.py' -exec install -D -m 644 {} $(INSTALLED)/lib/fcore/{} \;
+	$(if $(COMPLETION),install -D -m 644 $(COMPLETION) $(INSTALLED)/share/bash-completion/completions/fcdisc)
 	$(foreach page,$(PAGES),install -D -m 644 $(page) $(INSTALLED)/share/man/man$(subst .,,$(suffix $(page)))/$(notdir $(page)) &&) true
 
 uninstall:
 	rm -f $(INSTALLED)/bin/fcore $(INSTALLED)/bin/fcdisc
 	rm -rf $(INSTALLED)/lib/fcore
+	rm -f $(INSTALLED)/share/bash-completion/completions/fcdisc
 	rm -f $(foreach page,$(PAGES),$(INSTALLED)/share/man/man$(subst .,,$(suffix $(page)))/$(notdir $(page)))
+
+# An archive of what was built, which runs where there is Python and nothing else.
+dist:
+	@tools/run dist $(PROGRAM)
 
 # Two fresh discs, E+ and F, and the embedded image: each file of demo/ is a script, and NAME.args has the arguments of its run.
 # The program is built unproved, with checks at run time: make test proves.
-demo:
+demo: kit
 	@head -n 20 demo/*
 	cd crates/fcore && rt try --data hello.adf=data/hello.adf --cases ../../demo
 
@@ -38,9 +49,16 @@ demo:
 # as there are processors, and 4 GB of memory for each. (Left alone, rt plans with 12 GB for fc_volume, whose checks take 3.)
 LANES = $(shell awk -v most=$$(nproc) '/MemAvailable/ {n = int($$2 / 4000000); print n < 1 ? 1 : n < most ? n : most}' /proc/meminfo)
 
-test:
+test: kit
 	RT_JOBS=$(LANES) rt ci
-	tools/run checks/program $(PROGRAM)
+	tools/run checks/run --gate --program $(PROGRAM)
+
+# All that needs no kit, below two minutes; suites over the program if there is one. Some of it by names, as by
+# make check CASES='readers fcdisc/get*'; tools/run checks/run --list names them all.
+CASES =
+
+check:
+	@set -f; tools/run checks/run --program $(PROGRAM) $(CASES)
 
 # Wrong bodies whose checks are too dear for the gate, or those of some crates, as by make edits EDITS=fc_growing
 edits:

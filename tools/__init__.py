@@ -1,1 +1,2 @@
+# SPDX-License-Identifier: MIT
 """Tools of the repository: `tools/run` lists those that can be run."""

@@ -1,3 +1,4 @@
+# SPDX-License-Identifier: MIT
 """Files that the checks read and build."""
 import os
 import shutil

@@ -1,3 +1,4 @@
+# SPDX-License-Identifier: MIT
 """A folder of the host onto a disc: its files and folders by the names, types and times that `extract` gives them."""
 from __future__ import annotations
 

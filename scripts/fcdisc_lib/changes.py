@@ -1,3 +1,4 @@
+# SPDX-License-Identifier: MIT
 """The subcommands that change a disc. Each answers the status with which the program ends."""
 from __future__ import annotations
 

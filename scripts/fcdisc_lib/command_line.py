@@ -1,3 +1,4 @@
+# SPDX-License-Identifier: MIT
 """The words of fcdisc, and how a run ends."""
 from __future__ import annotations
 

@@ -1,3 +1,4 @@
+# SPDX-License-Identifier: MIT
 """A disc of another format with the tree of a disc."""
 from __future__ import annotations
 

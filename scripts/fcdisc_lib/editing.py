@@ -1,3 +1,4 @@
+# SPDX-License-Identifier: MIT
 """An image that is changed. The changes are made to a copy beside it, which takes its name when all is done; or in place."""
 from __future__ import annotations
 

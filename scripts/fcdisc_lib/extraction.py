@@ -1,3 +1,4 @@
+# SPDX-License-Identifier: MIT
 """All files of a disc into a folder of the host."""
 from __future__ import annotations
 

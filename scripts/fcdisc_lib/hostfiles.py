@@ -1,3 +1,4 @@
+# SPDX-License-Identifier: MIT
 """Files of the host that go onto a disc, and what a file's name, time and contents can't say of an object on a disc.
 
 `extract` keeps an object's load and exec words and its attributes in an extended attribute of the file or folder, where the host

@@ -1,3 +1,4 @@
+# SPDX-License-Identifier: MIT
 """Images as people have them: in disc order, with the two sides of an L disc track by track, or with a header before the disc."""
 from __future__ import annotations
 

@@ -1,3 +1,4 @@
+# SPDX-License-Identifier: MIT
 """A disc's tree, a line for each object."""
 from __future__ import annotations
 

@@ -1,3 +1,4 @@
+# SPDX-License-Identifier: MIT
 """What fcdisc says to people: messages on standard error, a line of progress, and text that can't upset a terminal."""
 from __future__ import annotations
 

@@ -1,3 +1,4 @@
+# SPDX-License-Identifier: MIT
 """Names on a disc and names on the host, both ways.
 
 A name on a disc is 1 to 255 bytes of at least 32, in the letters of Latin 1; `.` stands between the names of a path. fcore spells

@@ -1,3 +1,4 @@
+# SPDX-License-Identifier: MIT
 """New files on the host: written under a name of their own, and given the right one only when they are whole.
 
 A name is looked up in a folder that is open, and no symbolic link is followed below it, so nothing that a disc's names say leads

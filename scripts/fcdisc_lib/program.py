@@ -1,3 +1,4 @@
+# SPDX-License-Identifier: MIT
 """Runs of the program fcore: a script goes in, and its replies are read one by one."""
 from __future__ import annotations
 

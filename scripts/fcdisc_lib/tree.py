@@ -1,3 +1,4 @@
+# SPDX-License-Identifier: MIT
 """The objects of a disc, found from a directory down."""
 from __future__ import annotations
 

@@ -1,4 +1,5 @@
 #!/usr/bin/env python3
+# SPDX-License-Identifier: MIT
 """Times the commands that change a volume, over discs of 512 MB and more.
 
 usage: tools/run bench/changes PROGRAM [FILES [OBJECTS]]    10,000 files, and 50,000 objects on the other discs

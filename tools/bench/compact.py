@@ -1,4 +1,5 @@
 #!/usr/bin/env python3
+# SPDX-License-Identifier: MIT
 """Times `compact` over fragmented discs of 518 MB that are half empty, beside a copy of as many bytes with as many syncs.
 
 usage: tools/run bench/compact PROGRAM

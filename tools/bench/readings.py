@@ -1,4 +1,5 @@
 #!/usr/bin/env python3
+# SPDX-License-Identifier: MIT
 """Compares the processor time of fcore with that of other programs that do as much, and measures its memory and system calls.
 
 usage: tools/run bench/readings FCORE [ROUNDS]    in a folder for temporary files (TMPDIR) with 8 GB free; five rounds by default

@@ -1,1 +1,2 @@
+# SPDX-License-Identifier: MIT
 """Checks of the built program, of fcdisc, of the readers and of the pages."""

@@ -1,3 +1,4 @@
+# SPDX-License-Identifier: MIT
 """Worked rows that change discs: a disc, a script, the replies, and whether the disc is opened to be read only."""
 import hashlib
 

@@ -1,3 +1,4 @@
+# SPDX-License-Identifier: MIT
 """Draws lines of changing commands, most of them aimed at what is there and at the edges of space, by chance."""
 from tools.images.drawn_discs import random_name
 from tools.reference.change_answer import CHANGING, Command

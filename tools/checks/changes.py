@@ -1,4 +1,5 @@
 #!/usr/bin/env python3
+# SPDX-License-Identifier: MIT
 """Changes discs of all kinds with the built program, and compares each reply and each image with what the rules allow.
 
 usage: tools/run checks/changes [--program PATH] [--seed N] [--images N] [--commands N] [--only WORD,..] [--old] [--batch] [--table]

@@ -1,4 +1,5 @@
 #!/usr/bin/env python3
+# SPDX-License-Identifier: MIT
 """Names lemmas and definitions of which one would do: copies of std's, copies of a lower crate's, and those that nothing uses.
 
 usage: tools/run checks/copies [--kit FOLDER] [CRATE...]        the kit's folder is /opt/rattle

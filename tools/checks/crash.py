@@ -1,4 +1,5 @@
 #!/usr/bin/env python3
+# SPDX-License-Identifier: MIT
 """Compacts fragmented discs with the built program, and looks at what a crash at any moment would have left.
 
 usage: tools/run checks/crash PROGRAM [DISCS]    30 discs, if no number is given

@@ -1,4 +1,5 @@
 #!/usr/bin/env python3
+# SPDX-License-Identifier: MIT
 """Demos of the built program: the line of `--demo N` beside the replies to the same script, which is drawn here again from docs/FORMAT.md.
 
 usage: tools/run checks/demo PROGRAM

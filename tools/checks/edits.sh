@@ -1,4 +1,5 @@
 #!/usr/bin/env bash
+# SPDX-License-Identifier: MIT
 # Tries the edits of tools/edits, besides those of crates/*/must-fail: each makes a body wrong, and the check of its crate must
 # refuse it. They aren't part of the gate, since each check of these crates takes minutes. After make test on the same machine only
 # these crates are proved once more, and then tried with each edit.

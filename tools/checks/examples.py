@@ -1,4 +1,5 @@
 #!/usr/bin/env python3
+# SPDX-License-Identifier: MIT
 """Runs the examples of a page in the current folder, and compares what they print with what the page says.
 
 usage: tools/run checks/examples PAGE

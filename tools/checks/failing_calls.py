@@ -1,3 +1,4 @@
+# SPDX-License-Identifier: MIT
 """A script over an image, with one call of the system failing in each run: what the program may answer and leave.
 
 What a call fails in is known from runs of the script's beginnings, which make the same calls: so which line breaks off, which

@@ -1,8 +1,10 @@
 #!/usr/bin/env python3
+# SPDX-License-Identifier: MIT
 """Runs fcdisc over images of all kinds: its cases, each disc that fcore accepts, each that it refuses, and its names alone.
 
-usage: tools/run checks/fcdisc FCDISC FCORE [changes]    with `changes`, the jobs that change a disc alone
+These suites are run by tools/checks/run.py: `tools/run checks/run 'fcdisc/get*'`.
 """
+import contextlib
 import os
 import random
 import re
@@ -14,11 +16,13 @@ import tempfile
 import time
 
 from tools.checks import examples, fcdisc_cases, fcdisc_changes
+from tools.checks.selection import shortened
 from tools.files import TOP, read
 from tools.images import damaged, table
 from tools.reference.filecore import folded, spelled
 
 LONGEST = 255
+FCDISC = os.path.join(TOP, "scripts", "fcdisc")
 
 
 # ---- folders and runs
@@ -58,11 +62,13 @@ def agrees(wanted, got):
 
 
 class Checks:
-    """A folder with `images` and, for each case anew, `work` and `fake`; and what came of the cases so far."""
+    """A folder with `images` and, for each case anew, `work` and `fake`; what comes of the cases goes to the suite."""
 
-    def __init__(self, folder, fcdisc, fcore):
-        self.folder, self.fcdisc, self.fcore = os.fsencode(folder), os.path.abspath(fcdisc), os.path.abspath(fcore)
-        self.passed = self.failed = 0
+    def __init__(self, folder, fcore, suite):
+        self.folder, self.fcdisc, self.fcore = os.fsencode(folder), FCDISC, os.path.abspath(fcore)
+        self.suite = suite
+        self.files = table.table()[0]
+        self.extra = fcdisc_cases.extra_images(self.files)
 
     def place(self, name):
         return os.path.join(self.folder, name)
@@ -86,10 +92,8 @@ class Checks:
     def expect(self, name, **pairs):
         """Each pair is what was wanted and what came."""
         wrong = [key for key, (wanted, got) in pairs.items() if wanted != got]
-        for key in wrong:
-            print("fcdisc %s: %s: wanted\n%s\ngot\n%s" % (name, key, *(str(one)[:3000] for one in pairs[key])))
-        self.failed += bool(wrong)
-        self.passed += not wrong
+        self.suite.note(name, [line for key in wrong for line in (
+            key + ": wanted", *shortened(str(pairs[key][0]), 3000), "got", *shortened(str(pairs[key][1]), 3000))])
 
     def case(self, case):
         fill(self.fresh(b"work"), case.before)
@@ -210,7 +214,8 @@ def folder_of_images(checks, files):
 
 # ---- the examples of the man pages
 
-EXAMPLE_IMAGES = {b"f-user.adf": "f-user.adf", b"d-twin.adf": "d-twin.adf", b"old.adl": "sides.adl", b"disc.hdf": "header.hdf"}
+EXAMPLE_IMAGES = {b"f-user.adf": "f-user.adf", b"d-twin.adf": "d-twin.adf", b"old.adl": "sides.adl", b"disc.hdf": "header.hdf",
+                  **{name: name.decode() for name in (b"named.adf", b"hello.adf", b"e-plus-grown.adf")}}
 
 
 def examples_of(page):
@@ -282,7 +287,7 @@ def unit_checks(checks):
         try:
             checks.expect("the disc's name of %r" % host, found=("ValueError", names.disc_name(host, False)))
         except ValueError:
-            checks.passed += 1
+            checks.suite.passed += 1
 
 
 def publish_without_links(checks):
@@ -301,7 +306,7 @@ def publish_without_links(checks):
                     with output.NewFile(folder, [content]) as temporary:
                         folder.publish(temporary, b"name")
                 except FileExistsError:
-                    checks.passed += 1
+                    checks.suite.passed += 1
     finally:
         os.link = link
     checks.expect("no hard links", left=({b"name": b"first"}, snapshot(made)))
@@ -415,51 +420,61 @@ def can_mount():
     return run.returncode == 0
 
 
-def run_all(checks, changes_alone):
-    files = table.table()[0]
-    extra = fcdisc_cases.extra_images(files)
-    for name in (b"images", b"bin"):
-        os.mkdir(checks.place(name))
-    os.symlink(checks.fcdisc, checks.place(b"bin/fcdisc"))
-    os.symlink(checks.fcore, checks.place(b"bin/fcore"))
-    for name, data in {**files, **extra}.items():
-        path = os.path.join(checks.place(b"images"), os.fsencode(name))
-        os.makedirs(os.path.dirname(path), exist_ok=True)
-        table.write_image(path, data)
-    mounts = can_mount()
-    if not changes_alone:
-        run_reading(checks, files, extra, mounts)
-    fcdisc_changes.run_all(checks, mounts)
-
-
-def run_reading(checks, files, extra, mounts):
-    for case in fcdisc_cases.all_cases(files, extra):
-        if mounts or not case.name.endswith("-full-disk"):
-            checks.case(case)
-        else:
-            print("fcdisc %s: left out, since nothing can be mounted here" % case.name)
-    for name, volume, data in table.accepted():
-        accepted_disc(checks, name, volume)
-    folder_of_images(checks, {**files, **extra})
-    for page in ("fcore.1", "fcdisc.1"):
-        page_examples(checks, os.path.join(TOP, "man", page))
-    unit_checks(checks)
-    folding_host(checks)
-    interrupted(checks)
-
-
-def main(fcdisc, fcore, only=""):
+@contextlib.contextmanager
+def prepared(suite, fcore):
+    """The checks over a folder that has all images."""
     sys.dont_write_bytecode = True
-    sys.path.insert(0, os.path.dirname(os.path.realpath(fcdisc)))
-    with tempfile.TemporaryDirectory() as folder:
-        checks = Checks(folder, fcdisc, fcore)
-        run_all(checks, only == "changes")
-    print("fcdisc: %d passed, %d failed" % (checks.passed, checks.failed))
-    return checks.failed == 0
-
-
-if __name__ == "__main__":
-    if len(sys.argv) not in (3, 4):
-        sys.exit(__doc__)
     signal.signal(signal.SIGINT, signal.default_int_handler)  # a shell without job control has it ignored in the background
-    sys.exit(0 if main(*sys.argv[1:]) else 1)
+    if os.path.dirname(FCDISC) not in sys.path:
+        sys.path.insert(0, os.path.dirname(FCDISC))
+    with tempfile.TemporaryDirectory() as folder:
+        checks = Checks(folder, fcore, suite)
+        for name in (b"images", b"bin"):
+            os.mkdir(checks.place(name))
+        os.symlink(checks.fcdisc, checks.place(b"bin/fcdisc"))
+        os.symlink(checks.fcore, checks.place(b"bin/fcore"))
+        for name, data in {**checks.files, **checks.extra}.items():
+            path = os.path.join(checks.place(b"images"), os.fsencode(name))
+            os.makedirs(os.path.dirname(path), exist_ok=True)
+            table.write_image(path, data)
+        yield checks
+
+
+def reading(suite, fcore):
+    """Jobs that read, the examples of the man pages, and parts of fcdisc alone."""
+    with prepared(suite, fcore) as checks:
+        mounts = can_mount()
+        for case in fcdisc_cases.all_cases(checks.files, checks.extra):
+            if suite.wants(case.name):
+                if mounts or not case.name.endswith("-full-disk"):
+                    checks.case(case)
+                else:
+                    suite.leave_out(case.name, "since nothing can be mounted here")
+        if suite.wants("folder"):
+            folder_of_images(checks, {**checks.files, **checks.extra})
+        for page in ("fcore.1", "fcdisc.1"):
+            if suite.wants(page):
+                page_examples(checks, os.path.join(TOP, "man", page))
+        for name, part in (("units", unit_checks), ("folding", folding_host), ("interrupted", interrupted)):
+            if suite.wants(name):
+                part(checks)
+
+
+def discs(suite, fcore):
+    """All jobs that read, over each disc that is accepted."""
+    with prepared(suite, fcore) as checks:
+        for name, volume, data in table.accepted():
+            if suite.wants(name):
+                accepted_disc(checks, name, volume)
+
+
+def changing(suite, fcore):
+    """Jobs that change a disc."""
+    with prepared(suite, fcore) as checks:
+        fcdisc_changes.run_parts(checks, can_mount())
+
+
+def rounds(suite, fcore):
+    """`extract` and `add`, and `convert`, of each disc."""
+    with prepared(suite, fcore) as checks:
+        fcdisc_changes.run_rounds(checks)

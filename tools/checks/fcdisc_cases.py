@@ -1,3 +1,4 @@
+# SPDX-License-Identifier: MIT
 """Runs of fcdisc: the words, what stands in the folder before, and what has to come: output, errors, status, what is left.
 
 Each case runs in a fresh folder `work` beside the folder `images`. Host names are written here as they have to be, not computed.

@@ -1,3 +1,4 @@
+# SPDX-License-Identifier: MIT
 """Checks of the jobs of fcdisc that change a disc.
 
 The trees are read by tools/reference/read_image.py; what has to be on a disc is written here, or follows from the disc that was extracted.
@@ -508,15 +509,19 @@ def converting(c):
     c.checks.expect("convert an .adl", status=(1, got[2]), told=(True, got[1].startswith("fcdisc: a.adl: " + fcdisc_cases.SIDES)))
 
 
-def run_all(checks, mounts):
+PARTS = (putting, moving, removing, over_big_directories, over_old_maps, squashing, forms, adding, adding_somewhere, adding_much,
+         troubles, other_programs, programs_that_go, removing_levels, other_hosts, signals, converting)
+
+
+def run_parts(checks, mounts):
     c = Changes(checks)
-    for part in (putting, moving, removing, over_big_directories, over_old_maps, squashing, forms, adding, adding_somewhere,
-                 adding_much, troubles, other_programs, programs_that_go, removing_levels, other_hosts, signals, converting):
-        part(c)
-    if mounts:
-        no_room(c)
-    kept_words(c)
-    seen = []
+    for part in [*PARTS, *([no_room] if mounts else []), kept_words]:
+        if checks.suite.wants(part.__name__):
+            part(c)
+
+
+def run_rounds(checks):
+    c, seen = Changes(checks), []
     discs = [(name, volume, data) for name, volume, data in table.accepted() if len(data) < 2000000]
     for name in ("hostile", "one"):
         discs.append((name, None, read(checks.place(b"images/%s.adf" % name.encode()))))
@@ -524,4 +529,5 @@ def run_all(checks, mounts):
         tree = tree_of(data)
         if tree and (len(data), tree) not in seen:  # many discs differ in their maps alone
             seen.append((len(data), tree))
-            round_trip(c, name, data, (own_format(data, volume), "F+"))
+            if checks.suite.wants(name):
+                round_trip(c, name, data, (own_format(data, volume), "F+"))

@@ -1,4 +1,5 @@
 #!/usr/bin/env python3
+# SPDX-License-Identifier: MIT
 """Runs fcdisc as on another host, for tools/checks/fcdisc_changes.py.
 
 usage: tools/run checks/fcdisc_hosts HOST,.. FCDISC WORDS...

@@ -1,4 +1,5 @@
 #!/usr/bin/env python3
+# SPDX-License-Identifier: MIT
 """Damages images at random, also by addresses and lengths at bounds, mostly with right checks, and compares what fcore answers with
 the reader in Python.
 

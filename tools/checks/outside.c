@@ -1,3 +1,4 @@
+/* SPDX-License-Identifier: MIT */
 /* Stands between fcore and the system for checks/outside.py: a shared object for LD_PRELOAD that notes the program's calls, and lets
    calls of given numbers fail.
 

@@ -1,4 +1,5 @@
 #!/usr/bin/env python3
+# SPDX-License-Identifier: MIT
 """Runs the built program where the system fails it: streams that are closed, no /dev, calls that fail, are interrupted or move a
 part of their bytes, no memory, limits, kills. It also looks at what is read: kept sectors once, and no directory of a wrong length.
 

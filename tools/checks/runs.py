@@ -1,4 +1,5 @@
 #!/usr/bin/env python3
+# SPDX-License-Identifier: MIT
 """Runs random scripts over discs of all kinds with the built program, and some of them again with each call of the system failing.
 
 usage: tools/run checks/runs [--program PATH] [--seed N] [--scripts N] [--failing N] [--each N] [--commands N] [--whole]

@@ -1,4 +1,5 @@
 #!/usr/bin/env bash
+# SPDX-License-Identifier: MIT
 # Runs fcore over every file of a folder and of the folders in it, and prints a line for each: its name, the status, and the counts
 # of the disc or the line that says why it isn't accepted; at the end how often each answer came. Nothing is written to the images.
 #
@@ -6,7 +7,7 @@
 # This is for images made by others and not part of the gate, since the repository has none.
 set -u
 if [ $# -lt 1 ] || [ $# -gt 2 ] || [ ! -d "$1" ]; then
-  sed -n '5s/^# //p' "$0" >&2
+  sed -n '6s/^# //p' "$0" >&2
   exit 2
 fi
 folder=${1%/}

@@ -1,1 +1,2 @@
+# SPDX-License-Identifier: MIT
 """Images put together from descriptions, damaged, fragmented or drawn by chance, and what has to be said of them."""

@@ -1,3 +1,4 @@
+# SPDX-License-Identifier: MIT
 """Damaged images, each with the line that fcore has to answer: every fault, and which comes first where two stand together."""
 from tools.images import volumes
 from tools.images.volumes import (Directory, File, NewVolume, OldVolume, boot_block, fresh_e, fresh_f, fresh_old, record_bytes,

@@ -1,3 +1,4 @@
+# SPDX-License-Identifier: MIT
 """Discs for the check of changing commands: each follows from its number alone. No code is shared with fcore.
 
 Fresh discs, fragmented ones, those of tools/images/table.py, nearly full ones, some whose identifiers, holes or directories are nearly

@@ -1,3 +1,4 @@
+# SPDX-License-Identifier: MIT
 """Makes badly fragmented discs with new maps: files in many runs over several zones, shared identifiers, lost runs, holes that touch.
 
 What a disc holds follows from its shape and a seed alone. No code is shared with fcore.

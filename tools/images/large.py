@@ -1,4 +1,5 @@
 #!/usr/bin/env python3
+# SPDX-License-Identifier: MIT
 """Makes a hard disc of 518 MB with directories of 50 files each, to see how long fcore takes to open it.
 
 usage: tools/run images/large IMAGE [DIRECTORIES]    1,000 directories, if no number is given

@@ -1,3 +1,4 @@
+# SPDX-License-Identifier: MIT
 """Runs of fcore beside the answers over single images: words, scripts, lines that are refused, fresh volumes, what isn't built."""
 from tools.images.volumes import FRESH
 from tools.reference.filecore import (BAD_COMMAND, BAD_NAME, EXISTS, INTO_ITSELF, IS_DIRECTORY, LOCKED, NOT_DIRECTORY, NOT_EMPTY,

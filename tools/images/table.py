@@ -1,18 +1,16 @@
 #!/usr/bin/env python3
+# SPDX-License-Identifier: MIT
 """Builds images of FileCore discs of every kind, and a table of what fcore has to answer over them.
 
-usage: tools/run images/table FOLDER    fills an empty folder with the images and, in FOLDER/cases, a folder for each case:
-                                 words, script, status, answer, and `made` where a fresh image has to equal another file
-       tools/run images/table --check   builds all in memory, compares the table with the reader of tools/reference/read_image.py, and fresh volumes
-                                 with bytes that are known
+usage: tools/run images/table FOLDER          fills an empty folder with the images
        tools/run images/table --hello IMAGE   writes the image that the repository embeds
+`tools/run checks/run images` compares the table with the reader of tools/reference/read_image.py.
 """
 import os
 import sys
 
 from tools.images import damaged, script_cases
 from tools.images.volumes import FRESH, Directory, File, NewVolume, OldVolume, fresh_e, fresh_f, record_bytes
-from tools.reference import read_image
 from tools.reference.filecore import (BAD_NAME, EXISTS, INTO_ITSELF, IS_DIRECTORY, LOCKED, NOT_DIRECTORY, NOT_EMPTY, NOT_FOUND,
                                       READ_ONLY, ROOT_REFUSED)
 
@@ -442,29 +440,15 @@ def write_image(path, data):
         file.truncate(len(data))
 
 
-def write_case(folder, case):
-    os.makedirs(folder)
-    texts = {"words": "".join(word + "\n" for word in case.words), "status": "%d\n" % case.status, "answer": case.answer}
-    if case.made:
-        texts["made"] = " ".join(case.made) + "\n"
-    if case.absent:
-        texts["absent"] = case.absent + "\n"
-    for name, text in texts.items():
-        with open(os.path.join(folder, name), "w") as file:
-            file.write(text)
-    with open(os.path.join(folder, "script"), "wb") as file:
-        file.write(case.script)
-
-
 def write_table(folder):
+    """Writes all images into a folder, and gives the cases over them."""
     files, cases = table()
     for name, data in files.items():
         path = os.path.join(folder, name)
         os.makedirs(os.path.dirname(path), exist_ok=True)
         write_image(path, data)
     os.chmod(os.path.join(folder, "locked.adf"), 0o444)
-    for at, case in enumerate(cases):
-        write_case(os.path.join(folder, "cases", "%03d-%s" % (at, case.name)), case)
+    return cases
 
 
 # Bytes of fresh volumes that were worked out by hand or by other programs. Both copies of a map on one zone are given; of the others
@@ -498,41 +482,21 @@ WHOLE = ("E", "E+", "L")  # every other byte of these is 0
 COPIES = {"F": (0xC6800, 0xC7800, 0xC8800), "F+": (0xC6800, 0xC7800, 0xC8800)}
 
 
-def check_fresh():
-    wrong = []
-    for form, known in KNOWN_BYTES.items():
-        image = FRESH[form]().image()
-        wanted = bytearray(len(image)) if form in WHOLE else bytearray(image)
-        for at, text in known.items():
-            content = bytes.fromhex(text)
-            wanted[at:at + len(content)] = content
-        wrong += ["fresh %s: another byte at %d" % (form, at) for at in range(len(image)) if image[at] != wanted[at]]
-    for form, (one, two, end) in COPIES.items():
-        image = FRESH[form]().image()
-        wrong += [] if image[one:two] == image[two:end] else ["fresh %s: the copies of the map differ" % form]
-    print("".join(line + "\n" for line in wrong[:20]), end="")
-    return not wrong
-
-
-def check_table():
-    """Compares the table with what the reader says, where a run is over an image that is there."""
-    files, cases = table()
-    compared = differing = 0
-    for case in cases:
-        if case.status != 2 and case.image() in files:
-            compared += 1
-            status, answer = read_image.answer(bytes(files[case.image()]), case.script, "--read-only" in case.words)
-            if (status, answer) != (case.status, case.answer):
-                differing += 1
-                print("%s: the reader says %d\n%s\nthe table %d\n%s" % (
-                    case.name, status, answer[:500], case.status, case.answer[:500]))
-    print("%d images, %d cases, %d compared, %d differ" % (len(files), len(cases), compared, differing))
-    return differing == 0
+def fresh_differences(form):
+    """What of a fresh volume isn't as it is known from elsewhere."""
+    known, image, wrong = KNOWN_BYTES[form], FRESH[form]().image(), []
+    wanted = bytearray(len(image)) if form in WHOLE else bytearray(image)
+    for at, text in known.items():
+        content = bytes.fromhex(text)
+        wanted[at:at + len(content)] = content
+    wrong += ["another byte at %d" % at for at in range(len(image)) if image[at] != wanted[at]][:20]
+    if form in COPIES:
+        one, two, end = COPIES[form]
+        wrong += [] if image[one:two] == image[two:end] else ["the copies of the map differ"]
+    return wrong
 
 
 def main(words):
-    if words == ["--check"]:
-        sys.exit(0 if check_fresh() and check_table() else 1)
     if len(words) == 2 and words[0] == "--hello":
         write_image(words[1], hello().image())
     elif len(words) == 1:

@@ -1,3 +1,4 @@
+# SPDX-License-Identifier: MIT
 """Builds images of FileCore discs from a description, and says what has to be answered over them.
 
 A volume is described by its format, the space that each object takes, and its directories. The image and the answers come from

@@ -1,1 +1,2 @@
+# SPDX-License-Identifier: MIT
 """Second and third implementations of the rules: readers of images, and what commands have to answer and may write."""

@@ -1,3 +1,4 @@
+# SPDX-License-Identifier: MIT
 """What has to be answered to one command over an image: the refusal, the tree afterwards, and the space that is needed.
 
 The refusals 1 to 11 and the tree are `answer` of fc_model, the refusals 12 to 16 and the needs are `short` of fc_image::effects.

@@ -1,3 +1,4 @@
+# SPDX-License-Identifier: MIT
 """A script that was run at once: its replies and its tree, which follow from `answer` of fc_model alone, and what has to be true of the
 image at its end.
 

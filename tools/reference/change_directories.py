@@ -1,3 +1,4 @@
+# SPDX-License-Identifier: MIT
 """What a changing command may do to directories: their entries, in their order, and what a rewritten head says (`Steady` of
 fc_image::effects).
 

@@ -1,3 +1,4 @@
+# SPDX-License-Identifier: MIT
 """What a changing command may do to an image: the differences from the tree of `answer` (fc_model), and from `Placed` and
 `Steady` of fc_image::effects.
 

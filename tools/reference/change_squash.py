@@ -1,3 +1,4 @@
+# SPDX-License-Identifier: MIT
 """What `compact` may do to a disc with an old map: the differences from `Compacts` of fc_image::effects."""
 from tools.reference.change_directories import lines_of
 from tools.reference.change_effects import old_map_bytes, outside_differences

@@ -1,3 +1,4 @@
+# SPDX-License-Identifier: MIT
 """An image as the check of changing commands sees it: what tools/reference/read_image.py finds, the heads of its directories, its owners.
 
 Written from docs/FORMAT.md with Python's standard library alone; no code is shared with fcore.

@@ -1,3 +1,4 @@
+# SPDX-License-Identifier: MIT
 """A plain implementation of the commands that change a volume, for the self-test of tools/checks/changes.py.
 
 It edits a copy of the image in memory and draws by chance what the rules leave open. Its refusals are those of

@@ -1,3 +1,4 @@
+# SPDX-License-Identifier: MIT
 """What the builder and the reader of images share: check bytes, disc records, the shape of a new map, and names.
 
 Written from docs/FORMAT.md, with Python's standard library alone; no code is shared with fcore.

@@ -1,9 +1,9 @@
 #!/usr/bin/env python3
+# SPDX-License-Identifier: MIT
 """A reader of disc images that uses docs/FORMAT.md and nothing else, to show that the page is complete.
 
 usage: tools/run reference/format_reader IMAGE       prints the fault, or what `check` and `free` count and each object with its SHA-256
        tools/run reference/format_reader IMAGE PATH  writes the bytes of a file to standard output
-       tools/run reference/format_reader --compare   reads every image of tools/images/table.py, and compares with tools/reference/read_image.py
 
 It shares no code with fcore or with the other tools. The comment at a rule names the page's heading, and its table if there are
 several. It favours short code over speed.
@@ -463,49 +463,7 @@ def main(image, path=None):
     return 0 if found else 1
 
 
-# ---- the comparison
-
-
-def script_of(disc):
-    """Every question that the reader of tools/reference/read_image.py answers: counts, listings, digests."""
-    lines = ["check", "free"] + ["cat " + one["path"] for one in disc.directories] + ["digest " + one["path"] for one in disc.files]
-    return "".join(one + "\n" for one in lines).encode()
-
-
-def replies_of(disc):
-    replies = [disc.counts()]
-    for directory in disc.directories:
-        for entry in sorted(directory["entries"], key=lambda one: upper(one["name"])):
-            replies.append(line(entry)[len(directory["path"]) + 1:] + "\n")
-        replies.append("ok\n")
-    replies += [hashlib.sha256(disc.content(one)).hexdigest() + "\nok\n" for one in disc.files]
-    return "".join(replies)
-
-
-def compare():
-    from tools.images import table  # here alone, so that the reader itself shows that it needs nothing but the page
-    from tools.reference import read_image
-    opened = damaged = 0
-    names = []
-    for name, data in table.table()[0].items():
-        data = bytes(data)
-        try:
-            disc = Disc(data)
-            mine, script = replies_of(disc), script_of(disc)
-            opened += 1
-        except Bad as bad:
-            mine, script = "bad-image %s\n" % " ".join(map(str, bad.args)), b"check\n"
-            damaged += 1
-        if mine != read_image.answer(data, script)[1]:
-            names.append(name)
-            print("%s: %s" % (name, mine.split("\n")[0]))
-    print("%d images, %d opened, %d damaged, %d differ" % (opened + damaged, opened, damaged, len(names)))
-    return not names
-
-
 if __name__ == "__main__":
-    if sys.argv[1:] == ["--compare"]:
-        sys.exit(0 if compare() else 1)
     if len(sys.argv) not in (2, 3):
         sys.exit(__doc__)
     signal.signal(signal.SIGPIPE, signal.SIG_DFL)  # a pager may close its end

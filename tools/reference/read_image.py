@@ -1,4 +1,5 @@
 #!/usr/bin/env python3
+# SPDX-License-Identifier: MIT
 """Reads an image of a FileCore disc, and answers a script of reading commands as fcore has to.
 
 usage: tools/run reference/read_image IMAGE < script

@@ -1,0 +1,59 @@
+#!/usr/bin/env bash
+# SPDX-License-Identifier: MIT
+# Unpacks the archive of make dist in a bare system and does every common job with it there.
+#
+# usage: tools/run checks/bare ROOT ARCHIVE    ROOT is the root of a system with Python alone, as debootstrap --include=python3 makes it
+# Not part of the gate, since it needs such a system, and root to change into it.
+set -eu
+[ $# = 2 ] || { sed -n '5s/^# //p' "$0" >&2; exit 2; }
+root=$(realpath "$1")
+archive=$(realpath "$2")
+top=$(realpath "$(dirname "$0")/../..")
+work=$(mktemp -d "$root/tmp/bare.XXXXXX")
+trap 'rm -rf "$work"' EXIT
+"$top/tools/run" images/table "$work"
+tar -xzf "$archive" -C "$work"
+cat > "$work/jobs" <<'JOBS'
+set -eu
+cd "$1"
+unset FCORE
+cd fcore-*; sha256sum --quiet -c SHA256SUMS; cd ..
+PATH=$(echo "$PWD"/fcore-*/bin):$PATH
+passed=0
+is() { passed=$((passed + 1)); if [ "$2" != "$3" ]; then echo "$1: wanted $2, got $3"; exit 1; fi; }
+status() { if "$@" > /dev/null 2>&1; then echo 0; else echo $?; fi; }
+is list '1 file, 0 directories, 8 bytes' "$(fcdisc list f-user.adf '$.!Boot' | tail -n 1)"
+is check 'f-user.adf: whole' "$(fcdisc check f-user.adf | cut -d ' ' -f 1,2 | cut -d ':' -f 1,2)"
+is 'check of a damaged disc' 1 "$(status fcdisc check d-twin.adf)"
+is get '| boots' "$(fcdisc get f-user.adf '$.!Boot.!Run' -)"
+is extract '41 of 41 files written to user' "$(fcdisc extract f-user.adf user)"
+fcdisc new F+ new.adf
+is add '41 of 41 files added to new.adf' "$(fcdisc add new.adf user)"
+echo Hello > note.txt
+fcdisc put new.adf note.txt '$.Note'
+is put Hello "$(fcdisc get new.adf '$.Note' -)"
+fcdisc put --replace --type ffb new.adf note.txt '$.Note'
+is type ffb "$(fcdisc list new.adf '$.Note' | cut -c 1-3 | head -n 1)"
+fcdisc mkdir new.adf '$.Inner'
+fcdisc mv new.adf '$.Note' '$.Inner.Letter'
+is mv Hello "$(fcdisc get new.adf '$.Inner.Letter' -)"
+fcdisc access new.adf LWR '$.Inner.Letter'
+is 'a locked file stays' 1 "$(status fcdisc rm new.adf '$.Inner.Letter')"
+fcdisc access new.adf WR '$.Inner.Letter'
+fcdisc rm -r new.adf '$.Inner'
+fcdisc compact new.adf > /dev/null
+is compact 'new.adf: whole' "$(fcdisc check new.adf | cut -d ' ' -f 1,2 | cut -d ':' -f 1,2)"
+fcdisc convert E+ new.adf converted.adf > /dev/null
+is convert 'converted.adf: whole' "$(fcdisc check converted.adf | cut -d ' ' -f 1,2 | cut -d ':' -f 1,2)"
+fcdisc adl --back l-files.adf sides.adl
+fcdisc adl sides.adl sides.adf
+is adl 0 "$(status cmp l-files.adf sides.adf)"
+head -c 512 /dev/zero | cat - f-user.adf > header.adf
+fcdisc strip header.adf plain.adf
+is strip 0 "$(status cmp f-user.adf plain.adf)"
+is 'fcore itself' 'free 1525760 421888' "$(printf 'free\n' | fcore f-user.adf | head -n 1)"
+echo "bare: $passed jobs done in $(. /etc/os-release; echo "$PRETTY_NAME"), $(python3 --version)"
+JOBS
+# fcore gets its image as /dev/fd/N, which is in /proc; both are mounted for this run alone
+unshare -m sh -c 'mount --bind /proc "$1/proc" && mount --bind /dev "$1/dev" && exec chroot "$1" /bin/sh "$2/jobs" "$2"' \
+  sh "$root" "/tmp/$(basename "$work")"
