@@ -6,129 +6,172 @@ import argparse
 import os
 import signal
 import sys
-from typing import Any, Callable, List, NoReturn
+from contextlib import suppress
+from typing import Any, List, NoReturn, Optional
 
-from . import changes, jobs
-from .conversion import convert
-from .images import ORDERS
+from .collection_words import add_collections
+from .common_words import (BACKUPS, EPILOG, FORMATS, PATH_HELP, WILD_HELP, Job, access_bits, add_job, add_order, add_types,
+                           file_type, later)
+from .leftovers import remove_unfinished
 from .messages import FAILED, Trouble, clear_progress, reason, shown, tell
-from .output import remove_unfinished
 from .program import BadImage
 
 DESCRIPTION = "Daily jobs with images of Acorn discs (RISC OS, ADFS), by the program fcore."
-EPILOG = "Status: 0 all went well, 1 something failed or was refused, 2 wrong arguments. See fcdisc(1)."
-PATH_HELP = "as $.Docs.Letter; what isn't plain in a name as %%XX, as the list shows it"
 
 
 def parser() -> argparse.ArgumentParser:
     made = argparse.ArgumentParser(prog="fcdisc", description=DESCRIPTION, epilog=EPILOG, allow_abbrev=False)
+    made.add_argument("--version", action="version", version="fcdisc " + version())
     added = made.add_subparsers(metavar="JOB", required=True, dest="job")
     add_reading(added)
     add_making(added)
     add_changing(added)
+    add_collections(added)
     return made
 
 
-def add_job(added: Any, name: str, run: Callable[[argparse.Namespace], int], text: str) -> argparse.ArgumentParser:
-    """A subcommand. The first sentence of its text stands in the list of them."""
-    first = text.split(". ")[0].rstrip(".")
-    job = added.add_parser(name, help=first[0].lower() + first[1:], description=text, epilog=EPILOG, allow_abbrev=False)
-    job.set_defaults(run=run)
-    return job  # type: ignore[no-any-return]
+def version() -> str:
+    """What the file VERSION says, which lies at the top of the repository, or beside the installed parts, as in an archive of them."""
+    here = os.path.dirname(os.path.dirname(__file__))
+    for place in (here, os.path.dirname(here)):
+        with suppress(OSError):
+            content: bytes = __loader__.get_data(os.path.join(place, "VERSION"))  # type: ignore[name-defined]
+            return content.decode("utf-8").strip()
+    return "of an unknown version"
 
 
 def add_reading(added: Any) -> None:
-    job = add_job(added, "list", jobs.list_disc, "List a disc as a tree: type, size, access, name. fcore runs once for each "
-                  "level of directories.")
+    job = add_job(added, "list", later("jobs", "list_disc"),
+                  "List a disc as a tree: type, size, access, date, name. fcore runs once for each "
+                  "level of directories.", ["ls"])
+    add_order(job)
+    job.add_argument("--json", action="store_true", help="print all that the disc says as JSON")
+    job.add_argument("image", metavar="IMAGE")
+    job.add_argument("path", metavar="PATH", nargs="?", default="$", help=WILD_HELP)
+
+    job = add_job(added, "get", later("retrieval", "get"), "Extract one file, or several. fcore runs twice.")
     add_order(job)
     job.add_argument("image", metavar="IMAGE")
-    job.add_argument("path", metavar="PATH", nargs="?", default="$", help=PATH_HELP)
+    job.add_argument("path", metavar="PATH... [FILE]", nargs="+", help=WILD_HELP + "; and the file to make, or the folder; - is "
+                     "standard output")
 
-    job = add_job(added, "get", jobs.get, "Extract one file. fcore runs twice.")
+    job = add_job(added, "extract", later("retrieval", "extract"),
+                  "Extract all files into a folder, or into a zip archive with Acorn's extra "
+                  "field. A folder is made if need be; no file that exists is replaced. fcore runs once for each level of "
+                  "directories, and once for all files.")
     add_order(job)
+    job.add_argument("--each", action="store_true", help="IMAGE is a folder: each image below it into a folder of its own")
+    job.add_argument("--inf", action="store_true", help="words and access into NAME.inf beside each file, and no type in its name")
+    add_types(job)
     job.add_argument("image", metavar="IMAGE")
-    job.add_argument("path", metavar="PATH", help=PATH_HELP)
-    job.add_argument("file", metavar="FILE", nargs="?", help="the file to make, or the folder for it; - is standard output")
+    job.add_argument("folder", metavar="OUT", help="a folder, or a name that ends in .zip")
+    job.add_argument("path", metavar="PATH", nargs="*", help="of a directory, to extract that alone; or " + WILD_HELP)
 
-    job = add_job(added, "extract", jobs.extract, "Extract all files into a folder. It is made if need be; no file that exists is "
-                  "replaced. fcore runs once for each level of directories, and once for all files.")
+    job = add_job(added, "check", later("checkup", "check"),
+                  "Say of each image whether it is whole, what is wrong, and what to do. Several are checked at once.")
     add_order(job)
-    job.add_argument("image", metavar="IMAGE")
-    job.add_argument("folder", metavar="FOLDER")
-    job.add_argument("path", metavar="PATH", nargs="?", default="$", help="of a directory, to extract that alone")
-
-    job = add_job(added, "check", jobs.check, "Say of each image whether it is whole, what is wrong, and what to do. fcore runs "
-                  "once for each image.")
-    add_order(job)
+    job.add_argument("--json", action="store_true", help="print all that was found as JSON")
+    job.add_argument("--damaged", action="store_true", help="print only what isn't whole")
     job.add_argument("image", metavar="IMAGE", nargs="+", help="an image, or a folder of them")
 
 
-def add_order(job: argparse.ArgumentParser) -> None:
-    job.add_argument("--order", choices=ORDERS, default="auto", help="of the bytes of an L disc's image: `disc`, or `adl` for "
-                     "interleaved sides; else fcdisc finds it out, and says so if the image isn't in disc order")
-
-
 def add_making(added: Any) -> None:
-    job = add_job(added, "new", jobs.new, "Make an empty disc.")
-    job.add_argument("format", metavar="FORMAT", type=str.upper, choices=jobs.FORMATS, help=", ".join(jobs.FORMATS))
+    job = add_job(added, "new", later("jobs", "new"), "Make an empty disc.")
+    job.add_argument("format", metavar="FORMAT", type=str.upper, choices=FORMATS, help=", ".join(FORMATS))
     job.add_argument("image", metavar="IMAGE", help="the file to make")
 
-    job = add_job(added, "adl", jobs.adl, "Copy the image of an L disc, whose sides are interleaved, into disc order.")
+    job = add_job(added, "adl", later("jobs", "adl"), "Copy the image of an L disc, whose sides are interleaved, into disc order.")
     job.add_argument("--back", action="store_true", help="the other way: from disc order to interleaved sides")
     job.add_argument("image", metavar="IMAGE")
     job.add_argument("out", metavar="OUT", help="the file to make")
 
-    job = add_job(added, "strip", jobs.strip, "Copy an image without its header of 512 bytes.")
+    job = add_job(added, "strip", later("jobs", "strip"), "Copy an image without its header of 512 bytes.")
     job.add_argument("image", metavar="IMAGE")
     job.add_argument("out", metavar="OUT", help="the file to make")
 
 
 def add_changing(added: Any) -> None:
-    job = add_change(added, "put", changes.put, "Put one file onto a disc.")
+    job = add_change(added, "put", later("changes", "put"), "Put one file onto a disc, or several into a directory.")
     job.add_argument("--replace", action="store_true", help="take the place of a file that is on the disc")
-    job.add_argument("--type", metavar="XXX", type=changes.file_type, help="its file type; else that of its name, as in "
+    job.add_argument("--type", metavar="XXX", type=file_type, help="its file type; else that of its name, as in "
                      "Prog,ffb, or that of the file whose place it takes, or fff (Text)")
-    job.add_argument("file", metavar="FILE")
+    add_types(job)
+    job.add_argument("file", metavar="FILE", nargs="+")
     job.add_argument("path", metavar="PATH", help="of the file, or of the directory that gets it; " + PATH_HELP)
 
-    job = add_change(added, "add", changes.add, "Put all files of a folder onto a disc. Their names are those that extract "
-                     "gives: a type after a comma, `.` for `/`. Links are left out.")
+    job = add_change(added, "add", later("changes", "add"),
+                     "Put all files of a folder or of a zip archive onto a disc. Their names "
+                     "are those that extract gives: a type after a comma, `.` for `/`. Links are left out. NAME.inf beside NAME "
+                     "tells its words and access.")
+    job.add_argument("--fit", action="store_true", help="give other names to what the disc doesn't take, and list them")
+    job.add_argument("-v", "--verbose", action="store_true", help="name all that is refused, not only the first of each kind")
+    add_types(job)
     job.add_argument("--replace", action="store_true", help="files take the place of those that are on the disc")
-    job.add_argument("folder", metavar="FOLDER")
+    job.add_argument("folder", metavar="FOLDER", help="a folder, or a zip archive")
     job.add_argument("path", metavar="PATH", nargs="?", default="$", help="of the directory for them; it is made if need be")
+    add_moving(added)
+    add_whole(added)
 
-    job = add_change(added, "mkdir", changes.mkdir, "Make directories.")
+
+def add_moving(added: Any) -> None:
+    job = add_change(added, "mkdir", later("changes", "mkdir"), "Make directories.")
+    job.add_argument("-p", action="store_true", help="those that lead there, too; what is there stays")
     job.add_argument("path", metavar="PATH", nargs="+", help=PATH_HELP)
 
-    job = add_change(added, "rm", changes.remove, "Remove files and empty directories.")
+    job = add_change(added, "rm", later("changes", "remove"), "Remove files and empty directories.")
     job.add_argument("-r", action="store_true", help="directories with all that is in them, too")
-    job.add_argument("path", metavar="PATH", nargs="+", help=PATH_HELP)
+    job.add_argument("path", metavar="PATH", nargs="+", help=WILD_HELP)
 
-    job = add_change(added, "mv", changes.move, "Rename a file or directory, or move it.")
-    job.add_argument("source", metavar="FROM", help=PATH_HELP)
-    job.add_argument("target", metavar="TO", help="its new path, or that of a directory that gets it")
+    job = add_change(added, "mv", later("changes", "move"), "Rename a file or directory, or move it, or several.")
+    job.add_argument("source", metavar="FROM", nargs="+", help=WILD_HELP)
+    job.add_argument("target", metavar="TO", help="the new path, or that of a directory that gets them")
 
-    job = add_change(added, "access", changes.access, "Lock objects, or say what their owner may do.")
-    job.add_argument("access", metavar="ACCESS", type=changes.access_bits, help="letters of L (locked), W, R, as in WR; - for none")
-    job.add_argument("path", metavar="PATH", nargs="+", help=PATH_HELP)
+    job = add_change(added, "cp", later("copying", "copy_within"), "Copy a file on a disc, or several.")
+    job.add_argument("-r", action="store_true", help="directories with all that is in them, too")
+    job.add_argument("source", metavar="FROM", nargs="+", help=WILD_HELP)
+    job.add_argument("target", metavar="TO", help="the new path, or that of a directory that gets them")
 
-    add_change(added, "compact", changes.compact, "Bring the free space of a disc together.")
+    job = add_change(added, "access", later("changes", "access"), "Lock objects, or say what their owner may do.")
+    job.add_argument("access", metavar="ACCESS", type=access_bits, help="letters of L (locked), W, R, as in WR; - for none")
+    job.add_argument("path", metavar="PATH", nargs="+", help=WILD_HELP)
 
-    job = add_job(added, "convert", convert, "Make a disc of another format with all files of a disc. What can't be on it is "
+
+def add_whole(added: Any) -> None:
+    add_change(added, "compact", later("changes", "compact"), "Bring the free space of a disc together.")
+
+    add_change(added, "reclaim", later("copying", "reclaim"), "Make the space free that nothing on the disc owns.", "+")
+
+    job = add_job(added, "undo", later("backups", "undo"),
+                  "Give an image its state before the first change again. What it was until then is "
+                  "called IMAGE~undone.")
+    job.add_argument("--back", action="store_true", help="take the last undo back")
+    job.add_argument("image", metavar="IMAGE")
+
+    job = add_job(added, "convert", later("conversion", "convert"),
+                  "Make a disc of another format with all files of a disc. What can't be on it is "
                   "reported; the rest is copied.")
     add_order(job)
-    job.add_argument("format", metavar="FORMAT", type=str.upper, choices=jobs.FORMATS, help=", ".join(jobs.FORMATS))
+    job.add_argument("format", metavar="FORMAT", type=str.upper, choices=FORMATS, help=", ".join(FORMATS))
+    job.add_argument("--fit", action="store_true", help="give other names to what the disc doesn't take, and list them")
+    job.add_argument("-v", "--verbose", action="store_true", help="name all that is refused, not only the first of each kind")
     job.add_argument("image", metavar="FROM")
     job.add_argument("out", metavar="TO", help="the file to make")
 
 
-def add_change(added: Any, name: str, run: Callable[[argparse.Namespace], int], text: str) -> argparse.ArgumentParser:
+def add_change(added: Any, name: str, run: Job, text: str,
+               count: Optional[str] = None) -> argparse.ArgumentParser:
     """A subcommand that changes an image."""
-    job = add_job(added, name, run, text + " The image as it was is then called IMAGE~.")
+    job = add_job(added, name, run, text + " The image as it was before the first change is "
+                  "called IMAGE~.")
     add_order(job)
+    job.add_argument("--backup", choices=BACKUPS, default=BACKUPS[0], help="`first`: IMAGE~ is the image before the first "
+                     "change, and stays; `each`: every change leaves one more, IMAGE~1~, IMAGE~2~ and so on")
     job.add_argument("--in-place", action="store_true", help="change the image itself, without a copy: if that is cut off, the "
                      "disc may be damaged; only in disc order and without a header")
-    job.add_argument("image", metavar="IMAGE")
+    if count:
+        job.add_argument("image", metavar="IMAGE", nargs=count)
+    else:
+        job.add_argument("image", metavar="IMAGE")
     return job
 
 
@@ -169,7 +212,7 @@ def main(arguments: List[str]) -> int:
     words = parser().parse_args(arguments)
     try:
         catch_signals()
-        status = words.run(words)
+        status: int = words.run(words)
         sys.stdout.flush()
         return status
     except Stopped as stopped:
@@ -178,7 +221,8 @@ def main(arguments: List[str]) -> int:
         tell(str(trouble))
         return trouble.status
     except BadImage as fault:
-        tell(jobs.not_accepted(words.image, fault))
+        from .jobs import not_accepted
+        tell(not_accepted(words.image, fault))
         return FAILED
     except BrokenPipeError:
         drop_output()  # whoever read the output has seen enough

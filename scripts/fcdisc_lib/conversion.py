@@ -4,76 +4,89 @@ from __future__ import annotations
 
 import os
 from argparse import Namespace
-from typing import Iterator, List
+from typing import Dict, Iterator, List, Optional
 
 from .adding import SETTABLE, loses_access
 from .changes import tell_lost_access
-from .editing import Failure, Step, longest_content, save_line, set_line, tell_failures
+from .complaints import Complaints
+from .editing import NOT_COPIED, Failure, Step, longest_content, save_line, set_line, tell_failures
+from .fitting import Fitting, Limits
+from .fresh import fresh_disc
 from .hostfiles import NEW_FILE, TOO_LONG
-from .jobs import refusal
+from .images import pieces_from
+from .jobs import refusal, write_new
 from .listing import counted
-from .messages import FAILED, Progress, Trouble, say, shown, tell
+from .messages import FAILED, Progress, Trouble, say, shown
 from .names import spelled_path
-from .output import TAKEN, published
-from .program import Entry, Refused, Run, batches, command, find_program, scripts
+from .output import TAKEN
+from .program import Entry, Path, Refused, Run, batches, command, find_program, scripts
 from .tree import Tree, read_tree
-
-NOT_COPIED = "not copied"
 
 
 class Conversion:
     """The steps that make a disc's tree on another, and what came of them."""
 
-    def __init__(self, program: str, tree: Tree, name: str):
-        self.program, self.tree, self.name = program, tree, name
+    def __init__(self, program: str, tree: Tree, name: str, complain: Complaints, limits: Optional[Limits]):
+        self.program, self.tree, self.name, self.complain, self.limits = program, tree, name, complain, limits
         self.failures: List[Failure] = []
-        self.too_long = self.lost_access = 0
+        self.lost_access = 0
         self.files: List[Entry] = []
+        self.places: Dict[Path, Path] = {(): ()}  # the new paths
+        self.fittings: Dict[Path, Fitting] = {}  # by directory
 
-    def run(self, form: str, place: str, kept_open: List[int]) -> None:
-        """Makes the fresh disc with the first script, and goes on with the others."""
-        words = ["--new", form, "--", place]
+    def run(self, number: int) -> None:
+        """Fills the fresh disc that is the open file of that number."""
         for script, batch in scripts((step.line, step) for step in self.steps()):
-            self.perform(words, script, batch, kept_open)
-            words = ["--", place]
-        if "--new" in words:
-            self.perform(words, b"", [], kept_open)
-
-    def perform(self, words: List[str], script: bytes, batch: List[Step], kept_open: List[int]) -> None:
-        with Run(self.program, self.name, words, script, kept_open) as run:
-            for step in batch:
-                try:
-                    list(run.lines())
-                except Refused as refused:
-                    self.failures.append(Failure(step, refused.name))
+            with Run(self.program, self.name, ["--", "/dev/fd/%d" % number], script, [number]) as run:
+                for step in batch:
+                    try:
+                        list(run.lines())
+                    except Refused as refused:
+                        self.failures.append(Failure(step, refused.name))
 
     def steps(self) -> Iterator[Step]:
+        for entry in self.tree.walk():
+            self.places[entry.path] = self.place(entry)
         self.files = [entry for entry in self.tree.files() if self.fits(entry)]
         wanted = {entry.path for entry in self.files}
         contents = self.contents()
         for entry in self.tree.walk():
+            place = self.places[entry.path]
             if entry.is_directory:
-                yield Step(command("cdir", entry.path), entry.path, NOT_COPIED)
+                yield Step(command("cdir", place), place, NOT_COPIED)
             elif entry.path in wanted:
-                yield Step(save_line(entry.path, entry.load, entry.execution, next(contents)), entry.path, NOT_COPIED)
+                yield Step(save_line(place, entry.load, entry.execution, next(contents)), place, NOT_COPIED)
             else:
                 continue
-            yield from self.set_steps(entry)
+            yield from self.set_steps(entry, place)
 
-    def set_steps(self, entry: Entry) -> Iterator[Step]:
+    def place(self, entry: Entry) -> Path:
+        """The object's new path; with `--fit`, by a name that the new disc takes, which is said if it is another one."""
+        holder, name = self.places[entry.path[:-1]], entry.name
+        if self.limits:
+            fitting = self.fittings.get(holder)
+            if fitting is None:
+                fitting = self.fittings[holder] = Fitting(self.limits)
+                for other in self.tree.entries[entry.path[:-1]]:
+                    fitting.reserve(other.name, other.name)
+            name = fitting.name(entry.name.decode("latin-1"), entry.name)
+            if name != entry.name:
+                say("%s -> %s" % (spelled_path(entry.path), spelled_path((*holder, name))))
+        return (*holder, name)
+
+    def set_steps(self, entry: Entry, place: Path) -> Iterator[Step]:
         """What `cdir` and `save` don't give."""
         usual = (0, 0, 0) if entry.is_directory else (entry.load, entry.execution, NEW_FILE)
         if (entry.load, entry.execution, entry.attributes & SETTABLE) != usual:
-            line = set_line(entry.path, entry.load, entry.execution, entry.attributes)
-            yield Step(line, entry.path, "access not set")
+            yield Step(set_line(place, entry.load, entry.execution, entry.attributes), place, "access not set")
         self.lost_access += loses_access(entry.attributes)
 
     def fits(self, entry: Entry) -> bool:
-        if entry.length <= longest_content(entry.path):
+        longest = longest_content(self.places[entry.path])
+        if entry.length <= longest:
             return True
-        self.too_long += 1
-        text = TOO_LONG % (entry.length, longest_content(entry.path))
-        tell("%s: %s: %s: %s" % (shown(self.tree.image.path), spelled_path(entry.path), NOT_COPIED, text))
+        self.complain("%s: %s" % (shown(self.tree.image.path), spelled_path(entry.path)), "%s: %s" % (
+            NOT_COPIED, TOO_LONG % (entry.length, longest)))
         return False
 
     def contents(self) -> Iterator[bytes]:
@@ -94,18 +107,22 @@ def convert(words: Namespace) -> int:
         tree = read_tree(program, words.image, words.order, ())
     except Refused as refused:
         raise refusal(refused, words) from None
-    conversion = Conversion(program, tree, words.out)
-    with published(words.out) as (holder, temporary):
-        conversion.run(words.format, holder.place(temporary), [holder.number])
+    complain = Complaints(words.verbose)
+    limits = Limits.of_format(words.format) if words.fit else None
+    conversion = Conversion(program, tree, words.out, complain, limits)
+    with fresh_disc(program, words.out, words.format) as file:
+        conversion.run(file.fileno())
+        write_new(words.out, pieces_from(file, 0))
     return verdict(words, conversion)
 
 
 def verdict(words: Namespace, done: Conversion) -> int:
     """Tells what wasn't copied."""
-    tell_failures(words.out, done.failures)
+    done.complain.sum_up()
+    tell_failures(words.out, done.failures, words.verbose)
     tell_lost_access(words.out, done.lost_access)
     refused = {failure.step.path for failure in done.failures if failure.step.failure == NOT_COPIED}
-    copied = sum(entry.path not in refused for entry in done.files)
+    copied = sum(done.places[entry.path] not in refused for entry in done.files)
     say("%d of %s copied to %s" % (copied, counted(len(done.tree.files()), "file"), shown(words.out)))
-    whole = not (done.failures or done.too_long or done.lost_access or done.tree.too_deep)
+    whole = not (done.failures or done.complain.count or done.lost_access or done.tree.too_deep)
     return 0 if whole else FAILED

@@ -1,29 +1,33 @@
 # SPDX-License-Identifier: MIT
-"""An image that is changed. The changes are made to a copy beside it, which takes its name when all is done; or in place."""
+"""An image that is changed. The changes are made to a copy, which takes its name when all is done; or in place.
+
+The copy lies in memory, and is written once, at the end; that of a long image lies where the host keeps files without a name.
+"""
 from __future__ import annotations
 
-import fcntl
+import errno
 import os
-import signal
 import stat
 from argparse import Namespace
-from contextlib import ExitStack, contextmanager, nullcontext, suppress
+from contextlib import ExitStack, nullcontext, suppress
 from typing import BinaryIO, Callable, Dict, Iterable, Iterator, List, NamedTuple, Optional, Set, TypeVar
 
 from . import names
+from .backups import Backup
+from .complaints import Complaints
 from .faults import refusal_explained
-from .images import (AS_IT_IS, HEADER, L_SIZE, SIDES, Image, copy, has_doubtful_order, open_file, open_image, pieces_from, read_at,
-                     to_interleaved)
+from .fitting import SHORT_NAME
+from .hostitems import FIT_HELP, NOT_ADDED
+from .images import (AS_IT_IS, L_SIZE, SIDES, Image, copy, has_doubtful_order, nameless_file, open_image,
+                     pieces_from, read_at, size_of, to_interleaved)
 from .listing import counted
-from .messages import FAILED, Trouble, reason, shown, tell
-from .output import NO_LINKS, Folder, NewFile, TemporaryName, split_path
+from .locks import is_same, locked_file, unbroken
+from .messages import FAILED, Trouble, reason, shown
+from .output import Folder, NewFile, split_path
 from .program import SCRIPT_LIMIT, BadImage, Path, Refused, Run, scripts
 
 Result = TypeVar("Result")
-SIGNALS = (signal.SIGINT, signal.SIGTERM, signal.SIGHUP)
-NEW_COPY = os.O_RDWR | os.O_CREAT | os.O_EXCL | os.O_NOFOLLOW
-NOT_ADDED = "not added"
-SHORT_NAME = 10  # bytes of the longest name on a disc without big directories
+NOT_COPIED, NOT_MADE = "not copied", "not made"
 
 
 class Step(NamedTuple):
@@ -48,9 +52,12 @@ def save_line(path: Path, load: int, execution: int, content: bytes) -> bytes:
     return b"save %s %08x %08x %s\n" % (names.path_bytes(path), load, execution, content.hex().encode("ascii") or b"-")
 
 
+SHORTEST_SAVE = len(save_line((), 0, 0, b"")) - 1  # of a file of no bytes in the root, without its name and content
+
+
 def longest_content(path: Path) -> int:
-    """The bytes of the longest file that one line can hold."""
-    return (SCRIPT_LIMIT - len(save_line(path, 0, 0, b"")) + 1) // 2
+    """The bytes of the longest file that one line can hold. Each name has a dot before it."""
+    return (SCRIPT_LIMIT - SHORTEST_SAVE - len(names.path_bytes(path)) + 1) // 2
 
 
 def set_line(path: Path, load: int, execution: int, attributes: int) -> bytes:
@@ -87,11 +94,12 @@ class Edit:
     def __init__(self, program: str, words: Namespace):
         self.program, self.name, self.order, self.in_place = program, words.image, words.order, words.in_place
         self.path = os.path.realpath(words.image)
+        self.folder, self.file_name = split_path(self.path)
+        self.backup = Backup(self.name, self.file_name, words.backup)
         self.changes = 0
         self.failures: List[Failure] = []
+        self.is_open = False
         self.working: Optional[BinaryIO] = None  # what fcore changes: the copy, or the image itself
-        self.holder: Optional[Folder] = None
-        self.copy_name = b""
         self.stack = ExitStack()
 
     def __enter__(self) -> Edit:
@@ -114,6 +122,7 @@ class Edit:
         self.image, (self.counts, result) = open_image(self.program, self.path, self.order, b"check\n" + script,
                                                        lambda run: (run.check(), read(run)), self.name)
         self.stack.callback(self.image.file.close)
+        self.is_open = True
         # the name doesn't decide here, as it does if the disc is only read
         if has_doubtful_order(self.image, self.order, self.counts):
             raise self.trouble("nothing shows whether its sides are interleaved, and in the wrong order a change would spoil "
@@ -128,19 +137,25 @@ class Edit:
             if self.image.how != AS_IT_IS:
                 raise self.trouble("only an image in disc order and without a header can be changed in place")
             return self.image.file
+        self.backup.refuse_if_unfit(self.folder, self.before)
+        if not os.access(self.folder, os.W_OK):
+            raise self.trouble("nothing can be written to its folder; --in-place does without")
         try:
-            folder, _ = split_path(self.path)
-            self.holder = self.stack.enter_context(Folder.at(folder))
-            self.copy_name = self.stack.enter_context(TemporaryName(self.holder))
-            file = self.stack.enter_context(open(os.open(self.copy_name, NEW_COPY, 0o600, dir_fd=self.holder.number), "r+b"))
+            file = self.stack.enter_context(nameless_file(size_of(self.image.file), self.folder))
             copy(self.image.file, 0, file)
-            file.flush()
         except OSError as error:
             raise self.no_copy(error) from None
         return file
 
     def no_copy(self, error: OSError) -> Trouble:
-        return self.trouble("no copy of it can be made beside it (%s); --in-place does without" % reason(error))
+        """Why there is no changed copy. A full host is no reason to change the image in place: that may fail half-way."""
+        if error.errno in (errno.ENOSPC, errno.EDQUOT):
+            with suppress(OSError):
+                room = os.statvfs(self.folder)
+                lack = (self.before.st_size - room.f_bavail * room.f_frsize) / 1e6
+                return self.trouble("its changed copy can't be written beside it (%s): %.1f MB more are needed; nothing was changed"
+                                    % (reason(error), max(lack, 0.1)))
+        return self.trouble("no copy of it can be made (%s); --in-place does without" % reason(error))
 
     def perform(self, script: bytes, read: Callable[[Run], Result]) -> Result:
         """Runs a script that changes the disc."""
@@ -173,66 +188,36 @@ class Edit:
 
     # the end
 
-    def finish(self) -> int:
+    def finish(self, verbose: bool = False) -> int:
         """Makes the changes stand, and tells which were refused. Answers the status."""
-        if self.changes and self.holder:
+        if self.changes and not self.in_place:
             try:
-                self.replace(self.holder)
+                with Folder.at(self.folder) as holder:
+                    self.replace(holder)
             except OSError as error:
                 raise self.no_copy(error) from None
-        tell_failures(self.name, self.failures)
+        tell_failures(self.name, self.failures, verbose)
         return FAILED if self.failures else 0
 
     def replace(self, holder: Folder) -> None:
-        """The copy takes the image's name; the image as it was has a `~` after its name then."""
+        """The copy takes the image's name, and the image as it was has another one then. Its name is always a whole one's."""
         with ExitStack() as stack:
-            new = self.finished_copy(stack, holder)
-            try:
-                old = self.second_name(stack, holder)
-            except OSError as error:
-                raise self.no_backup(error) from None
+            new = stack.enter_context(NewFile(holder, self.pieces_back(), mark=self.make_alike, sparse=True))
+            self.backup.prepare(stack, holder, self.original, self.before, self.make_alike)
             stack.enter_context(unbroken())
             if not is_same(self.before, os.stat(self.path)):
                 raise self.trouble("another program changed it meanwhile: it stays as it is now")
-            self.exchange(holder, new, old)
+            self.backup.publish(holder)
+            self.take_name(holder, new)
 
-    def finished_copy(self, stack: ExitStack, holder: Folder) -> bytes:
-        """The name of the changed copy, which is now in the form that the image has, and on the host's disk."""
-        assert self.working
-        if self.image.how != AS_IT_IS:
-            return stack.enter_context(NewFile(holder, self.pieces_back(), mark=self.make_alike))
-        self.make_alike(self.working.fileno())
-        return self.copy_name
-
-    def second_name(self, stack: ExitStack, holder: Folder) -> bytes:
-        """A temporary name of the image as it was; or of a copy of it, if a file can't have two names here."""
-        second = stack.enter_context(TemporaryName(holder))
+    def take_name(self, holder: Folder, new: bytes) -> None:
         try:
-            os.link(split_path(self.path)[1], second, src_dir_fd=holder.number, dst_dir_fd=holder.number, follow_symlinks=False)
-            return second
+            os.replace(new, self.file_name, src_dir_fd=holder.number, dst_dir_fd=holder.number)
         except OSError as error:
-            if error.errno not in NO_LINKS:
-                raise
-        pieces = pieces_from(self.original, 0)
-        return stack.enter_context(NewFile(holder, pieces, self.before.st_mtime_ns, self.make_alike))
-
-    def exchange(self, holder: Folder, new: bytes, old: bytes) -> None:
-        """Gives these files the names of the image and of its backup. At each moment the image's name leads to a whole one."""
-        folder, name = {"src_dir_fd": holder.number, "dst_dir_fd": holder.number}, split_path(self.path)[1]
-        try:
-            os.replace(old, name + b"~", **folder)
-        except OSError as error:
-            raise self.no_backup(error) from None
-        try:
-            os.replace(new, name, **folder)
-        except OSError as error:
-            text = "its changed copy can't take its name (%s): it stays as it was, and %s~ is the same now"
-            raise self.trouble(text % (reason(error), shown(self.name))) from None
+            raise self.trouble("its changed copy can't take its name (%s): it stays as it was%s"
+                               % (reason(error), self.backup.remark())) from None
         with suppress(OSError):
             os.fsync(holder.number)
-
-    def no_backup(self, error: OSError) -> Trouble:
-        return Trouble("%s~: %s: nothing was changed" % (shown(self.name), reason(error)))
 
     def make_alike(self, number: int) -> None:
         """A new file gets the image's owner and mode, and is written to the host's disk."""
@@ -247,54 +232,23 @@ class Edit:
         if self.image.how == SIDES:
             yield to_interleaved(read_at(self.working, 0, L_SIZE))
             yield from pieces_from(self.original, L_SIZE)
-        else:
-            yield read_at(self.original, 0, HEADER)
-            yield from pieces_from(self.working, 0)
+            return
+        if self.image.how != AS_IT_IS:
+            yield from pieces_from(self.original, 0, self.image.start)
+        yield from pieces_from(self.working, 0)
 
 
-def is_same(before: os.stat_result, now: os.stat_result) -> bool:
-    """Whether nobody replaced or wrote the file meanwhile."""
-    return ((before.st_dev, before.st_ino, before.st_size, before.st_mtime_ns)
-            == (now.st_dev, now.st_ino, now.st_size, now.st_mtime_ns))
-
-
-@contextmanager
-def locked_file(path: str, name: str) -> Iterator[BinaryIO]:
-    """The open file, which no other fcdisc changes meanwhile."""
-    while True:
-        with open_file(path, name) as file:
-            try:
-                fcntl.flock(file, fcntl.LOCK_EX | fcntl.LOCK_NB)
-            except BlockingIOError:
-                raise Trouble("%s: another fcdisc is changing it: try again when that has ended" % shown(name)) from None
-            except OSError:
-                pass  # a host without locks
-            with suppress(FileNotFoundError):
-                if os.path.samestat(os.fstat(file.fileno()), os.stat(path)):
-                    yield file
-                    return
-
-
-@contextmanager
-def unbroken() -> Iterator[None]:
-    """Signals wait while an image is changed in place or takes its name, for fcdisc and for the fcore that it starts."""
-    before = signal.pthread_sigmask(signal.SIG_BLOCK, SIGNALS)
-    try:
-        yield
-    finally:
-        signal.pthread_sigmask(signal.SIG_SETMASK, before)
-
-
-def tell_failures(name: str, failures: List[Failure]) -> None:
-    """Names each object that was refused, with the reason. What is in a directory that isn't there is only counted."""
-    unmade = {step.path for step, _ in failures if step.line.startswith(b"cdir ")}
+def tell_failures(name: str, failures: List[Failure], verbose: bool = False) -> None:
+    """Names the objects that were refused, with the reason. What is in a directory that isn't there is only counted."""
+    unmade = {step.path for step, refusal in failures if step.line.startswith(b"cdir ") and refusal != "Exists"}
+    complain = Complaints(verbose)
     inner: Dict[Path, int] = {}
     told: Set[Path] = set()
     first: List[Failure] = []
     for failure in failures:
         path = failure.step.path
         outer = next((path[:size] for size in range(1, len(path)) if path[:size] in unmade), None)
-        if outer is not None and failure.name == "NotFound":
+        if outer is not None and failure.name in ("NotFound", "BadName"):
             inner[outer] = inner.get(outer, 0) + (path not in told)
         elif path not in told:
             first.append(failure)
@@ -302,15 +256,17 @@ def tell_failures(name: str, failures: List[Failure]) -> None:
     for step, refusal in first:
         rest = "; nor what is in it: %s" % counted(inner[step.path], "object") if step.path in inner else ""
         text = reason_of(step, refusal, failures) + rest
-        tell("%s: %s: %s: %s" % (shown(name), names.spelled_path(step.path), step.failure, text))
+        complain("%s: %s" % (shown(name), names.spelled_path(step.path)), "%s: %s" % (step.failure, text))
+    complain.sum_up()
 
 
 def reason_of(step: Step, refusal: str, failures: List[Failure]) -> str:
     if refusal == "NotFound" and not step.line.startswith(b"delete"):
-        return "there is no directory for it on the disc"
+        return "there is no directory for it on the disc" + (" (mkdir -p makes it)" if step.failure == NOT_MADE else "")
     if refusal == "NotEmpty" and any(is_below(other.path, step.path) for other, _ in failures):
         return "something in it is left"
-    return why(step.path, refusal)
+    text = why(step.path, refusal)
+    return text + FIT_HELP if refusal == "BadName" and step.failure in (NOT_ADDED, NOT_COPIED) else text
 
 
 def is_below(path: Path, holder: Path) -> bool:

@@ -3,10 +3,11 @@
 from __future__ import annotations
 
 from itertools import groupby
-from typing import Callable, Dict, Iterator, List, Set, Tuple, Union
+from typing import Callable, Dict, Iterator, List, NamedTuple, Optional, Set, Tuple, Union
 
-from . import names
-from .hostfiles import NEW_DIRECTORY, keep, keep_of_file
+from . import inf, names
+from .filetypes import Types
+from .hostfiles import NEW_DIRECTORY, is_told, keep
 from .messages import Progress, Trouble, reason, shown, tell
 from .output import HOPELESS, Folder, Inode, NewFile
 from .program import Entry, Path, Run, batches
@@ -17,16 +18,40 @@ class Taken(Exception):
     """The name on the host belongs to something that was there before."""
 
 
+class Form(NamedTuple):
+    """How a file's type, words and access are kept: in its name and beside it on the host; or in an .inf file; or its ending tells
+    the type."""
+
+    with_inf: bool = False
+    types: Optional[Types] = None
+
+    def suffix(self, entry: Entry) -> bytes:
+        """What follows the name on the host."""
+        if entry.is_directory or self.with_inf:
+            return b""
+        number = names.type_of(entry.load)
+        if self.types and number is not None:
+            ending = self.types.ending(names.host_name(entry.name, b""), number)
+            if ending is not None:
+                return ending
+        return names.suffix_of(entry.load, entry.execution)
+
+    def is_told(self, number: int, entry: Entry) -> bool:
+        """Whether nothing has to be kept of the open file."""
+        return self.suffix(entry) == names.suffix_of(entry.load, entry.execution) and is_told(number, *words_of(entry))
+
+
 class Extraction:
     """What was written so far, and what couldn't be. Nothing that was there before is changed."""
 
-    def __init__(self, program: str, tree: Tree, folder: Folder):
-        self.program, self.tree, self.folder = program, tree, folder
+    def __init__(self, program: str, tree: Tree, folder: Folder, form: Form = Form()):
+        self.program, self.tree, self.folder, self.form = program, tree, folder, form
         self.places: Dict[Path, Tuple[bytes, ...]] = {tree.start: ()}  # the directories that have a folder, and where
         self.own: Set[Inode] = set()  # what this job made or used: a name that leads there again stands for something else
         self.numbers: Dict[Tuple[Path, bytes], int] = {}  # of names in a directory that become one: the last that was used
         self.wanted = tree.files()
         self.written = self.renamed = 0
+        self.lost = 0  # objects whose access, words or time the host couldn't keep
 
     def run(self) -> None:
         """Makes the folders, and then writes all files, by one run of fcore."""
@@ -43,7 +68,7 @@ class Extraction:
     def is_complete(self) -> bool:
         """Whether all of the disc is on the host, under its own names."""
         made_all = all(path in self.places for path in self.tree.entries)
-        return made_all and self.written == len(self.wanted) and not self.renamed and not self.tree.too_deep
+        return made_all and self.written == len(self.wanted) and not self.renamed and not self.lost and not self.tree.too_deep
 
     # names
 
@@ -62,6 +87,10 @@ class Extraction:
 
     def took(self, holder: Folder, name: bytes, take: Callable[[bytes], None]) -> bool:
         """Whether `take` could take the name; if it can't, this job has it already. Raises Taken where something else has."""
+        if self.form.with_inf and holder.has(name + inf.ENDING):
+            if holder.inode(name + inf.ENDING) not in self.own:
+                raise Taken
+            return False
         try:
             take(name)
         except FileExistsError:
@@ -79,6 +108,8 @@ class Extraction:
         try:
             with self.folder.below(outer) as holder:
                 name = self.take_name(holder, entry, b"", lambda name: self.take_folder(holder, name, entry))
+                if self.form.with_inf and words_of(entry) != (0, 0, NEW_DIRECTORY):
+                    self.write_inf(holder, name, entry)
             self.places[entry.path] = (*outer, name)
         except (OSError, Taken) as error:
             self.fail(entry, error)
@@ -86,9 +117,9 @@ class Extraction:
     def take_folder(self, holder: Folder, name: bytes, entry: Entry) -> None:
         try:
             holder.make(name)
-            if words_of(entry) != (0, 0, NEW_DIRECTORY):
+            if words_of(entry) != (0, 0, NEW_DIRECTORY) and not self.form.with_inf:
                 with holder.below((name,)) as made:
-                    keep(made.number, *words_of(entry))
+                    self.lost += not keep(made.number, *words_of(entry))
         except FileExistsError:
             if holder.inode(name) in self.own or not holder.is_folder(name):
                 raise
@@ -109,15 +140,35 @@ class Extraction:
                 self.write(holder, entry, progress.passed(run.load(entry.length)))
 
     def write(self, holder: Folder, entry: Entry, pieces: Iterator[bytes]) -> None:
-        suffix = names.suffix_of(entry.load, entry.execution)
         try:
             time = names.unix_time(entry.load, entry.execution)
-            with NewFile(holder, pieces, time, lambda number: keep_of_file(number, *words_of(entry))) as temporary:
-                self.take_name(holder, entry, suffix, lambda name: holder.publish(temporary, name))
+            with NewFile(holder, pieces, time, lambda number: self.keep(number, entry)) as temporary:
+                try:
+                    name = self.take_name(holder, entry, self.form.suffix(entry), lambda name: holder.publish(temporary, name))
+                except Taken:
+                    if not holder.are_alike(temporary, names.host_name(entry.name, self.form.suffix(entry))):
+                        raise
+                    self.written += 1  # by an earlier job
+                    return
+            if self.form.with_inf:
+                self.write_inf(holder, name, entry)
             self.written += 1
         except (OSError, Taken) as error:
             self.fail(entry, error)
             pass_over(pieces)
+
+    def keep(self, number: int, entry: Entry) -> None:
+        """What the file's name and time don't say already."""
+        if not self.form.with_inf and not self.form.is_told(number, entry):
+            self.lost += not keep(number, *words_of(entry))
+
+    def write_inf(self, holder: Folder, name: bytes, entry: Entry) -> None:
+        with NewFile(holder, [inf.written(entry)]) as temporary:
+            try:
+                holder.publish(temporary, name + inf.ENDING)
+            except FileExistsError:
+                raise Taken from None
+            self.own.add(holder.inode(name + inf.ENDING))
 
     # what goes wrong
 

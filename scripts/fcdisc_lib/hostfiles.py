@@ -23,6 +23,16 @@ TOO_LONG = "it has %d bytes, and fcore takes files of no more than %d here"
 OPEN_FILE = os.O_RDONLY | os.O_NONBLOCK  # to open it doesn't wait, as for the other end of a pipe
 
 
+def system_attributes(attributes: int) -> int:
+    """A disc's attributes as RISC OS and other filing systems number them: there 8 is locked."""
+    return attributes & 0x33 | (attributes & 4) << 1
+
+
+def disc_attributes(attributes: int) -> int:
+    """The other way of `system_attributes`."""
+    return attributes & 0x33 | (attributes & 8) >> 1
+
+
 class Kept(NamedTuple):
     """What `extract` knew of an object, and the time that the file then had, in nanoseconds."""
 
@@ -32,18 +42,19 @@ class Kept(NamedTuple):
     time: int
 
 
-def keep(number: int, load: int, execution: int, attributes: int) -> None:
-    """Keeps an object's words and attributes with the open file or folder. A host that can't do so does without."""
+def keep(number: int, load: int, execution: int, attributes: int) -> bool:
+    """Keeps an object's words and attributes with the open file or folder. Answers whether the host could."""
     if hasattr(os, "setxattr"):
         text = b"%08x %08x %08x %d" % (load, execution, attributes, os.fstat(number).st_mtime_ns)
         with suppress(OSError):
             os.setxattr(number, KEPT_NAME, text, os.XATTR_CREATE)
+            return True
+    return False
 
 
-def keep_of_file(number: int, load: int, execution: int, attributes: int) -> None:
-    """Keeps what the file's name and time don't say already, if there is any."""
-    if attributes != NEW_FILE or has_type(load) and unix_time(load, execution) != os.fstat(number).st_mtime_ns:
-        keep(number, load, execution, attributes)
+def is_told(number: int, load: int, execution: int, attributes: int) -> bool:
+    """Whether a file's name, with a type or with words, and its time say all of the object that has these."""
+    return attributes == NEW_FILE and (not has_type(load) or unix_time(load, execution) == os.fstat(number).st_mtime_ns)
 
 
 def kept_with(number: int) -> Optional[Kept]:
@@ -90,14 +101,27 @@ def read_host_file(path: bytes, limit: int, flags: int = 0) -> HostFile:
     Raises OSError, or ValueError with the reason where it isn't to be had as it is.
     """
     number = os.open(path, OPEN_FILE | flags)
-    with open(number, "rb") as file:
+    try:
         before = os.fstat(number)
         if not stat.S_ISREG(before.st_mode):
             raise ValueError("not a file")
         if before.st_size > limit:
             raise ValueError(TOO_LONG % (before.st_size, limit))
-        content = file.read(limit + 1)
+        content = read_all(number, before.st_size)
         after = os.fstat(number)
         if len(content) != before.st_size or (before.st_size, before.st_mtime_ns) != (after.st_size, after.st_mtime_ns):
             raise ValueError("it changed while it was read")
         return HostFile(content, before.st_mtime_ns, kept_with(number))
+    finally:
+        os.close(number)
+
+
+def read_all(number: int, size: int) -> bytes:
+    """The bytes of the open file; one more than `size` if there are more. Most files come by one call of the system."""
+    content = os.read(number, size + 1)
+    while 0 < len(content) < size:
+        piece = os.read(number, size + 1 - len(content))
+        if not piece:
+            break
+        content += piece
+    return content

@@ -2,6 +2,7 @@
 """Images as people have them: in disc order, with the two sides of an L disc track by track, or with a header before the disc."""
 from __future__ import annotations
 
+import errno
 import os
 import stat
 import tempfile
@@ -15,8 +16,10 @@ TRACKS = 80  # on each of two sides
 L_SIZE = 2 * TRACKS * TRACK
 HEADER = 512
 PIECE = 1 << 20
+ZEROS = bytes(PIECE)
 HEAD = 4096  # what tells the kind of a disc lies before this
 ORDERS = ("auto", "disc", "adl")
+MEMORY_LIMIT = 256 << 20  # bytes of the longest image of which a copy lies in memory
 
 AS_IT_IS, SIDES, HEADED = "as it is", "sides", "header"
 NOTES = {
@@ -55,25 +58,33 @@ def size_of(file: BinaryIO) -> int:
 
 def read_at(file: BinaryIO, at: int, length: int) -> bytes:
     try:
-        file.seek(at)
-        return file.read(length)
+        return os.pread(file.fileno(), length, at)
     except OSError as error:
         # a file that was opened by a number, or has no name, is a copy
         name = file.name if isinstance(file.name, str) else "a copy of the image"
         raise Trouble("%s: %s" % (shown(name), reason(error))) from None
 
 
-def pieces_from(file: BinaryIO, start: int) -> Iterator[bytes]:
-    """What is in the file from there on."""
-    for at in range(start, size_of(file), PIECE):
-        yield read_at(file, at, PIECE)
+def pieces_from(file: BinaryIO, start: int, end: Optional[int] = None) -> Iterator[bytes]:
+    """What is in the file from there on, or up to that byte. Pieces that take no room on the host aren't read."""
+    end = size_of(file) if end is None else end
+    for at in range(start, end, PIECE):
+        length = min(PIECE, end - at)
+        yield ZEROS[:length] if is_hole(file, at, length) else read_at(file, at, length)
+
+
+def is_hole(file: BinaryIO, at: int, length: int) -> bool:
+    """Whether the host says that nothing was ever written there."""
+    try:
+        return os.lseek(file.fileno(), at, os.SEEK_DATA) >= at + length
+    except OSError as error:
+        return error.errno == errno.ENXIO  # nothing from there on
 
 
 def copy(source: BinaryIO, start: int, target: BinaryIO) -> None:
     """Copies from there to the end; pieces of zeros take no room in the copy."""
-    zeros = bytes(PIECE)
     for piece in pieces_from(source, start):
-        if piece == zeros[:len(piece)]:
+        if piece == ZEROS[:len(piece)]:
             target.seek(len(piece), os.SEEK_CUR)
         else:
             target.write(piece)
@@ -113,8 +124,9 @@ def track_at(content: bytes, place: int) -> bytes:
 class Image:
     """A file that fcore reads: the one that the user named, or a copy in disc order, which has no name."""
 
-    def __init__(self, path: str, file: BinaryIO, how: str):
+    def __init__(self, path: str, file: BinaryIO, how: str, start: int = 0):
         self.path, self.file, self.how = path, file, how
+        self.start = start  # the bytes before the disc, which the copy has not
 
     def run(self, program: str, script: bytes) -> Run:
         """A run that only reads. The name is that of an open file, so that every run of a job is over the same one."""
@@ -123,30 +135,33 @@ class Image:
 
 
 def interleaved_image(path: str, file: BinaryIO) -> Image:
-    turned = nameless_file()
+    turned = nameless_file(L_SIZE)
     turned.write(to_disc_order(read_at(file, 0, L_SIZE)))
-    turned.flush()
     return Image(path, turned, SIDES)
 
 
-def headed_image(path: str, file: BinaryIO) -> Image:
-    bare = nameless_file()
-    copy(file, HEADER, bare)
-    bare.flush()
-    return Image(path, bare, HEADED)
+def headed_image(path: str, file: BinaryIO, start: int = HEADER) -> Image:
+    bare = nameless_file(size_of(file))
+    copy(file, start, bare)
+    return Image(path, bare, HEADED, start)
 
 
-def head_alone(path: str, file: BinaryIO) -> Image:
+def head_alone(path: str, file: BinaryIO, start: int = HEADER) -> Image:
     """As `headed_image`, but zeros follow the head: that is enough to see whether a disc begins there."""
-    bare = nameless_file()
-    bare.write(read_at(file, HEADER, HEAD))
-    bare.truncate(size_of(file) - HEADER)
-    bare.flush()
-    return Image(path, bare, HEADED)
+    bare = nameless_file(size_of(file))
+    bare.write(read_at(file, start, HEAD))
+    bare.truncate(size_of(file) - start)
+    return Image(path, bare, HEADED, start)
 
 
-def nameless_file() -> BinaryIO:
-    return tempfile.TemporaryFile()  # type: ignore[return-value]
+def nameless_file(size: int, folder: Optional[str] = None) -> BinaryIO:
+    """A file without a name for that many bytes: in memory; or, if it is long, in that folder or the host's for such files.
+
+    It has no buffer here, since fcore may write it too.
+    """
+    if size <= MEMORY_LIMIT and hasattr(os, "memfd_create"):
+        return open(os.memfd_create("fcdisc"), "w+b", buffering=0)
+    return tempfile.TemporaryFile(buffering=0, dir=folder)  # type: ignore[return-value]
 
 
 def begins_disc(program: str, image: Image) -> bool:
@@ -158,7 +173,15 @@ def begins_disc(program: str, image: Image) -> bool:
 
 
 def readings(program: str, path: str, file: BinaryIO, order: str, faults: List[BadImage]) -> Iterator[Image]:
-    """The ways to read the file, the likeliest first. `faults` grows by the fault of each way that fails."""
+    """The ways to read the file, the likeliest first. `faults` grows by the fault of each way that fails.
+
+    `order` is one of ORDERS, or in digits the byte at which the disc begins.
+    """
+    if order.isdigit():
+        if int(order) >= size_of(file):
+            raise Trouble("%s: it has no more than %d bytes" % (shown(path), size_of(file)))
+        yield headed_image(path, file, int(order))
+        return
     can_turn = order != "disc" and has_l_size(file)
     if order == "adl" and not can_turn:
         raise Trouble("%s: no L disc of %d bytes begins here, so it has no sides to put into order" % (shown(path), L_SIZE))
@@ -212,7 +235,7 @@ def open_image(program: str, path: str, order: str, script: bytes, read: Callabl
 
 def tell_reading(image: Image, order: str) -> None:
     """What was found out, and wasn't asked for."""
-    if image.how == HEADED or image.how == SIDES and order == "auto":
+    if image.how == HEADED and not order.isdigit() or image.how == SIDES and order == "auto":
         tell("%s: %s" % (shown(image.path), NOTES[image.how]))
     elif image.how == AS_IT_IS and order == "auto" and is_named_adl(image.path) and has_l_size(image.file):
         tell("%s: its name says interleaved sides, but it is in disc order: read so" % shown(image.path))

@@ -2,31 +2,26 @@
 """The subcommands. Each answers the status with which the program ends."""
 from __future__ import annotations
 
-import gc
+import json
 import os
 import sys
 from argparse import Namespace
-from typing import Callable, Dict, Iterable, Iterator, List, Optional
+from typing import Iterable, Tuple
 
-from . import names
-from .extraction import Extraction, words_of
-from .faults import explained, refusal_explained
-from .hostfiles import keep
+from .description import Description, describe
+from .faults import refusal_explained
+from .filetypes import TABLE
+from .fresh import fresh_disc
+from .verdicts import fault_of
 from .images import HEADER, L_SIZE, open_file, open_image, pieces_from, read_at, size_of, to_disc_order, to_interleaved
-from .listing import counted, row, rows
-from .messages import FAILED, WRONG_WORDS, Progress, Trouble, reason, say, shown, tell
-from .output import Folder, NewFile, new_folder, place_text, published, split_path
-from .program import BadImage, Entry, Path, Refused, Run, command, find_program
-from .tree import find_entry, read_tree
+from .listing import heading, rows, tree_row
+from .messages import FAILED, Trouble, say, shown, tell
+from .output import NewFile, published
+from .program import BadImage, Refused, Run, find_program
+from .selection import meant_tree
+from .tree import Tree
+from .verdicts import fault_of
 
-FORMATS = ("E", "F", "D", "L", "E+", "F+")
-
-
-def path_from(text: str) -> Path:
-    try:
-        return tuple(names.read_path(text))
-    except ValueError as error:
-        raise Trouble("%s: %s" % (shown(text), error), WRONG_WORDS) from None
 
 
 def refusal(refused: Refused, words: Namespace) -> Trouble:
@@ -35,161 +30,47 @@ def refusal(refused: Refused, words: Namespace) -> Trouble:
 
 def not_accepted(path: str, fault: BadImage) -> str:
     """The fault in words."""
-    try:
-        with open_file(path) as file:
-            head = read_at(file, 0, 16)
-    except Trouble:  # it can't be read any more, and fcore has said what is wrong
-        head = b""
-    return "%s: not accepted: %s" % (shown(path), explained(fault.words, head))
+    return "%s: not accepted: %s" % (shown(path), fault_of(find_program(), path, fault))
 
 
 # ---- list
 
 
 def list_disc(words: Namespace) -> int:
-    program, start = find_program(), path_from(words.path)
-    try:
-        tree = read_tree(program, words.image, words.order, start)
-    except Refused as refused:
-        return list_file(program, words, start, refused)
-    for line in rows(tree):
-        say(line)
+    program = find_program()
+    tree, disc = read_listing(program, words)
+    if words.json:
+        json.dump(tree_row(tree, disc), sys.stdout, indent=1)
+        say("")
+    else:
+        for line in rows(tree, heading(disc) if words.path == "$" else ""):
+            say(line)
     return FAILED if tree.too_deep else 0
 
 
-def list_file(program: str, words: Namespace, path: Path, refused: Refused) -> int:
-    """A line for a file, where the path turned out not to be a directory's."""
+def read_listing(program: str, words: Namespace) -> Tuple[Tree, Description]:
+    """The directory of the path, the file, or what a path with wildcards means."""
     try:
-        if refused.name != "NotDirectory":
-            raise refused
-        image, entry = find_entry(program, words.image, words.order, path)
-    except Refused as error:
-        raise refusal(error, words) from None
-    say(row(entry, 0))
+        tree = meant_tree(program, words.image, words.order, [words.path])
+    except Refused as refused:
+        raise refusal(refused, words) from None
+    return tree, describe(tree.image.file)
+
+
+# ---- types
+
+
+def print_types(_: Namespace) -> int:
+    say(TABLE.rstrip())
     return 0
-
-
-# ---- get
-
-
-def get(words: Namespace) -> int:
-    program, path = find_program(), path_from(words.path)
-    if not path:
-        raise Trouble("$ is a directory: use extract")
-    try:
-        image, entry = find_entry(program, words.image, words.order, path)
-    except Refused as refused:
-        raise refusal(refused, words) from None
-    if entry.is_directory:
-        raise Trouble("%s: %s: a directory: use extract" % (shown(words.image), shown(words.path)))
-    with image.run(program, command("load", entry.path)) as run:
-        pieces = run.load(entry.length)
-        if words.file == "-":
-            sys.stdout.buffer.writelines(pieces)
-            return 0
-        return save(entry, Progress("bytes written", entry.length).passed(pieces), words.file)
-
-
-def save(entry: Entry, pieces: Iterator[bytes], wanted: Optional[str]) -> int:
-    """Writes the file under the name that is wanted, or, in a folder, under the name that it has on the host."""
-    folder, name = (wanted or ".", b"") if wanted is None or os.path.isdir(wanted) else split_path(wanted)
-    suffix = names.suffix_of(entry.load, entry.execution)
-    chosen = bool(name)
-    try:
-        with Folder.at(folder) as holder:
-            name = name or names.fitted_name(entry.name, suffix, holder.name_limit)
-            time = names.unix_time(entry.load, entry.execution)
-            with NewFile(holder, pieces, time, lambda number: keep(number, *words_of(entry))) as temporary:
-                holder.publish(temporary, name)
-    except OSError as error:
-        raise Trouble(place_text(folder, name, error)) from None
-    if chosen or name == names.host_name(entry.name, suffix):
-        return 0
-    tell("%s: has another name here: %s" % (names.spelled_path(entry.path), shown(name)))
-    return FAILED
-
-
-# ---- extract
-
-
-def extract(words: Namespace) -> int:
-    program, start = find_program(), path_from(words.path)
-    try:
-        tree = read_tree(program, words.image, words.order, start)
-    except Refused as refused:
-        raise refusal(refused, words) from None
-    try:
-        folder = new_folder(words.folder)
-    except OSError as error:
-        raise Trouble("%s: %s" % (shown(words.folder), reason(error))) from None
-    gc.disable()  # what is made of a disc's listing stays to the end, and to look through it again and again takes time
-    with folder:
-        extraction = Extraction(program, tree, folder)
-        extraction.run()
-    files = "%d of %s" % (extraction.written, counted(len(extraction.wanted), "file"))
-    say("%s written to %s" % (files, shown(words.folder)))
-    return 0 if extraction.is_complete() else FAILED
-
-
-# ---- check
-
-
-def check(words: Namespace) -> int:
-    program = find_program()
-    failed = 0
-    unread: List[OSError] = []
-    for path in files_in(words.image, unread.append):
-        try:
-            failed += not check_one(program, path, words.order)
-            sys.stdout.flush()  # the next image may take its time
-        except Trouble as trouble:
-            failed += 1
-            tell(str(trouble))
-    for error in unread:
-        tell("%s: %s" % (shown(error.filename), reason(error)))
-    return FAILED if failed or unread else 0
-
-
-def files_in(paths: List[str], not_read: Callable[[OSError], None]) -> Iterator[str]:
-    """The files that are named, and those in the folders that are named, in the order of their names."""
-    for path in paths:
-        if not os.path.isdir(path):
-            yield path
-            continue
-        for folder, inner, files in os.walk(path, onerror=not_read):
-            inner.sort()
-            yield from (place for place in (os.path.join(folder, name) for name in sorted(files)) if os.path.isfile(place))
-
-
-def check_one(program: str, path: str, order: str) -> bool:
-    """Prints a line, and answers whether the image is accepted."""
-    try:
-        image, counts = open_image(program, path, order, b"check\n", Run.check)
-    except BadImage as fault:
-        say(not_accepted(path, fault))
-        return False
-    image.file.close()
-    say("%s: %s" % (shown(path), found(counts)))
-    return True
-
-
-def found(counts: Dict[str, int]) -> str:
-    """What `check` counted, in words; `$` itself counts as a directory there."""
-    text = "whole: %s, %s, %s free" % (
-        counted(counts["files"], "file"), counted(counts["dirs"] - 1, "directory"), counted(counts["free"], "byte"))
-    remarks = (("lost", "byte", "that nothing owns"), ("unsorted", "directory", "out of order"),
-               ("parents", "directory", "with a wrong parent"))
-    return "; ".join([text] + ["%s %s" % (counted(counts[key], what), state) for key, what, state in remarks if counts[key]])
 
 
 # ---- new, adl, strip
 
 
 def new(words: Namespace) -> int:
-    program = find_program()
-    with published(words.image) as (holder, temporary):
-        with Run(program, words.image, ["--new", words.format, "--", holder.place(temporary)], b"", [holder.number]):
-            pass
+    with fresh_disc(find_program(), words.image, words.format) as file:
+        write_new(words.image, pieces_from(file, 0))
     return 0
 
 
@@ -215,7 +96,7 @@ def strip(words: Namespace) -> int:
 
 def write_new(path: str, pieces: Iterable[bytes]) -> None:
     """A new file of the host; nothing may have its name yet."""
-    with published(path, lambda holder: NewFile(holder, pieces)):
+    with published(path, lambda holder: NewFile(holder, pieces, mark=os.fsync, sparse=True)):
         pass
 
 

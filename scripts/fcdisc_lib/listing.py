@@ -2,9 +2,12 @@
 """A disc's tree, a line for each object."""
 from __future__ import annotations
 
-from typing import Dict, Iterator
+from datetime import datetime, timedelta
+from typing import Any, Dict, Iterator, Optional
 
 from . import names
+from .description import Description
+from .messages import shown
 from .program import Entry
 from .tree import Tree
 
@@ -30,18 +33,68 @@ def kind(entry: Entry) -> str:
     return ("%03x %s" % (number, TYPES.get(number, ""))).rstrip()
 
 
+EPOCH = datetime(1900, 1, 1)
+
+
+def date_of(entry: Entry) -> Optional[datetime]:
+    """The time that load and exec words tell, which is in UTC."""
+    if entry.is_directory and not entry.load or not names.has_type(entry.load):
+        return None
+    return EPOCH + timedelta(milliseconds=10 * ((entry.load & 0xFF) << 32 | entry.execution))
+
+
+def day(entry: Entry) -> str:
+    """The date as `1993-05-04`, or nothing: a time of 0 is none."""
+    date = date_of(entry)
+    return date.strftime("%Y-%m-%d") if date and date > EPOCH else ""
+
+
 def access(entry: Entry) -> str:
     """Locked, and what the owner and others may do, as RISC OS shows it."""
     return "".join(letter for bit, letter in ACCESS if bit == 0 or entry.attributes & bit)
 
 
+def minute(entry: Entry) -> str:
+    """The time as `1993-05-04 10:11`, or nothing."""
+    date = date_of(entry)
+    return date.strftime("%Y-%m-%d %H:%M") if date and date > EPOCH else ""
+
+
 def row(entry: Entry, depth: int) -> str:
     """A line. The name is spelled as in a path, so that it can be copied from here, and can't upset a terminal."""
     size = "" if entry.is_directory else str(entry.length)
-    return "%-17s %10s  %-6s  %s%s" % (kind(entry), size, access(entry), "  " * depth, names.spelled(entry.name))
+    told = kind(entry), size, access(entry), minute(entry)
+    return "%-17s %10s  %-6s  %-16s  %s%s" % (*told, "  " * depth, names.spelled(entry.name))
 
 
-def rows(tree: Tree) -> Iterator[str]:
+def heading(disc: Description) -> str:
+    """Format, disc name, and the boot option where it isn't `none`."""
+    text = "hard disc%s of %.0f MB" % (disc.form[2:], disc.size / 1e6) if disc.form.startswith("HD") else "%s disc" % disc.form
+    if disc.name:
+        text += ' "%s"' % shown(disc.name)
+    return text + (", boot option " + disc.boots if disc.boot_option else "")
+
+
+def disc_row(disc: Description) -> Dict[str, Any]:
+    return {"format": disc.form, "disc_name": disc.name, "boot_option": disc.boots, "size": disc.size}
+
+
+def object_row(entry: Entry) -> Dict[str, Any]:
+    """An object's fields, as the JSON of `list` and the rows of `catalogue` have them."""
+    number, date = names.type_of(entry.load), date_of(entry)
+    told = "directory" if entry.is_directory else None if number is None else "%03x" % number
+    return {"path": names.spelled_path(entry.path), "type": told,
+            "load": "%08x" % entry.load, "exec": "%08x" % entry.execution, "length": entry.length, "access": access(entry),
+            "date": date.isoformat(timespec="milliseconds") if date else None}
+
+
+def tree_row(tree: Tree, disc: Description) -> Dict[str, Any]:
+    return {"image": shown(tree.image.path), **disc_row(disc), "objects": [object_row(entry) for entry in tree.walk()]}
+
+
+def rows(tree: Tree, head: str = "") -> Iterator[str]:
+    if head:
+        yield head
     files = directories = size = 0
     for entry in tree.walk():
         yield row(entry, len(entry.path) - len(tree.start) - 1)

@@ -4,8 +4,10 @@ from __future__ import annotations
 
 import os
 import sys
+import threading
 import time
-from typing import Iterable, Iterator, Union
+from contextlib import contextmanager
+from typing import Iterable, Iterator, List, Optional, Union
 
 FAILED = 1
 WRONG_WORDS = 2
@@ -46,7 +48,8 @@ class Progress:
 
     def __init__(self, what: str, total: int):
         self.what, self.total, self.done = what, total, 0
-        self.next = time.monotonic() + FIRST_PROGRESS if sys.stderr.isatty() else float("inf")
+        is_shown = sys.stderr.isatty() and collected.lines is None
+        self.next = time.monotonic() + FIRST_PROGRESS if is_shown else float("inf")
 
     def step(self, count: int = 1) -> None:
         self.done += count
@@ -77,7 +80,30 @@ def say(text: str) -> None:
     print(text)
 
 
+class Collected(threading.local):
+    """The messages of one of several jobs that run at once: they are told together, when the job has ended."""
+
+    lines: Optional[List[str]] = None
+
+
+collected = Collected()
+
+
+@contextmanager
+def collecting() -> Iterator[List[str]]:
+    """What is told meanwhile, in this thread, is put into the list."""
+    lines: List[str] = []
+    collected.lines = lines
+    try:
+        yield lines
+    finally:
+        collected.lines = None
+
+
 def tell(text: str) -> None:
     """A message on standard error."""
+    if collected.lines is not None:
+        collected.lines.append(text)
+        return
     clear_progress()
     print("fcdisc: " + text, file=sys.stderr, flush=True)

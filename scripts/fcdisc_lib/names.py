@@ -8,6 +8,7 @@ what isn't plain as `%XX`. On the host a file's name carries its type, or its lo
 """
 from __future__ import annotations
 
+import os
 import re
 from typing import List, NamedTuple, Optional, Sequence, Tuple
 
@@ -16,7 +17,7 @@ NOT_PLAIN = b'$&%@\\^:.#*"|'  # fcore spells these as %XX
 # `.` would become `/`, and `%` begins what is spelled; the others are refused by some hosts, and names are alike on all of them
 NOT_ON_HOSTS = b'.%\\:*?"<>|\x7f' + bytes(range(0x80, 0xA0))
 FOLDER_ITSELF = (b"/", b"//")  # they would become `.` and `..`
-SUFFIX = re.compile(rb",(?:([0-9a-f]{3})|([0-9a-f]{8})-([0-9a-f]{8}))\Z", re.IGNORECASE)
+SUFFIX = re.compile(rb",(?:([0-9a-f]{3})|([0-9a-f]{1,8})-([0-9a-f]{1,8}))\Z", re.IGNORECASE)
 SPELLED_BYTE = re.compile("%([0-9A-Fa-f]{2})")
 
 
@@ -66,8 +67,18 @@ def read_path(text: str) -> List[bytes]:
     return [read_name(part) for part in parts]
 
 
+def host_text(text: str) -> str:
+    """A word of the command line, which is UTF-8 whatever the host's letters are said to be. Other bytes stand for themselves."""
+    return os.fsencode(text).decode("utf-8", "surrogateescape")
+
+
+def plain_bytes(part: str) -> bytes:
+    """The bytes of a part of a name, which may be written as `%XX`."""
+    return latin_bytes(SPELLED_BYTE.sub(lambda found: chr(int(found[1], 16)), part))
+
+
 def read_name(part: str) -> bytes:
-    name = latin_bytes(SPELLED_BYTE.sub(lambda found: chr(int(found[1], 16)), part))
+    name = plain_bytes(part)
     if not 1 <= len(name) <= LONGEST:
         raise ValueError("a name in a path has 1 to %d bytes" % LONGEST)
     if min(name) < 32:
@@ -145,14 +156,19 @@ class DiscName(NamedTuple):
 
 def disc_name(host: bytes, is_directory: bool) -> DiscName:
     """The other way of `host_name`. Raises ValueError where no disc can have such a name."""
+    text, told = split_suffix(host, is_directory)
+    return told._replace(name=read_name(text.replace(".", "/")))
+
+
+def split_suffix(host: bytes, is_directory: bool) -> Tuple[str, DiscName]:
+    """What stands before the type or the words, and these, without a name."""
     found = None if is_directory else SUFFIX.search(host)
     text = (host[:found.start()] if found else host).decode("utf-8", "surrogateescape")
-    name = read_name(text.replace(".", "/"))
     if not found:
-        return DiscName(name)
+        return text, DiscName(b"")
     if found[1]:
-        return DiscName(name, file_type=int(found[1], 16))
-    return DiscName(name, words=(int(found[2], 16), int(found[3], 16)))
+        return text, DiscName(b"", file_type=int(found[1], 16))
+    return text, DiscName(b"", words=(int(found[2], 16), int(found[3], 16)))
 
 
 # ---- times

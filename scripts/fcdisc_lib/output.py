@@ -7,13 +7,13 @@ outside. Nothing that is there is replaced.
 from __future__ import annotations
 
 import errno
-import itertools
 import os
-import secrets
 import stat
-from contextlib import contextmanager, suppress
-from typing import Callable, Iterable, Iterator, Optional, Sequence, Set, Tuple, TypeVar
+from contextlib import ExitStack, contextmanager, suppress
+from typing import Callable, Iterable, Iterator, Optional, Sequence, Tuple, TypeVar
 
+from .images import PIECE, ZEROS
+from .leftovers import fresh_name, is_locked_here, remove_leftovers, unfinished
 from .messages import Trouble, reason, shown
 
 Inode = Tuple[int, int]
@@ -25,18 +25,6 @@ NO_LINKS = (errno.EPERM, errno.EOPNOTSUPP, errno.ENOSYS, errno.EMLINK)
 NEW_FILE = os.O_WRONLY | os.O_CREAT | os.O_EXCL | os.O_NOFOLLOW
 # After these no other file can be written either
 HOPELESS = (errno.ENOSPC, errno.EDQUOT, errno.EROFS, errno.EIO)
-
-# Nobody else can know the names of this run's temporary files
-OWN_WORD = secrets.token_hex(8).encode("ascii")
-NUMBERS = itertools.count(1)
-unfinished: Set[Tuple[int, bytes]] = set()  # the files that have a temporary name: a folder's descriptor, and the name
-
-
-def remove_unfinished() -> None:
-    """For a signal, which can come at any moment, also when a file is about to be removed."""
-    for number, name in list(unfinished):
-        with suppress(OSError):
-            os.unlink(name, dir_fd=number)
 
 
 class Folder:
@@ -72,13 +60,29 @@ class Folder:
         """Whether the name is that of a folder itself, not of a link to one."""
         return stat.S_ISDIR(os.stat(name, dir_fd=self.number, follow_symlinks=False).st_mode)
 
+    def has(self, name: bytes) -> bool:
+        """Whether anything has the name."""
+        with suppress(FileNotFoundError):
+            os.stat(name, dir_fd=self.number, follow_symlinks=False)
+            return True
+        return False
+
     def inode(self, name: bytes) -> Inode:
         found = os.stat(name, dir_fd=self.number, follow_symlinks=False)
         return found.st_dev, found.st_ino
 
-    def place(self, name: bytes) -> str:
-        """The path of a file in it for a program that has the folder open too, under the same number."""
-        return "/dev/fd/%d/%s" % (self.number, os.fsdecode(name))
+    def are_alike(self, one: bytes, other: bytes) -> bool:
+        """Whether both are files of the same bytes."""
+        flags = os.O_RDONLY | os.O_NOFOLLOW | os.O_NONBLOCK
+        with suppress(OSError), ExitStack() as stack:
+            first, second = (stack.enter_context(open(os.open(name, flags, dir_fd=self.number), "rb")) for name in (one, other))
+            piece = b"x"
+            while piece and all(stat.S_ISREG(os.fstat(file.fileno()).st_mode) for file in (first, second)):
+                piece = first.read(PIECE)
+                if piece != second.read(PIECE):
+                    return False
+            return not piece
+        return False
 
     def make(self, name: bytes) -> None:
         """Makes a folder in it. FileExistsError if the name is there, whatever has it."""
@@ -107,9 +111,10 @@ class TemporaryName:
 
     def __init__(self, folder: Folder):
         self.folder = folder
-        self.name = b".fcdisc-%s-%d.tmp" % (OWN_WORD, next(NUMBERS))
+        self.name = fresh_name()
 
     def __enter__(self) -> bytes:
+        remove_leftovers(self.folder.number)
         unfinished.add((self.folder.number, self.name))
         return self.name
 
@@ -124,38 +129,62 @@ class TemporaryName:
 class NewFile(TemporaryName):
     """A file of these pieces under a temporary name, to be published. `time` is in nanoseconds since 1970.
 
-    `mark` is called with the file's descriptor once it is whole.
+    It stays open and locked as long as it has that name, so that no other fcdisc takes it for a leftover. `mark` is called with the
+    file's descriptor once it is whole. Of a sparse file pieces of zeros take no room.
     """
 
     def __init__(self, folder: Folder, pieces: Iterable[bytes], time: Optional[int] = None,
-                 mark: Optional[Callable[[int], None]] = None):
+                 mark: Optional[Callable[[int], None]] = None, sparse: bool = False):
         super().__init__(folder)
-        self.pieces, self.time, self.mark = pieces, time, mark
+        self.pieces, self.time, self.mark, self.sparse = pieces, time, mark, sparse
+        self.number = -1
 
     def __enter__(self) -> bytes:
-        name = super().__enter__()
+        super().__enter__()
         try:
-            self.write(name)
+            self.open()
+            self.write()
         except BaseException:
             self.__exit__()
             raise
-        return name
+        return self.name
 
-    def write(self, name: bytes) -> None:
-        number = os.open(name, NEW_FILE, 0o666, dir_fd=self.folder.number)
+    def __exit__(self, *_: object) -> None:
         try:
-            for piece in self.pieces:
-                write_all(number, piece)
-            set_time(number, self.time)
-            if self.mark:
-                self.mark(number)
+            super().__exit__()
         finally:
-            os.close(number)
+            if self.number >= 0:
+                os.close(self.number)
+                self.number = -1
+
+    def open(self) -> None:
+        """Makes the file and locks it, again if another fcdisc removed it before it was locked."""
+        while True:
+            self.number = os.open(self.name, NEW_FILE, 0o666, dir_fd=self.folder.number)
+            if is_locked_here(self.number, self.folder.number, self.name):
+                return
+            super().__exit__()
+            os.close(self.number)
+            self.number = -1
+            self.name = fresh_name()
+            super().__enter__()
+
+    def write(self) -> None:
+        for piece in self.pieces:
+            if self.sparse and piece == ZEROS[:len(piece)]:
+                os.lseek(self.number, len(piece), os.SEEK_CUR)
+            else:
+                write_all(self.number, piece)
+        if self.sparse:
+            os.ftruncate(self.number, os.lseek(self.number, 0, os.SEEK_CUR))
+        set_time(self.number, self.time)
+        if self.mark:
+            self.mark(self.number)
 
 
 @contextmanager
 def published(path: str, make: Callable[[Folder], TemporaryName] = TemporaryName) -> Iterator[Tuple[Folder, bytes]]:
-    """A folder and a temporary name in it, for a file that gets the path's name at the end. Trouble if it can't, or something has it."""
+    """A folder and a temporary name in it, for a file that gets the path's name at the end. Trouble if it can't."""
     folder, name = split_path(path)
     try:
         with Folder.at(folder) as holder, make(holder) as temporary:

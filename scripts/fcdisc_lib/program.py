@@ -24,7 +24,7 @@ Subject = TypeVar("Subject")
 ENDS = {
     2: "fcore doesn't know these words: is it of another version?", 4: "I/O error while fcore read it",
     5: "fcore couldn't read its script", 6: "fcore couldn't write its replies", 7: "fcore ran out of memory",
-    8: "fcore's script is too long", 9: "this fcore can't do that: is it of another version?", 12: "fcore can't open it",
+    8: "fcore's script is too long", 9: "this fcore can't do that: it isn't built in", 12: "fcore can't open it",
 }
 WRITING_ENDS = {**ENDS, 4: "I/O error while fcore read or wrote it (is the host full?)"}
 

@@ -3,9 +3,12 @@
 
 Each case runs in a fresh folder `work` beside the folder `images`. Host names are written here as they have to be, not computed.
 """
-import gzip
+from __future__ import annotations
 
-from tools.images.volumes import OldVolume, fresh_e
+import gzip
+from typing import Any, Dict, Iterator, List, Optional, Union
+
+from tools.images.volumes import NewVolume, OldVolume, fresh_e
 
 HEADER = b"header of an emulator".ljust(512, b"\0")
 TRACK = 4096
@@ -21,7 +24,10 @@ LONG = b"n" * 250
 class Case:
     """`left`: paths below the work folder and bytes, or None for a folder, or `-> TARGET` for a link."""
 
-    def __init__(self, name, words, out="", err="", status=0, left=None, before=None, fcore=None, within=None):
+    def __init__(self, name: str, words: List[str], out: str = "", err: str = "", status: int = 0,
+                 left: Optional[Dict[bytes, Optional[Union[bytes, str]]]] = None,
+                 before: Optional[Dict[bytes, Optional[Union[bytes, str]]]] = None, fcore: Optional[str] = None,
+                 within: Optional[str] = None) -> None:
         self.name, self.words, self.out, self.err, self.status = name, words, out, err, status
         self.before = before or {}
         self.left = self.before if left is None else left
@@ -32,13 +38,13 @@ class Case:
 # ---- images that tools/images/table.py doesn't make
 
 
-def interleaved(image):
+def interleaved(image: bytearray) -> bytes:
     """The sides of an L disc track by track."""
     tracks = [image[at:at + TRACK] for at in range(0, len(image), TRACK)]
     return b"".join(track for pair in zip(tracks[:80], tracks[80:]) for track in pair)
 
 
-def hostile():
+def hostile() -> NewVolume:
     """Names that would lead elsewhere, hide another, or upset a terminal."""
     volume = fresh_e(big=True)
     root = volume.root
@@ -62,7 +68,7 @@ HOSTILE_FOLDERS = {
 }
 
 
-def two_that_become_one():
+def two_that_become_one() -> NewVolume:
     """Names of 255 bytes that are one where a host allows no more than 255 with the type."""
     volume = fresh_e(big=True)
     for at in range(3):
@@ -71,7 +77,7 @@ def two_that_become_one():
     return volume
 
 
-def flat_l():
+def flat_l() -> OldVolume:
     """An L disc without directories, and with a file over several tracks: either order of its sides opens."""
     volume = OldVolume("L", 2560)
     volume.root.insert(volume.file(b"Song", bytes(range(256)) * 200, load=0xFFFFFF00))
@@ -79,7 +85,7 @@ def flat_l():
     return volume
 
 
-def deep():
+def deep() -> NewVolume:
     """Directories deeper than any path of RISC OS."""
     volume = fresh_e()
     holder = volume.root
@@ -88,14 +94,14 @@ def deep():
     return volume
 
 
-def large_file():
+def large_file() -> NewVolume:
     volume = fresh_e()
     volume.root.insert(volume.file(b"Large", b"L" * 100000, load=0xFFFFFF00))
     volume.root.insert(volume.file(b"Small", b"S" * 100, load=0xFFFFFF00))
     return volume
 
 
-def extra_images(files):
+def extra_images(files: Dict[str, bytearray]) -> Dict[str, bytes]:
     """Images by name, made from those of tools/images/table.py where they are other forms of them."""
     sides = interleaved(files["l-files.adf"])
     flat = flat_l().image()
@@ -112,23 +118,29 @@ def extra_images(files):
 
 
 NAMED_ROWS = """\
-00000000-00000000          4  WR/     A%20B
-fff Text                   1  WR/     Ab
-directory                     /       D
-00000000-00000000          0  WR/       error
+E disc
+00000000-00000000          4  WR/                       A%20B
+fff Text                   1  WR/                       Ab
+directory                     /                         D
+00000000-00000000          0  WR/                         error
 3 files, 1 directory, 5 bytes
 """
 USER_ROWS = """\
-directory                     /       !Boot
-feb Obey                   8  WR/       !Run
-directory                     /       Docs
-aff DrawFile               0  WR/       Note0
-fff Text                  90  WR/       Note1
+F disc
+directory                     /                         !Boot
+feb Obey                   8  WR/     ...    !Run
+directory                     /                         Docs
+aff DrawFile               0  WR/     ...    Note0
+fff Text                  90  WR/     ...    Note1
 ...
 41 files, 2 directories, 70208 bytes
 """
-TWIN_TEXT = ("directory $.D is damaged: entry 3 has the name of one before it [Directory $.D Twin 3]. What to do: read its "
-             "sectors again from the disc; else change one of the names in a copy of the image, with a new check")
+TWIN_MEANING = "directory $.D is damaged: entry 3 has the name of one before it [Directory $.D Twin 3]"
+TWIN_ADVICE = "read its sectors again from the disc; else change one of the names in a copy of the image, with a new check"
+TWIN_TEXT = "%s. What to do: %s" % (TWIN_MEANING, TWIN_ADVICE)
+USER_FOUND = ("whole: F disc: 41 files, 2 directories, 1525760 bytes free, newest file of 1924-12-24; 1 directory out of order\n")
+HELLO_FOUND = "../images/hello.adf: whole: E disc: 1 file, 0 directories, 813056 bytes free\n"
+NO_DISC = "no FileCore disc begins here [NoKind]"
 NO_KIND = "no FileCore disc begins here [NoKind]. What to do: "
 NO_KIND_ADVICE = ("see that the file is an image of an Acorn FileCore disc, byte by byte and not packed; if it is one, read the "
                   "disc's first 4096 bytes again")
@@ -136,21 +148,23 @@ SHORT_ADVICE = ("copy the disc again; a file that is only made longer may open, 
                 "it, and then files are wrong")
 
 
-def image(name):
+def image(name: str) -> str:
     return "../images/" + name
 
 
-def told(name, text):
+def told(name: str, text: str) -> str:
     return "fcdisc: ../images/%s: %s\n" % (name, text)
 
 
-def listing():
+def listing() -> Iterator[Case]:
     yield Case("list", ["list", image("named.adf")], NAMED_ROWS)
     yield Case("list-user", ["list", image("f-user.adf")], USER_ROWS)
     yield Case("list-part", ["list", image("f-user.adf"), "$.!BOOT"],
-               "feb Obey                   8  WR/     !Run\n1 file, 0 directories, 8 bytes\n")
-    yield Case("list-file", ["list", image("f-user.adf"), "docs.Note1"], "fff Text                  90  WR/     Note1\n")
-    yield Case("list-spelled", ["list", image("named.adf"), "$.A B"], "00000000-00000000          4  WR/     A%20B\n")
+               "feb Obey                   8  WR/     ...  !Run\n1 file, 0 directories, 8 bytes\n")
+    yield Case("list-file", ["list", image("f-user.adf"), "docs.Note1"],
+               "fff Text                  90  WR/     ...  Note1\n1 file, 0 directories, 90 bytes\n")
+    yield Case("list-spelled", ["list", image("named.adf"), "$.A B"],
+               "00000000-00000000          4  WR/                       A%20B\n1 file, 0 directories, 4 bytes\n")
     yield Case("list-none", ["list", image("named.adf"), "$.D.x"],
                err=told("named.adf", "$.D.x: there is no such object on the disc"),
                status=1)
@@ -162,7 +176,7 @@ def listing():
                err="fcdisc: \u0416: a disc's names have no letters but those of Latin 1\n", status=2)
     yield Case("list-damaged", ["list", image("d-twin.adf")], err=told("d-twin.adf", "not accepted: " + TWIN_TEXT), status=1)
     yield Case("list-deep", ["list", image("deep.adf")],
-               "directory                     /       d\n...\n0 files, 128 directories, 0 bytes\n",
+               "E disc\ndirectory                     /                         d\n...\n0 files, 128 directories, 0 bytes\n",
                told("deep.adf", "directories more than 127 deep are left out"), 1)
     yield Case("list-no-image", ["list", "none.adf"], err="fcdisc: none.adf: No such file or directory\n", status=1)
     yield Case("list-a-folder", ["list", "."], err="fcdisc: .: Is a directory\n", status=1)
@@ -175,14 +189,14 @@ def listing():
     yield Case("list-closed-input", ["list", image("named.adf")], NAMED_ROWS, within='exec "$@" <&- 2>&-')
     yield Case("list-a-pipe", ["list", "p"], err="fcdisc: p" + NO_FILE, status=1,
                within='mkfifo p; "$@"; status=$?; rm p; exit $status')
-    yield Case("list-closed-pipe", ["list", image("f-user.adf")], "directory                     /       !Boot\n", status=0,
+    yield Case("list-closed-pipe", ["list", image("f-user.adf")], "F disc\n", status=0,
                within='"$@" | head -n 1')
 
 
 # ---- get
 
 
-def getting():
+def getting() -> Iterator[Case]:
     user = image("f-user.adf")
     yield Case("get", ["get", user, "$.!boot.!run"], left={b"!Run,feb": BOOTS})
     yield Case("get-named", ["get", user, "$.!Boot.!Run", "boot.txt"], left={b"boot.txt": BOOTS})
@@ -215,7 +229,7 @@ def getting():
 # ---- extract
 
 
-def hostile_tree(folder):
+def hostile_tree(folder: bytes) -> Dict[bytes, Optional[bytes]]:
     left = {folder: None}
     for at, name in enumerate(HOSTILE_FILES.values()):
         left[folder + b"/" + name] = b"file %d" % at
@@ -225,7 +239,7 @@ def hostile_tree(folder):
     return left
 
 
-def extracting():
+def extracting() -> Iterator[Case]:
     names = image("named.adf")
     files = {b"o": None, b"o/A B,00000000-00000000": b"A B!", b"o/Ab,fff": b"\2", b"o/D": None,
              b"o/D/error,00000000-00000000": b""}
@@ -251,8 +265,7 @@ def extracting():
     yield Case("extract-no-folder", ["extract", names, "none/o"], err="fcdisc: none/o: No such file or directory\n", status=1)
     yield Case("extract-damaged", ["extract", image("d-twin.adf"), "o"], err=told("d-twin.adf", "not accepted: " + TWIN_TEXT),
                status=1)
-    yield Case("extract-a-file", ["extract", names, "o", "$.Ab"],
-               err=told("named.adf", "$.Ab: a file stands where a directory has to"), status=1)
+    yield Case("extract-a-file", ["extract", names, "o", "$.Ab"], "1 of 1 file written to o\n", left={b"o": None, b"o/Ab,fff": b"\2"})
     yield Case("extract-hostile", ["extract", image("hostile.adf"), "o"], "19 of 19 files written to o\n",
                left=hostile_tree(b"o"))
     fitted = [LONG + b"a,fff", LONG[:249] + b"~2,fff", LONG[:249] + b"~3,fff"]
@@ -263,7 +276,7 @@ def extracting():
     yield from extracting_little_room()
 
 
-def extracting_little_room():
+def extracting_little_room() -> Iterator[Case]:
     large = image("large.adf")
     small = {b"o": None, b"o/Small,fff": b"S" * 100}
     yield Case("extract-too-large", ["extract", large, "o"], "1 of 2 files written to o\n",
@@ -282,43 +295,44 @@ FULL_DISK = ('unshare -m sh -c \'mount -t tmpfs -o size=%dk none . && cd "$PWD" 
 # ---- check
 
 
-def checking():
+def checking() -> Iterator[Case]:
     yield Case("check", ["check", image("f-user.adf"), image("named.adf")],
-               "../images/f-user.adf: whole: 41 files, 2 directories, 1525760 bytes free; 1 directory out of order\n"
-               "../images/named.adf: whole: 3 files, 1 directory, 808960 bytes free\n")
+               "../images/f-user.adf: " + USER_FOUND + "../images/named.adf: whole: E disc: 3 files, 1 directory, 808960 bytes free\n"
+               "2 files: 2 whole\n")
     yield Case("check-damaged", ["check", image("d-twin.adf"), image("hello.adf")],
-               "../images/d-twin.adf: not accepted: %s\n"
-               "../images/hello.adf: whole: 1 file, 0 directories, 813056 bytes free\n" % TWIN_TEXT,
+               "../images/d-twin.adf: not accepted: %s\n" % TWIN_MEANING + HELLO_FOUND
+               + "What to do about Directory Twin (1 image): %s\n2 files: 1 whole, 1 damaged\n" % TWIN_ADVICE,
                status=1)
     yield Case("check-short", ["check", image("short.adl")],
                "../images/short.adl: not accepted: it has 400000 bytes, and its disc 655360 "
-               "[Short 655360 400000]. What to do: %s\n" % SHORT_ADVICE, status=1)
+               "[Short 655360 400000]\nWhat to do about Short: %s\n" % SHORT_ADVICE, status=1)
     yield Case("check-none", ["check", "none.adf", image("hello.adf")],
-               "../images/hello.adf: whole: 1 file, 0 directories, 813056 bytes free\n",
+               HELLO_FOUND + "2 files: 1 whole, 1 not opened\n",
                "fcdisc: none.adf: No such file or directory\n", 1)
-    for name, advice in (("packed.gz", "it is packed by gzip: unpack it first, with gunzip"),
-                         ("archive.zip", "it is a zip archive: unpack it first"), ("text.txt", NO_KIND_ADVICE)):
-        yield Case("check-" + name, ["check", image(name)], "../images/%s: not accepted: %s%s\n" % (name, NO_KIND, advice),
-                   status=1)
+    for name, text in (("packed.gz", "packed by gzip: unpack it first, with gunzip"), ("archive.zip", "a zip archive: unpack it first"),
+                       ("text.txt", "a text: look for an image elsewhere")):
+        yield Case("check-" + name, ["check", image(name)], "../images/%s: no disc: %s\n" % (name, text), status=1)
+    yield Case("list-a-zip", ["list", image("archive.zip")],
+               err=told("archive.zip", "not accepted: it is a zip archive [NoKind]. What to do: unpack it first"), status=1)
     yield Case("check-empty-folder", ["check", "."])
-    many = [b"%02d" % at for at in range(40)]
+    many = [b"%02d.adf" % at for at in range(40)]
     yield Case("check-few-descriptors", ["check", "."], "".join(
-        "./%s: not accepted: %s%s\n" % (name.decode(), NO_KIND, NO_KIND_ADVICE) for name in many), status=1,
-        before=dict.fromkeys(many, b"no disc"), within='ulimit -n 24; exec "$@"')
-    yield Case("check-names", ["check", "."], "./a\\x0a\\x1b[31m: not accepted: %s%s\n./\\xff.adf: not accepted: %s%s\n" % (
-        NO_KIND, NO_KIND_ADVICE, NO_KIND, NO_KIND_ADVICE), status=1,
-               before={b"a\n\x1b[31m": b"no disc", b"\xff.adf": b"no disc"})
-    yield Case("check-dash", ["check", "--", "-x.adf"], "-x.adf: not accepted: %s%s\n" % (NO_KIND, NO_KIND_ADVICE), status=1,
-               before={b"-x.adf": b""})
+        "./%s: not accepted: %s\n" % (name.decode(), NO_DISC) for name in many)
+        + "What to do about NoKind (40 images): %s\n40 files: 40 damaged\n" % NO_KIND_ADVICE, status=1,
+        before=dict.fromkeys(many, b"\0\1"), within='ulimit -n 24; exec "$@"')
+    yield Case("check-names", ["check", "."], "./a\\x0a\\x1b[31m.adf: not accepted: %s\n./\\xff.adf: not accepted: %s\n"
+               "What to do about NoKind (2 images): %s\n2 files: 2 damaged\n" % (NO_DISC, NO_DISC, NO_KIND_ADVICE), status=1,
+               before={b"a\n\x1b[31m.adf": b"\0\1", b"\xff.adf": b"\0\1"})
+    yield Case("check-dash", ["check", "--", "-x.adf"], "-x.adf: not accepted: %s\nWhat to do about NoKind: %s\n" % (
+        NO_DISC, NO_KIND_ADVICE), status=1, before={b"-x.adf": b""})
 
 
 # ---- orders and headers
 
 
-def found_out():
-    whole = ("whole: 62 files, 5 directories, 520704 bytes free; 3072 bytes that nothing owns; 1 directory out of order; "
-             "1 directory with a wrong parent\n")
-    user = "whole: 41 files, 2 directories, 1525760 bytes free; 1 directory out of order\n"
+def found_out() -> Iterator[Any]:
+    whole = ('whole: L disc "OldDisc", boot option Exec: 62 files, 5 directories, 520704 bytes free, newest file of 1924-07-01; '
+             "3072 bytes that nothing owns; 1 directory out of order; 1 directory with a wrong parent\n")
     yield Case("sides-adl", ["check", image("sides.adl")], "../images/sides.adl: " + whole, told("sides.adl", SIDES))
     yield Case("sides-adf", ["check", image("sides.adf")], "../images/sides.adf: " + whole, told("sides.adf", SIDES))
     yield Case("ordered-adl", ["check", image("ordered.adl")], "../images/ordered.adl: " + whole,
@@ -327,9 +341,10 @@ def found_out():
     yield Case("asked-disc", ["check", "--order", "disc", image("ordered.adl")], "../images/ordered.adl: " + whole)
     yield Case("asked-wrong", ["check", "--order=adl", image("f-user.adf")], err=told(
         "f-user.adf", "no L disc of 655360 bytes begins here, so it has no sides to put into order"), status=1)
-    yield Case("header", ["check", image("header.hdf")], "../images/header.hdf: " + user,
+    yield Case("header", ["check", image("header.hdf")], "../images/header.hdf: " + USER_FOUND,
                told("header.hdf", "it has a header of 512 bytes: read without it"))
-    yield Case("header-damaged", ["check", image("header.adf")], "../images/header.adf: not accepted: %s\n" % TWIN_TEXT,
+    yield Case("header-damaged", ["check", image("header.adf")], "../images/header.adf: not accepted: %s\nWhat to do about Directory Twin: %s\n" % (
+        TWIN_MEANING, TWIN_ADVICE),
                told("header.adf", "it has a header of 512 bytes: read without it"), 1)
     song = bytes(range(256)) * 200
     for name, words, err in (("flat.adf", [], told("flat.adf", DOUBT)), ("flat.adl", [], told("flat.adl", SIDES)),
@@ -341,13 +356,13 @@ def found_out():
 # ---- new, adl, strip
 
 
-def making(files, extra):
+def making(files: Dict[str, bytearray], extra: Dict[str, bytes]) -> Iterator[Any]:
     for form in ("E", "F", "D", "L", "E+", "F+"):
         yield Case("new-" + form, ["new", form, "x.adf"], left={b"x.adf": bytes(files["fresh-%s.adf" % form])})
     yield Case("new-lower", ["new", "e+", "x.adf"], left={b"x.adf": bytes(files["fresh-E+.adf"])})
     yield Case("new-there", ["new", "E", "x.adf"], err="fcdisc: x.adf: " + THERE + "\n", status=1, before={b"x.adf": b"mine"})
     yield Case("new-no-folder", ["new", "E", "none/x.adf"], err="fcdisc: none/x.adf: No such file or directory\n", status=1)
-    yield Case("new-full-disk", ["new", "E", "x.adf"], ". ./pad\n", "fcdisc: x.adf: %s\n" % WRITE_FAILED, 1, within=FULL_DISK % (
+    yield Case("new-full-disk", ["new", "E", "x.adf"], ". ./pad\n", "fcdisc: x.adf: No space left on device\n", 1, within=FULL_DISK % (
         16, "head -c 20000 /dev/zero > pad 2> /dev/null"))
     yield Case("new-too-large", ["new", "F", "x.adf"], err="fcdisc: x.adf: ...\n", status=1,
                within='ulimit -f 16; exec "$@"')
@@ -372,7 +387,7 @@ def making(files, extra):
                before={b"x": bytes(512)})
 
 
-def interleaved_back(image):
+def interleaved_back(image: bytearray) -> Any:
     """What becomes of an image in disc order that is taken for an interleaved one."""
     tracks = [image[at:at + TRACK] for at in range(0, len(image), TRACK)]
     return b"".join(tracks[0::2] + tracks[1::2])
@@ -381,7 +396,7 @@ def interleaved_back(image):
 # ---- words
 
 
-def words():
+def words() -> Iterator[Any]:
     for at, one in enumerate((["lst", "x"], [], ["list"], ["get", "x"], ["extract", "x"], ["check"], ["new", "E"],
                               ["new", "G", "x"],
                               ["adl", "x"], ["strip", "x"], ["list", "--order", "x", "y"], ["list", "a", "b", "c"],
@@ -393,7 +408,7 @@ def words():
     for job in ("list", "get", "extract", "check", "new", "adl", "strip", "put", "add", "mkdir", "rm", "mv", "access", "compact",
                 "convert"):
         yield Case("help-" + job, [job, "--help"], "usage: fcdisc %s [-h]...\n" % job)
-    yield Case("help", ["--help"], "usage: fcdisc [-h] JOB ...\n...\n")
+    yield Case("help", ["--help"], "usage: fcdisc [-h] [--version] JOB ...\n...\n")
 
 
 # ---- other programs in fcore's place
@@ -413,7 +428,7 @@ esac
 """
 
 
-def other_programs():
+def other_programs() -> Iterator[Any]:
     hello = image("hello.adf")
     for name, program, error in (
             ("fails-on-image", "#!/bin/sh\ncat > /dev/null; exit 4\n", "I/O error while fcore read it"),
@@ -443,6 +458,6 @@ def other_programs():
                fcore="")
 
 
-def all_cases(files, extra):
+def all_cases(files: Dict[str, bytearray], extra: Dict[str, bytes]) -> Iterator[Case]:
     for group in (listing(), getting(), extracting(), checking(), found_out(), making(files, extra), words(), other_programs()):
         yield from group

@@ -18,7 +18,7 @@ from tools.files import TOP
 PAGE = os.path.join(TOP, "docs", "CHANGING.md")
 SEARCH = re.compile(r"^    \$ (grep .*)$", re.MULTILINE)
 CRATE = re.compile(r"\bfc_[a-z]+\b|\bfcore\b(?=/| \(src)")
-FILE = re.compile(r"(?<![\w/])((?:\w+/)*\w+\.(?:py|sh|c|1|5))(?!\w|\.\w)")
+FILE = re.compile(r"(?<![\w/])((?:\w+/)*\w+\.(?:py|sh|bash|c|1|5))(?!\w|\.\w)")
 FOLDERS = ("tools", "scripts", "man")
 LEFT_OUT = ("tools/checks/bounds.txt",)  # made from the sources
 
@@ -58,7 +58,8 @@ def rooms_named(text: str, files: List[str]) -> Dict[str, Set[str]]:
 
 def differences(search: str, text: str, files: List[str]) -> Iterator[str]:
     found, named = rooms_found(search), rooms_named(text, files)
-    besides: Set[str] = set().union(*rooms_named("".join(re.findall(r"^Besides:.*?(?=\n\n|\Z)", text, re.MULTILINE | re.DOTALL)), files).values())
+    told = "".join(re.findall(r"^Besides:.*?(?=\n\n|\Z)", text, re.MULTILINE | re.DOTALL))
+    besides: Set[str] = set().union(*rooms_named(told, files).values())
     if not found:
         yield "the search finds nothing: " + search
     for missing in sorted(found - set().union(*named.values())):

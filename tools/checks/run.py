@@ -56,7 +56,8 @@ PLAIN: Dict[str, Callable[[Suite], None]] = {
     "pages": pages, "man": program.man_pages, "embedded": program.embedded, "images": readers.images, "readers": readers.readers}
 OVER_PROGRAM: Dict[str, Callable[[Suite, str], None]] = {
     "cases": program.cases, "streams": program.streams, "examples": program.readme, "install": program.installed,
-    "fcdisc": fcdisc.reading, "fcdisc-discs": fcdisc.discs, "fcdisc-changes": fcdisc.changing, "fcdisc-round": fcdisc.rounds}
+    "fcdisc": fcdisc.reading, "fcdisc-discs": fcdisc.discs, "fcdisc-changes": fcdisc.changing,
+    "fcdisc-collections": fcdisc.collections, "fcdisc-keeping": fcdisc.keeping, "fcdisc-round": fcdisc.rounds}
 
 
 def run_long(suite: Suite, path: str) -> None:
@@ -117,7 +118,7 @@ def main(words: List[str]) -> bool:
         return run_one(options.suite, selection, path)
     has_program = os.access(path, os.X_OK)
     # the longest first
-    over = [*(LONG if options.gate else ()), "fcdisc-round", "fcdisc-discs", "fcdisc-changes", "fcdisc", "cases", "streams", "examples", "install"]
+    over = [*(LONG if options.gate else ()), *reversed(list(OVER_PROGRAM))]
     names = [name for name in [*over, *PLAIN] if selection.has_suite(name) and (has_program or options.list or name in PLAIN)]
     if not has_program and not options.list:
         print("there is no program at %s: all suites over it are left out (--program PATH)" % options.program)

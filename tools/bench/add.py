@@ -1,0 +1,68 @@
+#!/usr/bin/env python3
+# SPDX-License-Identifier: MIT
+"""Compares the time of `fcdisc add` of 5,000 files to a hard disc of 167 MB with that of `mcopy -s` of them to a FAT disc of that size.
+
+usage: tools/run bench/add FCDISC FCORE [ROUNDS [FILES]]    in a folder for temporary files, as TMPDIR says; needs mtools
+It is not part of the gate: what it measures depends on the machine. TMPDIR has to lie on a disk. Add may take 1.5 times as long.
+"""
+from __future__ import annotations
+
+import os
+import shutil
+import sys
+import tempfile
+from typing import Any
+
+from tools.bench.extract import seconds
+from tools.images.volumes import NewVolume, record_bytes
+
+ALLOWED = 1.5
+ZONES, ZONE_BITS, BIT_BYTES = 20, 8160, 1024
+SIZE = (ZONES * ZONE_BITS - 480) * BIT_BYTES
+IN_FOLDER = 100  # files
+
+
+def empty_disc() -> Any:
+    volume = NewVolume(record_bytes(10, 15, 10, ZONES, 32, 0x300, SIZE, version=1, root_size=4096), True)
+    volume.root.size = 4096
+    volume.take(2, ZONES // 2, 2 * ZONES)
+    volume.take(2, 0, 16)
+    volume.take(volume.new_identifier(), 0, 16)
+    return volume.image()
+
+
+def write(path: Any, content: bytes) -> None:
+    with open(path, "wb") as file:
+        file.write(content)
+
+
+def main(fcdisc: Any, fcore: str, rounds: int = 3, files: int = 5000) -> bool:
+    with tempfile.TemporaryDirectory() as folder:
+        tree, disc, empty = (os.path.join(folder, name) for name in ("tree", "disc.adf", "empty.adf"))
+        for at in range(files):
+            place = os.path.join(tree, "D%02d" % (at // IN_FOLDER))
+            os.makedirs(place, exist_ok=True)
+            write(os.path.join(place, "F%02d" % (at % IN_FOLDER)), b"%08d" % at * (1 + at % 250))
+        write(empty, empty_disc())
+        adds, copies = [], []
+        for at in range(rounds):
+            fat = os.path.join(folder, "fat%d" % at)
+            shutil.copy(empty, disc)
+            seconds(["mformat", "-C", "-F", "-T", str(SIZE // 512), "-i", fat, "::"])
+            os.sync()
+            adds.append(seconds([fcdisc, "add", disc, tree], env={**os.environ, "FCORE": os.path.abspath(fcore)}))
+            os.sync()
+            copies.append(seconds(["mcopy", "-s", "-i", fat, tree, "::"]))
+            os.remove(disc + "~")
+    for at, what in enumerate(("on the clock", "of the processor")):
+        for name, found in (("add", adds), ("mcopy -s", copies)):
+            print("%-8s %s s %s" % (name, " ".join("%.2f" % one[at] for one in found), what))
+    ratio = min(one[0] for one in adds) / min(one[0] for one in copies)
+    print("add takes %.2f times the time of mcopy -s on the clock; %.1f times are allowed" % (ratio, ALLOWED))
+    return ratio <= ALLOWED
+
+
+if __name__ == "__main__":
+    if len(sys.argv) not in (3, 4, 5):
+        sys.exit(__doc__)
+    sys.exit(0 if main(*sys.argv[1:3], *map(int, sys.argv[3:])) else 1)
