@@ -1,0 +1,91 @@
+"""Directories that nothing leads to: found by their words, wherever they lie."""
+from __future__ import annotations
+
+from typing import Iterator, List, NamedTuple, Optional
+
+from .claims import Claims
+from .directories import Listing, has_words, read_listing, size_told
+from .discs import WORDS, Disc
+from .places import Place
+from .source import Source
+from .walk import Found, Walk
+
+MOST_STRAYS = 20000
+STRAY = "no directory leads to its directory"
+DELETED = "its directory lies in free space: deleted?"
+
+
+class Stray(NamedTuple):
+    """A directory that was found by its words."""
+
+    start: int
+    place: Place
+    listing: Listing
+
+
+def worded_places(source: Source, disc: Disc) -> Iterator[int]:
+    """The places of the disc where a sector begins as a directory does."""
+    at, words = (4, (b"SBPr",)) if disc.directories == "big" else (1, WORDS)
+    gap = source.gap
+    # sectors after a gap begin where those before it do, since a gap is whole sectors
+    assert not gap or gap.size % disc.sector == 0
+    for start, piece in source.pieces(disc.sector, 0):
+        for place in range(0, len(piece), disc.sector):
+            if piece[place + at:place + at + 4] in words:
+                yield source.disc_place(start + place)
+
+
+def strays(walk: Walk) -> List[Stray]:
+    """The directories that the walk didn't find. One that isn't whole counts only if both of its ends have their words."""
+    disc, source, space = walk.disc, walk.source, walk.space
+    found: List[Stray] = []
+    for start in worded_places(source, disc):
+        if start in walk.seen or len(found) >= MOST_STRAYS:
+            continue
+        size = (size_told(source.read(start, 16)) or 0) if disc.directories == "big" else int(disc.directories)
+        if not size or size > walk.room:
+            continue
+        place = space.at(start, size)
+        block = walk.read_bytes(place.extents, size)
+        if has_words(block, disc.directories):
+            walk.room -= size
+            found.append(Stray(start, place, read_listing(block, disc.directories, size, walk.limits)))
+    return found
+
+
+def outermost_first(walk: Walk, found: List[Stray]) -> List[Stray]:
+    """Those that no other of them is the parent of come first."""
+    addresses = {walk.space.address_at(one.start): one for one in found}
+    return sorted(found, key=lambda one: addresses.get(one.listing.parent, one) is not one)
+
+
+def adopt_strays(walk: Walk, claims: Claims, takes_deleted: bool, is_whole: bool, foreign: List[int]) -> int:
+    """Takes the directories that nothing leads to into the tree, and answers how many seem to be deleted.
+
+    If all else is whole, nothing has lost its entry: then they count as deleted too. `foreign` gets the places of those that lie
+    in files.
+    """
+    deleted = 0
+    for one in outermost_first(walk, strays(walk)):
+        if one.start in walk.seen:
+            continue
+        owner = claims.owner(one.start)
+        if owner and not owner.doubts and owner.there:
+            foreign.append(one.start)
+            continue
+        is_deleted = is_whole or claims.is_free(one.start)
+        deleted += is_deleted
+        if not is_deleted:
+            walk.adopt(one.start, one.place, one.listing, stale_by(walk, one, owner), False)
+        elif takes_deleted:
+            walk.adopt(one.start, one.place, one.listing, DELETED, True)
+    return deleted
+
+
+def stale_by(walk: Walk, stray: Stray, owner: Optional[Found]) -> str:
+    """Why what the directory says is doubted. Nothing, if the directory that it names as its parent has lost its entry."""
+    holder = walk.holder_at(stray.listing.parent)
+    address = walk.space.address_at(stray.start)
+    if holder and holder.is_damaged and not owner and not stray.listing.fault and address not in (None, stray.listing.parent):
+        return ""
+    return STRAY

@@ -1,0 +1,286 @@
+"""The space of new maps: each zone from the copy where it is right, and of damaged zones what still spells runs."""
+from __future__ import annotations
+
+from array import array
+from bisect import bisect_left, bisect_right
+from itertools import accumulate
+from typing import Dict, List, NamedTuple, Optional, Sequence, Set, Tuple
+
+from .checks import number, zone_check
+from .discs import BOOT_BLOCK, Disc
+from .places import DAMAGED_MAP, Extent, Place, Space, fresh_runs
+from .records import RECORD, Record
+from .source import Source
+
+HOLE = -1
+KEPT = 500000  # runs that are kept at hand by their identifiers
+Run = Tuple[int, int, int]  # the bit of its sector where it begins, its bits, its field
+
+
+class Zone(NamedTuple):
+    """A zone of the map as it was read."""
+
+    runs: List[Run]
+    holes: Set[int]
+    doubt: str  # empty where the zone is right
+
+
+class Chain(NamedTuple):
+    """The runs of one identifier, in their order: places of the disc, the bytes before and with each, and the zone of each."""
+
+    starts: Sequence[int]
+    ends: Sequence[int]
+    zones: Sequence[int]
+
+
+class ZoneSpace(Space):
+    """A disc with a new map."""
+
+    def __init__(self, disc: Disc, source: Source):
+        super().__init__(disc)
+        record = disc.record
+        assert record
+        self.record = record
+        self.size = record.zones * record.sector
+        self.start = record.map_sector * record.sector
+        self.reserved = [(self.start, 2 * self.size)]
+        if disc.has_boot:
+            sector = BOOT_BLOCK // record.sector * record.sector
+            self.reserved.append((sector, max(record.sector, 512)))
+        # run by run: identifier, first map bit, bits, zone
+        self.identifiers, self.bits, self.lengths, self.zone_of = array("i"), array("q"), array("q"), array("H")
+        self.by_place, self.places = array("q"), array("q")  # the runs in the order of their places, once that is asked for
+        self.doubts: Dict[int, str] = {}  # of zones
+        self.chains: Dict[int, Chain] = {}
+        self.kept = 0
+        self.read_zones(source)
+        self.index()
+
+    # reading
+
+    def read_zones(self, source: Source) -> None:
+        record = self.record
+        last = min(record.zones, self.zones_within(source))
+        totals, rights, owns = [0, 0], [0, 0], []
+        pairs = []
+        for zone in range(last):
+            copies = tuple(source.read(self.start + copy * self.size + zone * record.sector, record.sector) for copy in (0, 1))
+            pairs.append(copies)
+            for copy, sector in enumerate(copies):
+                if len(sector) == record.sector and sector[0] == zone_check(sector):
+                    totals[copy] ^= sector[3]
+                    rights[copy] += 1
+        whole = [rights[copy] == record.zones and totals[copy] == 0xFF for copy in (0, 1)]
+        for zone, copies in enumerate(pairs):
+            first, how = self.chosen(copies, whole)
+            found = self.zone_from(zone, copies, first, how)
+            self.take(zone, found)
+            if zone == 0 and first is not None:
+                owns.append(Record(copies[first][4:4 + RECORD]))
+        self.right_parts = sum(rights)
+        self.is_right = any(whole)
+        for zone in range(last, record.zones):
+            self.doubts[zone] = DAMAGED_MAP
+        self.tell_map(rights, whole, last)
+        self.choose_root(owns)
+
+    def zones_within(self, source: Source) -> int:
+        """The zones that have a sector of the image in them, or the map's beginning."""
+        bits = (source.length + (source.gap.size if source.gap else 0)) // self.record.bit_bytes
+        return (bits + 480) // self.record.zone_size + 1
+
+    def chosen(self, copies: Tuple[bytes, ...], whole: List[bool]) -> Tuple[Optional[int], str]:
+        """Which copy of a zone counts, and what makes it doubtful."""
+        for copy in (0, 1):
+            if whole[copy]:
+                return copy, ""
+        right = [len(one) == self.record.sector and one[0] == zone_check(one) for one in copies]
+        if all(right):
+            return 0, "" if copies[0] == copies[1] else "the copies of the map differ where it lies"
+        return (right.index(True), "") if any(right) else (None, DAMAGED_MAP)
+
+    def zone_from(self, zone: int, copies: Tuple[bytes, ...], chosen: Optional[int], doubt: str) -> Zone:
+        if chosen is not None:
+            return self.spelled(zone, copies[chosen], doubt)
+        readings = [self.spelled(zone, copy.ljust(self.record.sector, b"\0"), doubt) for copy in copies]
+        return max(readings, key=lambda one: len(one.runs))
+
+    def spelled(self, zone: int, sector: bytes, doubt: str) -> Zone:
+        """The runs that the bits spell. Where they don't, it goes on at the next boundary of a sector."""
+        record = self.record
+        bits = bin(int.from_bytes(sector, "little"))[:1:-1].ljust(8 * record.sector, "0")
+        at, end, runs = record.first(zone), min(record.end(zone), 8 * record.sector), []
+        shift = record.base(zone) - at
+        while at < end:
+            one = bits.find("1", at + record.idlen, end) + 1
+            if not one and not runs and "1" not in bits[at:end]:
+                doubt = doubt or DAMAGED_MAP
+                break
+            if not one or (at + shift) % record.step or (one + shift) % record.step:
+                doubt = doubt or DAMAGED_MAP
+                at += record.step - (at + shift) % record.step
+                continue
+            runs.append((at, one - at, int(bits[at:at + record.idlen][::-1], 2)))
+            at = one
+        holes, chained = holes_of(sector, runs)
+        return Zone(runs, holes, doubt if chained else doubt or DAMAGED_MAP)
+
+    def take(self, zone: int, found: Zone) -> None:
+        record = self.record
+        shift = record.base(zone) - record.first(zone)
+        for at, length, field in found.runs:
+            self.identifiers.append(HOLE if at in found.holes else field)
+            self.bits.append(at + shift)
+            self.lengths.append(length)
+            self.zone_of.append(zone)
+        if found.doubt:
+            self.doubts[zone] = found.doubt
+
+    def tell_map(self, rights: List[int], whole: List[bool], last: int) -> None:
+        if not all(whole):
+            texts = ["%d of %d zones" % (right, self.record.zones) for right in rights]
+            self.remarks.append("the map's copies: %s are right in the first, %s in the second" % tuple(texts))
+        self.is_right = self.is_right and not self.doubts
+        for zone, doubt in sorted(self.doubts.items())[:20]:
+            self.remarks.append("zone %d of the map: %s" % (zone, doubt))
+
+    def choose_root(self, owns: List[Record]) -> None:
+        """The root as the map has it; else as the boot block, or the description that was found, does."""
+        record = self.record
+        for own in owns:
+            if not own.has_shape_of(record):
+                self.is_right = False
+                self.remarks.append("the map and the boot block describe different discs")
+            if own.root_fault() is None:
+                record = own
+            else:
+                self.is_right = False
+                self.remarks.append("the map's address of the root can't be")
+        self.root, self.root_size = record.root, record.root_size if self.record.version else 2048
+
+    def index(self) -> None:
+        """Puts the runs into the order of their identifiers."""
+        record = self.record
+        known = set(self.identifiers)
+        for identifier, bit, length in fresh_runs(self.disc):
+            if identifier not in known:
+                self.identifiers.append(identifier)
+                self.bits.append(bit)
+                self.lengths.append(length)
+                self.zone_of.append(0 if bit < record.base(1) or record.zones == 1 else record.zones // 2)
+        key = self.identifiers.__getitem__
+        self.order = array("q", sorted(range(len(self.identifiers)), key=key))
+        self.sorted = array("i", (key(at) for at in self.order))
+        for at in self.order[:bisect_right(self.sorted, HOLE)]:
+            self.holes.append(self.extent(self.bits[at], self.lengths[at]))
+
+    def extent(self, bit: int, bits: int) -> Extent:
+        return bit * self.record.bit_bytes, bits * self.record.bit_bytes
+
+    # answers
+
+    def chain(self, identifier: int) -> Chain:
+        found = self.chains.get(identifier)
+        if found is None:
+            found = self.new_chain(identifier)
+            self.kept += len(found.starts)
+            if self.kept > KEPT:
+                self.chains.clear()
+                self.kept = len(found.starts)
+            self.chains[identifier] = found
+        return found
+
+    def new_chain(self, identifier: int) -> Chain:
+        record = self.record
+        inside = self.order[bisect_left(self.sorted, identifier):bisect_right(self.sorted, identifier)]
+        home = record.home(identifier)
+        turned = sorted(inside, key=lambda at: ((self.zone_of[at] - home) % record.zones, self.bits[at]))
+        ends = accumulate(self.lengths[at] * record.bit_bytes for at in turned)
+        starts = [self.bits[at] * record.bit_bytes for at in turned]
+        return Chain(starts, list(ends), [self.zone_of[at] for at in turned])
+
+    def place(self, address: int, length: int) -> Place:
+        identifier, low = divmod(address, 256)
+        if not 2 <= identifier < self.record.id_bound:
+            return Place([], length)
+        skipped = (low - 1) * self.record.share if low else 0
+        return self.along(identifier, skipped, length)
+
+    def can_be(self, address: int, length: int) -> bool:
+        identifier, low = divmod(address, 256)
+        if not 2 <= identifier < self.record.id_bound:
+            return False
+        ends = self.chain(identifier).ends
+        return bool(ends) and ends[-1] - ((low - 1) * self.record.share if low else 0) >= length
+
+    def along(self, identifier: int, skipped: int, length: int) -> Place:
+        """An object that begins so many bytes after the beginning of an identifier's space."""
+        chain = self.chain(identifier)
+        extents: List[Extent] = []
+        left = self.sectors(length) * self.record.sector
+        at = first = bisect_right(chain.ends, skipped)
+        while left > 0 and at < len(chain.starts):
+            before = chain.ends[at - 1] if at else 0
+            inner = max(0, skipped - before)
+            count = min(left, chain.ends[at] - before - inner)
+            extents.append((chain.starts[at] + inner, count))
+            left -= count
+            at += 1
+        missing = max(0, min(length, left))
+        return Place(extents, missing, self.doubts_of(identifier, chain.zones[:at] if at > first else (), missing))
+
+    def doubts_of(self, identifier: int, zones: Sequence[int], missing: int) -> Tuple[str, ...]:
+        """Damaged zones from the identifier's home to its last run there: they may hide runs of it, or show wrong ones."""
+        if not self.doubts:
+            return ()
+        home, count = self.record.home(identifier), self.record.zones
+        last = (zones[-1] - home) % count if zones and not missing else count - 1
+        return tuple(sorted({doubt for zone, doubt in self.doubts.items() if (zone - home) % count <= last}))
+
+    def address_at(self, place: int) -> Optional[int]:
+        found = self.run_at(place)
+        if found is None:
+            return None
+        identifier, skipped = found
+        if not skipped:
+            return identifier * 256 if identifier != 2 else None
+        low = skipped // self.record.share + 1
+        return None if skipped % self.record.share or low > 255 else identifier * 256 + low
+
+    def run_at(self, place: int) -> Optional[Tuple[int, int]]:
+        """The identifier that has a place, and how far from its beginning that is."""
+        if not self.by_place:
+            self.by_place = array("q", sorted(range(len(self.bits)), key=self.bits.__getitem__))
+            self.places = array("q", (self.bits[at] for at in self.by_place))
+        bit = place // self.record.bit_bytes
+        rank = bisect_right(self.places, bit) - 1
+        if rank < 0:
+            return None
+        at = self.by_place[rank]
+        identifier = self.identifiers[at]
+        if identifier < 2 or bit >= self.bits[at] + self.lengths[at]:
+            return None
+        chain = self.chain(identifier)
+        which = chain.starts.index(self.bits[at] * self.record.bit_bytes)
+        before = chain.ends[which - 1] if which else 0
+        return identifier, before + place - chain.starts[which]
+
+    def at(self, place: int, length: int) -> Place:
+        found = self.run_at(place)
+        if found is None:  # in free space, or where no run is: as if it lay in one piece
+            taken = max(0, min(length, self.disc.size - place))
+            return Place([(place, self.sectors(taken) * self.record.sector)], length - taken)
+        return self.along(*found, length)
+
+
+def holes_of(sector: bytes, runs: List[Run]) -> Tuple[Set[int], bool]:
+    """The runs that are holes, and whether the chain leads from run to run. If it doesn't, none counts as a hole."""
+    fields = {at: field for at, length, field in runs}
+    place, distance, holes = 8, number(sector, 1, 2) & 0x7FFF, set()
+    while distance:
+        place += distance
+        if place not in fields:
+            return set(), False
+        holes.add(place)
+        distance = fields[place] & 0x7FFF
+    return holes, True
