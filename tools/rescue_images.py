@@ -6,12 +6,11 @@ import hashlib
 import random
 
 from filecore import UNIT
-from volumes import FRESH, Directory, OldVolume
+from volumes import FRESH, OldVolume
 
 FORMATS = ("E", "F", "D", "L", "E+", "F+")
 TRACKS = {"E": 5120, "F": 10240, "D": 5120, "L": 4096}
-FOLDERS = (b"Docs", b"Games", b"Art", b"Music")
-INNER = ((b"Docs", b"Old"), (b"Games", b"Data"))
+FOLDERS = ((b"$", b"Docs"), (b"$", b"Games"), (b"Docs", b"Old"), (b"$", b"Art"), (b"Games", b"Data"), (b"$", b"Music"))
 FILES = 40
 ROOM = {"E": 620000, "F": 1250000, "D": 640000, "L": 500000}
 
@@ -64,18 +63,17 @@ def floppy(form, seed=1):
     if isinstance(volume, OldVolume):
         volume.holes.clear()
         volume.next = volume.map_units + volume.units_of(2048 if form == "D" else 1280)
-    holders = [volume.root]
-    for name in FOLDERS:
-        holders.append(volume.root.insert(volume.directory(volume.root, name)))
-    for outer, name in INNER:
-        holder = next(one for one in holders if one.name == outer)
-        holders.append(holder.insert(volume.directory(holder, name)))
     sizes = lengths(form, source)
     source.shuffle(sizes)
+    holders = [volume.root]
     for at, size in enumerate(sizes):
-        holder = holders[at % len(holders)]
-        holder.insert(place_file(volume, b"%s%02d%d" % (source.choice((b"File", b"!Run", b"Notes", b"Pic")), at, seed),
-                                 content(size, seed * 100 + at), source))
+        if at % 5 == 2 and len(holders) < 7:  # directories lie among the files, as they were made
+            outer, name = FOLDERS[len(holders) - 1]
+            outer = next(one for one in holders if one.name == outer)
+            holders.append(outer.insert(volume.directory(outer, name)))
+            holders[-1].holder = outer
+        name = b"%s%02d%d" % (source.choice((b"File", b"!Run", b"Notes", b"Pic")), at, seed)
+        source.choice(holders).insert(place_file(volume, name, content(size, seed * 100 + at), source))
     if isinstance(volume, OldVolume):
         volume.rest_is_hole()
     return volume
@@ -133,7 +131,8 @@ def whole_tracks(form, image, source):
         fill = source.choice((b"\0", b"\xe5", b"\x6c"))
         yield "track of one byte", changed(image, start, fill * size)
         yield "track left out", image[:start] + image[start + size:]
-        other = track + source.choice((1, 2)) if track < count - 2 else track - 1
+        other = track + source.choice((1, 80) if form == "L" and track < 80 else (1,) if form == "L" else (1, 2))
+        other = other if other < count else track - 1
         yield "wrong track read", changed(image, start, image[other * size:(other + 1) * size])
 
 
@@ -215,6 +214,3 @@ def reformatted(volume, form, fresh):
     for _, start, length in places_of(new):
         made[start:start + length] = data[start:start + length]
     return bytes(made)
-
-
-__all__ = ["Directory"]

@@ -22,11 +22,12 @@ class Marks:
     def __init__(self, disc: Disc, source: Source):
         self.disc = disc
         self.plain: List[Tuple[int, int]] = []  # tracks of one pattern: from, to
+        self.alone: List[Tuple[int, int]] = []  # those of them beside which other bytes lie
         self.twice: List[Tuple[int, int]] = []
         self.repeats = array("q")
         if disc.track:
             self.look(source)
-        self.starts = {id(marked): [start for start, _ in marked] for marked in (self.plain, self.twice)}
+        self.starts = {id(marked): [start for start, _ in marked] for marked in (self.plain, self.alone, self.twice)}
 
     def look(self, source: Source) -> None:
         sector, track = self.disc.sector, self.disc.track
@@ -50,22 +51,45 @@ class Marks:
             if len(recent) > 4096:
                 recent.clear()
         self.twice.sort()
+        for start, end in joined(self.plain):
+            block = source.read(start, sector)
+            if source.read(start - sector, sector) != block and source.read(end, sector) != block:
+                self.alone.append((start, end))
 
-    def judge(self, found: Found, spares_plain: bool) -> None:
-        """Doubts a file by its sectors. `spares_plain`: not for a track of one pattern."""
+    def judge(self, found: Found, is_natural: bool) -> None:
+        """Doubts a file by its sectors. `is_natural`: it may have the same bytes throughout, where no track begins or ends so."""
         for extent in found.place.extents:
-            if not spares_plain and self.meets(self.plain, extent):
+            if self.meets(self.alone if is_natural else self.plain, extent):
                 found.doubt(ONE_PATTERN)
             if self.meets(self.twice, extent):
                 found.doubt(TWO_TRACKS)
-            start, length = extent
-            if bisect_right(self.repeats, start) < bisect_left(self.repeats, start + length):
+            if self.repeats_in(found, extent):
                 found.doubt(REPEATED)
+
+    def repeats_in(self, found: Found, extent: Extent) -> bool:
+        """Whether a sector of the file is as the one before. The first one counts too, unless the file is a small one: that can be
+        a copy of the one beside it."""
+        start, length = extent
+        first = bisect_right(self.repeats, start) if found.item.length <= self.disc.sector else bisect_left(self.repeats, start)
+        return first < bisect_left(self.repeats, start + length)
 
     def meets(self, marked: List[Tuple[int, int]], extent: Extent) -> bool:
         start, length = extent
         at = bisect_left(self.starts[id(marked)], start + length) - 1
         return at >= 0 and marked[at][1] > start
+
+
+def joined(ranges: List[Tuple[int, int]]) -> Iterator[Tuple[int, int]]:
+    """Ranges that touch each other as one."""
+    begin = end = 0
+    for start, after in ranges:
+        if start != end:
+            if end:
+                yield begin, end
+            begin = start
+        end = after
+    if end:
+        yield begin, end
 
 
 def tracks(source: Source, disc: Disc) -> Iterator[Tuple[int, bytes]]:

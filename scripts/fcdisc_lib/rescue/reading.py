@@ -8,7 +8,8 @@ from ..images import L_SIZE, has_l_size, is_named_adl, size_of
 from ..images import HEADER as HEADER_SIZE
 from ..messages import Trouble, shown
 from .claims import Claims
-from .discs import FOUND, Disc, discs_by_trust, wanted_discs
+from .directories import NO_WORDS
+from .discs import FOUND, SURE, Disc, discs_by_trust, wanted_discs
 from .gaps import UNSURE, place_gap
 from .marks import Marks
 from .source import Source, file_source, headless_source, turned_source
@@ -18,7 +19,7 @@ from .walk import Found, Walk
 
 NO_DISC = "nothing of a FileCore disc is found in it"
 FLOPPY = 1 << 21  # bytes; a file on a larger disc may well be the image of a disc
-MIXED = "beside it lies a directory of another disc: two discs may be mixed"
+MIXED = "near to it lies what isn't of this disc: two discs may be mixed, or a wrong track was read"
 
 
 class Options(NamedTuple):
@@ -50,7 +51,7 @@ class Reading:
 
     def find_whole(self) -> bool:
         """Whether nothing at all is damaged, missing or out of place."""
-        return (self.space.is_right and self.source.length >= self.disc.size and not any(map(is_wrong, self.walk.directories))
+        return (self.disc.trust == SURE and self.space.is_right and self.source.length >= self.disc.size and not any(map(is_wrong, self.walk.directories))
                 and all(one.grade == "sound" for one in self.walk.files))
 
     @property
@@ -69,8 +70,7 @@ class Reading:
         marks = Marks(self.disc, self.source)
         for found in self.files:
             if found.there:
-                spares = bool(marks.plain) and self.is_whole and is_plain(self.source, found)
-                marks.judge(found, spares)
+                marks.judge(found, bool(marks.plain) and self.is_whole and is_plain(self.source, found))
 
     def doubt_shifted(self) -> None:
         first, end = self.unsure
@@ -79,17 +79,23 @@ class Reading:
                 found.doubt(UNSURE)
 
     def doubt_mixed(self) -> None:
-        """On a floppy, directories inside of files are those of another disc. What lies nearest to one is doubtful."""
-        if not self.foreign or self.disc.size > FLOPPY:
-            return
-        signs = {place: False for place in self.foreign}
+        """Doubts what lies nearest to signs of another disc: a right directory inside of a file, other bytes where one should be."""
+        signs = {place: False for place in self.foreign if self.disc.size <= FLOPPY}
         for one in self.walk.directories:
-            for start, _ in one.place.extents[:1]:
-                signs[start] = not one.is_damaged
+            if one.listing.fault == NO_WORDS and one.is_sure and self.has_other_bytes(one):
+                signs[one.place.extents[0][0]] = False
+        if not signs:
+            return
+        signs.update({one.place.extents[0][0]: True for one in self.walk.directories if not one.is_damaged and one.place.extents})
         places = sorted(signs)
         for found in self.files:
             if found.grade == "sound" and any(not signs[place] for extent in found.place.extents for place in near(places, extent)):
                 found.doubt(MIXED)
+
+    def has_other_bytes(self, directory: Found) -> bool:
+        """Whether something was read where the directory lies, not the same byte throughout."""
+        block = self.walk.read_bytes(directory.place.extents, self.disc.sector)
+        return block.count(block[:1]) != len(block)
 
 
 def near(places: List[int], extent: Tuple[int, int]) -> List[int]:

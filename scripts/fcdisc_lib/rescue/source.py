@@ -38,7 +38,7 @@ class Source:
         return max(0, min(length, self.length + shift - at))
 
     def read(self, at: int, length: int) -> bytes:
-        count = self.there(at, length)
+        count = self.there(at, length) if at >= 0 else 0
         if not count:
             return b""
         return self.fetch(at - self.gap.size if self.gap and at >= self.gap.place else at, count)
