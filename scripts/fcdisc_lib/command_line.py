@@ -13,6 +13,7 @@ from .images import ORDERS
 from .messages import FAILED, Trouble, clear_progress, reason, shown, tell
 from .output import remove_unfinished
 from .program import BadImage
+from .rescue.words import add_rescuing
 
 DESCRIPTION = "Daily jobs with images of Acorn discs (RISC OS, ADFS), by the program fcore."
 EPILOG = "Status: 0 all went well, 1 something failed or was refused, 2 wrong arguments. See fcdisc(1)."
@@ -25,6 +26,7 @@ def parser() -> argparse.ArgumentParser:
     add_reading(added)
     add_making(added)
     add_changing(added)
+    add_rescuing(added, add_job, add_order)
     return made
 
 

@@ -165,11 +165,16 @@ def check_one(program: str, path: str, order: str) -> bool:
     try:
         image, counts = open_image(program, path, order, b"check\n", Run.check)
     except BadImage as fault:
-        say(not_accepted(path, fault))
+        say(not_accepted(path, fault) + rescue_advice(path, order))
         return False
     image.file.close()
     say("%s: %s" % (shown(path), found(counts)))
     return True
+
+
+def rescue_advice(path: str, order: str) -> str:
+    from .rescue.job import advice  # it needs this module
+    return advice(path, order)
 
 
 def found(counts: Dict[str, int]) -> str:
