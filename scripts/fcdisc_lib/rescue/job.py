@@ -5,11 +5,11 @@ import os
 from argparse import Namespace
 from typing import Optional
 
-from ..images import open_file
-from ..jobs import files_in
+from ..images import open_file, open_image
+from ..jobs import files_in, not_accepted
 from ..messages import FAILED, WRONG_WORDS, Trouble, reason, say, shown, tell
 from ..output import Folder
-from ..program import BadImage, Run, find_program
+from ..program import BadImage, find_program
 from .fresh import put_onto_fresh
 from .reading import Options, Reading, read_image
 from .report import counts, lines, summary
@@ -40,17 +40,15 @@ def rescue(words: Namespace) -> int:
 
 
 def status_of(reading: Reading) -> int:
-    return 0 if reading.files and counts(reading)["sound"] == len(reading.files) or reading.is_whole else FAILED
+    """Whether all that was found is sound, and anything was."""
+    return 0 if counts(reading)["sound"] == len(reading.files) and (reading.files or reading.is_whole) else FAILED
 
 
 def tell_fault(words: Namespace) -> None:
     """What fcore has against the image, if there is an fcore here."""
-    from ..jobs import not_accepted
     try:
-        with open_file(words.image) as file:
-            place = "/dev/fd/%d" % file.fileno()
-            with Run(find_program(), words.image, ["--read-only", "--", place], b"", [file.fileno()]):
-                pass
+        image, _ = open_image(find_program(), words.image, words.order, b"", lambda run: None)
+        image.file.close()
     except BadImage as fault:
         tell(not_accepted(words.image, fault).partition(". What to do:")[0])
     except Trouble:

@@ -25,6 +25,14 @@ class Zone(NamedTuple):
     doubt: str  # empty where the zone is right
 
 
+class Copy(NamedTuple):
+    """A zone as one copy of the map has it."""
+
+    sector: bytes
+    zone: Zone
+    is_right: bool
+
+
 class Chain(NamedTuple):
     """The runs of one identifier, in their order: places of the disc, the bytes before and with each, and the zone of each."""
 
@@ -61,71 +69,77 @@ class ZoneSpace(Space):
     def read_zones(self, source: Source) -> None:
         record = self.record
         last = min(record.zones, self.zones_within(source))
-        totals, rights, owns = [0, 0], [0, 0], []
-        pairs = []
+        totals, rights = [0, 0], [0, 0]
+        pairs: List[List[Copy]] = []
         for zone in range(last):
-            copies = tuple(source.read(self.start + copy * self.size + zone * record.sector, record.sector) for copy in (0, 1))
-            pairs.append(copies)
-            for copy, sector in enumerate(copies):
-                if len(sector) == record.sector and sector[0] == zone_check(sector):
-                    totals[copy] ^= sector[3]
+            pairs.append(self.copies(source, zone))
+            for copy in (0, 1):
+                if pairs[-1][copy].is_right:
+                    totals[copy] ^= pairs[-1][copy].sector[3]
                     rights[copy] += 1
         whole = [rights[copy] == record.zones and totals[copy] == 0xFF for copy in (0, 1)]
-        for zone, copies in enumerate(pairs):
-            first, how = self.chosen(copies, whole)
-            found = self.zone_from(zone, copies, first, how)
-            self.take(zone, found)
-            if zone == 0 and first is not None:
-                owns.append(Record(copies[first][4:4 + RECORD]))
+        owns = []
+        for zone, pair in enumerate(pairs):
+            chosen, doubt = self.chosen(pair, whole)
+            self.take(zone, chosen.zone, doubt or chosen.zone.doubt)
+            if zone == 0 and has_check(chosen.sector, record.sector):
+                owns.append(Record(chosen.sector[4:4 + RECORD]))
         self.right_parts = sum(rights)
         self.is_right = any(whole)
         for zone in range(last, record.zones):
             self.doubts[zone] = DAMAGED_MAP
-        self.tell_map(rights, whole, last)
+        self.tell_map(rights, whole)
         self.choose_root(owns)
+
+    def copies(self, source: Source, zone: int) -> List[Copy]:
+        """Both copies of a zone, as they are and as they spell runs."""
+        size, found = self.record.sector, []
+        for copy in (0, 1):
+            sector = source.read(self.start + copy * self.size + zone * size, size)
+            if found and sector == found[0].sector:
+                return found * 2
+            spelled = self.spelled(zone, sector.ljust(size, b"\0"))
+            found.append(Copy(sector, spelled, has_check(sector, size) and not spelled.doubt))
+        return found
 
     def zones_within(self, source: Source) -> int:
         """The zones that have a sector of the image in them, or the map's beginning."""
         bits = (source.length + (source.gap.size if source.gap else 0)) // self.record.bit_bytes
         return (bits + 480) // self.record.zone_size + 1
 
-    def chosen(self, copies: Tuple[bytes, ...], whole: List[bool]) -> Tuple[Optional[int], str]:
+    def chosen(self, pair: List[Copy], whole: List[bool]) -> Tuple[Copy, str]:
         """Which copy of a zone counts, and what makes it doubtful."""
         for copy in (0, 1):
             if whole[copy]:
-                return copy, ""
-        right = [len(one) == self.record.sector and one[0] == zone_check(one) for one in copies]
-        if all(right):
-            return 0, "" if copies[0] == copies[1] else "the copies of the map differ where it lies"
-        return (right.index(True), "") if any(right) else (None, DAMAGED_MAP)
+                return pair[copy], ""
+        right = [copy for copy in pair if copy.is_right]
+        if len(right) == 2 and right[0].sector != right[1].sector:
+            return right[0], "the copies of the map differ where it lies"
+        if right:
+            return right[0], ""
+        checked = [copy for copy in pair if has_check(copy.sector, self.record.sector)]
+        return max(checked or pair, key=lambda copy: len(copy.zone.runs)), DAMAGED_MAP
 
-    def zone_from(self, zone: int, copies: Tuple[bytes, ...], chosen: Optional[int], doubt: str) -> Zone:
-        if chosen is not None:
-            return self.spelled(zone, copies[chosen], doubt)
-        readings = [self.spelled(zone, copy.ljust(self.record.sector, b"\0"), doubt) for copy in copies]
-        return max(readings, key=lambda one: len(one.runs))
-
-    def spelled(self, zone: int, sector: bytes, doubt: str) -> Zone:
+    def spelled(self, zone: int, sector: bytes) -> Zone:
         """The runs that the bits spell. Where they don't, it goes on at the next boundary of a sector."""
-        record = self.record
+        record, doubt = self.record, ""
         bits = bin(int.from_bytes(sector, "little"))[:1:-1].ljust(8 * record.sector, "0")
         at, end, runs = record.first(zone), min(record.end(zone), 8 * record.sector), []
         shift = record.base(zone) - at
         while at < end:
             one = bits.find("1", at + record.idlen, end) + 1
-            if not one and not runs and "1" not in bits[at:end]:
-                doubt = doubt or DAMAGED_MAP
-                break
             if not one or (at + shift) % record.step or (one + shift) % record.step:
-                doubt = doubt or DAMAGED_MAP
+                doubt = DAMAGED_MAP
+                if "1" not in bits[at:end]:
+                    break
                 at += record.step - (at + shift) % record.step
                 continue
             runs.append((at, one - at, int(bits[at:at + record.idlen][::-1], 2)))
             at = one
         holes, chained = holes_of(sector, runs)
-        return Zone(runs, holes, doubt if chained else doubt or DAMAGED_MAP)
+        return Zone(runs, holes, doubt if chained else DAMAGED_MAP)
 
-    def take(self, zone: int, found: Zone) -> None:
+    def take(self, zone: int, found: Zone, doubt: str) -> None:
         record = self.record
         shift = record.base(zone) - record.first(zone)
         for at, length, field in found.runs:
@@ -133,10 +147,10 @@ class ZoneSpace(Space):
             self.bits.append(at + shift)
             self.lengths.append(length)
             self.zone_of.append(zone)
-        if found.doubt:
-            self.doubts[zone] = found.doubt
+        if doubt:
+            self.doubts[zone] = doubt
 
-    def tell_map(self, rights: List[int], whole: List[bool], last: int) -> None:
+    def tell_map(self, rights: List[int], whole: List[bool]) -> None:
         if not all(whole):
             texts = ["%d of %d zones" % (right, self.record.zones) for right in rights]
             self.remarks.append("the map's copies: %s are right in the first, %s in the second" % tuple(texts))
@@ -271,6 +285,11 @@ class ZoneSpace(Space):
             taken = max(0, min(length, self.disc.size - place))
             return Place([(place, self.sectors(taken) * self.record.sector)], length - taken)
         return self.along(*found, length)
+
+
+def has_check(sector: bytes, size: int) -> bool:
+    """Whether a zone has its check. Zeros would have theirs, but no zone is like that."""
+    return len(sector) == size and any(sector) and sector[0] == zone_check(sector)
 
 
 def holes_of(sector: bytes, runs: List[Run]) -> Tuple[Set[int], bool]:
