@@ -10,7 +10,7 @@ from .source import Source
 from .walk import NOWHERE, Found
 
 RESERVED, FREE = b"\1", b"\2"
-MOST_EXTENTS = 1000000  # that are kept in memory; a disc that isn't made to do harm has fewer
+MOST_EXTENTS = 300000  # that are kept in memory; a disc that isn't made to do harm has fewer
 MOST_DISCS = 8  # as much as so many discs is written; entries of a damaged directory can all name the whole disc
 LEFT_OUT = "left out, since more than %d times the disc's size would be written: --all" % MOST_DISCS
 
@@ -28,10 +28,14 @@ class Claims:
         self.objects: List[Found] = []
         self.extents = 0
         self.left = None if takes_all else MOST_DISCS * length
-        for extents, kind in ((space.holes, FREE), (space.reserved, RESERVED)):
-            for start, size in extents:
-                first, end = self.range(start, size)
-                self.state[first:end] = kind * (end - first)
+        for start, size in space.holes:
+            first, end = self.range(start, size)
+            self.state[first:end] = FREE * (end - first)
+        for start, size in space.reserved:
+            first, end = self.range(start, size)
+            if FREE in self.state[first:end]:
+                space.remarks.append("its map or boot block counts as free space: write nothing to this disc")
+            self.state[first:end] = RESERVED * (end - first)
 
     def range(self, start: int, length: int) -> Tuple[int, int]:
         first = min(start // self.sector, self.count)

@@ -7,6 +7,7 @@ from typing import Optional
 
 from ..images import open_file, open_image
 from ..jobs import files_in, not_accepted
+from ..listing import counted
 from ..messages import FAILED, WRONG_WORDS, Trouble, reason, say, shown, tell
 from ..output import Folder
 from ..program import BadImage, find_program
@@ -120,5 +121,5 @@ def promise(reading: Reading) -> Optional[str]:
     if not reading.files:
         return None
     out = found["sound"] + found["suspect"]
-    doubtful = " (%d of them doubtful)" % found["suspect"] if found["suspect"] else ""
-    return "%d of %d files can be taken out%s: fcdisc rescue" % (out, len(reading.files), doubtful)
+    doubtful = ", %d of them doubtful" % found["suspect"] if found["suspect"] else ""
+    return "fcdisc rescue can take out %d of %s%s" % (out, counted(len(reading.files), "file"), doubtful)

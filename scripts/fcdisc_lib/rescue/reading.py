@@ -180,9 +180,14 @@ def readings_of(source: Source, options: Options, how: str) -> Iterator[Reading]
         for disc in wanted_discs(source, options.form):
             yield Reading(disc, source, options, how)
         return
+    tried = set()
     for discs in discs_by_trust(source):
         has_root = False
         for disc in discs:
+            shape = disc.form, disc.size, disc.record.raw if disc.record else b""
+            if shape in tried:
+                continue
+            tried.add(shape)
             reading = Reading(disc, source, options, how)
             has_root = has_root or not reading.walk.root.listing.is_lost
             yield reading

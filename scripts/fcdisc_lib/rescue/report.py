@@ -66,7 +66,7 @@ def lines(reading: Reading) -> Iterator[str]:
     yield ""
     yield from ("disc: " + text for text in remarks(reading))
     for found in in_order(reading.walk.directories):
-        reasons = [*found.doubts, *([found.listing.fault] if found.listing.fault else [])]
+        reasons = reasons_of_directory(found)
         if reasons:
             state = "lost, " if found.listing.is_lost else ""
             yield "directory %s: %s%s" % (spelled_path(found.path), state, "; ".join(reasons))
@@ -74,6 +74,14 @@ def lines(reading: Reading) -> Iterator[str]:
         yield file_line(found)
     yield ""
     yield from MEANING
+
+
+def reasons_of_directory(found: Found) -> List[str]:
+    reasons = [*found.doubts, *([found.listing.fault] if found.listing.fault else [])]
+    holder = found.holder or found
+    if not found.listing.is_lost and not found.listing.fault and found.listing.parent != holder.item.address:
+        reasons.append("it names another directory as its parent")
+    return reasons
 
 
 def file_line(found: Found) -> str:
@@ -95,7 +103,7 @@ def tree(reading: Reading, image: str) -> Dict[str, Any]:
         "image": image, "format": reading.disc.form, "size": reading.disc.size, "summary": summary(reading),
         "counts": counts(reading), "remarks": remarks(reading),
         "directories": [{
-            "path": spelled_path(one.path), "lost": one.listing.is_lost, "fault": one.listing.fault, "reasons": one.doubts,
+            "path": spelled_path(one.path), "lost": one.listing.is_lost, "reasons": reasons_of_directory(one),
         } for one in in_order(reading.walk.directories)],
         "files": [{
             "path": spelled_path(one.path), "grade": one.grade, "length": one.item.length, "bytes": one.there, "load": one.item.load,

@@ -2,7 +2,7 @@
 from __future__ import annotations
 
 from collections import deque
-from typing import Deque, Dict, List, Optional, Set, Tuple
+from typing import Deque, Dict, List, Optional, Tuple
 
 from ..names import folded
 from ..program import Path
@@ -12,7 +12,7 @@ from .discs import Disc
 from .places import Extent, Place, Space
 from .source import Source
 
-MOST_OBJECTS = 250000
+MOST_OBJECTS = 100000
 DIRECTORY_SPACE = 4  # directories are read as long as they have no more bytes than so many discs
 DAMAGED_HOLDER = "its directory is damaged"
 NOWHERE = "nothing says where it lies"
@@ -21,8 +21,14 @@ TWICE = "it was found before, at another place in the tree"
 OTHER = "another directory lies where it should be"
 
 
+NO_PLACE = Place([], 0)
+NO_LISTING = Listing([], "", 0, b"")
+
+
 class Found:
     """An object, as its directory tells of it, and what is known of its bytes."""
+
+    __slots__ = ("path", "item", "holder", "doubts", "is_sure", "stale", "is_deleted", "place", "there", "is_left_out", "listing")
 
     def __init__(self, path: Path, item: Item, holder: Optional[Found], doubts: Tuple[str, ...] = ()):
         self.path, self.item, self.holder = path, item, holder
@@ -30,10 +36,10 @@ class Found:
         self.is_sure = not self.doubts  # whether what tells of it is right
         self.stale = ""  # why whatever is in this directory is doubted
         self.is_deleted = False
-        self.place = Place([], item.length)
+        self.place = NO_PLACE
         self.there = 0  # bytes of it that can be read, before the first that can't
         self.is_left_out = False
-        self.listing = Listing([], "", 0, b"")
+        self.listing = NO_LISTING
 
     @property
     def is_directory(self) -> bool:
@@ -66,11 +72,10 @@ class Walk:
         self.directories: List[Found] = []
         self.seen: Dict[int, Found] = {}  # directories by the place of their first byte
         self.by_address: Dict[int, Found] = {}
-        self.taken: Dict[Path, Set[bytes]] = {}  # names in a directory, as they are compared
+        self.taken: Dict[Path, Dict[bytes, int]] = {}  # names in a directory, as they are compared; how often each came up
         self.too_many = self.too_deep = False
         self.room = DIRECTORY_SPACE * max(min(source.length, disc.size), 4096)
-        longest = disc.size
-        self.limits = Limits(longest, space.can_be)
+        self.limits = Limits(disc.size, space.can_be)
         self.sure: Deque[Found] = deque()
         self.doubtful: Deque[Found] = deque()
 
@@ -168,12 +173,12 @@ class Walk:
 
     def free_name(self, holder: Path, name: bytes) -> bytes:
         """The name, or another where something in the directory has it."""
-        names = self.taken.setdefault(holder, set())
-        chosen, count = name, 1
+        names = self.taken.setdefault(holder, {})
+        chosen, key = name, folded(name)
         while folded(chosen) in names:
-            count += 1
-            chosen = name + b"~%d" % count
-        names.add(folded(chosen))
+            names[key] += 1
+            chosen = name + b"~%d" % names[key]
+        names[folded(chosen)] = 1
         return chosen
 
     def read_bytes(self, extents: List[Extent], length: int) -> bytes:

@@ -39,6 +39,13 @@ class Chain(NamedTuple):
     starts: Sequence[int]
     ends: Sequence[int]
     zones: Sequence[int]
+    turn: int  # the number of the first run before home
+
+    def find(self, start: int) -> int:
+        """The number of the run that begins there. The places rise up to the turn, and again after it."""
+        if self.turn == len(self.starts) or start >= self.starts[0]:
+            return bisect_left(self.starts, start, 0, self.turn)
+        return bisect_left(self.starts, start, self.turn)
 
 
 class ZoneSpace(Space):
@@ -211,11 +218,12 @@ class ZoneSpace(Space):
         turned = sorted(inside, key=lambda at: ((self.zone_of[at] - home) % record.zones, self.bits[at]))
         ends = accumulate(self.lengths[at] * record.bit_bytes for at in turned)
         starts = [self.bits[at] * record.bit_bytes for at in turned]
-        return Chain(starts, list(ends), [self.zone_of[at] for at in turned])
+        turn = next((at for at, one in enumerate(turned) if self.zone_of[one] < home), len(turned))
+        return Chain(array("q", starts), array("q", ends), array("H", (self.zone_of[at] for at in turned)), turn)
 
     def place(self, address: int, length: int) -> Place:
         identifier, low = divmod(address, 256)
-        if not 2 <= identifier < self.record.id_bound:
+        if identifier < 2:
             return Place([], length)
         skipped = (low - 1) * self.record.share if low else 0
         return self.along(identifier, skipped, length)
@@ -245,6 +253,8 @@ class ZoneSpace(Space):
 
     def doubts_of(self, identifier: int, zones: Sequence[int], missing: int) -> Tuple[str, ...]:
         """Damaged zones from the identifier's home to its last run there: they may hide runs of it, or show wrong ones."""
+        if identifier >= self.record.id_bound:
+            return ("its address can't be that of an object",)
         if not self.doubts:
             return ()
         home, count = self.record.home(identifier), self.record.zones
@@ -275,7 +285,7 @@ class ZoneSpace(Space):
         if identifier < 2 or bit >= self.bits[at] + self.lengths[at]:
             return None
         chain = self.chain(identifier)
-        which = chain.starts.index(self.bits[at] * self.record.bit_bytes)
+        which = chain.find(self.bits[at] * self.record.bit_bytes)
         before = chain.ends[which - 1] if which else 0
         return identifier, before + place - chain.starts[which]
 
