@@ -21,6 +21,8 @@ install:
 	install -D scripts/fcdisc $(INSTALLED)/bin/fcdisc
 	install -d $(INSTALLED)/lib/fcore/fcdisc_lib
 	install -m 644 scripts/fcdisc_lib/*.py $(INSTALLED)/lib/fcore/fcdisc_lib
+	install -d $(INSTALLED)/lib/fcore/fcdisc_lib/rescue
+	install -m 644 scripts/fcdisc_lib/rescue/*.py $(INSTALLED)/lib/fcore/fcdisc_lib/rescue
 	$(foreach page,$(PAGES),install -D -m 644 $(page) $(INSTALLED)/share/man/man$(subst .,,$(suffix $(page)))/$(notdir $(page)) &&) true
 
 uninstall:

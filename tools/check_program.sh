@@ -1,9 +1,9 @@
 #!/usr/bin/env bash
 # Runs the built program over the images of tools/images.py, and compares output and status with that table; then the examples
 # of README.md. No image may be changed. Then demos, the program where the system fails it, commands that change, fcdisc over the
-# program, what `make install` puts there, and the man pages. Pages are tried first: the reader that was written from that of the
-# format has to say the same as the other reader, what docs/PROVED.md quotes has to stand in the source, and the edits that it and
-# docs/CHANGING.md name have to be there.
+# program, `fcdisc rescue` over damaged discs, what `make install` puts there, and the man pages. Pages are tried first: the reader
+# that was written from that of the format has to say the same as the other reader, what docs/PROVED.md quotes has to stand in the
+# source, and the edits that it and docs/CHANGING.md name have to be there.
 #
 # usage: tools/check_program.sh PROGRAM
 set -u
@@ -133,6 +133,7 @@ TMPDIR=$memory python3 "$tools/check_changes.py" --program "$program" --images 1
 TMPDIR=$memory python3 "$tools/check_changes.py" --program "$program" --images 14 --commands 20 --old || failed=$((failed + 1))
 TMPDIR=$memory python3 "$tools/check_runs.py" --program "$program" || failed=$((failed + 1))
 python3 "$tools/check_fcdisc.py" "$tools/../scripts/fcdisc" "$program" || failed=$((failed + 1))
+python3 "$tools/check_rescue.py" "$tools/../scripts/fcdisc" "$program" || failed=$((failed + 1))
 install_is_right
 expect 'make install and make uninstall' 0 $?
 pages_are_right

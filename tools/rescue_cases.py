@@ -170,13 +170,13 @@ def mended(checks):
     image, shape = bytes(volume.image()), volume.shape
     zone = [(shape.map_sector + at) * shape.sector for at in (1, shape.zones + 2)]
     both = [(shape.map_sector + copy * shape.zones + 1) * shape.sector for copy in (0, 1)]
-    docs = rescue_images.extents_of(volume, next(one for one in volume.directories() if one.name == b"Docs"))[0][0]
+    art = rescue_images.extents_of(volume, next(one for one in volume.directories() if one.name == b"Art"))[0][0]
     cases = {
         "maps": (zone, bytes(1024), image, "both copies"), "boot": ([0xDC0], bytes(64), image, "the boot block"),
-        "word": ([docs + 1], b"nick", image, "directory $.Docs"), "number": ([docs], b"\x77", image, "directory $.Docs"),
-        "check": ([docs + 2047], bytes([image[docs + 2047] ^ 0x11]), image, "its check"),
+        "word": ([art + 1], b"nick", image, "directory $.Art"), "number": ([art], b"\x77", image, "directory $.Art"),
+        "check": ([art + 2047], bytes([image[art + 2047] ^ 0x11]), image, "its check"),
         "both": (both, bytes(1024), None, "has exactly one right value"), "whole": ([], b"", None, "nothing is damaged"),
-        "name": ([docs + 5], b"\r", None, "nothing written"),
+        "name": ([art + 5], b"\r", None, "nothing written"),
     }
     for name, (places, data, wanted, text) in cases.items():
         damaged = image

@@ -85,11 +85,13 @@ def boot_repairs(reading: Reading, own: Record) -> Iterator[Repair]:
     if len(block) < BOOT_SIZE:
         return
     there = Record(bytes(block[0x1C0:0x1C0 + RECORD]))
-    if there.fault is None and there.has_shape_of(own) and block[-1] == boot_check(block):
+    is_right = there.fault is None and there.has_shape_of(own)
+    if is_right and block[-1] == boot_check(block):
         return
-    if not there.has_shape_of(own) or there.fault is not None:
-        block[0x1C0:0x1C0 + RECORD] = own.raw
-    block[-1] = boot_check(bytes(block))
+    with_own = block[:0x1C0] + own.raw + block[0x1C0 + RECORD:]
+    if not is_right or with_own[-1] == boot_check(with_own):
+        block = with_own
+    block[-1] = boot_check(block)
     yield Repair(BOOT_BLOCK, bytes(block), "the boot block")
 
 
@@ -180,7 +182,8 @@ def looks_whole(reading: Reading, block: bytes) -> bool:
         items = [small_item(block, place, reading.disc.directories) for place in range(count)]
     names = [folded(item.name) for item in items]
     limits = reading.walk.limits
-    in_place = all(not item.length or limits.can_be(item.address, size or item.length) for item in items)
+    lengths = [size if size and item.is_directory else item.length for item in items]
+    in_place = all(not length or limits.can_be(item.address, length) for item, length in zip(items, lengths))
     return bool(items) and in_place and names == sorted(set(names)) and all(looks_right(item, limits, size) for item in items)
 
 
