@@ -286,12 +286,12 @@ def checking():
                "../images/f-user.adf: whole: 41 files, 2 directories, 1525760 bytes free; 1 directory out of order\n"
                "../images/named.adf: whole: 3 files, 1 directory, 808960 bytes free\n")
     yield Case("check-damaged", ["check", image("d-twin.adf"), image("hello.adf")],
-               "../images/d-twin.adf: not accepted: %s\n"
+               "../images/d-twin.adf: not accepted: %s; fcdisc rescue can take out 5 of 5 files, 1 of them doubtful\n"
                "../images/hello.adf: whole: 1 file, 0 directories, 813056 bytes free\n" % TWIN_TEXT,
                status=1)
     yield Case("check-short", ["check", image("short.adl")],
                "../images/short.adl: not accepted: it has 400000 bytes, and its disc 655360 "
-               "[Short 655360 400000]. What to do: %s\n" % SHORT_ADVICE, status=1)
+               "[Short 655360 400000]. What to do: %s...\n" % SHORT_ADVICE, status=1)
     yield Case("check-none", ["check", "none.adf", image("hello.adf")],
                "../images/hello.adf: whole: 1 file, 0 directories, 813056 bytes free\n",
                "fcdisc: none.adf: No such file or directory\n", 1)
@@ -328,7 +328,7 @@ def found_out():
         "f-user.adf", "no L disc of 655360 bytes begins here, so it has no sides to put into order"), status=1)
     yield Case("header", ["check", image("header.hdf")], "../images/header.hdf: " + user,
                told("header.hdf", "it has a header of 512 bytes: read without it"))
-    yield Case("header-damaged", ["check", image("header.adf")], "../images/header.adf: not accepted: %s\n" % TWIN_TEXT,
+    yield Case("header-damaged", ["check", image("header.adf")], "../images/header.adf: not accepted: %s; fcdisc rescue ...\n" % TWIN_TEXT,
                told("header.adf", "it has a header of 512 bytes: read without it"), 1)
     song = bytes(range(256)) * 200
     for name, words, err in (("flat.adf", [], told("flat.adf", DOUBT)), ("flat.adl", [], told("flat.adl", SIDES)),
