@@ -11,11 +11,13 @@ from .claims import Claims
 from .directories import NO_WORDS
 from .discs import FOUND, SURE, Disc, discs_by_trust, wanted_discs
 from .gaps import UNSURE, place_gap
+from .layout import work_out
 from .marks import Marks
 from .source import Source, file_source, headless_source, turned_source
 from .spaces import space_of
 from .strays import adopt_strays
 from .walk import Found, Walk
+from .zones import ZoneSpace
 
 NO_DISC = "nothing of a FileCore disc is found in it"
 FLOPPY = 1 << 21  # bytes; a file on a larger disc may well be the image of a disc
@@ -39,6 +41,9 @@ class Reading:
         self.space = space_of(disc, self.source)
         self.walk = Walk(disc, self.space, self.source)
         self.walk.run()
+        if isinstance(self.space, ZoneSpace) and work_out(self.walk, self.space, self.source):
+            self.walk = Walk(disc, self.space, self.source)
+            self.walk.run()
         self.claims = Claims(self.space, self.source, options.takes_all)
         self.claims.take([*self.walk.directories, *self.walk.files])
         self.is_whole = self.find_whole()
@@ -60,7 +65,7 @@ class Reading:
 
     def score(self) -> Tuple[int, ...]:
         """How well the description fits."""
-        right = sum(not one.is_damaged for one in self.walk.directories)
+        right = sum(not one.is_damaged and not one.is_homeless for one in self.walk.directories)
         grades = [one.grade for one in self.files]
         return (int(not self.walk.root.listing.is_lost), right, grades.count("sound"), grades.count("suspect"),
                 self.space.right_parts, -self.disc.trust)

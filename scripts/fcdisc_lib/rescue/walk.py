@@ -28,12 +28,13 @@ NO_LISTING = Listing([], "", 0, b"")
 class Found:
     """An object, as its directory tells of it, and what is known of its bytes."""
 
-    __slots__ = ("path", "item", "holder", "doubts", "is_sure", "stale", "is_deleted", "place", "there", "is_left_out", "listing")
+    __slots__ = ("path", "item", "holder", "doubts", "is_sure", "stale", "is_deleted", "place", "there", "is_left_out", "listing", "is_homeless")
 
     def __init__(self, path: Path, item: Item, holder: Optional[Found], doubts: Tuple[str, ...] = ()):
         self.path, self.item, self.holder = path, item, holder
         self.doubts: List[str] = [*doubts, *item.doubts]
         self.is_sure = not self.doubts  # whether what tells of it is right
+        self.is_homeless = False  # whether it is a directory whose place in the tree isn't known
         self.stale = ""  # why whatever is in this directory is doubted
         self.is_deleted = False
         self.place = NO_PLACE
@@ -207,6 +208,7 @@ class Walk:
         item = Item(name, 8, 0, 0, sum(length for _, length in place.extents), address or 0)
         made = Found(path, item, holder, ("no directory leads to it",))
         made.place, made.stale, made.is_deleted = place, stale, is_deleted
+        made.is_homeless = name.startswith(b"found-")
         self.directories.append(made)
         self.accept(made, start, listing)
         self.go_on()

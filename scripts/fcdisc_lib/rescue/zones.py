@@ -179,21 +179,42 @@ class ZoneSpace(Space):
                 self.remarks.append("the map's address of the root can't be")
         self.root, self.root_size = record.root, record.root_size if self.record.version else 2048
 
-    def index(self) -> None:
-        """Puts the runs into the order of their identifiers."""
+    @property
+    def has_own_runs(self) -> bool:
+        """Whether the map spelled any run of an object."""
+        return any(identifier > 2 for identifier in self.identifiers[:self.spelled_runs])
+
+    def add_runs(self, runs: List[Tuple[int, int, int]]) -> None:
+        """Takes in runs that were worked out: identifier, place and bytes."""
+        for identifier, start, length in runs:
+            self.add_run(identifier, start // self.record.bit_bytes, length // self.record.bit_bytes)
+        self.chains.clear()
+        self.by_place, self.places = array("q"), array("q")
+        self.order_runs()
+
+    def add_run(self, identifier: int, bit: int, bits: int) -> None:
         record = self.record
+        self.identifiers.append(identifier)
+        self.bits.append(bit)
+        self.lengths.append(bits)
+        self.zone_of.append(0 if bit < record.base(1) or record.zones == 1 else record.zones // 2)
+
+    def index(self) -> None:
+        """Finds the runs of identifiers and the holes; what a fresh floppy has for map and root counts where the map lacks it."""
         known = set(self.identifiers)
+        self.spelled_runs = len(self.identifiers)
         for identifier, bit, length in fresh_runs(self.disc):
             if identifier not in known:
-                self.identifiers.append(identifier)
-                self.bits.append(bit)
-                self.lengths.append(length)
-                self.zone_of.append(0 if bit < record.base(1) or record.zones == 1 else record.zones // 2)
+                self.add_run(identifier, bit, length)
+        self.order_runs()
+        for at in self.order[:bisect_right(self.sorted, HOLE)]:
+            self.holes.append(self.extent(self.bits[at], self.lengths[at]))
+
+    def order_runs(self) -> None:
+        """Puts the runs into the order of their identifiers."""
         key = self.identifiers.__getitem__
         self.order = array("q", sorted(range(len(self.identifiers)), key=key))
         self.sorted = array("i", (key(at) for at in self.order))
-        for at in self.order[:bisect_right(self.sorted, HOLE)]:
-            self.holes.append(self.extent(self.bits[at], self.lengths[at]))
 
     def extent(self, bit: int, bits: int) -> Extent:
         return bit * self.record.bit_bytes, bits * self.record.bit_bytes
