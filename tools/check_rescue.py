@@ -1,5 +1,5 @@
 #!/usr/bin/env python3
-"""Runs `fcdisc rescue` and `fcdisc mend` over whole discs, discs with one fault, usual damages, and images that were made to do harm.
+"""Runs `fcdisc rescue` and `fcdisc mend` over whole discs, discs with one fault, usual damages, and images made to do harm.
 
 usage: tools/check_rescue.py FCDISC FCORE [long]    `long`: 10,000 random damages, and images cut at each sector
        tools/check_rescue.py FCDISC --table         prints the table of docs/RESCUE.md
@@ -171,7 +171,8 @@ def usual_damages(checks, rescue):
 
 def table(rescue):
     kinds, forms = tallies(None, rescue)
-    print("| Damage | Images | Files | Right, sound | Right, suspect | Wrong, sound | Wrong, suspect | Right in all |\n" + "|---" * 8 + "|")
+    print("| Damage | Images | Files | Right, sound | Right, suspect | Wrong, sound | Wrong, suspect | Right in all |")
+    print("|---" * 8 + "|")
     for kind, tally in sorted(kinds.items()):
         print(tally.row(kind))
     for form, tally in forms.items():
@@ -216,7 +217,8 @@ def untouched(checks):
     within = 'exec strace -f -qq -o calls -e trace=openat,open,creat,truncate,unlink,unlinkat,rename,renameat2 "$@"'
     out, err, status = checks.run(["rescue", "a.adf", "o"], within=within if shutil.which("strace") else None)
     after = os.stat(path)
-    checks.expect("an image that is only read", bytes=(data, read(path)), status=(1, status), output=(True, "see o/report.txt" in out),
+    checks.expect("an image that is only read", bytes=(True, data == read(path)), status=(1, status),
+                  output=(True, "see o/report.txt" in out),
                   time=((before.st_mtime_ns, before.st_mode), (after.st_mtime_ns, after.st_mode)))
     if shutil.which("strace"):
         calls = [line for line in read(os.path.join(work, b"calls")).decode().splitlines() if '"a.adf"' in line]
@@ -237,6 +239,9 @@ def hostile_images():
     for form in "DL":
         yield "entries of the whole disc of " + form, rescue_hostile.whole_disc_entries(form)
         yield "directories everywhere of " + form, rescue_hostile.many_directories(form)
+        yield "directories everywhere of a short " + form, rescue_hostile.many_directories(form)[:-8192]
+    yield "big directories", rescue_hostile.big_directories()
+    yield "many zones", rescue_hostile.many_zones()
     yield "deep", bytes(rescue_hostile.deep().image())
 
 
@@ -251,7 +256,7 @@ def hostile(checks, rescue):
         left = snapshot(work)
         size = sum(len(data) for path, data in left.items() if data and not path.startswith(b"out/report"))
         checks.expect(name, outside=([b"out"], [path for path in left if b"/" not in path]), quick=(True, spent < FLOPPY_SECONDS),
-                      bounded=(True, size <= 8 * len(data)), links=([], [path for path, data in left.items() if isinstance(data, str)]))
+                      bounded=(True, size <= 8 * len(data)), links=(0, sum(isinstance(one, str) for one in left.values())))
         if name.startswith("names"):
             wanted = sum(one.grade != "lost" for one in found.files)
             written = sum(data is not None for path, data in left.items() if not path.startswith(b"out/report"))
@@ -272,7 +277,7 @@ def quietly(run):
 def large(checks):
     """A hard disc of 512 MB with the shortest runs and directories everywhere, in bounded time and memory."""
     path = checks.place(b"images/large.adf")
-    rescue_hostile.hard_disc_hole(path)
+    rescue_hostile.write_large(path)
     checks.fresh(b"work")
     before = resource.getrusage(resource.RUSAGE_CHILDREN)
     out, err, status = checks.run(["rescue", "--report", path], within="ulimit -v %d; exec \"$@\"" % (LARGE_MEMORY // 1024))

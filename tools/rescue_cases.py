@@ -1,7 +1,7 @@
 """Runs of `fcdisc rescue` and `fcdisc mend` by their words, and how many files come out of each damaged image of the table.
 
-OUTCOMES has, for how many files are sound, suspect, cut off and lost, the names of tools/damaged_images.py. () stands for an image in
-which nothing of a disc is found.
+OUTCOMES has, for how many files are sound, suspect, cut off and lost, the names of tools/damaged_images.py. () stands for an image
+in which nothing of a disc is found.
 """
 import os
 
@@ -104,8 +104,8 @@ def words(checks):
             (["rescue", "b.adf", "o"], 1, "fcdisc: b.adf: No such file or directory\n"),
             (["rescue", "none.adf", "o"], 1, "fcdisc: none.adf: nothing of a FileCore disc is found in it\n"),
             (["rescue", "--each", "a.adf", "o"], 1, "fcdisc: a.adf: not a folder\n"),
-            (["rescue", "--order", "adl", "none.adf", "o"], 1, "fcdisc: none.adf: it has less than 655360 bytes, so it has no sides "
-             "to put into order\n")):
+            (["rescue", "--order", "adl", "none.adf", "o"], 1,
+             "fcdisc: none.adf: it has less than 655360 bytes, so it has no sides to put into order\n")):
         out, err, got = checks.run(arguments)
         checks.expect(" ".join(arguments), errors=(error, err), status=(status, got), output=("", out))
     out, err, status = checks.run(["rescue", "--report", "a.adf"])
@@ -118,7 +118,8 @@ def several(checks):
     """A folder of images: a line and a folder for each."""
     work = checks.fresh(b"work")
     os.makedirs(os.path.join(work, b"in/x"))
-    for name, data in ((b"a.adf", images.hello().image()), (b"x/a.adf", rescue_hostile.broken_root(images.hello())), (b"x_a.adf", bytes(5))):
+    broken = rescue_hostile.broken_root(images.hello())
+    for name, data in ((b"a.adf", images.hello().image()), (b"x/a.adf", broken), (b"x_a.adf", bytes(5))):
         write(os.path.join(work, b"in", name), data)
     out, err, status = checks.run(["rescue", "--each", "in", "o"])
     wanted = ("in/a.adf: 1 of 1 file sound: see o/a.adf/report.txt\nin/x_a.adf: nothing of a FileCore disc is found in it\n"
@@ -136,15 +137,19 @@ def onto_fresh(checks):
     out, err, status = checks.run(["rescue", "--to", "e+", "n.adf", "a.adf"])
     listed, _, whole = checks.run(["list", "n.adf"])
     checks.expect("sound files onto a fresh disc", errors=("", err), status=(1, status), whole=(0, whole),
-                  output=("40 of 41 files sound, 1 suspect; 40 files put onto n.adf\n", out), listed=(True, "\n40 files, 1 dir" in listed))
+                  output=("40 of 41 files sound, 1 suspect; 40 files put onto n.adf\n", out),
+                  listed=(True, "\n40 files, 1 dir" in listed))
     checks.expect("the image of these", same=(damage, read(os.path.join(work, b"a.adf"))))
 
 
 def deleted(checks):
     """A disc that was formatted again, as another format or as the same: what the old directories still lead to."""
-    for form, fresh in (("D", "E"), ("D", "D"), ("L", "L")):
+    for form, fresh in (("D", "E"), ("D", "D"), ("L", "L"), ("L", "E")):
         volume = rescue_images.floppy(form)
         started(checks, a=rescue_images.reformatted(volume, form, fresh))
+        told = checks.run(["rescue", "--report", "a.adf"])[0]
+        hint = "(--as %s --deleted" % form if form != fresh else "(--deleted takes"
+        checks.expect("what is said of a %s disc that was formatted as %s" % (form, fresh), hint=(True, hint in told))
         checks.run(["rescue", "--as", form, "--deleted", "a.adf", "o"])
         left = {data for path, data in snapshot(checks.place(b"work/o")).items() if data and not path.startswith(b"report")}
         inner = {content for path, content in rescue_images.files_of(volume).items() if path.count(".") > 1 and content}
@@ -188,7 +193,8 @@ def mended(checks):
         got = read(made) if os.path.exists(made) else None
         checks.expect("mend, " + name, same=(True, got == wanted), status=(int(wanted is None), status),
                       said=(True, (text if text != "both copies" else "the second copy") in out + err),
-                      kept=(True, read(os.path.join(work, b"a.adf")) == damaged), left=(1 + (wanted is not None), len(snapshot(work))))
+                      kept=(True, read(os.path.join(work, b"a.adf")) == damaged),
+                      left=(1 + (wanted is not None), len(snapshot(work))))
     out, err, status = checks.run(["mend", "a.adf", "a.adf"])
     checks.expect("mend onto itself", status=(1, status), out=("", out))
 

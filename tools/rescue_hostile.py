@@ -3,19 +3,16 @@ import random
 
 import damaged_images
 import rescue_images
-from filecore import UNIT, boot_check, put, zone_check
-from volumes import Directory, File, NewVolume, OldVolume, fresh_e, fresh_f, record_bytes, small_directory
+from filecore import UNIT, Geometry, Record, put, zone_check
+from volumes import Directory, File, OldVolume, boot_block, fresh_e, record_bytes, small_directory
 
-NAMES = (b"..", b".", b"/", b"//", b"../x", b"/etc/x", b"a/../../b", b"\\..\\x", b"x,fff", b"sound", b"report/txt", b"\xe9\xff", b"con",
-         b"%2e%2e/x", b"~", b"-rf")
+NAMES = (b"..", b".", b"/", b"//", b"../x", b"/etc/x", b"a/../../b", b"\\..\\x", b"x,fff", b"sound", b"report/txt", b"\xe9\xff",
+         b"con", b"%2e%2e/x", b"~", b"-rf")
 
 
 def names(form):
     """A disc whose names try to lead out of a folder, with a damaged root."""
-    volume = rescue_images.FRESH[form]()
-    if isinstance(volume, OldVolume):
-        volume.holes.clear()
-        volume.next = volume.map_units + volume.units_of(2048 if form == "D" else 1280)
+    volume = rescue_images.empty(form)
     for at, name in enumerate(NAMES):
         name = name[:10]
         if form == "L":
@@ -68,9 +65,32 @@ def many_directories(form):
     return bytes(data)
 
 
+def big_directories():
+    """An E+ disc full of big directories whose heads are wrong, and whose entries look right."""
+    volume = fresh_e(True)
+    holder = volume.root
+    for at in range(60):
+        holder = holder.append(volume.directory(holder, b"D%d" % at, size=12288))
+        for number in range(200):
+            holder.append(File(b"Name%d" % number, b""))
+    data = volume.image()
+    for directory in volume.directories()[1:]:
+        start = rescue_images.extents_of(volume, directory)[0][0]
+        data[start + 16] ^= 0xFF
+    return bytes(data)
+
+
+def many_zones():
+    """A disc that says it has as many zones as a record can tell, in a short image with thousands of files."""
+    raw = record_bytes(10, 15, 5, 65535, 32, 0x203, 65535 * 8160 * 32 - 480 * 32)
+    data = bytearray(many_directories("D"))
+    data[0xC00:0xE00] = boot_block(raw)
+    return bytes(data)
+
+
 def loop(form):
     """A directory that holds itself and its holder."""
-    volume = fresh_e(form == "E+") if form[0] == "E" else fresh_f(form == "F+") if form[0] == "F" else OldVolume(form, 2560 if form == "L" else 3200)
+    volume = rescue_images.empty(form)
     inner = volume.root.insert(volume.directory(volume.root, b"In"))
     inner.append(volume.file(b"File", b"one"))
     image = volume.image
@@ -93,53 +113,43 @@ def deep(levels=200):
     return volume
 
 
-def hard_disc_hole(path, megabytes=512):
-    """A hard disc with the shortest runs everywhere, all of one identifier, and a root of entries that name it: written sparse."""
-    zones, sector, bit = 0, 512, 64
-    size = megabytes << 20
-    zone_bits = 8 * sector - 32
-    zones = -(-(size // bit + 480) // zone_bits)
-    volume_raw = record_bytes(9, 15, 6, zones, 32, 0x205, size)
-    record_size = 16  # bits of the shortest run
+def shortest_runs(shape, raw):
+    """A copy of a map that is all runs of one sector pair, of identifier 5."""
     sectors = []
-    volume = NewVolume.__new__(NewVolume)
-    from filecore import Geometry, Record
-    shape = Geometry(Record(volume_raw))
-    assert Record(volume_raw).fault() is None, Record(volume_raw).fault()
-    for zone in range(zones):
-        bits = 0
+    for zone in range(shape.zones):
         at = shape.first(zone)
-        one = (5 | 1 << record_size - 1)
-        count = (shape.end(zone) - at) // record_size
-        pattern = int.from_bytes(one.to_bytes(2, "little") * count, "little")
-        bits = pattern << at
-        block = bytearray((bits & (1 << 8 * sector) - 1).to_bytes(sector, "little"))
+        runs = (5 | 1 << 15).to_bytes(2, "little") * ((shape.end(zone) - at) // 16)
+        bits = int.from_bytes(runs, "little") << at
+        block = bytearray((bits & (1 << 8 * shape.sector) - 1).to_bytes(shape.sector, "little"))
         put(block, 1, 2, 0x8000)
-        block[3] = 0xFF if zone == 0 else 0
         if zone == 0:
-            block[4:64] = volume_raw
+            block[3], block[4:64] = 0xFF, raw
         block[0] = zone_check(block)
         sectors.append(bytes(block))
-    copy = b"".join(sectors)
-    boot = bytearray(512)
-    boot[0x1C0:0x1C0 + 60] = volume_raw
-    boot[511] = boot_check(boot)
+    return b"".join(sectors)
+
+
+def write_large(path, size=512 << 20):
+    """A hard disc of the shortest runs, with thousands of directories, whose entries all name half the disc: a sparse file."""
+    zones = -(-(size // 64 + 480) // (8 * 512 - 32))
+    raw = record_bytes(9, 15, 6, zones, 32, 0x500, size)
+    shape = Geometry(Record(raw))
+    copy = shortest_runs(shape, raw)
+    directory = Directory(b"$", 0x500)
+    for at in range(77):
+        made = File(b"F%d" % at, b"", 0x500 + at % 5)
+        made.length = size // 2
+        directory.append(made)
+    root = small_directory(directory, "D")
     with open(path, "wb") as file:
         file.truncate(size)
-        file.seek(0xC00)
-        file.write(boot)
-        file.seek(shape.map_sector * sector)
-        file.write(copy + copy)
-        directory = Directory(b"$", 0x205)
-        for at in range(77):
-            made = File(b"F%d" % at, b"", 0x500 + at % 5)
-            made.length = size // 2
-            directory.append(made)
-        root = small_directory(directory, "D")
         for place in range(0, size, size // 4096):
-            if not shape.map_sector * sector - 2048 < place < shape.map_sector * sector + 2 * len(copy):
-                file.seek(place // sector * sector + (0x1000 if place < 0x1000 else 0))
-                file.write(root)
+            file.seek(place)
+            file.write(root)
+        file.seek(0xC00)
+        file.write(boot_block(raw))
+        file.seek(shape.map_sector * 512)
+        file.write(copy + copy)
 
 
 def random_damages(form, count, seed):

@@ -56,13 +56,19 @@ def place_file(volume, name, data, source):
     return volume.file(name, data, pieces, **fields)
 
 
-def floppy(form, seed=1):
-    """A volume of forty files in seven directories."""
-    source = random.Random("%s %d" % (form, seed))
+def empty(form):
+    """A fresh volume whose free space is still to be given out."""
     volume = FRESH[form]()
     if isinstance(volume, OldVolume):
         volume.holes.clear()
         volume.next = volume.map_units + volume.units_of(2048 if form == "D" else 1280)
+    return volume
+
+
+def floppy(form, seed=1):
+    """A volume of forty files in seven directories."""
+    source = random.Random("%s %d" % (form, seed))
+    volume = empty(form)
     sizes = lengths(form, source)
     source.shuffle(sizes)
     holders = [volume.root]

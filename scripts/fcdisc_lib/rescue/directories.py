@@ -45,11 +45,12 @@ class Listing(NamedTuple):
     is_lost: bool = False
 
 
-class Limits(NamedTuple):
-    """What an entry of this disc can say: the longest file, and whether an address and a length can be."""
+class Limits:
+    """What an entry of this disc can say: the longest file, and whether an address and a length can be; and how many more entries
+    may be looked at in search of heaps."""
 
-    longest: int
-    can_be: CanBe
+    def __init__(self, longest: int, can_be: CanBe, tries: int):
+        self.longest, self.can_be, self.tries = longest, can_be, tries
 
 
 def read_listing(block: bytes, form: str, size: int, limits: Limits) -> Listing:
@@ -240,8 +241,14 @@ def headless(block: bytes, limits: Limits) -> Iterator[List[Item]]:
     for phase in range(32, 60, 4):
         places = [at for at in range(phase, len(block) - 35, 28) if can_be_entry(block, at, limits)]
         for last in places:
-            heap = last + 28
-            yield [big_item(block, at, heap, len(block) - 8) for at in places if at <= last]
+            heap, end = last + 28, len(block) - 8
+            ends = [big_item(block, at, heap, end) for at in (places[0], last)]
+            limits.tries -= 2
+            if all(looks_right(item, limits) for item in ends):
+                limits.tries -= len(places)
+                yield [big_item(block, at, heap, end) for at in places if at <= last]
+            if limits.tries < 0:
+                return
 
 
 def can_be_entry(block: bytes, at: int, limits: Limits) -> bool:

@@ -12,6 +12,7 @@ from .walk import Walk
 LARGEST_PART = 8  # a piece inside is at most such a part of the disc
 LARGEST_DISC = 1 << 21  # bytes; on a larger disc the end is taken to be missing
 MOST_READ = 6000  # directories that are read to find the piece's place
+READ_EACH = 30  # as many as one more attempt costs
 UNSURE = "the piece that the image lacks may lie in it or before it"
 Range = Tuple[int, int]
 
@@ -49,7 +50,7 @@ def attempts(disc: Disc, source: Source, missing: int) -> List[Attempt]:
         if at >= before and budget > 0:
             gap = Gap(at, missing)
             score, read = rightness(disc, source.with_gap(gap))
-            budget -= read
+            budget -= read + READ_EACH
             found.append(Attempt(score, before, place, gap))
         before = place + disc.sector
     return found or [Attempt(0, 0, source.length, Gap(source.length, missing))]
@@ -58,7 +59,7 @@ def attempts(disc: Disc, source: Source, missing: int) -> List[Attempt]:
 def rightness(disc: Disc, source: Source) -> Tuple[int, int]:
     """How many parts of the map and directories are right, and how many directories were read."""
     space = space_of(disc, source)
-    walk = Walk(disc, space, source)
+    walk = Walk(disc, space, source, 0)
     walk.run()
     right = sum(not one.listing.fault for one in walk.directories)
     return space.right_parts + right, len(walk.directories)

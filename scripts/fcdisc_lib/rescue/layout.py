@@ -18,6 +18,7 @@ from .zones import ZoneSpace
 
 FEWEST_KNOWN = 3
 MOST_LISTED = 2000  # directories of a floppy
+REMARK = "the map of these files is lost: where they lie was worked out from their lengths and the places of directories"
 
 
 class Seen(NamedTuple):
@@ -27,9 +28,9 @@ class Seen(NamedTuple):
     listing: Listing
 
 
-def work_out(walk: Walk, space: ZoneSpace, source: Source) -> bool:
-    """Gives the map the runs that can be worked out, if it has none of its own; whether there are any."""
-    if space.disc.form not in ("E", "E+") or not source.length or space.has_own_runs or space.right_parts:
+def work_out(walk: Walk, space: ZoneSpace, source: Source, is_emptied: bool) -> bool:
+    """Gives the map the runs that can be worked out, if it is lost, or that of a disc that was emptied; whether there are any."""
+    if space.disc.form not in ("E", "E+") or not source.length or space.has_own_runs or space.right_parts and not is_emptied:
         return False
     room = walk.room
     seen = [Seen(one.start, one.listing) for one in strays(walk)[:MOST_LISTED]]
@@ -37,10 +38,11 @@ def work_out(walk: Walk, space: ZoneSpace, source: Source) -> bool:
     walk.room = room
     needed = spaces_needed(seen, space)
     known = places_known(seen, space)
-    runs = [(identifier, start, needed[identifier]) for identifier, start in chained(known, needed, space.record.least * space.record.bit_bytes)]
+    least = space.record.least * space.record.bit_bytes
+    runs = [(identifier, start, needed[identifier]) for identifier, start in chained(known, needed, least)]
     if runs:
         space.add_runs(runs)
-        space.remarks.append("the map is lost: where files lie was worked out from their lengths and the places of directories")
+        space.remarks.append(REMARK)
     return bool(runs)
 
 
@@ -94,7 +96,7 @@ def is_parent(outer: Seen, inner: Seen, item: Item, seen: List[Seen], root: int)
 
 
 def chained(known: Dict[int, int], needed: Dict[int, int], least: int) -> List[Tuple[int, int]]:
-    """The places that follow, each identifier's after the one before. None, if known places contradict that more than they agree."""
+    """The places that follow, each identifier's after the one before; none, if more known places contradict than agree."""
     agreeing, contradicting = agreement(known, needed, least)
     if contradicting and contradicting >= agreeing or len(known) < FEWEST_KNOWN:
         return []

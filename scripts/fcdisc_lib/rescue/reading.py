@@ -9,18 +9,19 @@ from ..images import HEADER as HEADER_SIZE
 from ..messages import Trouble, shown
 from .claims import Claims
 from .directories import NO_WORDS
-from .discs import FOUND, SURE, Disc, discs_by_trust, wanted_discs
+from .discs import FOUND, SURE, Disc, discs_by_trust, sure_discs, wanted_discs
 from .gaps import UNSURE, place_gap
 from .layout import work_out
 from .marks import Marks
 from .source import Source, file_source, headless_source, turned_source
 from .spaces import space_of
-from .strays import adopt_strays
+from .strays import Older, adopt_strays, older_disc
 from .walk import Found, Walk
 from .zones import ZoneSpace
 
 NO_DISC = "nothing of a FileCore disc is found in it"
 FLOPPY = 1 << 21  # bytes; a file on a larger disc may well be the image of a disc
+OVERWRITTEN = "the disc was formatted anew since then: files that came later may have been written over it"
 MIXED = "near to it lies what isn't of this disc: two discs may be mixed, or a wrong track was read"
 
 
@@ -41,7 +42,8 @@ class Reading:
         self.space = space_of(disc, self.source)
         self.walk = Walk(disc, self.space, self.source)
         self.walk.run()
-        if isinstance(self.space, ZoneSpace) and work_out(self.walk, self.space, self.source):
+        is_emptied = options.takes_deleted and len(self.walk.directories) == 1 and not self.walk.files
+        if isinstance(self.space, ZoneSpace) and work_out(self.walk, self.space, self.source, is_emptied):
             self.walk = Walk(disc, self.space, self.source)
             self.walk.run()
         self.claims = Claims(self.space, self.source, options.takes_all)
@@ -49,6 +51,7 @@ class Reading:
         self.is_whole = self.find_whole()
         known = set(map(id, (*self.walk.directories, *self.walk.files)))
         self.foreign: List[int] = []
+        self.older: Optional[Older] = None
         self.deleted = adopt_strays(self.walk, self.claims, options.takes_deleted, self.is_whole, self.foreign)
         self.claims.take(one for one in (*self.walk.directories, *self.walk.files) if id(one) not in known)
         self.doubt_shifted()
@@ -56,8 +59,8 @@ class Reading:
 
     def find_whole(self) -> bool:
         """Whether nothing at all is damaged, missing or out of place."""
-        return (self.disc.trust == SURE and self.space.is_right and self.source.length >= self.disc.size and not any(map(is_wrong, self.walk.directories))
-                and all(one.grade == "sound" for one in self.walk.files))
+        return (self.disc.trust == SURE and self.space.is_right and self.source.length >= self.disc.size
+                and not any(map(is_wrong, self.walk.directories)) and all(one.grade == "sound" for one in self.walk.files))
 
     @property
     def files(self) -> List[Found]:
@@ -71,8 +74,9 @@ class Reading:
                 self.space.right_parts, -self.disc.trust)
 
     def finish(self) -> None:
-        """Doubts files by the signs of bytes that weren't read."""
+        """Doubts files by the signs of bytes that weren't read, and looks for what is left of an older disc."""
         marks = Marks(self.disc, self.source)
+        self.older = older_disc(self.source, self.disc) if self.disc.size <= FLOPPY else None
         for found in self.files:
             if found.there:
                 marks.judge(found, bool(marks.plain) and self.is_whole and is_plain(self.source, found))
@@ -84,7 +88,7 @@ class Reading:
                 found.doubt(UNSURE)
 
     def doubt_mixed(self) -> None:
-        """Doubts what lies nearest to signs of another disc: a right directory inside of a file, other bytes where one should be."""
+        """Doubts what lies nearest to signs of another disc: directories inside of files, and other bytes where one should be."""
         signs = {place: False for place in self.foreign if self.disc.size <= FLOPPY}
         for one in self.walk.directories:
             if one.listing.fault == NO_WORDS and one.is_sure and self.has_other_bytes(one):
@@ -182,8 +186,12 @@ def ways(file: BinaryIO, name: str, order: str) -> Iterator[Tuple[str, Source]]:
 def readings_of(source: Source, options: Options, how: str) -> Iterator[Reading]:
     """Readings by the descriptions that the disc may go by. A guess is tried only where nothing better leads to a root."""
     if options.form:
+        later = any(disc.form != options.form for disc in sure_discs(source))
         for disc in wanted_discs(source, options.form):
-            yield Reading(disc, source, options, how)
+            reading = Reading(disc, source, options, how)
+            for found in reading.files if later and disc.trust != SURE else ():
+                found.doubt(OVERWRITTEN)
+            yield reading
         return
     tried = set()
     for discs in discs_by_trust(source):

@@ -6,7 +6,8 @@ from typing import Iterator, List, NamedTuple, Optional
 
 from ..names import folded, spelled_path
 from .checks import big_check, boot_check, is_old_half, number, old_check, small_check, zone_check
-from .directories import (SMALL_PLACES, WRONG_CHECK, WRONG_NUMBERS, WRONG_WORD, big_items, forms, looks_right, small_item, used_places)
+from .directories import (SMALL_PLACES, WRONG_CHECK, WRONG_NUMBERS, WRONG_WORD, big_items, forms, looks_right, small_item,
+                          used_places)
 from .discs import BOOT_BLOCK, BOOT_SIZE, UNIT, WORDS
 from .reading import Reading
 from .records import RECORD, Record

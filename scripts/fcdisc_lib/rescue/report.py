@@ -13,8 +13,8 @@ GRADES = ("sound", "suspect", "cut", "lost")
 WORDS = {"sound": "sound", "suspect": "suspect", "cut": "cut off", "lost": "lost"}
 MEANING = (
     "sound: the disc's own structures lead to these bytes, and nothing speaks against them. No disc of this kind has a check over",
-    "the bytes of its files, so one that was misread within a file goes unnoticed. suspect: whole, but doubtful, as said. cut: only",
-    "its beginning is there. lost: nothing of it is. Deleted files, if asked for, are always doubtful.",
+    "the bytes of its files, so one that was misread within a file goes unnoticed. suspect: whole, but doubtful, as said. cut:",
+    "only its beginning is there. lost: nothing of it is. Deleted files, if asked for, are always doubtful.",
 )
 
 
@@ -53,6 +53,9 @@ def remarks(reading: Reading) -> List[str]:
     if reading.deleted:
         text = "%s in free space, deleted or left from an older disc (--deleted takes what is in them)"
         told.append(text % counted(reading.deleted, "directory"))
+    if reading.older:
+        text = "%s of an older %s disc (--as %s --deleted takes what they still lead to)"
+        told.append(text % (counted(reading.older.count, "directory"), reading.older.form, reading.older.form))
     if walk.too_many:
         told.append("more objects or directories than such a disc can have: the rest is left out")
     if walk.too_deep:
@@ -106,8 +109,9 @@ def tree(reading: Reading, image: str) -> Dict[str, Any]:
             "path": spelled_path(one.path), "lost": one.listing.is_lost, "reasons": reasons_of_directory(one),
         } for one in in_order(reading.walk.directories)],
         "files": [{
-            "path": spelled_path(one.path), "grade": one.grade, "length": one.item.length, "bytes": one.there, "load": one.item.load,
-            "exec": one.item.execution, "attributes": one.item.attributes, "deleted": one.is_deleted, "reasons": reasons_of(one),
+            "path": spelled_path(one.path), "grade": one.grade, "length": one.item.length, "bytes": one.there,
+            "load": one.item.load, "exec": one.item.execution, "attributes": one.item.attributes, "deleted": one.is_deleted,
+            "reasons": reasons_of(one),
         } for one in in_order(reading.files)],
     }
 

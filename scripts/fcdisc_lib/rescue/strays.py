@@ -3,9 +3,10 @@ from __future__ import annotations
 
 from typing import Iterator, List, NamedTuple, Optional
 
+from .checks import number
 from .claims import Claims
 from .directories import Listing, has_words, read_listing, size_told
-from .discs import WORDS, Disc
+from .discs import UNIT, WORDS, Disc
 from .places import Place
 from .source import Source
 from .walk import Found, Walk
@@ -89,3 +90,31 @@ def stale_by(walk: Walk, stray: Stray, owner: Optional[Found]) -> str:
     if holder and holder.is_damaged and not owner and not stray.listing.fault and address not in (None, stray.listing.parent):
         return ""
     return STRAY
+
+
+# ---- discs that were formatted anew
+
+
+class Older(NamedTuple):
+    """What is left of a disc with an old map under another format."""
+
+    form: str
+    count: int
+
+
+def older_disc(source: Source, disc: Disc) -> Optional[Older]:
+    """The format with an old map whose directories lie in the image, although the disc isn't of it, with their number."""
+    found = [Older(form, old_directories(source, form)) for form in ("D", "L") if form != disc.form]
+    best = max(found, key=lambda one: one.count)
+    return best if best.count else None
+
+
+def old_directories(source: Source, form: str) -> int:
+    """How many directories there are whose parent's address leads to another one, or to where the format has its root."""
+    step, size, parent, root = (1024, 2048, 2010, 4) if form == "D" else (256, 1280, 1238, 2)
+    parents = {}
+    for start, piece in source.pieces(step, size):
+        for at in range(0, len(piece) - size, step):
+            if piece[at + 1:at + 5] in WORDS and piece[at + size - 5:at + size - 1] == piece[at + 1:at + 5]:
+                parents[start + at] = number(piece, at + parent, 3) * UNIT
+    return sum(one in parents or one == root * UNIT for one in parents.values())

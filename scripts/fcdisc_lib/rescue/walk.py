@@ -13,6 +13,7 @@ from .places import Extent, Place, Space
 from .source import Source
 
 MOST_OBJECTS = 100000
+MOST_TRIED = 300000  # entries that are looked at in search of big directories' heaps
 DIRECTORY_SPACE = 4  # directories are read as long as they have no more bytes than so many discs
 DAMAGED_HOLDER = "its directory is damaged"
 NOWHERE = "nothing says where it lies"
@@ -28,7 +29,8 @@ NO_LISTING = Listing([], "", 0, b"")
 class Found:
     """An object, as its directory tells of it, and what is known of its bytes."""
 
-    __slots__ = ("path", "item", "holder", "doubts", "is_sure", "stale", "is_deleted", "place", "there", "is_left_out", "listing", "is_homeless")
+    __slots__ = ("path", "item", "holder", "doubts", "is_sure", "stale", "is_deleted", "place", "there", "is_left_out", "listing",
+                 "is_homeless")
 
     def __init__(self, path: Path, item: Item, holder: Optional[Found], doubts: Tuple[str, ...] = ()):
         self.path, self.item, self.holder = path, item, holder
@@ -67,7 +69,7 @@ class Found:
 class Walk:
     """A walk over the directories of a disc."""
 
-    def __init__(self, disc: Disc, space: Space, source: Source):
+    def __init__(self, disc: Disc, space: Space, source: Source, most_tried: int = MOST_TRIED):
         self.disc, self.space, self.source = disc, space, source
         self.files: List[Found] = []
         self.directories: List[Found] = []
@@ -76,7 +78,7 @@ class Walk:
         self.taken: Dict[Path, Dict[bytes, int]] = {}  # names in a directory, as they are compared; how often each came up
         self.too_many = self.too_deep = False
         self.room = DIRECTORY_SPACE * max(min(source.length, disc.size), 4096)
-        self.limits = Limits(disc.size, space.can_be)
+        self.limits = Limits(disc.size, space.can_be, most_tried)
         self.sure: Deque[Found] = deque()
         self.doubtful: Deque[Found] = deque()
 
@@ -157,7 +159,9 @@ class Walk:
     def is_other(self, found: Found, listing: Listing) -> bool:
         """Whether what a doubtful entry leads to says that it is another directory."""
         holder = found.holder
-        return bool(holder and not found.stale and listing.parent != holder.item.address and folded(listing.name) != folded(found.item.name))
+        if not holder or found.stale:
+            return False
+        return listing.parent != holder.item.address and folded(listing.name) != folded(found.item.name)
 
     def enter(self, holder: Found, item: Item) -> None:
         if len(self.files) + len(self.directories) >= MOST_OBJECTS:

@@ -66,6 +66,7 @@ class ZoneSpace(Space):
         self.identifiers, self.bits, self.lengths, self.zone_of = array("i"), array("q"), array("q"), array("H")
         self.by_place, self.places = array("q"), array("q")  # the runs in the order of their places, once that is asked for
         self.doubts: Dict[int, str] = {}  # of zones
+        self.doubted: List[Tuple[str, List[int]]] = []  # the zones with each of these doubts
         self.chains: Dict[int, Chain] = {}
         self.kept = 0
         self.read_zones(source)
@@ -91,10 +92,14 @@ class ZoneSpace(Space):
             self.take(zone, chosen.zone, doubt or chosen.zone.doubt)
             if zone == 0 and has_check(chosen.sector, record.sector):
                 owns.append(Record(chosen.sector[4:4 + RECORD]))
-        self.right_parts = sum(rights)
-        self.is_right = any(whole)
         for zone in range(last, record.zones):
             self.doubts[zone] = DAMAGED_MAP
+        by_text: Dict[str, List[int]] = {}
+        for zone, doubt in sorted(self.doubts.items()):
+            by_text.setdefault(doubt, []).append(zone)
+        self.doubted = sorted(by_text.items())
+        self.right_parts = sum(rights)
+        self.is_right = any(whole)
         self.tell_map(rights, whole)
         self.choose_root(owns)
 
@@ -276,11 +281,9 @@ class ZoneSpace(Space):
         """Damaged zones from the identifier's home to its last run there: they may hide runs of it, or show wrong ones."""
         if identifier >= self.record.id_bound:
             return ("its address can't be that of an object",)
-        if not self.doubts:
-            return ()
         home, count = self.record.home(identifier), self.record.zones
         last = (zones[-1] - home) % count if zones and not missing else count - 1
-        return tuple(sorted({doubt for zone, doubt in self.doubts.items() if (zone - home) % count <= last}))
+        return tuple(doubt for doubt, doubted in self.doubted if meets_turn(doubted, home, home + last, count))
 
     def address_at(self, place: int) -> Optional[int]:
         found = self.run_at(place)
@@ -316,6 +319,14 @@ class ZoneSpace(Space):
             taken = max(0, min(length, self.disc.size - place))
             return Place([(place, self.sectors(taken) * self.record.sector)], length - taken)
         return self.along(*found, length)
+
+
+def meets_turn(zones: List[int], first: int, last: int, count: int) -> bool:
+    """Whether any of the zones, which rise, is from the first to the last; after the last zone of all comes zone 0."""
+    at = bisect_left(zones, first)
+    if at < len(zones) and zones[at] <= last:
+        return True
+    return last >= count and zones[0] <= last - count
 
 
 def has_check(sector: bytes, size: int) -> bool:
