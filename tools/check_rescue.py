@@ -99,6 +99,8 @@ def single_faults(checks, rescue):
         found = rescue.read(data)
         counts = tuple(rescue.report.counts(found).values()) if found else ()
         checks.expect("rescue of " + name, counts=(outcomes.get(name), counts))
+        if found:
+            compare(checks, name, data, found)
 
 
 # ---- usual damages

@@ -58,13 +58,13 @@ class Zones:
     def place(self, address, length):
         """The sectors of an object, as many as there are, and whether a doubtful zone has a part in it."""
         identifier, low = address // 256, address % 256
-        if not 2 <= identifier < self.g.id_bound:
+        if identifier < 2:
             return [], False
         home = self.g.home(identifier)
         runs = sorted(self.runs.get(identifier, []), key=lambda run: ((run[0] - home) % self.g.zones, run[1][0]))
         sectors = [at for z, (start, size) in runs for at in sectors_of(start, size, self.sector)]
         skipped = (low - 1) * self.g.share // self.sector if low else 0
-        return sectors[skipped:skipped + -(-length // self.sector)], bool(self.doubted)
+        return sectors[skipped:skipped + -(-length // self.sector)], bool(self.doubted) or identifier >= self.g.id_bound
 
     def is_free(self, sectors):
         return False

@@ -1,7 +1,7 @@
 """Which disc an image holds: the descriptions that it may go by, the most trusted first."""
 from __future__ import annotations
 
-from typing import Iterator, List, NamedTuple, Optional
+from typing import Iterator, List, NamedTuple, Optional, Tuple
 
 from .checks import boot_check, is_old_half, number, zone_check
 from .records import RECORD, Record, fresh_record
@@ -21,7 +21,7 @@ class Disc(NamedTuple):
     sector: int
     size: int
     track: int  # bytes of a track; 0 if nothing says so
-    neighbours: tuple  # how far off, in tracks, a drive's head may be that reads a wrong track
+    neighbours: Tuple[int, ...]  # how far off, in tracks, a drive's head may be that reads a wrong track
     record: Optional[Record]  # of new maps
     has_boot: bool
     trust: int
@@ -106,7 +106,7 @@ def found_discs(source: Source) -> Iterator[Disc]:
         yield old_disc(form, number(halves[0], 252, 3), FOUND, "a map with a wrong check")
 
 
-def maps_found(source: Source) -> Iterator[tuple]:
+def maps_found(source: Source) -> Iterator[Tuple[Record, int]]:
     """Zones 0 with a right check that lie where their own records put them, with their places."""
     tried = 0
     seen: List[bytes] = []

@@ -3,10 +3,11 @@ from __future__ import annotations
 
 from typing import List, NamedTuple, Tuple
 
+from ..names import folded
 from .discs import Disc
 from .source import Gap, Source
 from .spaces import space_of
-from .strays import worded_places
+from .strays import Stray, strays, worded_places
 from .walk import Walk
 
 LARGEST_PART = 8  # a piece inside is at most such a part of the disc
@@ -43,7 +44,7 @@ def attempts(disc: Disc, source: Source, missing: int) -> List[Attempt]:
     """A gap before each directory and each copy of the map that may be in the image, and one at its end."""
     unit = disc.track if disc.track and missing % disc.track == 0 else disc.sector
     fixed = {start - shift for start, _ in space_of(disc, source).reserved for shift in (0, missing) if start >= shift}
-    places = sorted({*fixed, *worded_places(source, disc)} - {0})
+    places = sorted({*fixed, *worded_places(source, disc)})
     found, before, budget = [], 0, MOST_READ
     for place in [*(one for one in places if one < source.length), source.length]:
         at = place // unit * unit
@@ -62,7 +63,22 @@ def rightness(disc: Disc, source: Source) -> Tuple[int, int]:
     walk = Walk(disc, space, source, 0)
     walk.run()
     right = sum(not one.listing.fault for one in walk.directories)
-    return space.right_parts + right, len(walk.directories)
+    if not walk.root.listing.is_lost:
+        return space.right_parts + right, len(walk.directories)
+    found = strays(walk)
+    return space.right_parts + right + led_to(walk, found), len(walk.directories) + len(found)
+
+
+def led_to(walk: Walk, found: List[Stray]) -> int:
+    """How often directories lead to each other, by their names too: by entries, and by parent fields. The root is lost."""
+    def start_of(address: int) -> int:
+        extents = walk.space.place(address, walk.disc.sector).extents
+        return extents[0][0] if extents else -1
+
+    inner = {(one.start, folded(one.listing.name)) for one in found}
+    outer = {(start_of(one.listing.parent), folded(one.listing.name)) for one in found}
+    entries = [(one.start, item) for one in found for item in one.listing.items if item.is_directory]
+    return sum(((start_of(item.address), folded(item.name)) in inner) + ((start, folded(item.name)) in outer) for start, item in entries)
 
 
 def last_directory(disc: Disc, source: Source) -> int:

@@ -3,7 +3,7 @@ from __future__ import annotations
 
 from array import array
 from bisect import bisect_left, bisect_right
-from typing import Dict, Iterator, List, Tuple
+from typing import Dict, Iterator, List, Optional, Tuple
 
 from .discs import Disc
 from .places import Extent
@@ -13,55 +13,81 @@ from .walk import Found
 ONE_PATTERN = "a whole track of it has the same bytes in every sector: an unread or newly formatted track?"
 TWO_TRACKS = "two tracks near to each other have the same bytes: one may have been read in place of the other"
 REPEATED = "two of its sectors, one after the other, have the same bytes: the second may not have been read"
+MOST_RECENT = 4096  # tracks; a neighbour is never farther
 LONGEST_PERIOD = 64  # bytes; sectors of a pattern that is no longer repeat without a fault
+
+
+class Ranges:
+    """Pieces of the disc, in their order: where each begins and ends."""
+
+    def __init__(self, ranges: List[Tuple[int, int]]):
+        self.ranges = sorted(ranges)
+        self.starts = [start for start, _ in self.ranges]
+
+    def meets(self, extent: Extent) -> bool:
+        start, length = extent
+        at = bisect_left(self.starts, start + length) - 1
+        return at >= 0 and self.ranges[at][1] > start
 
 
 class Marks:
     """The tracks and sectors of an image that look wrong by their bytes alone."""
 
     def __init__(self, disc: Disc, source: Source):
-        self.disc = disc
-        self.plain: List[Tuple[int, int]] = []  # tracks of one pattern: from, to
-        self.alone: List[Tuple[int, int]] = []  # those of them beside which other bytes lie
-        self.twice: List[Tuple[int, int]] = []
-        self.repeats = array("q")
+        self.disc, self.source = disc, source
+        plain: List[Tuple[int, int]] = []  # tracks of one pattern
+        twice: List[Tuple[int, int]] = []  # tracks that a neighbour equals
+        self.repeats = array("q")  # sectors that are as the one before
         if disc.track:
-            self.look(source)
-        self.starts = {id(marked): [start for start, _ in marked] for marked in (self.plain, self.alone, self.twice)}
+            self.look(plain, twice)
+        self.plain, self.twice = Ranges(plain), Ranges(twice)
+        self.alone = Ranges([one for one in joined(plain) if self.stands_out(*one)])
 
-    def look(self, source: Source) -> None:
+    def look(self, plain: List[Tuple[int, int]], twice: List[Tuple[int, int]]) -> None:
         sector, track = self.disc.sector, self.disc.track
         recent: Dict[int, int] = {}  # the last track with these bytes, by their digest
         last = b""
-        for place, block in tracks(source, self.disc):
+        for place, block in tracks(self.source, self.disc):
             is_plain = block == block[:sector] * (len(block) // sector)
             if is_plain:
-                self.plain.append((place, place + len(block)))
+                plain.append((place, place + track))
             else:
-                number, digest = place // track, hash(block)
-                before = recent.get(digest)
-                if before is not None and number - before in self.disc.neighbours and source.read(before * track, track) == block:
-                    self.twice += [(before * track, (before + 1) * track), (place, place + track)]
-                recent[digest] = number
-            for at in range(0, len(block), sector):
-                one = block[at:at + sector]
-                if one == last and not is_plain and not has_short_period(one):
-                    self.repeats.append(place + at)
-                last = one
-            if len(recent) > 4096:
-                recent.clear()
-        self.twice.sort()
-        for start, end in joined(self.plain):
-            block = source.read(start, sector)
-            if source.read(start - sector, sector) != block and source.read(end, sector) != block:
-                self.alone.append((start, end))
+                before = self.equal_neighbour(recent, place // track, block)
+                if before is not None:
+                    twice += [(before * track, (before + 1) * track), (place, place + track)]
+            self.note_repeats(place, last, block, is_plain)
+            last = block[-sector:]
+
+    def equal_neighbour(self, recent: Dict[int, int], number: int, block: bytes) -> Optional[int]:
+        """The track near to this one that has the same bytes."""
+        before = recent.get(hash(block))
+        if len(recent) > MOST_RECENT:
+            recent.clear()
+        recent[hash(block)] = number
+        track = self.disc.track
+        if before is not None and number - before in self.disc.neighbours and self.source.read(before * track, track) == block:
+            return before
+        return None
+
+    def note_repeats(self, place: int, last: bytes, block: bytes, is_plain: bool) -> None:
+        for at in range(0, len(block), self.disc.sector):
+            one = block[at:at + self.disc.sector]
+            if one == last and not is_plain and not has_short_period(one):
+                self.repeats.append(place + at)
+            last = one
+
+    def stands_out(self, start: int, end: int) -> bool:
+        """Whether tracks of one pattern have other bytes on both sides."""
+        sector = self.disc.sector
+        block = self.source.read(start, sector)
+        return block not in (self.source.read(start - sector, sector), self.source.read(end, sector))
 
     def judge(self, found: Found, is_natural: bool) -> None:
         """Doubts a file by its sectors. `is_natural`: it may have the same bytes throughout, where no track begins or ends so."""
         for extent in found.place.extents:
-            if self.meets(self.alone if is_natural else self.plain, extent):
+            if (self.alone if is_natural else self.plain).meets(extent):
                 found.doubt(ONE_PATTERN)
-            if self.meets(self.twice, extent):
+            if self.twice.meets(extent):
                 found.doubt(TWO_TRACKS)
             if self.repeats_in(found, extent):
                 found.doubt(REPEATED)
@@ -72,11 +98,6 @@ class Marks:
         start, length = extent
         first = bisect_right(self.repeats, start) if found.item.length <= self.disc.sector else bisect_left(self.repeats, start)
         return first < bisect_left(self.repeats, start + length)
-
-    def meets(self, marked: List[Tuple[int, int]], extent: Extent) -> bool:
-        start, length = extent
-        at = bisect_left(self.starts[id(marked)], start + length) - 1
-        return at >= 0 and marked[at][1] > start
 
 
 def joined(ranges: List[Tuple[int, int]]) -> Iterator[Tuple[int, int]]:

@@ -79,7 +79,7 @@ class Reading:
         self.older = older_disc(self.source, self.disc) if self.disc.size <= FLOPPY else None
         for found in self.files:
             if found.there:
-                marks.judge(found, bool(marks.plain) and self.is_whole and is_plain(self.source, found))
+                marks.judge(found, bool(marks.plain.ranges) and self.is_whole and is_plain(self.source, found))
 
     def doubt_shifted(self) -> None:
         first, end = self.unsure

@@ -1,7 +1,7 @@
 """Disc records: what a disc says of its own shape, and the numbers that follow."""
 from __future__ import annotations
 
-from typing import Dict, Optional
+from typing import Dict, Optional, Tuple
 
 from .checks import number
 
@@ -108,7 +108,7 @@ def fresh_record(form: str) -> Record:
 
 
 # Where a fresh disc has its identifiers 2 and, with big directories, 3: the disc's map bits. The map and the root don't move.
-FRESH_RUNS: Dict[str, Dict[int, tuple]] = {
+FRESH_RUNS: Dict[str, Dict[int, Tuple[Tuple[int, int], ...]]] = {
     "E": {2: ((0, 32),)}, "E+": {2: ((0, 16),), 3: ((16, 16),)},
     "F": {2: ((12704, 160), (0, 64))}, "F+": {2: ((12704, 128), (0, 64)), 3: ((12832, 32),)},
 }

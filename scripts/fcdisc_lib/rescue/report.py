@@ -55,7 +55,7 @@ def remarks(reading: Reading) -> List[str]:
         told.append(text % counted(reading.deleted, "directory"))
     if reading.older:
         text = "%s of an older %s disc (--as %s --deleted takes what they still lead to)"
-        told.append(text % (counted(reading.older.count, "directory"), reading.older.form, reading.older.form))
+        told.append(text % (counted(reading.older.number, "directory"), reading.older.form, reading.older.form))
     if walk.too_many:
         told.append("more objects or directories than such a disc can have: the rest is left out")
     if walk.too_deep:

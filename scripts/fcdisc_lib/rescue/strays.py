@@ -99,14 +99,14 @@ class Older(NamedTuple):
     """What is left of a disc with an old map under another format."""
 
     form: str
-    count: int
+    number: int  # of directories
 
 
 def older_disc(source: Source, disc: Disc) -> Optional[Older]:
     """The format with an old map whose directories lie in the image, although the disc isn't of it, with their number."""
     found = [Older(form, old_directories(source, form)) for form in ("D", "L") if form != disc.form]
-    best = max(found, key=lambda one: one.count)
-    return best if best.count else None
+    best = max(found, key=lambda one: one.number)
+    return best if best.number else None
 
 
 def old_directories(source: Source, form: str) -> int:
