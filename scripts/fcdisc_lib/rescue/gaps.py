@@ -78,7 +78,8 @@ def led_to(walk: Walk, found: List[Stray]) -> int:
     inner = {(one.start, folded(one.listing.name)) for one in found}
     outer = {(start_of(one.listing.parent), folded(one.listing.name)) for one in found}
     entries = [(one.start, item) for one in found for item in one.listing.items if item.is_directory]
-    return sum(((start_of(item.address), folded(item.name)) in inner) + ((start, folded(item.name)) in outer) for start, item in entries)
+    return sum(((start_of(item.address), folded(item.name)) in inner) + ((start, folded(item.name)) in outer)
+               for start, item in entries)
 
 
 def last_directory(disc: Disc, source: Source) -> int:
