@@ -66,14 +66,16 @@ def contents(program: str) -> Dict[str, Tuple[int, bytes]]:
 def completion_place(name: str) -> str:
     """Where shells look for a completion; the file is named after its shell, as fcdisc.bash."""
     shell = os.path.splitext(name)[1].lstrip(".") or name
-    return {"zsh": "zsh/site-functions/_fcdisc", "fish": "fish/vendor_completions.d/fcdisc.fish"}.get(shell, "bash-completion/completions/fcdisc")
+    others = {"zsh": "zsh/site-functions/_fcdisc", "fish": "fish/vendor_completions.d/fcdisc.fish"}
+    return others.get(shell, "bash-completion/completions/fcdisc")
 
 
 def time_of_sources() -> int:
     told = os.environ.get("SOURCE_DATE_EPOCH")
     if told:
         return int(told)
-    ran = subprocess.run(["git", "-C", TOP, "log", "-1", "--format=%ct"], stdout=subprocess.PIPE, stderr=subprocess.DEVNULL, text=True, check=False)
+    words = ["git", "-C", TOP, "log", "-1", "--format=%ct"]
+    ran = subprocess.run(words, stdout=subprocess.PIPE, stderr=subprocess.DEVNULL, text=True, check=False)
     return int(ran.stdout or 0)
 
 

@@ -5,10 +5,13 @@
 usage: tools/run bench/add FCDISC FCORE [ROUNDS [FILES]]    in a folder for temporary files, as TMPDIR says; needs mtools
 It is not part of the gate: what it measures depends on the machine. TMPDIR has to lie on a disk. Add may take 1.5 times as long.
 """
+from __future__ import annotations
+
 import os
 import shutil
 import sys
 import tempfile
+from typing import Any
 
 from tools.bench.extract import seconds
 from tools.images.volumes import NewVolume, record_bytes
@@ -19,7 +22,7 @@ SIZE = (ZONES * ZONE_BITS - 480) * BIT_BYTES
 IN_FOLDER = 100  # files
 
 
-def empty_disc():
+def empty_disc() -> Any:
     volume = NewVolume(record_bytes(10, 15, 10, ZONES, 32, 0x300, SIZE, version=1, root_size=4096), True)
     volume.root.size = 4096
     volume.take(2, ZONES // 2, 2 * ZONES)
@@ -28,12 +31,12 @@ def empty_disc():
     return volume.image()
 
 
-def write(path, content):
+def write(path: Any, content: bytes) -> None:
     with open(path, "wb") as file:
         file.write(content)
 
 
-def main(fcdisc, fcore, rounds=3, files=5000):
+def main(fcdisc: Any, fcore: str, rounds: int = 3, files: int = 5000) -> bool:
     with tempfile.TemporaryDirectory() as folder:
         tree, disc, empty = (os.path.join(folder, name) for name in ("tree", "disc.adf", "empty.adf"))
         for at in range(files):

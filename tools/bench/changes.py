@@ -10,12 +10,15 @@ another disc, into all in turn. At a tenth of the files and at all of them, and 
 beside that of an empty script, each the least of ROUNDS rounds, and the calls of the system beside its calls, by strace or, without
 it, by the recorder of tools/checks/outside.c, both a command. Between them files are made in one directory, which grows, and files are moved into one.
 """
+from __future__ import annotations
+
 import os
 import resource
 import shutil
 import subprocess
 import sys
 import tempfile
+from typing import Any
 
 from tools.files import built_shim
 from tools.images.fragmented import hard_disc
@@ -28,12 +31,12 @@ WORDS = "00000000 00000000"
 class Bench:
     """The program, and how its calls of the system are counted."""
 
-    def __init__(self, program, folder):
+    def __init__(self, program: str, folder: str) -> None:
         self.program, self.folder = os.path.realpath(program), folder
         self.work = os.path.join(folder, "work")
         self.shim = None if shutil.which("strace") else built_shim(folder)
 
-    def seconds(self, image, script):
+    def seconds(self, image: Any, script: Any) -> Any:
         """How many seconds of a processor a script takes over the image, which it changes."""
         before = resource.getrusage(resource.RUSAGE_CHILDREN)
         ran = subprocess.run([self.program, image], input=script, stdout=subprocess.PIPE, check=False)
@@ -42,7 +45,7 @@ class Bench:
             sys.exit("status %d: %s" % (ran.returncode, ran.stdout[-200:].decode()))
         return after.ru_utime + after.ru_stime - before.ru_utime - before.ru_stime
 
-    def calls(self, image, script):
+    def calls(self, image: Any, script: Any) -> Any:
         """How many calls of the system it makes."""
         counts = os.path.join(self.folder, "calls")
         traced = self.shim is None
@@ -54,7 +57,7 @@ class Bench:
         os.unlink(counts)
         return int(next(line for line in lines if line.endswith("total")).split()[3]) if traced else len(lines) - 1
 
-    def a_command(self, image, lines):
+    def a_command(self, image: Any, lines: Any) -> Any:
         """Microseconds, the least of ROUNDS rounds, and calls of one of the lines. The image stays."""
         script, found = script_of(lines), []
         for measure, rounds in ((self.seconds, ROUNDS), (self.calls, 1)):
@@ -64,23 +67,23 @@ class Bench:
             found.append((taken[1] - taken[0]) / len(lines))
         return found[0] * 1e6, found[1]
 
-    def over_copy(self, measure, image, script):
+    def over_copy(self, measure: Any, image: Any, script: Any) -> Any:
         """What is measured of a script over a copy of the image."""
         subprocess.run(["cp", "--sparse=always", image, self.work], check=True)
         return measure(self.work, script)
 
-    def table(self, image, title, lines):
+    def table(self, image: Any, title: Any, lines: Any) -> None:
         """A row for each command."""
         for word, found in lines.items():
             print("%s, %s: %.0f microseconds, %.1f calls a command" % (title, word, *self.a_command(image, found)), flush=True)
 
 
-def saving(numbers, directory_of):
+def saving(numbers: Any, directory_of: Any) -> Any:
     """Lines that save files of 100 bytes with these numbers."""
     return ["save $.D%d.File%05d %s %s" % (directory_of(at), at, WORDS, ("%08x" % at) * 25) for at in numbers]
 
 
-def commands(paths, fresh, others):
+def commands(paths: Any, fresh: Any, others: Any) -> Any:
     """LINES lines of each command: over files that are there, over paths that aren't, and to other directories."""
     return {
         "save": ["save %s %s %s" % (path, WORDS, "5a" * 100) for path in fresh],
@@ -93,12 +96,12 @@ def commands(paths, fresh, others):
     }
 
 
-def write(volume, path):
+def write(volume: Any, path: Any) -> None:
     with open(path, "wb") as file:
         volume.write(SparseFile(file, volume.shape.record.size))
 
 
-def empty_disc(path):
+def empty_disc(path: Any) -> None:
     """A disc of 518 MB with big directories."""
     volume = hard_disc(10, 15, 10, 62, big=True)
     volume.root.size = 4096
@@ -108,7 +111,7 @@ def empty_disc(path):
     write(volume, path)
 
 
-def many_files(bench, image, files):
+def many_files(bench: Any, image: Any, files: Any) -> None:
     """Files of 100 bytes saved in turn into 100 directories, which so get ten times as long."""
     empty_disc(image)
     done = 0
@@ -123,7 +126,7 @@ def many_files(bench, image, files):
         bench.table(image, "%d files" % count, commands(paths, fresh, others))
 
 
-def full_directories(bench, image, files):
+def full_directories(bench: Any, image: Any, files: Any) -> None:
     """Files of 100 bytes saved into one of 100 directories after another, every tenth first, and the commands in those ten at a tenth
     of the files and at all of them: only the disc has more files then, and no directory in which a command works."""
     empty_disc(image)
@@ -140,7 +143,7 @@ def full_directories(bench, image, files):
         done = count
 
 
-def one_directory(bench, image, files):
+def one_directory(bench: Any, image: Any, files: Any) -> None:
     """Files of 0 bytes in one directory, which grows at every fiftieth; and files that share identifiers, and so are copied, moved into
     one."""
     empty_disc(image)
@@ -156,7 +159,7 @@ def one_directory(bench, image, files):
         len(numbers), taken / len(numbers) * 1e6), flush=True)
 
 
-def many_objects(bench, image, objects, big):
+def many_objects(bench: Any, image: Any, objects: Any, big: bool) -> None:
     """The commands over a disc that is full of objects."""
     directories = objects // 50
     write(with_directories(directories, big=big), image)
@@ -168,11 +171,11 @@ def many_objects(bench, image, objects, big):
     bench.table(image, "%d objects%s" % (51 * directories, ", big directories" * big), commands(paths, fresh, others))
 
 
-def script_of(lines):
+def script_of(lines: Any) -> Any:
     return "".join(line + "\n" for line in lines).encode()
 
 
-def main(program, files=10000, objects=50000):
+def main(program: str, files: int = 10000, objects: int = 50000) -> None:
     with tempfile.TemporaryDirectory(dir=os.getcwd()) as folder:
         image, bench = os.path.join(folder, "image"), Bench(program, folder)
         full_directories(bench, image, files)
@@ -182,7 +185,7 @@ def main(program, files=10000, objects=50000):
             many_objects(bench, image, objects, big)
 
 
-def directory_paths(count, places):
+def directory_paths(count: int, places: Any) -> Any:
     """The paths of some directories of tools/images/large.py."""
     volume = with_directories(count)
     found = {one.name: volume.path_of(one)[2:] for one in volume.directories()[1:]}

@@ -7,12 +7,15 @@ usage: tools/run bench/compact PROGRAM
 The discs have some 2,000 and 20,000 runs. The program runs twice over each: under the recorder, which gives the bytes that it moved
 and how often it synced, and without it, for the time.
 """
+from __future__ import annotations
+
 import os
 import shutil
 import subprocess
 import sys
 import tempfile
 import time
+from typing import Any
 
 from tools.checks.crash import SYNC
 from tools.files import built_shim
@@ -22,7 +25,7 @@ from tools.images.large import SparseFile
 MIB = 1 << 20
 
 
-def disc(path, most_bits, directories):
+def disc(path: Any, most_bits: Any, directories: Any) -> int:
     """A disc whose parts are at most so long; its number of runs."""
     volume = hard_disc(10, 15, 10, 62)
     Fragmenter(volume, 1, most_bits).fill(directories)
@@ -31,7 +34,7 @@ def disc(path, most_bits, directories):
     return sum(map(len, volume.runs))
 
 
-def totals(path):
+def totals(path: Any) -> Any:
     """The bytes that were written, and the syncs, of a record."""
     moved = syncs = 0
     with open(path, "rb") as file:
@@ -45,13 +48,13 @@ def totals(path):
     return moved, syncs
 
 
-def seconds(words, **others):
+def seconds(words: Any, **others: Any) -> Any:
     start = time.monotonic()
     subprocess.run(words, input=b"compact\n", stdout=subprocess.DEVNULL, check=True, **others)
     return time.monotonic() - start
 
 
-def copying(path, moved, syncs):
+def copying(path: Any, moved: Any, syncs: Any) -> Any:
     """Copies so many bytes within a file, in as many pieces as there are syncs."""
     piece = max(1, moved // max(1, syncs))
     start, done = time.monotonic(), 0
@@ -65,7 +68,7 @@ def copying(path, moved, syncs):
     return time.monotonic() - start
 
 
-def main(program):
+def main(program: str) -> None:
     program = os.path.realpath(program)
     with tempfile.TemporaryDirectory(dir=os.getcwd()) as folder:
         image, work, record = (os.path.join(folder, name) for name in ("image", "work", "record"))

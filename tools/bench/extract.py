@@ -5,19 +5,22 @@
 usage: tools/run bench/extract FCDISC FCORE [ROUNDS]    in a folder for temporary files, as TMPDIR says; three rounds by default
 It is not part of the gate: what it measures depends on the machine. Extract may take at most five times as long.
 """
+from __future__ import annotations
+
 import os
 import resource
 import subprocess
 import sys
 import tempfile
 import time
+from typing import Any
 
 from tools.images import large
 
 ALLOWED = 5
 
 
-def seconds(words, **how):
+def seconds(words: Any, **how: Any) -> Any:
     """The time of a command, on the clock and of the processor."""
     before, begin = resource.getrusage(resource.RUSAGE_CHILDREN), time.monotonic()
     subprocess.run(words, check=True, stdout=subprocess.DEVNULL, **how)
@@ -25,7 +28,7 @@ def seconds(words, **how):
     return time.monotonic() - begin, after.ru_utime + after.ru_stime - before.ru_utime - before.ru_stime
 
 
-def main(fcdisc, fcore, rounds=3):
+def main(fcdisc: Any, fcore: str, rounds: int = 3) -> bool:
     with tempfile.TemporaryDirectory() as folder:
         image = os.path.join(folder, "large.adf")
         large.main(image)

@@ -7,6 +7,8 @@ It is not part of the gate: what it measures depends on the machine. In each rou
 least time of each counts. The images are generated, and are in memory when they are read. What isn't installed (mke2fs and
 e2fsck, xxd, strace, /usr/bin/time) is left out.
 """
+from __future__ import annotations
+
 import functools
 import os
 import random
@@ -14,6 +16,7 @@ import shutil
 import subprocess
 import sys
 import tempfile
+from typing import Any, Iterator
 
 from tools.images import large
 from tools.images.volumes import NewVolume, record_bytes
@@ -24,7 +27,7 @@ RUN = 4096  # the bytes of the smallest run of those discs
 LOADED = 256 * MEGA
 
 
-def run(words, script=None, out=subprocess.DEVNULL):
+def run(words: Any, script: Any = None, out: str = subprocess.DEVNULL) -> Any:
     """Runs a command, whose standard input is a file. Answers its resources."""
     with open(script or os.devnull, "rb") as given:
         process = subprocess.Popen(words, stdin=given, stdout=out, stderr=subprocess.DEVNULL)
@@ -34,7 +37,7 @@ def run(words, script=None, out=subprocess.DEVNULL):
     return used
 
 
-def into_pipe(words, script=None):
+def into_pipe(words: Any, script: Any = None) -> Any:
     """The same with a pipe as output, which cat empties."""
     with subprocess.Popen(["cat"], stdin=subprocess.PIPE, stdout=subprocess.DEVNULL) as reader:
         used = run(words, script, reader.stdin)
@@ -42,18 +45,18 @@ def into_pipe(words, script=None):
     return used
 
 
-def seconds(used):
+def seconds(used: Any) -> Any:
     return used.ru_utime + used.ru_stime
 
 
 class Task:
     """What fcore does with a script over an image, and commands that do as much."""
 
-    def __init__(self, name, image, script, others, runner=run):
+    def __init__(self, name: Any, image: Any, script: Any, others: Any, runner: Any = run) -> None:
         self.name, self.image, self.script, self.others, self.runner = name, image, script, others, runner
 
 
-def empty_volume(zones, log2_bit, map_bits):
+def empty_volume(zones: Any, log2_bit: Any, map_bits: Any) -> Any:
     size = (zones * 8160 - 480) << log2_bit
     volume = NewVolume(record_bytes(10, 15, log2_bit, zones, 32, 0x300, size), True)
     volume.take(2, zones // 2, map_bits)
@@ -62,7 +65,7 @@ def empty_volume(zones, log2_bit, map_bits):
     return volume
 
 
-def in_many_runs(count):
+def in_many_runs(count: int) -> Any:
     """So many files in 25 runs each, which lie in zones far apart, in directories $.D0.E0 and so on."""
     zones = 700
     volume = empty_volume(zones, 8, 2 * zones * 4)
@@ -82,7 +85,7 @@ def in_many_runs(count):
     return volume
 
 
-def with_large_file():
+def with_large_file() -> Any:
     """One file of 256 MB, in runs as long as a zone has room for."""
     zones = 70
     volume = empty_volume(zones, 10, 2 * zones)
@@ -98,17 +101,17 @@ def with_large_file():
 class Hollow:
     """So many bytes 0, of which none is written."""
 
-    def __init__(self, size):
+    def __init__(self, size: int) -> None:
         self.size = size
 
-    def __len__(self):
+    def __len__(self) -> Any:
         return self.size
 
-    def __bytes__(self):
+    def __bytes__(self) -> bytes:
         return b""
 
 
-def of_a_terabyte():
+def of_a_terabyte() -> Any:
     """240 files of 4 GB, which lie one after the other in all zones but the first and the map's."""
     zones, bits = 1028, 32767
     volume = empty_volume(zones, 17, -(-2 * zones // 128))
@@ -131,22 +134,22 @@ def of_a_terabyte():
     return volume
 
 
-def write_image(path, volume):
+def write_image(path: Any, volume: Any) -> None:
     with open(path, "wb") as file:
         volume.write(large.SparseFile(file, volume.shape.record.size))
 
 
-def write_script(path, lines):
+def write_script(path: Any, lines: Any) -> Any:
     with open(path, "w") as file:
         file.write("".join(line + "\n" for line in lines))
     return path
 
 
-def write_files(folder, volume):
+def write_files(folder: str, volume: Any) -> Any:
     """The volume's files outside of it. Answers their paths there and in it."""
     outside, inside = [], []
 
-    def below(directory, path, name):
+    def below(directory: Any, path: Any, name: Any) -> None:
         os.makedirs(path)
         for entry in directory.entries:
             there, here = os.path.join(path, entry.name.decode()), name + "." + entry.name.decode()
@@ -162,12 +165,12 @@ def write_files(folder, volume):
     return outside, inside
 
 
-def tasks(folder):
+def tasks(folder: str) -> Any:
     path = functools.partial(os.path.join, folder)
     return [*digest_tasks(path), *large_file_tasks(path), *check_tasks(path)]
 
 
-def digest_tasks(path):
+def digest_tasks(path: Any) -> Iterator[Any]:
     for count in COUNTS:
         volume = in_many_runs(count)
         image = path("runs%d.adf" % count)
@@ -179,7 +182,7 @@ def digest_tasks(path):
                    {"sha256sum": ["xargs", "-a", list_of, "sha256sum"]})
 
 
-def large_file_tasks(path):
+def large_file_tasks(path: Any) -> Iterator[Any]:
     volume = with_large_file()
     write_image(path("large.adf"), volume)
     large = write_files(path("large"), volume)[0][0]
@@ -192,7 +195,7 @@ def large_file_tasks(path):
     yield Task("`digest` of 256 MB", path("large.adf"), digest, {"sha256sum": ["sha256sum", large]})
 
 
-def check_tasks(path):
+def check_tasks(path: Any) -> Iterator[Any]:
     check = write_script(path("check"), ["check"])
     write_image(path("terabyte.adf"), of_a_terabyte())
     yield Task("`check` of a sparse disc of 1.1 TB with 240 files of 4 GB", path("terabyte.adf"), check, {})
@@ -208,7 +211,7 @@ def check_tasks(path):
     yield Task("the same, and `free` 1,000 times", path("objects.adf"), frees, {})
 
 
-def memory(fcore, folder, volume):
+def memory(fcore: str, folder: str, volume: Any) -> Any:
     """The most bytes that opening this volume takes. A process has at least its parent's, so a small program starts it."""
     image = os.path.join(folder, "memory.adf")
     write_image(image, volume)
@@ -216,7 +219,7 @@ def memory(fcore, folder, volume):
     return int(told) * 1024
 
 
-def object_sizes(taken):
+def object_sizes(taken: Any) -> Any:
     """The bytes of a file, and of a directory without its files, by what discs of so many directories and files in each take.
 
     All these discs are large, and of one kind, so that what memory comes in counts little."""
@@ -225,7 +228,7 @@ def object_sizes(taken):
     return file, (many - taken(600, 50)) / 600 - 50 * file
 
 
-def system_calls(words, script):
+def system_calls(words: Any, script: Any) -> int:
     """How many system calls a command makes."""
     with open(script, "rb") as given:
         ran = subprocess.run(["strace", "-f", "-c", "-U", "calls", *words], stdin=given, stdout=subprocess.DEVNULL,
@@ -233,7 +236,7 @@ def system_calls(words, script):
     return int(ran.stderr.split()[-2])
 
 
-def main(fcore, rounds=5):
+def main(fcore: str, rounds: int = 5) -> None:
     fcore = os.path.abspath(fcore)
     with tempfile.TemporaryDirectory() as folder:
         print("| Task | fcore | beside it (above 1: fcore is slower) |\n|---|---|---|")

@@ -1,6 +1,9 @@
 # SPDX-License-Identifier: MIT
 """Worked rows that change discs: a disc, a script, the replies, and whether the disc is opened to be read only."""
+from __future__ import annotations
+
 import hashlib
+from typing import Any, Callable
 
 from tools.images import damaged
 from tools.images.fragmented import hard_disc
@@ -11,7 +14,7 @@ from tools.reference.filecore import BIG_LIMIT
 LONG = "n" * 255
 
 
-def eighty_two_holes():
+def eighty_two_holes() -> OldVolume:
     """An L disc with 82 holes; `$.P` touches none, and `$.Q` touches one."""
     volume = OldVolume("L", 2560)
     for name in (b"P", b"Q"):
@@ -24,7 +27,7 @@ def eighty_two_holes():
     return volume
 
 
-def holes_of_four_and_eight():
+def holes_of_four_and_eight() -> OldVolume:
     """A D disc without lost space, with holes of 4 and 8 units."""
     volume = OldVolume("D", 3200)
     volume.hole(4)
@@ -37,10 +40,10 @@ def holes_of_four_and_eight():
 class Worn:
     """A fresh F disc in which bytes of the map's copies were changed."""
 
-    def __init__(self, change):
+    def __init__(self, change: Callable[..., Any]) -> None:
         self.change = change
 
-    def image(self):
+    def image(self) -> bytearray:
         return self.change(damaged.Damage(FRESH["F"]())).data
 
 
@@ -51,7 +54,7 @@ WORN = [  # a copy with another total than it may have and right checks, one wit
 ]
 
 
-def holes_of(*lengths):
+def holes_of(*lengths: int) -> NewVolume:
     """A disc of one zone with these holes and lost runs of 16 bits between them: 256 bytes a bit, sectors of 512, runs of 16 bits at
     least."""
     size = 256 * (22 + sum(lengths) + 16 * (len(lengths) - 1))
@@ -62,7 +65,7 @@ def holes_of(*lengths):
     return volume
 
 
-def after_four_units():
+def after_four_units() -> OldVolume:
     """An old map whose hole of 4 units is shorter than the file after it, so that this slides over itself."""
     volume = OldVolume("D", 3200)
     volume.hole(4)
@@ -71,12 +74,12 @@ def after_four_units():
     return volume
 
 
-def sectors(count):
+def sectors(count: int) -> bytes:
     """So many sectors of 256 bytes, each with its number."""
     return b"".join((b"a%d" % at).ljust(256, b"\0") for at in range(count))
 
 
-def after_a_hole(bits):
+def after_a_hole(bits: int) -> NewVolume:
     """A hole of 16 bits and a run of so many after it, which is the file `$.A`: two zones, runs of 16 bits at least, 32 bytes a bit."""
     volume = NewVolume(record_bytes(8, 11, 5, 2, 32, 0x300, 113664), True)
     for identifier, zone, count in ((2, 1, 32), (3, 1, 64), (2, 0, 112)):
@@ -86,7 +89,7 @@ def after_a_hole(bits):
     return volume
 
 
-def in_zones(zones):
+def in_zones(zones: range) -> NewVolume:
     """A file `$.A` with runs of 16 bits in these of ten zones; the last zone has the only hole, and all else is lost."""
     volume = NewVolume(record_bytes(8, 11, 5, 10, 32, 0x300, 629760), True)
     for identifier, zone, count in ((2, 5, 160), (3, 5, 64), (2, 0, 112)):
@@ -100,20 +103,20 @@ def in_zones(zones):
     return volume
 
 
-def digest(count):
+def digest(count: int) -> str:
     return hashlib.sha256(sectors(count)).hexdigest() + " / ok"
 
 
-def saved(name, count):
+def saved(name: str, count: int) -> str:
     return "save $.%s Z Z %s\n" % (name, sectors(count).hex())
 
 
-def listed(*names):
+def listed(*names: str) -> str:
     """The reply of `cat` for files of 0 bytes."""
     return "".join(name + " 00000003 00000000 00000000 0 / " for name in names) + "ok"
 
 
-def listed_docs():
+def listed_docs() -> str:
     """What `cat` answers of the forty files of the user's disc."""
     volume = user_disc()
     docs = next(entry for entry in volume.root.entries if entry.name == b"Docs")
@@ -121,7 +124,7 @@ def listed_docs():
     return volume.cat_lines(docs).replace("\n", " / ") + "ok"
 
 
-def full_big_directory():
+def full_big_directory() -> NewVolume:
     """A directory of 4,194,304 bytes, the most that there can be, of which 148 are left."""
     volume = hard_disc(9, 13, 8, 8, big=True)
     pieces = [(zone, volume.shape.units(BIG_LIMIT // 6)) for zone in (0, 1, 2, 5, 6)]
@@ -132,7 +135,7 @@ def full_big_directory():
     return volume
 
 
-def names(count):
+def names(count: int) -> str:
     """Lines that make so many files of 0 bytes."""
     return "".join("create $.N%02d Z Z 0\n" % at for at in range(count))
 
@@ -153,12 +156,12 @@ ORDER = "".join("create $.%s Z Z 0\n" % name for name in UNORDERED) + "cat $\ncd
 ORDERED = "ok / " * len(UNORDERED) + listed("a", "AB", "Ac", "[", "_", "`", "{", "%C9", "%E9") + " / error 6 Exists / ok"
 
 
-def slides(most):
+def slides(most: int) -> str:
     """Three files whose runs begin at any bit: the first goes, and the others slide into its place."""
     return (saved("A", most) + saved("B", most - 2) + saved("C", most - 1) + "delete $.A\ncompact\ndigest $.B\ndigest $.C\ncheck")
 
 
-def slid(most, free):
+def slid(most: int, free: int) -> str:
     return ("ok / ok / ok / ok / ok / " + digest(most - 2) + " / " + digest(most - 1)
             + " / files 2 dirs 1 lost 0 holes 2 free %d unsorted 0 parents 0 / ok" % free)
 

@@ -1,10 +1,14 @@
 # SPDX-License-Identifier: MIT
 """Draws lines of changing commands, most of them aimed at what is there and at the edges of space, by chance."""
+from __future__ import annotations
+
+from typing import Any, List, Tuple, Union
+
 from tools.images.drawn_discs import random_name
 from tools.reference.change_answer import CHANGING, Command
 from tools.reference.change_state import State
 from tools.reference.filecore import NOT_SPELLED
-from tools.reference.read_image import READING
+from tools.reference.read_image import READING, Entry
 
 MOODS = {  # how often each command is drawn
     "all": dict(save=5, create=5, cdir=3, delete=4, rename=6, set=2),
@@ -27,7 +31,7 @@ REFUSED = (b"delete $", b"cdir $", b"save $ 00000000 00000000 00", b"create $.A%
 class Drawer:
     """Draws commands over the image as it stands."""
 
-    def __init__(self, chance, words):
+    def __init__(self, chance: Any, words: Union[List[str], Tuple[str, ...]]) -> None:
         self.chance, self.drawn = chance, [word for word in CHANGING if word in words]
         self.compacts = "compact" in words
         self.lines = [line for line in LINES if not line or Command(line).fault or Command(line).word in words]
@@ -35,7 +39,7 @@ class Drawer:
         self.favourite = None  # a directory in which names are often made
         self.state = None
 
-    def line(self, state):
+    def line(self, state: State) -> bytes:
         if state.form == "big" and self.state is None and self.chance.random() < 0.6:
             self.mood = "grow"
         self.state = state
@@ -55,24 +59,24 @@ class Drawer:
 
     # lines
 
-    def save(self):
+    def save(self) -> str:
         draw, length = self.chance.random(), self.length()
         if length > 30000:
             length = self.chance.randint(0, 3000)
         data = b"" if draw < 0.1 else self.chance.randbytes(length)
         return "save %s %s %s" % (self.made_or_there(), self.words(), data.hex() or "-")
 
-    def create(self):
+    def create(self) -> str:
         empty = 0.7 if self.mood in ("names", "grow") else 0.1
         return "create %s %s %d" % (self.made_or_there(), self.words(), 0 if self.chance.random() < empty else self.length())
 
-    def cdir(self):
+    def cdir(self) -> str:
         return "cdir " + (self.there() if self.chance.random() < 0.07 else self.made())
 
-    def delete(self):
+    def delete(self) -> str:
         return "delete " + self.there()
 
-    def rename(self):
+    def rename(self) -> str:
         if self.state.form == "big" and self.chance.random() < 0.3:
             return self.rename_that_grows()
         source, draw = self.there(), self.chance.random()
@@ -90,7 +94,7 @@ class Drawer:
             return "rename %s %s.%s" % (source, self.directory(), source.rsplit(".", 1)[1])
         return "rename %s %s" % (source, self.made())
 
-    def rename_that_grows(self):
+    def rename_that_grows(self) -> str:
         """To a big directory in which little is left, under a long name; most files share their identifier, and so are copied."""
         found = self.state.disc.directories
         to = min(found if self.chance.random() < 0.7 else self.chance.sample(found, 1), key=self.room_in)
@@ -99,36 +103,36 @@ class Drawer:
         source = self.path_to(self.chance.choice(chosen)) if chosen else self.there()
         return "rename %s %s.%s" % (source, self.path_to(to), self.long_name())
 
-    def is_sharing(self, entry):
+    def is_sharing(self, entry: Entry) -> Any:
         """Whether another object lies in the file's identifier; a tree without an image doesn't say."""
         return isinstance(self.state, State) and bool(entry.sectors) and len(self.state.owners[entry.address // 256]) > 1
 
-    def set(self):
+    def set(self) -> str:
         access = "".join(letter for letter in "RWL" if self.chance.random() < (0.2 if letter == "L" else 0.5))
         return "set %s %s %s" % (self.there(), self.words(), access or "-")
 
     # words
 
-    def words(self):
+    def words(self) -> str:
         return " ".join("%08x" % self.chance.choice((0, 0xFFFFFD00, self.chance.getrandbits(32))) for at in range(2))
 
-    def spelled(self, names):
+    def spelled(self, names: List[bytes]) -> str:
         return ".".join(["$"] + ["".join(self.spelled_byte(byte) for byte in name) for name in names])
 
-    def spelled_byte(self, byte):
+    def spelled_byte(self, byte: int) -> str:
         if 33 <= byte <= 126 and byte not in NOT_SPELLED and self.chance.random() > 0.02:
             return chr(byte)
         return ("%%%02X" if self.chance.random() < 0.5 else "%%%02x") % byte
 
-    def folded_by_chance(self, name):
+    def folded_by_chance(self, name: bytes) -> bytes:
         if self.chance.random() > 0.15:
             return name
         return bytes(byte ^ 32 if chr(byte).isalpha() and byte < 128 else byte for byte in name)
 
-    def path_to(self, entry):
+    def path_to(self, entry: Entry) -> str:
         return self.spelled([self.folded_by_chance(name) for name in entry.path])
 
-    def there(self):
+    def there(self) -> str:
         """An object that is there, mostly; now and then a path that isn't right."""
         draw = self.chance.random()
         if draw < 0.02:
@@ -145,7 +149,7 @@ class Drawer:
             return self.path_to(entry) + "." + self.name()
         return self.path_to(entry)
 
-    def directory(self):
+    def directory(self) -> str:
         found = self.state.disc.directories
         if self.mood == "grow" and self.state.form == "big" and self.chance.random() < 0.8:
             few = self.chance.sample(found, min(len(found), self.chance.choice((4, 99))))
@@ -156,13 +160,13 @@ class Drawer:
             return self.path_to(self.state.objects[self.favourite])
         return self.path_to(self.chance.choice(found))
 
-    def room_in(self, directory):
+    def room_in(self, directory: Entry) -> int:
         """About how many bytes are left in a big directory; in a tree without an image, up to 2048 bytes."""
         head = self.state.heads[tuple(name.upper() for name in directory.path)]
         used = 40 + sum(28 + len(entry.name) // 4 * 4 + 4 for entry in directory.entries)
         return head.size - used if head else -used % 2048
 
-    def name(self):
+    def name(self) -> str:
         draw = self.chance.random()
         if draw < 0.02:
             return self.spelled([self.chance.choice((b"A B", b"\x7f", b"a:b", b"x" * 11, b"\xe9", b"y" * 255, b"."))])[2:]
@@ -172,24 +176,24 @@ class Drawer:
             return self.long_name()
         return self.spelled([random_name(self.chance, self.state.form)])[2:]
 
-    def long_name(self):
+    def long_name(self) -> str:
         return "".join(self.chance.choices("abcdefgh", k=self.chance.randint(120, 255)))
 
-    def made(self):
+    def made(self) -> str:
         return "%s.%s" % (self.directory(), self.name())
 
-    def made_or_there(self):
+    def made_or_there(self) -> str:
         files = [entry for entry in self.state.objects.values() if not entry.is_directory()]
         if files and self.chance.random() < 0.3:
             return self.path_to(self.chance.choice(files))
         return self.made()
 
-    def holes(self):
+    def holes(self) -> List[int]:
         if self.state.is_new:
             return [length * self.state.map.shape.bit_bytes for zone, start, length in self.state.holes()]
         return [length * self.state.sector for start, length in self.state.old_holes()]
 
-    def length(self):
+    def length(self) -> int:
         """A length in bytes, often at the edge of holes, sectors, share units or of all that is free."""
         holes, chance = self.holes(), self.chance
         unit = self.state.map.shape.share if self.state.is_new else self.state.sector

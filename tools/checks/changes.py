@@ -15,6 +15,8 @@ at once only. --old takes old maps in place of new ones. --only draws these comm
 discs. --table counts replies and events. The first difference ends a disc: the script is printed, and the images are kept. Exit
 status 1 if there is any.
 """
+from __future__ import annotations
+
 import argparse
 import collections
 import functools
@@ -26,12 +28,13 @@ import sys
 import tempfile
 import time
 import traceback
+from typing import Any, Counter, List, Optional, Tuple, Union
 
 from tools.checks import change_rows, change_scripts, crash
 from tools.files import PROGRAM
 from tools.images import drawn_discs
 from tools.reference import change_squash, changer, read_image
-from tools.reference.change_answer import CHANGING, WORDS, Command, owed_refusal, refusal_of, tree_after
+from tools.reference.change_answer import CHANGING, WORDS, Command, Needs, owed_refusal, refusal_of, tree_after
 from tools.reference.change_batch import TreeState, batch_differences
 from tools.reference.change_effects import differences
 from tools.reference.change_state import State
@@ -51,11 +54,11 @@ class Difference(Exception):
 class Program:
     """The built program, over an image in a folder of its own."""
 
-    def __init__(self, path, folder):
+    def __init__(self, path: str, folder: str) -> None:
         self.path, self.image = os.path.realpath(path), os.path.join(folder, "disc.adf")
         self.left = b""  # what the file holds
 
-    def run(self, image, script, read_only=False):
+    def run(self, image: bytes, script: bytes, read_only: bool = False) -> Optional[Tuple[int, str, bytes]]:
         """Status, text and the image afterwards."""
         if image is not self.left:
             with open(self.image, "wb") as file:
@@ -74,10 +77,10 @@ class Program:
 class Stand:
     """tools/reference/changer.py in the program's place; reading lines are answered by the reader."""
 
-    def __init__(self, fault=None):
+    def __init__(self, fault: Optional[str] = None) -> None:
         self.fault, self.chance, self.left = fault, random.Random(1), b""
 
-    def run(self, image, script, read_only=False):
+    def run(self, image: bytes, script: bytes, read_only: bool = False) -> Tuple[int, str, bytes]:
         replies, state = [], opened(image)
         for line in read_image.lines_of(script):
             c = Command(line)
@@ -95,15 +98,15 @@ class Stand:
         return status_of(replies), "".join(replies), image
 
 
-def refusal_text(number):
+def refusal_text(number: int) -> str:
     return "error %d %s\n" % (number, WORDS[number])
 
 
-def status_of(replies):
+def status_of(replies: List[str]) -> int:
     return int(any(re.fullmatch(r"error [0-9]+ [A-Za-z]+\n", one) for one in replies))
 
 
-def reading_reply(state, line, read_only=False):
+def reading_reply(state: State, line: bytes, read_only: bool = False) -> str:
     """The reply to a line that changes nothing."""
     c = Command(line)
     number = refusal_of(state, c, read_only)
@@ -113,7 +116,7 @@ def reading_reply(state, line, read_only=False):
 # ---- one command
 
 
-def looks(c):
+def looks(c: Command) -> List[bytes]:
     """Lines that read what a command may have touched."""
     found = ["free", "check"]
     if not c.fault:
@@ -124,7 +127,7 @@ def looks(c):
 
 
 @functools.lru_cache(maxsize=4)
-def opened(image):
+def opened(image: bytes) -> State:
     """The state of an image; images are opened again and again."""
     try:
         return State(image)
@@ -132,19 +135,20 @@ def opened(image):
         raise Difference("the image doesn't open: %s" % str(fault).strip()) from None
 
 
-def replies_differ(state, c, first, got, read_only):
+def replies_differ(state: State, c: Command, first: str, got: Tuple[int, str], read_only: bool) -> None:
     """Compares status and text with the reply to the command and those of the looks after it."""
     replies = [first] + [reading_reply(state, line, read_only) for line in looks(c)]
     if got != (status_of(replies), "".join(replies)):
         raise Difference("wanted status %d and %s\ngot status %d and %s" % (status_of(replies), short(replies), got[0], short([got[1]])))
 
 
-def short(replies):
+def short(replies: List[str]) -> str:
     text = "".join(replies)
     return repr(text if len(text) < 3000 else text[:3000] + "..")
 
 
-def step(actor, state, line, read_only, counts):
+def step(actor: Union[Program, Stand], state: State, line: bytes, read_only: bool,
+         counts: Counter[Tuple[str, str]]) -> Optional[State]:
     """Runs one line: the state afterwards, or a difference."""
     c = Command(line)
     status, text, image = actor.run(state.data, b"\n".join([line] + looks(c)) + b"\n", read_only)
@@ -171,12 +175,12 @@ def step(actor, state, line, read_only, counts):
     return after
 
 
-def compaction_differences(before, after):
+def compaction_differences(before: Any, after: State) -> Any:
     """tools/checks/crash.py has the same looks over new maps."""
     return crash.faults_at_end(before.data, after.data) if before.is_new else change_squash.differences(before, after)
 
 
-def count_events(needs, after, counts):
+def count_events(needs: Needs, after: State, counts: Counter[Tuple[str, str]]) -> None:
     """What the accepted commands came to."""
     events = {"shares": needs.slack, "is copied": needs.copied, "grows": needs.grown is not None, "root grows": needs.grown == (),
               "is copied and grows": needs.copied and needs.grown is not None,
@@ -200,7 +204,8 @@ def count_events(needs, after, counts):
 class Run:
     """A disc and the commands over it."""
 
-    def __init__(self, actor, options, number, counts):
+    def __init__(self, actor: Union[Program, Stand], options: argparse.Namespace, number: int,
+                 counts: Counter[Tuple[str, str]]) -> None:
         self.actor, self.options, self.counts, self.number = actor, options, counts, number
         self.name, self.image = drawn_discs.image_of(number, options.old)
         self.chance = random.Random("%d %d" % (options.seed, number))
@@ -208,7 +213,7 @@ class Run:
         self.read_only = self.chance.random() < 0.03
         self.script, self.text, self.last = [], "", self.image
 
-    def go(self, at_once=True):
+    def go(self, at_once: bool = True) -> str:
         """All differences, as a text; nothing if there are none."""
         try:
             if self.options.batch:
@@ -224,7 +229,7 @@ class Run:
         except Exception:  # an image on which the check itself trips has to be seen too
             return self.report(traceback.format_exc())
 
-    def one_by_one(self):
+    def one_by_one(self) -> None:
         state = opened(self.image)
         for at in range(self.options.commands):
             line = self.drawer.line(state)
@@ -234,7 +239,7 @@ class Run:
                 state = step(self.actor, state, line, self.read_only, self.counts)
         self.last = state.data
 
-    def draw_all(self):
+    def draw_all(self) -> None:
         """The script for a run at once, drawn over the tree that it would make on a disc of endless space."""
         state = TreeState.of(opened(self.image))
         for at in range(self.options.commands):
@@ -246,7 +251,7 @@ class Run:
                 if is_change and not (c.is_making_file() and c.file_length() >= 1 << 22):
                     state = state.with_tree(tree_after(state, c))
 
-    def at_once(self):
+    def at_once(self) -> None:
         status, text, image = self.actor.run(self.image, b"".join(line + b"\n" for line in self.script), self.read_only)
         found = batch_differences(opened(self.image), opened(image), self.script, status, text, self.read_only)
         self.counts["event", "the same image at once"] += image == self.last
@@ -254,7 +259,7 @@ class Run:
             self.counts["event", "at once differs"] += 1
             raise Difference("the script run at once:\n" + "\n".join(found[:12]))
 
-    def report(self, found):
+    def report(self, found: Any) -> Any:
         folder = tempfile.mkdtemp(prefix="check_changes-")
         script = b"".join(line + b"\n" for line in self.script)
         for name, content in (("first.adf", self.image), ("before.adf", self.last), ("after.adf", self.actor.left), ("script", script)):
@@ -270,7 +275,7 @@ class Run:
 # ---- rows
 
 
-def rows_differ(actor, options):
+def rows_differ(actor: Program, options: argparse.Namespace) -> Optional[bool]:
     """The worked rows of the commands that are drawn, compared; prints what differs."""
     wrong, count = [], 0
     for make, script, wanted, *read_only in change_rows.ROWS:
@@ -289,7 +294,7 @@ def rows_differ(actor, options):
     return bool(wrong)
 
 
-def left_differences(image, end):
+def left_differences(image: bytes, end: bytes) -> List[Any]:
     """What no row may change: an image opens, and the copies of a new map are equal and have the bits after their zones that were there."""
     try:
         before, after = opened(image), opened(end)
@@ -301,12 +306,12 @@ def left_differences(image, end):
     return found + (["bits after a zone have changed"] if after_zones(before) != after_zones(after) else [])
 
 
-def after_zones(state):
+def after_zones(state: State) -> List[int]:
     """The bits after the last bit of each zone, in the copy of the map that counts."""
     return [int.from_bytes(sector, "little") >> state.map.shape.end(zone) for zone, sector in enumerate(state.map.chosen_copy(state.data))]
 
 
-def check(actor, options):
+def check(actor: Program, options: argparse.Namespace) -> bool:
     counts, failed = collections.Counter(), 0
     kinds = len(drawn_discs.OLD if options.old else drawn_discs.NEW)
     for at in range(options.images):
@@ -327,7 +332,7 @@ def check(actor, options):
     return not failed
 
 
-def check_program(options):
+def check_program(options: argparse.Namespace) -> Optional[bool]:
     with tempfile.TemporaryDirectory() as folder:
         program = Program(options.program, folder)
         options.words = options.only.split(",") if options.only else ALL
@@ -338,12 +343,12 @@ def check_program(options):
 # ---- the self-test
 
 
-def words_of(old):
+def words_of(old: bool) -> Tuple[str, ...]:
     """What tools/reference/changer.py can do: it compacts old maps alone."""
     return CHANGING + ("compact",) * old
 
 
-def found_after(fault, words, options):
+def found_after(fault: str, words: str, options: argparse.Namespace) -> Tuple[int, str]:
     """Over how many commands a fault was found, and what was found first; None if it wasn't."""
     options.old = "old" in words.split()
     options.words = words_of(options.old)
@@ -360,7 +365,7 @@ def found_after(fault, words, options):
     return None
 
 
-def without_fault(options):
+def without_fault(options: argparse.Namespace) -> Any:
     """Whether the rows and the commands over discs agree."""
     good = True
     for old in (False, True):
@@ -370,7 +375,7 @@ def without_fault(options):
     return good
 
 
-def self_test(options):
+def self_test(options: argparse.Namespace) -> bool:
     good = bool(options.only) or without_fault(options)
     for fault, words in changer.FAULTS.items() if not options.only else [(options.only, changer.FAULTS[options.only])]:
         found = found_after(fault, words, options)
@@ -379,7 +384,7 @@ def self_test(options):
     return good
 
 
-def main(words):
+def main(words: List[str]) -> Optional[bool]:
     parser = argparse.ArgumentParser(usage=__doc__, add_help=False)
     for name, value in (("--seed", 1), ("--images", 60), ("--commands", 60), ("--first", 0), ("--most", 3)):
         parser.add_argument(name, type=int, default=value)

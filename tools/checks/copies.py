@@ -8,12 +8,15 @@ nothing: a copy that it names may still differ in an implicit argument, and the 
 `use Rattle.std.proofs.lemmas.MODULE.{..}`; what it has of a lower crate has to be `pub` there, in a module that proofs/Lib.antt
 exports by `pub mod`. One line a finding, in three tables; exit status 0.
 """
+from __future__ import annotations
+
 import argparse
 import collections
 import functools
 import glob
 import os
 import re
+from typing import Any, Dict, Iterator, List
 
 from tools.files import TOP
 
@@ -27,7 +30,7 @@ USING = re.compile(r"using\(([^)]*)\)")
 WRITTEN_BY_GOALS = ("Answers.antt", "Invariants.antt", "Proof.antt", "Lib.antt")
 
 
-def read(path):
+def read(path: str) -> str:
     with open(path, encoding="utf-8") as it:
         return it.read()
 
@@ -35,7 +38,7 @@ def read(path):
 class Item:
     """A definition or lemma at the top of a file: its name, its statement, and the lines of its body."""
 
-    def __init__(self, file, name, is_pub, start, statement):
+    def __init__(self, file: File, name: str, is_pub: bool, start: int, statement: str) -> None:
         self.file, self.name, self.is_pub, self.start, self.statement, self.body = file, name, is_pub, start, statement, []
         self.end = start + 1
 
@@ -43,7 +46,7 @@ class Item:
 class File:
     """A file of the kit, or of a crate: its items, and what it imports."""
 
-    def __init__(self, path):
+    def __init__(self, path: str) -> None:
         self.path, self.lines, self.imports, self.items = path, read(path).split("\n"), {}, []
         for line in filter(None, map(USE.match, self.lines)):
             self.imports.update((name.split(" as ")[-1].strip(), line[1]) for name in line[2].split(","))
@@ -51,14 +54,14 @@ class File:
         self.names = {item.name for item in self.items}
 
     @property
-    def crate(self):
+    def crate(self) -> Any:
         return self.path.split("/")[1]
 
     @property
-    def module(self):
+    def module(self) -> Any:
         return "Rattle." + self.path[len("crates/"):-len(".antt")].replace("/", ".")
 
-    def read_items(self):
+    def read_items(self) -> None:
         """An item goes on with indented lines, closing brackets, and lines that begin with its name."""
         item, in_statement = None, False
         for at, line in enumerate(self.lines):
@@ -76,7 +79,7 @@ class File:
                 item = None
 
 
-def bound_in(text):
+def bound_in(text: str) -> Any:
     """The variables of binders and lambdas, and of the patterns before `=`."""
     names = [name for found in re.finditer(rf"[({{]({NAME}(?: {NAME})*) : ", text) for name in found[1].split()]
     names += [name for found in re.finditer(r"λ ([^.]*?)\.", text) for name in re.findall(NAME, found[1].split(" : ")[0])]
@@ -85,13 +88,13 @@ def bound_in(text):
     return {name for name in names if name[0].islower()}
 
 
-def spread(text):
+def spread(text: str) -> Any:
     """Each variable of `(a b : T) → ` gets a binder of its own, so that a lemma may group them as it likes."""
     each = lambda found: "".join(f"({name} : {found[2]}) → " for name in found[1].split())
     return re.sub(rf"\(({NAME}(?: {NAME})*) : ([^()]*(?:\([^()]*\)[^()]*)*)\) → ", each, text)
 
 
-def formed(text, own, meaning):
+def formed(text: str, own: Any, meaning: Any) -> Any:
     """The text with variables by number, and with what it names of other files by where that stands."""
     text = re.sub(r"^(abbrev |unfoldable )?(pub )?", "", text)
     bound, numbers, found = {name for name in bound_in(text) if meaning(name) == name and name != own}, {}, []
@@ -104,27 +107,27 @@ def formed(text, own, meaning):
     return " ".join(found)
 
 
-def statement_of(item):
+def statement_of(item: Any) -> Any:
     """The form of a statement alone, without its name and leading types, as std is looked through."""
     text = re.sub(r"^(\{[^{}]*\} → )+", "", HEAD.sub("", item.statement))
     return formed(spread(text), item.name, lambda name: name)
 
 
-def form_of(item):
+def form_of(item: Any) -> Any:
     """The form of a statement and its body. What comes of std counts by its name, since std gives it in several modules."""
-    def meaning(name):
+    def meaning(name: str) -> Any:
         module = item.file.imports.get(name) or (item.file.module if name in item.file.names else "")
         return name if not module or module.startswith("Rattle.std.") else f"{module}.{name}"
     kind = item.statement.split(" ")[0] if item.statement.startswith(("abbrev ", "unfoldable ")) else ""
     return kind, formed(item.statement, item.name, meaning), formed("\n".join(item.body), item.name, meaning)
 
 
-def lemmas_of_std(kit):
+def lemmas_of_std(kit: str) -> Any:
     """The lemmas that std's modules have or pass on, by the form of their statements."""
     root, found = os.path.join(kit, "rattle"), collections.defaultdict(set)
 
     @functools.lru_cache(maxsize=None)
-    def statements(path):
+    def statements(path: str) -> Any:
         return {item.name: item for item in File(path).items if item.is_pub} if os.path.isfile(path) else {}
 
     for path in sorted(glob.glob(f"{root}/std/proofs/lemmas/**/*.antt", recursive=True)):
@@ -142,20 +145,20 @@ def lemmas_of_std(kit):
     return found
 
 
-def crates_in_order():
+def crates_in_order() -> Dict[str, List[str]]:
     """The crates, lowest first, each with those that it uses."""
     rows = [line.split("#")[0].split(":") for line in read("crates.txt").split("\n") if ":" in line.split("#")[0]]
     return {row[0].strip(): row[1].split() for row in rows}
 
 
-def copies_of_std(files, std):
+def copies_of_std(files: Any, std: Any) -> Iterator[Any]:
     """The lemmas of these files that std has. What only names types says too little to be one."""
     for item in (item for file in files if "/proofs/" in file.path for item in file.items if re.search("→.*[≡≤<⊥]", item.statement)):
         for name in sorted(std.get(statement_of(item), ()))[:1]:
             yield f"{item.file.path}:{item.start + 1} {item.name} is {name}"
 
 
-def copies_of_crates(files, crates):
+def copies_of_crates(files: Any, crates: Any) -> Iterator[Any]:
     """The items that the same crate or one below has already, with the lowest that may be cited."""
     same, order = collections.defaultdict(list), list(crates)
     for item in (item for file in files if not file.path.endswith(WRITTEN_BY_GOALS) for item in file.items if item.body):
@@ -168,12 +171,12 @@ def copies_of_crates(files, crates):
                 yield f"{item.file.path}:{item.start + 1} {item.name} is {lower[0].file.module}.{lower[0].name}"
 
 
-def words_of(lines):
+def words_of(lines: Any) -> Any:
     """How often each word stands in these lines, without imports and comments."""
     return collections.Counter(word for line in lines if not line.startswith(("use ", "--")) for word in WORD.findall(line))
 
 
-def unused(files, asked):
+def unused(files: Any, asked: Any) -> Iterator[Any]:
     """Lemmas that no other line of their file names, no file imports, and no `using(..)` of the code gives to the prover."""
     for file in (file for file in files if "/proofs/" in file.path and not file.path.endswith(WRITTEN_BY_GOALS)):
         all_words = words_of(file.lines)
@@ -183,7 +186,7 @@ def unused(files, asked):
                 yield f"{file.path}:{item.start + 1} {item.name}"
 
 
-def names_asked_for():
+def names_asked_for() -> Any:
     """What any file imports of another, or gives to the prover by `using(crate::proofs::MODULE::NAME)`."""
     found = set()
     for path in glob.glob("crates/*/**/*.antt", recursive=True) + glob.glob("crates/*/**/*.rt", recursive=True):
@@ -197,7 +200,7 @@ def names_asked_for():
     return found
 
 
-def main():
+def main() -> None:
     parser = argparse.ArgumentParser(description=__doc__.split("\n")[0], usage=__doc__.split("\n")[2][len("usage: "):])
     parser.add_argument("--kit", default="/opt/rattle")
     parser.add_argument("crates", nargs="*")

@@ -10,16 +10,19 @@ the last sync, whatever the others are: so for moments in the record, versions o
 read by tools/reference/format_reader.py. It has to open, with every object at its address and with its bytes. At the end nothing must be
 left to do, identifiers 1, 2 and lost ones must have their runs, and the two copies of the map must be equal.
 """
+from __future__ import annotations
+
 import hashlib
 import os
 import random
 import subprocess
 import sys
 import tempfile
+from typing import Any, Dict, Iterator, List, Optional, Set, Tuple, Union
 
 from tools.files import built_shim
 from tools.images.fragmented import SHAPES, fragmented
-from tools.reference.format_reader import Bad, Disc
+from tools.reference.format_reader import Bad, Disc, Record
 
 MOMENTS, CHOICES = 24, 2
 SYNC = (1 << 64) - 1
@@ -28,7 +31,7 @@ SYNC = (1 << 64) - 1
 # ---- what a disc holds
 
 
-def objects(data):
+def objects(data: bytes) -> List[Tuple[Optional[Union[int, str]], ...]]:
     """Each object with its address, words and the digest of its bytes; the fault, if the disc doesn't open."""
     try:
         disc = Disc(data)
@@ -39,7 +42,7 @@ def objects(data):
     return sorted(found, key=lambda one: one[0])
 
 
-def layout(disc):
+def layout(disc: Disc) -> List[List[Tuple[int, int, Optional[int]]]]:
     """For each zone its runs in order: start and length in bytes, and the identifier, or None for a hole."""
     zones = {}
     for start, size in disc.map.holes:
@@ -50,12 +53,12 @@ def layout(disc):
     return [sorted(runs) for zone, runs in sorted(zones.items())]
 
 
-def zone_of(g, start):
+def zone_of(g: Record, start: int) -> int:
     bit = start // g.bit_bytes
     return next(zone for zone in range(g.zones - 1, -1, -1) if g.base(zone) <= bit)
 
 
-def left_to_do(disc):
+def left_to_do(disc: Disc) -> List[Any]:
     """What compaction could still do, in words."""
     g = disc.map.g
     movable = {identifier for identifier in disc.owned if identifier > 2}
@@ -77,17 +80,17 @@ def left_to_do(disc):
     return found
 
 
-def fixed_runs(disc):
+def fixed_runs(disc: Disc) -> Dict[int, List[Tuple[int, Any]]]:
     return {identifier: runs for identifier, runs in disc.map.runs.items() if identifier < 3 or identifier not in disc.owned}
 
 
-def copies(disc, data):
+def copies(disc: Disc, data: bytes) -> Tuple[bytes, bytes]:
     g = disc.map.g
     start, size = g.map_sector() * g.sector, g.zones * g.sector
     return data[start:start + size], data[start + size:start + 2 * size]
 
 
-def faults_at_end(before, after):
+def faults_at_end(before: bytes, after: bytes) -> List[Any]:
     """What is wrong with the disc at the end, in words."""
     if objects(after) != objects(before):
         return ["other objects at the end: %s" % objects(after)[:2]]
@@ -103,7 +106,7 @@ def faults_at_end(before, after):
 # ---- crashes
 
 
-def steps_of(record):
+def steps_of(record: bytes) -> List[Optional[Tuple[int, bytes]]]:
     """The record as (place, bytes) for a write and None for a sync."""
     at, found = 0, []
     while at < len(record):
@@ -120,10 +123,10 @@ def steps_of(record):
 class Crashes:
     """The images that crashes leave, along a record."""
 
-    def __init__(self, image, steps, sector, chance):
+    def __init__(self, image: bytes, steps: List[Optional[Tuple[int, bytes]]], sector: int, chance: random.Random) -> None:
         self.image, self.steps, self.sector, self.chance = bytearray(image), steps, sector, chance
 
-    def versions(self, pending):
+    def versions(self, pending: List[Tuple[int, bytes]]) -> Dict[int, List[bytes]]:
         """For each sector the versions that it had since the last sync."""
         found = {}
         for place, content in pending:
@@ -136,17 +139,17 @@ class Crashes:
                 held.append(bytes(version))
         return found
 
-    def drawn(self, pending):
+    def drawn(self, pending: List[Tuple[int, bytes]]) -> bytes:
         image = bytearray(self.image)
         for at, held in self.versions(pending).items():
             image[self.sector * at:self.sector * (at + 1)] = self.chance.choice(held)
         return bytes(image)
 
-    def apply(self, pending):
+    def apply(self, pending: List[Tuple[int, bytes]]) -> None:
         for place, content in pending:
             self.image[place:place + len(content)] = content
 
-    def each(self, moments):
+    def each(self, moments: Set[int]) -> Iterator[Tuple[int, bytes]]:
         """Images of crashes at the moments, numbers of calls done."""
         pending = []
         for number, step in enumerate(self.steps, 1):
@@ -161,7 +164,8 @@ class Crashes:
         self.apply(pending)
 
 
-def crash_faults(image, steps, sector, chance):
+def crash_faults(image: bytes, steps: List[Optional[Tuple[int, bytes]]], sector: int,
+                 chance: random.Random) -> Tuple[List[Any], bytes]:
     """The first crash that loses something, in words, and the image at the end."""
     wanted = objects(image)
     numbers = range(1, len(steps) + 1)
@@ -178,7 +182,7 @@ def crash_faults(image, steps, sector, chance):
 # ---- the program
 
 
-def with_torn_copy(image, seed):
+def with_torn_copy(image: bytearray, seed: int) -> bytes:
     """Every third disc has copies that differ, and every sixth counts by copy 2."""
     if seed % 3:
         return bytes(image)
@@ -188,7 +192,7 @@ def with_torn_copy(image, seed):
     return bytes(torn)
 
 
-def compacted(program, shim, folder, image):
+def compacted(program: str, shim: str, folder: str, image: bytes) -> Tuple[List[Optional[Tuple[int, bytes]]], bytes, List[Any]]:
     """The record of the program's writes over the image, and what is wrong with the run."""
     path, record = os.path.join(folder, "disc"), os.path.join(folder, "record")
     for name, content in ((path, image), (record, b"")):
@@ -204,7 +208,7 @@ def compacted(program, shim, folder, image):
     return steps, end, wrong
 
 
-def look(image, steps, chance):
+def look(image: bytes, steps: List[Optional[Tuple[int, bytes]]], chance: random.Random) -> Tuple[List[Any], bytes]:
     """All that is wrong with the record of a compaction, and the image at its end."""
     found, end = crash_faults(image, steps, Disc(image).map.sector, chance)
     if steps and steps[-1] is not None:
@@ -212,7 +216,7 @@ def look(image, steps, chance):
     return found + faults_at_end(image, end), end
 
 
-def check(program, discs):
+def check(program: str, discs: int) -> bool:
     failures, calls = [], 0
     with tempfile.TemporaryDirectory() as folder:
         shim = built_shim(folder)
@@ -233,7 +237,7 @@ def check(program, discs):
 # ---- the self-test: one run slides into the hole before it
 
 
-def slid(volume, most):
+def slid(volume: Any, most: int) -> Any:
     """The zone, the place of the hole, and the runs afterwards, where a movable run follows a hole: one that fits, or a longer one."""
     owned = volume.owned() - {1, 2}
     for zone, runs in enumerate(volume.runs):
@@ -245,7 +249,7 @@ def slid(volume, most):
     return None
 
 
-def stand_in(volume, image, fault):
+def stand_in(volume: Any, image: bytes, fault: Optional[str]) -> Any:
     """What a compactor of one step writes: bytes into the hole, a sync, and one zone in both copies."""
     shape = volume.shape
     zone, bit, size, length = slid(volume, fault != "own place")
@@ -260,7 +264,7 @@ def stand_in(volume, image, fault):
     return steps
 
 
-def self_test():
+def self_test() -> bool:
     failures = []
     for fault in (None, "no sync", "own place", "one copy"):
         caught = 0

@@ -4,24 +4,27 @@
 
 usage: tools/run checks/demo PROGRAM
 """
+from __future__ import annotations
+
 import hashlib
 import os
 import re
 import subprocess
 import sys
 import tempfile
+from typing import Any, Iterator, List, Optional, Tuple
 
 COUNTS = (1, 2, 63, 64, 65, 1000, 10000)
 FORMS = ("E", "F", "D", "L", "E+", "F+")
 
 
-def draws(seed):
+def draws(seed: int) -> Iterator[int]:
     while True:
         seed = (seed * 1103515245 + 12345) % (1 << 31)
         yield seed // 65536
 
 
-def line(number, drawn):
+def line(number: int, drawn: Iterator[Any]) -> str:
     one, two, three = next(drawn), next(drawn), next(drawn)
     folder, name, rest = one % 8, two % 16, three // 8
     path = "$.D%d.F%d" % (folder, name)
@@ -33,7 +36,7 @@ def line(number, drawn):
             5: "rename %s $.D%d.F%d" % (path, (folder + 1) % 8, name), 6: "load " + path, 7: "cat $.D%d" % folder}[word]
 
 
-def demo_script(count):
+def demo_script(count: int) -> str:
     lines = ["cdir $.D%d" % folder for folder in range(8)]
     drawn = draws(count)
     for number in range(count):
@@ -43,7 +46,7 @@ def demo_script(count):
     return "".join(one + "\n" for one in [*lines, "check", "free"])
 
 
-def replies_in(text):
+def replies_in(text: str) -> List[str]:
     """The replies of a text: each ends with the line `ok`, or is the line of a refusal."""
     found, begun = [], ""
     for one in text.splitlines(keepends=True):
@@ -55,7 +58,7 @@ def replies_in(text):
     return found
 
 
-def summary(count, text):
+def summary(count: int, text: str) -> Tuple[str, int]:
     replies = replies_in(text)
     refused = sum(one.startswith("error ") for one in replies)
     digest = hashlib.sha256(text.encode()).hexdigest()
@@ -63,25 +66,25 @@ def summary(count, text):
 
 
 class Demos:
-    def __init__(self, program):
+    def __init__(self, program: str) -> None:
         self.program, self.passed, self.failed = os.path.abspath(program), 0, 0
 
-    def run(self, words, script=""):
+    def run(self, words: List[str], script: str = "") -> Optional[Tuple[int, str]]:
         done = subprocess.run([self.program, *words], input=script.encode(), capture_output=True, timeout=600)
         return done.returncode, done.stdout.decode()
 
-    def expect(self, what, wanted, found):
+    def expect(self, what: str, wanted: Any, found: Any) -> None:
         if wanted == found:
             self.passed += 1
         else:
             self.failed += 1
             print("%s: wanted %.300r, got %.300r" % (what, wanted, found))
 
-    def image(self, name):
+    def image(self, name: str) -> bytes:
         with open(name, "rb") as opened:
             return opened.read()
 
-    def served(self, form, count):
+    def served(self, form: str, count: int) -> None:
         """The line and the image are those of the script, which is not read, and come again."""
         what = "--new %s --demo %d" % (form, count)
         status, text = self.run(["--new", form, "plain.adf"], demo_script(count))
@@ -99,7 +102,7 @@ class Demos:
         for name in ("plain.adf", "one.adf", "two.adf"):
             os.remove(name)
 
-    def locked(self, form, count):
+    def locked(self, form: str, count: int) -> None:
         before = self.image("two.adf")
         status, text = self.run(["two.adf", "--read-only"], demo_script(count))
         line, wanted = summary(count, text)
@@ -107,7 +110,7 @@ class Demos:
         self.expect("--read-only --demo %d over %s" % (count, form), (wanted, line), answer)
         self.expect("--read-only --demo %d over %s: the image" % (count, form), before, self.image("two.adf"))
 
-    def others(self):
+    def others(self) -> None:
         with open("zeros.adf", "wb") as opened:
             opened.write(bytes(1 << 20))
         self.expect("--demo over a bad image", (3, "bad-image NoKind\n"), self.run(["--demo", "7", "zeros.adf"]))
@@ -118,7 +121,7 @@ class Demos:
         os.remove("full.adf")
 
 
-def main():
+def main() -> Optional[int]:
     demos = Demos(sys.argv[1])
     first = "save $.D6.F14 fffff000 00000000 " + bytes(range(48)).hex() + "\n"
     demos.expect("the script of 1", "".join("cdir $.D%d\n" % d for d in range(8)) + first + "check\nfree\n", demo_script(1))

@@ -6,12 +6,15 @@ usage: tools/run checks/examples PAGE
 An example is an indented line that begins with `$ `; the indented lines after it, up to the next one or an empty line, are what
 it prints. A line `...` stands for lines that the page leaves out.
 """
+from __future__ import annotations
+
 import re
 import subprocess
 import sys
+from typing import Iterator, List, Tuple
 
 
-def examples(page):
+def examples(page: str) -> Iterator[Tuple[str, List[str]]]:
     """Each command with the lines that have to come."""
     command, lines = None, []
     for line in page.split("\n") + [""]:
@@ -24,12 +27,12 @@ def examples(page):
             lines.append(line[4:])
 
 
-def agrees(lines, printed):
+def agrees(lines: List[str], printed: str) -> bool:
     parts = [r"(.*\n)*" if line == "..." else re.escape(line) + "\n" for line in lines]
     return re.fullmatch("".join(parts), printed) is not None
 
 
-def main(path):
+def main(path: str) -> bool:
     with open(path) as file:
         found = list(examples(file.read()))
     failed = 0

@@ -4,15 +4,18 @@
 What a call fails in is known from runs of the script's beginnings, which make the same calls: so which line breaks off, which
 replies have to be there, and the images before and after that line. Calls fail by tools/checks/outside.c.
 """
+from __future__ import annotations
+
 import collections
 import errno
 import os
 import subprocess
+from typing import Any, Counter, Dict, List, Optional, Set, Tuple, Union
 
 from tools.checks import crash
 from tools.checks.outside import fault, some_of
 from tools.files import built_shim, read
-from tools.reference.change_answer import Command, owed_refusal
+from tools.reference.change_answer import Command, Needs, owed_refusal
 from tools.reference.change_batch import TreeState
 from tools.reference.change_state import State, changed_sectors
 from tools.reference.filecore import BOOT_BLOCK, BOOT_SIZE, spelled_path
@@ -38,25 +41,25 @@ class Wrong(Exception):
 class Ended:
     """Status, text, the image afterwards, and the calls, if they were noted: kind and what each was about."""
 
-    def __init__(self, status, text, image, calls):
+    def __init__(self, status: int, text: bytes, image: bytes, calls: List[List[str]]) -> None:
         self.status, self.text, self.image, self.calls = status, text, image, calls
         self.counts = collections.Counter(call[0] for call in calls[:-1])
         if calls:
             self.counts["memory"] = int(calls[-1][3])
 
-    def disk_calls(self):
+    def disk_calls(self) -> List[Tuple[str, str]]:
         return [(call[0], call[3]) for call in self.calls if call[0] in DISK]
 
 
 class Shimmed:
     """The built program over an image in a folder of its own, with the object between it and the system."""
 
-    def __init__(self, program, folder):
+    def __init__(self, program: str, folder: str) -> None:
         self.program, self.image = os.path.realpath(program), os.path.join(folder, "shimmed.adf")
         self.shim, self.log = built_shim(folder), os.path.join(folder, "log")
         self.left = None  # what the file holds
 
-    def run(self, image, script, faults="", is_noted=False):
+    def run(self, image: bytes, script: bytes, faults: str = "", is_noted: bool = False) -> Ended:
         if image is not self.left:
             with open(self.image, "wb") as file:
                 file.write(image)
@@ -69,20 +72,20 @@ class Shimmed:
         self.left = image if found == image else found
         return Ended(ran.returncode, ran.stdout, self.left, self.noted() if is_noted else [])
 
-    def noted(self):
+    def noted(self) -> List[List[str]]:
         lines = read(self.log).decode(errors="replace").splitlines()
         os.unlink(self.log)
         return [line.split(" ", 3) for line in lines]
 
 
-def joined(lines):
+def joined(lines: List[bytes]) -> bytes:
     return b"".join(line + b"\n" for line in lines)
 
 
 class Script:
     """A script over an image, with the end of each of its beginnings."""
 
-    def __init__(self, shimmed, image, lines):
+    def __init__(self, shimmed: Shimmed, image: bytes, lines: List[bytes]) -> None:
         self.shimmed, self.image, self.lines, self.script = shimmed, image, lines, joined(lines)
         self.ends = []
         for count in range(len(lines) + 1):
@@ -96,11 +99,11 @@ class Script:
             if end.status not in (0, 1) or calls[:len(end.disk_calls())] != end.disk_calls():
                 raise Wrong("a beginning of the script ends with status %d, or makes other calls" % end.status)
 
-    def failed_line(self, kind, number):
+    def failed_line(self, kind: str, number: int) -> Any:
         """The number of the line, from 1, in which this call is made; 0 before the first one."""
         return next(at for at, end in enumerate(self.ends) if end.counts[kind] >= number)
 
-    def tree(self, at):
+    def tree(self, at: int) -> Dict[Tuple[bytes, ...], Tuple[int, int, int, Optional[bytes]]]:
         """The tree after so many lines."""
         if at not in self.trees:
             self.trees[at] = TreeState.of(State(self.ends[at].image)).nodes
@@ -108,7 +111,7 @@ class Script:
 
     # ---- one failing call
 
-    def outcome(self, kind, number):
+    def outcome(self, kind: str, number: int) -> Any:
         """What the image was left as, if the call of this kind and number fails; Wrong if it mustn't be."""
         faults = fault(kind, number, errno.ENOMEM if kind == "memory" else errno.EIO)
         if kind == TORN:
@@ -120,12 +123,12 @@ class Script:
             return self.after_source(ended)
         return self.after_others(ended, kind)
 
-    def after_source(self, ended):
+    def after_source(self, ended: Ended) -> Any:
         if (ended.status, ended.text) != (5, b"") or ended.image is not self.image or any(call[0] == "open" for call in ended.calls):
             raise Wrong("status %d, text %r; nothing may be opened, written or changed" % (ended.status, ended.text[:80]))
         return UNTOUCHED
 
-    def after_others(self, ended, kind):
+    def after_others(self, ended: Ended, kind: str) -> Any:
         """Some lines were done, a part of their text was written, and nothing is pending."""
         wanted = (STATUS[kind],) if kind in STATUS else (7, self.whole.status)
         if ended.status not in wanted:
@@ -140,7 +143,7 @@ class Script:
             raise Wrong("something is pending at the end")
         return UNTOUCHED
 
-    def after_disk(self, ended, line):
+    def after_disk(self, ended: Ended, line: int) -> Optional[str]:
         before, after = self.ends[max(line - 1, 0)], self.ends[line]
         if ended.status != 4:
             raise Wrong("status %d instead of 4, in line %d" % (ended.status, line))
@@ -152,7 +155,7 @@ class Script:
             raise Wrong("the image has changed by a line that changes nothing")
         return self.torn(line, ended.image)
 
-    def torn(self, line, image):
+    def torn(self, line: int, image: bytes) -> Optional[str]:
         """The image after a command that broke off while it changed the disc."""
         before, c = State(self.ends[line - 1].image), Command(self.lines[line - 1])
         changed = changed_sectors(before, Bytes(image, before.sector))
@@ -166,7 +169,7 @@ class Script:
             return compact_outcome(before, image)
         return self.tree_left(line, image)
 
-    def tree_left(self, line, image):
+    def tree_left(self, line: int, image: bytes) -> str:
         try:
             nodes = TreeState.of(State(image)).nodes
         except Fault:
@@ -177,14 +180,14 @@ class Script:
 class Bytes:
     """An image of which only its bytes are known."""
 
-    def __init__(self, data, sector):
+    def __init__(self, data: bytes, sector: int) -> None:
         self.data, self.sector = data, sector
 
 
 # ---- the sectors that a command mustn't write
 
 
-def rewritten_keys(state, c, needs):
+def rewritten_keys(state: State, c: Command, needs: Needs) -> Set[Tuple[bytes, ...]]:
     """The directories that a command may rewrite: what holds a named path's last name, what is renamed, what holds a grown
     directory, and what lies in one that gets a new address."""
     keys = {path[:-1] for path in (c.key(), c.target()) if path}
@@ -197,20 +200,20 @@ def rewritten_keys(state, c, needs):
     return keys
 
 
-def boot_sectors(state):
+def boot_sectors(state: State) -> Set[int]:
     if state.kind != "Boot":
         return set()
     return set(range(BOOT_BLOCK // state.sector, (BOOT_BLOCK + BOOT_SIZE - 1) // state.sector + 1)) - map_sectors(state)
 
 
-def map_sectors(state):
+def map_sectors(state: State) -> Set[int]:
     if not state.is_new:
         return set()
     start = state.map.shape.map_sector
     return set(range(start, start + 2 * state.map.shape.zones))
 
 
-def spared_sectors(state, c):
+def spared_sectors(state: State, c: Command) -> Dict[str, Union[List[int], Set[int]]]:
     """By name the sectors that no exit of an accepted command may have changed."""
     number, needs = owed_refusal(state, c)
     if number or needs is None:
@@ -223,7 +226,7 @@ def spared_sectors(state, c):
     return found
 
 
-def spared_by_compact(state):
+def spared_by_compact(state: State) -> Any:
     """On a new map all but the map, holes and what may move; of an old map nothing is promised but lost space."""
     found = {"lost space, or identifier 1": state.idle_sectors() - map_sectors(state), "the boot block": boot_sectors(state)}
     if state.is_new:
@@ -232,7 +235,7 @@ def spared_by_compact(state):
     return found
 
 
-def compact_outcome(before, image):
+def compact_outcome(before: Any, image: bytes) -> Any:
     if not before.is_new:
         return OLD_COMPACT
     if crash.objects(image) != crash.objects(before.data):
@@ -243,7 +246,7 @@ def compact_outcome(before, image):
 # ---- all calls of a script
 
 
-def each_call(script, each, counts):
+def each_call(script: Script, each: int, counts: Counter[Any]) -> str:
     """Lets calls of each kind fail in turn: the first thing that is wrong, in words; `counts` gets each outcome."""
     for kind in KINDS:
         count = script.whole.counts["pwrite" if kind == TORN else kind]

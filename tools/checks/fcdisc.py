@@ -4,6 +4,8 @@
 
 These suites are run by tools/checks/run.py: `tools/run checks/run 'fcdisc/get*'`.
 """
+from __future__ import annotations
+
 import contextlib
 import os
 import random
@@ -13,13 +15,15 @@ import signal
 import subprocess
 import sys
 import tempfile
+from typing import Any, Dict, Iterator, List, Optional, Tuple
 
 from tools.checks import (examples, fcdisc_backups, fcdisc_cases, fcdisc_changes, fcdisc_collections, fcdisc_everyday,
                           fcdisc_exchange)
-from tools.checks.selection import shortened
+from tools.checks.selection import Suite, shortened
 from tools.checks.work_folders import fill, snapshot, wait_for
 from tools.files import TOP
 from tools.images import damaged, table
+from tools.images.volumes import Directory
 from tools.reference.filecore import folded, spelled
 
 LONGEST = 255
@@ -29,7 +33,7 @@ FCDISC = os.path.join(TOP, "scripts", "fcdisc")
 # ---- folders and runs
 
 
-def agrees(wanted, got):
+def agrees(wanted: str, got: str) -> bool:
     """`...` stands for any text."""
     return re.fullmatch(".*".join(map(re.escape, wanted.split("..."))), got, re.DOTALL) is not None
 
@@ -37,21 +41,21 @@ def agrees(wanted, got):
 class Checks:
     """A folder with `images` and, for each case anew, `work` and `fake`; what comes of the cases goes to the suite."""
 
-    def __init__(self, folder, fcore, suite):
+    def __init__(self, folder: str, fcore: str, suite: Suite) -> None:
         self.folder, self.fcdisc, self.fcore = os.fsencode(folder), FCDISC, os.path.abspath(fcore)
         self.suite = suite
         self.files = table.table()[0]
         self.extra = fcdisc_cases.extra_images(self.files)
 
-    def place(self, name):
+    def place(self, name: bytes) -> bytes:
         return os.path.join(self.folder, name)
 
-    def fresh(self, name):
+    def fresh(self, name: bytes) -> bytes:
         shutil.rmtree(self.place(name), ignore_errors=True)
         os.mkdir(self.place(name))
         return self.place(name)
 
-    def run(self, words, fcore=None, within=None):
+    def run(self, words: List[str], fcore: Optional[str] = None, within: Optional[str] = None) -> Optional[Tuple[str, str, int]]:
         command = [self.fcdisc, *words]
         if within:
             command = ["bash", "-c", within, "bash", *command]
@@ -59,16 +63,16 @@ class Checks:
                               capture_output=True, timeout=600, check=False)
         return done.stdout.decode("utf-8", "replace"), done.stderr.decode("utf-8", "replace"), done.returncode
 
-    def environment(self, fcore=None):
+    def environment(self, fcore: Optional[str] = None) -> Dict[str, str]:
         return {**os.environ, "FCORE": fcore or self.fcore, "COLUMNS": "80", "LC_ALL": "C.UTF-8"}
 
-    def expect(self, name, **pairs):
+    def expect(self, name: str, **pairs: Tuple[Any, Any]) -> None:
         """Each pair is what was wanted and what came."""
         wrong = [key for key, (wanted, got) in pairs.items() if wanted != got]
         self.suite.note(name, [line for key in wrong for line in (
             key + ": wanted", *shortened(str(pairs[key][0]), 3000), "got", *shortened(str(pairs[key][1]), 3000))])
 
-    def case(self, case):
+    def case(self, case: fcdisc_cases.Case) -> None:
         fill(self.fresh(b"work"), case.before)
         self.fresh(b"fake")
         fake = None
@@ -82,7 +86,7 @@ class Checks:
                     left=(case.left, snapshot(self.place(b"work"))))
 
 
-def texts(wanted, got):
+def texts(wanted: str, got: str) -> Tuple[str, str]:
     """A pair for `expect`, equal where they agree."""
     return (got, got) if agrees(wanted, got) else (wanted, got)
 
@@ -90,7 +94,7 @@ def texts(wanted, got):
 # ---- discs that are accepted
 
 
-def host_name(entry):
+def host_name(entry: Any) -> Any:
     """A name on the host, as fcdisc(1) says, for the names of tools/images/table.py."""
     base = "".join("." if byte == 47 else "%%%02X" % byte if 127 <= byte < 160 or byte in b'.%\\:*?"<>|' else chr(byte)
                    for byte in entry.name).encode()
@@ -100,14 +104,14 @@ def host_name(entry):
     return base[:LONGEST - len(suffix)] + suffix
 
 
-def kind_of(entry):
+def kind_of(entry: Any) -> str:
     """A file's type, or its load and exec words."""
     if entry.load >> 20 == 0xFFF:
         return "%03x" % (entry.load >> 8 & 0xFFF)
     return "%08x-%08x" % (entry.load, entry.execution)
 
 
-def host_tree(volume, holder, place):
+def host_tree(volume: Any, holder: Directory, place: Any) -> Any:
     """What has to stand in a folder after `extract`, and the times of files with a type."""
     left, times = {place: None}, {}
     for entry in holder.entries:
@@ -124,7 +128,7 @@ def host_tree(volume, holder, place):
     return left, times
 
 
-def list_rows(holder, depth=0):
+def list_rows(holder: Directory, depth: int = 0) -> Iterator[Any]:
     """The rows of `list`: the kind's first word, size, access, depth and name."""
     for entry in sorted(holder.entries, key=lambda one: folded(one.name)):
         bits = entry.attributes
@@ -137,12 +141,12 @@ def list_rows(holder, depth=0):
             yield kind_of(entry), str(len(entry.data)), access, depth, spelled(entry.name)
 
 
-def read_row(line):
+def read_row(line: Any) -> Any:
     found = re.fullmatch(r"(.{17}) (.{10})  (.{6})  .{16}  ((?: {2})*)(\S+)", line)
     return (found[1].split()[0], found[2].strip(), found[3].strip(), len(found[4]) // 2, found[5]) if found else line
 
 
-def accepted_disc(checks, name, volume):
+def accepted_disc(checks: Checks, name: Any, volume: Any) -> None:
     """All jobs over a disc, compared with its description."""
     path = fcdisc_cases.image(name + ".adf")
     long_names = sum(len(entry.name) > 245 for directory in volume.directories() for entry in directory.entries)
@@ -162,7 +166,7 @@ def accepted_disc(checks, name, volume):
 # ---- all images at once
 
 
-def found_lines():
+def found_lines() -> Iterator[Any]:
     """What `check` has to say of the images that aren't damaged: a beginning, by their names."""
     refused = {name for name, data, line in damaged.damaged()}
     for name, volume, data in table.accepted():
@@ -172,7 +176,7 @@ def found_lines():
                 counted[0], "s" * (counted[0] != 1), counted[1], "y" if counted[1] == 1 else "ies", sum(volume.hole_lengths()))
 
 
-def folder_of_images(checks, files):
+def folder_of_images(checks: Checks, files: Any) -> None:
     """One `check` of the folder: a line for each image, with the fault that the table says."""
     out, err, status = checks.run(["check", "../images"])
     lines = dict(line[len("../images/"):].split(": ", 1) for line in out.splitlines() if line.startswith("../images/"))
@@ -197,7 +201,7 @@ EXAMPLE_IMAGES = {b"f-user.adf": "f-user.adf", b"d-twin.adf": "d-twin.adf", b"ol
                   **{name: name.decode() for name in (b"named.adf", b"hello.adf", b"e-plus-grown.adf")}}
 
 
-def examples_of(page):
+def examples_of(page: str) -> Any:
     """The literal text of a page of mdoc, indented as readme_examples.py wants it."""
     with open(page) as file:
         blocks = re.findall(r"^\.Bd -literal.*?\n(.*?)^\.Ed", file.read(), re.DOTALL | re.MULTILINE)
@@ -205,7 +209,7 @@ def examples_of(page):
     return examples.examples("".join("    %s\n" % line for line in text.splitlines()))
 
 
-def page_examples(checks, page):
+def page_examples(checks: Checks, page: str) -> None:
     work = checks.fresh(b"work")
     for name, source in EXAMPLE_IMAGES.items():
         shutil.copy(checks.place(b"images/" + source.encode()), os.path.join(work, name))
@@ -220,12 +224,12 @@ def page_examples(checks, page):
 # ---- names alone
 
 
-def random_name(source):
+def random_name(source: Any) -> bytes:
     common = b",./%ffb-0" if source.random() < 0.5 else bytes(range(32, 256))
     return bytes(source.choice(common) for _ in range(source.choice((1, 2, 3, 4, 5, 12, 30))))
 
 
-def name_is_kept(names, source):
+def name_is_kept(names: Any, source: Any) -> bool:
     """Whether a random name comes back from the host, and can't lead out of its folder."""
     name, is_directory = random_name(source), source.random() < 0.3
     load = source.choice((0xFFF00000 | source.randrange(1 << 20), source.randrange(1 << 32)))
@@ -239,14 +243,14 @@ def name_is_kept(names, source):
             and names.spelled(name) == spelled(name))
 
 
-def fits(names, source):
+def fits(names: Any, source: Any) -> Any:
     """Whether a shortened name has room, and others of that name differ from it."""
     name, limit = random_name(source) * 9, source.randrange(40, 256)
     found = [names.fitted_name(name, b",fff", limit, number) for number in (1, 2, 3, 10)]
     return len(set(found)) == 4 and all(len(one) <= limit and one.endswith(b",fff") and one.decode() for one in found)
 
 
-def unit_checks(checks):
+def unit_checks(checks: Checks) -> None:
     from fcdisc_lib import images as parts, names
     source = random.Random(25)
     checks.expect("names both ways", kept=([], [at for at in range(20000) if not name_is_kept(names, source)]))
@@ -269,11 +273,11 @@ def unit_checks(checks):
             checks.suite.passed += 1
 
 
-def publish_without_links(checks):
+def publish_without_links(checks: Checks) -> None:
     """On a host without hard links a file gets its name all the same, and doesn't replace another."""
     from fcdisc_lib import output
 
-    def no_link(*_, **__):
+    def no_link(*_: Any, **__: Any) -> None:
         raise PermissionError(1, "no links here")
 
     made, link = checks.fresh(b"work"), os.link
@@ -291,7 +295,7 @@ def publish_without_links(checks):
     checks.expect("no hard links", left=({b"name": b"first"}, snapshot(made)))
 
 
-def unread_copy(checks):
+def unread_copy(checks: Checks) -> None:
     """A copy that can't be read has no name for the message."""
     from fcdisc_lib import images as parts, messages
     told = ""
@@ -306,31 +310,31 @@ def unread_copy(checks):
 # ---- a host that takes capitals for small letters
 
 
-def folding_folder(number):
+def folding_folder(number: int) -> Any:
     """The open folder as on such a host: every name is used in small letters."""
     from fcdisc_lib import output
 
     class FoldingFolder(output.Folder):
 
-        def inode(self, name):
+        def inode(self, name: Any) -> Any:
             return super().inode(small(name))
 
-        def is_folder(self, name):
+        def is_folder(self, name: Any) -> Any:
             return super().is_folder(small(name))
 
-        def make(self, name):
+        def make(self, name: Any) -> None:
             super().make(small(name))
 
-        def publish(self, temporary, name):
+        def publish(self, temporary: Any, name: Any) -> None:
             super().publish(temporary, small(name))
 
-        def below(self, names):
+        def below(self, names: Any) -> Any:
             return super().below(list(map(small, names)))
 
     return FoldingFolder(number)
 
 
-def folding_host(checks):
+def folding_host(checks: Checks) -> None:
     """Two names that such a host takes for one: both files are there, and one has another name."""
     from fcdisc_lib import extraction, tree
     volume = table.fresh_e(big=True)
@@ -353,7 +357,7 @@ def folding_host(checks):
                   told=(2, len(told)))
 
 
-def small(name):
+def small(name: Any) -> Any:
     return name.decode().lower().encode()
 
 
@@ -370,7 +374,7 @@ print("files 1 dirs 1 lost 0 holes 1 free 0 unsorted 0 parents 0\\nok\\nA 000000
 """
 
 
-def interrupted(checks):
+def interrupted(checks: Checks) -> None:
     """A signal in the middle of a file: nothing of it is left, and the program ends by the signal."""
     for number in (signal.SIGINT, signal.SIGTERM):
         work = checks.fresh(b"work")
@@ -388,13 +392,13 @@ def interrupted(checks):
 # ---- all of it
 
 
-def can_mount():
+def can_mount() -> bool:
     run = subprocess.run(["unshare", "-m", "sh", "-c", "mount -t tmpfs none /mnt"], capture_output=True, check=False)
     return run.returncode == 0
 
 
 @contextlib.contextmanager
-def prepared(suite, fcore):
+def prepared(suite: Suite, fcore: str) -> Iterator[Checks]:
     """The checks over a folder that has all images."""
     sys.dont_write_bytecode = True
     signal.signal(signal.SIGINT, signal.default_int_handler)  # a shell without job control has it ignored in the background
@@ -413,7 +417,7 @@ def prepared(suite, fcore):
         yield checks
 
 
-def reading(suite, fcore):
+def reading(suite: Suite, fcore: str) -> None:
     """Jobs that read, the examples of the man pages, and parts of fcdisc alone."""
     with prepared(suite, fcore) as checks:
         mounts = can_mount()
@@ -433,7 +437,7 @@ def reading(suite, fcore):
                 part(checks)
 
 
-def discs(suite, fcore):
+def discs(suite: Suite, fcore: str) -> None:
     """All jobs that read, over each disc that is accepted."""
     with prepared(suite, fcore) as checks:
         for name, volume, data in table.accepted():
@@ -441,25 +445,25 @@ def discs(suite, fcore):
                 accepted_disc(checks, name, volume)
 
 
-def changing(suite, fcore):
+def changing(suite: Suite, fcore: str) -> None:
     """Jobs that change a disc."""
     with prepared(suite, fcore) as checks:
         fcdisc_changes.run_parts(checks, can_mount())
 
 
-def run_parts(checks, subject, parts):
+def run_parts(checks: Checks, subject: Any, parts: Any) -> None:
     for part in parts:
         if checks.suite.wants(part.__name__):
             part(subject)
 
 
-def collections(suite, fcore):
+def collections(suite: Suite, fcore: str) -> None:
     """Jobs over many images."""
     with prepared(suite, fcore) as checks:
         run_parts(checks, checks, fcdisc_collections.PARTS)
 
 
-def keeping(suite, fcore):
+def keeping(suite: Suite, fcore: str) -> None:
     """What is kept of an image and of its files: backups, archives, .inf files, names; and what people do every day."""
     with prepared(suite, fcore) as checks:
         mounts = can_mount()
@@ -467,7 +471,7 @@ def keeping(suite, fcore):
             run_parts(checks, fcdisc_changes.Changes(checks), (*module.PARTS, *(module.MOUNTED if mounts else ())))
 
 
-def rounds(suite, fcore):
+def rounds(suite: Suite, fcore: str) -> None:
     """`extract` and `add`, and `convert`, of each disc; and by archives and .inf files."""
     with prepared(suite, fcore) as checks:
         fcdisc_changes.run_rounds(checks)

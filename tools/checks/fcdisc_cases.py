@@ -3,9 +3,12 @@
 
 Each case runs in a fresh folder `work` beside the folder `images`. Host names are written here as they have to be, not computed.
 """
-import gzip
+from __future__ import annotations
 
-from tools.images.volumes import OldVolume, fresh_e
+import gzip
+from typing import Any, Dict, Iterator, List, Optional, Union
+
+from tools.images.volumes import NewVolume, OldVolume, fresh_e
 
 HEADER = b"header of an emulator".ljust(512, b"\0")
 TRACK = 4096
@@ -21,7 +24,10 @@ LONG = b"n" * 250
 class Case:
     """`left`: paths below the work folder and bytes, or None for a folder, or `-> TARGET` for a link."""
 
-    def __init__(self, name, words, out="", err="", status=0, left=None, before=None, fcore=None, within=None):
+    def __init__(self, name: str, words: List[str], out: str = "", err: str = "", status: int = 0,
+                 left: Optional[Dict[bytes, Optional[Union[bytes, str]]]] = None,
+                 before: Optional[Dict[bytes, Optional[Union[bytes, str]]]] = None, fcore: Optional[str] = None,
+                 within: Optional[str] = None) -> None:
         self.name, self.words, self.out, self.err, self.status = name, words, out, err, status
         self.before = before or {}
         self.left = self.before if left is None else left
@@ -32,13 +38,13 @@ class Case:
 # ---- images that tools/images/table.py doesn't make
 
 
-def interleaved(image):
+def interleaved(image: bytearray) -> bytes:
     """The sides of an L disc track by track."""
     tracks = [image[at:at + TRACK] for at in range(0, len(image), TRACK)]
     return b"".join(track for pair in zip(tracks[:80], tracks[80:]) for track in pair)
 
 
-def hostile():
+def hostile() -> NewVolume:
     """Names that would lead elsewhere, hide another, or upset a terminal."""
     volume = fresh_e(big=True)
     root = volume.root
@@ -62,7 +68,7 @@ HOSTILE_FOLDERS = {
 }
 
 
-def two_that_become_one():
+def two_that_become_one() -> NewVolume:
     """Names of 255 bytes that are one where a host allows no more than 255 with the type."""
     volume = fresh_e(big=True)
     for at in range(3):
@@ -71,7 +77,7 @@ def two_that_become_one():
     return volume
 
 
-def flat_l():
+def flat_l() -> OldVolume:
     """An L disc without directories, and with a file over several tracks: either order of its sides opens."""
     volume = OldVolume("L", 2560)
     volume.root.insert(volume.file(b"Song", bytes(range(256)) * 200, load=0xFFFFFF00))
@@ -79,7 +85,7 @@ def flat_l():
     return volume
 
 
-def deep():
+def deep() -> NewVolume:
     """Directories deeper than any path of RISC OS."""
     volume = fresh_e()
     holder = volume.root
@@ -88,14 +94,14 @@ def deep():
     return volume
 
 
-def large_file():
+def large_file() -> NewVolume:
     volume = fresh_e()
     volume.root.insert(volume.file(b"Large", b"L" * 100000, load=0xFFFFFF00))
     volume.root.insert(volume.file(b"Small", b"S" * 100, load=0xFFFFFF00))
     return volume
 
 
-def extra_images(files):
+def extra_images(files: Dict[str, bytearray]) -> Dict[str, bytes]:
     """Images by name, made from those of tools/images/table.py where they are other forms of them."""
     sides = interleaved(files["l-files.adf"])
     flat = flat_l().image()
@@ -142,15 +148,15 @@ SHORT_ADVICE = ("copy the disc again; a file that is only made longer may open, 
                 "it, and then files are wrong")
 
 
-def image(name):
+def image(name: str) -> str:
     return "../images/" + name
 
 
-def told(name, text):
+def told(name: str, text: str) -> str:
     return "fcdisc: ../images/%s: %s\n" % (name, text)
 
 
-def listing():
+def listing() -> Iterator[Case]:
     yield Case("list", ["list", image("named.adf")], NAMED_ROWS)
     yield Case("list-user", ["list", image("f-user.adf")], USER_ROWS)
     yield Case("list-part", ["list", image("f-user.adf"), "$.!BOOT"],
@@ -190,7 +196,7 @@ def listing():
 # ---- get
 
 
-def getting():
+def getting() -> Iterator[Case]:
     user = image("f-user.adf")
     yield Case("get", ["get", user, "$.!boot.!run"], left={b"!Run,feb": BOOTS})
     yield Case("get-named", ["get", user, "$.!Boot.!Run", "boot.txt"], left={b"boot.txt": BOOTS})
@@ -223,7 +229,7 @@ def getting():
 # ---- extract
 
 
-def hostile_tree(folder):
+def hostile_tree(folder: bytes) -> Dict[bytes, Optional[bytes]]:
     left = {folder: None}
     for at, name in enumerate(HOSTILE_FILES.values()):
         left[folder + b"/" + name] = b"file %d" % at
@@ -233,7 +239,7 @@ def hostile_tree(folder):
     return left
 
 
-def extracting():
+def extracting() -> Iterator[Case]:
     names = image("named.adf")
     files = {b"o": None, b"o/A B,00000000-00000000": b"A B!", b"o/Ab,fff": b"\2", b"o/D": None,
              b"o/D/error,00000000-00000000": b""}
@@ -270,7 +276,7 @@ def extracting():
     yield from extracting_little_room()
 
 
-def extracting_little_room():
+def extracting_little_room() -> Iterator[Case]:
     large = image("large.adf")
     small = {b"o": None, b"o/Small,fff": b"S" * 100}
     yield Case("extract-too-large", ["extract", large, "o"], "1 of 2 files written to o\n",
@@ -289,17 +295,18 @@ FULL_DISK = ('unshare -m sh -c \'mount -t tmpfs -o size=%dk none . && cd "$PWD" 
 # ---- check
 
 
-def checking():
+def checking() -> Iterator[Case]:
     yield Case("check", ["check", image("f-user.adf"), image("named.adf")],
                "../images/f-user.adf: " + USER_FOUND + "../images/named.adf: whole: E disc: 3 files, 1 directory, 808960 bytes free\n"
                "2 files: 2 whole\n")
     yield Case("check-damaged", ["check", image("d-twin.adf"), image("hello.adf")],
-               "../images/d-twin.adf: not accepted: %s\n" % TWIN_MEANING + HELLO_FOUND
+               "../images/d-twin.adf: not accepted: %s; fcdisc rescue can take out 5 of 5 files, 1 of them doubtful\n" % TWIN_MEANING
+               + HELLO_FOUND
                + "What to do about Directory Twin (1 image): %s\n2 files: 1 whole, 1 damaged\n" % TWIN_ADVICE,
                status=1)
     yield Case("check-short", ["check", image("short.adl")],
                "../images/short.adl: not accepted: it has 400000 bytes, and its disc 655360 "
-               "[Short 655360 400000]\nWhat to do about Short: %s\n" % SHORT_ADVICE, status=1)
+               "[Short 655360 400000]; fcdisc rescue ...\nWhat to do about Short: %s\n" % SHORT_ADVICE, status=1)
     yield Case("check-none", ["check", "none.adf", image("hello.adf")],
                HELLO_FOUND + "2 files: 1 whole, 1 not opened\n",
                "fcdisc: none.adf: No such file or directory\n", 1)
@@ -324,7 +331,7 @@ def checking():
 # ---- orders and headers
 
 
-def found_out():
+def found_out() -> Iterator[Any]:
     whole = ('whole: L disc "OldDisc", boot option Exec: 62 files, 5 directories, 520704 bytes free, newest file of 1924-07-01; '
              "3072 bytes that nothing owns; 1 directory out of order; 1 directory with a wrong parent\n")
     yield Case("sides-adl", ["check", image("sides.adl")], "../images/sides.adl: " + whole, told("sides.adl", SIDES))
@@ -337,7 +344,7 @@ def found_out():
         "f-user.adf", "no L disc of 655360 bytes begins here, so it has no sides to put into order"), status=1)
     yield Case("header", ["check", image("header.hdf")], "../images/header.hdf: " + USER_FOUND,
                told("header.hdf", "it has a header of 512 bytes: read without it"))
-    yield Case("header-damaged", ["check", image("header.adf")], "../images/header.adf: not accepted: %s\nWhat to do about Directory Twin: %s\n" % (
+    yield Case("header-damaged", ["check", image("header.adf")], "../images/header.adf: not accepted: %s; fcdisc rescue ...\nWhat to do about Directory Twin: %s\n" % (
         TWIN_MEANING, TWIN_ADVICE),
                told("header.adf", "it has a header of 512 bytes: read without it"), 1)
     song = bytes(range(256)) * 200
@@ -350,7 +357,7 @@ def found_out():
 # ---- new, adl, strip
 
 
-def making(files, extra):
+def making(files: Dict[str, bytearray], extra: Dict[str, bytes]) -> Iterator[Any]:
     for form in ("E", "F", "D", "L", "E+", "F+"):
         yield Case("new-" + form, ["new", form, "x.adf"], left={b"x.adf": bytes(files["fresh-%s.adf" % form])})
     yield Case("new-lower", ["new", "e+", "x.adf"], left={b"x.adf": bytes(files["fresh-E+.adf"])})
@@ -381,7 +388,7 @@ def making(files, extra):
                before={b"x": bytes(512)})
 
 
-def interleaved_back(image):
+def interleaved_back(image: bytearray) -> Any:
     """What becomes of an image in disc order that is taken for an interleaved one."""
     tracks = [image[at:at + TRACK] for at in range(0, len(image), TRACK)]
     return b"".join(tracks[0::2] + tracks[1::2])
@@ -390,7 +397,7 @@ def interleaved_back(image):
 # ---- words
 
 
-def words():
+def words() -> Iterator[Any]:
     for at, one in enumerate((["lst", "x"], [], ["list"], ["get", "x"], ["extract", "x"], ["check"], ["new", "E"],
                               ["new", "G", "x"],
                               ["adl", "x"], ["strip", "x"], ["list", "--order", "x", "y"], ["list", "a", "b", "c"],
@@ -422,7 +429,7 @@ esac
 """
 
 
-def other_programs():
+def other_programs() -> Iterator[Any]:
     hello = image("hello.adf")
     for name, program, error in (
             ("fails-on-image", "#!/bin/sh\ncat > /dev/null; exit 4\n", "I/O error while fcore read it"),
@@ -452,6 +459,6 @@ def other_programs():
                fcore="")
 
 
-def all_cases(files, extra):
+def all_cases(files: Dict[str, bytearray], extra: Dict[str, bytes]) -> Iterator[Case]:
     for group in (listing(), getting(), extracting(), checking(), found_out(), making(files, extra), words(), other_programs()):
         yield from group

@@ -3,6 +3,8 @@
 
 The trees are read by tools/reference/read_image.py; what has to be on a disc is written here, or follows from the disc that was extracted.
 """
+from __future__ import annotations
+
 import fcntl
 import hashlib
 import os
@@ -11,6 +13,7 @@ import shutil
 import signal
 import stat
 import subprocess
+from typing import TYPE_CHECKING, Any, Dict, Iterator, List, Optional, Tuple, Union
 
 from tools.checks import fcdisc_cases
 from tools.checks.fcdisc_hosts import on_host
@@ -20,11 +23,14 @@ from tools.images import table
 from tools.reference.change_state import State
 from tools.reference.filecore import NOT_SPELLED, spelled_path
 
+if TYPE_CHECKING:
+    from tools.checks.fcdisc import Checks
+
 SETTABLE = 15
 LOST = "lost what others than the owner may do: fcore can't set that"
 
 
-def tree_of(data):
+def tree_of(data: bytes) -> Dict[Tuple[bytes, ...], Tuple[int, int, int, Optional[bytes]]]:
     """Each object of an image: its attributes, words and bytes, None for a directory's."""
     state = State(data)
     return {tuple(entry.path): (entry.attributes, entry.load, entry.execution,
@@ -32,7 +38,7 @@ def tree_of(data):
             for key, entry in state.objects.items() if key}
 
 
-def short_tree(data):
+def short_tree(data: bytes) -> Dict[str, Union[Tuple[int, bytes], int]]:
     """As `tree_of`, by spelled paths, and without words: a file's access and bytes, a directory's access."""
     return {spelled_path(path): (node[0], node[3]) if node[3] is not None else node[0] & ~8 for path, node in tree_of(data).items()}
 
@@ -40,12 +46,12 @@ def short_tree(data):
 class Changes:
     """The checks, over the folders of those of checks/fcdisc.py."""
 
-    def __init__(self, checks):
+    def __init__(self, checks: Checks) -> None:
         self.checks, self.work = checks, b""
 
     # a disc in the work folder
 
-    def start(self, name="named.adf", image="a.adf", files=None):
+    def start(self, name: str = "named.adf", image: str = "a.adf", files: Optional[Dict[str, bytes]] = None) -> bytes:
         """A fresh work folder with a copy of an image, and files of the host by name."""
         self.work = self.checks.fresh(b"work")
         shutil.copy(self.checks.place(b"images/" + os.fsencode(name)), self.at(image))
@@ -58,13 +64,13 @@ class Changes:
                     file.write(content)
         return read(self.at(image))
 
-    def at(self, name):
+    def at(self, name: str) -> bytes:
         return os.path.join(self.work, os.fsencode(name))
 
-    def run(self, *words, fcore=None, within=None):
+    def run(self, *words: str, fcore: Optional[str] = None, within: Any = None) -> Optional[Tuple[str, str, int]]:
         return self.checks.run(list(words), fcore, within)
 
-    def fake(self, text):
+    def fake(self, text: Any) -> str:
         """A program in fcore's place."""
         path = os.path.join(self.checks.fresh(b"fake"), b"fcore")
         with open(path, "w") as file:
@@ -72,10 +78,11 @@ class Changes:
         os.chmod(path, 0o755)
         return "../fake/fcore"
 
-    def names(self):
+    def names(self) -> List[str]:
         return sorted(map(os.fsdecode, os.listdir(self.work)))
 
-    def good(self, name, words, tree, out="", image="a.adf", **more):
+    def good(self, name: str, words: List[str], tree: Dict[str, Union[Tuple[int, bytes], int]], out: str = "", image: str = "a.adf",
+             **more: Any) -> None:
         """A job that does all: the tree afterwards, and the image as it was before the first change beside it."""
         before, first = self.both(image)
         got = self.run(*words, **more)
@@ -83,7 +90,8 @@ class Changes:
         self.checks.expect(name, result=((out, "", 0), got), tree=(tree, short_tree(read(self.at(image)))),
                            backup=(True, backup == self.both(image)[1]))
 
-    def refused(self, name, words, error, status=1, out="", image="a.adf", notes=0, **more):
+    def refused(self, name: str, words: List[str], error: str, status: int = 1, out: str = "", image: str = "a.adf", notes: int = 0,
+                **more: Any) -> None:
         """A job that does nothing: image and folder stay as they were. `notes`: lines that may come before the error."""
         before, names = self.both(image), self.names()
         got = self.run(*words, **more)
@@ -95,7 +103,7 @@ class Changes:
         self.checks.expect(name, result=((out, error, status), got), same=(True, self.both(image) == before),
                            left=(names, self.names()))
 
-    def both(self, image):
+    def both(self, image: str) -> List[bytes]:
         """The image, and what is kept beside it."""
         return [read(self.at(name)) if os.path.isfile(self.at(name)) else None for name in (image, image + "~")]
 
@@ -103,7 +111,7 @@ class Changes:
 NAMED = {"$.A%20B": (3, b"A B!"), "$.Ab": (3, b"\2"), "$.D": 0, "$.D.error": (3, b"")}
 
 
-def putting(c):
+def putting(c: Changes) -> None:
     file = {"note.txt": b"Hello\n", "Prog,ffb": b"\r\xff", "big": bytes(900000), "p": b"", "100%é?,fff": b"x"}
     c.start(files=file)
     os.chmod(c.at("a.adf"), 0o640)
@@ -143,7 +151,7 @@ def putting(c):
         **NAMED, "$.Run": (3, b"\r\xff"), "$.Link": (3, b"Hello\n")})
 
 
-def moving(c):
+def moving(c: Changes) -> None:
     """mkdir and mv."""
     c.start()
     c.good("mkdir", ["mkdir", "a.adf", "E", "$.E.F"], {**NAMED, "$.E": 0, "$.E.F": 0})
@@ -167,7 +175,7 @@ def moving(c):
     c.refused("mv the root", ["mv", "a.adf", "$", "y"], "$: the root directory stays as it is", 2)
 
 
-def removing(c):
+def removing(c: Changes) -> None:
     """access and rm."""
     c.start()
     locked = {**NAMED, "$.Ab": (5, b"\2"), "$.D": 4}
@@ -189,14 +197,14 @@ def removing(c):
     c.good("rm -r", ["rm", "-r", "a.adf", "D", "D.error"], {"$.A%20B": (3, b"A B!")})
 
 
-def over_old_maps(c):
+def over_old_maps(c: Changes) -> None:
     before = short_tree(c.start("l-files.adf"))
     c.run("access", "a.adf", "-", "Outer.Inner.Innermost")  # it is locked
     c.good("rm -r of several levels", ["rm", "-r", "a.adf", "Outer"], {
         path: node for path, node in before.items() if not (path + ".").startswith("$.Outer.")})
 
 
-def over_big_directories(c):
+def over_big_directories(c: Changes) -> None:
     """Directories that grow by what is added to them and moved into them."""
     names = ["%02d" % at + "n" * 200 for at in range(12)]
     content = {name: (3, name[:2].encode()) for name in names}
@@ -213,13 +221,13 @@ def over_big_directories(c):
         "$.Old": 0, "$.Old.Newer": 0, **{"$.Old.Newer." + name: node for name, node in content.items()}}, image="b.adf")
 
 
-def squashing(c):
+def squashing(c: Changes) -> None:
     c.start("d-files.adf")
     before = short_tree(read(c.at("a.adf")))
     c.good("compact", ["compact", "a.adf"], before, "620544 bytes free, the largest piece 615424; before, it was 615424\n")
 
 
-def forms(c):
+def forms(c: Changes) -> None:
     """Images that aren't in disc order, links, and changes in place."""
     from fcdisc_lib import images as parts
     file = {"note": b"Hello"}
@@ -256,7 +264,7 @@ def forms(c):
                     left=(["a.adf", "note"], c.names()), same=(inode, os.stat(c.at("a.adf")).st_ino))
 
 
-def adding(c):
+def adding(c: Changes) -> None:
     files = {"o/Read.Me,fff": b"read", "o/In/x,ffb": b"x", "o/In/X,fff": b"y", "o/n": b"n", "o/.fcdisc-1.tmp": b"",
              "o/Eleven.bytes/in/deep": b"", "o/Eleven.bytes/b": b"", "o/p\u0416": b"", "o/D/error,fff": b"mine", "o/Ab/x": b"z"}
     c.start(files=files)
@@ -277,7 +285,7 @@ def adding(c):
                     tree=(tree, short_tree(read(c.at("a.adf")))))
 
 
-def adding_somewhere(c):
+def adding_somewhere(c: Changes) -> None:
     c.start(files={"o/error": b"new", "o/x,00008000-0000abcd": b"x"})
     c.good("add --replace", ["add", "--replace", "a.adf", "o", "D"], {**NAMED, "$.D.error": (3, b"new"), "$.D.x": (3, b"x")},
            "2 of 2 files added to a.adf\n")
@@ -293,7 +301,7 @@ def adding_somewhere(c):
         c.refused("add " + name, ["add", "a.adf", *words], error, out="0 of 2 files added to a.adf\n" if "nowhere" in name else "")
 
 
-def adding_much(c):
+def adding_much(c: Changes) -> None:
     c.start(files={"o/%02d" % at: b"%d" % at * 40000 for at in range(30)})
     got = c.run("add", "a.adf", "o")
     count = len(short_tree(read(c.at("a.adf")))) - len(NAMED)
@@ -307,7 +315,7 @@ def adding_much(c):
                     out=("0 of 3 files added to a.adf\n", got[0]))
 
 
-def troubles(c):
+def troubles(c: Changes) -> None:
     """What can go wrong outside: no room, no rights, other programs, signals."""
     words, file = ["put", "a.adf", "note", "$.N"], {"note": b"Hello"}
     c.start(files=file)
@@ -333,7 +341,7 @@ def troubles(c):
                     tree=({**NAMED, "$.stays": (3, b"s")}, short_tree(read(c.at("a.adf")))))
 
 
-def other_programs(c):
+def other_programs(c: Changes) -> None:
     """Programs in fcore's place."""
     words = ["put", "a.adf", "note", "$.N"]
     c.start(files={"note": b"Hello"})
@@ -347,7 +355,7 @@ def other_programs(c):
                   "a.adf: %s: it was changed in place, and may be damaged: use check" % error, fcore=fcore)
 
 
-def programs_that_go(c):
+def programs_that_go(c: Changes) -> None:
     """fcore can't be run any more when the disc is to be changed."""
     c.start(files={"note": b"Hello"})
     for place in ([], ["--in-place"]):
@@ -356,7 +364,7 @@ def programs_that_go(c):
                   "%s can't be run: No such file or directory" % os.fsdecode(c.checks.place(b"fake/fcore")), fcore=gone)
 
 
-def removing_levels(c):
+def removing_levels(c: Changes) -> None:
     """What is said while the levels of directories are read."""
     c.start("l-files.adf")
     c.refused("rm -r of a directory that is gone when it is read", ["rm", "-r", "a.adf", "Outer"],
@@ -367,7 +375,7 @@ def removing_levels(c):
         ["directories read: %d of 6" % at for at in (1, 2)], re.findall("directories[^\r]*", got[1])))
 
 
-def no_room(c):
+def no_room(c: Changes) -> None:
     """A disk that holds the image and no copy of it."""
     c.start(files={"note": b"Hello"})
     within = ('mkdir ../room; unshare -m sh -c \'mount -t tmpfs -o size=1200k none ../room && cp a.adf note ../room && '
@@ -386,7 +394,7 @@ HOSTS = (
 DENIED = "fcdisc: a.adf: its changed copy can't take its name (Permission denied): it stays as it was, and a.adf~ is the same now\n"
 
 
-def other_hosts(c):
+def other_hosts(c: Changes) -> None:
     """Whatever the host can't do and whenever a signal comes, the image's name leads to a whole image, and so does the backup's."""
     for host, status, is_changed, is_backed in HOSTS:
         before, seen = c.start(files={"note": b"Hello"}), c.checks.place(b"seen")
@@ -415,7 +423,7 @@ def other_hosts(c):
 SLOW = '#!/bin/sh\ncase "$*" in *read-only*) exec FCORE "$@";; esac\ntouch begun; sleep 2; exec FCORE "$@"\n'
 
 
-def signals(c):
+def signals(c: Changes) -> None:
     """A signal leaves the image as it was; if it is changed in place, it waits for the end."""
     for number in (signal.SIGINT, signal.SIGTERM):
         for place in ([], ["--in-place"]):
@@ -435,24 +443,24 @@ def signals(c):
 # ---- whole discs
 
 
-def is_writable(path, big, seven=False):
+def is_writable(path: Any, big: bool, seven: bool = False) -> Any:
     return all(len(name) <= (255 if big else 10) and not any(
         byte <= 32 or byte == 127 or byte in NOT_SPELLED or seven and byte > 126 for byte in name) for name in path)
 
 
-def wanted_tree(tree, form):
+def wanted_tree(tree: Dict[str, Union[Tuple[int, bytes], int]], form: str) -> Any:
     """What of a tree can be on a disc of that format, with the attributes that can be set."""
     return {path: (node[0] & SETTABLE, *node[1:]) for path, node in tree.items()
             if is_writable(path, form.endswith("+"), form == "L")}
 
 
-def own_format(data, volume):
+def own_format(data: bytes, volume: Any) -> Any:
     """The format of a fresh disc like this one."""
     big = "+" * (getattr(volume, "big", False) is True)
     return {819200: "E", 1638400: "F", 655360: "L"}.get(len(data), "F") + big
 
 
-def round_trip(c, name, data, forms):
+def round_trip(c: Changes, name: str, data: bytes, forms: Any) -> None:
     """`extract`, and `add` to fresh discs; and `convert`."""
     tree, checks = tree_of(data), c.checks
     loses = any(node[0] & ~SETTABLE for node in tree.values())
@@ -477,7 +485,7 @@ def round_trip(c, name, data, forms):
                           sum(node[3] is not None for node in wanted.values()), files, "s" * (files != 1)), got[0]))
 
 
-def kept_words(c):
+def kept_words(c: Changes) -> None:
     """A file that is taken out, written or not, and put back keeps its type; and its words if it wasn't written."""
     c.start("f-user.adf")
     c.run("get", "a.adf", "$.!Boot.!Run", "run")
@@ -491,13 +499,13 @@ def kept_words(c):
                     time=(True, other[2] != 0x5A5A5A5A), content=(b"| boots\nmore", other[3]))
 
 
-def differing(wanted, found):
+def differing(wanted: Any, found: Any) -> Any:
     """The first objects that aren't alike, without their bytes."""
     paths = [path for path in {**wanted, **found} if wanted.get(path) != found.get(path)]
     return [(path, wanted.get(path, ())[:3], found.get(path, ())[:3]) for path in paths[:5]]
 
 
-def converting(c):
+def converting(c: Changes) -> None:
     c.start(files={"there": b"mine"})
     c.refused("convert over a file", ["convert", "E", "a.adf", "there"], "there: there is something of this name already")
     c.refused("convert nothing", ["convert", "E", "none", "b.adf"], "none: No such file or directory")
@@ -510,21 +518,21 @@ PARTS = (putting, moving, removing, over_big_directories, over_old_maps, squashi
          troubles, other_programs, programs_that_go, removing_levels, other_hosts, signals, converting)
 
 
-def run_parts(checks, mounts):
+def run_parts(checks: Checks, mounts: bool) -> None:
     c = Changes(checks)
     for part in [*PARTS, *([no_room] if mounts else []), kept_words]:
         if checks.suite.wants(part.__name__):
             part(c)
 
 
-def run_rounds(checks):
+def run_rounds(checks: Checks) -> None:
     c = Changes(checks)
     for name, volume, data in whole_discs(checks):
         if checks.suite.wants(name):
             round_trip(c, name, data, (own_format(data, volume), "F+"))
 
 
-def whole_discs(checks):
+def whole_discs(checks: Checks) -> Iterator[Any]:
     """The discs of the table that differ in more than their maps: name, volume, image."""
     seen = []
     discs = [(name, volume, data) for name, volume, data in table.accepted() if len(data) < 2000000]

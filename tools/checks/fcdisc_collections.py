@@ -1,5 +1,7 @@
 # SPDX-License-Identifier: MIT
 """Checks of the jobs of fcdisc over many images: check, extract --each, catalogue, find, diff."""
+from __future__ import annotations
+
 import csv
 import hashlib
 import io
@@ -8,6 +10,7 @@ import os
 import re
 import signal
 import subprocess
+from typing import TYPE_CHECKING, Any
 
 from tools.checks import fcdisc_cases
 from tools.checks.fcdisc_hosts import on_host
@@ -15,6 +18,9 @@ from tools.checks.work_folders import fill, snapshot, wait_for
 from tools.files import read
 from tools.reference.change_state import State
 from tools.reference.filecore import spelled_path
+
+if TYPE_CHECKING:
+    from tools.checks.fcdisc import Checks
 
 DOS = b"\xeb\x3c\x90MSDOS5.0\0\2\2\1\0\2" + bytes(495)
 BEGINNINGS = {
@@ -26,7 +32,7 @@ BEGINNINGS = {
 DFS = b"TITLE   " + b"PROG   $" + bytes(240) + b"    \1\10\3\x20" + bytes(248)
 
 
-def half_check(half):
+def half_check(half: Any) -> Any:
     total = 255
     for byte in reversed(half):
         if total > 255:
@@ -35,7 +41,7 @@ def half_check(half):
     return total & 0xFF
 
 
-def old_hard_disc():
+def old_hard_disc() -> Any:
     """The map of a hard disc of 20 MB with an old map."""
     first = bytearray(255)
     first[252:255] = (80000).to_bytes(3, "little")
@@ -43,11 +49,11 @@ def old_hard_disc():
     return b"".join(bytes(half) + bytes((half_check(half),)) for half in (first, second)) + bytes(2048)
 
 
-def user_image(checks):
+def user_image(checks: Checks) -> Any:
     return read(checks.place(b"images/f-user.adf"))
 
 
-def collection(checks):
+def collection(checks: Checks) -> Any:
     """A keeper's folder: discs, damaged ones, what isn't a disc, what fcdisc leaves, links and pipes."""
     work = checks.fresh(b"work")
     user, named, twin = (read(checks.place(b"images/" + name)) for name in (b"f-user.adf", b"named.adf", b"d-twin.adf"))
@@ -72,7 +78,7 @@ FOUND = {
     "part.img": "not accepted: no FileCore disc begins here, but one begins at byte 1048576 [NoKind]"}
 
 
-def check_collection(checks):
+def check_collection(checks: Checks) -> None:
     """A line for each disc, and for what a keeper may take for one; the advice once; the sums; messages on standard error."""
     collection(checks)
     out, err, status = checks.run(["check", "c"])
@@ -100,7 +106,7 @@ def check_collection(checks):
                                                        checks.run(["check", "d"])))
 
 
-def other_files(checks):
+def other_files(checks: Checks) -> None:
     """What files are that are named, and aren't discs."""
     for name, (start, what) in BEGINNINGS.items():
         fill(checks.fresh(b"work"), {name.encode(): start + bytes(5000)})
@@ -119,7 +125,7 @@ def other_files(checks):
     checks.expect("wrong zones in words", told=(True, out.startswith("y.adf: not accepted: in both copies of the map zone 0 is wrong [Copies 0 0]")))
 
 
-def behind_an_offset(checks):
+def behind_an_offset(checks: Checks) -> None:
     """A disc in a file: found and named, read and changed."""
     named = read(checks.place(b"images/named.adf"))
     user = user_image(checks)
@@ -145,7 +151,7 @@ def behind_an_offset(checks):
     checks.expect("an offset that is none", status=(2, checks.run(["list", "--offset", "-1", "x.img"])[2]))
 
 
-def equal_tracks(checks):
+def equal_tracks(checks: Checks) -> None:
     """Files in a track of equal bytes are remarked; free tracks and discs without such aren't."""
     for name, track, form in ((b"l-files", 4096, "L"), (b"d-files", 5120, "D"), (b"e-files", 5120, "E"), (b"f-user", 10240, "F")):
         image = read(checks.place(b"images/%s.adf" % name))
@@ -161,7 +167,7 @@ def equal_tracks(checks):
                                                          "\nWhat to do about tracks of equal bytes: " in out))
 
 
-def used_track(checks, name, image, track):
+def used_track(checks: Checks, name: Any, image: Any, track: Any) -> Any:
     """A track that holds nothing but files' bytes, by the volume that made the image; and the files that have bytes there."""
     state = State(image)
     taken = {}
@@ -182,13 +188,13 @@ def used_track(checks, name, image, track):
     raise AssertionError(name)
 
 
-def sectors_of(image, state, entry):
+def sectors_of(image: Any, state: Any, entry: Any) -> Any:
     content = bytes(state.content(entry))[:256]
     at = image.find(content)
     return range(at, at + len(state.content(entry)), 256) if at >= 0 else ()
 
 
-def changed(one, other):
+def changed(one: Any, other: Any) -> Any:
     """Files that are other in the second."""
     found = set()
     for key, entry in one.objects.items():
@@ -202,7 +208,7 @@ def changed(one, other):
 # ---- catalogue, find, diff
 
 
-def catalogue(checks):
+def catalogue(checks: Checks) -> None:
     collection(checks)
     out, err, status = checks.run(["catalogue", "c"])
     rows = list(csv.DictReader(io.StringIO(out)))
@@ -225,7 +231,7 @@ def catalogue(checks):
                   plain=([], [row for row in rows if not re.fullmatch(r"[!-~]+", row["path"])]))
 
 
-def finding(checks):
+def finding(checks: Checks) -> None:
     collection(checks)
     for words, paths in ((["!run"], ["$.!Boot.!Run"]), (["$.*.note4#"], []), (["Note3"], ["$.Docs.Note3"]), (["$.docs.Note1#"], [
             "$.Docs.Note1%d" % at for at in range(10)]), (["docs.note7"], ["$.Docs.Note7"]), (["$.Note7"], []),
@@ -239,7 +245,7 @@ def finding(checks):
     checks.expect("find in a collection", line=("c/b/named.adf: $.D.error: 00000000-00000000, 0 bytes, WR/", out.splitlines()[0]), status=(1, status))
 
 
-def differing(checks):
+def differing(checks: Checks) -> None:
     work = checks.fresh(b"work")
     for name in (b"a.adf", b"b.adf"):
         fill(work, {name: user_image(checks)})
@@ -264,7 +270,7 @@ def differing(checks):
 # ---- extract --each
 
 
-def each(checks):
+def each(checks: Checks) -> None:
     collection(checks)
     out, err, status = checks.run(["extract", "--each", "c", "out"])
     left = snapshot(checks.place(b"work/out"))
@@ -280,7 +286,7 @@ def each(checks):
     checks.expect("extract --each with a path", status=(2, checks.run(["extract", "--each", "c", "out", "$.Docs"])[2]))
 
 
-def each_interrupted(checks):
+def each_interrupted(checks: Checks) -> None:
     """Signals while several images are read at once: no temporary file is left, and the program ends by the signal."""
     slow = "#!/bin/sh\ntouch begun.$$; sleep 1; exec '%s' \"$@\"\n" % checks.fcore
     for words in (["check", "c"], ["extract", "--each", "c", "out"], ["catalogue", "c"]):
@@ -295,7 +301,7 @@ def each_interrupted(checks):
         checks.expect("%s interrupted" % words[0], status=(-signal.SIGINT, run.returncode), left=([b".fcdisc-1-1.tmp"], left))
 
 
-def progress(checks):
+def progress(checks: Checks) -> None:
     collection(checks)
     out, err, _ = checks.run(["check", "c/f.adf", "c/b/named.adf"], within=on_host("terminal"))
     checks.expect("progress of check", steps=(["files checked: 1 of 2", "files checked: 2 of 2"], re.findall("files checked[^\r]*\\d", err)))

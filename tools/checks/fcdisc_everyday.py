@@ -1,10 +1,13 @@
 # SPDX-License-Identifier: MIT
 """Checks of what people do with fcdisc every day: wildcards, several files, mkdir -p, cp, other names of jobs, completion; and reclaim."""
+from __future__ import annotations
+
 import json
 import os
 import re
 import signal
 import subprocess
+from typing import Any
 
 from tools.checks import fcdisc_cases
 from tools.checks.fcdisc_changes import NAMED, SLOW, tree_of
@@ -15,14 +18,14 @@ LETTERS = {"o/" + name: name.encode() for name in ("Abc", "Abd", "Bcd", "caf\u00
 TREE = {"$.Abc": (3, b"Abc"), "$.Abd": (3, b"Abd"), "$.Bcd": (3, b"Bcd"), "$.caf%E9": (3, "caf\u00e9".encode()), "$.x1": (3, b"x1"), "$.x22": (3, b"x22")}
 
 
-def lettered(c):
+def lettered(c: Any) -> None:
     c.start("fresh-F.adf", files=LETTERS)
     c.run("add", "a.adf", "o")
     c.run("undo", "a.adf")
     c.run("add", "a.adf", "o")
 
 
-def wildcards(c):
+def wildcards(c: Any) -> None:
     """`*` and `#` in every job that takes a path of what is there."""
     lettered(c)
     out, err, status = c.run("list", "a.adf", "Ab*")
@@ -51,7 +54,7 @@ def wildcards(c):
     c.checks.expect("a star in a name", names=(["%2A?%22<>%7C"], [line.split()[-1] for line in out.splitlines()[:-1]]))
 
 
-def several(c):
+def several(c: Any) -> None:
     """Several files in `put` and `get`."""
     lettered(c)
     c.run("mkdir", "a.adf", "New")
@@ -80,7 +83,7 @@ def several(c):
     c.checks.expect("short words", words=((0x8000, 0x8023), tree_of(read(c.at("a.adf")))[(b"Code",)][1:3]))
 
 
-def directories(c):
+def directories(c: Any) -> None:
     c.start()
     c.good("mkdir -p", ["mkdir", "-p", "a.adf", "D.E.F", "G.H"], {**NAMED, "$.D.E": 0, "$.D.E.F": 0, "$.G": 0, "$.G.H": 0})
     c.checks.expect("mkdir -p again", result=(("", "", 0), c.run("mkdir", "-p", "a.adf", "d.e.f")))
@@ -88,7 +91,7 @@ def directories(c):
     c.checks.expect("mkdir -p below a file", status=(1, got[2]))
 
 
-def copies(c):
+def copies(c: Any) -> None:
     """cp keeps words and access, and replaces nothing."""
     c.start()
     c.run("access", "a.adf", "LR", "A B")
@@ -105,7 +108,7 @@ def copies(c):
     c.refused("cp to nowhere", ["cp", "a.adf", "Ab", "x.y"], "a.adf: $.x.y: not copied: there is no directory for it on the disc")
 
 
-def words(c):
+def words(c: Any) -> None:
     """Other names of jobs, the version, JSON, letters of the command line."""
     c.start("f-user.adf")
     c.checks.expect("ls", same=(c.run("list", "a.adf"), c.run("ls", "a.adf")))
@@ -122,7 +125,7 @@ def words(c):
     c.checks.expect("letters in another locale", result=(("file 9", "", 0), (out, err, status)))
 
 
-def completion(c):
+def completion(c: Any) -> None:
     """What bash offers."""
     script = os.path.join(TOP, "scripts", "completion", "fcdisc.bash")
     c.start()
@@ -141,7 +144,7 @@ def completion(c):
 RECLAIM = '#!/bin/sh\ncase "$*" in *read-only*) exec FCORE "$@";; esac\ncat > /dev/null\n%s\n'
 
 
-def reclaiming(c):
+def reclaiming(c: Any) -> None:
     """What comes of fcore's answers; the command itself is checked where fcore is."""
     for answer, result in (("exit 9", ("", "fcdisc: a.adf: this fcore can't do that: it isn't built in: nothing was changed\n", 1)),
                            ("echo reclaimed 3072; echo ok", ("a.adf: 3072 bytes given back\n", "", 0)),
@@ -153,7 +156,7 @@ def reclaiming(c):
         c.checks.expect("reclaim: " + answer, result=(result, got), left=(kept, c.names()), same=(True, read(c.at("a.adf")) == before))
 
 
-def interrupted_jobs(c):
+def interrupted_jobs(c: Any) -> None:
     """Signals and kills of the newer jobs that change a disc: the image stays as it was, and nothing is left."""
     for words in (["cp", "a.adf", "Ab", "N"], ["put", "a.adf", "note", "note2", "D"], ["add", "--fit", "a.adf", "o"], ["mkdir", "-p", "a.adf", "x.y"],
                   ["reclaim", "a.adf"]):

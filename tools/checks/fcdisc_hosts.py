@@ -9,12 +9,15 @@ comes before a file takes the place of another; `denied`: nothing may take the i
 and each step of a job takes its time. The file ../seen gets a line before and after a file takes the place of another: the digest of
 what the image's name, a.adf, leads to.
 """
+from __future__ import annotations
+
 import errno
 import hashlib
 import os
 import runpy
 import signal
 import sys
+from typing import Any
 
 from tools.files import TOOLS
 
@@ -24,19 +27,19 @@ IMAGE, SEEN = b"a.adf", "../seen"
 class Host:
     """The calls of the system that give names to files."""
 
-    def __init__(self, kinds):
+    def __init__(self, kinds: Any) -> None:
         self.kinds, self.synced = kinds, set()
         self.system = {"link": os.link, "replace": os.replace, "fsync": os.fsync}
         os.link, os.replace, os.fsync = self.link, self.replace, self.fsync
 
-    def link(self, source, target, **folders):
+    def link(self, source: Any, target: Any, **folders: Any) -> None:
         if "early-signal" in self.kinds:
             os.kill(os.getpid(), signal.SIGTERM)
         if "no-links" in self.kinds:
             raise PermissionError(errno.EPERM, "Operation not permitted")
         self.system["link"](source, target, **folders)
 
-    def replace(self, source, target, **folders):
+    def replace(self, source: Any, target: Any, **folders: Any) -> None:
         found = os.stat(source, dir_fd=folders["src_dir_fd"])
         if "no-links" in self.kinds and found.st_ino not in self.synced:
             note("%s isn't synced" % os.fsdecode(source))
@@ -48,17 +51,17 @@ class Host:
         self.system["replace"](source, target, **folders)
         note(digest())
 
-    def fsync(self, number):
+    def fsync(self, number: int) -> None:
         self.synced.add(os.fstat(number).st_ino)
         self.system["fsync"](number)
 
 
-def on_host(host):
+def on_host(host: Any) -> str:
     """The words before those of fcdisc, for a shell."""
     return "exec python3 '%s' checks/fcdisc_hosts %s \"$@\"" % (os.path.join(TOOLS, "run"), host)
 
 
-def digest():
+def digest() -> Any:
     try:
         with open(IMAGE, "rb") as file:
             return hashlib.sha256(file.read()).hexdigest()
@@ -66,12 +69,12 @@ def digest():
         return "no image"
 
 
-def note(text):
+def note(text: Any) -> None:
     with open(SEEN, "a") as file:
         file.write(text + "\n")
 
 
-def main(kinds, fcdisc, *words):
+def main(kinds: Any, fcdisc: Any, *words: Any) -> None:
     Host(kinds.split(","))
     sys.path.insert(0, os.path.dirname(os.path.realpath(fcdisc)))
     sys.dont_write_bytecode = True

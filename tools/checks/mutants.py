@@ -6,22 +6,25 @@ the reader in Python.
 usage: tools/run checks/mutants PROGRAM [COUNT [SEED]]
 It is not part of the gate. What differs is written to mutant-SEED-NUMBER.adf in the current folder.
 """
+from __future__ import annotations
+
 import collections
 import os
 import random
 import subprocess
 import sys
 import tempfile
+from typing import Iterator, List, Tuple
 
 from tools.images import damaged, table
-from tools.images.volumes import OldVolume, fresh_e, fresh_f, fresh_old, seal_old_map
+from tools.images.volumes import OldVolume, Volume, fresh_e, fresh_f, fresh_old, seal_old_map
 from tools.reference import read_image
 from tools.reference.filecore import head_space, put, zone_check
 
 SCRIPT = b"check\nfree\ncat $\n"
 
 
-def small_volumes():
+def small_volumes() -> Iterator[Volume]:
     """Volumes of every form, with a few directories, so that a mutant is answered soon."""
     yield table.new_volume(fresh_e)
     yield table.files_f()
@@ -41,7 +44,7 @@ def small_volumes():
         yield make()
 
 
-def changed_byte(chance, byte):
+def changed_byte(chance: random.Random, byte: int) -> int:
     """Another byte: one bit of it, a neighbour, or any."""
     way = chance.randrange(3)
     if way == 0:
@@ -49,13 +52,13 @@ def changed_byte(chance, byte):
     return (byte + chance.choice((-1, 1))) % 256 if way == 1 else chance.randrange(256)
 
 
-def damage_range(chance, damage, start, places):
+def damage_range(chance: random.Random, damage: damaged.Damage, start: int, places: List[int]) -> None:
     for _ in range(chance.choice((1, 1, 1, 2, 3))):
         at = start + chance.choice(places)
         damage.data[at] = changed_byte(chance, damage.data[at])
 
 
-def damage_map(chance, damage):
+def damage_map(chance: random.Random, damage: damaged.Damage) -> None:
     """Bytes of a zone or of an old map, nearly always with right checks."""
     volume = damage.volume
     sealed = chance.randrange(10) > 0
@@ -78,7 +81,7 @@ def damage_map(chance, damage):
     chance.random()
 
 
-def damage_directory(chance, damage):
+def damage_directory(chance: random.Random, damage: damaged.Damage) -> None:
     """Bytes of a directory: its ends, its entries, its heap; mostly with the check put right."""
     volume = damage.volume
     directory = chance.choice(volume.directories())
@@ -100,7 +103,7 @@ LENGTHS = (0, 1, 255, 256, 257, 511, 512, 1023, 1024, 1025, 2047, 2048, 2049, 40
            (1 << 22) + 2048, (1 << 31) - 1, 1 << 31, (1 << 32) - 2048, (1 << 32) - 1)
 
 
-def address_elsewhere(chance, volume):
+def address_elsewhere(chance: random.Random, volume: Volume) -> int:
     """The address of another object, of the map, or of nothing."""
     known = [entry.address for entry in volume.objects() if entry.address]
     if isinstance(volume, OldVolume):
@@ -112,7 +115,7 @@ def address_elsewhere(chance, volume):
     return address % (1 << 32 if volume.form == "big" else 1 << 24)
 
 
-def damage_entry(chance, damage):
+def damage_entry(chance: random.Random, damage: damaged.Damage) -> None:
     """Another address or length of an object, or a file for a directory, with the right check."""
     volume = damage.volume
     directory = chance.choice(volume.directories())
@@ -141,7 +144,7 @@ def damage_entry(chance, damage):
 ENDS = (0, 1, 255, 256, 511, 512, 1023, 1024, 2047, 2048, 0xDFF, 0xE00)
 
 
-def mutant(chance, volumes):
+def mutant(chance: random.Random, volumes: List[Volume]) -> bytes:
     damage = damaged.Damage(chance.choice(volumes))
     for _ in range(chance.choice((1, 1, 2))):
         chance.choice((damage_map, damage_directory, damage_directory, damage_entry, damage_entry))(chance, damage)
@@ -154,7 +157,7 @@ def mutant(chance, volumes):
     return bytes(damage.data)
 
 
-def both_answers(program, path, data):
+def both_answers(program: str, path: str, data: bytes) -> Tuple[Tuple[int, str], Tuple[int, str]]:
     """What the reader says, and what the program says: status and text."""
     table.write_image(path, data)
     run = subprocess.run([program, path], input=SCRIPT, capture_output=True, timeout=60)
@@ -163,7 +166,7 @@ def both_answers(program, path, data):
     return wanted, (run.returncode, run.stdout.decode())
 
 
-def main(program, count=300, seed=1):
+def main(program: str, count: int = 300, seed: int = 1) -> bool:
     volumes, chance = list(small_volumes()), random.Random(seed)
     seen, wrong = collections.Counter(), 0
     with tempfile.TemporaryDirectory() as folder:

@@ -10,6 +10,8 @@ status and output are compared with what they have to be, and so is every byte o
 check_outside.c into the object that stands between the program and the system; without one, or where the system allows no
 chroot, what needs it is left out, and a line says so.
 """
+from __future__ import annotations
+
 import errno
 import itertools
 import os
@@ -19,6 +21,7 @@ import signal
 import subprocess
 import sys
 import tempfile
+from typing import Any, Dict, List, Optional, Tuple, Union
 
 from tools.files import TOP, built_shim, compiler, has_compiler, read
 from tools.images.damaged import sized
@@ -36,14 +39,14 @@ EVERY = 1 << 30
 class Ended:
     """How a run ended: status (or the signal that ended it, negative), output, and the calls that it made."""
 
-    def __init__(self, status, output, errors, calls):
+    def __init__(self, status: int, output: bytes, errors: bytes, calls: List[List[str]]) -> None:
         self.status, self.output, self.errors, self.calls = status, output, errors, calls
 
-    def kind(self, *kinds):
+    def kind(self, *kinds: str) -> List[List[str]]:
         return [call for call in self.calls if call[0] in kinds]
 
 
-def write(path, content):
+def write(path: str, content: bytes) -> None:
     with open(path, "wb") as file:
         file.write(content)
 
@@ -51,7 +54,7 @@ def write(path, content):
 class Place:
     """A folder with the image disc.adf, images beside it, and perhaps fresh.adf, which the program makes."""
 
-    def __init__(self, program, shim):
+    def __init__(self, program: str, shim: str) -> None:
         self.program, self.shim = program, shim
         self.root = tempfile.mkdtemp()
         self.folder = os.path.join(self.root, "images")
@@ -67,27 +70,28 @@ class Place:
             write(os.path.join(self.root, name), content)
         self.passed, self.failures, self.seen = 0, [], set()
 
-    def path(self, name):
+    def path(self, name: str) -> str:
         return os.path.join(self.root, name)
 
-    def ended(self, status):
+    def ended(self, status: int) -> Ended:
         log = self.path("log")
         lines = read(log).decode(errors="replace").splitlines() if os.path.exists(log) else []
         calls = [line.split(" ", 3) for line in lines]
         return Ended(status, read(self.path("answer")), read(self.path("errors")), calls)
 
-    def clear(self):
+    def clear(self) -> None:
         for name in (self.path("log"), os.path.join(self.folder, "fresh.adf")):
             if os.path.lexists(name):
                 os.unlink(name)
         for name in ("answer", "errors"):
             write(self.path(name), b"")
 
-    def environment(self, faults, root=None):
+    def environment(self, faults: str, root: Any = None) -> Dict[str, str]:
         root = self.root if root is None else root
         return {"LD_PRELOAD": os.path.join(root, "shim.so"), "OUTSIDE_LOG": os.path.join(root, "log"), "OUTSIDE_FAULTS": faults}
 
-    def run(self, words, script="script", closed=(), faults="", keep=False):
+    def run(self, words: List[str], script: str = "script", closed: Tuple[Any, ...] = (), faults: str = "",
+            keep: bool = False) -> Optional[Ended]:
         """A run in the folder, with the streams of these numbers closed, and with these calls disturbed."""
         if not keep:
             self.clear()
@@ -102,7 +106,7 @@ class Place:
         os.chdir(here)
         return self.ended(-os.WTERMSIG(status) if os.WIFSIGNALED(status) else os.WEXITSTATUS(status))
 
-    def left(self):
+    def left(self) -> str:
         """What is left of fresh.adf: absent, whole or part. A file that isn't what it has to be is named instead."""
         names = sorted(os.listdir(self.folder))
         for name in sorted(set(names) | set(self.kept)):
@@ -113,7 +117,7 @@ class Place:
             return "absent"
         return "whole" if read(os.path.join(self.folder, "fresh.adf")) in self.fresh.values() else "part"
 
-    def expect(self, case, ended, status, left="absent", output=None):
+    def expect(self, case: str, ended: Ended, status: int, left: str = "absent", output: Optional[bytes] = None) -> None:
         """Notes whether a run ended so; `output` is the whole text, of which any other end has a part from its front."""
         wanted = status if isinstance(status, tuple) else (status,)
         states = left if isinstance(left, tuple) else (left,)
@@ -126,7 +130,7 @@ class Place:
         self.note(case, right, "status %s, wanted %s; fresh.adf %s, wanted %s; %d bytes of output, and errors %s"
                   % (ended.status, status, state, left, len(ended.output), ended.errors[:80]))
 
-    def note(self, case, right, what=""):
+    def note(self, case: str, right: bool, what: Union[List[Union[List[int], str]], str] = "") -> None:
         if right:
             self.passed += 1
         else:
@@ -136,11 +140,11 @@ class Place:
 # ---- runs that nothing disturbs, and the calls that they make
 
 
-def opened(ended):
+def opened(ended: Ended) -> List[str]:
     return [call[3] for call in ended.kind("open")]
 
 
-def undisturbed(place):
+def undisturbed(place: Place) -> Tuple[bytes, bytes]:
     """Which files are opened and how, and what is synced when. Answers the outputs of a run that reads and of one that makes."""
     for words in (["disc.adf"], ["--read-only", "disc.adf"]):
         ended = place.run(words)
@@ -162,7 +166,7 @@ def undisturbed(place):
     return reading, making
 
 
-def reads(place):
+def reads(place: Place) -> None:
     """What is read how often: sectors are kept, and what can't be a directory by its length isn't read."""
     volume = FRESH["F"]()
     volume.root.insert(volume.file(b"A", b"A" * 1000))
@@ -194,7 +198,7 @@ STATUSES = [
 ]
 
 
-def statuses(place):
+def statuses(place: Place) -> None:
     for status, words, script in STATUSES:
         place.expect("words %s" % words, place.run(words, script), status)
     path = os.path.join(place.root, "pipe")
@@ -218,7 +222,7 @@ STREAM_WORDS = [
 SUBSETS = [subset for count in range(4) for subset in itertools.combinations(range(3), count)]
 
 
-def wanted_of_closed(words, script, closed):
+def wanted_of_closed(words: List[str], script: str, closed: Tuple[Any, ...]) -> Any:
     """Status and what is left of fresh.adf: the words come first, then the script, the image, the replies."""
     if "--unknown" in words:
         return 2, "absent"
@@ -236,14 +240,14 @@ def wanted_of_closed(words, script, closed):
     return (1 if "--new" in words else 3 if "zeros.adf" in words else 0), left
 
 
-def closed_streams(place):
+def closed_streams(place: Place) -> None:
     for closed in SUBSETS:
         for words, script in STREAM_WORDS:
             status, left = wanted_of_closed(words, script, closed)
             place.expect("closed %s, %s < %s" % (closed, words, script), place.run(words, script, closed), status, left)
 
 
-def root_without_dev(place):
+def root_without_dev(place: Place) -> None:
     """Puts program, libraries and images into a folder that can be the root."""
     root = place.root
     listed = subprocess.run(["ldd", place.program], capture_output=True, text=True, check=False).stdout
@@ -256,11 +260,11 @@ def root_without_dev(place):
         os.chmod(path, 0o755)
 
 
-def run_in_root(place, words, script, closed, nobody):
+def run_in_root(place: Place, words: List[str], script: str, closed: Tuple[Any, ...], nobody: Any) -> Any:
     """A run in which the folder is the root, so that there is no /dev. Nobody may not read a folder of the mode 0711."""
     place.clear()
 
-    def begin():
+    def begin() -> None:
         os.chroot(place.root)
         os.chdir("/images")
         resource.setrlimit(resource.RLIMIT_CORE, (0, 0))
@@ -278,7 +282,7 @@ def run_in_root(place, words, script, closed, nobody):
     return place.ended(child.returncode)
 
 
-def no_dev(place):
+def no_dev(place: Place) -> None:
     """Every stream closed in turn and together, where /dev/null isn't there to be opened in its place."""
     try:
         root_without_dev(place)
@@ -341,7 +345,7 @@ SECTORS = [
 ]
 
 
-def counts(ended):
+def counts(ended: Ended) -> Any:
     numbers = {}
     for call in ended.calls[:-1]:
         numbers[call[0]] = numbers.get(call[0], 0) + 1
@@ -349,18 +353,18 @@ def counts(ended):
     return numbers
 
 
-def fault(kind, first, how, last=None):
+def fault(kind: str, first: int, how: int, last: Any = None) -> str:
     return "%s:%d:%d:%s" % (kind, first, last or first, how)
 
 
-def some_of(count, most=44):
+def some_of(count: int, most: int = 44) -> Union[List[int], range]:
     """Numbers from 1 to count: all if they are few, else about so many, with the first and the last."""
     if count <= most:
         return range(1, count + 1)
     return sorted({1 + at * (count - 1) // (most - 1) for at in range(most)})
 
 
-def disturbed_reading(place, output):
+def disturbed_reading(place: Place, output: Any) -> None:
     for words in (["disc.adf"], ["--read-only", "disc.adf"]):
         numbers = counts(place.run(words))
         for kind, disturbances in READING.items():
@@ -377,7 +381,7 @@ def disturbed_reading(place, output):
     place.expect("no file has the name", place.run(["disc.adf"], faults=fault("statx", 1, MISSING)), 12)
 
 
-def disturbed_making(place, output):
+def disturbed_making(place: Place, output: Any) -> None:
     words = ["--new", "E", "fresh.adf"]
     numbers = counts(place.run(words))
     for name, disturbances in MAKING.items():
@@ -403,7 +407,7 @@ def disturbed_making(place, output):
     place.expect("makes, each call moves one byte", place.run(words, faults=fault("write", 1, "one", EVERY)), 1, "whole", output)
 
 
-def kills(place):
+def kills(place: Place) -> None:
     """Killed before and after each call: whatever is left of the new image, no other file is touched, and it isn't made anew."""
     words = ["--new", "E", "fresh.adf"]
     numbers = counts(place.run(words))
@@ -421,11 +425,11 @@ def kills(place):
 # ---- limits and signals
 
 
-def limited(place, words, limit, ignored, output_to_file=True):
+def limited(place: Place, words: List[str], limit: Any, ignored: Any, output_to_file: bool = True) -> Any:
     """A run under a limit of the bytes of a file. The signal that goes with it is ignored, or ends the program."""
     place.clear()
 
-    def begin():
+    def begin() -> None:
         resource.setrlimit(resource.RLIMIT_FSIZE, (limit, limit))
         resource.setrlimit(resource.RLIMIT_CORE, (0, 0))
         signal.signal(signal.SIGXFSZ, signal.SIG_IGN if ignored else signal.SIG_DFL)
@@ -437,7 +441,7 @@ def limited(place, words, limit, ignored, output_to_file=True):
     return place.ended(child.returncode)
 
 
-def limits(place):
+def limits(place: Place) -> None:
     making = ["--new", "E", "fresh.adf"]
     place.expect("a limit below the image", limited(place, making, 4096, True, False), 4)
     place.expect("a limit below the image, by a signal", limited(place, making, 4096, False, False),
@@ -456,7 +460,7 @@ def limits(place):
     os.close(writer)
 
 
-def main(program):
+def main(program: str) -> Optional[bool]:
     signal.alarm(SECONDS)
     if not has_compiler():
         print("outside: left out, no C compiler here (%s): all runs in which the system fails" % compiler()[0])

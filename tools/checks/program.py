@@ -36,7 +36,8 @@ def case_differences(case: Case, program: str, folder: str) -> Iterator[str]:
     ran = subprocess.run([program, *case.words], cwd=folder, input=case.script, capture_output=True, timeout=SECONDS, check=False)
     answer = ran.stdout.decode("utf-8", "replace")
     if (ran.returncode, answer) != (case.status, case.answer):
-        yield from ["wanted status %d, got %d" % (case.status, ran.returncode), "wanted", *shortened(case.answer), "got", *shortened(answer)]
+        yield "wanted status %d, got %d" % (case.status, ran.returncode)
+        yield from ["wanted", *shortened(case.answer), "got", *shortened(answer)]
     if ran.stderr:
         yield "something was written to standard error"
     if case.made and read(os.path.join(folder, case.made[0])) != read(os.path.join(folder, case.made[1])):
@@ -105,8 +106,8 @@ def readme(suite: Suite, program: str) -> None:
         subprocess.run(["fcdisc", "adl", "--back", "l-files.adf", "sides.adl"], cwd=folder, env=environment, check=True)
         with open(os.path.join(folder, "header.adf"), "wb") as file:
             file.write(bytes(512) + read(os.path.join(folder, "f-user.adf")))
-        ran = subprocess.run([os.path.join(TOP, "tools", "run"), "checks/examples", os.path.join(TOP, "README.md")], cwd=folder, env=environment,
-                             stdout=subprocess.PIPE, text=True, check=False)
+        words = [os.path.join(TOP, "tools", "run"), "checks/examples", os.path.join(TOP, "README.md")]
+        ran = subprocess.run(words, cwd=folder, env=environment, stdout=subprocess.PIPE, text=True, check=False)
         suite.note("README.md", ran.stdout.splitlines() if ran.returncode else [])
 
 
@@ -133,7 +134,8 @@ def installed_differences(program: str, folder: str) -> Iterator[str]:
         return
     table.write_image(os.path.join(folder, "hello.adf"), table.hello().image())
     environment = {name: text for name, text in os.environ.items() if name != "FCORE"}
-    ran = subprocess.run([root + "/there/bin/fcdisc", "get", "hello.adf", "$.Hello", "-"], cwd=folder, env=environment, capture_output=True, check=False)
+    words = [root + "/there/bin/fcdisc", "get", "hello.adf", "$.Hello", "-"]
+    ran = subprocess.run(words, cwd=folder, env=environment, capture_output=True, check=False)
     if ran.stdout != b"Hello":
         yield "fcdisc get gives %r, and says %r" % (ran.stdout, ran.stderr)
     for page in ("fcdisc.1", "fcore.1"):

@@ -99,7 +99,8 @@ def named(page: str) -> Iterator[Claim]:
                 records = names_in(of) or records
                 for name in names_in(listed):
                     if of:
-                        yield "%s: the field %s of %s" % (head[4:], name, ", ".join(records)), all(name in every.get(one, ()) for one in records)
+                        holds = all(name in every.get(one, ()) for one in records)
+                        yield "%s: the field %s of %s" % (head[4:], name, ", ".join(records)), holds
                     else:
                         yield "%s: the clause %s" % (head[4:], name), name in clauses
         for listed in re.findall(r"^- ((?:`[a-z_]+`(?:, )?)+):", body, re.MULTILINE) if crates else ():

@@ -58,7 +58,8 @@ def rooms_named(text: str, files: List[str]) -> Dict[str, Set[str]]:
 
 def differences(search: str, text: str, files: List[str]) -> Iterator[str]:
     found, named = rooms_found(search), rooms_named(text, files)
-    besides: Set[str] = set().union(*rooms_named("".join(re.findall(r"^Besides:.*?(?=\n\n|\Z)", text, re.MULTILINE | re.DOTALL)), files).values())
+    told = "".join(re.findall(r"^Besides:.*?(?=\n\n|\Z)", text, re.MULTILINE | re.DOTALL))
+    besides: Set[str] = set().union(*rooms_named(told, files).values())
     if not found:
         yield "the search finds nothing: " + search
     for missing in sorted(found - set().union(*named.values())):

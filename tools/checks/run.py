@@ -43,6 +43,7 @@ class Long(NamedTuple):
 
 
 LONG: Dict[str, Long] = {
+    "rescue": Long(["checks/rescue", "{}"], True),
     "demo": Long(["checks/demo", "{}"], True),
     "outside": Long(["checks/outside", "{}"], False),
     "crash": Long(["checks/crash", "{}"], True),
@@ -118,8 +119,7 @@ def main(words: List[str]) -> bool:
         return run_one(options.suite, selection, path)
     has_program = os.access(path, os.X_OK)
     # the longest first
-    over = [*(LONG if options.gate else ()), "fcdisc-round", "fcdisc-discs", "fcdisc-changes", "fcdisc-keeping",
-            "fcdisc-collections", "fcdisc", "cases", "streams", "examples", "install"]
+    over = [*(LONG if options.gate else ()), *reversed(list(OVER_PROGRAM))]
     names = [name for name in [*over, *PLAIN] if selection.has_suite(name) and (has_program or options.list or name in PLAIN)]
     if not has_program and not options.list:
         print("there is no program at %s: all suites over it are left out (--program PATH)" % options.program)

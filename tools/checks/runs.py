@@ -14,6 +14,8 @@ the image: then a line may have broken off, and only the map, free space and dir
 a compact of a new map leaves the tree. --whole is 300 scripts of 25 commands, ten of them with each call failing, half an hour or
 more of one processor; --part K/N is the K-th of N parts of the scripts. A table has what was left.
 """
+from __future__ import annotations
+
 import argparse
 import collections
 import copy
@@ -21,19 +23,21 @@ import os
 import random
 import sys
 import tempfile
+from typing import Counter, Dict, List, Tuple
 
 from tools.checks import changes
 from tools.checks.changes import ALL, Run, Stand, opened, owed_refusal
 from tools.checks.failing_calls import KINDS, LEFT, NAMES, Ended, Script, Shimmed, Wrong, each_call, joined, map_sectors
 from tools.files import has_compiler
 from tools.images import drawn_discs
-from tools.reference.change_answer import CHANGING, Command
+from tools.reference.change_answer import CHANGING, Command, Needs
+from tools.reference.change_state import State
 
 LARGEST = 3 << 20  # an image whose calls fail in turn is written again for each
 KINDS_OF_DISCS = [(False, at) for at in range(len(drawn_discs.NEW))] + [(True, at) for at in range(len(drawn_discs.OLD))]
 
 
-def disc_of(at, count):
+def disc_of(at: int, count: int) -> Tuple[bool, int]:
     """Whether script `at` of so many has an old map, and the number of its disc: few scripts are spread over the kinds."""
     kinds = len(KINDS_OF_DISCS)
     old, number = KINDS_OF_DISCS[at * kinds // count if count < kinds else at % kinds]
@@ -43,19 +47,19 @@ def disc_of(at, count):
 class Runs:
     """The scripts and what was counted over them."""
 
-    def __init__(self, options, folder):
+    def __init__(self, options: argparse.Namespace, folder: str) -> None:
         self.options, self.folder = options, folder
         self.program = changes.Program(options.program, folder)
         self.shimmed = None
         self.counts, self.calls, self.failures = collections.Counter(), collections.Counter(), []
         self.scripts, self.discs = 0, set()
 
-    def options_for(self, old):
+    def options_for(self, old: bool) -> argparse.Namespace:
         found = copy.copy(self.options)
         found.old, found.batch, found.words = old, False, ALL
         return found
 
-    def one(self, at, count):
+    def one(self, at: int, count: int) -> Run:
         """A script, drawn over its disc and compared line by line and at once."""
         old, number = disc_of(at, count)
         run = Run(self.program, self.options_for(old), number, self.counts)
@@ -66,7 +70,7 @@ class Runs:
         self.discs.add(run.name)
         return run
 
-    def failing(self, run):
+    def failing(self, run: Run) -> None:
         """The same script, with a compact at its end, and calls that fail."""
         self.shimmed = self.shimmed or Shimmed(self.options.program, self.folder)
         lines = run.script + [b"compact", b"free"]
@@ -79,14 +83,14 @@ class Runs:
             self.failures.append("disc %d, %s: %s\n%s" % (run.number, run.name, wrong, self.kept(run.image, lines)))
         print("calls fail over disc %d, %s: %s" % (run.number, run.name, wrong or "as promised"), flush=True)
 
-    def kept(self, image, lines):
+    def kept(self, image: bytes, lines: List[bytes]) -> str:
         folder = tempfile.mkdtemp(prefix="check_runs-")
         for name, content in (("first.adf", image), ("left.adf", self.shimmed.left), ("script", joined(lines))):
             with open(os.path.join(folder, name), "wb") as file:
                 file.write(content)
         return "kept in %s: first.adf, left.adf, script" % folder
 
-    def all(self):
+    def all(self) -> bool:
         options, waiting = self.options, 0
         if options.failing and not has_compiler():
             print("left out, no C compiler here: the runs with failing calls")
@@ -100,7 +104,7 @@ class Runs:
         self.table()
         return not self.failures
 
-    def table(self):
+    def table(self) -> None:
         """What was counted."""
         accepted = sum(count for (word, what), count in self.counts.items() if word in CHANGING and not what)
         lines = sum(count for (word, what), count in self.counts.items() if word != "event")
@@ -121,20 +125,20 @@ class Runs:
 class MadeUp(Script):
     """A line over an image, without a program: tools/reference/changer.py makes it."""
 
-    def __init__(self, image, line):
+    def __init__(self, image: bytes, line: bytes) -> None:
         status, text, after = Stand().run(image, line + b"\n")
         self.image, self.lines, self.trees = image, [line], {}
         self.ends = [Ended(0, b"", image, []), Ended(status, text.encode(), after, [])]
         self.whole = self.ends[-1]
 
 
-def torn_between(before, after, sector, chance):
+def torn_between(before: bytes, after: bytes, sector: int, chance: random.Random) -> bytes:
     """Each sector as before or as after."""
     pieces = range(0, len(before), sector)
     return b"".join(chance.choice((before, after))[at:at + sector] for at in pieces)
 
 
-def planted(state, c, needs, chance):
+def planted(state: State, c: Command, needs: Needs, chance: random.Random) -> Dict[str, int]:
     """By what is wrong with them, places at which no command of this kind may write."""
     found = {"lost space": [at for at in state.idle_sectors() - map_sectors(state)], "another file": [], "another directory": []}
     for key, entry in state.objects.items():
@@ -145,7 +149,7 @@ def planted(state, c, needs, chance):
     return {what: chance.choice(sorted(sectors)) for what, sectors in found.items() if sectors}
 
 
-def self_test_line(image, line, counts, chance):
+def self_test_line(image: bytes, line: bytes, counts: Counter[Tuple[str, str]], chance: random.Random) -> bytes:
     """What broke off rightly has to pass, and what broke off wrongly mustn't."""
     state, c = opened(image), Command(line)
     number, needs = owed_refusal(state, c)
@@ -168,7 +172,7 @@ def self_test_line(image, line, counts, chance):
     return script.whole.image
 
 
-def self_test():
+def self_test() -> bool:
     counts = collections.Counter()
     for at in range(24):
         old, number = disc_of(at, 24)
@@ -185,7 +189,7 @@ def self_test():
     return not any(how == "passed" for how, what in counts) and wanted == {what for how, what in counts if how == "found"}
 
 
-def main(words):
+def main(words: List[str]) -> bool:
     parser = argparse.ArgumentParser(usage=__doc__, add_help=False)
     for name, value in (("--seed", 1), ("--scripts", 8), ("--failing", 4), ("--each", 12), ("--commands", 12)):
         parser.add_argument(name, type=int, default=value)

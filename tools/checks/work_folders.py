@@ -1,12 +1,15 @@
 # SPDX-License-Identifier: MIT
 """Folders in which the checks of fcdisc run it."""
+from __future__ import annotations
+
 import os
 import time
+from typing import Any
 
 from tools.files import read
 
 
-def fill(folder, content):
+def fill(folder: str, content: bytes) -> None:
     """Makes what stands in a folder before a case."""
     for name, data in content.items():
         path = os.path.join(folder, name)
@@ -19,7 +22,7 @@ def fill(folder, content):
                 file.write(data)
 
 
-def snapshot(folder):
+def snapshot(folder: str) -> Any:
     """What stands in a folder: bytes, None for a folder, `-> TARGET` for a link."""
     found = {}
     for place, folders, files in os.walk(folder):
@@ -34,7 +37,7 @@ def snapshot(folder):
     return found
 
 
-def wait_for(there, seconds=60):
+def wait_for(there: Any, seconds: int = 60) -> None:
     end = time.monotonic() + seconds
     while not there() and time.monotonic() < end:
         time.sleep(0.02)

@@ -1,5 +1,9 @@
 # SPDX-License-Identifier: MIT
 """Damaged images, each with the line that fcore has to answer: every fault, and which comes first where two stand together."""
+from __future__ import annotations
+
+from typing import Any, Callable, Dict, Iterator, Optional, Tuple
+
 from tools.images import volumes
 from tools.images.volumes import (Directory, File, NewVolume, OldVolume, boot_block, fresh_e, fresh_f, fresh_old, record_bytes,
                                   seal_old_map)
@@ -9,18 +13,18 @@ from tools.reference.filecore import BOOT_BLOCK, boot_check, head_space, put, sm
 class Damage:
     """The image of a volume, and ways to damage it."""
 
-    def __init__(self, volume):
+    def __init__(self, volume: volumes.Volume) -> None:
         self.volume, self.data = volume, volume.image()
 
-    def patch(self, at, changed):
+    def patch(self, at: int, changed: bytes) -> Damage:
         self.data[at:at + len(changed)] = changed
         return self
 
-    def cut(self, length):
+    def cut(self, length: int) -> Damage:
         del self.data[length:]
         return self
 
-    def zone(self, zone, changes, copies=(0, 1), sealed=True):
+    def zone(self, zone: int, changes: Dict[int, int], copies: Tuple[int, ...] = (0, 1), sealed: bool = True) -> Damage:
         """Changes bytes of a zone's sector, by their places in it."""
         shape = self.volume.shape
         for copy in copies:
@@ -31,46 +35,46 @@ class Damage:
                 self.data[start] = zone_check(self.data[start:start + shape.sector])
         return self
 
-    def wrong_check(self, zone, copies):
+    def wrong_check(self, zone: int, copies: Tuple[int, ...]) -> Damage:
         shape = self.volume.shape
         for copy in copies:
             self.data[(shape.map_sector + copy * shape.zones + zone) * shape.sector] ^= 0x55
         return self
 
-    def boot(self, changes):
+    def boot(self, changes: Dict[int, int]) -> Damage:
         """Changes bytes of the boot block's record."""
         for at, byte in changes.items():
             self.data[BOOT_BLOCK + 0x1C0 + at] = byte
         self.data[BOOT_BLOCK + 511] = boot_check(self.data[BOOT_BLOCK:BOOT_BLOCK + 512])
         return self
 
-    def place(self, entry):
+    def place(self, entry: Directory) -> int:
         if isinstance(self.volume, OldVolume):
             return entry.address * volumes.UNIT
         return next(self.volume.pieces_of(entry.address, 1))[0]
 
-    def directory(self, entry, changes):
+    def directory(self, entry: Directory, changes: Dict[int, bytes]) -> Damage:
         """Changes bytes of a directory, without a new check."""
         place = self.place(entry)
         for at, changed in changes.items():
             self.patch(place + at, changed)
         return self
 
-    def checked(self, entry):
+    def checked(self, entry: Directory) -> Damage:
         """Gives a directory of 2048 bytes the check that fits."""
         place = self.place(entry)
         block = self.data[place:place + 2048]
         block[2047] = small_directory_check(block, 5 + 26 * len(entry.entries))
         return self.patch(place, block)
 
-    def old_map(self, changes):
+    def old_map(self, changes: Dict[int, int]) -> Damage:
         for at, byte in changes.items():
             self.data[at] = byte
         seal_old_map(self.data)
         return self
 
 
-def tiny():
+def tiny() -> NewVolume:
     """A disc of 18,944 bytes with a boot block: one zone of 512 bytes, the root and a file."""
     volume = NewVolume(record_bytes(9, 15, 8, 1, 32, 0x208, 74 * 256), True)
     volume.take(2, 0, 22)
@@ -78,7 +82,7 @@ def tiny():
     return volume
 
 
-def with_directory(make):
+def with_directory(make: Callable[..., Any]) -> Tuple[volumes.Volume, Directory]:
     """A volume with `$.D`, which has four files, and with `$.Z`."""
     volume = make()
     inner = volume.root.insert(volume.directory(volume.root, b"D"))
@@ -88,22 +92,22 @@ def with_directory(make):
     return volume, inner
 
 
-def d_disc():
+def d_disc() -> OldVolume:
     return OldVolume("D", 3200)
 
 
-def l_disc():
+def l_disc() -> OldVolume:
     return OldVolume("L", 2560)
 
 
-def e_plus():
+def e_plus() -> NewVolume:
     return fresh_e(big=True)
 
 
 # ---- kinds and lengths
 
 
-def kinds():
+def kinds() -> Iterator[Tuple[str, bytearray, str]]:
     yield "empty", bytearray(), "NoKind"
     yield "zeros", bytearray(819200), "NoKind"
     yield "511-bytes", Damage(fresh_old("L")).cut(511).data, "NoKind"
@@ -134,14 +138,14 @@ RECORDS = {
 }
 
 
-def old_of_size(units):
+def old_of_size(units: int) -> bytearray:
     damage = Damage(fresh_old("D"))
     put(damage.data, 252, 3, units)
     seal_old_map(damage.data)
     return damage.data
 
 
-def lengths():
+def lengths() -> Iterator[Tuple[str, bytearray, str]]:
     yield "f-cut", Damage(fresh_f()).cut(1000000).data, "Short 1638400 1000000"
     yield "f-least", Damage(fresh_f()).cut(0xE00).data, "Short 1638400 3584"
     yield "d-cut", Damage(fresh_old("D")).cut(800000).data, "Short 819200 800000"
@@ -157,7 +161,7 @@ def lengths():
 # ---- the two copies
 
 
-def copies():
+def copies() -> Iterator[Tuple[str, bytearray, str]]:
     yield "f-both-copies", Damage(fresh_f()).wrong_check(1, (0,)).wrong_check(3, (1,)).data, "Copies 1 3"
     yield "f-both-totals", Damage(fresh_f()).zone(2, {3: 1}).data, "Copies 4 4"
     yield "f-total-and-check", Damage(fresh_f()).zone(0, {3: 0xFE}, (0,)).wrong_check(0, (1,)).data, "Copies 4 0"
@@ -167,7 +171,7 @@ def copies():
     yield "copies-before-differs", both.data, "Copies 0 0"
 
 
-def agreement():
+def agreement() -> Iterator[Tuple[str, bytearray, str]]:
     record = tiny().raw
     for at in (0, 4, 5, 9, 10, 11, 16, 17, 18, 19, 36, 37, 38, 39, 40, 42, 44, 45, 46, 47):
         yield "differs-%d" % at, Damage(tiny()).zone(0, {4 + at: record[at] ^ 1}).data, "Differs %d" % at
@@ -187,14 +191,14 @@ def agreement():
 # ---- zones and holes
 
 
-def with_runs(make, zone, runs):
+def with_runs(make: Callable[..., Any], zone: int, runs: Callable[..., Any]) -> NewVolume:
     """A volume whose zone has these runs and then the rest."""
     volume = make()
     volume.runs[zone] = runs(sum(length for length, owner in volume.runs[zone]))
     return volume
 
 
-def zones():
+def zones() -> Iterator[Tuple[str, bytearray, str]]:
     no_end = {at: 0 for at in range(64, 512)}
     no_run = Damage(tiny()).zone(0, no_end)
     yield "zone-without-bits", no_run.data, "Zone 0 512"
@@ -214,8 +218,8 @@ def zones():
     yield "zone-before-root", Damage(fresh_e()).zone(0, {1: 0x19}).patch(2049, b"X").data, "Zone 0 545"
 
 
-def holes():
-    def holed(changes):
+def holes() -> Iterator[Tuple[str, bytearray, str]]:
+    def holed(changes: Dict[int, int]) -> bytearray:
         volume = d_disc()
         volume.hole(8)
         volume.lose(8)
@@ -239,10 +243,10 @@ def holes():
 # ---- directories
 
 
-def small_directories():
+def small_directories() -> Iterator[Tuple[str, bytearray, str]]:
     volume, inner = with_directory(d_disc)
 
-    def damage(changes):
+    def damage(changes: Dict[int, bytes]) -> Damage:
         return Damage(volume).directory(inner, changes)
 
     fault = "Directory $.D "
@@ -264,14 +268,14 @@ def small_directories():
     yield "d-root-first", damage({1: b"X"}).patch(1025, b"X").data, "Directory $ Magic"
 
 
-def small_check(volume, entry):
+def small_check(volume: OldVolume, entry: Directory) -> int:
     return volume.directory_bytes(entry)[2047]
 
 
-def short_directories():
+def short_directories() -> Iterator[Tuple[str, bytearray, str]]:
     volume, inner = with_directory(l_disc)
 
-    def damage(changes):
+    def damage(changes: Dict[int, bytes]) -> bytearray:
         return Damage(volume).directory(inner, changes).data
 
     fault = "Directory $.D "
@@ -283,11 +287,11 @@ def short_directories():
     yield "l-first-twin", damage({5 + 26: b"AA", 5 + 26 * 2: b"aa"}), fault + "Twin 1"
 
 
-def big_directories():
+def big_directories() -> Iterator[Tuple[str, bytearray, str]]:
     volume, inner = with_directory(e_plus)
     entry = 32 + 28  # the second entry: the head's name takes 4 bytes
 
-    def damage(changes, of=inner):
+    def damage(changes: Dict[int, bytes], of: Directory = inner) -> Damage:
         return Damage(volume).directory(of, changes)
 
     fault = "Directory $.D "
@@ -323,7 +327,7 @@ BIG_FRAMES = [
 ]
 
 
-def big_entries(entry):
+def big_entries(entry: int) -> Iterator[Tuple[str, Dict[int, bytes], str]]:
     heap = 32 + 28 * 4
     yield "big-name-of-0", {entry + 20: b"\0"}, "BadEntry 1"
     yield "big-name-of-256", {entry + 20: b"\0\1"}, "BadEntry 1"
@@ -334,7 +338,7 @@ def big_entries(entry):
     yield "big-entry-before-twin", {heap + 4: b"AA\r\0cc\r\0\1"}, "BadEntry 3"
 
 
-def big_rechecked(damage, entry):
+def big_rechecked(damage: Damage, entry: Directory) -> bytearray:
     place = damage.place(entry)
     block = damage.data[place:place + entry.size]
     end = 28 + head_space(entry.form, entry.head_name) + 28 * len(entry.entries) + len(volumes.big_heap(entry)[0])
@@ -342,7 +346,7 @@ def big_rechecked(damage, entry):
     return damage.patch(place, block).data
 
 
-def sized(length):
+def sized(length: int) -> bytearray:
     """`$.D` has another length in the root's entry than in its head."""
     volume = e_plus()
     inner = volume.root.insert(volume.directory(volume.root, b"D", pieces=[(0, 48)]))
@@ -351,7 +355,7 @@ def sized(length):
     return damage.patch(damage.place(volume.root), volumes.big_directory(volume.root)).data
 
 
-def twice_right():
+def twice_right() -> bytearray:
     """A directory of the second form whose check is right for the first form too: that is the form that counts."""
     volume = e_plus()
     docs = volume.root.insert(volume.directory(volume.root, b"Docs", size=2048))
@@ -368,7 +372,7 @@ def twice_right():
 # ---- places
 
 
-def placed(make, address, length=1, name=b"F", units=None):
+def placed(make: Callable[..., Any], address: int, length: int = 1, name: bytes = b"F", units: Optional[int] = None) -> bytearray:
     """A file at an address that nothing leads to, whose bytes stand nowhere."""
     volume = make()
     wrong = File(name, b"", address)
@@ -379,7 +383,7 @@ def placed(make, address, length=1, name=b"F", units=None):
     return volume.image()
 
 
-def places():
+def places() -> Iterator[Tuple[str, bytearray, str]]:
     yield "identifier-1", placed(fresh_e, 0x100), "Place $.F"
     yield "identifier-0", placed(fresh_e, 0), "Place $.F"
     yield "identifier-without-run", placed(fresh_e, 0x500), "Place $.F"
@@ -397,14 +401,14 @@ def places():
     yield "directory-nowhere", image_without(volume, inner.entries[-1]), "Place $.D.None"
 
 
-def image_without(volume, entry):
+def image_without(volume: NewVolume, entry: Directory) -> bytearray:
     """The image, where the entry stands in its directory but its own bytes stand nowhere."""
     objects = [other for other in volume.objects() if other is not entry]
     volume.objects = lambda: objects
     return volume.image()
 
 
-def overlaps():
+def overlaps() -> Iterator[Tuple[str, bytearray, str]]:
     volume = fresh_e()
     volume.root.insert(Directory(b"D", 0x203))
     yield "root-again", image_without(volume, volume.root.entries[0]), "Overlap $.D"
@@ -428,7 +432,7 @@ def overlaps():
     yield "d-into-hole", volume.image(), "Overlap $.Z"
 
 
-def map_places():
+def map_places() -> Iterator[Tuple[str, bytearray, str]]:
     volume = NewVolume(tiny().raw, True)
     volume.raw[12:14] = (0x308).to_bytes(2, "little")
     volume.root.address = 0x308
@@ -449,7 +453,7 @@ def map_places():
     yield "boot-block-in-map", boot_block_in_map(), "MapPlace 12"
 
 
-def boot_block_in_map():
+def boot_block_in_map() -> bytearray:
     """The boot block stands where the first copy of the map does: to make the copies equal would be its end."""
     volume = NewVolume(record_bytes(8, 11, 5, 2, 1472, 0x205, 672 * 32), True)
     volume.take(2, 1, 96)
@@ -459,7 +463,7 @@ def boot_block_in_map():
 # ---- which comes first
 
 
-def first_faults():
+def first_faults() -> Iterator[Tuple[str, bytearray, str]]:
     volume, inner = with_directory(fresh_e)
     volume.root.insert(File(b"Q", b"", 0)).length = 1
     yield "place-before-directory", Damage(volume).directory(inner, {1: b"X"}).data, "Place $.Q"
@@ -490,7 +494,7 @@ GROUPS = (kinds, lengths, copies, agreement, zones, holes, small_directories, sh
           overlaps, map_places, first_faults)
 
 
-def damaged():
+def damaged() -> Iterator[Tuple[str, bytes, str]]:
     """Each image: its name, its bytes, and the words of its line."""
     for group in GROUPS:
         for name, data, line in group():

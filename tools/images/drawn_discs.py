@@ -5,11 +5,14 @@ Fresh discs, fragmented ones, those of tools/images/table.py, nearly full ones, 
 used up, big directories with and without room; over them by chance unsorted directories, wrong parent fields, odd heads, copies
 of the map that differ, and bytes past the disc's end. Free space is filled with noise, so that bytes that weren't written show.
 """
+from __future__ import annotations
+
 import random
+from typing import Any, Callable, Tuple
 
 from tools.images.fragmented import SHAPES, Fragmenter, hard_disc
 from tools.images.table import VOLUMES, full_identifiers, two_holes
-from tools.images.volumes import FRESH, Directory, File, OldVolume, big_heap
+from tools.images.volumes import FRESH, Directory, Entry, File, NewVolume, OldVolume, Volume, big_heap
 from tools.reference.change_state import State
 from tools.reference.filecore import folded, head_space, zone_check
 
@@ -21,24 +24,24 @@ OLD_TABLE = ("d-files", "l-files", "l-7-units", "l-8-units", "l-640-units", "l-8
 # ---- what new maps hold
 
 
-def fragments(name):
-    def make(chance):
+def fragments(name: str) -> Callable[..., Any]:
+    def make(chance: random.Random) -> NewVolume:
         volume = SHAPES[name]()
         Fragmenter(volume, chance.random()).fill(chance.randint(1, 6))
         return volume
     return make
 
 
-def nearly_full(name):
+def nearly_full(name: str) -> Callable[..., Any]:
     """A fragmented disc whose holes were given to one file, but for a few."""
-    def make(chance):
+    def make(chance: random.Random) -> NewVolume:
         volume = fragments(name)(chance)
         leave_few_holes(volume, chance)
         return volume
     return make
 
 
-def leave_few_holes(volume, chance):
+def leave_few_holes(volume: NewVolume, chance: random.Random) -> None:
     """Gives most of the free space to one file, and leaves a few holes, not all of them as they were."""
     least, identifier, room = volume.shape.least, volume.new_identifier(), 0
     places = [(zone, at) for zone, runs in enumerate(volume.runs) for at, run in enumerate(runs) if run[1] is None]
@@ -53,9 +56,9 @@ def leave_few_holes(volume, chance):
         add(volume, volume.root, File(b"Filler", chance.randbytes(room - chance.randrange(volume.shape.sector)), identifier * 256))
 
 
-def few_identifiers(make_volume):
+def few_identifiers(make_volume: Callable[..., Any]) -> Callable[..., Any]:
     """A disc of whose identifiers at most four are left, while many holes are."""
-    def make(chance):
+    def make(chance: random.Random) -> Any:
         volume = make_volume(chance)
         runs = [(zone, at) for zone, found in enumerate(volume.runs) for at, run in enumerate(found) if run[1] is not None and run[1] > 3]
         lost = set(range(3, volume.shape.id_limit)) - {entry.address // 256 for entry in volume.objects() if entry.address}
@@ -71,7 +74,7 @@ def few_identifiers(make_volume):
     return make
 
 
-def few_identifiers_big(chance):
+def few_identifiers_big(chance: random.Random) -> Any:
     """All identifiers of a disc with big directories have runs, most of them lost."""
     volume = hard_disc(8, 11, 8, 16, big=True)
     growing_directories(volume, chance, 3)
@@ -83,7 +86,7 @@ def few_identifiers_big(chance):
     return volume
 
 
-def growing_directories(volume, chance, most):
+def growing_directories(volume: Any, chance: random.Random, most: int) -> None:
     """Big directories of which little is left, each with some directories in it, alone in their identifiers or not."""
     holders = [volume.root]
     for number in range(chance.randint(1, most)):
@@ -98,8 +101,8 @@ def growing_directories(volume, chance, most):
             fill_big(chance, holder)
 
 
-def growing(make_volume):
-    def make(chance):
+def growing(make_volume: Callable[..., Any]) -> Callable[..., Any]:
+    def make(chance: random.Random) -> Any:
         volume = make_volume()
         growing_directories(volume, chance, 4)
         if chance.random() < 0.4:
@@ -108,9 +111,9 @@ def growing(make_volume):
     return make
 
 
-def full_directory(name):
+def full_directory(name: str) -> Callable[..., Any]:
     """A directory with as many entries as can be, or one less."""
-    def make(chance):
+    def make(chance: random.Random) -> NewVolume:
         volume = FRESH[name]()
         holder = add(volume, volume.root, volume.directory(volume.root, b"Full"))
         for holder in (holder, volume.root):
@@ -120,9 +123,9 @@ def full_directory(name):
     return make
 
 
-def shared(make_volume):
+def shared(make_volume: Callable[..., Any]) -> Callable[..., Any]:
     """Files that share identifiers, with slack between and after them; for big directories one with room, or without."""
-    def make(chance):
+    def make(chance: random.Random) -> Any:
         volume = make_volume()
         holders = [volume.root, add(volume, volume.root, volume.directory(volume.root, b"Docs"))]
         for number in range(chance.randint(3, 8)):
@@ -141,7 +144,8 @@ def shared(make_volume):
     return make
 
 
-def add_big_directory(volume, chance, holder, name, identifier, units):
+def add_big_directory(volume: Any, chance: random.Random, holder: Directory, name: str, identifier: Any,
+                      units: Callable[..., Any]) -> Any:
     """A big directory that is nearly full, at the front of an identifier; answers the low byte after it."""
     low, share = chance.choice((0, 1, 1, 2)), volume.shape.share
     needed = -(-2048 // share)
@@ -155,7 +159,7 @@ def add_big_directory(volume, chance, holder, name, identifier, units):
     return max(low, 1) + needed + chance.choice((0, 0, 1, 2))
 
 
-def fill_big(chance, directory):
+def fill_big(chance: random.Random, directory: Any) -> None:
     """Files of 0 bytes until little is left of the directory."""
     while True:
         name = random_name(chance, "big")
@@ -167,12 +171,12 @@ def fill_big(chance, directory):
             return
 
 
-def big_fits(directory, more=0):
+def big_fits(directory: Any, more: int = 0) -> bool:
     head = head_space(directory.form, directory.head_name)
     return 28 + head + 28 * len(directory.entries) + len(big_heap(directory)[0]) + more + 8 <= directory.size
 
 
-def second_forms(chance):
+def second_forms(chance: random.Random) -> Any:
     """Directories whose heads' names have the second form, and lengths in which it differs from the first, with a word 0 after the heap."""
     volume = FRESH[chance.choice(("E+", "F+"))]()
     holders = [volume.root]
@@ -184,9 +188,9 @@ def second_forms(chance):
     return volume
 
 
-def in_the_map(make_volume):
+def in_the_map(make_volume: Callable[..., Any]) -> Callable[..., Any]:
     """Objects in identifier 2, which the map owns too."""
-    def make(chance):
+    def make(chance: random.Random) -> NewVolume:
         volume = make_volume()
         shape = volume.shape
         before = {zone: [run for run in runs] for zone, runs in enumerate(volume.runs)}
@@ -216,7 +220,7 @@ def in_the_map(make_volume):
     return make
 
 
-def add(volume, holder, entry):
+def add(volume: NewVolume, holder: Directory, entry: Entry) -> Entry:
     """Inserts an entry; if a big directory can't hold it, files of 0 bytes make room."""
     holder.insert(entry)
     while volume.form == "big" and not big_fits(holder):
@@ -224,15 +228,15 @@ def add(volume, holder, entry):
     return entry
 
 
-def shares():
+def shares() -> Any:
     return hard_disc(9, 13, 7, 5, share=1)
 
 
-def big_shares():
+def big_shares() -> Any:
     return hard_disc(8, 14, 7, 6, big=True)
 
 
-def table(name):
+def table(name: str) -> Callable[..., Any]:
     return lambda chance: VOLUMES[name]()
 
 
@@ -256,9 +260,9 @@ NEW = {
 # ---- old maps
 
 
-def old_filled(form, units, holes, most_steps=8):
+def old_filled(form: str, units: Callable[..., Any], holes: int, most_steps: int = 8) -> Callable[..., Any]:
     """A disc of an old map with files, holes and lost space in turn; a hole has at most so many sectors, a file some times as many."""
-    def make(chance):
+    def make(chance: random.Random) -> OldVolume:
         size = units(chance)
         volume = OldVolume(form, size)
         directories, number, most = [volume.root], 0, 47 if form == "L" else 77
@@ -284,7 +288,7 @@ def old_filled(form, units, holes, most_steps=8):
     return make
 
 
-def many_units(form):
+def many_units(form: str) -> Callable[..., Any]:
     return (lambda chance: 3200) if form == "D" else (lambda chance: 2560)
 
 
@@ -301,7 +305,7 @@ OLD = {
 # ---- oddities by chance
 
 
-def decorate(volume, chance):
+def decorate(volume: Volume, chance: random.Random) -> None:
     """Heads, orders, parents, attributes: all that a reader accepts."""
     for directory in volume.directories():
         directory.sequence = chance.choice((0, 1, 254, 255, chance.randrange(256)))
@@ -319,7 +323,7 @@ def decorate(volume, chance):
             decorate_entry(volume, entry, chance)
 
 
-def decorate_big(directory, chance):
+def decorate_big(directory: Any, chance: random.Random) -> None:
     """Another form, another name in the head, a longer heap; taken back if the parts don't fit."""
     for field, value in (("form", 2), ("head_name", random_name(chance, "big")), ("heap_tail", 4 * chance.randint(1, 20))):
         kept = getattr(directory, field)
@@ -331,7 +335,7 @@ def decorate_big(directory, chance):
         directory.spare_words = chance.getrandbits(32)
 
 
-def decorate_entry(volume, entry, chance):
+def decorate_entry(volume: Volume, entry: Entry, chance: random.Random) -> None:
     bits = {"D": 8, "L": 10, "big": 32}[volume.form]
     if chance.random() < 0.2:
         entry.attributes = entry.attributes & 15 | chance.getrandbits(bits) & ~15
@@ -344,7 +348,7 @@ def decorate_entry(volume, entry, chance):
         entry.address = chance.getrandbits(32 if volume.form == "big" else 24)
 
 
-def noisy(image, chance):
+def noisy(image: bytearray, chance: random.Random) -> bytearray:
     """Free sectors, and those of identifiers that no object has, with noise."""
     state = State(image)
     objects = {sector for entry in state.objects.values() for sector in entry.sectors}
@@ -355,7 +359,7 @@ def noisy(image, chance):
     return image
 
 
-def torn(image, chance):
+def torn(image: bytearray, chance: random.Random) -> bytearray:
     """Copies that differ: the second is worn, or the first, or the first one's checks are right but another total stands in it."""
     state = State(image)
     sector, zones = state.sector, state.map.shape.zones
@@ -371,7 +375,7 @@ def torn(image, chance):
     return image
 
 
-def random_name(chance, form):
+def random_name(chance: random.Random, form: str) -> bytes:
     """Few letters, so that names meet; in big directories sometimes long ones, about the lengths of words."""
     most = 255 if form == "big" else 10
     draw = chance.random()
@@ -382,7 +386,7 @@ def random_name(chance, form):
     return bytes(chance.choice(letters) for at in range(size))
 
 
-def image_of(number, old=False):
+def image_of(number: int, old: bool = False) -> Tuple[str, bytes]:
     """The name of a disc and its bytes; what a fresh disc holds is left as it is for the first numbers."""
     recipes = OLD if old else NEW
     names = list(recipes)

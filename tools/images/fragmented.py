@@ -3,14 +3,18 @@
 
 What a disc holds follows from its shape and a seed alone. No code is shared with fcore.
 """
+from __future__ import annotations
+
 import random
+from typing import Any, Dict, Iterator, List, Tuple
 
 from tools.images.volumes import FRESH, Directory, File, NewVolume, record_bytes
 
 IDENTIFIER_1 = 1
 
 
-def hard_disc(log2_sector, idlen, log2_bit, zones, spare=32, big=False, **others):
+def hard_disc(log2_sector: int, idlen: int, log2_bit: int, zones: int, spare: int = 32, big: bool = False,
+              **others: int) -> NewVolume:
     """A disc with a boot block, all of whose zones are whole."""
     zone_bits = (8 << log2_sector) - spare
     size = (zones * zone_bits - 480) << log2_bit
@@ -37,7 +41,7 @@ SHAPES = {
 class Fragmenter:
     """Cuts the free runs of a volume into parts, and gives them to objects."""
 
-    def __init__(self, volume, seed, most_bits=4):
+    def __init__(self, volume: NewVolume, seed: float, most_bits: int = 4) -> None:
         self.volume, self.shape, self.random = volume, volume.shape, random.Random(seed)
         self.most_bits = most_bits  # the longest part, in shortest runs
         self.parts = []  # zones and places of the parts that objects may have
@@ -45,13 +49,13 @@ class Fragmenter:
             self.cut_zone(zone)
         self.random.shuffle(self.parts)
 
-    def part_bits(self, room):
+    def part_bits(self, room: int) -> int:
         shape = self.shape
         steps = shape.least // shape.multiple
         bits = shape.multiple * self.random.randint(steps, self.most_bits * steps)
         return room if room - bits < shape.least else bits
 
-    def cut_zone(self, zone):
+    def cut_zone(self, zone: int) -> None:
         """Holes, runs of objects and lost runs in turn by chance; two holes may touch."""
         runs = []
         for length, owner in self.volume.runs[zone]:
@@ -66,7 +70,7 @@ class Fragmenter:
                 runs.append((length, owner))
         self.volume.runs[zone] = runs
 
-    def give_lost(self):
+    def give_lost(self) -> None:
         """Lost runs, of a few identifiers, and one run of identifier 1."""
         lost = [self.volume.new_identifier() for at in range(3)]
         for zone, runs in enumerate(self.volume.runs):
@@ -76,7 +80,7 @@ class Fragmenter:
         zone, at = self.parts.pop()
         self.volume.runs[zone][at] = self.volume.runs[zone][at][0], IDENTIFIER_1
 
-    def identifier(self, count):
+    def identifier(self, count: int) -> Tuple[int, int]:
         """A new identifier over so many parts: the identifier, and its bytes."""
         made, room = self.volume.new_identifier(), 0
         for zone, at in self.parts[:count]:
@@ -86,14 +90,14 @@ class Fragmenter:
         del self.parts[:count]
         return made, room
 
-    def content(self, length):
+    def content(self, length: int) -> bytes:
         return self.random.randbytes(length)
 
-    def fields(self):
+    def fields(self) -> Dict[str, int]:
         return dict(attributes=self.random.choice((3, 3, 0x33, 1, 7)), load=self.random.getrandbits(32),
                     execution=self.random.getrandbits(32))
 
-    def files(self, names, most):
+    def files(self, names: Iterator[Any], most: int) -> List[File]:
         """The files of one identifier: one of them, or some that share it."""
         made, room = self.identifier(self.random.choice((1, 1, 1, 2, 2, 3, 4, 6, 9)))
         shape, at, low = self.shape, 0, 1
@@ -108,7 +112,7 @@ class Fragmenter:
             at, low = at + units * shape.share, low + units
         return found
 
-    def directory(self, holder, name):
+    def directory(self, holder: Directory, name: bytes) -> Directory:
         """A directory in enough parts, or None."""
         count, room = 0, 0
         while room < 2048 and count < len(self.parts):
@@ -121,7 +125,7 @@ class Fragmenter:
         made.holder = holder
         return holder.insert(made)
 
-    def fill(self, directories):
+    def fill(self, directories: int) -> None:
         """Directories of up to 20 files each, until the parts or the identifiers are used up."""
         self.give_lost()
         holders = [self.volume.root]
@@ -140,7 +144,7 @@ class Fragmenter:
             holder.insert(File(next(names), b""))
 
 
-def fragmented(shape, seed, directories=4):
+def fragmented(shape: str, seed: int, directories: int = 4) -> NewVolume:
     """The volume of a shape by its name, filled by a seed."""
     volume = SHAPES[shape]()
     Fragmenter(volume, seed).fill(directories)

@@ -4,7 +4,10 @@
 
 usage: tools/run images/large IMAGE [DIRECTORIES]    1,000 directories, if no number is given
 """
+from __future__ import annotations
+
 import sys
+from typing import Any
 
 from tools.images.volumes import File, NewVolume, record_bytes
 
@@ -15,16 +18,16 @@ FILES = 50
 class SparseFile:
     """A file of bytes 0 that takes bytes in slices."""
 
-    def __init__(self, file, size):
+    def __init__(self, file: Any, size: int) -> None:
         self.file = file
         file.truncate(size)
 
-    def __setitem__(self, place, content):
+    def __setitem__(self, place: Any, content: Any) -> None:
         self.file.seek(place.start)
         self.file.write(content)
 
 
-def with_directories(count, files=FILES, big=False):
+def with_directories(count: int, files: Any = FILES, big: bool = False) -> Any:
     size = (ZONES * ZONE_BITS - 480) * BIT_BYTES
     others = dict(version=1, root_size=4096) if big else {}
     volume = NewVolume(record_bytes(10, 15, 10, ZONES, 32, 0x300, size, **others), True)
@@ -46,7 +49,7 @@ def with_directories(count, files=FILES, big=False):
     return volume
 
 
-def fill(volume, directory, zone, files):
+def fill(volume: Any, directory: Any, zone: int, files: Any) -> None:
     """At most 50 files of up to 2,048 bytes that share one identifier."""
     identifier = volume.place(2 * files * 1024, [(zone, 2 * files)])
     for at in range(files):
@@ -54,7 +57,7 @@ def fill(volume, directory, zone, files):
         directory.entries.append(File(b"F%02d" % at, content, identifier * 256 + 1 + 2 * at))
 
 
-def main(path, directories=1000):
+def main(path: Any, directories: int = 1000) -> None:
     volume = with_directories(directories)
     with open(path, "wb") as file:
         volume.write(SparseFile(file, volume.shape.record.size))

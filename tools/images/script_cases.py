@@ -1,5 +1,9 @@
 # SPDX-License-Identifier: MIT
 """Runs of fcore beside the answers over single images: words, scripts, lines that are refused, fresh volumes, what isn't built."""
+from __future__ import annotations
+
+from typing import Any, Iterator, List, Optional, Tuple, Union
+
 from tools.images.volumes import FRESH
 from tools.reference.filecore import (BAD_COMMAND, BAD_NAME, EXISTS, INTO_ITSELF, IS_DIRECTORY, LOCKED, NOT_DIRECTORY, NOT_EMPTY,
                                       NOT_FOUND, READ_ONLY, ROOT_REFUSED, SCRIPT_LIMIT)
@@ -10,18 +14,19 @@ ZEROS = "00000000 00000000"
 class Case:
     """A run: its words, the script, and what has to come. `made`: the new image and the file that it has to equal."""
 
-    def __init__(self, name, words, script, status, answer="", made=None, absent=None):
+    def __init__(self, name: str, words: List[str], script: Union[bytes, str], status: int, answer: str = "",
+                 made: Optional[Tuple[str, str]] = None, absent: Optional[str] = None) -> None:
         self.name, self.words, self.status, self.answer = name, words, status, answer
         self.script = script if isinstance(script, bytes) else script.encode()
         self.made, self.absent = made, absent
 
-    def image(self):
+    def image(self) -> str:
         """The image, where the words name one alone or with --read-only."""
         rest = [word for word in self.words if word not in ("--read-only", "--")]
         return rest[0] if len(rest) == 1 and not rest[0].startswith("-") else None
 
 
-def lines_case(name, image, pairs, words=()):
+def lines_case(name: str, image: str, pairs: List[Tuple[str, str]], words: Union[List[str], Tuple[Any, ...]] = ()) -> Case:
     """Lines with their replies, in one script."""
     pairs = list(pairs)
     status = int(any(reply.startswith("error ") and reply.count("\n") == 1 for line, reply in pairs))
@@ -48,7 +53,7 @@ WRONG_PATHS = [
 ]
 
 
-def grammar():
+def grammar() -> Iterator[Case]:
     hello = "48656c6c6f\nok\n"
     yield lines_case("wrong-lines", "hello.adf", [(line, BAD_COMMAND) for line in WRONG_LINES])
     yield lines_case("wrong-paths", "hello.adf", [("load " + path, BAD_NAME) for path in WRONG_PATHS])
@@ -70,7 +75,7 @@ def grammar():
     yield Case("may-not-be-written", ["locked.adf"], "load $.hello\n", 0, hello)
 
 
-def long_scripts():
+def long_scripts() -> Iterator[Case]:
     yield Case("longest-script", ["hello.adf"], b"\n" * SCRIPT_LIMIT, 0)
     yield Case("long-line", ["hello.adf"], b"load $." + b"n" * 1000000, 1, BAD_NAME)
     yield Case("longest-script-no-image", ["nothing.adf"], b"\n" * SCRIPT_LIMIT, 12)
@@ -81,7 +86,7 @@ def long_scripts():
 # ---- what isn't built yet: status 9 before anything is attached
 
 
-def compaction():
+def compaction() -> Iterator[Case]:
     """Where nothing is left to do, nothing is written: no image of the table may change."""
     yield Case("compact-settled", ["hello.adf"], "compact\nload $.hello\ncompact", 0, "ok\n48656c6c6f\nok\nok\n")
     yield Case("compact-read-only", ["--read-only", "hello.adf"], "lod\ncompact\n", 1, BAD_COMMAND + READ_ONLY)
@@ -92,7 +97,7 @@ def compaction():
                    made=(image, "fresh-%s.adf" % form))
 
 
-def refused_changes():
+def refused_changes() -> Iterator[Case]:
     """Changes that are refused: no image of the table may change. What changes do is compared by tools/checks/changes.py."""
     hello = "48656c6c6f\nok\n"
     yield lines_case("refused-changes", "hello.adf", [
@@ -133,7 +138,7 @@ def refused_changes():
                    ROOT_REFUSED + NOT_FOUND, made=("set-%s.adf" % form, "fresh-%s.adf" % form))
 
 
-def unbuilt():
+def unbuilt() -> Iterator[Case]:
     yield Case("reclaim", ["hello.adf"], "load $.hello\nreclaim\n", 9)
     yield Case("change-without-end", ["hello.adf"], "lod\nreclaim", 9)
     yield Case("change-no-image", ["nothing.adf"], "cdir $.A\n", 12)
@@ -169,7 +174,7 @@ BAD_WORDS = [
 ]
 
 
-def words():
+def words() -> Iterator[Case]:
     for at, one in enumerate(BAD_WORDS):
         yield Case("words-%d" % at, one, "load $.hello\n", 2)
     found = "48656c6c6f\nok\n"
@@ -195,7 +200,7 @@ def words():
 # ---- fresh volumes
 
 
-def fresh():
+def fresh() -> Iterator[Case]:
     for form, make in FRESH.items():
         volume = make()
         reference = "fresh-%s.adf" % form
@@ -210,6 +215,6 @@ def fresh():
     yield Case("new-script-too-long", ["--new", "E", "unmade.adf"], b"\n" * (SCRIPT_LIMIT + 1), 8, absent="unmade.adf")
 
 
-def all_cases():
+def all_cases() -> Iterator[Case]:
     for group in (grammar, long_scripts, compaction, refused_changes, unbuilt, words, fresh):
         yield from group()

@@ -6,37 +6,40 @@ usage: tools/run images/table FOLDER          fills an empty folder with the ima
        tools/run images/table --hello IMAGE   writes the image that the repository embeds
 `tools/run checks/run images` compares the table with the reader of tools/reference/read_image.py.
 """
+from __future__ import annotations
+
 import os
 import sys
+from typing import Any, Callable, Dict, Iterator, List, Tuple, Union
 
 from tools.images import damaged, script_cases
-from tools.images.volumes import FRESH, Directory, File, NewVolume, OldVolume, fresh_e, fresh_f, record_bytes
+from tools.images.volumes import FRESH, Directory, File, NewVolume, OldVolume, Volume, fresh_e, fresh_f, record_bytes
 from tools.reference.filecore import (BAD_NAME, EXISTS, INTO_ITSELF, IS_DIRECTORY, LOCKED, NOT_DIRECTORY, NOT_EMPTY, NOT_FOUND,
                                       READ_ONLY, ROOT_REFUSED)
 
 HARD_DISC = dict(log2_sector=9, idlen=13, log2_bit=7, zones=20, spare=32, root=0x300, size=79200 * 128, share=1)
 
 
-def content(length, seed):
+def content(length: int, seed: int) -> bytes:
     """Bytes that differ from place to place."""
     return bytes((seed + at * 7 + (at >> 8) * 3) % 256 for at in range(length))
 
 
-def typed(file_type):
+def typed(file_type: int) -> int:
     return 0xFFF00000 | file_type << 8 | 0x12
 
 
 # ---- what new maps have in common
 
 
-def hello():
+def hello() -> NewVolume:
     """The embedded image: format E with one file."""
     volume = fresh_e()
     volume.root.insert(volume.file(b"Hello", b"Hello"))
     return volume
 
 
-def add_lengths(volume, holder):
+def add_lengths(volume: Volume, holder: Directory) -> None:
     """Files whose lengths lie about those of sectors."""
     for length in (0, 1, 1023, 1024, 1025, 2048, 100000):
         made = volume.file(b"L%d" % length, content(length, length), attributes=3 | length % 2 << 2, load=typed(length % 4096))
@@ -45,7 +48,7 @@ def add_lengths(volume, holder):
     holder.insert(empty)
 
 
-def add_tree(volume):
+def add_tree(volume: Volume) -> None:
     """Directories three deep, odd names, an unsorted root and a wrong parent field."""
     root = volume.root
     outer = root.append(volume.directory(root, b"Outer"))
@@ -64,7 +67,7 @@ def add_tree(volume):
     root.entries.reverse()
 
 
-def add_map_oddities(volume, zone):
+def add_map_oddities(volume: NewVolume, zone: int) -> None:
     """Lost space, defects, touching holes and identifiers that files share, in one zone."""
     bits = volume.shape.least
     volume.take(volume.new_identifier(), zone, 2 * bits)  # nobody owns it
@@ -80,14 +83,14 @@ def add_map_oddities(volume, zone):
     volume.split_hole(zone, bits)
 
 
-def new_volume(make, zone=0):
+def new_volume(make: Callable[..., Any], zone: int = 0) -> NewVolume:
     volume = make()
     add_tree(volume)
     add_map_oddities(volume, zone)
     return volume
 
 
-def add_fragments(volume):
+def add_fragments(volume: NewVolume) -> None:
     """A file whose runs lie in all zones of F, and are found from zone 2 round."""
     bits = volume.shape.units(10000)
     for name, identifier in ((b"From2", 900), (b"From3", 1600), (b"From0", 77), (b"From1", 500)):
@@ -95,13 +98,13 @@ def add_fragments(volume):
         volume.root.append(volume.file(name, content(38000, identifier % 256), pieces, identifier=identifier))
 
 
-def files_f(big=False):
+def files_f(big: bool = False) -> NewVolume:
     volume = new_volume(lambda: fresh_f(big), 1)
     add_fragments(volume)
     return volume
 
 
-def user_disc():
+def user_disc() -> NewVolume:
     """As a user's disc of format F may look: an application, forty typed files, a defect, an unsorted root."""
     volume = fresh_f()
     root = volume.root
@@ -118,7 +121,7 @@ def user_disc():
 # ---- big directories
 
 
-def big_volume(make):
+def big_volume(make: Callable[..., Any]) -> NewVolume:
     volume = new_volume(make)
     root = volume.root
     many = root.append(volume.directory(root, b"Many", size=10240))
@@ -134,7 +137,7 @@ def big_volume(make):
     return volume
 
 
-def grown_root():
+def grown_root() -> NewVolume:
     """A root of 4096 bytes in a record that says so."""
     volume = fresh_e(big=True)
     raw = bytearray(volume.raw)
@@ -151,7 +154,7 @@ def grown_root():
 # ---- hard discs and odd geometries
 
 
-def hard_disc():
+def hard_disc() -> NewVolume:
     """Twenty zones of sectors of 512 bytes; the last zone isn't full."""
     volume = NewVolume(record_bytes(**HARD_DISC), True)
     volume.take(2, 10, 160)
@@ -164,7 +167,7 @@ def hard_disc():
     return volume
 
 
-def wide_disc():
+def wide_disc() -> NewVolume:
     """Ninety zones with identifiers of 19 bits, of which some pass 32,767, and a big root."""
     raw = record_bytes(10, 19, 5, 90, 32, 0x8F0000, 90 * 8160 * 32 - 480 * 32, version=1, root_size=2048)
     volume = NewVolume(raw, True)
@@ -176,7 +179,7 @@ def wide_disc():
     return volume
 
 
-def scattered_directories():
+def scattered_directories() -> NewVolume:
     """Directories in pieces: two that begin by share units inside an identifier, each over two of its runs."""
     volume = NewVolume(record_bytes(**HARD_DISC), True)
     volume.take(2, 10, 160)
@@ -191,7 +194,7 @@ def scattered_directories():
     return volume
 
 
-def scattered_big_directory():
+def scattered_big_directory() -> NewVolume:
     volume = fresh_f(big=True)
     many = volume.root.insert(volume.directory(volume.root, b"Many", [(3, 48), (0, 64), (1, 48)], size=10240))
     for at in range(120):
@@ -199,7 +202,7 @@ def scattered_big_directory():
     return volume
 
 
-def small_sectors():
+def small_sectors() -> NewVolume:
     """Four zones of sectors of 256 bytes."""
     volume = NewVolume(record_bytes(8, 12, 6, 4, 32, 0x300, (4 * 2016 - 480) * 64), True)
     volume.take(2, 2, 40)
@@ -210,7 +213,7 @@ def small_sectors():
     return volume
 
 
-def large_sectors():
+def large_sectors() -> NewVolume:
     """A hard disc of five zones of sectors of 1024 bytes, of which a share unit has four."""
     volume = NewVolume(record_bytes(10, 15, 9, 5, 64, 0x300, (5 * 8128 - 480) * 512, share=2), True)
     volume.take(2, 2, 20)
@@ -221,7 +224,7 @@ def large_sectors():
     return volume
 
 
-def two_holes():
+def two_holes() -> NewVolume:
     """One zone of sectors of 512 bytes with a boot block, and two holes of 18 bits."""
     raw = record_bytes(9, 15, 8, 1, 32, 0x208, 74 * 256)
     volume = NewVolume(raw, True)
@@ -230,7 +233,7 @@ def two_holes():
     return volume
 
 
-def full_identifiers():
+def full_identifiers() -> NewVolume:
     """Identifiers of 11 bits that all have runs, in sectors of 256 bytes, while holes are left."""
     raw = record_bytes(8, 11, 8, 16, 32, 0x300, 31776 * 256)
     volume = NewVolume(raw, True)
@@ -247,7 +250,7 @@ def full_identifiers():
 # ---- old maps
 
 
-def old_volume(form, units):
+def old_volume(form: str, units: int) -> OldVolume:
     volume = OldVolume(form, units)
     volume.name, volume.identifier, volume.option, volume.check_start = b"OldDisc", 0x1234, 3, 0
     volume.lose(8)
@@ -264,7 +267,7 @@ def old_volume(form, units):
     return volume
 
 
-def small_disc(units):
+def small_disc(units: int) -> OldVolume:
     volume = OldVolume("L", units)
     if units > 8:
         volume.root.insert(volume.file(b"One", content(257, 1)))
@@ -273,7 +276,7 @@ def small_disc(units):
     return volume
 
 
-def many_holes():
+def many_holes() -> OldVolume:
     """An L disc with as many holes as its map can tell."""
     volume = OldVolume("L", 2560)
     for at in range(82):
@@ -285,7 +288,7 @@ def many_holes():
     return volume
 
 
-def small_tree():
+def small_tree() -> OldVolume:
     """An L disc of 40 sectors: a file `A B`, a directory D with an empty directory E in it, and a locked file L."""
     volume = OldVolume("L", 40)
     root = volume.root
@@ -312,7 +315,7 @@ VOLUMES = {
 # ---- images that are accepted although they aren't as they were built
 
 
-def variants():
+def variants() -> Iterator[Tuple[str, Volume, bytearray]]:
     """Each image: its name, the volume that says the answers, and the bytes."""
     volume = hello()
     yield "longer-image", volume, volume.image() + bytes(range(256)) * 20
@@ -343,7 +346,7 @@ def variants():
     yield "d-names-end-otherwise", volume, damage.checked(inner).data
 
 
-def map_in_lost_run():
+def map_in_lost_run() -> NewVolume:
     """A lost run over the second copy of the map: it never moves, so the map is safe in it."""
     raw = bytearray(fresh_f().raw)
     raw[12] = 5
@@ -354,7 +357,7 @@ def map_in_lost_run():
     return volume
 
 
-def named_files():
+def named_files() -> NewVolume:
     """Files whose names and listing look like something else."""
     volume = fresh_e()
     root = volume.root
@@ -365,7 +368,7 @@ def named_files():
     return volume
 
 
-def named_cases():
+def named_cases() -> Iterator[script_cases.Case]:
     entries = "A%20B 00000003 00000000 00000000 4\nAb 00000003 ffffff00 00000000 1\nD 00000008 00000000 00000000 dir\n"
     yield script_cases.lines_case("rows-of-names", "named.adf", [
         ("cat $", entries + "ok\n"), ("load $.AB", "02\nok\n"), ("load $.A%20B", "41204221\nok\n")])
@@ -375,7 +378,7 @@ def named_cases():
     yield script_cases.Case("name-of-error", ["named.adf"], "cat $.d\n", 0, "error 00000003 00000000 00000000 0\nok\n")
 
 
-def first_reasons():
+def first_reasons() -> Iterator[script_cases.Case]:
     """The first of several reasons is the refusal."""
     words = "%s 00000000 00000000"
     save, create, access = "save " + words + " 01", "create " + words + " 1", "set " + words + " R"
@@ -395,21 +398,21 @@ def first_reasons():
 # ---- the table
 
 
-def accepted():
+def accepted() -> Iterator[Tuple[str, Volume, bytearray]]:
     for name, make in {**VOLUMES, "named": named_files}.items():
         volume = make()
         yield name, volume, volume.image()
     yield from variants()
 
 
-def volume_cases(name, volume):
+def volume_cases(name: str, volume: Volume) -> Iterator[script_cases.Case]:
     pairs = list(volume.cases())
     counted = [(line, reply) for line, reply in pairs if not reply.startswith("error ")]
     yield script_cases.lines_case(name + "-replies", name + ".adf", counted)
     yield script_cases.lines_case(name + "-refusals", name + ".adf", pairs[::-1])
 
 
-def table():
+def table() -> Tuple[Dict[str, bytearray], List[script_cases.Case]]:
     """All images by name, and all cases."""
     files, cases = {}, []
     for name, volume, data in accepted():
@@ -429,7 +432,7 @@ def table():
     return files, cases
 
 
-def write_image(path, data):
+def write_image(path: Union[bytes, str], data: bytes) -> None:
     """Leaves out what is 0, so that most of the images take little room."""
     with open(path, "wb") as file:
         for at in range(0, len(data), 65536):
@@ -440,7 +443,7 @@ def write_image(path, data):
         file.truncate(len(data))
 
 
-def write_table(folder):
+def write_table(folder: str) -> List[script_cases.Case]:
     """Writes all images into a folder, and gives the cases over them."""
     files, cases = table()
     for name, data in files.items():
@@ -462,7 +465,7 @@ ROOT_NICK = {0: "004E69636B00", 2032: "240D", 2042: "004E69636B"}
 ROOT_SBPR = {0: "00000000 53425072 01000000 00080000 00000000 00000000 01030000 240D0000", 2040: "6F76656E 0000007B"}
 
 
-def placed(at, known):
+def placed(at: int, known: Dict[int, str]) -> Dict[int, str]:
     return {at + place: text for place, text in known.items()}
 
 
@@ -482,7 +485,7 @@ WHOLE = ("E", "E+", "L")  # every other byte of these is 0
 COPIES = {"F": (0xC6800, 0xC7800, 0xC8800), "F+": (0xC6800, 0xC7800, 0xC8800)}
 
 
-def fresh_differences(form):
+def fresh_differences(form: str) -> List[Any]:
     """What of a fresh volume isn't as it is known from elsewhere."""
     known, image, wrong = KNOWN_BYTES[form], FRESH[form]().image(), []
     wanted = bytearray(len(image)) if form in WHOLE else bytearray(image)
@@ -496,7 +499,7 @@ def fresh_differences(form):
     return wrong
 
 
-def main(words):
+def main(words: List[str]) -> None:
     if len(words) == 2 and words[0] == "--hello":
         write_image(words[1], hello().image())
     elif len(words) == 1:

@@ -4,11 +4,17 @@
 A volume is described by its format, the space that each object takes, and its directories. The image and the answers come from
 this description alone; tools/reference/read_image.py reads the image without it. No code is shared with fcore.
 """
+from __future__ import annotations
+
 import hashlib
+from typing import TYPE_CHECKING, Any, Dict, Iterator, List, Optional, Set, Tuple, Union
 
 from tools.reference.filecore import (BOOT_BLOCK, BOOT_SIZE, IS_DIRECTORY, NOT_DIRECTORY, NOT_FOUND, SMALL_SIZE, UNIT, Geometry,
                                       Record, big_directory_check, boot_check, entry_line, folded, head_space, name_space,
                                       old_map_check, padded, put, small_directory_check, spelled_path, zone_check)
+
+if TYPE_CHECKING:
+    from tools.images.large import SparseFile
 
 # ---- objects
 
@@ -16,7 +22,7 @@ from tools.reference.filecore import (BOOT_BLOCK, BOOT_SIZE, IS_DIRECTORY, NOT_D
 class Entry:
     """What a directory says of an object. `address` None: the object takes no space, and 0 is written."""
 
-    def __init__(self, name, address, attributes, load, execution):
+    def __init__(self, name: bytes, address: Optional[int], attributes: int, load: int, execution: int) -> None:
         self.name, self.address, self.attributes, self.load, self.execution = name, address, attributes, load, execution
         self.last = 0  # in directories of 1280 bytes, the byte that is carried unread
 
@@ -24,7 +30,8 @@ class Entry:
 class File(Entry):
     is_directory = False
 
-    def __init__(self, name, data, address=None, attributes=3, load=0, execution=0):
+    def __init__(self, name: bytes, data: bytes, address: Optional[int] = None, attributes: int = 3, load: int = 0,
+                 execution: int = 0) -> None:
         super().__init__(name, address, attributes, load, execution)
         self.data = data
         self.length = len(data)  # another number where a damaged entry tells one
@@ -33,7 +40,7 @@ class File(Entry):
 class Directory(Entry):
     is_directory = True
 
-    def __init__(self, name, address, attributes=8, load=0, execution=0):
+    def __init__(self, name: bytes, address: int, attributes: int = 8, load: int = 0, execution: int = 0) -> None:
         super().__init__(name, address, attributes, load, execution)
         self.entries = []  # in stored order
         self.holder = self
@@ -49,21 +56,21 @@ class Directory(Entry):
         self.guards_form = False  # of a big directory: whether the word after the heap keeps the second form from being read as the first
         self.reserved = b""  # what the reserved bytes begin with
 
-    def insert(self, entry):
+    def insert(self, entry: Entry) -> Entry:
         """In the place of a new entry: before the first greater name."""
         at = next((n for n, other in enumerate(self.entries) if folded(other.name) > folded(entry.name)), len(self.entries))
         self.entries.insert(at, entry)
         return entry
 
-    def append(self, entry):
+    def append(self, entry: Entry) -> Entry:
         self.entries.append(entry)
         return entry
 
-    def parent_field(self):
+    def parent_field(self) -> int:
         return self.holder.address if self.parent is None else self.parent
 
 
-def small_entry(entry, form):
+def small_entry(entry: Entry, form: str) -> bytearray:
     raw = bytearray(26)
     raw[0:10] = padded(entry.name, 10)
     put(raw, 10, 4, entry.load)
@@ -79,7 +86,7 @@ def small_entry(entry, form):
     return raw
 
 
-def small_directory(directory, form):
+def small_directory(directory: Directory, form: str) -> bytearray:
     """A directory of 2048 bytes (`D`, also on E and F) or 1280 bytes (`L`)."""
     block = bytearray(SMALL_SIZE[form])
     word = directory.word or (b"Nick" if form == "D" else b"Hugo")
@@ -98,7 +105,7 @@ def small_directory(directory, form):
     return block
 
 
-def big_heap(directory):
+def big_heap(directory: Directory) -> Tuple[bytearray, List[int]]:
     """The heap, and the place of every name in it."""
     heap, places = bytearray(), []
     for entry in directory.entries:
@@ -107,7 +114,7 @@ def big_heap(directory):
     return heap + bytes(directory.heap_tail), places
 
 
-def big_directory(directory):
+def big_directory(directory: Directory) -> bytearray:
     block = bytearray(directory.size)
     heap, places = big_heap(directory)
     entries = 28 + head_space(directory.form, directory.head_name)
@@ -144,37 +151,37 @@ class Volume:
     root: Directory
     form: str
 
-    def directories(self):
+    def directories(self) -> List[Directory]:
         found = [self.root]
         for directory in found:
             found += [entry for entry in directory.entries if entry.is_directory]
         return found
 
-    def objects(self):
+    def objects(self) -> List[Entry]:
         return [self.root] + [entry for directory in self.directories() for entry in directory.entries]
 
-    def path_of(self, directory, entry=None):
+    def path_of(self, directory: Directory, entry: Optional[File] = None) -> str:
         names = [entry.name] if entry else []
         while directory is not self.root:
             names.insert(0, directory.name)
             directory = directory.holder
         return spelled_path(names)
 
-    def directory_bytes(self, directory):
+    def directory_bytes(self, directory: Directory) -> bytearray:
         return big_directory(directory) if self.form == "big" else small_directory(directory, self.form)
 
-    def is_in_one_piece(self, entry):
+    def is_in_one_piece(self, entry: Directory) -> bool:
         """Whether an object's bytes lie one after the other."""
         return True
 
-    def content(self, entry):
+    def content(self, entry: Entry) -> bytes:
         return self.directory_bytes(entry) if entry.is_directory else entry.data
 
-    def free_line(self):
+    def free_line(self) -> str:
         holes = self.hole_lengths()
         return "free %d %d\n" % (sum(holes), max(holes, default=0))
 
-    def check_line(self):
+    def check_line(self) -> str:
         directories = self.directories()
         objects = self.objects()
         unsorted = sum([folded(e.name) for e in d.entries] != sorted(folded(e.name) for e in d.entries) for d in directories)
@@ -183,12 +190,12 @@ class Volume:
             len(objects) - len(directories), len(directories), self.lost(), len(self.hole_lengths()),
             sum(self.hole_lengths()), unsorted, parents)
 
-    def cat_lines(self, directory):
+    def cat_lines(self, directory: Directory) -> str:
         entries = sorted(directory.entries, key=lambda entry: folded(entry.name))
         return "".join(entry_line(e.name, e.attributes, e.load, e.execution, None if e.is_directory else len(e.data))
                        for e in entries)
 
-    def directory_cases(self, directory):
+    def directory_cases(self, directory: Directory) -> Iterator[Tuple[str, str]]:
         """Lines over a directory and the files in it, each with its reply."""
         path = self.path_of(directory)
         yield "cat " + path, self.cat_lines(directory) + "ok\n"
@@ -199,14 +206,14 @@ class Volume:
                 yield from self.file_cases(self.path_of(directory, entry), entry)
 
     @staticmethod
-    def file_cases(path, entry):
+    def file_cases(path: str, entry: File) -> Iterator[Tuple[str, str]]:
         yield "digest " + path, hashlib.sha256(entry.data).hexdigest() + "\nok\n"
         yield "load " + path.lower(), entry.data.hex() + "\nok\n"
         if len(entry.data) < 2:
             yield "cat " + path, NOT_DIRECTORY
             yield "load " + path + ".X", NOT_DIRECTORY
 
-    def cases(self):
+    def cases(self) -> Iterator[Tuple[str, str]]:
         """All lines with their replies: counts, and every directory and file."""
         yield "check", self.check_line() + "ok\n"
         yield "free", self.free_line() + "ok\n"
@@ -220,7 +227,7 @@ class Volume:
 class OldVolume(Volume):
     """A D disc, or an L disc of so many units of 256 bytes. Space is given out from the front, in units."""
 
-    def __init__(self, form, units):
+    def __init__(self, form: str, units: int) -> None:
         self.form, self.units = form, units
         self.step = 4 if form == "D" else 1
         self.map_units = 4 if form == "D" else 2
@@ -231,41 +238,41 @@ class OldVolume(Volume):
         self.check_start = 255
         self.name, self.identifier, self.option = b"", 0, 0
 
-    def units_of(self, length):
+    def units_of(self, length: int) -> int:
         return -(-length // (UNIT * self.step)) * self.step
 
-    def take(self, length):
+    def take(self, length: int) -> int:
         start = self.next
         self.next += self.units_of(length)
         return start
 
-    def hole(self, units):
+    def hole(self, units: int) -> None:
         self.holes.append((self.next, units))
         self.next += units
 
-    def lose(self, units):
+    def lose(self, units: int) -> None:
         self.lost_units += units
         self.next += units
 
-    def rest_is_hole(self):
+    def rest_is_hole(self) -> None:
         if self.next < self.units:
             self.hole(self.units - self.next)
 
-    def file(self, name, data, **fields):
+    def file(self, name: bytes, data: bytes, **fields: int) -> File:
         return File(name, data, self.take(len(data)) if data else None, **fields)
 
-    def directory(self, holder, name, **fields):
+    def directory(self, holder: Directory, name: bytes, **fields: int) -> Directory:
         made = Directory(name, self.take(SMALL_SIZE[self.form]), **fields)
         made.holder = holder
         return made
 
-    def hole_lengths(self):
+    def hole_lengths(self) -> List[int]:
         return [UNIT * length for start, length in self.holes]
 
-    def lost(self):
+    def lost(self) -> int:
         return UNIT * (self.lost_units + self.units - self.next)
 
-    def map_bytes(self):
+    def map_bytes(self) -> bytearray:
         block = bytearray(512)
         for at, (start, length) in enumerate(self.holes):
             put(block, 3 * at, 3, start)
@@ -277,7 +284,7 @@ class OldVolume(Volume):
         seal_old_map(block, self.check_start)
         return block
 
-    def image(self):
+    def image(self) -> bytearray:
         disc = bytearray(self.units * UNIT)
         disc[0:512] = self.map_bytes()
         for entry in self.objects():
@@ -287,7 +294,7 @@ class OldVolume(Volume):
         return disc
 
 
-def seal_old_map(block, start=255):
+def seal_old_map(block: bytearray, start: int = 255) -> None:
     block[255] = old_map_check(block[0:256], start)
     block[511] = old_map_check(block[256:512], start)
 
@@ -298,7 +305,7 @@ def seal_old_map(block, start=255):
 class NewVolume(Volume):
     """A volume with zones. `runs` has for each zone the runs in order: length and identifier, None for a hole."""
 
-    def __init__(self, raw, has_boot, cross_checks=None):
+    def __init__(self, raw: bytearray, has_boot: bool, cross_checks: Any = None) -> None:
         self.raw = raw
         record = Record(raw)
         assert record.fault() is None, record.fault()
@@ -313,7 +320,7 @@ class NewVolume(Volume):
         self.past_end = 0  # the bits that come after the last map bit of each zone
         self.high_bits = 0  # what holes have in the bits of their fields above the distance
 
-    def take(self, identifier, zone, bits, skip=0):
+    def take(self, identifier: int, zone: int, bits: int, skip: int = 0) -> None:
         """Gives the identifier so many bits of the first long enough hole of the zone, after `skip` bits of it."""
         runs = self.runs[zone]
         at = next(n for n, (length, owner) in enumerate(runs) if owner is None and length >= bits + skip)
@@ -321,17 +328,17 @@ class NewVolume(Volume):
         parts = [(skip, None), (bits, identifier), (rest, None)]
         runs[at:at + 1] = [part for part in parts if part[0]]
 
-    def split_hole(self, zone, bits):
+    def split_hole(self, zone: int, bits: int) -> None:
         """Makes two touching holes of the last one of a zone."""
         length, owner = self.runs[zone].pop()
         assert owner is None
         self.runs[zone] += [(bits, None), (length - bits, None)]
 
-    def new_identifier(self):
+    def new_identifier(self) -> int:
         self.next_identifier += 1
         return self.next_identifier - 1
 
-    def place(self, length, pieces=None, identifier=None):
+    def place(self, length: int, pieces: Optional[List[Tuple[int, int]]] = None, identifier: Optional[int] = None) -> int:
         """A new identifier over the pieces, each a zone and bits, or over one run in the first zone with room."""
         identifier = identifier or self.new_identifier()
         bits = self.shape.units(length)
@@ -342,29 +349,31 @@ class NewVolume(Volume):
             self.take(identifier, zone, count)
         return identifier
 
-    def file(self, name, data, pieces=None, low=0, identifier=None, **fields):
+    def file(self, name: bytes, data: bytes, pieces: Optional[List[Tuple[int, int]]] = None, low: int = 0,
+             identifier: Optional[int] = None, **fields: int) -> File:
         address = self.place(len(data), pieces, identifier) * 256 + low if data else None
         return File(name, data, address, **fields)
 
-    def directory(self, holder, name, pieces=None, size=2048, low=0, **fields):
+    def directory(self, holder: Directory, name: bytes, pieces: Optional[List[Tuple[int, int]]] = None, size: int = 2048,
+                  low: int = 0, **fields: int) -> Directory:
         made = Directory(name, self.place(size, pieces) * 256 + low, **fields)
         made.size, made.holder = size, holder
         return made
 
-    def hole_lengths(self):
+    def hole_lengths(self) -> List[int]:
         return [bits * self.shape.bit_bytes for runs in self.runs for bits, owner in runs if owner is None]
 
-    def owned(self):
+    def owned(self) -> Set[int]:
         return {entry.address // 256 for entry in self.objects() if entry.is_directory or entry.data} | {1, 2}
 
-    def lost(self):
+    def lost(self) -> int:
         owned = self.owned()
         return sum(bits * self.shape.bit_bytes for runs in self.runs for bits, owner in runs
                    if owner is not None and owner not in owned)
 
     # the image
 
-    def zone_sector(self, zone):
+    def zone_sector(self, zone: int) -> bytearray:
         shape = self.shape
         bits, at, hole_before = 0, shape.first(zone), 8
         links = {}
@@ -391,7 +400,7 @@ class NewVolume(Volume):
         sector[0] = zone_check(sector)
         return sector
 
-    def find_extents(self):
+    def find_extents(self) -> None:
         """The bytes of every identifier's runs, from its home zone round: places and lengths."""
         shape, found = self.shape, {}
         for zone, runs in enumerate(self.runs):
@@ -403,7 +412,7 @@ class NewVolume(Volume):
                 bit += length
         self.extents = {owner: [run[1:] for run in sorted(runs)] for owner, runs in found.items()}
 
-    def pieces_of(self, address, length):
+    def pieces_of(self, address: int, length: int) -> Iterator[Tuple[int, int]]:
         """Where the bytes of an object lie: places and lengths."""
         identifier, low = divmod(address, 256)
         skipped = (low - 1) * self.shape.share if low else 0
@@ -416,20 +425,20 @@ class NewVolume(Volume):
             length -= count
         assert length == 0
 
-    def is_in_one_piece(self, entry):
+    def is_in_one_piece(self, entry: Directory) -> bool:
         return len(list(self.pieces_of(entry.address, len(self.content(entry))))) < 2
 
-    def write_object(self, disc, entry):
+    def write_object(self, disc: Union[bytearray, SparseFile], entry: Entry) -> None:
         content = bytes(self.content(entry))
         done = 0
         for start, count in self.pieces_of(entry.address, len(content)) if content else ():
             disc[start:start + count] = content[done:done + count]
             done += count
 
-    def image(self):
+    def image(self) -> bytearray:
         return self.write(bytearray(self.shape.record.size))
 
-    def write(self, disc):
+    def write(self, disc: Union[bytearray, SparseFile]) -> Union[bytearray, SparseFile]:
         """Fills a disc of bytes 0, which takes bytes in slices."""
         shape = self.shape
         self.find_extents()
@@ -443,14 +452,15 @@ class NewVolume(Volume):
         return disc
 
 
-def boot_block(raw):
+def boot_block(raw: bytearray) -> bytearray:
     block = bytearray(BOOT_SIZE)
     block[0x1C0:0x1C0 + 60] = raw
     block[-1] = boot_check(block)
     return block
 
 
-def record_bytes(log2_sector, idlen, log2_bit, zones, spare, root, size, **others):
+def record_bytes(log2_sector: int, idlen: int, log2_bit: int, zones: int, spare: int, root: int, size: int,
+                 **others: Union[Dict[int, int], int]) -> bytearray:
     """The bytes of a record; `others` may have share, version, root_size, and `carried`, a table of offsets and bytes."""
     raw = bytearray(60)
     raw[0], raw[4], raw[5], raw[9], raw[42] = log2_sector, idlen, log2_bit, zones % 256, zones // 256
@@ -469,7 +479,7 @@ def record_bytes(log2_sector, idlen, log2_bit, zones, spare, root, size, **other
 # ---- fresh volumes
 
 
-def fresh_e(big=False):
+def fresh_e(big: bool = False) -> NewVolume:
     others = {"version": 1, "root_size": 2048} if big else {}
     raw = record_bytes(10, 15, 7, 1, 1312, 0x301 if big else 0x203, 819200, carried={1: 5, 2: 2, 3: 2, 6: 1}, **others)
     volume = NewVolume(raw, False)
@@ -479,7 +489,7 @@ def fresh_e(big=False):
     return volume
 
 
-def fresh_f(big=False):
+def fresh_f(big: bool = False) -> NewVolume:
     others = {"version": 1, "root_size": 2048} if big else {}
     raw = record_bytes(10, 15, 6, 4, 1600, 0x301 if big else 0x209, 1638400, carried={1: 10, 2: 2, 3: 4, 6: 1}, **others)
     volume = NewVolume(raw, True)
@@ -490,7 +500,7 @@ def fresh_f(big=False):
     return volume
 
 
-def fresh_old(form):
+def fresh_old(form: str) -> OldVolume:
     volume = OldVolume(form, 3200 if form == "D" else 2560)
     volume.rest_is_hole()
     return volume

@@ -3,9 +3,16 @@
 
 The refusals 1 to 11 and the tree are `answer` of fc_model, the refusals 12 to 16 and the needs are `short` of fc_image::effects.
 """
-from tools.reference.change_state import MAP_OWNER, key_of, same_name, size_for
-from tools.reference.filecore import BIG_LIMIT, head_space, name_space
-from tools.reference.read_image import read_line
+from __future__ import annotations
+
+from typing import TYPE_CHECKING, Dict, List, Optional, Set, Tuple, Union
+
+from tools.reference.change_state import MAP_OWNER, State, key_of, same_name, size_for
+from tools.reference.filecore import BIG_LIMIT, Geometry, head_space, name_space
+from tools.reference.read_image import Entry, read_line
+
+if TYPE_CHECKING:
+    from tools.reference.change_batch import TreeState
 
 WORDS = ["", "BadCommand", "BadName", "NotFound", "NotDirectory", "IsDirectory", "Exists", "RootRefused", "IntoItself", "Locked",
          "NotEmpty", "ReadOnly", "DirFull", "IdsFull", "DiscFull", "CompactionRequired", "MapFull"]
@@ -20,7 +27,7 @@ OLD_HOLES = 82
 class Command:
     """A line in parts. `fault` is the number of a refusal that the line alone owes."""
 
-    def __init__(self, line):
+    def __init__(self, line: bytes) -> None:
         word, found = read_line(line)
         self.line = line
         self.fault = 0 if word else int(found.split()[1])
@@ -37,16 +44,16 @@ class Command:
         elif word == "set":
             self.access = sum(1 << "RWL".index(letter) for letter in rest[2] if letter != "-")
 
-    def is_making_file(self):
+    def is_making_file(self) -> bool:
         return self.word in ("save", "create")
 
-    def file_length(self):
+    def file_length(self) -> int:
         return len(self.bytes) if self.word == "save" else self.length
 
-    def key(self):
+    def key(self) -> Tuple[bytes, ...]:
         return key_of(self.paths[0])
 
-    def target(self):
+    def target(self) -> Tuple[bytes, ...]:
         """The key of the object afterwards."""
         return key_of(self.paths[-1])
 
@@ -54,7 +61,7 @@ class Command:
 # ---- refusals 1 to 11
 
 
-def absence(state, key, whole):
+def absence(state: Union[TreeState, State], key: Tuple[bytes, ...], whole: bool) -> Set[int]:
     """3 or 4 for a path that has to be there; of a path that isn't whole only the proper prefixes count."""
     for size in range(len(key) + 1 if whole else len(key)):
         if not state.is_directory(key[:size]):
@@ -64,7 +71,7 @@ def absence(state, key, whole):
     return set()
 
 
-def lookup_refusals(state, c):
+def lookup_refusals(state: Union[TreeState, State], c: Command) -> Set[int]:
     """NotFound and NotDirectory: the first path is judged first."""
     first = absence(state, c.key(), c.word not in MAKING)
     if first or len(c.paths) == 1:
@@ -72,13 +79,13 @@ def lookup_refusals(state, c):
     return absence(state, c.target(), False)
 
 
-def name_refusals(state, c):
+def name_refusals(state: Union[TreeState, State], c: Command) -> Set[int]:
     if c.word in MAKING + ("rename",) and c.paths[-1] and not state.is_writable(c.paths[-1][-1]):
         return {2}
     return set()
 
 
-def object_refusals(state, c):
+def object_refusals(state: Union[TreeState, State], c: Command) -> Set[int]:
     """The refusals 4 to 10 that hang on what is at the paths."""
     key, target, found = c.key(), c.target(), set()
     there = state.objects.get(key)
@@ -99,7 +106,7 @@ def object_refusals(state, c):
     return found
 
 
-def refusal_of(state, c, read_only=False):
+def refusal_of(state: Union[TreeState, State], c: Command, read_only: bool = False) -> int:
     """The number of the refusal by `answer`, or 0."""
     if c.fault:
         return c.fault
@@ -112,7 +119,7 @@ def refusal_of(state, c, read_only=False):
 # ---- the tree
 
 
-def spelled_target(state, c):
+def spelled_target(state: Union[TreeState, State], c: Command) -> Tuple[bytes, ...]:
     """The path of the object afterwards: the names of its holder as they are, and the last name as the command spells it."""
     key = c.target()
     if c.word in ("save", "create", "set") and key in state.objects:
@@ -120,7 +127,8 @@ def spelled_target(state, c):
     return tuple(state.objects[key[:-1]].path) + (c.paths[-1][-1],)
 
 
-def tree_after(state, c):
+def tree_after(state: Union[TreeState, State],
+               c: Command) -> Dict[Tuple[bytes, ...], Tuple[int, int, int, Optional[Union[bytes, Entry]]]]:
     """The tree by `answer`, for a command that isn't refused. A file's content is its bytes, or its entry before the command."""
     tree = state.tree()
     path = spelled_target(state, c) if c.word != "delete" else tuple(state.objects[c.key()].path)
@@ -143,7 +151,7 @@ def tree_after(state, c):
 # ---- space
 
 
-def low_byte(shape, room, length):
+def low_byte(shape: Geometry, room: int, length: int) -> int:
     """The low byte of a new file in so many bytes of new space: 1 if another share unit is left after it."""
     end = -(-length // shape.share) * shape.share
     return int(end + shape.share <= room and end // shape.share <= 254)
@@ -152,7 +160,7 @@ def low_byte(shape, room, length):
 class Needs:
     """What a command needs that `answer` accepts, as `short` has it: bytes, slack, growth; `refusal` is the number by `short`, or 0."""
 
-    def __init__(self, state, c):
+    def __init__(self, state: State, c: Command) -> None:
         self.state, self.c = state, c
         self.copied = self.is_copied()
         self.length = self.new_length()
@@ -163,14 +171,14 @@ class Needs:
         self.judge_directory()
         self.refusal = 12 if self.full else self.space_refusal()
 
-    def new_length(self):
+    def new_length(self) -> int:
         if self.c.is_making_file():
             return self.c.file_length()
         if self.c.word == "cdir":
             return self.state.new_directory_size()
         return self.state.objects[self.c.key()].length if self.copied else 0
 
-    def is_copied(self):
+    def is_copied(self) -> bool:
         """A file that shares its identifier and is taken to another directory."""
         if self.c.word != "rename" or not self.state.is_new or self.c.key()[:-1] == self.c.target()[:-1]:
             return False
@@ -179,11 +187,11 @@ class Needs:
 
     # slack
 
-    def may_share(self, owners, holder):
+    def may_share(self, owners: List[Union[Tuple[bytes, ...], str]], holder: Tuple[bytes, ...]) -> bool:
         return all(key != MAP_OWNER and key[:-1] == holder and not self.state.is_directory(key) and self.state.objects[key].address % 256
                    for key in owners)
 
-    def find_slack(self):
+    def find_slack(self) -> Optional[Tuple[int, int]]:
         """The least identifier, and the least low byte in it, at which the file fits; None if there is none."""
         if self.length == 0:
             return None
@@ -204,7 +212,7 @@ class Needs:
 
     # directories
 
-    def gaining(self):
+    def gaining(self) -> Optional[Tuple[Tuple[bytes, ...], List[bytes]]]:
         """The key of the directory that gets a name, and the names that it then has; None if none gets one."""
         c, objects = self.c, self.state.objects
         holder = c.target()[:-1]
@@ -215,7 +223,7 @@ class Needs:
             return holder, kept + [c.paths[-1][-1]]
         return None
 
-    def judge_directory(self):
+    def judge_directory(self) -> None:
         gaining = self.gaining()
         if gaining is None:
             return
@@ -232,7 +240,7 @@ class Needs:
             self.grown, self.size = key, size
             self.judge_growth()
 
-    def judge_growth(self):
+    def judge_growth(self) -> None:
         entry = self.state.objects[self.grown]
         identifier, low = divmod(entry.address, 256)
         owners = self.state.owners[identifier]
@@ -244,13 +252,13 @@ class Needs:
 
     # refusals 13 to 16
 
-    def object_bits(self):
+    def object_bits(self) -> int:
         return self.state.map.shape.units(self.length) if self.length and not self.slack else 0
 
-    def growth_bits(self):
+    def growth_bits(self) -> int:
         return self.state.map.shape.units(self.growth) if self.growth else 0
 
-    def space_refusal(self):
+    def space_refusal(self) -> int:
         if not self.state.is_new:
             return self.old_refusal()
         identifiers = bool(self.object_bits()) + bool(self.growth and not self.alone)
@@ -260,7 +268,7 @@ class Needs:
         need = self.object_bits() + self.growth_bits() + (2 * self.state.map.shape.least if both else 0)
         return 14 if sum(length for zone, start, length in self.state.holes()) < need else 0
 
-    def old_refusal(self):
+    def old_refusal(self) -> int:
         holes, wanted = self.state.old_holes(), -(-self.length // self.state.sector)
         if wanted and sum(length for start, length in holes) < wanted:
             return 14
@@ -268,17 +276,17 @@ class Needs:
             return 15
         return 16 if self.gives_back() and len(self.old_holes_after()) > OLD_HOLES else 0
 
-    def gives_back(self):
+    def gives_back(self) -> Optional[Entry]:
         """On an old map, the object whose sectors go."""
         entry = self.state.objects.get(self.c.key()) if self.c.word in ("delete", "save", "create") else None
         return entry if entry and entry.sectors else None
 
-    def old_place(self):
+    def old_place(self) -> int:
         """The first sector of the first hole that is long enough."""
         wanted = -(-self.length // self.state.sector)
         return next(start for start, length in self.state.old_holes() if length >= wanted)
 
-    def old_holes_after(self):
+    def old_holes_after(self) -> List[Tuple[int, int]]:
         """On an old map, first sector and sectors of each hole after the command."""
         holes, wanted = self.state.old_holes(), -(-self.length // self.state.sector)
         if wanted:
@@ -289,7 +297,7 @@ class Needs:
         return given(holes, (gone.sectors[0], len(gone.sectors))) if gone else holes
 
 
-def given(holes, run):
+def given(holes: List[Tuple[int, int]], run: Tuple[int, int]) -> List[Tuple[int, int]]:
     """The holes with one more run, joined with the hole that ends at its start and that which begins at its end."""
     start, length = run
     before = next((hole for hole in reversed(holes) if sum(hole) == start), None)
@@ -300,7 +308,7 @@ def given(holes, run):
     return sorted(kept + [(start, length + (after[1] if after else 0))])
 
 
-def owed_refusal(state, c, read_only=False):
+def owed_refusal(state: State, c: Command, read_only: bool = False) -> Tuple[int, Optional[Needs]]:
     """The number of the refusal of any kind, and the needs of a changing command that isn't refused by `answer`."""
     number = refusal_of(state, c, read_only)
     if number or c.word not in CHANGING:

@@ -5,7 +5,10 @@ image at its end.
 Which holes are taken is open, so refusals for lack of space are accepted; all others have to come, and so have the replies of reading
 lines.
 """
+from __future__ import annotations
+
 import re
+from typing import Any, Dict, List, Optional, Tuple
 
 from tools.reference.change_answer import CHANGING, WORDS, Command, refusal_of, tree_after
 from tools.reference.change_state import State, changed_sectors, key_of
@@ -16,13 +19,13 @@ from tools.reference.read_image import Disc, lines_of, reply
 class Node:
     """An object of a tree."""
 
-    def __init__(self, path, node):
+    def __init__(self, path: Tuple[bytes, ...], node: Tuple[int, int, int, Optional[bytes]]) -> None:
         self.path, self.entries = list(path), []
         self.name = path[-1] if path else b"$"
         self.attributes, self.load, self.execution, self.content = node
         self.length = len(self.content) if self.content is not None else 0
 
-    def is_directory(self):
+    def is_directory(self) -> bool:
         return self.content is None
 
 
@@ -31,11 +34,11 @@ class TreeDisc:
 
     find = Disc.find
 
-    def __init__(self, root, directories):
+    def __init__(self, root: Node, directories: List[Node]) -> None:
         self.root, self.directories = root, directories
 
     @staticmethod
-    def content(entry):
+    def content(entry: Any) -> Any:
         return entry.content
 
 
@@ -44,7 +47,7 @@ class TreeState:
 
     is_directory, is_writable, new_directory_size = State.is_directory, State.is_writable, State.new_directory_size
 
-    def __init__(self, first, tree):
+    def __init__(self, first: State, tree: Dict[Tuple[bytes, ...], Tuple[int, int, int, Optional[bytes]]]) -> None:
         self.first, self.form, self.is_new, self.map, self.sector = first, first.form, first.is_new, first.map, first.sector
         self.nodes = tree
         self.objects = {key_of(path): Node(path, tree[path]) for path in sorted(tree, key=len)}
@@ -55,34 +58,34 @@ class TreeState:
         self.disc = TreeDisc(self.objects[()], [self.objects[key] for key in self.heads])
 
     @staticmethod
-    def of(state):
+    def of(state: State) -> TreeState:
         nodes = state.tree().items()
         return TreeState(state, {path: (*node[:3], None if node[3] is None else state.content(node[3])) for path, node in nodes})
 
-    def with_tree(self, tree):
+    def with_tree(self, tree: Dict[Tuple[bytes, ...], Tuple[int, int, int, Optional[bytes]]]) -> TreeState:
         return TreeState(self.first, tree)
 
-    def tree(self):
+    def tree(self) -> Dict[Tuple[bytes, ...], Tuple[int, int, int, Optional[bytes]]]:
         return dict(self.nodes)
 
-    def holes(self):
+    def holes(self) -> Any:
         return self.first.holes()
 
-    def old_holes(self):
+    def old_holes(self) -> Any:
         return self.first.old_holes()
 
 
-def next_reply(text, wanted):
+def next_reply(text: str, wanted: str) -> str:
     """The reply at the front of a text: the wanted one, or the first line."""
     return wanted if wanted and text.startswith(wanted) else text[:text.find("\n") + 1]
 
 
-def is_space_refusal(line):
+def is_space_refusal(line: str) -> bool:
     match = re.fullmatch(r"error (1[2-6]) ([A-Za-z]+)\n", line)
     return bool(match) and WORDS[int(match[1])] == match[2]
 
 
-def follow(state, script, text, read_only):
+def follow(state: TreeState, script: List[bytes], text: str, read_only: bool) -> Tuple[TreeState, bool, bool, str]:
     """The tree after the script, whether something was changed, whether a line was refused, and the first wrong reply."""
     changed = refused = False
     for line in lines_of(b"".join(one + b"\n" for one in script)):
@@ -109,13 +112,13 @@ def follow(state, script, text, read_only):
     return state, changed, refused, "more text than replies: %r" % text[:200] if text else ""
 
 
-def tree_faults(wanted, found):
+def tree_faults(wanted: TreeState, found: TreeState) -> List[Any]:
     odd, both = set(wanted.nodes) ^ set(found.nodes), set(wanted.nodes) & set(found.nodes)
     faults = ["%s is missing, or should not be there" % spelled_path(path) for path in odd]
     return sorted(faults + ["%s is another object" % spelled_path(path) for path in both if wanted.nodes[path] != found.nodes[path]])
 
 
-def touching(state):
+def touching(state: State) -> int:
     """How many holes touch the one before them; a zone begins a new row."""
     if not state.is_new:
         return sum(sum(one) == other[0] for one, other in zip(state.old_holes(), state.old_holes()[1:]))
@@ -123,7 +126,7 @@ def touching(state):
     return sum(one[0] == other[0] and one[1] + one[2] == other[1] for one, other in zip(holes, holes[1:]))
 
 
-def layout_faults(before, after, changed):
+def layout_faults(before: State, after: State, changed: bool) -> List[Any]:
     """What holds of any script that doesn't reclaim or compact."""
     found = []
     if before.idle_sectors() - after.idle_sectors():
@@ -143,7 +146,7 @@ def layout_faults(before, after, changed):
     return found
 
 
-def batch_differences(before, after, script, status, text, read_only):
+def batch_differences(before: State, after: State, script: List[bytes], status: int, text: str, read_only: bool) -> List[Any]:
     """All that is wrong with a script that was run at once."""
     end, changed, refused, wrong = follow(TreeState.of(before), script, text, read_only)
     if wrong:

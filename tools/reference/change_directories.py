@@ -5,8 +5,16 @@ fc_image::effects).
 If the rules leave a choice (a heap packed or appended to, the padding of names that were there, the last mark of a small
 directory, the length of a small directory in an entry that a command names), each allowed form passes.
 """
-from tools.reference.change_state import name_in, same_name, size_for
+from __future__ import annotations
+
+from typing import TYPE_CHECKING, Any, List, Optional, Tuple
+
+from tools.reference.change_state import SmallHead, State, name_in, same_name, size_for
 from tools.reference.filecore import folded, head_space, name_space, padded, spelled_path
+from tools.reference.read_image import Entry
+
+if TYPE_CHECKING:
+    from tools.reference.change_effects import Change
 
 NEW_WORDS = {"D": b"Nick", "L": b"Hugo", "big": b"SBPr"}
 
@@ -14,12 +22,12 @@ NEW_WORDS = {"D": b"Nick", "L": b"Hugo", "big": b"SBPr"}
 class Line:
     """An entry with all its fields. `lengths`: those that it may have, if there is a choice; `lasts` likewise."""
 
-    def __init__(self, entry, last, raw=None):
+    def __init__(self, entry: Entry, last: int, raw: Optional[bytes] = None) -> None:
         self.name, self.attributes, self.load, self.execution = entry.name, entry.attributes, entry.load, entry.execution
         self.address, self.lengths, self.lasts = entry.address, {entry.length}, {last}
         self.raw = raw
 
-    def differences(self, other):
+    def differences(self, other: Line) -> List[Any]:
         """The fields in which the entry that is there, `other`, isn't this one."""
         fields = ("name", "attributes", "load", "execution", "address")
         fields = [field for field in fields if getattr(self, field) != getattr(other, field)]
@@ -28,7 +36,7 @@ class Line:
         return fields
 
 
-def lines_of(state, key):
+def lines_of(state: State, key: Tuple[bytes, ...]) -> List[Line]:
     """The entries of a directory as lines."""
     head = state.heads[key]
     raws = head.raw_names if state.form != "big" else head.places
@@ -38,7 +46,7 @@ def lines_of(state, key):
 # ---- entries
 
 
-def named_line(change):
+def named_line(change: Change) -> Line:
     """The entry of the named object as it has to be; its address is judged elsewhere, and the tree has shown its words."""
     after, made = change.after, change.made()
     line = Line(made, 0)
@@ -53,11 +61,11 @@ def named_line(change):
     return line
 
 
-def place_for(lines, name):
+def place_for(lines: List[Line], name: bytes) -> int:
     return next((at for at, line in enumerate(lines) if folded(line.name) > folded(name)), len(lines))
 
 
-def wanted_lines(change, key):
+def wanted_lines(change: Change, key: Tuple[bytes, ...]) -> List[Line]:
     """The entries that the directory has to have; `key` is its place before the command."""
     c, lines = change.c, lines_of(change.before, key)
     grown = change.needs.grown
@@ -78,7 +86,7 @@ def wanted_lines(change, key):
     return lines
 
 
-def entry_differences(change, key, now):
+def entry_differences(change: Change, key: Tuple[bytes, ...], now: Tuple[bytes, ...]) -> List[Any]:
     wanted, there = wanted_lines(change, key), lines_of(change.after, now)
     path = spelled_path(now)
     if [line.name for line in wanted] != [line.name for line in there]:
@@ -92,7 +100,7 @@ def entry_differences(change, key, now):
 # ---- which directories may change
 
 
-def may_change(change, key):
+def may_change(change: Change, key: Tuple[bytes, ...]) -> bool:
     """The directory holds a named path's last name, is named, holds a grown directory, or lies in one with a new address."""
     c, grown = change.c, change.needs.grown
     holders = {path[:-1] for path in (c.key(), c.target()) if path}
@@ -101,7 +109,7 @@ def may_change(change, key):
     return grown is not None and (grown[:-1] == key and grown != () or key[:-1] == grown and key != () and change.has_new_address())
 
 
-def has_to_name_holder(change, key):
+def has_to_name_holder(change: Change, key: Tuple[bytes, ...]) -> bool:
     """A renamed directory, and one in a directory with a new address, has its holder's address as its parent."""
     grown = change.needs.grown
     return (change.c.word == "rename" and key == change.c.key()
@@ -111,19 +119,19 @@ def has_to_name_holder(change, key):
 # ---- heads
 
 
-def new_name(change, key):
+def new_name(change: Change, key: Tuple[bytes, ...]) -> Any:
     """The name that a renamed directory gets, or None."""
     return change.c.paths[1][-1] if change.c.word == "rename" and key == change.c.key() else None
 
 
-def small_name_fault(change, key, old, new):
+def small_name_fault(change: Change, key: Tuple[bytes, ...], old: SmallHead, new: SmallHead) -> List[Any]:
     """A renamed directory has its new name; another keeps its field, or has the same name padded anew."""
     name = new_name(change, key)
     allowed = [padded(name, 10)] if name else [old.name, padded(name_in(old.name), 10)]
     return [] if new.name in allowed else ["the name in its head is %s" % new.name]
 
 
-def small_differences(change, key, old, new):
+def small_differences(change: Change, key: Tuple[bytes, ...], old: SmallHead, new: SmallHead) -> List[Any]:
     found = [field for field in ("word", "title", "reserved") if getattr(old, field) != getattr(new, field)]
     found = ["its %s has changed" % field for field in found] + small_name_fault(change, key, old, new)
     if new.mark not in (0, old.mark):
@@ -133,7 +141,7 @@ def small_differences(change, key, old, new):
     return found
 
 
-def heap_sizes(change, key, old, count):
+def heap_sizes(change: Change, key: Tuple[bytes, ...], old: SmallHead, count: int) -> Any:
     """The least and the greatest heap, and whether only these two will do."""
     names = [entry.name for entry in change.after.objects[change.key_after(key)].entries]
     packed, kept = sum(name_space(name) for name in names), len(old.heap)
@@ -143,7 +151,7 @@ def heap_sizes(change, key, old, count):
     return packed, kept, count == len(names)
 
 
-def heap_fault(change, key, old, new, count):
+def heap_fault(change: Change, key: Tuple[bytes, ...], old: SmallHead, new: SmallHead, count: int) -> Any:
     least, most, only = heap_sizes(change, key, old, count)
     size = len(new.heap)
     if size in (least, most) or not only and min(least, most) <= size <= max(least, most):
@@ -151,7 +159,7 @@ def heap_fault(change, key, old, new, count):
     return ["its heap has %d bytes, and not %d or %d" % (size, least, most)]
 
 
-def head_name_fault(change, key, old, new, entries):
+def head_name_fault(change: Change, key: Tuple[bytes, ...], old: SmallHead, new: SmallHead, entries: Any) -> Any:
     """A renamed directory has its new name in its head if there is space for it beside its heap, whichever heap is written."""
     name, kept = new_name(change, key), [old.name]
     if name:
@@ -167,7 +175,7 @@ def head_name_fault(change, key, old, new, entries):
     return found
 
 
-def big_differences(change, key, old, new):
+def big_differences(change: Change, key: Tuple[bytes, ...], old: SmallHead, new: SmallHead) -> Any:
     now = change.key_after(key)
     entries = change.after.objects[now].entries
     size = change.needs.size if key == change.needs.grown else old.size
@@ -177,7 +185,7 @@ def big_differences(change, key, old, new):
     return found + head_name_fault(change, key, old, new, change.before.objects[key].entries)
 
 
-def rewritten_differences(change, key, now):
+def rewritten_differences(change: Change, key: Tuple[bytes, ...], now: Tuple[bytes, ...]) -> List[Any]:
     """What a directory owes whose bytes have changed."""
     old, new = change.before.heads[key], change.after.heads[now]
     holder = change.after.objects[now].holder
@@ -190,7 +198,7 @@ def rewritten_differences(change, key, now):
     return ["%s: %s" % (spelled_path(now), one) for one in found]
 
 
-def kept_differences(change, key, now):
+def kept_differences(change: Change, key: Tuple[bytes, ...], now: Tuple[bytes, ...]) -> List[Any]:
     """What a directory owes whose bytes are as they were."""
     old, found = change.before.heads[key], []
     if has_to_name_holder(change, key):
@@ -205,7 +213,7 @@ def kept_differences(change, key, now):
     return ["%s: %s" % (spelled_path(now), one) for one in found]
 
 
-def new_entry_spelling(change):
+def new_entry_spelling(change: Change) -> List[Any]:
     """A name that is new is followed by 13 and bytes 0."""
     c, after = change.c, change.after
     holder = c.target()[:-1]
@@ -222,7 +230,7 @@ def new_entry_spelling(change):
     return [] if is_kept or raw == padded(name, 10) else ["the new name is followed by %s" % raw[len(name):]]
 
 
-def new_directory(change):
+def new_directory(change: Change) -> List[Any]:
     """What `cdir` owes beside the tree."""
     if change.c.word != "cdir":
         return []
@@ -239,7 +247,7 @@ def new_directory(change):
     return ["the new directory has " + one for one in found]
 
 
-def differences(change):
+def differences(change: Change) -> List[Any]:
     """All that is wrong with the directories; the tree is right."""
     found = []
     for key in change.before.heads:

@@ -4,10 +4,15 @@
 
 Each function answers a list of differences in words; the list is empty if all is as it has to be.
 """
+from __future__ import annotations
+
+from typing import Any, List, Optional, Set, Tuple, Union
+
 from tools.reference import change_directories
-from tools.reference.change_answer import OLD_HOLES, given, low_byte, tree_after
-from tools.reference.change_state import changed_sectors
+from tools.reference.change_answer import OLD_HOLES, Command, Needs, given, low_byte, tree_after
+from tools.reference.change_state import State, changed_sectors
 from tools.reference.filecore import BOOT_BLOCK, BOOT_SIZE, old_map_check, spelled_path
+from tools.reference.read_image import Entry
 
 AFTER_MAP = 0x7FFF
 
@@ -15,11 +20,11 @@ AFTER_MAP = 0x7FFF
 class Change:
     """A command that isn't refused, with the image before it and after it."""
 
-    def __init__(self, before, after, c, needs):
+    def __init__(self, before: State, after: State, c: Command, needs: Needs) -> None:
         self.before, self.after, self.c, self.needs = before, after, c, needs
         self.changed = changed_sectors(before, after)
 
-    def key_after(self, key):
+    def key_after(self, key: Tuple[bytes, ...]) -> Optional[Tuple[bytes, ...]]:
         """The key afterwards of an object of before; None if it is deleted."""
         source, target = self.c.key(), self.c.target()
         if self.c.word == "delete" and key == source:
@@ -28,28 +33,28 @@ class Change:
             return target + key[len(source):]
         return key
 
-    def made(self):
+    def made(self) -> Optional[Entry]:
         """The object for which there was new space or slack, or which the command renames or sets; None if it is deleted."""
         return None if self.c.word == "delete" else self.after.objects[self.c.target()]
 
-    def takes_space(self):
+    def takes_space(self) -> bool:
         return self.needs.length > 0 and not self.needs.slack
 
-    def new_identifier(self):
+    def new_identifier(self) -> Optional[int]:
         return self.made().address // 256 if self.takes_space() else None
 
-    def grown(self):
+    def grown(self) -> Any:
         """The grown directory afterwards, or None."""
         return None if self.needs.grown is None else self.after.objects[self.key_after(self.needs.grown)]
 
-    def has_new_address(self):
+    def has_new_address(self) -> bool:
         return bool(self.needs.growth) and not self.needs.alone
 
 
 # ---- the tree
 
 
-def content_differs(change, wanted, entry):
+def content_differs(change: Change, wanted: Union[bytes, Entry], entry: Entry) -> bool:
     if isinstance(wanted, (bytes, bytearray)):
         return change.after.content(entry) != wanted
     if wanted.sectors == entry.sectors and change.changed.isdisjoint(entry.sectors):
@@ -57,7 +62,7 @@ def content_differs(change, wanted, entry):
     return change.after.content(entry) != change.before.content(wanted)
 
 
-def tree_differences(change):
+def tree_differences(change: Change) -> List[Any]:
     wanted, found = tree_after(change.before, change.c), change.after.tree()
     differences = ["%s is missing" % spelled_path(path) for path in sorted(set(wanted) - set(found))[:3]]
     differences += ["%s should not be there" % spelled_path(path) for path in sorted(set(found) - set(wanted))[:3]]
@@ -72,14 +77,14 @@ def tree_differences(change):
     return differences
 
 
-def shown(numbers):
+def shown(numbers: Any) -> Any:
     return " ".join("%08x" % number for number in numbers)
 
 
 # ---- Placed
 
 
-def fewest(holes, bits):
+def fewest(holes: List[Tuple[int, int, int]], bits: int) -> int:
     """The least number of holes that have so many bits in all."""
     total = count = 0
     for length in sorted((length for zone, start, length in holes), reverse=True):
@@ -89,7 +94,8 @@ def fewest(holes, bits):
     return count
 
 
-def taken(change, holes, parts, bits, who):
+def taken(change: Change, holes: List[Tuple[int, int, int]], parts: List[Tuple[int, int, int]], bits: int,
+          who: str) -> Tuple[List[Tuple[int, int, int]], List[Any]]:
     """The holes that are left when the parts are taken, and the differences from what may be taken."""
     least, found, left = change.before.map.shape.least, [], list(holes)
     total = sum(length for zone, start, length in parts)
@@ -111,7 +117,7 @@ def taken(change, holes, parts, bits, who):
     return sorted(left), found
 
 
-def address_differences(change):
+def address_differences(change: Change) -> List[Any]:
     """The address of the named object, unless it lies in new space."""
     made, needs, c = change.made(), change.needs, change.c
     if made is None or change.takes_space():
@@ -125,11 +131,11 @@ def address_differences(change):
     return [] if made.address == wanted else ["the object has the address %x instead of %x" % (made.address, wanted)]
 
 
-def fresh_identifier(change, identifier, who):
+def fresh_identifier(change: Change, identifier: int, who: str) -> List[Any]:
     return [] if identifier in change.before.free_identifiers() else ["%s has identifier %d, which wasn't free" % (who, identifier)]
 
 
-def object_placed(change):
+def object_placed(change: Change) -> Tuple[List[Tuple[int, int, int]], List[Any]]:
     """The holes that the new object leaves, and differences."""
     holes = change.before.holes()
     if not change.takes_space():
@@ -146,7 +152,7 @@ def object_placed(change):
     return left, found + wrong
 
 
-def growth_placed(change, holes):
+def growth_placed(change: Change, holes: List[Tuple[int, int, int]]) -> Tuple[List[Tuple[int, int, int]], List[Any]]:
     """The holes that the grown directory leaves, and differences."""
     needs, grown = change.needs, change.grown()
     if grown is None:
@@ -172,7 +178,7 @@ def growth_placed(change, holes):
 # ---- the map
 
 
-def given_back(change):
+def given_back(change: Change) -> Set[int]:
     """The identifiers whose runs go: without an owner now, or of an alone directory that took new space."""
     old, new = (set(state.owners) for state in (change.before, change.after))
     gone = {identifier for identifier in old - new if identifier > 2}
@@ -181,7 +187,7 @@ def given_back(change):
     return gone
 
 
-def runs_after(change, left, gone):
+def runs_after(change: Change, left: List[Tuple[int, int, int]], gone: Set[int]) -> List[Tuple[int, int, int, Optional[int]]]:
     """All runs as they have to be: zone, start, bits, identifier."""
     before, after = change.before, change.after
     kept = [run for run in before.map.runs if run[3] is not None and run[3] not in gone]
@@ -196,11 +202,11 @@ def runs_after(change, left, gone):
     return sorted(kept + [(zone, *hole, None) for zone, found in holes.items() for hole in found], key=lambda run: run[:3])
 
 
-def run_text(run):
+def run_text(run: Any) -> str:
     return "zone %d at %d, %d bits, %s" % (*run[:3], "hole" if run[3] is None else "identifier %d" % run[3])
 
 
-def map_differences(change):
+def map_differences(change: Change) -> List[Any]:
     left, found = object_placed(change)
     left, wrong = growth_placed(change, left)
     found += wrong
@@ -210,7 +216,7 @@ def map_differences(change):
     return found
 
 
-def zone_differences(change):
+def zone_differences(change: Change) -> List[Any]:
     """Bits outside the allocation bits, links, and the record."""
     shape, found = change.before.map.shape, []
     copies = chosen_copy(change.before), change.after.copies()[0]
@@ -227,7 +233,7 @@ def zone_differences(change):
     return found
 
 
-def chosen_copy(state):
+def chosen_copy(state: State) -> bytes:
     """The copy of the map that the image opens by."""
     shape, sector = state.map.shape, state.sector
     chosen = b"".join(state.map.chosen_copy(state.data))
@@ -235,7 +241,7 @@ def chosen_copy(state):
     return chosen
 
 
-def high_bits(change, zone, old, new):
+def high_bits(change: Change, zone: int, old: bytes, new: bytes) -> List[Any]:
     """Bits of a hole's field above the link are 0, or as they were."""
     shape = change.before.map.shape
     if shape.idlen <= 15:
@@ -250,7 +256,7 @@ def high_bits(change, zone, old, new):
     return []
 
 
-def record_differences(change, old, new):
+def record_differences(change: Change, old: bytes, new: bytes) -> List[Any]:
     wanted = bytearray(old)
     if change.needs.grown == ():
         root = change.grown()
@@ -259,7 +265,7 @@ def record_differences(change, old, new):
     return ["the record differs at %s" % places] if places else []
 
 
-def copy_differences(change):
+def copy_differences(change: Change) -> List[Any]:
     one, other = change.after.copies()
     return [] if one == other else ["the two copies of the map differ"]
 
@@ -267,7 +273,7 @@ def copy_differences(change):
 # ---- old maps
 
 
-def old_map_differences(change):
+def old_map_differences(change: Change) -> List[Any]:
     found, needs = [], change.needs
     wanted, there = needs.old_holes_after(), change.after.old_holes()
     if wanted != there:
@@ -279,7 +285,7 @@ def old_map_differences(change):
     return found + old_map_bytes(change, change.before.old_holes() != there)
 
 
-def old_map_bytes(change, is_new):
+def old_map_bytes(change: Change, is_new: bool) -> List[Any]:
     """An old map keeps every byte but its hole fields, FreeEnd and checks."""
     old, new = change.before.data, change.after.data
     found = ["byte %d of the map has changed" % at for at in [*range(246, 255), *range(502, 510)] if old[at] != new[at]]
@@ -298,7 +304,7 @@ def old_map_bytes(change, is_new):
 # ---- all that stays
 
 
-def outside_differences(change):
+def outside_differences(change: Change) -> List[Any]:
     before, after, found = change.before, change.after, []
     if after.kind != before.kind:
         found.append("the image opens as %s instead of %s" % (after.kind, before.kind))
@@ -314,7 +320,7 @@ def outside_differences(change):
     return found
 
 
-def differences(before, after, c, needs):
+def differences(before: State, after: State, c: Command, needs: Needs) -> List[Any]:
     """All that is wrong with what a changing command left."""
     change = Change(before, after, c, needs)
     found = tree_differences(change)

@@ -1,5 +1,9 @@
 # SPDX-License-Identifier: MIT
 """What `compact` may do to a disc with an old map: the differences from `Compacts` of fc_image::effects."""
+from __future__ import annotations
+
+from typing import Any, Tuple
+
 from tools.reference.change_directories import lines_of
 from tools.reference.change_effects import old_map_bytes, outside_differences
 from tools.reference.change_state import changed_sectors
@@ -9,11 +13,11 @@ from tools.reference.filecore import spelled_path
 class Compaction:
     """The image before it and after it."""
 
-    def __init__(self, before, after):
+    def __init__(self, before: Any, after: Any) -> None:
         self.before, self.after, self.changed = before, after, changed_sectors(before, after)
 
 
-def tree_differences(before, after):
+def tree_differences(before: Any, after: Any) -> Any:
     """The tree is the same, and files of 0 bytes keep their addresses."""
     if [entry.path for entry in before.objects.values()] != [entry.path for entry in after.objects.values()]:
         return ["there are other objects"]
@@ -27,7 +31,7 @@ def tree_differences(before, after):
     return found
 
 
-def directory_differences(before, after, key):
+def directory_differences(before: Any, after: Any, key: Tuple[bytes, ...]) -> Any:
     """A directory keeps all but addresses, its parent field if its holder moved, and its sequence if it is rewritten."""
     old, new, entry = before.heads[key], after.heads[key], before.objects[key]
     found = [field for field in ("word", "name", "title", "reserved") if getattr(old, field) != getattr(new, field)]
@@ -42,7 +46,7 @@ def directory_differences(before, after, key):
     return ["%s has another %s" % (spelled_path(entry.path), one) for one in found]
 
 
-def left_to_do(after):
+def left_to_do(after: Any) -> Any:
     """Holes that touch, or that an object follows."""
     starts = {entry.sectors[0]: entry for entry in after.objects.values() if entry.sectors and entry is not after.disc.root}
     holes = after.old_holes()
@@ -50,7 +54,7 @@ def left_to_do(after):
     return found + ["two holes touch at %d" % sum(one) for one, other in zip(holes, holes[1:]) if sum(one) == other[0]]
 
 
-def differences(before, after):
+def differences(before: Any, after: Any) -> Any:
     found = tree_differences(before, after)
     if found:
         return found

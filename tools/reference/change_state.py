@@ -3,8 +3,15 @@
 
 Written from docs/FORMAT.md with Python's standard library alone; no code is shared with fcore.
 """
+from __future__ import annotations
+
+from typing import TYPE_CHECKING, Dict, List, Optional, Set, Tuple, Union
+
 from tools.reference.filecore import SMALL_SIZE, big_directory_check, folded, head_space, number
-from tools.reference.read_image import Disc, NewMap, cut_name, kind_of
+from tools.reference.read_image import Disc, Entry, NewMap, cut_name, kind_of
+
+if TYPE_CHECKING:
+    from tools.checks.failing_calls import Bytes
 
 MAP_OWNER = "the map"  # identifier 2 has it as an owner that no entry shows
 TAILS = {  # of small directories: the places of last mark, reserved bytes, parent, title and name
@@ -13,7 +20,7 @@ TAILS = {  # of small directories: the places of last mark, reserved bytes, pare
 }
 
 
-def size_for(head, entries, heap):
+def size_for(head: int, entries: int, heap: int) -> int:
     """The least size of a big directory with these parts."""
     return -(-(28 + head + 28 * entries + heap + 8) // 2048) * 2048
 
@@ -21,7 +28,7 @@ def size_for(head, entries, heap):
 class SmallHead:
     """What a directory of 2048 or 1280 bytes says beside its entries."""
 
-    def __init__(self, block, form, count):
+    def __init__(self, block: bytes, form: str, count: int) -> None:
         tail = TAILS[form]
         self.size = len(block)
         self.sequence, self.word = block[0], block[1:5]
@@ -35,7 +42,7 @@ class SmallHead:
 class BigHead:
     """What a big directory says beside its entries."""
 
-    def __init__(self, block, count):
+    def __init__(self, block: bytes, count: int) -> None:
         length, heap = number(block, 8, 4), number(block, 20, 4)
         self.size = len(block)
         self.sequence, self.word, self.parent = block[0], block[4:8], number(block, 24, 4)
@@ -47,7 +54,7 @@ class BigHead:
         self.places = [number(block, first + 28 * at + 24, 4) for at in range(count)]
         self.lasts = [0] * count
 
-    def has_form(self, block, form, count, heap):
+    def has_form(self, block: bytes, form: int, count: int, heap: int) -> bool:
         end = 28 + head_space(form, self.name) + 28 * count + heap
         return end + 8 <= len(block) and big_directory_check(block, end) == block[-1]
 
@@ -55,7 +62,7 @@ class BigHead:
 class State:
     """An image that opened. Objects have the folded names of their path as key; the root has the empty one."""
 
-    def __init__(self, data):
+    def __init__(self, data: bytes) -> None:
         self.data = bytes(data)
         self.kind = kind_of(self.data)[0]
         self.disc = Disc(self.data)
@@ -71,7 +78,7 @@ class State:
             self.heads[key_of(directory.path)] = BigHead(block, count) if self.form == "big" else SmallHead(block, self.form, count)
         self.owners = self.read_owners()
 
-    def read_owners(self):
+    def read_owners(self) -> Dict[int, List[Union[Tuple[bytes, ...], str]]]:
         """For each identifier the keys of the objects that have sectors in it."""
         if not self.is_new:
             return {}
@@ -81,45 +88,45 @@ class State:
                 found.setdefault(entry.address // 256, []).append(key)
         return found
 
-    def is_directory(self, key):
+    def is_directory(self, key: Tuple[bytes, ...]) -> bool:
         return key in self.objects and self.objects[key].is_directory()
 
-    def content(self, entry):
+    def content(self, entry: Entry) -> bytes:
         return self.disc.content(entry)
 
-    def new_directory_size(self):
+    def new_directory_size(self) -> int:
         return SMALL_SIZE.get(self.form, 2048)
 
-    def free_identifiers(self):
+    def free_identifiers(self) -> List[int]:
         used = {identifier for zone, start, length, identifier in self.map.runs}
         return [identifier for identifier in range(3, self.map.shape.id_limit) if identifier not in used]
 
-    def holes(self):
+    def holes(self) -> List[Tuple[int, int, int]]:
         """On a new map zone, disc map bit and bits of each hole."""
         return [(zone, start, length) for zone, start, length, identifier in self.map.runs if identifier is None]
 
-    def runs_of(self, identifier):
+    def runs_of(self, identifier: int) -> List[Tuple[int, int, int]]:
         return [(zone, start, length) for zone, start, length, other in self.map.runs if other == identifier]
 
-    def old_holes(self):
+    def old_holes(self) -> List[Tuple[int, int]]:
         """On an old map first sector and sectors of each hole, as stored."""
         return [(first, end - first) for first, end in self.map.holes]
 
-    def is_writable(self, name):
+    def is_writable(self, name: bytes) -> bool:
         """Whether a new object may have this name here."""
         most, last = (255, 255) if self.form == "big" else (10, 126 if self.form == "L" else 255)
         return 1 <= len(name) <= most and all(33 <= byte <= last and byte != 127 and byte not in b'$&%@\\^:.#*"|' for byte in name)
 
-    def disc_bytes(self):
+    def disc_bytes(self) -> int:
         return self.map.shape.record.size if self.is_new else self.map.units * 256
 
-    def copies(self):
+    def copies(self) -> Tuple[bytes, bytes]:
         """The two copies of a new map."""
         size = self.map.shape.zones * self.sector
         start = self.map.shape.map_sector * self.sector
         return self.data[start:start + size], self.data[start + size:start + 2 * size]
 
-    def idle_sectors(self):
+    def idle_sectors(self) -> Set[int]:
         """The sectors of identifier 1 and of lost space, outside the map's."""
         if self.is_new:
             owned = self.disc.owned | {2}
@@ -128,26 +135,26 @@ class State:
             return {sector for zone, start, length, identifier in runs for sector in self.map.sectors_in(start, length)} - set(copies)
         return set(range(self.map.units * 256 // self.sector)) - self.disc.claimed
 
-    def tree(self):
+    def tree(self) -> Dict[Tuple[bytes, ...], Tuple[int, int, int, Optional[Entry]]]:
         """Each path with its attributes, words and the bytes of a file; None for a directory."""
         return {tuple(entry.path): (entry.attributes, entry.load, entry.execution, None if entry.is_directory() else entry)
                 for entry in self.objects.values()}
 
 
-def key_of(names):
+def key_of(names: Union[List[bytes], Tuple[bytes, ...]]) -> Tuple[bytes, ...]:
     return tuple(folded(name) for name in names)
 
 
-def same_name(one, other):
+def same_name(one: bytes, other: bytes) -> bool:
     return folded(one) == folded(other)
 
 
-def name_in(field):
+def name_in(field: bytes) -> bytes:
     """The name in a field: up to its first byte below 32."""
     return cut_name(field)
 
 
-def changed_sectors(before, after):
+def changed_sectors(before: State, after: Union[Bytes, State]) -> Set[int]:
     """The sectors that differ."""
     old, new, size, found = before.data, after.data, before.sector, set()
     for at in range(0, max(len(old), len(new)), 64 * size):

@@ -4,10 +4,15 @@
 It edits a copy of the image in memory and draws by chance what the rules leave open. Its refusals are those of
 tools/reference/change_answer.py. With the name of a fault it does one thing wrong.
 """
-from tools.reference.change_answer import WORDS, low_byte, owed_refusal
-from tools.reference.change_state import size_for
+from __future__ import annotations
+
+from typing import Any, Dict, List, Optional, Set, Tuple, Union
+
+from tools.reference.change_answer import WORDS, Command, Needs, low_byte, owed_refusal
+from tools.reference.change_state import State, size_for
 from tools.reference.filecore import (big_directory_check, folded, head_space, name_space, old_map_check, padded, put,
                                       small_directory_check, zone_check)
+from tools.reference.read_image import Entry
 
 FAULTS = {  # and words of the names of the discs over which each is sought first
     "space given back first": "nearly", "shared identifier given back": "shared", "words lost": "", "attributes lost": "table",
@@ -27,7 +32,7 @@ FAULTS = {  # and words of the names of the discs over which each is sought firs
 class Item:
     """An entry of a directory. `raw`: the bytes of a small entry that stays as it is."""
 
-    def __init__(self, entry, raw=None, last=0):
+    def __init__(self, entry: Union[New, Entry], raw: Optional[bytes] = None, last: int = 0) -> None:
         self.name, self.attributes, self.load, self.execution = entry.name, entry.attributes, entry.load, entry.execution
         self.length, self.address, self.raw, self.last = entry.length, entry.address, raw, last
 
@@ -35,7 +40,7 @@ class Item:
 class New:
     """The fields of an entry that is new."""
 
-    def __init__(self, name, attributes, load, execution, length, address):
+    def __init__(self, name: bytes, attributes: int, load: int, execution: int, length: int, address: int) -> None:
         self.name, self.attributes, self.load, self.execution = name, attributes, load, execution
         self.length, self.address = length, address
 
@@ -43,7 +48,7 @@ class New:
 class Folder:
     """A directory that is edited."""
 
-    def __init__(self, state, key):
+    def __init__(self, state: State, key: Tuple[bytes, ...]) -> None:
         self.state, self.head, self.entry = state, state.heads[key], state.objects[key]
         self.block = bytearray(state.content(self.entry))
         self.size, self.name, self.parent = len(self.block), self.head.name, None
@@ -51,14 +56,14 @@ class Folder:
         raws = [bytes(self.block[5 + 26 * at:31 + 26 * at]) for at in range(len(self.entry.entries))] if state.form != "big" else None
         self.items = [Item(entry, raws and raws[at], self.head.lasts[at]) for at, entry in enumerate(self.entry.entries)]
 
-    def find(self, folded_name):
+    def find(self, folded_name: bytes) -> Item:
         return next(item for item in self.items if folded(item.name) == folded_name)
 
-    def insert(self, item, at_end=False):
+    def insert(self, item: Item, at_end: bool = False) -> None:
         places = [at for at, other in enumerate(self.items) if folded(other.name) > folded(item.name)]
         self.items.insert(len(self.items) if at_end or not places else places[0], item)
 
-    def small_item(self, item):
+    def small_item(self, item: Item) -> bytes:
         if item.raw:
             return item.raw
         raw = bytearray(padded(item.name, 10) + bytes(16))
@@ -72,7 +77,7 @@ class Folder:
         raw[25] = item.last
         return raw
 
-    def small(self, parent, sequence):
+    def small(self, parent: int, sequence: int) -> bytearray:
         block, is_d = self.block, self.state.form == "D"
         name, place, mark = (2032, 2010, 2007) if is_d else (1228, 1238, 1227)
         items = b"".join(bytes(self.small_item(item)) for item in self.items)
@@ -83,7 +88,7 @@ class Folder:
         block[-1] = small_directory_check(block, 5 + len(items)) if is_d else 0
         return block
 
-    def heap(self, chance):
+    def heap(self, chance: Any) -> Tuple[bytearray, Dict[bytes, int]]:
         """The heap and the names' places in it: appended to, or packed."""
         packed, at = bytearray(), {}
         for item in self.items:
@@ -99,7 +104,7 @@ class Folder:
             return packed, at
         return kept, places
 
-    def big(self, parent, sequence, chance, form, fault):
+    def big(self, parent: int, sequence: int, chance: Any, form: int, fault: Optional[str]) -> bytearray:
         heap, places = self.heap(chance)
         block, first = bytearray(self.size), 28 + head_space(form, self.name)
         names = first + 28 * len(self.items)
@@ -119,7 +124,7 @@ class Folder:
             block[end] = 1  # else it would be read in the first form
         return block
 
-    def written(self, parent, fault, chance):
+    def written(self, parent: int, fault: Optional[str], chance: Any) -> bytearray:
         sequence = (self.head.sequence + (fault != "sequence kept")) % 256
         if fault == "entries sorted":
             self.items.sort(key=lambda item: folded(item.name))
@@ -135,7 +140,7 @@ class Folder:
         return self.big(parent, sequence, chance, form, fault)
 
 
-def empty_folder(form, name, parent):
+def empty_folder(form: str, name: bytes, parent: int) -> bytearray:
     """The bytes of a new directory."""
     if form == "big":
         block, end = bytearray(2048), 28 + head_space(1, name)
@@ -160,12 +165,12 @@ def empty_folder(form, name, parent):
 class NewSpace:
     """The runs of a new map, and their change."""
 
-    def __init__(self, state, fault, chance):
+    def __init__(self, state: State, fault: Optional[str], chance: Any) -> None:
         self.state, self.shape, self.fault, self.chance = state, state.map.shape, fault, chance
         self.runs = {tuple(run[:2]): [run[2], run[3]] for run in state.map.runs}  # zone and start: bits and identifier
         self.free = state.free_identifiers()
 
-    def fronts(self, bits):
+    def fronts(self, bits: int) -> List[Tuple[Tuple[int, int], int]]:
         """Parts of the fewest holes: one that is long enough by chance, or the longest."""
         holes = sorted(((length, place) for place, (length, owner) in self.runs.items() if owner is None), reverse=True)
         least, parts, missing = self.shape.least, [], bits
@@ -185,7 +190,7 @@ class NewSpace:
                 return parts
         raise AssertionError("no space")
 
-    def take(self, bits, identifier=None):
+    def take(self, bits: int, identifier: Optional[int] = None) -> Tuple[int, int, Set[Tuple[int, int]]]:
         """Space for an identifier, a new one if none is given; a grown directory's own one may be given."""
         identifier = identifier or self.chance.choice(self.free)
         if identifier in self.free:
@@ -198,20 +203,20 @@ class NewSpace:
                 self.runs[zone, start + length] = [rest, None]
         return identifier, sum(length for place, length in parts), {place for place, length in parts}
 
-    def extents(self, identifier, only=None):
+    def extents(self, identifier: int, only: Any = None) -> List[Tuple[int, int]]:
         """The places of an identifier's bytes and their lengths, in order."""
         home, bit = self.shape.home(identifier), self.shape.bit_bytes
         found = sorted(((zone - home) % self.shape.zones, start, length) for (zone, start), (length, owner) in self.runs.items()
                        if owner == identifier and (only is None or (zone, start) in only))
         return [(start * bit, length * bit) for turn, start, length in found]
 
-    def release(self, places):
+    def release(self, places: Set[Tuple[int, int]]) -> None:
         for place in sorted(places):
             self.runs[place][1] = None
             if self.fault != "hole not joined":
                 self.join(place)
 
-    def join(self, place):
+    def join(self, place: Tuple[int, int]) -> None:
         zone, start = place
         after = (zone, start + self.runs[place][0])
         if after in self.runs and self.runs[after][1] is None:
@@ -221,12 +226,12 @@ class NewSpace:
         if before:
             self.runs[before][0] += self.runs.pop(place)[0]
 
-    def join_all(self):
+    def join_all(self) -> None:
         for place in sorted(self.runs):
             if place in self.runs and self.runs[place][1] is None:
                 self.join(place)
 
-    def zone_sector(self, zone, old):
+    def zone_sector(self, zone: int, old: bytes) -> bytearray:
         shape, sector = self.shape, bytearray(old)
         bits = int.from_bytes(old, "little")
         first, end = shape.first(zone), shape.end(zone)
@@ -252,7 +257,7 @@ class NewSpace:
 class Edit:
     """One accepted command, made on a copy of the image."""
 
-    def __init__(self, state, c, needs, fault, chance):
+    def __init__(self, state: State, c: Command, needs: Needs, fault: Optional[str], chance: Any) -> None:
         self.state, self.c, self.needs, self.fault, self.chance = state, c, needs, fault, chance
         self.image = bytearray(state.data)
         self.folders, self.root = {}, (state.disc.root.address, None)
@@ -261,12 +266,12 @@ class Edit:
         self.holes = None if state.is_new else needs.old_holes_after()
         self.blocks = []  # what is written at the end: places with lengths, and bytes
 
-    def folder(self, key):
+    def folder(self, key: Tuple[bytes, ...]) -> Folder:
         if key not in self.folders:
             self.folders[key] = Folder(self.state, key)
         return self.folders[key]
 
-    def write(self, extents, content):
+    def write(self, extents: List[Tuple[int, int]], content: bytes) -> None:
         done = 0
         for start, room in extents:
             count = min(room, len(content) - done)
@@ -278,12 +283,12 @@ class Edit:
             if end + 16 <= self.state.disc_bytes() and end // self.state.sector not in self.state.map.reserved:
                 self.image[end:end + 16] = bytes(16)
 
-    def places_of(self, entry):
+    def places_of(self, entry: Entry) -> List[Tuple[int, int]]:
         return [(sector * self.state.sector, self.state.sector) for sector in entry.sectors]
 
     # space
 
-    def gone(self):
+    def gone(self) -> Set[Tuple[int, int]]:
         """The places of the runs that go, if an identifier loses its last owner."""
         c, state = self.c, self.state
         entry = state.objects.get(c.key()) if c.word in ("delete", "save", "create") else None
@@ -295,7 +300,7 @@ class Edit:
             return set()
         return {run[:2] for run in state.map.runs if run[3] == identifier}
 
-    def new_object(self, content, is_directory):
+    def new_object(self, content: bytes, is_directory: bool) -> int:
         """Space with the content in it: the address."""
         if not content:
             return 0
@@ -315,10 +320,10 @@ class Edit:
         low = 0 if is_directory or self.fault == "low byte 0" else low_byte(state.map.shape, room, len(content))
         return identifier * 256 + low
 
-    def is_left_unwritten(self):
+    def is_left_unwritten(self) -> bool:
         return self.fault == "zeros not written" and self.c.word == "create"
 
-    def old_object(self, content):
+    def old_object(self, content: bytes) -> Any:
         sector = self.state.sector
         wanted = -(-len(content) // sector)
         place = self.needs.old_place()
@@ -328,7 +333,7 @@ class Edit:
             self.write([(place * sector, wanted * sector)], content)
         return place * sector // 256
 
-    def grow(self):
+    def grow(self) -> Set[Any]:
         """The grown directory's new space or size."""
         needs, key = self.needs, self.needs.grown
         if key is None:
@@ -356,7 +361,7 @@ class Edit:
         self.regrown_children(key)
         return gone
 
-    def regrown_children(self, key):
+    def regrown_children(self, key: Tuple[bytes, ...]) -> None:
         if self.needs.growth and not self.needs.alone and self.fault != "children left":
             for entry in self.state.objects[key].entries:
                 if entry.is_directory():
@@ -364,7 +369,7 @@ class Edit:
 
     # the commands
 
-    def run(self):
+    def run(self) -> bytes:
         early = self.gone() if self.fault == "space given back first" else set()
         if early:
             self.space.release(early)
@@ -380,11 +385,11 @@ class Edit:
         self.write_map()
         return bytes(self.image)
 
-    def release_lost(self):
+    def release_lost(self) -> None:
         lost = sorted(run[:2] for run in self.state.map.runs if run[3] and run[3] > 2 and run[3] not in self.state.owners)
         self.space.release(lost[:1])
 
-    def put_item(self, name, fields):
+    def put_item(self, name: bytes, fields: Dict[str, int]) -> None:
         """A new entry in the holder of the command's last path, or the present one changed: a table of fields."""
         holder, target = self.folder(self.c.target()[:-1]), self.c.target()[-1]
         item = next((one for one in holder.items if folded(one.name) == target), None)
@@ -398,30 +403,30 @@ class Edit:
         for field, value in fields.items():
             setattr(item, field, value)
 
-    def save(self):
+    def save(self) -> None:
         content = self.c.bytes if self.c.word == "save" else bytes(self.c.length)
         address = self.new_object(content, False)
         self.put_item(self.c.paths[0][-1], dict(load=self.c.load, execution=self.c.execution, length=len(content), address=address))
 
     create = save
 
-    def cdir(self):
+    def cdir(self) -> None:
         name, holder = self.c.paths[0][-1], self.c.target()[:-1]
         size = self.state.new_directory_size()
         self.put_item(name, dict(attributes=8, length=size, address=self.new_object(bytes(size), True)))
         self.blocks.append((self.folder(holder).find(folded(name)), name, holder))
 
-    def delete(self):
+    def delete(self) -> None:
         holder = self.folder(self.c.key()[:-1])
         holder.items.remove(holder.find(self.c.key()[-1]))
 
-    def set(self):
+    def set(self) -> None:
         holder = self.folder(self.c.key()[:-1])
         item = holder.find(self.c.key()[-1])
         item.attributes = item.attributes & (8 if self.fault == "set clears attributes" else ~7) | self.c.access
         item.load, item.execution, item.raw = self.c.load, self.c.execution, None
 
-    def rename(self):
+    def rename(self) -> None:
         c, source, target = self.c, self.c.key(), self.c.target()
         old, new, name = self.folder(source[:-1]), self.folder(target[:-1]), c.paths[1][-1]
         item, moved = old.find(source[-1]), source[:-1] != target[:-1]
@@ -445,7 +450,7 @@ class Edit:
         if self.state.is_directory(source):
             self.rename_folder(source, name)
 
-    def rename_folder(self, source, name):
+    def rename_folder(self, source: Any, name: bytes) -> None:
         folder = self.folder(source)
         if self.state.form != "big":
             folder.name = padded(name, 10)
@@ -459,14 +464,14 @@ class Edit:
 
     # writing
 
-    def holder_address(self, key):
+    def holder_address(self, key: Tuple[bytes, ...]) -> int:
         """The address of the directory that holds the one that had this key."""
         c, source = self.c, self.c.key()
         if c.word == "rename" and key == source and self.fault != "parent left":
             key = c.target()
         return self.addresses.get(key[:-1], self.state.objects[key[:-1]].address)
 
-    def write_folders(self):
+    def write_folders(self) -> None:
         for key, folder in self.folders.items():
             block = folder.written(self.holder_address(key), self.fault, self.chance)
             self.write(getattr(folder, "places", None) or self.places_of(folder.entry), block)
@@ -474,12 +479,12 @@ class Edit:
             parent = self.addresses.get(holder, self.state.objects[holder].address)
             self.write(self.new_places(item.address), empty_folder(self.state.form, name, parent))
 
-    def new_places(self, address):
+    def new_places(self, address: int) -> List[Tuple[int, int]]:
         if self.space:
             return self.space.extents(address // 256)
         return [(address * 256, self.state.new_directory_size())]
 
-    def write_map(self):
+    def write_map(self) -> None:
         if not self.space:
             write_holes(self.image, self.state, self.holes, self.fault == "unused places left")
             return
@@ -500,7 +505,7 @@ class Edit:
                     self.image[place:place + sector] = new
 
 
-def repaired(state):
+def repaired(state: State) -> Any:
     """The image with two equal copies of the map."""
     if not state.is_new or len(set(state.copies())) == 1:
         return state.data
@@ -508,7 +513,7 @@ def repaired(state):
     return state.data[:start] + chosen + chosen + state.data[start + 2 * len(chosen):]
 
 
-def changed(state, c, fault, chance):
+def changed(state: State, c: Command, fault: Optional[str], chance: Any) -> Tuple[str, bytes]:
     """The reply to a changing command, and the image afterwards: the same one, if it is refused."""
     number, needs = owed_refusal(state, c)
     if number == 14 and needs and fault == "space given back first" and Edit(state, c, needs, fault, chance).gone():
@@ -526,7 +531,7 @@ def changed(state, c, fault, chance):
 # ---- compaction of an old map
 
 
-def squashed(state, fault):
+def squashed(state: State, fault: Optional[str]) -> bytes:
     """The image after `compact` on an old map: each object slides into the hole before it."""
     image, step = bytearray(state.data), state.sector // 256
     things = [(start, length, "hole") for start, length in state.old_holes()]
@@ -556,7 +561,7 @@ def squashed(state, fault):
     return bytes(image)
 
 
-def moved_folder(state, key, children, parent):
+def moved_folder(state: State, key: Tuple[bytes, ...], children: Any, parent: int) -> Any:
     """The bytes of a directory with its entries' new addresses."""
     folder = Folder(state, key)
     for item, place in zip(folder.items, children.values()):
@@ -565,7 +570,7 @@ def moved_folder(state, key, children, parent):
     return folder.small(parent, (folder.head.sequence + 1) % 256)
 
 
-def write_holes(image, state, holes, keeps_unused=False):
+def write_holes(image: Any, state: State, holes: Any, keeps_unused: bool = False) -> None:
     """An old map with these holes, each a first sector and sectors."""
     step, block = state.sector // 256, image[0:512]
     if holes == state.old_holes():

@@ -8,34 +8,39 @@ usage: tools/run reference/format_reader IMAGE       prints the fault, or what `
 It shares no code with fcore or with the other tools. The comment at a rule names the page's heading, and its table if there are
 several. It favours short code over speed.
 """
+from __future__ import annotations
+
 import hashlib
 import signal
 import sys
+from typing import Any, Dict, List, Optional, Set, Tuple, Union
+
+Fields = Dict[str, Any]  # of an entry, by their names
 
 
 class Bad(Exception):
     """A fault, as the words after `bad-image`."""
 
 
-def num(data, at, size):
+def num(data: bytes, at: int, size: int) -> int:
     return int.from_bytes(data[at:at + size], "little")  # head of the page: numbers are little-endian
 
 
-def xor_bytes(value):
+def xor_bytes(value: int) -> int:
     return value & 255 ^ value >> 8 & 255 ^ value >> 16 & 255 ^ value >> 24
 
 
 # ---- checks
 
 
-def boot_check(block):  # Boot block, check
+def boot_check(block: bytes) -> int:  # Boot block, check
     s = 0
     for at in range(510, -1, -1):
         s = s % 256 + s // 256 + block[at]
     return s % 256
 
 
-def zone_check(zone):  # New map, ZoneCheck
+def zone_check(zone: bytes) -> int:  # New map, ZoneCheck
     words = [num(zone, at, 4) for at in range(0, len(zone), 4)]
     words[0] -= words[0] % 256
     s = carry = 0
@@ -45,7 +50,7 @@ def zone_check(zone):  # New map, ZoneCheck
     return xor_bytes(s)
 
 
-def half_check(half, s):  # Old map, check of a half
+def half_check(half: bytes, s: int) -> int:  # Old map, check of a half
     for at in range(254, -1, -1):
         if s > 255:
             s = s % 256 + 1
@@ -53,13 +58,13 @@ def half_check(half, s):  # Old map, check of a half
     return s % 256
 
 
-def fold(a, values):  # Small directories, check
+def fold(a: int, values: Union[List[int], bytes]) -> int:  # Small directories, check
     for v in values:
         a = v ^ (a >> 13 | a << 19 & 0xFFFFFFFF)
     return a
 
 
-def words(data, start, end):
+def words(data: bytes, start: int, end: int) -> List[int]:
     return [num(data, at, 4) for at in range(start, end, 4)]
 
 
@@ -67,7 +72,7 @@ def words(data, start, end):
 
 
 class Record:
-    def __init__(self, raw):
+    def __init__(self, raw: bytes) -> None:
         self.raw = raw
         # Disc record, table
         self.log2_sector, self.idlen, self.log2_bit = raw[0], raw[4], raw[5]
@@ -83,29 +88,29 @@ class Record:
         self.id_bound = min(self.ids_per_zone * self.zones, 2 ** self.idlen)
         self.share = self.sector * 2 ** (raw[40] % 16)
 
-    def base(self, z):
+    def base(self, z: int) -> int:
         return z * self.zone_size - 480 if z else 0
 
-    def first(self, z):
+    def first(self, z: int) -> int:
         return 32 if z else 512
 
-    def end(self, z):
+    def end(self, z: int) -> int:
         return self.first(z) + self.disc_bits - self.base(z) if z == self.zones - 1 else 32 + self.zone_size
 
-    def map_sector(self):
+    def map_sector(self) -> int:
         return self.base(self.zones // 2) * self.bit_bytes // self.sector
 
-    def home(self, identifier):  # Addresses on new maps, home
+    def home(self, identifier: int) -> int:  # Addresses on new maps, home
         return self.zones // 2 if identifier == 2 else identifier // self.ids_per_zone % self.zones
 
-    def root_fault(self):  # Valid records, rows 12 and 48
+    def root_fault(self) -> Optional[int]:  # Valid records, rows 12 and 48
         if self.root // 256 < 2 or self.version == 0 and self.root >= 2 ** 24:
             return 12
         if self.version and not is_big_size(self.root_size):
             return 48
         return None
 
-    def fault(self):  # Valid records, table, row by row
+    def fault(self) -> Optional[int]:  # Valid records, table, row by row
         if self.log2_sector not in (8, 9, 10):
             return 0
         if not self.log2_sector + 3 <= self.idlen <= (19 if self.version else 15):
@@ -123,11 +128,11 @@ class Record:
         return self.root_fault()
 
 
-def is_big_size(size):  # Big directories, first sentence
+def is_big_size(size: int) -> bool:  # Big directories, first sentence
     return size % 2048 == 0 and 2048 <= size <= 4194304
 
 
-def valid(raw):
+def valid(raw: bytes) -> Optional[Record]:
     """The record of these 60 bytes, or None. Sectors that are far too large are sorted out first, since 2^255 has no use."""
     if len(raw) < 60 or raw[0] > 10 or raw[5] > 20:
         return None
@@ -138,7 +143,7 @@ def valid(raw):
 # ---- kinds
 
 
-def kind_of(data):  # Kinds, table, row by row
+def kind_of(data: bytes) -> Optional[Tuple[str, Union[int, Record]]]:  # Kinds, table, row by row
     if len(data) >= 0xE00:
         block = data[0xC00:0xE00]
         if block[511] == boot_check(block) and valid(block[0x1C0:0x1FC]):
@@ -163,7 +168,7 @@ def kind_of(data):  # Kinds, table, row by row
 
 
 class NewMap:
-    def __init__(self, data, kind, record):
+    def __init__(self, data: bytes, kind: str, record: Record) -> None:
         self.g, self.sector = record, record.sector
         zones = self.choose(data)
         own = self.own_record(zones[0])
@@ -178,7 +183,7 @@ class NewMap:
         self.boot, self.copies = set(boot), set(copies)
         self.claimed = self.boot | self.copies  # Walk, what is claimed at the beginning
 
-    def choose(self, data):  # Two copies
+    def choose(self, data: bytes) -> Optional[List[bytes]]:  # Two copies
         g, wrong = self.g, []
         for first in (g.map_sector(), g.map_sector() + g.zones):  # New map, second sentence
             zones = [data[self.sector * at:self.sector * (at + 1)] for at in range(first, first + g.zones)]
@@ -191,7 +196,7 @@ class NewMap:
             wrong.append(bad[0] if bad else g.zones)
         raise Bad("Copies", *wrong)
 
-    def own_record(self, zone):  # Two copies, the map's record
+    def own_record(self, zone: bytes) -> Optional[Record]:  # Two copies, the map's record
         for at in [0, 4, 5, 9, 10, 11, *range(16, 20), *range(36, 40), 40, 42, *range(44, 48)]:
             if (zone[4 + at] ^ self.g.raw[at]) & (15 if at == 40 else 255):
                 raise Bad("Differs", at)
@@ -200,10 +205,10 @@ class NewMap:
             raise Bad("Bad", own.root_fault())
         return own
 
-    def is_boundary(self, z, x):  # Runs and holes, first paragraph
+    def is_boundary(self, z: int, x: int) -> bool:  # Runs and holes, first paragraph
         return (self.g.base(z) + x - self.g.first(z)) * self.g.bit_bytes % self.sector == 0
 
-    def read_zone(self, z, zone):  # Runs and holes
+    def read_zone(self, z: int, zone: bytes) -> None:  # Runs and holes
         g, found, x = self.g, {}, self.g.first(z)
         bits = bin(int.from_bytes(zone, "little"))[:1:-1].ljust(8 * self.sector, "0")
         while x < g.end(z):
@@ -227,15 +232,15 @@ class NewMap:
             else:
                 self.runs.setdefault(field, []).append((z, run))
 
-    def sectors_of_runs(self, runs):
+    def sectors_of_runs(self, runs: List[Tuple[int, int]]) -> List[int]:
         return [at for start, size in runs for at in range(start // self.sector, (start + size) // self.sector)]
 
-    def identifier_sectors(self, identifier):  # Addresses on new maps, the order of an identifier's runs
+    def identifier_sectors(self, identifier: int) -> List[int]:  # Addresses on new maps, the order of an identifier's runs
         runs = self.runs.get(identifier, [])
         home = self.g.home(identifier)
         return self.sectors_of_runs([run for z, run in runs if z >= home] + [run for z, run in runs if z < home])
 
-    def sectors(self, address, length):  # Addresses on new maps, sharing
+    def sectors(self, address: int, length: int) -> List[int]:  # Addresses on new maps, sharing
         if length == 0:
             return []
         identifier, low = address // 256, address % 256
@@ -246,18 +251,18 @@ class NewMap:
         sectors = self.identifier_sectors(identifier)[skipped:skipped + count]
         return sectors if len(sectors) == count else None
 
-    def misplaced(self, owned):  # Walk, MapPlace
+    def misplaced(self, owned: Set[int]) -> Optional[int]:  # Walk, MapPlace
         runs = self.holes + [run for identifier in owned if identifier > 2 for z, run in self.runs.get(identifier, [])]
         wrong = (self.boot | self.copies) & set(self.sectors_of_runs(runs)) | self.boot & self.copies
         return min(wrong) if wrong else None
 
-    def lost(self, owned, claimed):  # Counts, lost
+    def lost(self, owned: Set[int], claimed: Set[int]) -> int:  # Counts, lost
         return sum(size for identifier, runs in self.runs.items() if identifier not in (1, 2) and identifier not in owned
                    for z, (start, size) in runs)
 
 
 class OldMap:
-    def __init__(self, data, kind, units):
+    def __init__(self, data: bytes, kind: str, units: int) -> None:
         # Old map, table of D and L; Kinds, column Directories
         self.sector, self.form, self.root = (1024, "2048", 4) if kind == "D" else (256, "1280", 2)
         self.root_size = int(self.form)
@@ -277,7 +282,7 @@ class OldMap:
         for start, length in self.holes:
             self.claimed.update(range(start // self.sector, (start + length) // self.sector))
 
-    def sectors(self, address, length):  # Old map, last paragraph
+    def sectors(self, address: int, length: int) -> Optional[List[int]]:  # Old map, last paragraph
         if length == 0:
             return []
         start = address * 256
@@ -285,21 +290,21 @@ class OldMap:
             return None
         return list(range(start // self.sector, (start + length + self.sector - 1) // self.sector))
 
-    def misplaced(self, owned):
+    def misplaced(self, owned: Set[int]) -> None:
         return None  # Walk: MapPlace is for new maps
 
-    def lost(self, owned, claimed):  # Counts, lost
+    def lost(self, owned: Set[int], claimed: Set[int]) -> int:  # Counts, lost
         return len(set(range(self.size // self.sector)) - claimed) * self.sector
 
 
 # ---- directories
 
 
-def upper(name):  # Small directories, last sentence
+def upper(name: bytes) -> bytes:  # Small directories, last sentence
     return bytes(byte - 32 if 97 <= byte <= 122 else byte for byte in name)
 
 
-def check_names(entries):  # the last two rows of either table of faults
+def check_names(entries: List[Fields]) -> Optional[List[Fields]]:  # the last two rows of either table of faults
     for at, entry in enumerate(entries):
         if not entry["name"]:
             raise Bad("BadEntry", at)
@@ -311,14 +316,14 @@ def check_names(entries):  # the last two rows of either table of faults
     return entries
 
 
-def cut(name):  # Small directories, table of an entry, name
+def cut(name: bytes) -> bytes:  # Small directories, table of an entry, name
     for at, byte in enumerate(name):
         if byte < 32:
             return name[:at]
     return name
 
 
-def small_entry(raw, form):  # Small directories, table of an entry
+def small_entry(raw: bytes, form: str) -> Fields:  # Small directories, table of an entry
     name, attributes = raw[0:10], raw[25]
     if form == "1280":
         attributes = sum(2 ** i for i in range(10) if name[i] >= 128)
@@ -327,7 +332,7 @@ def small_entry(raw, form):  # Small directories, table of an entry
                 attributes=attributes)
 
 
-def read_small(data, form):  # Small directories
+def read_small(data: bytes, form: str) -> Optional[Tuple[List[Fields], int]]:  # Small directories
     size, places, parent = (2048, 77, 2010) if form == "2048" else (1280, 47, 1238)
     if data[1:5] not in (b"Hugo", b"Nick") or data[size - 5:size - 1] != data[1:5]:
         raise Bad("Magic")
@@ -344,7 +349,7 @@ def read_small(data, form):  # Small directories
     return check_names([small_entry(raw, form) for raw in raws[:count]]), num(data, parent, 3)
 
 
-def read_big(data):  # Big directories; the tables of fields, then that of faults, row by row
+def read_big(data: bytes) -> Optional[Tuple[List[Fields], int]]:  # Big directories; the tables of fields, then that of faults, row by row
     size = len(data)
     if not is_big_size(size):
         raise Bad("Size")
@@ -374,7 +379,7 @@ def read_big(data):  # Big directories; the tables of fields, then that of fault
 
 
 class Disc:
-    def __init__(self, data):
+    def __init__(self, data: bytes) -> None:
         kind, found = kind_of(data)
         need = found.size if kind in ("Boot", "OneZone") else found * 256  # Kinds, third column
         if len(data) < need:
@@ -391,7 +396,7 @@ class Disc:
         if sector is not None:
             raise Bad("MapPlace", sector)
 
-    def claim(self, entry):  # Walk, after the steps
+    def claim(self, entry: Fields) -> None:  # Walk, after the steps
         if entry["attributes"] & 8 and self.map.form != "big":
             entry["length"] = int(self.map.form)
         entry["sectors"] = self.map.sectors(entry["address"], entry["length"])
@@ -403,11 +408,11 @@ class Disc:
         if entry["sectors"]:
             self.owned.add(entry["address"] // 256)
 
-    def content(self, entry):
+    def content(self, entry: Fields) -> bytes:
         size = self.map.sector
         return b"".join(self.data[size * at:size * (at + 1)] for at in entry["sectors"])[:entry["length"]]
 
-    def read(self, directory):  # Walk, 3
+    def read(self, directory: Fields) -> None:  # Walk, 3
         data = self.content(directory)
         try:
             found = read_big(data) if self.map.form == "big" else read_small(data, self.map.form)
@@ -420,8 +425,8 @@ class Disc:
             self.claim(entry)
             (self.directories if entry["attributes"] & 8 else self.files).append(entry)
 
-    def counts(self):  # Counts
-        def unsorted(directory):
+    def counts(self) -> str:  # Counts
+        def unsorted(directory: Fields) -> bool:
             names = [upper(entry["name"]) for entry in directory["entries"]]
             return any(not one < other for one, other in zip(names, names[1:]))
 
@@ -432,16 +437,16 @@ class Disc:
             sum(map(unsorted, self.directories)), wrong, sum(sizes), max(sizes, default=0)))
 
 
-def spelled(name):  # Walk, last sentence
+def spelled(name: bytes) -> str:  # Walk, last sentence
     return "".join(chr(byte) if 33 <= byte <= 126 and chr(byte) not in '$&%@\\^:.#*"|' else "%%%02X" % byte for byte in name)
 
 
-def line(entry):
+def line(entry: Fields) -> str:
     length = "dir" if entry["attributes"] & 8 else entry["length"]
     return "%s %08x %08x %08x %s" % (entry["path"], entry["attributes"], entry["load"], entry["exec"], length)
 
 
-def main(image, path=None):
+def main(image: str, path: Any = None) -> int:
     """The status: 3 for an image that isn't accepted, 1 for a path that is no file."""
     with open(image, "rb") as file:
         data = file.read()

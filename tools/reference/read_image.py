@@ -6,10 +6,13 @@ usage: tools/run reference/read_image IMAGE < script
 A second, independent reading of docs/FORMAT.md for comparisons; it shares no code with fcore. It reads the whole image into
 memory and keeps sectors in sets, since it is for small images.
 """
+from __future__ import annotations
+
 import hashlib
 import re
 import sys
 from collections import deque
+from typing import Dict, Iterator, List, Optional, Set, Tuple, Union
 
 from tools.reference.filecore import (AGREED, BAD_COMMAND, BAD_NAME, BIG_LIMIT, BOOT_BLOCK, BOOT_SIZE, EXISTS, INTO_ITSELF,
                                       IS_DIRECTORY, LOCKED, NOT_DIRECTORY, NOT_EMPTY, NOT_FOUND, NOT_SPELLED, READ_ONLY,
@@ -21,7 +24,7 @@ from tools.reference.filecore import (AGREED, BAD_COMMAND, BAD_NAME, BIG_LIMIT, 
 class Fault(Exception):
     """The first fault of an image: the words of its line."""
 
-    def __str__(self):
+    def __str__(self) -> str:
         return "bad-image %s\n" % " ".join(str(word) for word in self.args)
 
 
@@ -32,7 +35,7 @@ class DirectoryFault(Exception):
 # ---- the kind of an image
 
 
-def boot_record(data):
+def boot_record(data: bytes) -> Optional[Record]:
     block = data[BOOT_BLOCK:BOOT_BLOCK + BOOT_SIZE]
     if len(block) < BOOT_SIZE or block[-1] != boot_check(block):
         return None
@@ -40,7 +43,7 @@ def boot_record(data):
     return None if record.fault() is not None else record
 
 
-def single_zone_record(sector):
+def single_zone_record(sector: bytes) -> Optional[Record]:
     """The record of one whole, sound zone of 1024 bytes."""
     if len(sector) < 1024 or sector[0] != zone_check(sector) or sector[3] != 0xFF:
         return None
@@ -48,7 +51,7 @@ def single_zone_record(sector):
     return record if record.fault() is None and record.log2_sector == 10 and record.zones == 1 else None
 
 
-def old_units(data):
+def old_units(data: bytes) -> Optional[int]:
     """The units of an old map whose halves are both right."""
     if len(data) < 512:
         return None
@@ -58,7 +61,7 @@ def old_units(data):
     return number(data, 252, 3)
 
 
-def kind_of(data):
+def kind_of(data: bytes) -> Optional[Tuple[str, Union[int, Record]]]:
     """The kind, and its record or its units."""
     record = boot_record(data)
     if record:
@@ -80,7 +83,7 @@ def kind_of(data):
 class OldMap:
     """The free list of a D or L disc."""
 
-    def __init__(self, data, kind, units):
+    def __init__(self, data: bytes, kind: str, units: int) -> None:
         self.form = kind
         self.units = units
         self.sector = 1024 if kind == "D" else UNIT
@@ -91,7 +94,7 @@ class OldMap:
         self.taken = self.reserved | {sector for first, end in self.holes for sector in range(first, end)}
         self.free = [(end - first) * self.sector for first, end in self.holes]
 
-    def read_holes(self, data):
+    def read_holes(self, data: bytes) -> Optional[List[Tuple[int, int]]]:
         free_end = data[510]
         if free_end % 3 or free_end > 246:
             raise Fault("Hole", free_end // 3)
@@ -105,7 +108,7 @@ class OldMap:
             holes.append((start // step, before // step))
         return holes
 
-    def sectors_at(self, address, length):
+    def sectors_at(self, address: int, length: int) -> Optional[List[int]]:
         if length == 0:
             return []
         start = address * UNIT
@@ -113,19 +116,19 @@ class OldMap:
             return None
         return list(range(start // self.sector, (start + length - 1) // self.sector + 1))
 
-    def misplaced(self, owned):
+    def misplaced(self, owned: Set[int]) -> None:
         return None
 
-    def lost(self, owned, claimed):
+    def lost(self, owned: Set[int], claimed: Set[int]) -> int:
         return (self.units * UNIT // self.sector - len(claimed)) * self.sector
 
 
-def runs_of(sector, zone, shape):
+def runs_of(sector: bytes, zone: int, shape: Geometry) -> Optional[List[Tuple[int, int, int]]]:
     """The runs of a zone, as start, length and field; a fault where the bits don't spell runs."""
     bits = int.from_bytes(sector, "little")
     start, end, runs = shape.first(zone), shape.end(zone), []
 
-    def is_boundary(bit):
+    def is_boundary(bit: int) -> bool:
         return (shape.base(zone) + bit - shape.first(zone)) * shape.bit_bytes % shape.sector == 0
 
     while start < end:
@@ -138,7 +141,7 @@ def runs_of(sector, zone, shape):
     return runs
 
 
-def hole_starts(sector, zone, runs):
+def hole_starts(sector: bytes, zone: int, runs: List[Tuple[int, int, int]]) -> Optional[Set[int]]:
     fields = {start: field for start, length, field in runs}
     place, distance, holes = 8, number(sector, 1, 2) & 0x7FFF, set()
     while distance:
@@ -153,7 +156,7 @@ def hole_starts(sector, zone, runs):
 class NewMap:
     """The map of zones: which sectors are free, and which every identifier has."""
 
-    def __init__(self, data, kind, record):
+    def __init__(self, data: bytes, kind: str, record: Record) -> None:
         shape = self.shape = Geometry(record)
         self.sector = shape.sector
         zones = self.chosen_copy(data)
@@ -172,7 +175,7 @@ class NewMap:
         self.free = [length * shape.bit_bytes for zone, start, length, identifier in self.runs if identifier is None]
         self.holes = self.free
 
-    def chosen_copy(self, data):
+    def chosen_copy(self, data: bytes) -> Optional[List[bytes]]:
         wrong = []
         for copy in (0, 1):
             first = self.shape.map_sector + copy * self.shape.zones
@@ -187,7 +190,7 @@ class NewMap:
         raise Fault("Copies", *wrong)
 
     @staticmethod
-    def check_agreement(record, own):
+    def check_agreement(record: Record, own: Record) -> None:
         for at in AGREED:
             mask = 15 if at == 40 else 255
             if (record.raw[at] ^ own.raw[at]) & mask:
@@ -195,7 +198,7 @@ class NewMap:
         if own.root_fault() is not None:
             raise Fault("Bad", own.root_fault())
 
-    def read_runs(self, zones):
+    def read_runs(self, zones: List[bytes]) -> Optional[List[Tuple[int, int, int, Optional[int]]]]:
         """All runs, as zone, disc map bit, length and identifier; None stands for a hole."""
         found = []
         for zone, sector in enumerate(zones):
@@ -205,10 +208,10 @@ class NewMap:
             found += [(zone, start + shift, length, None if start in holes else field) for start, length, field in runs]
         return found
 
-    def sectors_in(self, start, length):
+    def sectors_in(self, start: int, length: int) -> range:
         return range(start * self.shape.bit_bytes // self.sector, (start + length) * self.shape.bit_bytes // self.sector)
 
-    def read_identifiers(self):
+    def read_identifiers(self) -> Dict[int, List[int]]:
         """The sectors of each identifier, from its home zone round to the zone before it."""
         found = {}
         for zone, start, length, identifier in self.runs:
@@ -218,7 +221,7 @@ class NewMap:
         return {identifier: [sector for turn, start, length in sorted(runs) for sector in self.sectors_in(start, length)]
                 for identifier, runs in found.items()}
 
-    def sectors_at(self, address, length):
+    def sectors_at(self, address: int, length: int) -> Optional[List[int]]:
         if length == 0:
             return []
         identifier, low = divmod(address, 256)
@@ -229,13 +232,13 @@ class NewMap:
         sectors = self.sectors_of.get(identifier, [])[skipped:skipped + wanted]
         return sectors if len(sectors) == wanted else None
 
-    def misplaced(self, owned):
+    def misplaced(self, owned: Set[int]) -> Optional[int]:
         """The least sector of map and boot block that lies in a hole, in an object's identifier or in both of them."""
         movable = {sector for zone, start, length, identifier in self.runs if identifier is None or identifier in owned
                    for sector in self.sectors_in(start, length)}
         return min(self.reserved & movable | self.twice_reserved, default=None)
 
-    def lost(self, owned, claimed):
+    def lost(self, owned: Set[int], claimed: Set[int]) -> int:
         return sum(length * self.shape.bit_bytes for zone, start, length, identifier in self.runs
                    if identifier is not None and identifier not in owned and identifier not in (1, 2))
 
@@ -246,21 +249,21 @@ class NewMap:
 class Entry:
     """An object, as the directory that holds it tells."""
 
-    def __init__(self, name, attributes, load, execution, length, address):
+    def __init__(self, name: bytes, attributes: int, load: int, execution: int, length: int, address: int) -> None:
         self.name, self.attributes, self.load, self.execution = name, attributes, load, execution
         self.length, self.address = length, address
         self.path, self.sectors, self.entries, self.parent, self.holder = [], [], [], 0, self
 
-    def is_directory(self):
+    def is_directory(self) -> bool:
         return bool(self.attributes & 8)
 
 
-def cut_name(raw):
+def cut_name(raw: bytes) -> bytes:
     """A name ends before its first byte below 32."""
     return raw[:next((at for at, byte in enumerate(raw) if byte < 32), len(raw))]
 
 
-def small_entry(raw, form):
+def small_entry(raw: bytes, form: str) -> Entry:
     attributes = raw[25]
     name = raw[:10]
     if form == "L":
@@ -269,7 +272,7 @@ def small_entry(raw, form):
     return Entry(cut_name(name), attributes, number(raw, 10, 4), number(raw, 14, 4), number(raw, 18, 4), number(raw, 22, 3))
 
 
-def read_small(block, form):
+def read_small(block: bytes, form: str) -> Optional[Tuple[List[Entry], int]]:
     """The entries and the parent of a directory of 2048 or 1280 bytes."""
     size = len(block)
     if block[1:5] not in (b"Hugo", b"Nick") or block[1:5] != block[size - 5:size - 1]:
@@ -287,7 +290,7 @@ def read_small(block, form):
     return entries, number(block, 1238 if form == "L" else 2010, 3)
 
 
-def big_places(block):
+def big_places(block: bytes) -> Iterator[Tuple[int, int, int]]:
     """For each of the two forms of the head's name with which the parts fit, where entries and heap begin and the heap ends."""
     name, count, heap = number(block, 8, 4), number(block, 16, 4), number(block, 20, 4)
     for space in ((name + 4) // 4 * 4, (name + 3) // 4 * 4):
@@ -297,7 +300,7 @@ def big_places(block):
             yield entries, entries + 28 * count, end
 
 
-def big_entry(block, at, heap, end):
+def big_entry(block: bytes, at: int, heap: int, end: int) -> Entry:
     load, execution, length, address, attributes, size, place = words_at(block, at, 7)
     start = heap + place
     name = block[start:start + size] if start + size <= end else b""
@@ -306,11 +309,11 @@ def big_entry(block, at, heap, end):
     return Entry(name, attributes, load, execution, length, address)
 
 
-def words_at(block, at, count):
+def words_at(block: bytes, at: int, count: int) -> List[int]:
     return [number(block, at + 4 * n, 4) for n in range(count)]
 
 
-def read_big(block):
+def read_big(block: bytes) -> Optional[Tuple[List[Entry], int]]:
     if len(block) % 2048 or not 2048 <= len(block) <= BIG_LIMIT:
         raise DirectoryFault("Size")
     if block[4:8] != b"SBPr" or block[-8:-4] != b"oven" or block[1:4] != bytes(3):
@@ -331,7 +334,7 @@ def read_big(block):
     return entries, number(block, 24, 4)
 
 
-def check_twins(entries):
+def check_twins(entries: List[Entry]) -> None:
     seen = set()
     for at, entry in enumerate(entries):
         if folded(entry.name) in seen:
@@ -345,7 +348,7 @@ def check_twins(entries):
 class Disc:
     """An image that opened: its map, its root, and all directories in the order in which they were found."""
 
-    def __init__(self, data):
+    def __init__(self, data: bytes) -> None:
         kind, found = kind_of(data)
         need = found * UNIT if kind in "DL" else found.size
         if len(data) < need:
@@ -362,10 +365,10 @@ class Disc:
         if sector is not None:
             raise Fault("MapPlace", sector)
 
-    def size_of(self, entry):
+    def size_of(self, entry: Entry) -> int:
         return entry.length if self.map.form == "big" or not entry.is_directory() else SMALL_SIZE[self.map.form]
 
-    def claim(self, entry):
+    def claim(self, entry: Entry) -> None:
         path = spelled_path(entry.path)
         sectors = self.map.sectors_at(entry.address, self.size_of(entry))
         if sectors is None:
@@ -377,11 +380,11 @@ class Disc:
         if sectors:
             self.owned.add(entry.address // 256)
 
-    def content(self, entry):
+    def content(self, entry: Entry) -> bytes:
         size = self.map.sector
         return b"".join(self.data[at * size:(at + 1) * size] for at in entry.sectors)[:self.size_of(entry)]
 
-    def walk(self):
+    def walk(self) -> None:
         self.claim(self.root)
         waiting = deque([self.root])
         while waiting:
@@ -396,7 +399,7 @@ class Disc:
                 else:
                     self.files += 1
 
-    def read_directory(self, directory):
+    def read_directory(self, directory: Entry) -> None:
         block = self.content(directory)
         try:
             found = read_big(block) if self.map.form == "big" else read_small(block, self.map.form)
@@ -405,7 +408,7 @@ class Disc:
         except DirectoryFault as fault:
             raise Fault("Directory", spelled_path(directory.path), *fault.args) from None
 
-    def find(self, names):
+    def find(self, names: List[bytes]) -> Tuple[Optional[Entry], str]:
         """The object there, or the refusal."""
         here = self.root
         for name in names:
@@ -416,8 +419,8 @@ class Disc:
                 return None, NOT_FOUND
         return here, ""
 
-    def counts(self):
-        def is_sorted(directory):
+    def counts(self) -> Tuple[int, ...]:
+        def is_sorted(directory: Entry) -> bool:
             names = [folded(entry.name) for entry in directory.entries]
             return all(one < other for one, other in zip(names, names[1:]))
 
@@ -440,7 +443,7 @@ ADDING = ("save", "create", "cdir", "rename")  # a directory gets an entry
 UNBUILT = "reclaim"
 
 
-def read_path(text):
+def read_path(text: str) -> Optional[List[bytes]]:
     """The names of a path, or None where it isn't one."""
     if not text.startswith("$") or text != "$" and text[1] != ".":
         return None
@@ -455,7 +458,7 @@ def read_path(text):
     return names
 
 
-def read_line(line):
+def read_line(line: bytes) -> Tuple[Optional[str], Union[List[List[bytes]], str]]:
     """The command's word and its paths, or None and the refusal."""
     if any(not 32 <= byte <= 126 for byte in line):
         return None, BAD_COMMAND
@@ -471,18 +474,18 @@ def read_line(line):
     return (None, BAD_NAME) if None in names else (word, names)
 
 
-def lines_of(script):
+def lines_of(script: bytes) -> List[bytes]:
     return [line for line in script.split(b"\n") if line and not line.startswith(b"#")]
 
 
-def file_reply(disc, word, entry):
+def file_reply(disc: Disc, word: str, entry: Entry) -> str:
     if entry.is_directory():
         return IS_DIRECTORY
     content = disc.content(entry)
     return "%s\nok\n" % (content.hex() if word == "load" else hashlib.sha256(content).hexdigest())
 
 
-def change_reply(word, path, entry, read_only):
+def change_reply(word: str, path: List[bytes], entry: Entry, read_only: bool) -> str:
     """The refusal, or `ok`: this reader changes nothing, so that a script goes on over the image as it was."""
     if not path:
         return ROOT_REFUSED
@@ -493,7 +496,7 @@ def change_reply(word, path, entry, read_only):
     return READ_ONLY if read_only else "ok\n"
 
 
-def adding_reply(disc, word, paths, read_only):
+def adding_reply(disc: Disc, word: str, paths: List[List[bytes]], read_only: bool) -> str:
     """The refusal, or `ok`: of a disc whose directories don't grow, with room for what is added."""
     to, form = paths[-1], disc.map.form
     most = 255 if form == "big" else 10
@@ -520,7 +523,7 @@ def adding_reply(disc, word, paths, read_only):
     return READ_ONLY if read_only else "ok\n"
 
 
-def reply(disc, word, paths, read_only):
+def reply(disc: Disc, word: str, paths: List[List[bytes]], read_only: bool) -> str:
     if word == "compact":  # of a disc on which nothing is left to do: this reader changes nothing
         return READ_ONLY if read_only else "ok\n"
     if word == "free":
@@ -542,7 +545,7 @@ def reply(disc, word, paths, read_only):
                    for one in sorted(entry.entries, key=lambda one: folded(one.name))) + "ok\n"
 
 
-def answer(data, script, read_only=False):
+def answer(data: bytes, script: bytes, read_only: bool = False) -> Tuple[int, str]:
     """The status and the text that fcore has to answer."""
     if len(script) > SCRIPT_LIMIT:
         return 8, ""
