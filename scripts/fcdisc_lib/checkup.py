@@ -36,6 +36,7 @@ class Finding(NamedTuple):
     counts: Dict[str, int] = {}
     dates: Tuple[str, ...] = ()  # of the oldest and the newest file that tells a date
     equal: Sequence[Entry] = ()  # files in tracks of equal bytes
+    rescue: str = ""  # what can be taken out of a damaged disc
 
     def advice(self) -> Iterator[Tuple[str, str]]:
         """What to do about what: faults of a kind have the same advice."""
@@ -107,7 +108,7 @@ def examine(program: str, file: Found, order: str) -> Finding:
     try:
         image, (counts, entries) = open_image(program, file.path, order, b"check\n" + command("cat", ()), read)
     except BadImage as bad:
-        return refused(file, fault_of(program, file.path, bad))
+        return refused(file, fault_of(program, file.path, bad), order)
     with image.file:
         tree = Tree(image, ())
         tree.entries[()] = entries
@@ -119,11 +120,14 @@ def examine(program: str, file: Found, order: str) -> Finding:
         return Finding(WHOLE, None, disc, counts, tuple(dated[:1] + dated[-1:]), files_in_equal_tracks(program, image, disc, inner))
 
 
-def refused(file: Found, fault: Fault) -> Finding:
+def refused(file: Found, fault: Fault, order: str) -> Finding:
     if is_no_disc(file.path, fault):
         return Finding(NO_DISC, fault)
     is_unread = fault.line == "NoKind" and (fault.meaning.startswith(IT_IS) or "--offset" in fault.advice)
-    return Finding(UNREAD if is_unread else DAMAGED, fault)
+    if is_unread:
+        return Finding(UNREAD, fault)
+    from .rescue.job import advice  # loaded for a damaged disc alone
+    return Finding(DAMAGED, fault, rescue=advice(file.path, order))
 
 
 # ---- words and rows
@@ -136,7 +140,7 @@ def in_words(finding: Finding) -> str:
     if finding.state == NO_DISC:
         is_known = fault.meaning.startswith(IT_IS)
         return "no disc: " + ("%s: %s" % (fault.meaning[len(IT_IS):], fault.advice) if is_known else fault.meaning)
-    return "not accepted: %s [%s]" % (fault.meaning, fault.line)
+    return "not accepted: %s [%s]%s" % (fault.meaning, fault.line, finding.rescue)
 
 
 def whole_in_words(finding: Finding) -> str:
@@ -158,6 +162,8 @@ def as_row(path: str, finding: Finding) -> Dict[str, Any]:
     row: Dict[str, Any] = {"image": shown(path), "state": finding.state}
     if finding.fault:
         row.update(fault=finding.fault.meaning, line=finding.fault.line, advice=finding.fault.advice)
+    if finding.rescue:
+        row.update(rescue=finding.rescue.lstrip("; "))
     if finding.disc:
         counts = finding.counts
         row.update(disc_row(finding.disc), files=counts["files"], directories=counts["dirs"] - 1, free=counts["free"],

@@ -15,6 +15,7 @@ from .common_words import (BACKUPS, EPILOG, FORMATS, PATH_HELP, WILD_HELP, Job, 
 from .leftovers import remove_unfinished
 from .messages import FAILED, Trouble, clear_progress, reason, shown, tell
 from .program import BadImage
+from .rescue.words import add_rescuing
 
 DESCRIPTION = "Daily jobs with images of Acorn discs (RISC OS, ADFS), by the program fcore."
 
@@ -27,6 +28,7 @@ def parser() -> argparse.ArgumentParser:
     add_making(added)
     add_changing(added)
     add_collections(added)
+    add_rescuing(added, add_job, add_order)
     return made
 
 

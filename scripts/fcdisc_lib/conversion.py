@@ -26,8 +26,8 @@ from .tree import Tree, read_tree
 class Conversion:
     """The steps that make a disc's tree on another, and what came of them."""
 
-    def __init__(self, program: str, tree: Tree, name: str, complain: Complaints, limits: Optional[Limits]):
-        self.program, self.tree, self.name, self.complain, self.limits = program, tree, name, complain, limits
+    def __init__(self, program: str, tree: Tree, name: str, limits: Optional[Limits] = None, verbose: bool = False):
+        self.program, self.tree, self.name, self.limits, self.complain = program, tree, name, limits, Complaints(verbose)
         self.failures: List[Failure] = []
         self.lost_access = 0
         self.files: List[Entry] = []
@@ -107,9 +107,8 @@ def convert(words: Namespace) -> int:
         tree = read_tree(program, words.image, words.order, ())
     except Refused as refused:
         raise refusal(refused, words) from None
-    complain = Complaints(words.verbose)
     limits = Limits.of_format(words.format) if words.fit else None
-    conversion = Conversion(program, tree, words.out, complain, limits)
+    conversion = Conversion(program, tree, words.out, limits, words.verbose)
     with fresh_disc(program, words.out, words.format) as file:
         conversion.run(file.fileno())
         write_new(words.out, pieces_from(file, 0))

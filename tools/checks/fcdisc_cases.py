@@ -300,12 +300,13 @@ def checking() -> Iterator[Case]:
                "../images/f-user.adf: " + USER_FOUND + "../images/named.adf: whole: E disc: 3 files, 1 directory, 808960 bytes free\n"
                "2 files: 2 whole\n")
     yield Case("check-damaged", ["check", image("d-twin.adf"), image("hello.adf")],
-               "../images/d-twin.adf: not accepted: %s\n" % TWIN_MEANING + HELLO_FOUND
+               "../images/d-twin.adf: not accepted: %s; fcdisc rescue can take out 5 of 5 files, 1 of them doubtful\n" % TWIN_MEANING
+               + HELLO_FOUND
                + "What to do about Directory Twin (1 image): %s\n2 files: 1 whole, 1 damaged\n" % TWIN_ADVICE,
                status=1)
     yield Case("check-short", ["check", image("short.adl")],
                "../images/short.adl: not accepted: it has 400000 bytes, and its disc 655360 "
-               "[Short 655360 400000]\nWhat to do about Short: %s\n" % SHORT_ADVICE, status=1)
+               "[Short 655360 400000]; fcdisc rescue ...\nWhat to do about Short: %s\n" % SHORT_ADVICE, status=1)
     yield Case("check-none", ["check", "none.adf", image("hello.adf")],
                HELLO_FOUND + "2 files: 1 whole, 1 not opened\n",
                "fcdisc: none.adf: No such file or directory\n", 1)
@@ -343,7 +344,7 @@ def found_out() -> Iterator[Any]:
         "f-user.adf", "no L disc of 655360 bytes begins here, so it has no sides to put into order"), status=1)
     yield Case("header", ["check", image("header.hdf")], "../images/header.hdf: " + USER_FOUND,
                told("header.hdf", "it has a header of 512 bytes: read without it"))
-    yield Case("header-damaged", ["check", image("header.adf")], "../images/header.adf: not accepted: %s\nWhat to do about Directory Twin: %s\n" % (
+    yield Case("header-damaged", ["check", image("header.adf")], "../images/header.adf: not accepted: %s; fcdisc rescue ...\nWhat to do about Directory Twin: %s\n" % (
         TWIN_MEANING, TWIN_ADVICE),
                told("header.adf", "it has a header of 512 bytes: read without it"), 1)
     song = bytes(range(256)) * 200

@@ -3,6 +3,7 @@
 import struct
 import zipfile
 
+from tools.checks.fcdisc_cases import FULL_DISK
 from tools.checks.fcdisc_changes import NAMED, differing, is_writable, short_tree, tree_of, whole_discs
 from tools.checks.work_folders import snapshot
 from tools.files import read
@@ -237,5 +238,33 @@ def many_refusals(c):
     c.checks.expect("what a folder needs", first=("fcdisc: a.adf: the files need 2.7 MB, and the disc has 0.8 MB free", err.splitlines()[0]), status=(1, status))
 
 
+def full_hosts(c):
+    """A host without room for what is to be written: nothing half-made is left, and the reason is told."""
+    for words, size, told, left in (
+            (["extract", "../images/f-user.adf", "o.zip"], 8, "fcdisc: o.zip: No space left on device\n", ". ./pad"),
+            (["extract", "--inf", "../images/large.adf", "o"], 48, "fcdisc: ../images/large.adf: $.Large: not written: No space left on device\n"
+             "fcdisc: ../images/large.adf: 0 of 2 files written\n", ". ./o ./pad"),
+            (["extract", "--each", "../images/large.adf", "o"], 48, "fcdisc: ../images/large.adf: $.Large: not written: No space left on device\n"
+             "fcdisc: ../images/large.adf: 0 of 2 files written\n", ". ./o ./o/large.adf ./pad"),
+            (["convert", "F", "../images/large.adf", "n.adf"], 48, "fcdisc: n.adf: No space left on device\n", ". ./pad")):
+        c.start()
+        out, err, status = c.run(*words, within=FULL_DISK % (size, "echo > pad"))
+        c.checks.expect("a full host: " + " ".join(words), told=(told, err), status=(1, status), left=(left, out.splitlines()[-1]))
+
+
+def unwritable_hosts(c):
+    """A host that is only read: what reads works, what writes says why not."""
+    c.start("f-user.adf")
+    within = ("mkdir ../room; unshare -m sh -c 'mount --bind . ../room && cd ../room && mount -o remount,bind,ro . && cd \"$PWD\" && "
+              "exec \"$@\"' sh \"$@\"; status=$?; rmdir ../room; exit $status")
+    for words, told, wanted in ((["extract", "a.adf", "o.zip"], "fcdisc: o.zip: Read-only file system\n", 1),
+                                (["extract", "a.adf", "o"], "fcdisc: o: Read-only file system\n", 1), (["check", "."], "", 0),
+                                (["extract", "--each", ".", "o"], "fcdisc: o/a.adf: Read-only file system\n", 1),
+                                (["find", ".", "!Run"], "", 0), (["diff", "a.adf", "a.adf"], "", 0), (["catalogue", "."], "", 0),
+                                (["undo", "a.adf"], "fcdisc: a.adf: there is no a.adf~, so there is nothing to undo\n", 1)):
+        got = c.run(*words, within=within)
+        c.checks.expect("a host that is only read: " + " ".join(words), told=(told, got[1]), status=(wanted, got[2]), left=(["a.adf"], c.names()))
+
+
 PARTS = (archives, latin_names, infs, endings, fitting, converting_to_fit, many_refusals)
-MOUNTED = (without_attributes,)
+MOUNTED = (without_attributes, full_hosts, unwritable_hosts)

@@ -43,6 +43,7 @@ class Long(NamedTuple):
 
 
 LONG: Dict[str, Long] = {
+    "rescue": Long(["checks/rescue", "{}"], True),
     "demo": Long(["checks/demo", "{}"], True),
     "outside": Long(["checks/outside", "{}"], False),
     "crash": Long(["checks/crash", "{}"], True),

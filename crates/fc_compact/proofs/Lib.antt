@@ -4,9 +4,13 @@ mod OwnersLemmas
 mod KeptLemmas
 mod PreservesLemmas
 mod ReadyLemmas
+mod RowLemmas
 mod SlideLemmas
 mod FindLemmas
 mod StepLemmas
+mod CarryLemmas
+mod GatherLemmas
+mod GatheredLemmas
 mod LeadsLemmas
 mod ReleaseLemmas
 mod ListedLemmas

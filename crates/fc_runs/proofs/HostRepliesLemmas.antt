@@ -13,7 +13,7 @@ use Rattle.fc_image.specs.Stays.{IsNewLayout}
 use Rattle.fc_image.specs.effects.Effect.{State, tree_in}
 use Rattle.fc_script.specs.HostLines.{HostLine, host_line_of}
 use Rattle.fc_runs.specs.Run.{Mode}
-use Rattle.fc_runs.specs.HostRun.{Files, HostRefuses, PutsBytes, PutsFile, Puts, Gets, HostTakes, HostSteps, answer_in, file_in}
+use Rattle.fc_runs.specs.HostRun.{Files, HostRefuses, PutsBytes, PutsFile, Puts, Gets, HostTakes, HostSteps, answer_in, file_in, longest_file}
 use Rattle.fc_runs.specs.RepliesLaw.{RepliesLaw}
 use Rattle.fc_runs.proofs.RepliesLemmas.{Kept, same_kept, taken_kept, taken_same, steps_same}
 
@@ -27,7 +27,7 @@ bytes_kept mode s s' files files' save false reply h x = taken_kept mode s s' re
 file_kept : (mode : Mode) (s s' : State) (files files' : Files) (save : List ℕ → Command) (file : Option (List ℕ)) (reply : List ℕ) → IsNewLayout s.view.layout
     → PutsFile mode s files save file reply s' files' → Kept s.view.layout s'.view.layout
 file_kept mode s s' files files' save None reply h x = same_kept s s' h x.0.1
-file_kept mode s s' files files' save (Some bytes) reply h x = bytes_kept mode s s' files files' (save bytes) (nat_lt 1073741824 (length bytes)) reply h x
+file_kept mode s s' files files' save (Some bytes) reply h x = bytes_kept mode s s' files files' (save bytes) (nat_lt longest_file (length bytes)) reply h x
 
 put_kept : (mode : Mode) (s s' : State) (files files' : Files) (save : List ℕ → Command) (file : Option (List ℕ)) (a : Result Tree Refusal) (reply : List ℕ)
     → IsNewLayout s.view.layout → Puts mode s files save file a reply s' files' → Kept s.view.layout s'.view.layout
@@ -68,7 +68,7 @@ file_same : (mode : Mode) (x y x' y' : State) (files f g : Files) (save : List �
     → dir_form x.view.layout ≡ dir_form y.view.layout → PutsFile mode x files save file reply x' f → PutsFile mode y files save file reply y' g → Same x' y' f g
 file_same mode x y x' y' files f g save None reply same form a b = refused_same x y x' y' files f g refusals.NoHostFile reply same a b
 file_same mode x y x' y' files f g save (Some bytes) reply same form a b =
-    bytes_same mode x y x' y' files f g (save bytes) (nat_lt 1073741824 (length bytes)) reply same form a b
+    bytes_same mode x y x' y' files f g (save bytes) (nat_lt longest_file (length bytes)) reply same form a b
 
 put_same : (mode : Mode) (x y x' y' : State) (files f g : Files) (save : List ℕ → Command) (file : Option (List ℕ)) (a : Result Tree Refusal) (reply : List ℕ)
     → tree_in x ≡ tree_in y → dir_form x.view.layout ≡ dir_form y.view.layout → Puts mode x files save file a reply x' f → Puts mode y files save file a reply y' g

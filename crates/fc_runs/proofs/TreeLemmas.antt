@@ -14,7 +14,7 @@ use Rattle.fc_image.specs.effects.Effect.{State, tree_in}
 use Rattle.fc_script.specs.Lines.{command_of}
 use Rattle.fc_script.specs.HostLines.{HostLine, host_line_of}
 use Rattle.fc_runs.specs.Run.{Mode, ChangesBy, Effect, Serves, Answers, Takes, shortage, tree_by, tree_after}
-use Rattle.fc_runs.specs.HostRun.{Files, PutsBytes, PutsFile, Puts, Gets, HostTakes, answer_in, file_in, tree_after_put, host_tree_after}
+use Rattle.fc_runs.specs.HostRun.{Files, PutsBytes, PutsFile, Puts, Gets, HostTakes, answer_in, file_in, tree_after_put, host_tree_after, longest_file}
 use Rattle.fc_runs.specs.TreeLaw.{TreeLaw}
 
 answer_or_ok : (t t' : Tree) (refusal : Option Refusal) → answer_or t refusal ≡ Ok t' → t' ≡ t
@@ -81,7 +81,7 @@ refused_tree mode s c refusal e = ap (λ (a : Result Tree Refusal). tree_by s a 
 refused_put : (mode : Mode) (s : State) (path : Path) (load exec : ℕ) (file : Option (List ℕ)) (refusal : Refusal)
     → answer_in mode s (Command.Save path load exec []) ≡ Err refusal → tree_after_put mode s (Command.Save path load exec) file ≡ tree_in s
 refused_put mode s path load exec None refusal e = refl
-refused_put mode s path load exec (Some bytes) refusal e = long (nat_lt 1073741824 (length bytes))
+refused_put mode s path load exec (Some bytes) refusal e = long (nat_lt longest_file (length bytes))
   where
     long : (is_long : Bool) → (if is_long then tree_in s else tree_after mode s (Ok (Command.Save path load exec bytes))) ≡ tree_in s
     long true = refl
@@ -96,7 +96,7 @@ put_file_tree : (mode : Mode) (s s' : State) (files files' : Files) (save : List
     → PutsFile mode s files save file reply s' files' → tree_in s' ≡ tree_after_put mode s save file
 put_file_tree mode s s' files files' save None reply x = ap tree_in x.0.1
 put_file_tree mode s s' files files' save (Some bytes) reply x =
-    put_bytes_tree mode s s' files files' (save bytes) (nat_lt 1073741824 (length bytes)) reply x
+    put_bytes_tree mode s s' files files' (save bytes) (nat_lt longest_file (length bytes)) reply x
 
 put_tree : (mode : Mode) (s s' : State) (files files' : Files) (path : Path) (load exec : ℕ) (file : Option (List ℕ)) (a : Result Tree Refusal) (reply : List ℕ)
     → answer_in mode s (Command.Save path load exec []) ≡ a → Puts mode s files (Command.Save path load exec) file a reply s' files'

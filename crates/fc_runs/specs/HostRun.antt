@@ -20,6 +20,10 @@ use Rattle.fc_runs.specs.Run.{Mode, Refuses, Takes, commands_in, script_for, tex
 abbrev pub Files : Type 0
 Files = FinMap (slice_cmp nat_cmp) (List ℕ)
 
+-- the most bytes that a file on a disc can have, since its entry has 32 bits for them
+abbrev pub longest_file : ℕ
+longest_file = 4294967295
+
 -- a refusal: its line is the reply, and image and files stay
 abbrev pub HostRefuses : State → Files → Refusal → List ℕ → State → Files → Type 0
 HostRefuses s files refusal reply s' files' = Refuses s (refusal_line refusal) reply s' × (files' ≡ files)
@@ -32,7 +36,7 @@ PutsBytes false mode s files save reply s' files' = Takes mode s (Ok save) reply
 -- what `put` does if the model accepts it
 abbrev pub PutsFile : Mode → State → Files → (List ℕ → Command) → Option (List ℕ) → List ℕ → State → Files → Type 0
 PutsFile mode s files save None reply s' files' = HostRefuses s files refusals.NoHostFile reply s' files'
-PutsFile mode s files save (Some bytes) reply s' files' = PutsBytes (nat_lt 1073741824 (length bytes)) mode s files (save bytes) reply s' files'
+PutsFile mode s files save (Some bytes) reply s' files' = PutsBytes (nat_lt longest_file (length bytes)) mode s files (save bytes) reply s' files'
 
 -- `put` is refused as `save` is by the model, then for want of the file, and is else that `save`
 abbrev pub Puts : Mode → State → Files → (List ℕ → Command) → Option (List ℕ) → Result Tree Refusal → List ℕ → State → Files → Type 0
@@ -109,7 +113,7 @@ all_host_keep_tree lines replies = each_line (λ refused line. host_keeps_tree r
 -- the tree after `put`, by the file
 abbrev pub tree_after_put : Mode → State → (List ℕ → Command) → Option (List ℕ) → Tree
 tree_after_put mode s save None = tree_in s
-tree_after_put mode s save (Some bytes) = if nat_lt 1073741824 (length bytes) then tree_in s else tree_after mode s (Ok (save bytes))
+tree_after_put mode s save (Some bytes) = if nat_lt longest_file (length bytes) then tree_in s else tree_after mode s (Ok (save bytes))
 
 -- the tree after a line, which is the same for each step
 abbrev pub host_tree_after : Mode → State → Files → Result HostLine Refusal → Tree

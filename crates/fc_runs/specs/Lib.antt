@@ -3,6 +3,7 @@ pub mod Replies
 pub mod Demo
 pub mod Rows
 pub mod HostRun
+pub mod HostRows
 pub mod ReadLaw
 pub mod Early
 pub mod TreeLaw

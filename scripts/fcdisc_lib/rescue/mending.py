@@ -1,0 +1,71 @@
+"""The job `mend`: a copy of a damaged image, with what has exactly one right value."""
+from __future__ import annotations
+
+import hashlib
+from argparse import Namespace
+from typing import BinaryIO, Iterator, List
+
+from ..faults import explained
+from ..images import open_file, read_at, size_of
+from ..messages import Trouble, say, shown
+from ..names import spelled_path
+from ..output import NewFile, published
+from ..program import BadImage, Run, command, find_program, scripts
+from .reading import Options, Reading, pieces_of, read_image
+from .repairs import Repair, repairs
+from .walk import Found
+
+PIECE = 1 << 20
+
+
+def mend(words: Namespace) -> int:
+    program = find_program()
+    with open_file(words.image) as file:
+        reading = read_image(file, words.image, words.order, Options())
+        if reading.how:
+            raise Trouble("%s: only an image in disc order and without a header can be mended: use adl or strip first"
+                          % shown(words.image))
+        wanted = list(repairs(reading))
+        if not wanted:
+            nothing = "nothing is damaged" if reading.is_whole else "nothing that is damaged has exactly one right value"
+            raise Trouble("%s: %s: nothing written" % (shown(words.image), nothing))
+        with published(words.out, lambda holder: NewFile(holder, mended(file, wanted))) as (holder, temporary):
+            judge(program, reading, words, holder.place(temporary), holder.number)
+    for repair in wanted:
+        say("%s: put right: %s" % (shown(words.out), repair.text))
+    return 0
+
+
+def mended(file: BinaryIO, wanted: List[Repair]) -> Iterator[bytes]:
+    """The image with its repairs."""
+    for at in range(0, size_of(file), PIECE):
+        piece = bytearray(read_at(file, at, PIECE))
+        for place, data, _ in wanted:
+            start, end = max(place, at), min(place + len(data), at + len(piece))
+            if start < end:
+                piece[start - at:end - at] = data[start - place:end - place]
+        yield bytes(piece)
+
+
+def judge(program: str, reading: Reading, words: Namespace, place: str, number: int) -> None:
+    """The copy has to be whole, with the same bytes in every file that was sound. Else Trouble, and it isn't kept."""
+    sound = [found for found in reading.files if found.grade == "sound"]
+    try:
+        with Run(program, words.image, ["--read-only", "--", place], b"", [number]):
+            pass
+        for script, batch in scripts((command("digest", found.path), found) for found in sound):
+            with Run(program, words.image, ["--read-only", "--", place], script, [number]) as run:
+                for found in batch:
+                    compare(reading, found, list(run.lines()), words.image)
+    except BadImage as fault:
+        text = "%s: with what can be put right the disc still isn't accepted: %s: nothing written"
+        raise Trouble(text % (shown(words.image), explained(fault.words).partition(". What to do:")[0])) from None
+
+
+def compare(reading: Reading, found: Found, lines: List[bytes], image: str) -> None:
+    digest = hashlib.sha256()
+    for piece in pieces_of(reading.source, found):
+        digest.update(piece)
+    if lines != [digest.hexdigest().encode("ascii")]:
+        text = "%s: %s would have other bytes than it has now: nothing written"
+        raise Trouble(text % (shown(image), spelled_path(found.path)))

@@ -1,0 +1,41 @@
+"""The words of the jobs for damaged discs."""
+from __future__ import annotations
+
+from argparse import ArgumentParser, Namespace
+from typing import Any, Callable
+
+from .discs import FORMATS
+
+AddJob = Callable[[Any, str, Callable[[Namespace], int], str], ArgumentParser]
+
+
+def add_rescuing(added: Any, add_job: AddJob, add_order: Callable[[ArgumentParser], None]) -> None:
+    job = add_job(added, "rescue", run_rescue, "Take out what can be read of a damaged disc. The image is only read. Files that "
+                  "nothing speaks against come into FOLDER/sound, others into FOLDER/doubtful; FOLDER/report.txt says why.")
+    add_order(job)
+    job.add_argument("--as", dest="form", metavar="FORMAT", type=str.upper, choices=FORMATS, help="what the disc is, if fcdisc "
+                     "takes it for another: " + ", ".join(FORMATS))
+    job.add_argument("--deleted", action="store_true", help="also files of directories that lie in free space")
+    job.add_argument("--all", action="store_true", help="also if more than 8 times the disc's size would be written")
+    job.add_argument("--report", action="store_true", help="write no files, and print the report")
+    job.add_argument("--to", nargs=2, metavar=("FORMAT", "NEW"), help="put the sound files onto a fresh disc instead")
+    job.add_argument("--each", action="store_true", help="IMAGE is a folder of images: each file below it is rescued into a folder "
+                     "of its own below FOLDER")
+    job.add_argument("image", metavar="IMAGE")
+    job.add_argument("folder", metavar="FOLDER", nargs="?", help="a new folder, or an empty one")
+
+    job = add_job(added, "mend", run_mend, "Copy an image, and put right what has exactly one right value: checks of directories, "
+                  "a zone of the map, the boot block. Nothing is written unless the copy is then whole.")
+    add_order(job)
+    job.add_argument("image", metavar="IMAGE")
+    job.add_argument("out", metavar="OUT", help="the file to make")
+
+
+def run_rescue(words: Namespace) -> int:
+    from .job import rescue
+    return rescue(words)
+
+
+def run_mend(words: Namespace) -> int:
+    from .mending import mend
+    return mend(words)

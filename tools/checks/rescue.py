@@ -1,0 +1,376 @@
+#!/usr/bin/env python3
+"""Runs `fcdisc rescue` and `fcdisc mend` over whole discs, discs with one fault, usual damages, and images made to do harm.
+
+usage: tools/run checks/rescue FCORE [long]    `long`: 10,000 random damages, and images cut at each sector
+       tools/run checks/rescue --table         prints the table of docs/RESCUE.md
+
+What should come out is known from the volumes that the images were built from. A file is right if it has its own name and bytes.
+"""
+import collections
+import hashlib
+import io
+import json
+import os
+import resource
+import shutil
+import sys
+import tempfile
+import time
+
+from tools.checks import rescue_cases
+from tools.checks.fcdisc import FCDISC, Checks, host_tree, snapshot
+from tools.checks.selection import Selection, Suite
+from tools.files import read
+from tools.images import damaged as damaged_images
+from tools.images import rescue_hostile, rescue_images
+from tools.images import table as images
+from tools.images.rescue_images import FORMATS
+from tools.reference import format_reader, rescue_reader
+
+# Most sound files may be wrong in 1 of these; and at least so many of 100 files have to be right
+SOUND_PER_WRONG, RIGHT = 1000, 85
+UNSEEN = "two discs mixed"  # in a part of another disc without a directory nothing shows the mixture
+UNCHECKED = ("L",)  # formats whose directories have no check: other bytes in one go unnoticed
+FLOPPY_SECONDS, LARGE_SECONDS = 10, 60  # of a processor's time
+LARGE_MEMORY = 1 << 30
+
+
+class Rescue:
+    """The package of fcdisc, called in this process: a run for each image would take most of the time."""
+
+    def __init__(self, folder):
+        sys.path.insert(0, os.path.dirname(os.path.realpath(FCDISC)))
+        from fcdisc_lib.rescue import reading, report, writing
+        from fcdisc_lib import messages, names
+        self.reading, self.report, self.writing, self.messages, self.names = reading, report, writing, messages, names
+        self.place, self.file = os.path.join(folder, "image.adf"), None
+
+    def read(self, data, **options):
+        """The reading, or None if nothing of a disc was found."""
+        with open(self.place, "wb") as file:
+            file.write(data)
+        self.file = open(self.place, "rb")  # it stays open until the next image: files can still be written
+        try:
+            found = self.reading.read_image(self.file, self.place, "auto", self.reading.Options(**options))
+        except self.messages.Trouble:
+            return None
+        contents = {id(one): b"".join(self.reading.pieces_of(found.source, one)) for one in found.files}
+        found.rows = [(self.names.spelled_path(one.path), one.grade, contents[id(one)], one) for one in found.files]
+        return found
+
+
+# ---- whole discs
+
+
+def whole_discs(checks, rescue):
+    """Exactly what `extract` gives, all sound."""
+    for name, volume, data in images.accepted():
+        found = rescue.read(bytes(data))
+        rows = {path: (grade, content) for path, grade, content, _ in found.rows}
+        wanted = {path: ("sound", content) for path, content in rescue_images.files_of(volume).items()}
+        checks.expect("rescue of " + name, files=(wanted, rows), whole=(True, found.is_whole))
+    for name, volume in (("f-user", images.user_disc()), ("l-files", images.old_volume("L", 2560)), ("hello", images.hello())):
+        image = b"../images/%s.adf" % name.encode()
+        write(checks.place(b"images/%s.adf" % name.encode()), volume.image())
+        checks.fresh(b"work")
+        out, err, status = checks.run(["rescue", image, "o"])
+        left, _ = host_tree(volume, volume.root, b"o/sound")
+        reports = {b"o/report.txt", b"o/report.json"}
+        got = {path: data for path, data in snapshot(checks.place(b"work")).items() if path not in reports}
+        count = len(rescue_images.files_of(volume))
+        text = "%d of %d file%s sound: see o/report.txt\n" % (count, count, "s" * (count != 1))
+        checks.expect("rescue of %s into a folder" % name, left=({b"o": None, **left}, got), status=(0, status), errors=("", err),
+                      output=(text, out))
+
+
+def write(path, data):
+    with open(path, "wb") as file:
+        file.write(data)
+
+
+# ---- one fault
+
+
+def single_faults(checks, rescue):
+    """The damaged images of the table: how many files are sound, suspect, cut off and lost."""
+    outcomes = {name: counts for counts, names in rescue_cases.OUTCOMES.items() for name in names.split()}
+    for name, data, _ in damaged_images.damaged():
+        found = rescue.read(data)
+        counts = tuple(rescue.report.counts(found).values()) if found else ()
+        checks.expect("rescue of " + name, counts=(outcomes.get(name), counts))
+        if found:
+            compare(checks, name, data, found)
+
+
+# ---- usual damages
+
+
+class Tally:
+    """What came out of the images of one kind of damage."""
+
+    def __init__(self):
+        self.images = self.files = self.sound = self.suspect = self.wrong = self.doubted = 0
+
+    def add(self, volume, found):
+        truth = rescue_images.files_of(volume)
+        by_name = collections.defaultdict(set)
+        for path, content in truth.items():
+            by_name[path.rpartition(".")[2]].add(content)
+        self.images += 1
+        self.files += len(truth)
+        right = set()
+        for path, grade, content, _ in found.rows if found else ():
+            name = path.rpartition(".")[2]
+            is_right = truth.get(path) == content or content in by_name[name]
+            if grade == "sound" and not is_right:
+                self.wrong += 1
+            elif grade in ("sound", "suspect") and is_right and (name, content) not in right:
+                right.add((name, content))
+                self.sound += grade == "sound"
+                self.suspect += grade == "suspect"
+            elif grade == "suspect":
+                self.doubted += 1
+
+    def __add__(self, other):
+        made = Tally()
+        for key in vars(made):
+            setattr(made, key, getattr(self, key) + getattr(other, key))
+        return made
+
+    def row(self, kind):
+        part = 100 * (self.sound + self.suspect) / max(1, self.files)
+        return "| %s | %d | %d | %d | %d | %d | %d | %.1f %% |" % (
+            kind, self.images, self.files, self.sound, self.suspect, self.wrong, self.doubted, part)
+
+
+def tallies(checks, rescue):
+    """The damages of each kind in each format; on the way, the second reading is compared."""
+    kinds, forms = collections.defaultdict(Tally), collections.defaultdict(Tally)
+    for form in FORMATS:
+        volume, other = rescue_images.floppy(form), bytes(rescue_images.floppy(form, 2).image())
+        for kind, data in rescue_images.damages(volume, form, other):
+            found = rescue.read(data)
+            tally = Tally()
+            tally.add(volume, found)
+            kinds[kind] += tally
+            forms[form] += tally
+            if checks and found:
+                compare(checks, "%s: %s" % (form, kind), data, found)
+    return kinds, forms
+
+
+def usual_damages(checks, rescue):
+    kinds, forms = tallies(checks, rescue)
+    total = sum(kinds.values(), Tally())
+    seen = sum((tally for kind, tally in kinds.items() if kind != UNSEEN), Tally())
+    right = 100 * (total.sound + total.suspect) / total.files
+    checks.expect("files that are right", part=(True, right >= RIGHT))
+    checks.expect("sound files that are wrong", part=(True, seen.wrong * SOUND_PER_WRONG <= seen.sound))
+    print("rescue: %d images, %.1f %% of %d files right; of %d sound files %d wrong, %d of them where two discs are mixed" % (
+        total.images, right, total.files, total.sound + total.wrong, total.wrong, kinds[UNSEEN].wrong))
+
+
+def table(rescue):
+    kinds, forms = tallies(None, rescue)
+    print("| Damage | Images | Files | Right, sound | Right, suspect | Wrong, sound | Wrong, suspect | Right in all |")
+    print("|---" * 8 + "|")
+    for kind, tally in sorted(kinds.items()):
+        print(tally.row(kind))
+    for form, tally in forms.items():
+        print(tally.row("all of " + form))
+    print(sum(kinds.values(), Tally()).row("all"))
+
+
+# signs of the bytes, which the second reading doesn't look for
+SIGNS = ("bytes", "discs may be mixed", "whole track")
+
+
+def compare(checks, name, data, found):
+    """The second reading has the same files, bytes and grades, where it reads the disc at all."""
+    try:
+        second = rescue_reader.Reading(data).rows
+    except (rescue_reader.Beyond, format_reader.Bad):
+        return
+    if any("no directory leads to it" in one.doubts for one in found.walk.directories):
+        return
+    wanted, got = {}, {}
+    for path, grade, content, one in found.rows:
+        whole = grade in ("sound", "suspect")
+        by_signs = any(sign in doubt for sign in SIGNS for doubt in one.doubts)
+        sound = second.get(path, (None,))[0] if by_signs else grade == "sound"
+        got[path] = sound, hashlib.sha256(content).hexdigest() if whole else ""
+    for path, (sound, digest) in second.items():
+        wanted[path] = sound, digest
+    checks.expect("second reading of " + name, rows=(wanted, got))
+
+
+# ---- the image stays as it is
+
+
+def untouched(checks):
+    """The image is write-protected, opened for reading alone, and has its bytes and its time afterwards."""
+    work = checks.fresh(b"work")
+    data = rescue_hostile.broken_root(rescue_images.floppy("E"))
+    path = os.path.join(work, b"a.adf")
+    write(path, data)
+    os.chmod(path, 0o400)
+    before = os.stat(path)
+    within = 'exec strace -f -qq -o calls -e trace=openat,open,creat,truncate,unlink,unlinkat,rename,renameat2 "$@"'
+    out, err, status = checks.run(["rescue", "a.adf", "o"], within=within if shutil.which("strace") else None)
+    after = os.stat(path)
+    checks.expect("an image that is only read", bytes=(True, data == read(path)), status=(1, status),
+                  output=(True, "see o/report.txt" in out),
+                  time=((before.st_mtime_ns, before.st_mode), (after.st_mtime_ns, after.st_mode)))
+    if shutil.which("strace"):
+        calls = [line for line in read(os.path.join(work, b"calls")).decode().splitlines() if '"a.adf"' in line]
+        checks.expect("calls on the image", some=(True, len(calls) > 0),
+                      wrong=([], [line for line in calls if "O_RDONLY" not in line]))
+    checks.run(["rescue", "a.adf", "o"])
+    out, err, status = checks.run(["rescue", "a.adf", "o"])
+    checks.expect("a folder with something in it", status=(1, status), errors=(True, "there is something in it" in err))
+
+
+# ---- harm
+
+
+def hostile_images():
+    for form in FORMATS:
+        yield "names of " + form, rescue_hostile.broken_root(rescue_hostile.names(form))
+        yield "loop of " + form, rescue_hostile.loop(form)
+    for form in "DL":
+        yield "entries of the whole disc of " + form, rescue_hostile.whole_disc_entries(form)
+        yield "directories everywhere of " + form, rescue_hostile.many_directories(form)
+        yield "directories everywhere of a short " + form, rescue_hostile.many_directories(form)[:-8192]
+    yield "big directories", rescue_hostile.big_directories()
+    yield "many zones", rescue_hostile.many_zones()
+    yield "deep", bytes(rescue_hostile.deep().image())
+
+
+def hostile(checks, rescue):
+    for name, data in hostile_images():
+        work = checks.fresh(b"work")
+        start = time.process_time()
+        found = rescue.read(data)
+        with rescue.writing.empty_folder(os.fsdecode(os.path.join(work, b"out"))) as folder:
+            err = quietly(lambda: rescue.writing.write_all(found, "x", folder))
+        spent = time.process_time() - start
+        left = snapshot(work)
+        size = sum(len(data) for path, data in left.items() if data and not path.startswith(b"out/report"))
+        checks.expect(name, outside=([b"out"], [path for path in left if b"/" not in path]), quick=(True, spent < FLOPPY_SECONDS),
+                      bounded=(True, size <= 8 * len(data)), links=(0, sum(isinstance(one, str) for one in left.values())))
+        if name.startswith("names"):
+            wanted = sum(one.grade != "lost" for one in found.files)
+            written = sum(data is not None for path, data in left.items() if not path.startswith(b"out/report"))
+            checks.expect(name + ", files", count=(wanted, written))
+        json.loads(left[b"out/report.json"])
+
+
+def quietly(run):
+    """What the run tells people."""
+    kept, sys.stderr = sys.stderr, io.StringIO()
+    try:
+        run()
+        return sys.stderr.getvalue()
+    finally:
+        sys.stderr = kept
+
+
+def large(checks):
+    """A hard disc of 512 MB with the shortest runs and directories everywhere, in bounded time and memory."""
+    path = checks.place(b"images/large.adf")
+    rescue_hostile.write_large(path)
+    checks.fresh(b"work")
+    before = resource.getrusage(resource.RUSAGE_CHILDREN)
+    out, err, status = checks.run(["rescue", "--report", path], within="ulimit -v %d; exec \"$@\"" % (LARGE_MEMORY // 1024))
+    after = resource.getrusage(resource.RUSAGE_CHILDREN)
+    os.unlink(path)
+    spent = after.ru_utime + after.ru_stime - before.ru_utime - before.ru_stime
+    checks.expect("a hard disc of 512 MB", status=(1, status), errors=("", err), quick=(True, spent < LARGE_SECONDS))
+
+
+# ---- random damages
+
+
+def random_damages(checks, rescue, count):
+    """It ends, what comes out is bounded, and hardly a file is sound that has other bytes than its places."""
+    slowest = 0
+    wrong, sound = collections.Counter(), collections.Counter()
+    for form in FORMATS:
+        for volume, data in rescue_hostile.random_damages(form, count // len(FORMATS) + 1, 46):
+            start = time.process_time()
+            found = rescue.read(data)
+            slowest = max(slowest, time.process_time() - start)
+            truth = where_they_lie(volume, data)
+            rows = found.rows if found else ()
+            checks.expect("a random damage", bounded=(True, sum(len(content) for _, _, content, _ in rows) <= 8 * len(data)))
+            sound[form] += sum(grade == "sound" for _, grade, _, _ in rows)
+            wrong[form] += sum(grade == "sound" and truth.get(path) != content for path, grade, content, _ in rows)
+    checked = [form for form in FORMATS if form not in UNCHECKED]
+    few = sum(wrong[form] for form in checked) * SOUND_PER_WRONG <= sum(sound[form] for form in checked)
+    checks.expect("random damages", quick=(True, slowest < FLOPPY_SECONDS), wrong=(True, few))
+    print("rescue: %d random damages: of %d sound files %d are wrong, %d of them on L discs; the slowest took %.1f s" % (
+        count, sum(sound.values()), sum(wrong.values()), wrong["L"], slowest))
+
+
+def where_they_lie(volume, data):
+    """What each file's own places have in the damaged image: damage of these bytes leaves no trace."""
+    found = {}
+    for holder in volume.directories():
+        for entry in holder.entries:
+            if not entry.is_directory:
+                extents = rescue_images.extents_of(volume, entry)
+                found[volume.path_of(holder, entry)] = b"".join(data[start:start + length] for start, length in extents)
+    return found
+
+
+def cut_images(rescue, checks, step):
+    """Images cut at every so manyth sector: nothing fails, and no file is sound and wrong."""
+    for form in FORMATS:
+        volume = rescue_images.floppy(form)
+        image, truth = bytes(volume.image()), rescue_images.files_of(volume)
+        size = 256 if form == "L" else 1024
+        wrong = []
+        for length in range(0, len(image), size * step):
+            found = rescue.read(image[:length])
+            wrong += [(length, path) for path, grade, content, _ in found.rows if grade == "sound" and truth.get(path) != content] \
+                if found else []
+        checks.expect("images of %s that are cut off" % form, wrong=([], wrong))
+
+
+# ---- all of it
+
+
+def run_all(checks, rescue, is_long):
+    for name in (b"images", b"work", b"fake"):
+        os.makedirs(checks.place(name), exist_ok=True)
+    whole_discs(checks, rescue)
+    single_faults(checks, rescue)
+    usual_damages(checks, rescue)
+    untouched(checks)
+    rescue_cases.run(checks)
+    hostile(checks, rescue)
+    large(checks)
+    random_damages(checks, rescue, 10000 if is_long else 240)
+    cut_images(rescue, checks, 1 if is_long else 40)
+
+
+def main(fcore, *more):
+    sys.dont_write_bytecode = True
+    memory = "/dev/shm" if os.access("/dev/shm", os.W_OK) else None
+    with tempfile.TemporaryDirectory(dir=memory) as folder:
+        rescue = Rescue(folder)
+        if fcore == "--table":
+            table(rescue)
+            return True
+        suite = Suite("rescue", Selection())
+        run_all(Checks(folder, fcore, suite), rescue, more == ("long",))
+    print(suite.told())
+    return suite.failed == 0
+
+
+if __name__ == "__main__":
+    if len(sys.argv) not in (2, 3):
+        sys.exit(__doc__)
+    sys.exit(0 if main(*sys.argv[1:]) else 1)
+
+

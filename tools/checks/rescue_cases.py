@@ -1,0 +1,211 @@
+"""Runs of `fcdisc rescue` and `fcdisc mend` by their words, and how many files come out of each damaged image of the table.
+
+OUTCOMES has, for how many files are sound, suspect, cut off and lost, the names of tools/damaged_images.py. () stands for an image
+in which nothing of a disc is found.
+"""
+import os
+
+from tools.checks.fcdisc import snapshot, texts
+from tools.files import read
+from tools.images import rescue_hostile, rescue_images
+from tools.images import table as images
+
+OUTCOMES = {
+    (): """
+        empty zeros 511-bytes e-second-copy-cut boot-cut f-least e-one-sector l-map-alone""",
+    (0, 0, 0, 0): """
+        e-checks e-cross e-record e-two-zones e-sectors-of-512 d-check-0 d-check-1 l-check-of-no-holes old-0-units
+        old-6-units old-2561-units old-3199-units old-3201-units f-boot-check f-cut d-cut e-cut e-on-a-short-l
+        d-with-boot e-with-boot f-both-copies f-both-totals f-total-and-check f-check-and-total f-first-zone
+        e-first-copy-counts e-first-root-counts bad-root-size bad-root-and-size zone-1-without-bits zone-3-without-bits
+        chain-1-further zone-3-chain-1-further chain-past-end chain-past-hole run-off-sector run-too-short
+        runs-before-chain first-zone-first zone-before-root free-end-1 free-end-4 free-end-5 free-end-247 free-end-249
+        free-end-255 hole-of-0 hole-off-sector hole-length-off-sector hole-past-end hole-before-last hole-in-last
+        hole-on-map holes-wrong-twice hole-before-root l-hole-on-map big-frame-first-byte big-frame-top-bit
+        big-frame-size-of-4096 big-frame-name-too-long big-frame-longest-name big-frame-too-many-entries
+        big-frame-heap-of-2 big-frame-check big-frame-behind-the-name big-directory-size-0 big-directory-size-odd
+        big-directory-longer root-again map-in-identifier map-in-hole boot-block-in-hole boot-block-in-map
+        short-before-copies""",
+    (0, 0, 0, 1): """
+        zone-without-bits identifier-1 identifier-0 identifier-without-run low-past-identifier odd-name d-off-sector
+        l-7-units-past-end""",
+    (0, 0, 1, 0): """
+        past-identifier d-past-end l-past-end place-before-overlap""",
+    (0, 1, 0, 0): """
+        copies-before-differs bad-before-zone big-first-form-first identifier-at-bound root-nowhere on-map on-boot-block
+        f-on-map d-on-map l-in-hole root-on-map overlap-before-map-place directory-before-map-place""",
+    (0, 1, 0, 1): """
+        stored-order""",
+    (0, 2, 0, 0): """
+        e-one-address d-one-address l-one-address big-one-address""",
+    (0, 5, 0, 0): """
+        d-root-first""",
+    (1, 0, 0, 0): """
+        record-sector-2048 record-sector-128 record-idlen-11 record-idlen-16 record-bit-4 record-bit-21 record-no-zones
+        record-spare-31 record-spare-most record-no-size record-odd-size record-huge-size record-size-past-zones
+        record-short-of-map record-root-identifier-1 record-root-of-32-bits record-root-size record-root-size-0
+        record-many-zones differs-0 differs-4 differs-5 differs-9 differs-10 differs-11 differs-16 differs-17 differs-18
+        differs-19 differs-36 differs-37 differs-38 differs-39 differs-40 differs-42 differs-44 differs-45 differs-46
+        differs-47 differs-first differs-before-bad bad-root bad-high-root boot-block-in-identifier""",
+    (1, 1, 0, 0): """
+        e-root-twin""",
+    (1, 3, 0, 0): """
+        d-check-before-entry""",
+    (1, 4, 0, 0): """
+        d-word d-words-differ d-magic-first d-sequence d-sequence-before-check d-check l-words-differ l-sequence
+        big-head-word big-tail-word big-version big-sequence big-sequence-before-size big-size big-too-many
+        big-long-name big-heap-of-2 big-size-before-check big-check found-first""",
+    (1, 4, 0, 1): """
+        place-before-directory""",
+    (3, 2, 0, 0): """
+        d-entry-before-twin l-first-twin big-entry-before-twin""",
+    (4, 1, 0, 0): """
+        d-empty-name d-twin d-root l-name-of-top-bit l-name-of-return l-twin big-name-of-0 big-name-of-256
+        big-name-past-heap big-name-far-off big-name-low-byte big-twin big-root-word d-into-hole""",
+    (4, 2, 0, 0): """
+        later-directory""",
+    (5, 0, 0, 0): """
+        directory-nowhere breadth-first""",
+}
+
+
+def write(path, data):
+    with open(path, "wb") as file:
+        file.write(data)
+
+
+def run(checks):
+    words(checks)
+    several(checks)
+    onto_fresh(checks)
+    deleted(checks)
+    other_orders(checks)
+    mended(checks)
+    advice(checks)
+
+
+def started(checks, **files):
+    """A fresh folder with these images."""
+    work = checks.fresh(b"work")
+    for name, data in files.items():
+        write(os.path.join(work, b"%s.adf" % name.encode()), data)
+    return work
+
+
+def words(checks):
+    """Wrong words, files that aren't there or aren't discs, and a report alone."""
+    work = started(checks, a=rescue_hostile.broken_root(rescue_images.floppy("F")), none=bytes(100000))
+    for arguments, status, error in (
+            (["rescue", "a.adf"], 2, "fcdisc: say the folder for the files, or --report, or --to FORMAT NEW\n"),
+            (["rescue", "--report", "a.adf", "o"], 2, "fcdisc: say the folder for the files, or --report, or --to FORMAT NEW\n"),
+            (["rescue", "--to", "X", "n.adf", "a.adf"], 2, "fcdisc: --to takes one of E, F, D, L, E+, F+, and the file to make\n"),
+            (["rescue", "--to", "E", "a.adf", "a.adf"], 1, "fcdisc: a.adf: there is something of this name already\n"),
+            (["rescue", "b.adf", "o"], 1, "fcdisc: b.adf: No such file or directory\n"),
+            (["rescue", "none.adf", "o"], 1, "fcdisc: none.adf: nothing of a FileCore disc is found in it\n"),
+            (["rescue", "--each", "a.adf", "o"], 1, "fcdisc: a.adf: not a folder\n"),
+            (["rescue", "--order", "adl", "none.adf", "o"], 1,
+             "fcdisc: none.adf: it has less than 655360 bytes, so it has no sides to put into order\n")):
+        out, err, got = checks.run(arguments)
+        checks.expect(" ".join(arguments), errors=(error, err), status=(status, got), output=("", out))
+    out, err, status = checks.run(["rescue", "--report", "a.adf"])
+    checks.expect("a report alone", status=(1, status), errors=("", err), left=([b"a.adf", b"none.adf"], sorted(snapshot(work))),
+                  output=texts("... files sound, ...\n\ndisc: F, 1638400 bytes, sectors of 1024; read as it is\n"
+                               "directory $: the word at one of its ends is wrong\n...", out))
+
+
+def several(checks):
+    """A folder of images: a line and a folder for each."""
+    work = checks.fresh(b"work")
+    os.makedirs(os.path.join(work, b"in/x"))
+    broken = rescue_hostile.broken_root(images.hello())
+    for name, data in ((b"a.adf", images.hello().image()), (b"x/a.adf", broken), (b"x_a.adf", bytes(5))):
+        write(os.path.join(work, b"in", name), data)
+    out, err, status = checks.run(["rescue", "--each", "in", "o"])
+    wanted = ("in/a.adf: 1 of 1 file sound: see o/a.adf/report.txt\nin/x_a.adf: nothing of a FileCore disc is found in it\n"
+              "in/x/a.adf: 0 of 1 file sound, 1 suspect: see o/x_a.adf/report.txt\n")
+    left = {path: data for path, data in snapshot(work).items() if path.startswith(b"o/") and data and b"report" not in path}
+    checks.expect("a folder of images", output=(wanted, out), errors=("", err), status=(1, status), left=({
+        b"o/a.adf/sound/Hello,00000000-00000000": b"Hello", b"o/x_a.adf/doubtful/Hello,00000000-00000000": b"Hello"}, left))
+
+
+def onto_fresh(checks):
+    """The sound files onto a fresh disc, which then has just these."""
+    volume = images.user_disc()
+    damage = rescue_images.changed(bytes(volume.image()), rescue_images.extents_of(volume, volume.root.entries[1])[0][0] + 8, b"\1")
+    work = started(checks, a=damage)
+    out, err, status = checks.run(["rescue", "--to", "e+", "n.adf", "a.adf"])
+    listed, _, whole = checks.run(["list", "n.adf"])
+    checks.expect("sound files onto a fresh disc", errors=("", err), status=(1, status), whole=(0, whole),
+                  output=("40 of 41 files sound, 1 suspect; 40 files put onto n.adf\n", out),
+                  listed=(True, "\n40 files, 1 dir" in listed))
+    checks.expect("the image of these", same=(damage, read(os.path.join(work, b"a.adf"))))
+
+
+def deleted(checks):
+    """A disc that was formatted again, as another format or as the same: what the old directories still lead to."""
+    for form, fresh in (("D", "E"), ("D", "D"), ("L", "L"), ("L", "E")):
+        volume = rescue_images.floppy(form)
+        started(checks, a=rescue_images.reformatted(volume, form, fresh))
+        told = checks.run(["rescue", "--report", "a.adf"])[0]
+        hint = "(--as %s --deleted" % form if form != fresh else "(--deleted takes"
+        checks.expect("what is said of a %s disc that was formatted as %s" % (form, fresh), hint=(True, hint in told))
+        checks.run(["rescue", "--as", form, "--deleted", "a.adf", "o"])
+        left = {data for path, data in snapshot(checks.place(b"work/o")).items() if data and not path.startswith(b"report")}
+        inner = {content for path, content in rescue_images.files_of(volume).items() if path.count(".") > 1 and content}
+        checks.expect("a %s disc that was formatted as %s" % (form, fresh), found=(set(), inner - left))
+
+
+def other_orders(checks):
+    """Interleaved sides, and a header."""
+    volume = rescue_images.floppy("L")
+    data = rescue_hostile.broken_root(volume)
+    tracks = [data[at:at + 4096] for at in range(0, len(data), 4096)]
+    turned = b"".join(tracks[side * 80 + track] for track in range(80) for side in (0, 1))
+    started(checks, plain=data, turned=turned, headed=bytes(512) + data)
+    outs = [checks.run(["rescue", "--report", name])[0] for name in ("plain.adf", "turned.adf", "headed.adf")]
+    rest = [[line for line in out.splitlines() if not line.startswith("disc: ")] for out in outs]
+    checks.expect("an L disc in other orders", turned=(rest[0], rest[1]), headed=(rest[0], rest[2]), how=(
+        (True, True), ("; its two sides put into disc order" in outs[1], "; without its header of 512 bytes" in outs[2])))
+
+
+def mended(checks):
+    """What has one right value is put right; nothing is written for the rest, and never to the image itself."""
+    volume = rescue_images.floppy("F")
+    image, shape = bytes(volume.image()), volume.shape
+    zone = [(shape.map_sector + at) * shape.sector for at in (1, shape.zones + 2)]
+    both = [(shape.map_sector + copy * shape.zones + 1) * shape.sector for copy in (0, 1)]
+    art = rescue_images.extents_of(volume, next(one for one in volume.directories() if one.name == b"Art"))[0][0]
+    cases = {
+        "maps": (zone, bytes(1024), image, "both copies"), "boot": ([0xDC0], bytes(64), image, "the boot block"),
+        "word": ([art + 1], b"nick", image, "directory $.Art"), "number": ([art], b"\x77", image, "directory $.Art"),
+        "check": ([art + 2047], bytes([image[art + 2047] ^ 0x11]), image, "its check"),
+        "both": (both, bytes(1024), None, "has exactly one right value"), "whole": ([], b"", None, "nothing is damaged"),
+        "name": ([art + 5], b"\r", None, "nothing written"),
+    }
+    for name, (places, data, wanted, text) in cases.items():
+        damaged = image
+        for place in places:
+            damaged = rescue_images.changed(damaged, place, data)
+        work = started(checks, a=damaged)
+        out, err, status = checks.run(["mend", "a.adf", "o.adf"])
+        made = os.path.join(work, b"o.adf")
+        got = read(made) if os.path.exists(made) else None
+        checks.expect("mend, " + name, same=(True, got == wanted), status=(int(wanted is None), status),
+                      said=(True, (text if text != "both copies" else "the second copy") in out + err),
+                      kept=(True, read(os.path.join(work, b"a.adf")) == damaged),
+                      left=(1 + (wanted is not None), len(snapshot(work))))
+    out, err, status = checks.run(["mend", "a.adf", "a.adf"])
+    checks.expect("mend onto itself", status=(1, status), out=("", out))
+
+
+def advice(checks):
+    """What `check` promises."""
+    work = checks.fresh(b"work")
+    for name, data, _ in images.damaged_images.damaged():
+        if name in ("d-twin", "identifier-1", "zeros"):
+            write(os.path.join(work, b"%s.adf" % name.encode()), data)
+    out, err, status = checks.run(["check", "d-twin.adf", "identifier-1.adf", "zeros.adf"])
+    lines = out.splitlines()
+    checks.expect("what check promises", ends=([True, True, False], [
+        lines[0].endswith("; fcdisc rescue can take out 5 of 5 files, 1 of them doubtful"),
+        lines[1].endswith("; fcdisc rescue can take out 0 of 1 file"), "rescue" in lines[2]]), status=(1, status))
