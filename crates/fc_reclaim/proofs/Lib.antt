@@ -1,0 +1,9 @@
+mod SettledLemmas
+mod RowLemmas
+mod BootLemmas
+mod JoinLemmas
+mod ChainLemmas
+mod PastLemmas
+mod SpaceLemmas
+mod PassLemmas
+mod ReclaimedLemmas

@@ -1,0 +1,4 @@
+pub mod Boot
+pub mod Lost
+pub mod Zone
+pub mod Settled

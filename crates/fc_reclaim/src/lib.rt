@@ -1,0 +1,6 @@
+//! Lost space given back.
+#![tactic(auto)]
+
+mod boot;
+mod rows;
+mod zone;
