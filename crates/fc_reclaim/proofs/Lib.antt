@@ -7,3 +7,7 @@ mod PastLemmas
 mod SpaceLemmas
 mod PassLemmas
 mod ReclaimedLemmas
+mod OwnedLemmas
+mod KeptLemmas
+mod ZoneStepLemmas
+mod GoneLemmas
