@@ -46,7 +46,7 @@ pub frame_then : (g : Geometry) (a b c : List ℕ) → ChangesCopies g a b → C
 frame_then g a b c one two = record { same_length = two.same_length ∙ one.same_length; outside = λ s out. two.outside s out ∙ one.outside s out }
 
 -- what is opened is what is opened by its own map
-by_own : (image : List ℕ) (kind : Kind) (r : DiscRecord) (v : Opened) (m : Map) → IsNewKind kind r → OpensAs image kind v → v.layout ≡ Layout.New m → by_map kind v m ≡ v
+pub by_own : (image : List ℕ) (kind : Kind) (r : DiscRecord) (v : Opened) (m : Map) → IsNewKind kind r → OpensAs image kind v → v.layout ≡ Layout.New m → by_map kind v m ≡ v
 by_own image kind r v m new opens layout =
     let o = open_by image kind r v m new opens layout in
     λ i. record { kind = sym o.kind_is i; layout = sym layout i; listings = v.listings }

@@ -11,3 +11,4 @@ mod OwnedLemmas
 mod KeptLemmas
 mod ZoneStepLemmas
 mod GoneLemmas
+mod ReclaimsLemmas

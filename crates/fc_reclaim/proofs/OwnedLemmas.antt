@@ -78,7 +78,7 @@ pub record HasPassed (boot : Bool) (owners : List Owner) (m m' : Map) : Type 0 w
   pub geometry : m'.geometry ≡ m.geometry
   pub zones : (z : ℕ) → z < m.geometry.zones → (runs_of m' z ≡ runs_of m z) ⊎ IsReclaimedIn (goes_back boot owners m.geometry) m m' z
 
-filter_less : (t u : ZoneRun → Bool) (xs : List ZoneRun) → ((p : ZoneRun) → t p ≡ true → u p ≡ true) → filter t (filter u xs) ≡ filter t xs
+pub filter_less : (t u : ZoneRun → Bool) (xs : List ZoneRun) → ((p : ZoneRun) → t p ≡ true → u p ≡ true) → filter t (filter u xs) ≡ filter t xs
 filter_less t u [] less = refl
 filter_less t u (x ∷ xs) less = by (u x) (t x) refl refl (filter_less t u xs less)
   where
