@@ -40,11 +40,11 @@ LANES = $(shell awk -v most=$$(nproc) '/MemAvailable/ {n = int($$2 / 4000000); p
 
 test:
 	RT_JOBS=$(LANES) rt ci
-	tools/check_program.sh $(PROGRAM)
+	tools/run checks/program $(PROGRAM)
 
 # Wrong bodies whose checks are too dear for the gate, or those of some crates, as by make edits EDITS=fc_growing
 edits:
-	tools/try_edits.sh $(EDITS)
+	tools/run checks/edits $(EDITS)
 
 # The rates of the lower layers and the time of compact, or of those that are named, as by make bench BENCHES=checks
 BENCHES = $(LAYERS) compact
@@ -52,4 +52,4 @@ LAYERS = $(shell sed 's/^benches: //' crates/fc_bench/stdout)
 
 bench:
 	$(if $(filter $(LAYERS),$(BENCHES)),cd crates/fc_bench && rt run -- $(filter $(LAYERS),$(BENCHES)))
-	$(if $(filter compact,$(BENCHES)),tools/bench_compact.py $(PROGRAM))
+	$(if $(filter compact,$(BENCHES)),tools/run bench/compact $(PROGRAM))

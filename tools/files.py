@@ -4,6 +4,8 @@ import shutil
 import subprocess
 
 TOOLS = os.path.dirname(os.path.realpath(__file__))
+TOP = os.path.dirname(TOOLS)
+PROGRAM = os.path.join(TOP, "crates", "fcore", "out", "fcore")
 
 
 def read(path):
@@ -21,7 +23,7 @@ def has_compiler():
 
 
 def built_shim(folder):
-    """The object between a program and the system, made of check_outside.c in that folder."""
+    """The object between a program and the system, made of checks/outside.c in that folder."""
     shim = os.path.join(folder, "shim.so")
-    subprocess.run([*compiler(), "-O2", "-shared", "-fPIC", "-o", shim, os.path.join(TOOLS, "check_outside.c")], check=True)
+    subprocess.run([*compiler(), "-O2", "-shared", "-fPIC", "-o", shim, os.path.join(TOOLS, "checks", "outside.c")], check=True)
     return shim

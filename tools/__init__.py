@@ -1,0 +1,1 @@
+"""Tools of the repository: `tools/run` lists those that can be run."""

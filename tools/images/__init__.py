@@ -1,0 +1,1 @@
+"""Images put together from descriptions, damaged, fragmented or drawn by chance, and what has to be said of them."""
