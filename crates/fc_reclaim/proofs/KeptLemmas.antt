@@ -128,31 +128,33 @@ module _ (boot : Bool) (owners : List Owner) (m m' : Map) (passed : HasPassed bo
     stays_by (inl old) = (m, old_stays old)
     stays_by (inr chosen) = (m', new_stays chosen)
 
-  -- of a map in memory that is the image's
-  pub commit_keeps : IsReady m owners was → Chooses m.geometry m.zones image ⊎ Chooses m.geometry m'.zones image → KeepsOwned boot owners m.geometry was image
-  commit_keeps ready content = record {
+  -- of a map by which the image opens
+  pub commit_keeps : (k : Kind) (r0 : DiscRecord) (v0 : Opened) → IsNewKind k r0 → OpensAs was k v0 → v0.layout ≡ Layout.New m → Chooses m.geometry m.zones image ⊎ Chooses m.geometry m'.zones image
+      → KeepsOwned boot owners m.geometry was image
+  commit_keeps k r0 v0 new0 opens0 layout0 content = record {
     frame = frame;
     opens = λ kind r v n new covers opens layout same own.
-        (let one = same_map_law was ready.kind kind ready.of_record r ready.view v m n ready.new_kind new ready.opens opens ready.layout layout same in
-        subst (λ (k : Map). (n' : Map) × OwnedStayBy kind was v k n' image) (sym one.0)
-        (stays_by kind r v new covers opens (subst (λ (k : Map). v.layout ≡ Layout.New k) one.0 layout) own content));
+        (let one = same_map_law was k kind r0 r v0 v m n new0 new opens0 opens layout0 layout same in
+        subst (λ (j : Map). (n' : Map) × OwnedStayBy kind was v j n' image) (sym one.0)
+        (stays_by kind r v new covers opens (subst (λ (j : Map). v.layout ≡ Layout.New j) one.0 layout) own content));
   }
 
-  pub commit_ready : IsReadyBy boot m owners was → HoldsCopies m.geometry m'.zones image → IsReadyBy boot m' owners image
-  commit_ready by holds =
-      let ready = by.ready in
+  -- the reclaimed map is that of the image
+  pub commit_ready : (k : Kind) (r0 : DiscRecord) (v0 : Opened) → IsNewKind k r0 → OpensAs was k v0 → v0.layout ≡ Layout.New m → Covers boot k → AreOwnersOf owners (objects_of v0.listings)
+      → HoldsCopies m.geometry m'.zones image → IsReadyBy boot m' owners image
+  commit_ready k r0 v0 new0 opens0 layout0 covers own holds =
       let chosen : Chooses m.geometry m'.zones image = record { which = One; chosen_one = chooses_one m.geometry image (ap is_sound holds.first ∙ holds.sound); content = holds.first } in
-      let stays = new_stays ready.kind ready.of_record ready.view ready.new_kind by.covers ready.opens ready.layout ready.owned chosen in
+      let stays = new_stays k r0 v0 new0 covers opens0 layout0 own chosen in
       record {
         ready = record {
-          kind = ready.kind;
-          of_record = ready.of_record;
-          view = by_map ready.kind ready.view m';
-          new_kind = ready.new_kind;
+          kind = k;
+          of_record = r0;
+          view = by_map k v0 m';
+          new_kind = new0;
           opens = stays.opens;
           layout = refl;
           copies = subst (λ (g : Geometry). HoldsCopies g m'.zones image) (sym passed.geometry) holds;
-          owned = ready.owned;
+          owned = own;
         };
-        covers = by.covers;
+        covers = covers;
       }

@@ -12,3 +12,5 @@ mod KeptLemmas
 mod ZoneStepLemmas
 mod GoneLemmas
 mod ReclaimsLemmas
+mod PartsLemmas
+mod CopiesLemmas

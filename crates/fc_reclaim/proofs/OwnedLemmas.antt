@@ -69,6 +69,15 @@ owned_stays boot owners g id p e = by p.1.kind
         ap (λ (b : Bool). b && is_apart (run_sectors g p) (map_sectors g) && is_apart (run_sectors g p) (boot_row boot g.sector))
         (ap (is_lost_by owners) (eqb-true other id h) ∙ e)
 
+-- ---- least numbers
+
+some_least : (n : ℕ) (ns : List ℕ) → least_of (n ∷ ns) ≡ None → ⊥
+some_least n ns e = cc
+
+pub none_least : (xs ys : List ℕ) → least_of (xs ++ ys) ≡ None → (least_of xs ≡ None) × (least_of ys ≡ None)
+none_least [] ys e = (refl, e)
+none_least (x ∷ xs) ys e = absurd (some_least x (xs ++ ys) e)
+
 -- ---- maps
 
 -- In each zone the runs are as they were, or lost ones have gone back.
@@ -226,13 +235,6 @@ module _ (boot : Bool) (owners : List Owner) (m m' : Map) (is : HasPassed boot o
         by : (b : Bool) (p' : ZoneRun) → is_hole p'.1.kind ≡ b → Contains (all_runs m') p' → is_hole_or_movable objects p'.1.kind ≡ true → HoldsSector m'.geometry p' s → is_among (loose_sectors m objects) s ≡ true
         by true p' e c loose holds = holes_loose m objects s (hole_before s at (held_in m'.geometry (hole_runs m') p' s (in_filter (λ q. is_hole q.1.kind) (all_runs m') p' c e) holds))
         by false p' e c loose holds = movable_before s p' c (subst (λ (k : Geometry). HoldsSector k p' s) is.geometry holds) p'.1.kind refl e loose
-
-    some_least : (n : ℕ) (ns : List ℕ) → least_of (n ∷ ns) ≡ None → ⊥
-    some_least n ns e = cc
-
-    none_least : (xs ys : List ℕ) → least_of (xs ++ ys) ≡ None → (least_of xs ≡ None) × (least_of ys ≡ None)
-    none_least [] ys e = (refl, e)
-    none_least (x ∷ xs) ys e = absurd (some_least x (xs ++ ys) e)
 
     place_core : (h : Geometry) → h ≡ m.geometry → misplaced_sector kind (Layout.New m) objects ≡ None
         → least_of (filter (is_among (loose_sectors m' objects)) (map_sectors h ++ boot_place kind h.sector) ++ filter (is_among (map_sectors h)) (boot_place kind h.sector)) ≡ None

@@ -3,8 +3,8 @@ use Rattle.std.proofs.Common.{◌≡◌, ◌<◌, ◌≤◌, ◌⊎◌, inl, inr
 use Rattle.std.specs.Prelude.{All, Result, Ok, filter, not, ◌&&◌, ◌||◌}
 use Rattle.std.specs.List.{range_with_len}
 use Rattle.std.specs.Str.{bytes_eq}
-use Rattle.std.proofs.lemmas.Bool.{and_left}
 use Rattle.std.proofs.lemmas.List.Elements.{All-cons, All-nil, filter-append}
+use Rattle.std.proofs.lemmas.List.Sums.{sum_by-cons}
 use Rattle.fc_device.specs.Sectors.{sector_at}
 use Rattle.fc_record.specs.declared.DiscRecord.{DiscRecord}
 use Rattle.fc_record.specs.declared.Geometry.{Geometry}
@@ -43,9 +43,13 @@ use Rattle.fc_reclaim.proofs.SettledLemmas.{beside_map}
 
 -- ---- the boot block
 
+and_first : (a b : Bool) → (a && b) ≡ true → a ≡ true
+and_first true b e = refl
+and_first false b e = absurd (cc)
+
 -- an image that opens as a disc with a boot block has one
 pub covers_kind : (was : List ℕ) (kind : Kind) → fits_kind was kind ≡ true → Covers (is_boot was) kind
-covers_kind was (Boot r) fits sector s i = and_left (is_boot was) (bytes_eq (boot_record was).raw r.raw) fits
+covers_kind was (Boot r) fits sector s i = and_first (is_boot was) (bytes_eq (boot_record was).raw r.raw) fits
 covers_kind was (OneZone r) fits sector s i = absurd (cc)
 covers_kind was DiscD fits sector s i = absurd (cc)
 covers_kind was (DiscL units) fits sector s i = absurd (cc)
@@ -199,11 +203,17 @@ module _ (boot : Bool) (owners : List Owner) (was image : List ℕ) (kind : Kind
             → bits_in (filter (λ p. is_lost_run objects p.1.kind) xs) ≡ bits_in (filter goes xs) + bits_in (filter (is_held was m objects) xs)
             → bits_in (cond d (x ∷ filter (λ p. is_lost_run objects p.1.kind) xs) (filter (λ p. is_lost_run objects p.1.kind) xs))
             ≡ bits_in (cond a (x ∷ filter goes xs) (filter goes xs)) + bits_in (cond (d && not b) (x ∷ filter (is_held was m objects) xs) (filter (is_held was m objects) xs))
-        by true true true e f h s rest' = omega (arith, rest')
+        by true true true e f h s rest' =
+            sum_by-cons (λ (p : ZoneRun). p.1.len) x (filter (λ p. is_lost_run objects p.1.kind) xs) ∙ ap (λ (k : ℕ). x.1.len + k) rest'
+            ∙ (let k : x.1.len + (bits_in (filter goes xs) + bits_in (filter (is_held was m objects) xs)) ≡ x.1.len + bits_in (filter goes xs) + bits_in (filter (is_held was m objects) xs) = omega arith in k)
+            ∙ sym (ap (λ (k : ℕ). k + bits_in (filter (is_held was m objects) xs)) (sum_by-cons (λ (p : ZoneRun). p.1.len) x (filter goes xs)))
         by true true false e f h s rest' = absurd (let lost = reclaimable_lost f in cc)
         by true false d e f h s rest' = absurd (cc)
         by false true d e f h s rest' = absurd (cc)
-        by false false true e f h s rest' = omega (arith, rest')
+        by false false true e f h s rest' =
+            sum_by-cons (λ (p : ZoneRun). p.1.len) x (filter (λ p. is_lost_run objects p.1.kind) xs) ∙ ap (λ (k : ℕ). x.1.len + k) rest'
+            ∙ (let k : x.1.len + (bits_in (filter goes xs) + bits_in (filter (is_held was m objects) xs)) ≡ bits_in (filter goes xs) + (x.1.len + bits_in (filter (is_held was m objects) xs)) = omega arith in k)
+            ∙ sym (ap (λ (k : ℕ). bits_in (filter goes xs) + k) (sum_by-cons (λ (p : ZoneRun). p.1.len) x (filter (is_held was m objects) xs)))
         by false false false e f h s rest' = rest'
 
     less : (a b k : ℕ) → (a + b) * k - b * k ≡ a * k

@@ -31,7 +31,7 @@ use Rattle.fc_plan.specs.Giving.{as_spaces, spaces_in}
 use Rattle.fc_compact.specs.Compacting.{ZoneStays}
 use Rattle.fc_reclaim.specs.Kept.{IsReadyBy, KeepsOwned}
 use Rattle.fc_reclaim.specs.Lost.{goes_back, is_used_run}
-use Rattle.fc_reclaim.specs.Map.{IsReclaimedAt, IsReclaimedBelow, bits_below}
+use Rattle.fc_reclaim.specs.Map.{IsReclaimed, IsReclaimedAt, IsReclaimedBelow, bits_below}
 use Rattle.fc_reclaim.specs.Zone.{IsReclaimedIn, going, staying}
 use Rattle.fc_reclaim.proofs.KeptLemmas.{commit_keeps, commit_ready}
 use Rattle.fc_reclaim.proofs.OwnedLemmas.{HasPassed, geometry_is}
@@ -82,6 +82,9 @@ passed_at boot owners m m' z at = record {
   ];
 }
 
+pub passed_all : (boot : Bool) (owners : List Owner) (m m' : Map) → IsReclaimed boot owners m m' → HasPassed boot owners m m'
+passed_all boot owners m m' done = record { was = done.was; map = done.map; geometry = done.geometry; zones = λ z low. inr (done.done z low) }
+
 -- nothing has changed
 pub at_none : (boot : Bool) (owners : List Owner) (m n : Map) (z : ℕ) → IsEdit m n z → IsReclaimedIn (goes_back boot owners m.geometry) m n z → n ≡ m → IsReclaimedAt boot owners m n z
 at_none boot owners m n z edit done same = record {
@@ -112,12 +115,14 @@ module _ (boot : Bool) (owners : List Owner) (m n m' : Map) (z : ℕ) (edit : Is
       let at : CommitLeaves m.geometry was m.zones m'.zones image =
       subst (λ (zs : List (List ℕ)). CommitLeaves m.geometry was zs m'.zones image) by.ready.copies.first
       (subst (λ (g : Geometry). CommitLeaves g was (copy_of g One was) m'.zones image) edit.geometry left) in
-      commit_keeps boot owners m m' (passed_at boot owners m m' z at_step) (record_same m n m' edits kept contents) was image at.frame by.ready at.content
+      commit_keeps boot owners m m' (passed_at boot owners m m' z at_step) (record_same m n m' edits kept contents) was image at.frame
+      by.ready.kind by.ready.of_record by.ready.view by.ready.new_kind by.ready.opens by.ready.layout at.content
 
   pub zone_ready : (was image : List ℕ) → IsReadyBy boot m owners was → CommitEnds n.geometry was m'.zones image → IsReadyBy boot m' owners image
   zone_ready was image by ends =
       let at : CommitEnds m.geometry was m'.zones image = subst (λ (g : Geometry). CommitEnds g was m'.zones image) edit.geometry ends in
-      commit_ready boot owners m m' (passed_at boot owners m m' z at_step) (record_same m n m' edits kept contents) was image at.frame by at.copies
+      commit_ready boot owners m m' (passed_at boot owners m m' z at_step) (record_same m n m' edits kept contents) was image at.frame
+      by.ready.kind by.ready.of_record by.ready.view by.ready.new_kind by.ready.opens by.ready.layout by.covers by.ready.owned at.copies
 
 -- ---- one zone after another
 

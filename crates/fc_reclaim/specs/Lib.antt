@@ -4,3 +4,4 @@ pub mod Zone
 pub mod Settled
 pub mod Kept
 pub mod Map
+pub mod Reclaiming

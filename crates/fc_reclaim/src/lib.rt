@@ -6,6 +6,9 @@
 #![tactic(auto)]
 
 mod boot;
+mod copies;
 mod map;
 mod rows;
 mod zone;
+
+pub use copies::reclaim_map;
