@@ -1,6 +1,9 @@
 -- A map whose copies are made equal before its lost runs go back.
 use Rattle.std.proofs.Common.{◌≡◌, ◌⊎◌, inl, inr, ℕ, Bool, List, refl, sym, ap, subst, ◌∙◌}
 use Rattle.std.specs.Prelude.{Option, Some}
+use Rattle.fc_device.specs.declared.disk.Disk.{Ghosts}
+use Rattle.fc_device.specs.Calls.{StopsAndExitsLeave}
+use Rattle.fc_device.proofs.DiskLaws.{Laws}
 use Rattle.fc_record.specs.declared.DiscRecord.{DiscRecord}
 use Rattle.fc_record.specs.declared.Geometry.{Geometry}
 use Rattle.fc_record.specs.declared.Kind.{Kind}
@@ -27,10 +30,17 @@ use Rattle.fc_reclaim.specs.Kept.{IsReadyBy, KeepsOwned, KeepsOwnedAll}
 use Rattle.fc_reclaim.specs.Lost.{Covers}
 use Rattle.fc_reclaim.specs.Map.{IsReclaimed, bits_back}
 use Rattle.fc_reclaim.specs.Reclaiming.{CanReclaim, CountsIn, KeepsContent, LeavesOwned, ReclaimsMap}
-use Rattle.fc_reclaim.proofs.KeptLemmas.{commit_keeps, commit_ready, frame_same}
+use Rattle.fc_reclaim.proofs.KeptLemmas.{commit_keeps, commit_ready, frame_same, kept_same}
 use Rattle.fc_reclaim.proofs.OwnedLemmas.{HasPassed}
 use Rattle.fc_reclaim.proofs.ReclaimsLemmas.{covers_kind, given_bytes, reclaims, stays_owned}
 use Rattle.std.proofs.Common.{◌*◌}
+
+-- what an exit has led to is what is told
+pub told_keeps : {D : Type 0} {d : Ghosts D} (law : Laws d) {R : List ℕ → List ℕ → Type 0} {old new : D} → StopsAndExitsLeave d old new R → (was image : List ℕ) → d.bytes old ≡ Some was → d.bytes new ≡ Some image → R was image
+told_keeps law {R = R} keeps was image told_was told = let there = keeps.exit was told_was in subst (R was) (one_told there.0 image (sym there.1 ∙ told)) there.2
+  where
+    one_told : (a b : List ℕ) → (let x : Option (List ℕ) = Some a in x) ≡ Some b → a ≡ b
+    one_told a b e = cc
 
 -- ---- the copies
 
@@ -105,3 +115,11 @@ reclaims_map boot m m' owners bytes was image fits keeps done ready given kind v
       reclaims boot owners was image kind new.0 view m new.1 covers opens layout own by m' done fits ready,
       given ∙ given_bytes boot owners was image kind new.0 view m new.1 covers opens layout own by m' done fits ready,
     )
+
+-- what was found of the image before is so of the one that was only read
+pub found_keeps : (boot : Bool) (owners : List Owner) (g : Geometry) (was there image : List ℕ) → boot ≡ is_boot was → there ≡ was → KeepsOwned boot owners g there image → KeepsOwnedAll owners g was image
+found_keeps boot owners g was there image fits e keeps =
+    subst (λ (s : List ℕ). KeepsOwned (is_boot was) owners g s image) e (subst (λ (b : Bool). KeepsOwned b owners g there image) fits keeps)
+
+pub read_keeps : (owners : List Owner) (g : Geometry) (was image : List ℕ) → image ≡ was → KeepsOwnedAll owners g was image
+read_keeps owners g was image e = subst (λ (s : List ℕ). KeepsOwned (is_boot was) owners g was s) (sym e) (kept_same (is_boot was) owners g was)

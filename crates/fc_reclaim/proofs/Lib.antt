@@ -12,5 +12,5 @@ mod KeptLemmas
 mod ZoneStepLemmas
 mod GoneLemmas
 mod ReclaimsLemmas
-mod PartsLemmas
+pub mod PartsLemmas
 mod CopiesLemmas
