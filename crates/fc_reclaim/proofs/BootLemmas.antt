@@ -1,6 +1,6 @@
 -- Whether a boot block fits.
-use Rattle.std.proofs.Common.{◌≡◌, ◌<◌, ◌≤◌, ℕ, Bool, true, false, List, length, refl, sym, ap, ◌∙◌}
-use Rattle.std.specs.Prelude.{nat_le, slice_index, ◌==◌, ◌&&◌}
+use Rattle.std.proofs.Common.{◌≡◌, ◌<◌, ◌≤◌, ℕ, Bool, false, List, length, sym, ap, ◌∙◌}
+use Rattle.std.specs.Prelude.{slice_index, ◌==◌, ◌&&◌}
 use Rattle.std.proofs.lemmas.Bool.{le-leb, lt-leb}
 use Rattle.fc_checks.specs.Checks.{boot_check}
 use Rattle.fc_record.specs.Kinds.{boot_block, boot_record, is_boot}

@@ -1,5 +1,5 @@
 -- A run that becomes a hole, joined with the holes around it.
-use Rattle.std.proofs.Common.{◌≡◌, ◌<◌, ℕ, ◌-◌, Bool, true, false, cond, List, [], ◌∷◌, ◌++◌, Option, Some, None, refl, sym, ap, subst, ◌∙◌, append_assoc}
+use Rattle.std.proofs.Common.{◌≡◌, ◌<◌, ℕ, Bool, cond, List, [], ◌∷◌, ◌++◌, Option, None, refl, sym, ap, subst, ◌∙◌, append_assoc}
 use Rattle.std.specs.Prelude.{slice_get}
 use Rattle.std.specs.Option.{unwrap_or}
 use Rattle.fc_record.specs.declared.Geometry.{Geometry}
@@ -7,7 +7,7 @@ use Rattle.fc_zone.specs.declared.Run.{Run}
 use Rattle.fc_zone.specs.declared.RunKind.TheVariants.{Hole}
 use Rattle.fc_newmap.specs.Edits.{RelabelsIn}
 use Rattle.fc_newmap.specs.Map.{Map, is_hole, runs_of}
-use Rattle.fc_plan.specs.Giving.{IsNext, freed, joined}
+use Rattle.fc_plan.specs.Giving.{IsNext, freed}
 use Rattle.fc_reclaim.specs.Zone.{AreHoles, FollowsChain, behind_holes, given, joined_all}
 
 holes_behind : (links rest : List Run) → AreHoles links → behind_holes (links ++ rest) ≡ behind_holes rest

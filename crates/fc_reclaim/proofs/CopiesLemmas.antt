@@ -1,5 +1,5 @@
 -- A map whose copies are made equal before its lost runs go back.
-use Rattle.std.proofs.Common.{◌≡◌, ◌⊎◌, inl, inr, ℕ, Bool, List, refl, sym, ap, subst, ◌∙◌}
+use Rattle.std.proofs.Common.{◌≡◌, inl, ℕ, Bool, List, refl, sym, ap, subst, ◌∙◌}
 use Rattle.std.specs.Prelude.{Option, Some}
 use Rattle.fc_device.specs.declared.disk.Disk.{Ghosts}
 use Rattle.fc_device.specs.Calls.{StopsAndExitsLeave}
@@ -19,13 +19,11 @@ use Rattle.fc_copies.proofs.ReadingLemmas.{chooses_one}
 use Rattle.fc_oldmap.specs.OldMap.{OldMapContent, free_space, hole_fault}
 use Rattle.fc_image.specs.declared.ImageFault.{ImageFault}
 use Rattle.fc_image.specs.Layout.{Layout}
-use Rattle.fc_image.specs.Objects.{objects_of}
 use Rattle.fc_image.specs.Opening.{MapAndRoot, Opened, holes_or}
 use Rattle.fc_image.specs.Stays.{IsNewKind, OpensAs}
 use Rattle.fc_image.proofs.FreeLemmas.{parts_of}
 use Rattle.fc_image.proofs.MoveLemmas.{open_by}
 use Rattle.std.specs.Prelude.{Result, Ok, None}
-use Rattle.fc_compact.specs.Ready.{AreOwnersOf}
 use Rattle.fc_reclaim.specs.Kept.{IsReadyBy, KeepsOwned, KeepsOwnedAll}
 use Rattle.fc_reclaim.specs.Lost.{Covers}
 use Rattle.fc_reclaim.specs.Map.{IsReclaimed, bits_back}

@@ -12,7 +12,7 @@ use Rattle.fc_alloc.specs.declared.owner.Owner.{Owner}
 use Rattle.fc_reclaim.specs.Kept.{IsReadyBy, KeepsOwned}
 use Rattle.fc_reclaim.specs.Map.{IsReclaimedAt, IsReclaimedBelow, bits_below}
 use Rattle.fc_reclaim.proofs.KeptLemmas.{kept_same, kept_then}
-use Rattle.fc_reclaim.proofs.ZoneStepLemmas.{Fits, below_start, below_then, bits_more, fits_more}
+use Rattle.fc_reclaim.proofs.ZoneStepLemmas.{Fits, below_start, below_then}
 
 pub record Gone {D : Type 0} (d : Ghosts D) (boot : Bool) (owners : List Owner) (start : D) (m0 : Map) (now : D) (m : Map) (z total : ℕ) : Type 0 where
   pub form : SameForm d start now

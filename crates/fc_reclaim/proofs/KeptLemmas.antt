@@ -1,5 +1,5 @@
 -- Images to which a reclaimed map was committed: what a crash and an exit leave, and that they are ready again.
-use Rattle.std.proofs.Common.{◌≡◌, ◌<◌, ◌≤◌, ◌⊎◌, inl, inr, ℕ, ◌+◌, ◌*◌, Bool, true, false, List, [], ◌∷◌, ◌++◌, refl, sym, ap, ap₂, subst, ◌∙◌, arith, Some, None, Option}
+use Rattle.std.proofs.Common.{◌≡◌, ◌⊎◌, inl, inr, ℕ, Bool, false, List, refl, sym, ap, subst, ◌∙◌, arith, None}
 use Rattle.fc_record.specs.declared.DiscRecord.{DiscRecord}
 use Rattle.fc_record.specs.declared.Geometry.{Geometry}
 use Rattle.fc_record.specs.declared.Kind.{Kind}
@@ -9,11 +9,10 @@ use Rattle.fc_newmap.specs.Map.{IsMap, Map, id_runs, map_sectors, runs_of, secto
 use Rattle.fc_newmap.specs.NewMap.{IsNewMap}
 use Rattle.fc_alloc.specs.declared.owner.Owner.{Owner}
 use Rattle.fc_copies.specs.declared.Which.TheVariants.{One}
-use Rattle.fc_copies.specs.Copies.{ChangesCopies, Chooses, CommitEnds, CommitLeaves, HoldsCopies, copy_of, is_sound}
+use Rattle.fc_copies.specs.Copies.{ChangesCopies, Chooses, HoldsCopies, is_sound}
 use Rattle.fc_copies.proofs.ReadingLemmas.{chooses_one}
 use Rattle.std.specs.Prelude.{filter}
 use Rattle.fc_image.specs.Layout.{Layout, is_among}
-use Rattle.fc_image.specs.Walk.{Listing}
 use Rattle.fc_image.specs.Objects.{is_lost, objects_of, tree_of}
 use Rattle.fc_image.specs.Opening.{Opened, boot_place, misplaced_sector, reserved_in}
 use Rattle.fc_image.specs.Stays.{IsNewKind, OpensAs}
@@ -21,10 +20,10 @@ use Rattle.fc_image.proofs.HolesLemmas.{OpenMap, least_none, loose_sectors}
 use Rattle.fc_image.proofs.MoveLemmas.{open_by}
 use Rattle.fc_image.proofs.SameMapLemmas.{same_map_law}
 use Rattle.fc_image.proofs.StoredLemmas.{stored_tree}
-use Rattle.fc_compact.specs.Ready.{AreOwnersOf, IsReady}
+use Rattle.fc_compact.specs.Ready.{AreOwnersOf}
 use Rattle.fc_reclaim.specs.Kept.{IsReadyBy, KeepsOwned, OwnedStayBy}
-use Rattle.fc_reclaim.specs.Lost.{Covers, is_lost_by}
-use Rattle.fc_reclaim.specs.Settled.{IsSettledEdit, by_map}
+use Rattle.fc_reclaim.specs.Lost.{Covers}
+use Rattle.fc_reclaim.specs.Settled.{by_map}
 use Rattle.fc_reclaim.proofs.OwnedLemmas.{HasPassed, lost_same, owned_kept, placed_after}
 use Rattle.fc_reclaim.proofs.SettledLemmas.{settled_law}
 

@@ -1,25 +1,24 @@
 -- A map in some zones of which lost runs have gone back: what its identifiers have, and what lies in its holes.
-use Rattle.std.proofs.Common.{◌≡◌, ◌<◌, ◌≤◌, ◌⊎◌, inl, inr, ℕ, ◌+◌, ◌*◌, Bool, true, false, cond, List, [], ◌∷◌, ◌++◌, refl, sym, ap, ap₂, subst, ◌∙◌, arith, Some, None, Option, eq-eqb, eqb-true}
+use Rattle.std.proofs.Common.{◌≡◌, ◌<◌, ◌≤◌, ◌⊎◌, inl, inr, ℕ, ◌+◌, Bool, true, false, cond, List, [], ◌∷◌, ◌++◌, refl, sym, ap, ap₂, subst, ◌∙◌, arith, None, eq-eqb, eqb-true}
 use Rattle.std.specs.Prelude.{Contains, Ok, Err, filter, nat_le, not, ◌==◌, ◌&&◌, ◌||◌}
 use Rattle.std.specs.List.{range_with_len}
-use Rattle.std.specs.Int.{div_ceil}
 use Rattle.fc_record.specs.declared.Geometry.{Geometry}
 use Rattle.fc_record.specs.declared.Kind.{Kind}
 use Rattle.fc_record.specs.declared.Kind.TheVariants.{Boot, OneZone, DiscD, DiscL}
 use Rattle.fc_zone.specs.declared.Run.{Run}
 use Rattle.fc_zone.specs.declared.RunKind.{RunKind}
 use Rattle.fc_zone.specs.declared.RunKind.TheVariants as kinds
-use Rattle.fc_newmap.specs.Map.{Map, ZoneRun, all_runs, has_id, hole_runs, id_runs, is_hole, map_sectors, run_sectors, runs_of, sectors_of}
+use Rattle.fc_newmap.specs.Map.{Map, ZoneRun, all_runs, has_id, hole_runs, id_runs, is_hole, map_sectors, run_sectors, runs_of}
 use Rattle.fc_newmap.specs.NewMap.{IsNewMap}
 use Rattle.fc_newmap.specs.RunsLaw.{HoldsSector, IsGeometry, placed}
 use Rattle.fc_newmap.proofs.CoverLemmas.{run_there}
 use Rattle.fc_newmap.proofs.GeometryLemmas.{geometry_of_valid}
 use Rattle.fc_newmap.proofs.HeldLemmas.{geometry_facts}
-use Rattle.fc_newmap.proofs.PlaceLemmas.{filter_in, held_in, holder_of, id_run_in, id_runs_by_zones, in_back, in_either, in_filter, in_front, in_id_runs, in_range, in_zone, range_in, zone_in}
+use Rattle.fc_newmap.proofs.PlaceLemmas.{filter_in, held_in, holder_of, id_run_in, id_runs_by_zones, in_either, in_filter, in_id_runs, in_range, in_zone, range_in, zone_in}
 use Rattle.fc_newmap.proofs.RunsLemmas.{runs_apart}
 use Rattle.fc_alloc.specs.declared.owner.Owner.{Owner}
 use Rattle.fc_alloc.specs.Owners.{is_id_owned}
-use Rattle.fc_image.specs.Layout.{Layout, hole_sectors, is_among, is_apart, map_place}
+use Rattle.fc_image.specs.Layout.{Layout, hole_sectors, is_among, is_apart}
 use Rattle.fc_image.specs.Walk.{Object}
 use Rattle.fc_image.specs.Objects.{is_lost, is_movable, is_owned}
 use Rattle.fc_image.specs.Opening.{boot_place, is_hole_or_movable, least_of, misplaced_sector, reserved_in}
@@ -28,7 +27,7 @@ use Rattle.fc_image.proofs.HolesLemmas.{apart_at, holes_loose, least_none, loose
 use Rattle.fc_image.proofs.MoveLemmas.{tight_from, unless}
 use Rattle.fc_compact.specs.Ready.{AreOwnersOf}
 use Rattle.fc_reclaim.specs.Lost.{Covers, boot_row, goes_back, is_lost_by, is_lost_kind, is_used_run}
-use Rattle.fc_reclaim.specs.Zone.{IsReclaimedIn, staying}
+use Rattle.fc_reclaim.specs.Zone.{IsReclaimedIn}
 
 pub geometry_is : (m : Map) → IsNewMap m → IsGeometry m.geometry
 geometry_is m is = subst (λ (g : Geometry). IsGeometry g) is.of_record.1.1 (geometry_of_valid is.of_record.0 is.of_record.1.0)

@@ -1,5 +1,5 @@
 -- The parts of a volume whose lost runs have gone back.
-use Rattle.std.proofs.Common.{◌≡◌, ◌*◌, ◌/◌, ℕ, Bool, true, false, List, [], ◌∷◌, ◌++◌, map, None, refl, sym, ap, subst, ◌∙◌}
+use Rattle.std.proofs.Common.{◌≡◌, ◌*◌, ◌/◌, ℕ, Bool, true, false, List, [], ◌∷◌, map, None, refl, sym, ap, subst, ◌∙◌}
 use Rattle.std.specs.Prelude.{Ok, Err, IsPermutation, filter}
 use Rattle.std.specs.Ordering.{nat_cmp}
 use Rattle.std.specs.FinMap.{FinMap}
@@ -10,21 +10,20 @@ use Rattle.fc_newmap.specs.Map.{Map, id_runs, map_sectors}
 use Rattle.fc_newmap.proofs.PlaceLemmas.{in_either, in_front}
 use Rattle.fc_alloc.specs.declared.owner.Owner.{Owner}
 use Rattle.fc_image.specs.Layout.{Layout, dir_form, is_among}
-use Rattle.fc_image.specs.Walk.{Listing, Object, walk}
+use Rattle.fc_image.specs.Walk.{Object, walk}
 use Rattle.fc_image.specs.Objects.{has_sectors, is_lost, objects_of}
-use Rattle.fc_image.specs.Opening.{Opened, boot_place, least_of, misplaced_sector, reserved_in}
+use Rattle.fc_image.specs.Opening.{Opened, boot_place, misplaced_sector, reserved_in}
 use Rattle.fc_image.proofs.HolesLemmas.{Each-contains, Each-objects, Lies, least_none, loose_sectors, none_loose, walk_lies}
 use Rattle.fc_image.proofs.MoveLemmas.{tight_from}
 use Rattle.fc_image.proofs.WalkLemmas.{walk-Tells}
 use Rattle.fc_compact.specs.Ready.{AreOwnersOf}
 use Rattle.fc_tree.specs.declared.node.Node.{Node}
 use Rattle.fc_tree.specs.Agree.{Agree, HasForm, reader_of_nodes}
-use Rattle.fc_tree.specs.Nodes.{HoldObjects}
-use Rattle.fc_tree.specs.Parts.{AreOwners, ArePartsOf, Parts, owner_of}
-use Rattle.fc_reclaim.specs.Lost.{Covers, is_lost_by}
+use Rattle.fc_tree.specs.Parts.{AreOwners, ArePartsOf, owner_of}
+use Rattle.fc_reclaim.specs.Lost.{Covers}
 use Rattle.fc_reclaim.specs.Map.{IsReclaimed}
 use Rattle.fc_reclaim.specs.Settled.{by_map}
-use Rattle.fc_reclaim.proofs.OwnedLemmas.{HasPassed, lost_same, none_least, owned_kept, placed_after}
+use Rattle.fc_reclaim.proofs.OwnedLemmas.{lost_same, none_least, owned_kept, placed_after}
 use Rattle.fc_reclaim.proofs.SettledLemmas.{places_kept, walked_there}
 use Rattle.fc_reclaim.proofs.ZoneStepLemmas.{passed_all}
 

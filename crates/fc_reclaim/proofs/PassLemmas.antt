@@ -1,5 +1,5 @@
 -- The walk over the runs of a zone in which lost ones become holes.
-use Rattle.std.proofs.Common.{◌≡◌, ◌<◌, ◌≤◌, ℕ, zero, suc, ◌+◌, Bool, true, false, cond, List, [], ◌∷◌, ◌++◌, Option, Some, None, refl, sym, ap, ap₂, subst, ◌∙◌, inl, inr, arith}
+use Rattle.std.proofs.Common.{◌≡◌, ◌<◌, ℕ, ◌+◌, Bool, true, false, cond, List, [], ◌∷◌, ◌++◌, Option, Some, None, refl, sym, ap, ap₂, subst, ◌∙◌, inl, inr, arith}
 use Rattle.std.specs.Prelude.{filter, not, slice_get, ◌&&◌}
 use Rattle.std.specs.Option.{unwrap_or}
 use Rattle.std.proofs.lemmas.List.{append-nil, append_assoc, map-append}
@@ -13,7 +13,6 @@ use Rattle.fc_record.specs.Record.{end_bit, first_bit}
 use Rattle.fc_zone.specs.declared.Run.{Run}
 use Rattle.fc_newmap.specs.Edits.{IsEdit}
 use Rattle.fc_newmap.specs.Map.{Map, ZoneRun, bits_in, is_hole, runs_of, sector_of, shape}
-use Rattle.fc_newmap.specs.NewMap.{IsNewMap}
 use Rattle.fc_newmap.specs.RunsLaw.{placed}
 use Rattle.fc_newmap.proofs.ComposeLemmas.{edit_then}
 use Rattle.fc_image.specs.safe.Reclaim.{absorbed, all_absorbed}
@@ -21,7 +20,7 @@ use Rattle.fc_plan.specs.Giving.{as_spaces, spaces_in}
 use Rattle.fc_plan.proofs.MapLemmas.{either_test}
 use Rattle.fc_plan.proofs.Spaces.{Lie, spelled_lie}
 use Rattle.fc_reclaim.specs.Lost.{is_used_run}
-use Rattle.fc_reclaim.specs.Zone.{AreHoles, FollowsChain, IsReclaimedIn, behind_holes, chain_after, given, going, left_after, staying}
+use Rattle.fc_reclaim.specs.Zone.{AreHoles, FollowsChain, IsReclaimedIn, behind_holes, chain_after, given, going, staying}
 use Rattle.fc_reclaim.proofs.JoinLemmas.{kind_of_hole}
 use Rattle.fc_reclaim.proofs.SpaceLemmas.{EndsUsed, given_kind, given_spaces}
 

@@ -1,10 +1,9 @@
 -- One run of a zone, in the walk that gives lost runs back.
-use Rattle.std.proofs.Common.{◌≡◌, ◌<◌, ◌≤◌, ℕ, zero, suc, ◌+◌, Bool, true, false, cond, List, [], ◌∷◌, ◌++◌, Option, Some, None, IsTrue, IsFalse, refl, sym, ap, ap₂, subst, ◌∙◌, arith, append_assoc}
+use Rattle.std.proofs.Common.{◌≡◌, ◌<◌, ◌≤◌, ℕ, suc, ◌+◌, Bool, true, false, cond, List, [], ◌∷◌, ◌++◌, Option, Some, IsTrue, IsFalse, refl, sym, ap, ap₂, subst, ◌∙◌, arith, append_assoc}
 use Rattle.std.specs.Prelude.{Contains, not, slice_get, ◌&&◌}
 use Rattle.fc_device.specs.declared.disk.Extent.{Extent}
 use Rattle.fc_objects.specs.Extents.{extent_sectors}
 use Rattle.fc_record.specs.declared.Geometry.{Geometry}
-use Rattle.fc_record.specs.Record.{end_bit}
 use Rattle.fc_zone.specs.declared.Run.{Run}
 use Rattle.fc_zone.specs.declared.RunKind.{RunKind}
 use Rattle.fc_zone.specs.declared.RunKind.TheVariants.{Hole, Id}

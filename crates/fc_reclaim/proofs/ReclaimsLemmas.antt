@@ -1,7 +1,6 @@
 -- An image on which lost space was given back meets what giving it back promises.
-use Rattle.std.proofs.Common.{◌≡◌, ◌<◌, ◌≤◌, ◌⊎◌, inl, inr, ℕ, ◌+◌, ◌-◌, ◌*◌, Bool, true, false, cond, List, [], ◌∷◌, ◌++◌, drop, refl, sym, ap, ap₂, subst, ◌∙◌, arith, eq-eqb, Some, None, Option}
-use Rattle.std.specs.Prelude.{All, Result, Ok, filter, not, ◌&&◌, ◌||◌}
-use Rattle.std.specs.List.{range_with_len}
+use Rattle.std.proofs.Common.{◌≡◌, ◌<◌, ℕ, ◌+◌, ◌-◌, ◌*◌, Bool, true, false, cond, List, [], ◌∷◌, ◌++◌, drop, refl, sym, ap, ap₂, subst, ◌∙◌, arith, eq-eqb}
+use Rattle.std.specs.Prelude.{All, filter, not, ◌&&◌, ◌||◌}
 use Rattle.std.specs.Str.{bytes_eq}
 use Rattle.std.proofs.lemmas.List.Elements.{All-cons, All-nil, filter-append}
 use Rattle.std.proofs.lemmas.List.Sums.{sum_by-cons}
@@ -13,18 +12,18 @@ use Rattle.fc_record.specs.declared.Kind.TheVariants.{Boot, OneZone, DiscD, Disc
 use Rattle.fc_record.specs.Kinds.{boot_record, disc_size, fits_kind, is_boot}
 use Rattle.fc_zone.specs.declared.RunKind.{RunKind}
 use Rattle.fc_zone.specs.declared.RunKind.TheVariants as kinds
-use Rattle.fc_newmap.specs.Map.{Map, ZoneRun, all_runs, bits_in, has_id, hole_runs, id_runs, is_hole, map_sectors, run_sectors, runs_in, runs_of, sector_of, sectors_of, zone_numbers}
+use Rattle.fc_newmap.specs.Map.{Map, ZoneRun, all_runs, bits_in, has_id, hole_runs, is_hole, map_sectors, run_sectors, runs_in, runs_of, sector_of, sectors_of, zone_numbers}
 use Rattle.fc_newmap.specs.RunsLaw.{placed}
 use Rattle.fc_newmap.proofs.PlaceLemmas.{in_back, is_in, range_in}
 use Rattle.fc_alloc.specs.declared.owner.Owner.{Owner}
 use Rattle.fc_copies.specs.Copies.{ChangesCopies}
-use Rattle.fc_image.specs.Layout.{Layout, is_among, is_apart, map_place}
+use Rattle.fc_image.specs.Layout.{Layout, is_among, is_apart}
 use Rattle.fc_image.specs.Walk.{Object}
-use Rattle.fc_image.specs.Objects.{is_lost, objects_of}
+use Rattle.fc_image.specs.Objects.{objects_of}
 use Rattle.fc_image.specs.Opening.{Opened, boot_place}
 use Rattle.fc_image.specs.Report.{is_lost_run, lost_bytes}
 use Rattle.fc_image.specs.Stays.{IsNewKind, OpensAs}
-use Rattle.fc_image.specs.effects.Steady.{MapOutside, SameSectors, keeps_runs, zone_holes}
+use Rattle.fc_image.specs.effects.Steady.{MapOutside, SameSectors, zone_holes}
 use Rattle.fc_image.specs.safe.Reclaim.{OwnedStay, ReclaimOutside, Reclaimed, ReclaimedLayout, Reclaims, StaysOwned, all_absorbed, is_held, is_reclaimable, reclaimed_bytes, sectors_that}
 use Rattle.fc_image.proofs.HolesLemmas.{none_loose}
 use Rattle.fc_image.proofs.MoveLemmas.{all_filter, not_true, open_by}
@@ -33,7 +32,7 @@ use Rattle.fc_changes.proofs.AfterLemmas.{behind_stays}
 use Rattle.fc_plan.proofs.GivenRuns.{holes_of_zone, spaces_of_zone}
 use Rattle.fc_compact.specs.Ready.{AreOwnersOf}
 use Rattle.fc_reclaim.specs.Kept.{IsReadyBy, KeepsOwned, OwnedStayBy}
-use Rattle.fc_reclaim.specs.Lost.{Covers, boot_row, goes_back, is_lost_kind, is_used_run}
+use Rattle.fc_reclaim.specs.Lost.{Covers, boot_row, goes_back, is_used_run}
 use Rattle.fc_reclaim.specs.Map.{IsReclaimed, bits_back}
 use Rattle.fc_reclaim.specs.Settled.{by_map}
 use Rattle.fc_reclaim.specs.Zone.{staying}

@@ -1,6 +1,6 @@
 -- An image whose map is edited, and lost identifiers with it, opens as before.
-use Rattle.std.proofs.Common.{◌≡◌, ◌<◌, ◌≤◌, ◌⊎◌, inl, inr, ℕ, zero, suc, ◌+◌, ◌*◌, ◌/◌, ◌%◌, Bool, true, false, cond, List, [], ◌∷◌, ◌++◌, length, take, drop, map, refl, sym, ap, ap₂, subst, ◌∙◌, arith, Some, None, Option, eq-eqb}
-use Rattle.std.specs.Prelude.{Result, Ok, Err, Contains, filter, min, nat_le, nat_lt, not, ◌==◌, ◌||◌, ◌&&◌}
+use Rattle.std.proofs.Common.{◌≡◌, ◌<◌, ◌≤◌, inl, inr, ℕ, zero, suc, ◌+◌, ◌*◌, ◌/◌, ◌%◌, Bool, true, false, cond, List, [], ◌∷◌, ◌++◌, length, take, drop, map, refl, sym, ap, ap₂, subst, ◌∙◌, arith, Some, None, eq-eqb}
+use Rattle.std.specs.Prelude.{Result, Ok, Err, Contains, filter, min, nat_le, not, ◌==◌, ◌||◌, ◌&&◌}
 use Rattle.std.specs.List.{flat_map, list_any, zip}
 use Rattle.std.specs.Int.{div_ceil}
 use Rattle.std.proofs.lemmas.Bool.{cases_eq, cases_lt, leb-true, lt-ltb, ne_eqb}
@@ -20,15 +20,13 @@ use Rattle.fc_copies.specs.Copies.{ChangesCopies, Chooses}
 use Rattle.fc_names.specs.Names.{Path}
 use Rattle.fc_dirs.specs.declared.Entry.{Entry}
 use Rattle.fc_dirs.specs.Directory.{directory_of, directory_size, entries_of}
-use Rattle.fc_image.specs.Layout.{Layout, dir_form, disc_sectors, first_part, id_of, id_sectors, is_among, is_apart, is_object_id, low_of, low_start, sectors_at}
+use Rattle.fc_image.specs.Layout.{Layout, dir_form, disc_sectors, first_part, id_of, id_sectors, is_among, is_object_id, low_of, low_start, sectors_at}
 use Rattle.fc_image.specs.Walk.{Listing, Object, Reader, at_path, children_of, is_directory_object, listings_from, object_of, object_size, reader_of, root_entry, walk}
-use Rattle.fc_image.specs.Objects.{first_object, has_sectors, is_lost, is_owned, is_owner_of, objects_of}
+use Rattle.fc_image.specs.Objects.{first_object, is_lost, is_owner_of, objects_of}
 use Rattle.fc_image.specs.declared.ImageFault.{ImageFault}
 use Rattle.fc_image.specs.EditedImage.{HasMap}
 use Rattle.fc_image.specs.Opening.{MapAndRoot, Opened, agreement, boot_place, difference, map_and_root, reserved_in}
-use Rattle.fc_image.specs.Edits.{Apart, AreChildren, Follows, IsAt, IsListing, IsRoot}
-use Rattle.fc_image.specs.MapEdits.{KeepsPlace}
-use Rattle.fc_image.specs.Moves.{Turns}
+use Rattle.fc_image.specs.Edits.{Apart, AreChildren, Follows, IsAt}
 use Rattle.fc_image.specs.Stays.{HasSectorsOf, IsNewKind, OpensAs, stored_object, stored_objects}
 use Rattle.fc_image.proofs.EditLemmas.{root_first, walk_form_law}
 use Rattle.fc_image.proofs.FreeLemmas.{fits_same, object_same}

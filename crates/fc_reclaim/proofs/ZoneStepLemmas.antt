@@ -1,8 +1,8 @@
 -- One zone whose lost runs have gone back, and is committed.
-use Rattle.std.proofs.Common.{◌≡◌, ◌<◌, ◌≤◌, ◌⊎◌, inl, inr, ℕ, ◌+◌, ◌-◌, Bool, List, [], ◌∷◌, ◌++◌, drop, refl, sym, ap, ap₂, subst, ◌∙◌, arith}
-use Rattle.std.specs.Prelude.{Contains, filter, slice_index}
+use Rattle.std.proofs.Common.{◌≡◌, ◌<◌, ◌≤◌, inl, inr, ℕ, ◌+◌, Bool, List, [], ◌∷◌, ◌++◌, drop, refl, sym, ap, ap₂, subst, ◌∙◌, arith}
+use Rattle.std.specs.Prelude.{Contains, filter}
 use Rattle.std.specs.List.{range_with_len}
-use Rattle.std.proofs.lemmas.Bool.{cases_eq, cases_lt}
+use Rattle.std.proofs.lemmas.Bool.{cases_eq}
 use Rattle.std.proofs.lemmas.List.{append-nil}
 use Rattle.std.proofs.lemmas.List.Concat.{flat_map-append}
 use Rattle.std.proofs.lemmas.List.Elements.{filter-append}
@@ -24,7 +24,7 @@ use Rattle.fc_newmap.proofs.HeldLemmas.{on_disc}
 use Rattle.fc_alloc.specs.declared.owner.Owner.{Owner}
 use Rattle.fc_copies.specs.declared.Which.TheVariants.{One}
 use Rattle.fc_copies.specs.Committing.{CanWrite, KeepsContents}
-use Rattle.fc_copies.specs.Copies.{ChangesCopies, Chooses, CommitEnds, CommitLeaves, HoldsCopies, copy_of}
+use Rattle.fc_copies.specs.Copies.{CommitEnds, CommitLeaves, HoldsCopies, copy_of}
 use Rattle.fc_image.specs.safe.Reclaim.{all_absorbed}
 use Rattle.fc_changes.proofs.CommittedLemmas.{kept_links, record_same, steady_zone}
 use Rattle.fc_plan.specs.Giving.{as_spaces, spaces_in}

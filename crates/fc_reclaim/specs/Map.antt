@@ -1,6 +1,6 @@
 -- What giving lost runs back does to a map, zone by zone.
-use Rattle.std.specs.Prelude.{◌≡◌, ◌<◌, ◌⊎◌, ℕ, ◌≤◌, Bool, true, false, List, filter}
-use Rattle.fc_newmap.specs.Map.{Map, ZoneRun, all_runs, bits_in, runs_in, runs_of}
+use Rattle.std.specs.Prelude.{◌≡◌, ◌<◌, ℕ, ◌≤◌, Bool, List, filter}
+use Rattle.fc_newmap.specs.Map.{Map, bits_in, runs_in, runs_of}
 use Rattle.std.specs.List.{range_with_len}
 use Rattle.fc_newmap.specs.NewMap.{IsNewMap}
 use Rattle.fc_alloc.specs.declared.owner.Owner.{Owner}

@@ -16,11 +16,7 @@ use fc_device::{Disk, DiskFault};
 use fc_newmap::NewMap;
 
 // Makes the copies of a map equal, if one counts from which the other may differ.
-fn match_copies<D: Disk>(
-    disk: &mut D,
-    map: &NewMap,
-    which: Option<Which>,
-) -> Result<(), DiskFault>
+fn match_copies<D: Disk>(disk: &mut D, map: &NewMap, which: Option<Which>) -> Result<(), DiskFault>
     requires attached { IsTrue (D.attached disk.old) }
     requires settled { IsFalse (D.pending disk.old) }
     requires size { D.sector_size disk.old ≡ map.now.geometry.sector }

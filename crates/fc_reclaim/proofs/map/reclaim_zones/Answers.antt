@@ -1,14 +1,14 @@
-use Rattle.std.proofs.Common.{◌≡◌, ◌<◌, ◌≤◌, ◌+◌, ℕ, List, ap, ap₂, sym, subst, ◌∙◌, arith}
+use Rattle.std.proofs.Common.{◌≡◌, ◌<◌, ◌≤◌, ◌+◌, List, ap, ap₂, sym, subst, ◌∙◌, arith}
 use Rattle.fc_device.proofs.DiskLaws.{laws}
 use Rattle.fc_record.specs.declared.Geometry.{Geometry}
-use Rattle.fc_record.specs.Record.{base, end_bit, first_bit}
+use Rattle.fc_record.specs.Record.{end_bit, first_bit}
 use Rattle.fc_zone.specs.declared.Run.{Run}
 use Rattle.fc_newmap.specs.Map.{bits_in, runs_of}
 use Rattle.fc_newmap.proofs.HeldLemmas.{end_within, geometry_facts, on_disc, sector_high}
 use Rattle.fc_reclaim.specs.Lost.{goes_back}
 use Rattle.fc_reclaim.specs.Map.{IsReclaimedBelow, bits_below}
 use Rattle.fc_reclaim.specs.Zone.{going}
-use Rattle.fc_reclaim.proofs.GoneLemmas.{Gone, gone_keeps, gone_on_disk, gone_size, gone_start, gone_then, gone_zone}
+use Rattle.fc_reclaim.proofs.GoneLemmas.{gone_keeps, gone_on_disk, gone_size, gone_start, gone_then, gone_zone}
 use Rattle.fc_reclaim.proofs.ZoneStepLemmas.{bits_more, fits_more}
 use Rattle.fc_reclaim.proofs.map.reclaim_zones.Goals as goal
 

@@ -4,7 +4,6 @@ use Rattle.fc_newmap.proofs.ComposeLemmas.{edit_then}
 use Rattle.fc_plan.specs.Giving.{IsNext}
 use Rattle.fc_plan.proofs.Gives.{can_release}
 use Rattle.std.proofs.Common.{None, subst}
-use Rattle.fc_zone.specs.declared.RunKind.TheVariants.{Hole}
 use Rattle.fc_reclaim.proofs.ChainLemmas.{alone, first_is, first_next, relabelled}
 use Rattle.fc_reclaim.proofs.zone.give_back.Goals as goal
 

@@ -1,7 +1,6 @@
-use Rattle.std.proofs.Common.{List, ◌∷◌, sym, ap, ◌∙◌, arith}
-use Rattle.fc_zone.specs.declared.Run.{Run}
+use Rattle.std.proofs.Common.{sym, ◌∙◌}
 use Rattle.fc_plan.proofs.Gives.{has_run}
-use Rattle.fc_reclaim.proofs.JoinLemmas.{IsJoining, fewer_runs, joining_ends, joining_on, joining_start, joining_stops, two_holes}
+use Rattle.fc_reclaim.proofs.JoinLemmas.{fewer_runs, joining_ends, joining_on, joining_start, joining_stops, two_holes}
 use Rattle.fc_reclaim.proofs.zone.join_all.Goals as goal
 
 pub loop-next-init : goal.loop-next-init

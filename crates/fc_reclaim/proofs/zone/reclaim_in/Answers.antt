@@ -1,4 +1,4 @@
-use Rattle.std.proofs.Common.{◌≡◌, ◌<◌, ◌≤◌, ◌++◌, ◌+◌, ◌-◌, ℕ, ◌∷◌, [], Bool, true, false, cond, List, Option, Some, refl, sym, ap, ap₂, subst, ◌∙◌, append_assoc, arith}
+use Rattle.std.proofs.Common.{◌≡◌, ◌<◌, ◌++◌, ◌+◌, ℕ, ◌∷◌, [], cond, List, sym, ap, subst, ◌∙◌, append_assoc, arith}
 use Rattle.std.specs.Prelude.{sum_by}
 use Rattle.fc_record.specs.declared.Geometry.{Geometry}
 use Rattle.fc_record.specs.Record.{end_bit, first_bit}
@@ -6,8 +6,7 @@ use Rattle.fc_zone.specs.Cursor.{StandsBetween}
 use Rattle.fc_zone.specs.declared.Run.{Run}
 use Rattle.fc_zone.specs.declared.ZoneShape.{ZoneShape}
 use Rattle.fc_newmap.proofs.ComposeLemmas.{edit_none}
-use Rattle.fc_newmap.specs.Edits.{IsEdit}
-use Rattle.fc_newmap.specs.Map.{Map, ZoneRun, bits_in, runs_of, sector_of, shape}
+use Rattle.fc_newmap.specs.Map.{runs_of, sector_of, shape}
 use Rattle.fc_plan.proofs.Walks.{shape_of_zone, shaped, stands_in_map, started_in}
 use Rattle.fc_reclaim.specs.Lost.{goes_back}
 use Rattle.fc_reclaim.specs.Zone.{left_after}
