@@ -4,11 +4,11 @@
 usage: tools/run checks/reclaim PROGRAM [DISCS]    30 discs, if no number is given
        tools/run checks/reclaim --self-test        the same looks over a stand-in for the program, and over it with planted faults
 
-Each disc has lost runs in many zones, next to holes that touch each other, at the ends of zones, and two in a row. On every fourth
-disc one also lies where a boot block would, on every fourth one on a sector of the map. What the program answers and leaves is judged
-by `expected`, which is written from docs/FORMAT.md and says what becomes of each run. What it writes is recorded as in
-checks/crash: at each crash every object has its address and bytes, and every identifier that is owned, 1 and 2 keep their runs; no
-byte outside the two copies of the map differs. Runs in which a write or a sync fails are judged as crashes are.
+Each disc has lost runs in many zones, next to holes that touch each other, at the ends of zones, and two in a row. No disc here has
+a lost run where a boot block would lie or on a sector of the map, so those two cases aren't looked at. What the program answers and
+leaves is judged by `expected`, which is written from docs/FORMAT.md and says what becomes of each run. What it writes is recorded as
+in checks/crash: at each crash every object has its address and bytes, and every identifier that is owned, 1 and 2 keep their runs;
+no byte outside the two copies of the map differs. Runs in which a write or a sync fails are judged as crashes are.
 """
 import os
 import random
