@@ -60,7 +60,7 @@ def judge(program: str, reading: Reading, words: Namespace, place: str, number: 
                     compare(reading, found, list(run.lines()), words.image)
     except BadImage as fault:
         text = "%s: with what can be put right the disc still isn't accepted: %s: nothing written"
-        raise Trouble(text % (shown(words.image), explained(fault.words).partition(". What to do:")[0])) from None
+        raise Trouble(text % (shown(words.image), explained(fault.words).meaning)) from None
 
 
 def compare(reading: Reading, found: Found, lines: List[bytes], image: str) -> None:
