@@ -1,5 +1,5 @@
 -- What becomes of a new map, by any list of plans and any list of identifiers that go back, and where objects lie on it afterwards.
-use Rattle.std.specs.Prelude.{◌≡◌, ◌<◌, ◌⊎◌, ◌||◌, ℕ, Bool, true, false, List, [], ◌∷◌, ◌++◌, length, map, Contains, IsPermutation}
+use Rattle.std.specs.Prelude.{◌≡◌, ◌<◌, ◌⊎◌, ◌||◌, ℕ, Bool, true, false, List, [], ◌∷◌, ◌++◌, map, Contains, IsPermutation}
 use Rattle.fc_record.specs.declared.Kind.{Kind}
 use Rattle.fc_newmap.specs.Map.{Map, ZoneRun, hole_runs, id_runs, is_used}
 use Rattle.fc_newmap.specs.NewMap.{IsNewMap}

@@ -12,15 +12,13 @@ use Rattle.fc_image.specs.Objects.{is_movable, is_owner_of, objects_of}
 use Rattle.fc_image.specs.Opening.{reserved_in}
 use Rattle.fc_image.specs.Edits.{Apart, IsAt}
 use Rattle.fc_image.specs.MapEdits.{KeepsPlace}
-use Rattle.fc_image.specs.Sound.{AreSound}
 use Rattle.fc_tree.specs.declared.node.Node.{Node}
 use Rattle.fc_tree.specs.Agree.{AreWalked}
 use Rattle.fc_tree.specs.Nodes.{number_of}
-use Rattle.fc_tree.specs.Parts.{AreOwners, ArePartsOf}
-use Rattle.fc_laws.specs.nodes.Edits.{Nodes, OwnersEdited}
-use Rattle.fc_laws.specs.nodes.Laws.{IsHeld, IsOwned}
+use Rattle.fc_tree.specs.Parts.{AreOwners}
+use Rattle.fc_laws.specs.nodes.Edits.{Nodes}
 use Rattle.fc_laws.specs.agree.Agreed.{AgreeOn, CanSay}
-use Rattle.fc_edits.specs.Edit.{Amended, AreEdited, Edit, IsEdit, TopTurns, joining, leaving, listings_after, numbers, objects, owners_joined, owners_left}
+use Rattle.fc_edits.specs.Edit.{Amended, Edit, TopTurns, joining, leaving, numbers, objects}
 
 -- each of these objects lies apart from those after it
 abbrev pub ApartPairs : List Object → Type 0

@@ -1,5 +1,5 @@
 -- The parts of a volume agree after an edit, on any map.
-use Rattle.std.proofs.Common.{◌≡◌, ◌≤◌, ◌⊎◌, inl, inr, ⊎_elim, ℕ, ◌+◌, true, List, [], ◌∷◌, ◌++◌, length, map, flat_map, refl, sym, ap, ap₂, subst, ◌∙◌, arith, Some, length-append, ◌-◌}
+use Rattle.std.proofs.Common.{◌≡◌, ◌≤◌, ◌⊎◌, inl, inr, ⊎_elim, ℕ, ◌+◌, true, List, [], ◌∷◌, ◌++◌, length, map, flat_map, refl, sym, ap, ap₂, subst, ◌∙◌, arith, Some, length-append}
 use Rattle.std.specs.Prelude.{Contains, IsPermutation}
 use Rattle.std.specs.FinMap.{get}
 use Rattle.std.proofs.lemmas.List.{length-map}
@@ -32,7 +32,6 @@ use Rattle.fc_laws.specs.nodes.Laws.{IsHeld}
 use Rattle.fc_laws.specs.agree.Agreed.{CanSay}
 use Rattle.fc_laws.proofs.lemmas.nodes.ListLemmas.{in_first, in_other}
 use Rattle.fc_laws.proofs.lemmas.nodes.OtherLemmas.{top_object}
-use Rattle.fc_laws.proofs.lemmas.agree.RoomLemmas.{room}
 use Rattle.fc_laws.proofs.lemmas.agree.WalkEditLemmas.{walked_after}
 use Rattle.fc_laws.proofs.lemmas.agree.WalkedLemmas as on_any
 use Rattle.fc_edits.specs.NodesEdit.{NodesEdit}

@@ -51,6 +51,7 @@ module _ (ne : NodesEdit) where
 
   abbrev pub ed : AreEdited nodes nodes' e
   ed = ne.nodes_edited
+
   abbrev stay : List Listing
   stay = n_.stay ne
 

@@ -197,19 +197,19 @@ can_say nodes nodes' layout listings c h g =
       nodes_edited = are_edited nodes nodes' layout listings c h g;
     } in
     record {
-    few = omega arith;
-    amended = g.says;
-    into = of_one (λ (x : ℕ × Listing). CanSay layout x.1.object x.1.content) (c.number, c.d) g.d_says;
-    into_none = of_one (λ (x : ℕ × Listing). entries_of x.1.content ≡ []) (c.number, c.d) g.says_none;
-    same = λ k at.
-        (let listed = n_.stay_in ne k (n_.same_in ne k at) in
-        let n = h.held.each k.object (listed_directory layout listings h.sound k listed).0 in
-        let other = n_.same_other ne k n.number at n.at_path in
-        ap (λ (o : Object). o.entry.len)
-        (stays nodes nodes' layout listings c h g k.object n.number n.at_path
-        (λ e. other (subst (Contains (map (λ (b : Amended). b.number) (edit c).amended)) (sym e) (contains_here c.dir (map (λ (b : Amended). b.number) (holds c ∷ map (told c) c.again)))))));
-    root = λ o at path t. absurd (let none = t.leaves in cc);
-  }
+      few = omega arith;
+      amended = g.says;
+      into = of_one (λ (x : ℕ × Listing). CanSay layout x.1.object x.1.content) (c.number, c.d) g.d_says;
+      into_none = of_one (λ (x : ℕ × Listing). entries_of x.1.content ≡ []) (c.number, c.d) g.says_none;
+      same = λ k at.
+          (let listed = n_.stay_in ne k (n_.same_in ne k at) in
+          let n = h.held.each k.object (listed_directory layout listings h.sound k listed).0 in
+          let other = n_.same_other ne k n.number at n.at_path in
+          ap (λ (o : Object). o.entry.len)
+          (stays nodes nodes' layout listings c h g k.object n.number n.at_path
+          (λ e. other (subst (Contains (map (λ (b : Amended). b.number) (edit c).amended)) (sym e) (contains_here c.dir (map (λ (b : Amended). b.number) (holds c ∷ map (told c) c.again)))))));
+      root = λ o at path t. absurd (let none = t.leaves in cc);
+    }
 
 pub owners_as : (owners owners' : List Owner) (layout layout' : Layout) (c : Growing)
     → OwnersEdited owners owners' (owners_with layout c.up c.dir c.l.object) (owners_with layout' c.dir c.number c.d.object ++ owners_with layout' c.up c.dir (at_place c c.l.object))

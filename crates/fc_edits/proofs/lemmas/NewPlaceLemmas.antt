@@ -1,5 +1,5 @@
 -- Places on a new map after any list of plans and any list of identifiers that go back.
-use Rattle.std.proofs.Common.{◌≡◌, ◌<◌, ◌≤◌, ◌⊎◌, inl, inr, ⊎_elim, ℕ, Bool, true, false, cond, List, [], ◌∷◌, ◌++◌, length, map, refl, sym, ap, ap₂, subst, ◌∙◌, eq-eqb}
+use Rattle.std.proofs.Common.{◌≡◌, ◌<◌, ◌≤◌, inl, inr, ⊎_elim, ℕ, Bool, true, false, cond, List, [], ◌∷◌, ◌++◌, length, refl, sym, ap, ap₂, subst, ◌∙◌, eq-eqb}
 use Rattle.std.specs.Prelude.{Contains, filter, not, nat_le, nat_lt, ◌==◌, ◌&&◌, ◌||◌}
 use Rattle.std.specs.List.{list_any}
 use Rattle.std.proofs.lemmas.Bool.{cases_eq, eqb-true, leb-false}
@@ -25,7 +25,6 @@ use Rattle.fc_image.proofs.HolesLemmas.{apart_from, in_id, loose_sectors, none_l
 use Rattle.fc_image.proofs.MapEditLemmas.{places_law}
 use Rattle.fc_tree.specs.declared.node.Node.{Node}
 use Rattle.fc_tree.proofs.MemberLemmas.{contains_here, contains_later, from_map}
-use Rattle.fc_tree.proofs.WalkedLemmas.{root}
 use Rattle.fc_plan.specs.Giving.{is_one_of}
 use Rattle.fc_changes.proofs.BasicLemmas.{any_in, clash, not_zero, or_second, unless}
 use Rattle.fc_changes.proofs.ChangeLemmas.{a_sector}

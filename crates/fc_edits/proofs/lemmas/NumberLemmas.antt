@@ -66,6 +66,7 @@ module _ (ne : NodesEdit) where
 
   abbrev pub ed : AreEdited nodes nodes' e
   ed = ne.nodes_edited
+
   -- ---- what stays
 
   abbrev pub stay : List Listing

@@ -1,5 +1,5 @@
 -- Which identifiers are owned after an edit.
-use Rattle.std.proofs.Common.{◌≡◌, ◌≤◌, inl, inr, ⊎_elim, ℕ, ◌+◌, Bool, true, false, cond, List, [], ◌∷◌, ◌++◌, length, map, refl, sym, ap, ap₂, subst, ◌∙◌, arith}
+use Rattle.std.proofs.Common.{◌≡◌, ◌≤◌, ⊎_elim, ℕ, ◌+◌, Bool, true, false, cond, List, [], ◌∷◌, ◌++◌, length, map, refl, sym, ap, ap₂, ◌∙◌, arith}
 use Rattle.std.specs.Prelude.{Contains, IsPermutation, nat_lt, ◌==◌, ◌||◌, ◌&&◌}
 use Rattle.std.specs.List.{list_any}
 use Rattle.std.proofs.lemmas.List.Elements.{Contains-append_cases, Contains-append_left, Contains-append_right}
@@ -13,7 +13,7 @@ use Rattle.fc_image.proofs.PathsLemmas.{many, many-append}
 use Rattle.fc_tree.proofs.MemberLemmas.{contains_here, contains_later, from_map, in_map, many_permuted, some_many}
 use Rattle.fc_changes.proofs.BasicLemmas.{any_in, in_any}
 use Rattle.fc_laws.proofs.lemmas.nodes.ListLemmas.{in_first, in_other}
-use Rattle.fc_edits.specs.Edit.{KeepsEntry, joining, leaving, listings_after, objects}
+use Rattle.fc_edits.specs.Edit.{joining, leaving, listings_after, objects}
 use Rattle.fc_edits.specs.PartsEdit.{PartsEdit}
 use Rattle.fc_edits.specs.Places.{Stays}
 use Rattle.fc_edits.proofs.lemmas.AgreeLemmas as ag

@@ -67,6 +67,7 @@ module _ (ne : NodesEdit) (layout' : Layout) where
 
   abbrev pub ed : AreEdited nodes nodes' e
   ed = ne.nodes_edited
+
   abbrev stay : List Listing
   stay = n_.stay ne
 

@@ -1,5 +1,5 @@
 -- An edit as a relisting: what goes, what comes and what stays.
-use Rattle.std.proofs.Common.{ℕ, ◌+◌, List, ◌++◌, map, refl, sym, ap, ap₂, subst, ◌∙◌, ◌-◌}
+use Rattle.std.proofs.Common.{ℕ, List, ◌++◌, map, sym, ap, ap₂, subst, ◌∙◌}
 use Rattle.std.specs.Prelude.{IsPermutation}
 use Rattle.std.proofs.lemmas.List.{append_assoc}
 use Rattle.std.proofs.lemmas.List.Sorted.{IsPermutation-append_left, IsPermutation-map, IsPermutation-refl, IsPermutation-trans}
@@ -42,6 +42,7 @@ module _ (ne : NodesEdit) where
 
   abbrev pub ed : AreEdited nodes nodes' e
   ed = ne.nodes_edited
+
   abbrev pub kept : List Object
   kept = objects e.moving ++ n_.kids ne
 

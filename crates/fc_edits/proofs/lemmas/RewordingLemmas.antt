@@ -42,7 +42,7 @@ module _ (nodes : Nodes) (layout : Layout) (listings : List Listing) (c : Reword
   pub o_in : Contains (objects_of listings) c.o
   o_in = child_is_object layout listings h.sound c.l c.o l_in kid_in
 
-  lower : c.number ≡ 0 → ⊥
+  pub lower : c.number ≡ 0 → ⊥
   lower = kid_lower layout listings nodes h.sound h.held c.l c.o c.number l_in kid_in d.number_is
 
   -- an object of another number stays as it is

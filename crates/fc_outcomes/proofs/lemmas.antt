@@ -1,0 +1,16 @@
+pub mod OpenedLemmas
+pub mod StepsLemmas
+pub mod KeptLemmas
+pub mod PutLemmas
+pub mod UnwrittenLemmas
+pub mod DoneLemmas
+pub mod NewDoneLemmas
+pub mod OldDoneLemmas
+pub mod PlainLemmas
+pub mod SteadyLemmas
+pub mod NewSpaceLemmas
+pub mod NewOutsideLemmas
+pub mod NewImageLemmas
+pub mod OldImageLemmas
+pub mod DeletedLemmas
+pub mod RewordedLemmas
