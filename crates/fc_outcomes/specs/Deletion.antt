@@ -12,8 +12,10 @@ use Rattle.fc_image.specs.Stays.{IsNewKind, OpensAs}
 use Rattle.fc_image.specs.effects.Steady.{AreWritten, IsRewritten, without_name}
 use Rattle.fc_changes.specs.Owed.{IsMapAfter}
 use Rattle.fc_laws.specs.agree.Agreed.{parts_with}
+use Rattle.fc_laws.specs.takeover.Places.{MayBeWritten}
 use Rattle.fc_oldchanges.specs.Owed.{IsMapAfter as IsOldMapAfter, holding}
 use Rattle.fc_oldlaws.specs.agree.Laws.{parts_with as old_parts_with}
+use Rattle.fc_oldlaws.specs.takeover.Places.{AreSpared, MayBeWritten as OldMayBeWritten}
 use Rattle.fc_edits.specs.Deletion.{Deletion, NewDeletion, OldDeletion, holes_with_it}
 use Rattle.fc_outcomes.specs.NewImage.{Outcome}
 use Rattle.fc_outcomes.specs.Puts.{ArePutOut}
@@ -49,3 +51,9 @@ pub record DeletionLaw : Type 0 where
   pub old : (x : OldDeletion) (path : Path) (bytes image image' : List ℕ) → OldDeletionWritten x path bytes image image'
       → Outcome x.kind image image' (record { kind = x.kind; layout = Layout.Old x.space; listings = x.listings }) (Command.Delete path)
       (old_parts_with (holding x.space (holes_with_it x.space x.c)) x.nodes' x.owners')
+  -- At every exit the directory's sectors may be written beside the map: they are none of another object, nor of lost space.
+  pub new_may : (x : NewDeletion) (path : Path) (image : List ℕ) → OpensAs image x.kind (record { kind = x.kind; layout = Layout.New x.m; listings = x.listings }) → is_same_path path x.c.o.path ≡ true
+      → MayBeWritten x.kind (record { kind = x.kind; layout = Layout.New x.m; listings = x.listings }) x.m (Command.Delete path) x.c.l.object.sectors
+  pub old_may : (x : OldDeletion) (path : Path) (image : List ℕ) → OpensAs image x.kind (record { kind = x.kind; layout = Layout.Old x.space; listings = x.listings }) → is_same_path path x.c.o.path ≡ true
+      → OldMayBeWritten (record { kind = x.kind; layout = Layout.Old x.space; listings = x.listings }) x.space (Command.Delete path) x.c.l.object.sectors
+      × AreSpared (record { kind = x.kind; layout = Layout.Old x.space; listings = x.listings }) x.space (Command.Delete path) x.c.l.object.sectors

@@ -1,5 +1,5 @@
 -- `delete` on images, by the laws of outcomes.
-use Rattle.std.proofs.Common.{◌≡◌, inl, ℕ, Bool, true, false, cond, List, [], ◌∷◌, refl, sym, ap, subst, ◌∙◌, arith, Some}
+use Rattle.std.proofs.Common.{◌≡◌, inl, ℕ, Bool, true, false, cond, ◌||◌, List, [], ◌∷◌, refl, sym, ap, subst, ◌∙◌, arith, Some}
 use Rattle.std.specs.Prelude.{Contains, IsPermutation}
 use Rattle.std.proofs.lemmas.List.Sorted.{IsPermutation-refl}
 use Rattle.fc_names.specs.Names.{Path, is_same_path}
@@ -15,7 +15,8 @@ use Rattle.fc_image.specs.Objects.{object_at, objects_of}
 use Rattle.fc_image.specs.Opening.{Opened}
 use Rattle.fc_image.specs.Sound.{AreSound}
 use Rattle.fc_names.specs.declared.name.NameForm.{NameForm}
-use Rattle.fc_image.specs.effects.Steady.{AreWritten, DirectorySteady, IsRewritten, without_name}
+use Rattle.fc_image.specs.Stays.{OpensAs}
+use Rattle.fc_image.specs.effects.Steady.{AreWritten, DirectorySteady, IsRewritten, has_grown, has_new_holder, may_be_rewritten, without_name}
 use Rattle.fc_image.proofs.CommandLemmas.{command_law}
 use Rattle.fc_image.proofs.LookupLemmas.{lookup_law}
 use Rattle.fc_image.proofs.PathsLemmas.{itself}
@@ -30,7 +31,11 @@ use Rattle.fc_oldchanges.proofs.GrowthLemmas.{given_alone}
 use Rattle.fc_laws.specs.nodes.Edits.{Nodes}
 use Rattle.fc_laws.specs.nodes.Laws.{IsHeld}
 use Rattle.fc_laws.specs.agree.Agreed.{parts_with}
-use Rattle.fc_oldchanges.specs.Owed.{holding}
+use Rattle.fc_laws.specs.takeover.Places.{MayBeWritten}
+use Rattle.fc_laws.proofs.lemmas.takeover.ApartLemmas.{places_law}
+use Rattle.fc_oldchanges.specs.Owed.{IsBefore, holding}
+use Rattle.fc_oldlaws.specs.takeover.Places.{AreSpared, MayBeWritten as OldMayBeWritten}
+use Rattle.fc_oldlaws.proofs.lemmas.takeover.ApartLemmas.{places_law as old_places_law}
 use Rattle.fc_oldlaws.specs.agree.Laws.{parts_with as old_parts_with}
 use Rattle.fc_edits.specs.Edit.{Amended, AreEdited, listings_after, now}
 use Rattle.fc_edits.specs.Deletion.{Deletion, IsDeletion, NewDeletion, OldDeletion, amended, edit, holes_with_it}
@@ -61,6 +66,25 @@ goes_at path [] o alone same k at = absurd (no_element k at)
 goes_at path (d ∷ []) o alone same k at =
     ap (λ (x : Listing). is_same_path path x.object.path) (sym (only d k at)) ∙ ap (λ (x : Object). is_same_path path x.path) alone.0 ∙ same
 goes_at path (d ∷ e ∷ out) o alone same k at = absurd alone
+
+-- ---- its directory
+
+module _ (nodes : Nodes) (layout : Layout) (listings : List Listing) (c : Deletion) (h : IsHeld nodes layout listings) (d : IsDeletion nodes layout listings c) (path : Path)
+    (same : is_same_path path c.o.path ≡ true) where
+  l_in : Contains listings c.l
+  l_in = memory.l_in nodes layout listings c h d
+
+  kid_in : Contains c.l.children c.o
+  kid_in = memory.kid_in nodes layout listings c h d
+
+  o_in : Contains (objects_of listings) c.o
+  o_in = child_is_object layout listings h.sound c.l c.o l_in kid_in
+
+  lies_there : LiesIn path c.l.object.path c.o.entry.name
+  lies_there = lies_in path c.l.object.path c.o.entry.name (ap (is_same_path path) (sym (child_path layout listings h.sound c.l c.o l_in kid_in)) ∙ same)
+
+  may_rewrite : (v : Opened) → may_be_rewritten v (Command.Delete path) c.l.object.path ≡ true
+  may_rewrite v = ap (λ (b : Bool). b || false || has_grown v (Command.Delete path) c.l.object.path || has_new_holder v (Command.Delete path) c.l.object.path) lies_there.holds
 
 -- ---- on any map
 
@@ -95,19 +119,12 @@ module _ (nodes nodes' : Nodes) (layout layout' : Layout) (listings : List Listi
   keeps : KeepsPaths image image' layout layout' nodes listings (edit c) []
   keeps = record { paths = λ o s. refl; steady = []; moving = IsPermutation-refl {X = Object} []; kept = λ o at. absurd (no_element o at) }
 
-  l_in : Contains listings c.l
-  l_in = memory.l_in nodes layout listings c h d
-
-  o_in : Contains (objects_of listings) c.o
-  o_in = child_is_object layout listings h.sound c.l c.o l_in (memory.kid_in nodes layout listings c h d)
-
-  lies_there : LiesIn path c.l.object.path c.o.entry.name
-  lies_there =
-      lies_in path c.l.object.path c.o.entry.name (ap (is_same_path path) (sym (child_path layout listings h.sound c.l c.o l_in (memory.kid_in nodes layout listings c h d))) ∙ leaves.path_is)
+  abbrev lies : LiesIn path c.l.object.path c.o.entry.name
+  lies = lies_there nodes layout listings c h d path leaves.path_is
 
   -- the other directories aren't named
   other : (k : Listing) → Contains c.rest k → is_same_path (holder path) k.object.path ≡ false
-  other k at = unnamed ne path c.l k c.dir l_in d.dir_is (contains_here c.dir []) lies_there.holds at
+  other k at = unnamed ne path c.l k c.dir (l_in nodes layout listings c h d path leaves.path_is) d.dir_is (contains_here c.dir []) lies.holds at
 
   asked : (kind : Kind) (found : List Listing) → AreSound layout' found → IsPermutation (listings_after (edit c)) found → AreWritten (object_bytes image' layout' c.l.object) c.content
       → AreAsked image image' (record { kind = kind; layout = layout; listings = listings }) (record { kind = kind; layout = layout'; listings = found }) (Command.Delete path) (edit c)
@@ -119,8 +136,8 @@ module _ (nodes nodes' : Nodes) (layout layout' : Layout) (listings : List Listi
         out = goes_at path c.out c.o d.alone leaves.path_is;
         paths = λ k at. itself k.object.path;
         amended = of_one (λ (b : Amended). DirectorySteady image image' v w (Command.Delete path) b.was (now (edit c) b)) (amended c)
-            (written_asks image image' v w (Command.Delete path) c.l (now (edit c) (amended c)) (plain_delete path) refl lies_there.holds
-            (leaves.entries ∙ sym (ap (λ (b : Bool). cond b (without_name (last_name path) (entries_of c.l.content)) (entries_of c.l.content)) lies_there.holds))
+            (written_asks image image' v w (Command.Delete path) c.l (now (edit c) (amended c)) (plain_delete path) refl lies.holds
+            (leaves.entries ∙ sym (ap (λ (b : Bool). cond b (without_name (last_name path) (entries_of c.l.content)) (entries_of c.l.content)) lies.holds))
             (subst (λ (n : ℕ). IsRewritten (Command.Delete path) c.l.object.path n c.l.content c.content) (sym stays) leaves.says) written);
         same = λ k at. plain_asks v w (Command.Delete path) (edit c) k (plain_delete path) refl (other k at);
       }
@@ -207,7 +224,7 @@ module _ (back : ReadsBack) (x : OldDeletion) (path : Path) (bytes image image' 
   there : object_at x.listings path ≡ Some x.c.o
   there =
       lookup_law.object y x.listings path x.c.o h_old.sound
-      (o_in x.nodes x.nodes' y y' x.listings x.c h_old x.deletion x.nodes_edited path bytes image image' w.leaves) w.leaves.path_is
+      (o_in x.nodes y x.listings x.c h_old x.deletion path w.leaves.path_is) w.leaves.path_is
 
   old_asked : old.IsAskedOf on_old (Command.Delete path)
   old_asked found sound' order = record {
@@ -227,5 +244,31 @@ module _ (back : ReadsBack) (x : OldDeletion) (path : Path) (bytes image image' 
       (keeps x.nodes x.nodes' y y' x.listings x.c h_old x.deletion x.nodes_edited path bytes image image' w.leaves) old_asked
       (λ found edited. command_law.delete image image' y y' x.listings found path x.c.o edited w.leaves.path_is)
 
+-- ---- what every exit leaves
+
+may_new : (x : NewDeletion) (path : Path) (image : List ℕ) → OpensAs image x.kind (record { kind = x.kind; layout = Layout.New x.m; listings = x.listings }) → is_same_path path x.c.o.path ≡ true
+    → MayBeWritten x.kind (record { kind = x.kind; layout = Layout.New x.m; listings = x.listings }) x.m (Command.Delete path) x.c.l.object.sectors
+may_new x path image opens same =
+    let v : Opened = record { kind = x.kind; layout = Layout.New x.m; listings = x.listings } in
+    let h = ag.h (na.held_edit (memory.new_parts x)) in
+    places_law.directory x.kind image v x.m (Command.Delete path) x.c.l (record { opens = opens; layout = refl }) (l_in x.nodes (Layout.New x.m) x.listings x.c h x.deletion path same)
+    (may_rewrite x.nodes (Layout.New x.m) x.listings x.c h x.deletion path same v)
+
+may_old : (x : OldDeletion) (path : Path) (image : List ℕ) → OpensAs image x.kind (record { kind = x.kind; layout = Layout.Old x.space; listings = x.listings }) → is_same_path path x.c.o.path ≡ true
+    → OldMayBeWritten (record { kind = x.kind; layout = Layout.Old x.space; listings = x.listings }) x.space (Command.Delete path) x.c.l.object.sectors
+    × AreSpared (record { kind = x.kind; layout = Layout.Old x.space; listings = x.listings }) x.space (Command.Delete path) x.c.l.object.sectors
+may_old x path image opens same =
+    let v : Opened = record { kind = x.kind; layout = Layout.Old x.space; listings = x.listings } in
+    let h = memory.old_held x.kind x.space x.nodes x.owners x.root x.listings x.c x.agreed x.deletion in
+    let before : IsBefore x.kind image v x.space = record { opens = opens; layout = refl; is_map = x.agreed.is_map } in
+    let may = old_places_law.directory x.kind image v x.space (Command.Delete path) x.c.l before (l_in x.nodes (Layout.Old x.space) x.listings x.c h x.deletion path same)
+    (may_rewrite x.nodes (Layout.Old x.space) x.listings x.c h x.deletion path same v) in
+    (may, old_places_law.spared x.kind image v x.space (Command.Delete path) x.c.l.object.sectors before may)
+
 pub deletion_law : ReadsBack → DeletionLaw
-deletion_law back = record { new = λ x path bytes image image' w. new_deleted x path bytes image image' w; old = λ x path bytes image image' w. old_deleted back x path bytes image image' w }
+deletion_law back = record {
+  new = λ x path bytes image image' w. new_deleted x path bytes image image' w;
+  old = λ x path bytes image image' w. old_deleted back x path bytes image image' w;
+  new_may = may_new;
+  old_may = may_old;
+}
