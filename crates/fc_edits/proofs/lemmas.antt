@@ -15,6 +15,8 @@ pub mod OldPlaceLemmas
 pub mod StillLemmas
 pub mod ViewLemmas
 pub mod DeletionLemmas
+pub mod AddedPlaceLemmas
+pub mod AdditionLemmas
 pub mod RewordingLemmas
 pub mod GrownCdirLemmas
 pub mod TransferLemmas

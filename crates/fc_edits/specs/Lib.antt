@@ -8,6 +8,7 @@ pub mod OldPlaces
 pub mod PartsEdit
 pub mod Views
 pub mod Deletion
+pub mod Addition
 pub mod Rewording
 pub mod Transfer
 pub mod GrownCdir

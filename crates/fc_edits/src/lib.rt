@@ -2,6 +2,7 @@
 //! new maps and old ones, and that the parts still agree.
 #![tactic(auto)]
 
+ghost use Rattle.fc_edits.specs.Addition.{AdditionLaw};
 ghost use Rattle.fc_edits.specs.Deletion.{DeletionLaw};
 ghost use Rattle.fc_edits.specs.GrownCdir.{GrownCdirLaw};
 ghost use Rattle.fc_edits.specs.NewNodes.{AfterLaw};
@@ -46,6 +47,11 @@ pub fn old_places()
 /// `delete` is an edit, and has its places on new maps and old ones.
 pub fn deletion()
     ensures { DeletionLaw }
+{}
+
+/// `save`, `create` and `cdir` of something new are edits without growth, and have their places on new maps and old ones.
+pub fn addition()
+    ensures { AdditionLaw }
 {}
 
 /// `set` and `mark` are edits, on new maps and old ones.

@@ -1,0 +1,169 @@
+-- `save`, `create` and `cdir` of something new, as an edit: a file or an empty directory comes.
+use Rattle.std.specs.Prelude.{◌≡◌, ◌<◌, ◌≤◌, ◌⊎◌, ℕ, true, false, List, [], ◌∷◌, ◌++◌, length, map, Some, None, IsPermutation}
+use Rattle.std.specs.FinMap.{get}
+use Rattle.fc_names.specs.Names.{Path}
+use Rattle.fc_record.specs.declared.Kind.{Kind}
+use Rattle.fc_oldmap.specs.declared.Hole.{Hole}
+use Rattle.fc_oldmap.specs.Holes.{hole_limit}
+use Rattle.fc_oldmap.specs.OldMap.{OldMapContent}
+use Rattle.fc_newmap.specs.Map.{Map, ZoneRun, is_used}
+use Rattle.fc_newmap.specs.NewMap.{IsNewMap}
+use Rattle.fc_dirs.specs.Directory.{Directory, entries_of}
+use Rattle.fc_alloc.specs.declared.owner.Owner.{Owner}
+use Rattle.fc_image.specs.Layout.{Layout, dir_form}
+use Rattle.fc_image.specs.Walk.{Listing, Object, is_directory_object, object_size}
+use Rattle.fc_image.specs.Objects.{objects_of}
+use Rattle.fc_image.specs.Edits.{IsAt}
+use Rattle.fc_image.specs.effects.Short.{holes_without, old_need}
+use Rattle.fc_tree.specs.declared.node.Node.{Node}
+use Rattle.fc_tree.specs.Nodes.{number_of}
+use Rattle.fc_changes.specs.Changed.{IsFileAt, IsInNewSpace}
+use Rattle.fc_changes.specs.Owed.{IsSpaceEdit}
+use Rattle.fc_oldchanges.specs.Changed.{IsFileAt as IsOldFileAt}
+use Rattle.fc_oldchanges.specs.Owed.{holding}
+use Rattle.fc_laws.specs.nodes.Edits.{Nodes, OwnersEdited, owners_with}
+use Rattle.fc_laws.specs.nodes.Laws.{IsHeld}
+use Rattle.fc_laws.specs.agree.Agreed.{AgreeOn as NewAgreeOn, CanSay}
+use Rattle.fc_oldlaws.specs.agree.Laws.{AgreeOn}
+use Rattle.fc_edits.specs.Edit.{Amended, AreEdited, Edit, IsEdit, listings_after, owners_joined, owners_left}
+use Rattle.fc_edits.specs.NewNodes.{nodes_after}
+use Rattle.fc_edits.specs.NewPlaces.{IsSpaceChange, NewPlaces, Taking}
+use Rattle.fc_edits.specs.OldPlaces.{OldPlaces}
+use Rattle.fc_edits.specs.PartsEdit.{OldAgreeNow}
+use Rattle.fc_edits.specs.Places.{AgreeNow, CanSayAll}
+
+-- Object o comes to directory l of node `dir`, which holds `children` afterwards, and gets node `number`. The own listing of a directory
+-- is `into`.
+pub record Addition : Type 0 where
+  pub into : List Listing
+  pub rest : List Listing
+  pub l : Listing
+  pub content : Directory
+  pub children : List Object
+  pub o : Object
+  pub dir : ℕ
+  pub number : ℕ
+
+-- its directory
+abbrev pub amended : Addition → Amended
+amended c = record { was = c.l; number = c.dir; content = c.content; children = c.children; leave = []; join = (c.number, c.o) ∷ []; kids = c.l.children }
+
+-- the edit
+abbrev pub edit : Addition → Edit
+edit c = record {
+  out = [];
+  into = map (λ (d : Listing). (c.number, d)) c.into;
+  amended = amended c ∷ [];
+  same = c.rest;
+  gone = [];
+  come = (c.number, c.o) ∷ [];
+  moving = [];
+  turn = λ p. p;
+  top_leave = [];
+  top_join = [];
+}
+
+-- the listing of an empty directory
+pub record ListsEmpty (layout : Layout) (d : Listing) (o : Object) : Type 0 where
+  pub object : d.object ≡ o
+  pub directory : is_directory_object o ≡ true
+  pub none : d.children ≡ []
+  pub says_none : entries_of d.content ≡ []
+  pub can : CanSay layout o d.content
+
+-- A file comes without a listing, and a directory with its own.
+abbrev pub ComesAlone : Layout → List Listing → Object → Type 0
+ComesAlone layout [] o = is_directory_object o ≡ false
+ComesAlone layout (d ∷ []) o = ListsEmpty layout d o
+ComesAlone layout (d ∷ e ∷ into) o = ⊥
+
+pub record IsAddition (nodes : Nodes) (layout : Layout) (listings : List Listing) (c : Addition) : Type 0 where
+  pub found : IsPermutation listings (c.l ∷ c.rest)
+  pub holds : IsPermutation c.children (c.o ∷ c.l.children)
+  pub stored : map (λ (p : Object). p.entry) c.children ≡ entries_of c.content
+  pub path : c.o.path ≡ c.l.object.path ++ c.o.entry.name ∷ []
+  pub dir_is : number_of nodes c.l.object.path ≡ Some c.dir
+  pub free : get nodes c.number ≡ None
+  pub alone : ComesAlone layout c.into c.o
+  pub can : CanSay layout c.l.object c.content
+
+-- ---- its place
+
+-- In n bytes a file lies where files lie that come to this directory, and a directory in new space.
+abbrev pub IsPlaced : Map → List Object → Path → ℕ → ℕ → List ZoneRun → Object → Type 0
+IsPlaced m objects path n id parts o = IsFileAt m objects path n id parts o ⊎ IsInNewSpace m n 0 id parts o
+
+-- what is taken, if anything is
+abbrev pub takings_of : ℕ → List ZoneRun → List Taking
+takings_of id [] = []
+takings_of id (p ∷ parts) = record { id = id; parts = p ∷ parts } ∷ []
+
+-- ---- with its parts
+
+-- An addition to parts with a new map, and the parts after it.
+pub record NewAddition : Type 0 where
+  pub kind : Kind
+  pub m : Map
+  pub m' : Map
+  pub nodes : Nodes
+  pub nodes' : Nodes
+  pub owners : List Owner
+  pub owners' : List Owner
+  pub root : Node
+  pub listings : List Listing
+  pub c : Addition
+  pub id : ℕ
+  pub parts : List ZoneRun
+  pub near : Path
+  pub agreed : NewAgreeOn kind m nodes owners root listings
+  pub addition : IsAddition nodes (Layout.New m) listings c
+  pub nodes_edited : AreEdited nodes nodes' (edit c)
+  pub owners_edited : OwnersEdited owners owners' [] (owners_with (Layout.New m') c.dir c.number c.o)
+  pub is_map : IsNewMap m'
+  pub geometry : m'.geometry ≡ m.geometry
+  pub space : IsSpaceEdit m m' id parts []
+  pub at : IsAt (Layout.New m') c.o
+  pub place : IsPlaced m (objects_of listings) near (object_size (dir_form (Layout.New m')) c.o.entry) id parts c.o
+
+-- the holes of an old map without the space of the object
+abbrev pub holes_before_it : OldMapContent → Addition → List Hole
+holes_before_it space c = holes_without (old_need space (object_size (dir_form (Layout.Old space)) c.o.entry)) space.holes
+
+-- An addition to parts with an old map, and the parts after it. The map has no more holes than it can have.
+pub record OldAddition : Type 0 where
+  pub kind : Kind
+  pub space : OldMapContent
+  pub nodes : Nodes
+  pub nodes' : Nodes
+  pub owners : List Owner
+  pub owners' : List Owner
+  pub root : Node
+  pub listings : List Listing
+  pub c : Addition
+  pub agreed : AgreeOn kind space nodes owners root listings
+  pub addition : IsAddition nodes (Layout.Old space) listings c
+  pub nodes_edited : AreEdited nodes nodes' (edit c)
+  pub owners_edited : OwnersEdited owners owners' [] (owners_with (Layout.Old space) c.dir c.number c.o)
+  pub few : length (holes_before_it space c) ≤ hole_limit
+  pub at : IsAt (Layout.Old space) c.o
+  pub place : IsOldFileAt space (object_size (dir_form (Layout.Old space)) c.o.entry) c.o
+
+-- ---- the law
+
+pub record AdditionLaw : Type 0 where
+  -- It is an edit; these are the nodes and the owners after it, and what the directories say can be said.
+  pub is_edit : (nodes : Nodes) (layout : Layout) (listings : List Listing) (c : Addition) → IsHeld nodes layout listings → IsAddition nodes layout listings c → IsEdit nodes listings (edit c)
+  pub nodes : (nodes : Nodes) (layout : Layout) (listings : List Listing) (c : Addition) → IsHeld nodes layout listings → IsAddition nodes layout listings c
+      → AreEdited nodes (nodes_after (edit c) nodes) (edit c)
+  pub owners : (layout layout' : Layout) (owners owners' : List Owner) (c : Addition) → OwnersEdited owners owners' [] (owners_with layout' c.dir c.number c.o)
+      → OwnersEdited owners owners' (owners_left layout (edit c)) (owners_joined layout' (edit c))
+  pub can : (nodes : Nodes) (layout : Layout) (listings : List Listing) (c : Addition) → IsAddition nodes layout listings c → CanSayAll layout listings (edit c)
+  -- What is taken for an unused identifier is a change of the map's space.
+  pub change : (m m' : Map) (id : ℕ) (parts : List ZoneRun) (gone : List ℕ) → 1 ≤ m.geometry.zones → IsSpaceEdit m m' id parts gone → (0 < length parts → is_used m id ≡ false)
+      → IsSpaceChange m m' (takings_of id parts) gone
+  -- It has its places.
+  pub new_places : (x : NewAddition) → NewPlaces x.kind x.m x.m' x.nodes x.listings (edit x.c) (takings_of x.id x.parts) []
+  pub old_places : (x : OldAddition) → OldPlaces x.space (holes_before_it x.space x.c) (edit x.c)
+  -- The parts after it agree.
+  pub new : (x : NewAddition) → AgreeNow x.kind x.m' x.nodes' x.owners' (listings_after (edit x.c))
+  pub old : (x : OldAddition) → OldAgreeNow x.kind (holding x.space (holes_before_it x.space x.c)) x.nodes' x.owners' (listings_after (edit x.c))
