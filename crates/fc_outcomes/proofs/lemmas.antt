@@ -13,4 +13,8 @@ pub mod NewOutsideLemmas
 pub mod NewImageLemmas
 pub mod OldImageLemmas
 pub mod DeletedLemmas
+pub mod JoinedLemmas
+pub mod AddedLemmas
+pub mod OldAddedLemmas
+pub mod AdditionLemmas
 pub mod RewordedLemmas

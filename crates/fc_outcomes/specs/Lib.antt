@@ -5,4 +5,5 @@ pub mod Steady
 pub mod NewImage
 pub mod OldImage
 pub mod Deletion
+pub mod Addition
 pub mod Rewording

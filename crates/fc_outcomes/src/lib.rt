@@ -1,6 +1,7 @@
 //! Laws from an edit of a volume's objects, and what was written for it, to what a command promises of the new image.
 #![tactic(auto)]
 
+ghost use Rattle.fc_outcomes.specs.Addition.{AdditionLaw};
 ghost use Rattle.fc_outcomes.specs.Deletion.{DeletionLaw};
 ghost use Rattle.fc_outcomes.specs.Done.{DoneLaw, KeptLaw};
 ghost use Rattle.fc_outcomes.specs.NewImage.{NewImageLaw};
@@ -51,6 +52,13 @@ pub fn old_image()
 /// `delete` does what it promises, on new maps and old ones.
 pub fn deletion()
     ensures { DeletionLaw }
+{
+    reads_back();
+}
+
+/// `save`, `create` and `cdir` of something new do what they promise without growth, on new maps and old ones.
+pub fn addition()
+    ensures { AdditionLaw }
 {
     reads_back();
 }

@@ -54,6 +54,11 @@ of_own layout n [] o alone P is x at = absurd (no_element x at)
 of_own layout n (d ∷ []) o alone P is x at = of_one P (n, d) (is d alone) x at
 of_own layout n (d ∷ e ∷ into) o alone P is x at = absurd alone
 
+pub own_listed : (layout : Layout) (into : List Listing) (o : Object) → ComesAlone layout into o → (d : Listing) → Contains into d → ListsEmpty layout d o
+own_listed layout [] o alone d at = absurd (no_element d at)
+own_listed layout (k ∷ []) o alone d at = subst (λ (x : Listing). ListsEmpty layout x o) (only k d at) alone
+own_listed layout (k ∷ e ∷ into) o alone d at = absurd alone
+
 few_own : (layout : Layout) (n : ℕ) (into : List Listing) (o : Object) → ComesAlone layout into o → AreDistinct (map (λ (d : ℕ × Listing). d.0) (numbered n into))
 few_own layout n [] o alone = tt
 few_own layout n (d ∷ []) o alone = ((λ at. no_element n at), tt)

@@ -40,7 +40,7 @@ use Rattle.fc_outcomes.specs.Steady.{AreAsked, AsksNothing, SteadyLaw}
 use Rattle.fc_outcomes.proofs.lemmas.DoneLemmas.{same_bytes}
 
 -- where the listings are afterwards
-now_in : (e : Edit) (found : List Listing) → IsPermutation (listings_after e) found → (a : Amended) → Contains e.amended a → Contains found (now e a)
+pub now_in : (e : Edit) (found : List Listing) → IsPermutation (listings_after e) found → (a : Amended) → Contains e.amended a → Contains found (now e a)
 now_in e found order a at =
     in_other (listings_after e) found order (now e a)
     (Contains-append_right (map (λ (d : ℕ × Listing). d.1) e.into) (map (now e) e.amended ++ map (still e) e.same) (now e a)
