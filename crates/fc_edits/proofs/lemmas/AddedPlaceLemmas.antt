@@ -1,9 +1,12 @@
 -- The place of an object that comes, on new maps and old ones.
-use Rattle.std.proofs.Common.{◌≡◌, ◌<◌, ◌≤◌, inl, inr, ⊎_elim, ℕ, ◌+◌, ◌*◌, ◌/◌, Bool, true, false, cond, List, [], ◌∷◌, ◌++◌, length, refl, sym, ap, ap₂, subst, ◌∙◌, arith, eq-eqb, Some}
+use Rattle.std.proofs.Common.{◌≡◌, ◌<◌, ◌≤◌, inl, inr, ⊎_elim, ℕ, ◌+◌, ◌*◌, ◌/◌, Bool, true, false, cond, List, [], ◌∷◌, ◌++◌, length, refl, sym, ap, ap₂, subst, ◌∙◌, arith, eq-eqb, map, None, Some, Option}
 use Rattle.std.specs.Prelude.{Contains, IsPermutation, not, nat_le, ◌==◌, ◌&&◌, ◌||◌}
 use Rattle.std.specs.Int.{div_ceil}
 use Rattle.std.specs.List.{list_any}
 use Rattle.std.proofs.lemmas.Bool.{eqb-true}
+use Rattle.std.specs.Option.{option_to_list}
+use Rattle.std.proofs.lemmas.List.{append-nil}
+use Rattle.std.proofs.lemmas.List.Elements.{Contains-append_left}
 use Rattle.std.proofs.lemmas.List.Sorted.{IsPermutation-refl, IsPermutation-sym}
 use Rattle.fc_names.specs.Names.{Path}
 use Rattle.fc_record.specs.declared.Kind.{Kind}
@@ -25,7 +28,8 @@ use Rattle.fc_plan.specs.Applied.{unless_gone}
 use Rattle.fc_plan.specs.Giving.{is_one_of}
 use Rattle.fc_plan.specs.Taking.{as_runs}
 use Rattle.fc_plan.proofs.Left.{left_of_none}
-use Rattle.fc_tree.proofs.MemberLemmas.{contains_here, no_element}
+use Rattle.fc_tree.proofs.MemberLemmas.{contains_here, in_map, no_element}
+use Rattle.fc_tree.proofs.WalkedLemmas.{child_is_object}
 use Rattle.fc_changes.specs.Changed.{IsFileAt, IsInNewSpace}
 use Rattle.fc_changes.specs.Owed.{GivesBack as AnyGivesBack, IsSpaceEdit}
 use Rattle.fc_changes.proofs.BasicLemmas.{clash, unless}
@@ -36,12 +40,16 @@ use Rattle.fc_changes.proofs.SpaceLemmas.{no_runs, not_given, still_owned}
 use Rattle.fc_oldchanges.specs.Changed.{IsFileAt as IsOldFileAt}
 use Rattle.fc_oldchanges.proofs.MadeLemmas.{need_some}
 use Rattle.fc_oldchanges.proofs.PlaceLemmas.{row_or_none}
-use Rattle.fc_oldchanges.proofs.SpaceLemmas.{AreSpaced, IsNewPlace, new_place as old_new_place, nowhere, taken}
+use Rattle.fc_oldchanges.proofs.SpaceLemmas.{AreGiven, AreSpaced, IsNewPlace, given, new_place as old_new_place, not_given as not_in_given, nowhere, taken}
+use Rattle.fc_laws.specs.nodes.Laws.{IsHeld}
 use Rattle.fc_laws.specs.agree.Agreed.{IsMapChange}
+use Rattle.fc_laws.proofs.lemmas.nodes.ListLemmas.{in_first}
+use Rattle.fc_oldlaws.proofs.lemmas.agree.BeforeLemmas.{sound}
 use Rattle.fc_laws.proofs.lemmas.agree.BeforeLemmas.{new_facts, object_lies}
 use Rattle.fc_laws.proofs.lemmas.agree.NewPlaceLemmas.{IsFreePlace, file_place, new_place}
 use Rattle.fc_oldlaws.proofs.lemmas.agree.DirectoryLemmas.{spaced_parts}
-use Rattle.fc_edits.specs.Addition.{NewAddition, OldAddition, edit, holes_before_it, takings_of}
+use Rattle.fc_edits.specs.Addition.{Addition, NewAddition, OldAddition, edit, holes_with_it, leaves, over_it, takings_of}
+use Rattle.fc_edits.specs.Edit.{leaving, objects}
 use Rattle.fc_edits.specs.NewPlaces.{GivesBack, IsSpaceChange, LiesAgain, NewPlaces, Taking, is_taken, untaken}
 use Rattle.fc_edits.specs.OldPlaces.{OldLiesAgain, OldPlaces, with_holes}
 use Rattle.fc_edits.specs.Places.{Stays}
@@ -76,6 +84,14 @@ is_fresh m id (p ∷ parts) fresh k h = by (id == k) refl h
     by true e g = subst (λ (n : ℕ). is_used m n ≡ false) (eqb-true id k e) (fresh (omega arith))
     by false e g = absurd (cc)
 
+-- who leaves the directory
+pub objects_leave : (c : Addition) → objects (leaving (edit c)) ≡ c.over
+objects_leave c = ap objects (append-nil (leaves c)) ∙ each c.over
+  where
+    each : (os : List Object) → objects (map (λ (p : Object). (c.number, p)) os) ≡ os
+    each [] = refl
+    each (p ∷ os) = ap (λ (ps : List Object). p ∷ ps) (each os)
+
 -- Nothing goes back if all stay.
 pub none_given : (o : Object) (objects : List Object) (k : ℕ) → is_given_back objects (o ∷ objects) k ≡ false
 none_given o objects k = by (is_owned objects k) refl
@@ -101,14 +117,14 @@ module _ (x : NewAddition) where
   abbrev size : ℕ
   size = object_size (dir_form (Layout.New x.m')) x.c.o.entry
 
-  change : IsMapChange x.m x.m' x.id x.parts [] before (o ∷ before)
-  change = record { is_map = x.is_map; geometry = x.geometry; space = x.space; gives = record { exactly = λ k used. sym (none_given o before k) } }
+  change : IsMapChange x.m x.m' x.id x.parts x.gone before (o ∷ x.stay)
+  change = record { is_map = x.is_map; geometry = x.geometry; space = x.space; gives = x.gives }
 
   pub free_place : IsFreePlace x.kind x.m before x.id x.parts o
   free_place =
       ⊎_elim
-      (λ file. file_place x.kind x.m x.m' x.nodes x.owners x.root x.listings x.agreed size x.id x.parts [] o before change x.at refl x.near file)
-      (λ directory. new_place x.kind x.m x.m' x.nodes x.owners x.root x.listings x.agreed size x.id x.parts [] o before change x.at refl 0 (omega arith) directory) x.place
+      (λ file. file_place x.kind x.m x.m' x.nodes x.owners x.root x.listings x.agreed size x.id x.parts x.gone o x.stay change x.at refl x.near file)
+      (λ directory. new_place x.kind x.m x.m' x.nodes x.owners x.root x.listings x.agreed size x.id x.parts x.gone o x.stay change x.at refl 0 (omega arith) directory) x.place
 
   zones : 1 ≤ x.m.geometry.zones
   zones = (new_facts x.m x.agreed.is_map).zones
@@ -119,8 +135,8 @@ module _ (x : NewAddition) where
   not_in_new : (low : ℕ) → low < 256 → IsInNewSpace x.m size low x.id x.parts o → (k : ℕ) → is_owner_of k o ≡ true → is_used x.m k ≡ true → ⊥
   not_in_new low small new k own used =
       clash (is_used x.m k) used
-      (subst (λ (j : ℕ). is_used x.m j ≡ false) (sym (id_is x.m x.m' size low x.id x.parts [] o x.agreed.is_map x.geometry small new x.space) ∙ its_id k own)
-      (unused x.m x.m' size low x.id x.parts [] o x.agreed.is_map x.geometry small new x.space))
+      (subst (λ (j : ℕ). is_used x.m j ≡ false) (sym (id_is x.m x.m' size low x.id x.parts x.gone o x.agreed.is_map x.geometry small new x.space) ∙ its_id k own)
+      (unused x.m x.m' size low x.id x.parts x.gone o x.agreed.is_map x.geometry small new x.space))
 
   -- A used identifier that it comes to isn't the root's.
   not_two : (k : ℕ) → is_owner_of k o ≡ true → is_used x.m k ≡ true → k ≡ 2 → ⊥
@@ -150,19 +166,23 @@ module _ (x : NewAddition) where
       by false low =
           absurd (not_two k own used (low_owned x.m before (λ p at. (object_lies x.kind x.m x.nodes x.owners x.root x.listings x.agreed p at).placed) k owned low))
 
-  gives : GivesBack x.m (takings_of x.id x.parts) [] x.listings (edit x.c)
+  gives : GivesBack x.m (takings_of x.id x.parts) x.gone x.listings (edit x.c)
   gives = record {
-    stay = before;
-    others = IsPermutation-refl before;
-    exactly = λ k used. sym (ap₂ (λ (y z : Bool). y || z) (none_given o before k)
+    stay = x.stay;
+    others = subst (λ (os : List Object). IsPermutation before (os ++ x.stay)) (sym (objects_leave x.c)) x.others;
+    exactly = λ k used. x.gives.exactly k used ∙ sym (no_more (is_given_back before (o ∷ x.stay) k) (is_taken (takings_of x.id x.parts) k)
         (unless (is_taken (takings_of x.id x.parts) k) (λ taken. clash (is_used x.m k) used (is_fresh x.m x.id x.parts free_place.fresh k taken))));
   }
+    where
+      no_more : (y z : Bool) → z ≡ false → (y || z) ≡ y
+      no_more true z h = refl
+      no_more false z h = h
 
-  pub added_places : NewPlaces x.kind x.m x.m' x.nodes x.listings (edit x.c) (takings_of x.id x.parts) []
+  pub added_places : NewPlaces x.kind x.m x.m' x.nodes x.listings (edit x.c) (takings_of x.id x.parts) x.gone
   added_places = record {
     is_map = x.is_map;
     geometry = x.geometry;
-    space = space_change x.m x.m' x.id x.parts [] zones x.space free_place.fresh;
+    space = space_change x.m x.m' x.id x.parts x.gone zones x.space free_place.fresh;
     gives = gives;
     again = λ k taken used. absurd (clash (is_used x.m k) used (is_fresh x.m x.id x.parts free_place.fresh k taken));
     placed = of_one (λ (p : ℕ × Object). IsAt (Layout.New x.m') p.1) (x.c.number, o) x.at;
@@ -187,23 +207,54 @@ module _ (x : OldAddition) where
   no_length [] h = refl
   no_length (y ∷ xs) h = absurd (omega (arith, h))
 
-  pub old_place : IsNewPlace x.kind x.space (objects_of x.listings) spaced x.c.o (holes_before_it x.space x.c)
+  abbrev base : List Hole
+  base = holes_without (old_need x.space old_size) x.space.holes
+
+  pub old_place : IsNewPlace x.kind x.space (objects_of x.listings) spaced x.c.o base
   old_place =
       ⊎_elim
       (λ new.
       subst (λ (b : Bool). IsNewPlace x.kind x.space (objects_of x.listings) spaced x.c.o (cond b x.space.holes (after_take (old_need x.space old_size) x.space.holes)))
       (sym (need_some x.space old_size spaced.units new.0)) (old_new_place x.kind x.space (objects_of x.listings) spaced old_size x.c.o refl x.at new.1))
       (λ empty.
-      nowhere x.kind x.space (objects_of x.listings) spaced x.c.o (holes_before_it x.space x.c)
+      nowhere x.kind x.space (objects_of x.listings) spaced x.c.o base
       (⊎_elim (λ none. none.1) (λ row. no_length x.c.o.sectors (row.long ∙ ap (λ (k : ℕ). div_ceil k (256 * x.space.sector_units)) empty.0 ∙ nothing_ceil))
       (row_or_none x.space x.c.o.entry.address old_size x.c.o.sectors x.at))) x.place
 
-  pub old_added_places : OldPlaces x.space (holes_before_it x.space x.c) (edit x.c)
+  -- what goes was there
+  over_in : (p : Object) → over_it x.c ≡ Some p → Contains x.c.over p
+  over_in p is = by x.c.over is
+    where
+      by : (os : List Object) → over_it (record x.c { over = os }) ≡ Some p → Contains os p
+      by [] h = absurd (cc)
+      by (q ∷ os) h = subst (Contains (q ∷ os)) (let e : q ≡ p = cc in e) (contains_here q os)
+
+  old_in : (p : Object) → over_it x.c ≡ Some p → Contains (objects_of x.listings) p
+  old_in p is =
+      let h : IsHeld x.nodes (Layout.Old x.space) x.listings = record { sound = sound x.kind x.space x.nodes x.owners x.root x.listings x.agreed; held = x.agreed.walked.held } in
+      child_is_object (Layout.Old x.space) x.listings h.sound x.c.l p (in_first x.listings (x.c.l ∷ x.c.rest) x.addition.found x.c.l (contains_here x.c.l x.c.rest))
+      (in_first x.c.l.children (x.c.over ++ x.c.kids) x.addition.had p (Contains-append_left x.c.over x.c.kids p (over_in p is)))
+
+  pub freed : AreGiven x.kind x.space (objects_of x.listings) spaced (over_it x.c) base (holes_with_it x.space x.c)
+  freed = given x.kind x.space (objects_of x.listings) spaced (over_it x.c) old_in base (taken x.kind x.space (objects_of x.listings) spaced old_size)
+
+  pub old_added_places : OldPlaces x.space (holes_with_it x.space x.c) (edit x.c)
   old_added_places = record {
-    left = λ s i. inl ((taken x.kind x.space (objects_of x.listings) spaced old_size).within s i);
+    left = λ s i.
+        ⊎_elim (λ was. inl ((taken x.kind x.space (objects_of x.listings) spaced old_size).within s was))
+        (λ back. inr ((x.c.number, back.0), leaving_in back.0 back.1, back.2)) (freed.left s i);
     placed = of_one (λ (p : ℕ × Object). IsAt (Layout.Old x.space) p.1) (x.c.number, x.c.o) x.at;
     lies = of_one (λ (p : ℕ × Object). OldLiesAgain x.space (edit x.c) p.1) (x.c.number, x.c.o) (inr (λ s i. (old_place.was_free s i, old_place.off_map s i)));
-    free = of_one (λ (p : ℕ × Object). (s : ℕ) → is_among p.1.sectors s ≡ true → is_among (hole_sectors (with_holes x.space (holes_before_it x.space x.c))) s ≡ false) (x.c.number, x.c.o)
-        (λ s i. unless (is_among (hole_sectors (with_holes x.space (holes_before_it x.space x.c))) s) (old_place.not_left s i));
+    free = of_one (λ (p : ℕ × Object). (s : ℕ) → is_among p.1.sectors s ≡ true → is_among (hole_sectors (with_holes x.space (holes_with_it x.space x.c))) s ≡ false) (x.c.number, x.c.o)
+        (not_in_given x.kind x.space (objects_of x.listings) spaced x.c.o (over_it x.c) base (holes_with_it x.space x.c) old_in freed old_place);
     pairs = ((λ p none. absurd (no_element p none)), tt);
   }
+    where
+      leaving_in : (p : Object) → Contains (option_to_list (over_it x.c)) p → Contains (leaving (edit x.c)) (x.c.number, p)
+      leaving_in p at =
+          subst (λ (ps : List (ℕ × Object)). Contains ps (x.c.number, p)) (sym (append-nil (leaves x.c)))
+          (in_map (λ (q : Object). (x.c.number, q)) x.c.over p (over_in p (by (over_it x.c) at)))
+        where
+          by : (q : Option Object) → Contains (option_to_list q) p → q ≡ Some p
+          by None i = absurd (no_element p i)
+          by (Some r) i = ap (λ (y : Object). Some y) (only r p i)

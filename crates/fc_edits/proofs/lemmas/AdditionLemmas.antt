@@ -1,4 +1,4 @@
--- `save`, `create` and `cdir` of something new, by the laws of edits.
+-- `save`, `create` and `cdir` without growth, by the laws of edits.
 use Rattle.std.proofs.Common.{◌≡◌, inl, ℕ, Bool, true, false, cond, List, [], ◌∷◌, ◌++◌, map, refl, sym, ap, subst, ◌∙◌, ◌≤◌, length, arith, None, Some}
 use Rattle.std.specs.Prelude.{Contains, IsPermutation}
 use Rattle.std.specs.FinMap.{get}
@@ -10,32 +10,45 @@ use Rattle.fc_dirs.specs.Directory.{entries_of}
 use Rattle.fc_alloc.specs.declared.owner.Owner.{Owner}
 use Rattle.fc_image.specs.Layout.{Layout}
 use Rattle.fc_image.specs.Walk.{Listing, Object, is_directory_object}
-use Rattle.fc_image.specs.Objects.{objects_of}
 use Rattle.fc_image.specs.Order.{directories}
-use Rattle.fc_tree.specs.Nodes.{body_in, number_of}
-use Rattle.fc_tree.proofs.MemberLemmas.{contains_here, no_element}
+use Rattle.fc_tree.specs.Nodes.{number_of}
+use Rattle.fc_tree.proofs.MemberLemmas.{contains_here, from_map, no_element}
 use Rattle.fc_tree.proofs.WalkedLemmas.{apart_names, child_path}
 use Rattle.fc_laws.specs.nodes.Edits.{Nodes, OwnersEdited, owners_with}
 use Rattle.fc_laws.specs.nodes.Laws.{IsHeld}
 use Rattle.fc_laws.specs.agree.Agreed.{CanSay}
-use Rattle.fc_laws.proofs.lemmas.nodes.FitsLemmas.{fits_at}
 use Rattle.fc_laws.proofs.lemmas.nodes.ListLemmas.{in_first}
-use Rattle.fc_laws.proofs.lemmas.nodes.ShapeLemmas.{said, some_mapped}
 use Rattle.fc_laws.proofs.lemmas.agree.BeforeLemmas.{sound as new_sound}
-use Rattle.fc_oldchanges.proofs.SpaceLemmas.{taken}
 use Rattle.fc_oldlaws.proofs.lemmas.agree.BeforeLemmas.{sound}
-use Rattle.fc_edits.specs.Edit.{Amended, AreEdited, IsAmended, IsEdit, owners_joined, owners_left}
+use Rattle.fc_edits.specs.Edit.{Amended, AreEdited, IsAmended, IsEdit, numbers, objects, owners_in, owners_joined, owners_left}
 use Rattle.fc_edits.specs.NewNodes.{AreDistinct, HasNumbers, nodes_after}
 use Rattle.fc_edits.specs.OldPlaces.{with_holes}
 use Rattle.fc_edits.specs.PartsEdit.{NewPartsEdit, OldPartsEdit}
 use Rattle.fc_edits.specs.Places.{CanSayAll}
-use Rattle.fc_edits.specs.Addition.{Addition, AdditionLaw, ComesAlone, IsAddition, ListsEmpty, NewAddition, OldAddition, amended, edit, holes_before_it, takings_of}
-use Rattle.fc_edits.proofs.lemmas.AddedPlaceLemmas.{added_places, old_added_places, old_size, space_change, spaced}
+use Rattle.fc_edits.specs.Addition.{Addition, AdditionLaw, ComesAlone, GetsNode, IsAddition, ListsEmpty, NewAddition, OldAddition, amended, edit, holes_with_it, leaves, owners_before, takings_of}
+use Rattle.fc_edits.proofs.lemmas.AddedPlaceLemmas.{added_places, freed, none_given, old_added_places, space_change}
 use Rattle.fc_edits.proofs.lemmas.AfterLemmas.{after_law}
 use Rattle.fc_edits.proofs.lemmas.NewAgreeLemmas.{agree_law, agree_now}
 use Rattle.fc_edits.proofs.lemmas.NewPlaceLemmas.{places_fit}
 use Rattle.fc_edits.proofs.lemmas.OldPlaceLemmas.{old_fit}
+use Rattle.fc_edits.proofs.lemmas.ListLemmas.{flat_mapped}
 use Rattle.fc_edits.proofs.lemmas.ShapeLemmas.{of_one, only}
+
+-- ---- what goes
+
+objects_over : (n : ℕ) (over : List Object) → objects (map (λ (p : Object). (n, p)) over) ≡ over
+objects_over n [] = refl
+objects_over n (p ∷ over) = ap (λ (os : List Object). p ∷ os) (objects_over n over)
+
+replaced_number : (nodes : Nodes) (n : ℕ) (over : List Object) (o : Object) → GetsNode nodes n over o → (p : Object) → Contains over p → number_of nodes p.path ≡ Some n
+replaced_number nodes n [] o gets p at = absurd (no_element p at)
+replaced_number nodes n (q ∷ []) o gets p at = ap (λ (x : Object). number_of nodes x.path) (sym (only q p at)) ∙ gets.number_is
+replaced_number nodes n (q ∷ r ∷ over) o gets p at = absurd gets
+
+none_listed : (nodes : Nodes) (n : ℕ) (over : List Object) (o : Object) → GetsNode nodes n over o → [] ≡ directories (objects (map (λ (p : Object). (n, p)) over))
+none_listed nodes n [] o gets = refl
+none_listed nodes n (q ∷ []) o gets = ap (λ (b : Bool). cond b (q ∷ []) []) (sym gets.was_file)
+none_listed nodes n (q ∷ r ∷ over) o gets = absurd gets
 
 -- ---- the own listing of what comes
 
@@ -80,21 +93,15 @@ module _ (nodes : Nodes) (layout : Layout) (listings : List Listing) (c : Additi
   pub l_in : Contains listings c.l
   l_in = in_first listings (c.l ∷ c.rest) d.found c.l (contains_here c.l c.rest)
 
-  new_one : c.dir ≡ c.number → ⊥
-  new_one e =
-      let f = fits_at layout listings nodes h.sound h.held c.l c.dir l_in d.dir_is in
-      let a = some_mapped said (get nodes c.dir) (body_in c.l.content) f.says in
-      let two : None ≡ Some a.0 = sym d.free ∙ ap (get nodes) (sym e) ∙ a.1 in
-      cc
-
   is_amended : IsAmended nodes (edit c) (amended c)
   is_amended = record {
     number_is = d.dir_is;
-    held = IsPermutation-refl c.l.children;
-    holds = subst (λ (os : List Object). IsPermutation c.children (c.o ∷ os)) (sym (map_same c.l.children)) d.holds;
+    held = subst (λ (os : List Object). IsPermutation c.l.children (os ++ c.kids)) (sym (objects_over c.number c.over)) d.had;
+    holds = subst (λ (os : List Object). IsPermutation c.children (c.o ∷ os)) (sym (map_same c.kids)) d.holds;
     stored = d.stored;
     apart = apart_names c.content d.can.body;
-    left = λ p at. absurd (no_element p at);
+    left = λ p at. (let q = from_map (λ (o : Object). (c.number, o)) c.over p at in
+        subst (λ (x : ℕ × Object). number_of nodes x.1.path ≡ Some x.0) q.2 (replaced_number nodes c.number c.over c.o d.node q.0 q.1));
     paths = of_one (λ (p : ℕ × Object). p.1.path ≡ c.l.object.path ++ p.1.entry.name ∷ []) (c.number, c.o) d.path;
   }
     where
@@ -106,13 +113,13 @@ module _ (nodes : Nodes) (layout : Layout) (listings : List Listing) (c : Additi
   is_edit = record {
     found = d.found;
     amends = of_one (IsAmended nodes (edit c)) (amended c) is_amended;
-    out_gone = refl;
+    out_gone = none_listed nodes c.number c.over c.o d.node;
     out_empty = refl;
     into_come = come_listed layout c.number c.into c.o d.alone;
     into_empty = of_own layout c.number c.into c.o d.alone (λ x. x.1.children ≡ []) (λ k own. own.none);
     into_joins = of_own layout c.number c.into c.o d.alone (λ x. Contains {X = ℕ × Object} ((c.number, c.o) ∷ []) (x.0, x.1.object))
         (λ k own. subst (λ (p : Object). Contains {X = ℕ × Object} ((c.number, c.o) ∷ []) (c.number, p)) (sym own.object) (contains_here (c.number, c.o) []));
-    left = IsPermutation-refl {X = ℕ × Object} [];
+    left = IsPermutation-refl (leaves c ++ []);
     joined = IsPermutation-refl ((c.number, c.o) ∷ []);
     kinds = λ o. refl;
     top_path = λ o at path. path;
@@ -121,19 +128,22 @@ module _ (nodes : Nodes) (layout : Layout) (listings : List Listing) (c : Additi
     paths = λ k o n at kid is stays. child_path layout listings h.sound k o at kid;
   }
 
-  has_numbers : HasNumbers nodes (edit c)
-  has_numbers = record {
+  has_numbers : c.over ≡ [] → HasNumbers nodes (edit c)
+  has_numbers none = record {
     once = ((λ at. no_element c.number at), tt);
-    gone_once = tt;
+    gone_once = subst (λ (os : List Object). AreDistinct (numbers (map (λ (p : Object). (c.number, p)) os))) (sym none) tt;
     into_once = few_own layout c.number c.into c.o d.alone;
-    lasting = λ n gone at. no_element n gone;
-    new = of_one (λ (p : ℕ × Object). get nodes p.0 ≡ None) (c.number, c.o) d.free;
-    gone_others = λ a at gone. no_element a.number gone;
+    lasting = λ n gone at. never n gone;
+    new = of_one (λ (p : ℕ × Object). get nodes p.0 ≡ None) (c.number, c.o) (subst (λ (os : List Object). GetsNode nodes c.number os c.o) none d.node);
+    gone_others = λ a at gone. never a.number gone;
     into_others = λ p at file into. file_own layout c.number c.into c.o d.alone (ap (λ (q : ℕ × Object). is_directory_object q.1) (only (c.number, c.o) p at) ∙ file) p.0 into;
   }
+    where
+      never : (n : ℕ) → Contains (numbers (leaves c)) n → ⊥
+      never n gone = no_element n (subst (λ (os : List Object). Contains (numbers (map (λ (p : Object). (c.number, p)) os)) n) none gone)
 
-  pub are_edited : AreEdited nodes (nodes_after (edit c) nodes) (edit c)
-  are_edited = after_law nodes layout listings (edit c) h is_edit has_numbers
+  pub are_edited : c.over ≡ [] → AreEdited nodes (nodes_after (edit c) nodes) (edit c)
+  are_edited none = after_law nodes layout listings (edit c) h is_edit (has_numbers none)
 
 -- ---- the law
 
@@ -147,11 +157,13 @@ can_say nodes layout listings c d = record {
   root = λ o at path t. absurd (let none = t.leaves in cc);
 }
 
-pub owners_as : (layout layout' : Layout) (owners owners' : List Owner) (c : Addition) → OwnersEdited owners owners' [] (owners_with layout' c.dir c.number c.o)
+pub owners_as : (layout layout' : Layout) (owners owners' : List Owner) (c : Addition) → OwnersEdited owners owners' (owners_before layout c) (owners_with layout' c.dir c.number c.o)
     → OwnersEdited owners owners' (owners_left layout (edit c)) (owners_joined layout' (edit c))
 owners_as layout layout' owners owners' c edited =
-    subst (λ (ws : List Owner). OwnersEdited owners owners' [] ws)
-    (sym (append-nil (owners_with layout' c.dir c.number c.o ++ []) ∙ append-nil (owners_with layout' c.dir c.number c.o))) edited
+    subst (λ (ws : List Owner). OwnersEdited owners owners' (owners_left layout (edit c)) ws)
+    (sym (append-nil (owners_with layout' c.dir c.number c.o ++ []) ∙ append-nil (owners_with layout' c.dir c.number c.o)))
+    (subst (λ (ws : List Owner). OwnersEdited owners owners' ws (owners_with layout' c.dir c.number c.o))
+    (sym (append-nil (owners_in layout c.dir (leaves c)) ∙ flat_mapped (λ (p : ℕ × Object). owners_with layout c.dir p.0 p.1) (λ (p : Object). (c.number, p)) c.over)) edited)
 
 -- ---- the parts
 
@@ -173,7 +185,7 @@ new_parts x =
       agreed = x.agreed;
       is_edit = is;
       nodes_edited = x.nodes_edited;
-      fit = places_fit x.kind x.m x.m' x.nodes x.owners x.root x.listings (edit x.c) (takings_of x.id x.parts) [] x.agreed is (added_places x);
+      fit = places_fit x.kind x.m x.m' x.nodes x.owners x.root x.listings (edit x.c) (takings_of x.id x.parts) x.gone x.agreed is (added_places x);
       can = can_say x.nodes (Layout.New x.m) x.listings x.c x.addition;
       owners_edited = owners_as (Layout.New x.m) (Layout.New x.m') x.owners x.owners' x.c x.owners_edited;
     }
@@ -184,11 +196,11 @@ old_held x = record { sound = sound x.kind x.space x.nodes x.owners x.root x.lis
 abbrev pub old_parts_of : OldAddition → OldPartsEdit
 old_parts_of x =
     let is = is_edit x.nodes (Layout.Old x.space) x.listings x.c (old_held x) x.addition in
-    let right = taken x.kind x.space (objects_of x.listings) (spaced x) (old_size x) in
+    let right = freed x in
     record {
       kind = x.kind;
       space = x.space;
-      holes = holes_before_it x.space x.c;
+      holes = holes_with_it x.space x.c;
       nodes = x.nodes;
       nodes' = x.nodes';
       owners = x.owners;
@@ -203,12 +215,12 @@ old_parts_of x =
         few = x.few;
         disc = x.agreed.is_map.disc;
         units = x.agreed.is_map.units;
-        holes = AreHoles-lower x.space.disc_units x.space.sector_units (map_units x.space.sector_units) 0 (holes_before_it x.space x.c) (omega arith) right.are;
+        holes = AreHoles-lower x.space.disc_units x.space.sector_units (map_units x.space.sector_units) 0 (holes_with_it x.space x.c) (omega arith) right.are;
       };
       in_order = right.are;
-      fit = old_fit x.kind x.space (holes_before_it x.space x.c) x.nodes x.owners x.root x.listings (edit x.c) x.agreed is (old_added_places x);
+      fit = old_fit x.kind x.space (holes_with_it x.space x.c) x.nodes x.owners x.root x.listings (edit x.c) x.agreed is (old_added_places x);
       can = can_say x.nodes (Layout.Old x.space) x.listings x.c x.addition;
-      owners_edited = owners_as (Layout.Old x.space) (with_holes x.space (holes_before_it x.space x.c)) x.owners x.owners' x.c x.owners_edited;
+      owners_edited = owners_as (Layout.Old x.space) (with_holes x.space (holes_with_it x.space x.c)) x.owners x.owners' x.c x.owners_edited;
     }
 
 pub addition_law : AdditionLaw
@@ -218,6 +230,7 @@ addition_law = record {
   owners = owners_as;
   can = can_say;
   change = space_change;
+  none_goes = λ m o os. record { exactly = λ k used. sym (none_given o os k) };
   new_places = added_places;
   old_places = old_added_places;
   new = λ x. agree_now (new_parts x);
