@@ -49,7 +49,7 @@ pub fn deletion()
     ensures { DeletionLaw }
 {}
 
-/// `save`, `create` and `cdir` of something new are edits without growth, and have their places on new maps and old ones.
+/// `save`, `create` and `cdir` are edits without growth, and have their places on new maps and old ones.
 pub fn addition()
     ensures { AdditionLaw }
 {}

@@ -56,7 +56,7 @@ pub fn deletion()
     reads_back();
 }
 
-/// `save`, `create` and `cdir` of something new do what they promise without growth, on new maps and old ones.
+/// `save`, `create` and `cdir` do what they promise without growth, on new maps and old ones.
 pub fn addition()
     ensures { AdditionLaw }
 {

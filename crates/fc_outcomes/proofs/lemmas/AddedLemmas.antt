@@ -1,5 +1,5 @@
--- `save`, `create` and `cdir` of something new on images, by the laws of outcomes.
-use Rattle.std.proofs.Common.{◌≡◌, ◌<◌, ◌≤◌, inl, inr, ⊎_elim, ℕ, ◌*◌, Bool, true, false, cond, List, [], ◌∷◌, ◌++◌, length, replicate, refl, sym, ap, ap₂, subst, ◌∙◌, arith, Some, None, Option}
+-- `save`, `create` and `cdir` without growth on images, by the laws of outcomes.
+use Rattle.std.proofs.Common.{◌≡◌, ◌<◌, ◌≤◌, inl, inr, ⊎_elim, ℕ, ◌*◌, Bool, true, false, cond, List, [], ◌∷◌, ◌++◌, length, map, refl, sym, ap, ap₂, subst, ◌∙◌, arith, Some, None, Option}
 use Rattle.std.specs.Prelude.{Contains, IsPermutation, IsSomeAnd, is_some, nat_lt, ◌==◌, ◌||◌}
 use Rattle.std.specs.Option.{option_map_or}
 use Rattle.std.proofs.lemmas.Bool.{eqb-true, lt-ltb}
@@ -20,7 +20,7 @@ use Rattle.fc_image.specs.Walk.{Listing, Object, is_directory_object, object_byt
 use Rattle.fc_image.specs.Objects.{is_owned, object_at, objects_of, tree_of}
 use Rattle.fc_image.specs.Opening.{Opened}
 use Rattle.fc_image.specs.Sound.{AreSound}
-use Rattle.fc_image.specs.Commanded.{IsFileMade}
+use Rattle.fc_image.specs.Commanded.{AreAt, IsFileMade}
 use Rattle.fc_image.specs.TreeEdits.{IsObjectEdit}
 use Rattle.fc_model.specs.Answer.{changed}
 use Rattle.fc_image.specs.effects.Sharing.{slack, units}
@@ -44,15 +44,15 @@ use Rattle.fc_laws.specs.nodes.Laws.{IsHeld}
 use Rattle.fc_laws.specs.agree.Agreed.{parts_with}
 use Rattle.fc_laws.proofs.lemmas.agree.BeforeLemmas.{new_shape}
 use Rattle.fc_laws.proofs.lemmas.agree.DirectoryAddedLemmas.{size_of_new}
-use Rattle.fc_edits.specs.Addition.{NewAddition, OldAddition, edit, takings_of}
-use Rattle.fc_edits.specs.Edit.{listings_after}
+use Rattle.fc_edits.specs.Addition.{ComesAlone, NewAddition, edit, leaves, over_it, takings_of}
+use Rattle.fc_edits.specs.Edit.{listings_after, objects}
 use Rattle.fc_edits.specs.NewPlaces.{is_taken, untaken}
 use Rattle.fc_edits.specs.PartsEdit.{NewPartsEdit}
 use Rattle.fc_edits.proofs.lemmas.AddedPlaceLemmas.{added_places, free_place, is_fresh}
 use Rattle.fc_edits.proofs.lemmas.AdditionLemmas as memory
 use Rattle.fc_edits.proofs.lemmas.AgreeLemmas as ag
 use Rattle.fc_edits.proofs.lemmas.NewAgreeLemmas as na
-use Rattle.fc_outcomes.specs.Addition.{AdditionLaw, IsItsDirectory, IsItsFile, NewAdded, NewAdditionWritten}
+use Rattle.fc_outcomes.specs.Addition.{HasEntry, IsItsDirectory, IsItsFile, NewAdded, NewAdditionWritten}
 use Rattle.fc_outcomes.specs.NewImage as new
 use Rattle.fc_outcomes.specs.NewImage.{NewImageEdit}
 use Rattle.fc_outcomes.specs.Puts.{Put}
@@ -102,7 +102,7 @@ module _ (x : NewAddition) (c : Command) (path : Path) (bytes stored image image
   on_new = record {
     parts = parts;
     takings = takings_of x.id x.parts;
-    gone = [];
+    gone = x.gone;
     r = w.r;
     image = image;
     image' = image';
@@ -126,7 +126,7 @@ module _ (x : NewAddition) (c : Command) (path : Path) (bytes stored image image
       (ap (λ (f : NameForm). object_size f o.entry) form ∙ sym w.joins.stored_long) ∙ w.out.there own (contains_later its own (own ∷ []) (contains_here own []))
 
   -- An identifier that gets runs is the object's.
-  module _ (names : (n : ℕ) × Makes v c path n) (high_owned : (k : ℕ) → is_taken (takings_of x.id x.parts) k ≡ true → (found : List Listing) → Contains (objects_of found) o → (3 ≤ k) × (is_owned (objects_of found) k ≡ true))
+  module _ (names : (n : ℕ) × Makes v c path n (over_it x.c)) (high_owned : (k : ℕ) → is_taken (takings_of x.id x.parts) k ≡ true → (found : List Listing) → Contains (objects_of found) o → (3 ≤ k) × (is_owned (objects_of found) k ≡ true))
       (parts_left : holes_left (hole_runs x.m) (cond (nat_lt 0 (cond (is_some (slack_for v c)) 0 (units x.m.geometry names.0))) (id_runs x.m' (id_of o.entry.address)) []) ≡ holes_left (hole_runs x.m) x.parts)
       (lies : NewObjectPlaced x.m x.m' names.0 (slack_for v c) (Some o)) (empty : names.0 ≡ 0 → o.entry.address ≡ 0)
       (made : (found : List Listing) → AreSound (Layout.New x.m') found → IsPermutation (listings_after (edit x.c)) found → NewDirectory image' (record { kind = x.kind; layout = Layout.New x.m'; listings = found }) c) where
@@ -168,12 +168,12 @@ module _ (x : NewAddition) (c : Command) (path : Path) (bytes stored image image
 
   module _ (n low : ℕ) (small : low < 256) (place : IsInNewSpace x.m n low x.id x.parts o) where
     its_id : id_of o.entry.address ≡ x.id
-    its_id = id_is x.m x.m' n low x.id x.parts [] o x.agreed.is_map x.geometry small place x.space
+    its_id = id_is x.m x.m' n low x.id x.parts x.gone o x.agreed.is_map x.geometry small place x.space
 
     left_new : holes_left (hole_runs x.m) (cond (nat_lt 0 (units x.m.geometry n)) (id_runs x.m' (id_of o.entry.address)) []) ≡ holes_left (hole_runs x.m) x.parts
     left_new =
         ap (λ (b : Bool). holes_left (hole_runs x.m) (cond b (id_runs x.m' (id_of o.entry.address)) [])) (lt-ltb 0 (units x.m.geometry n) (units_some x.m n x.agreed.is_map place.some))
-        ∙ ap (λ (k : ℕ). holes_left (hole_runs x.m) (id_runs x.m' k)) its_id ∙ same_left x.m x.m' n low x.id x.parts [] o x.agreed.is_map x.geometry small place x.space
+        ∙ ap (λ (k : ℕ). holes_left (hole_runs x.m) (id_runs x.m' k)) its_id ∙ same_left x.m x.m' n low x.id x.parts x.gone o x.agreed.is_map x.geometry small place x.space
 
     high_new : (k : ℕ) → is_taken (takings_of x.id x.parts) k ≡ true → object_size (dir_form (Layout.New x.m')) o.entry ≡ n → (found : List Listing) → Contains (objects_of found) o
         → (3 ≤ k) × (is_owned (objects_of found) k ≡ true)
@@ -182,7 +182,7 @@ module _ (x : NewAddition) (c : Command) (path : Path) (bytes stored image image
         let sector : 0 < x.m'.geometry.sector = subst (λ (g : Geometry). 0 < g.sector) (sym x.geometry) (new_shape x.m x.agreed.is_map).some in
         let at : sectors_at (Layout.New x.m') o.entry.address n ≡ Some o.sectors = subst (λ (j : ℕ). sectors_at (Layout.New x.m') o.entry.address j ≡ Some o.sectors) size x.at in
         let s = a_sector x.m' o.entry.address n o.sectors place.some sector at in (
-          subst (λ (j : ℕ). 3 ≤ j) (sym same) (high x.m x.m' n low x.id x.parts [] o x.agreed.is_map x.geometry small place x.space),
+          subst (λ (j : ℕ). 3 ≤ j) (sym same) (high x.m x.m' n low x.id x.parts x.gone o x.agreed.is_map x.geometry small place x.space),
           subst (λ (j : ℕ). is_owned (objects_of found) j ≡ true) (its_id ∙ sym same) (object_owns (objects_of found) o s.0 among s.1),
         )
 
@@ -194,7 +194,7 @@ module _ (x : NewAddition) (c : Command) (path : Path) (load exec : ℕ) (bytes 
   file_view = record { kind = x.kind; layout = Layout.New x.m; listings = x.listings }
 
   file : is_directory_object x.c.o ≡ false
-  file = ap is_directory f.attrs
+  file = subst (λ (ks : List Listing). ComesAlone (Layout.New x.m) ks x.c.o) f.alone x.addition.alone
 
   file_size : (layout : Layout) → object_size (dir_form layout) x.c.o.entry ≡ x.c.o.entry.len
   file_size layout = ap (λ (b : Bool). cond b (directory_size (dir_form layout) x.c.o.entry.len) x.c.o.entry.len) file
@@ -205,8 +205,8 @@ module _ (x : NewAddition) (c : Command) (path : Path) (load exec : ℕ) (bytes 
   size_is : object_size (dir_form (Layout.New x.m')) x.c.o.entry ≡ length stored
   size_is = file_size (Layout.New x.m') ∙ len_is
 
-  file_names : Makes file_view c path (length stored)
-  file_names = makes_file file_view c path load exec stored w.joins.free f.makes
+  file_names : Makes file_view c path (length stored) (over_it x.c)
+  file_names = makes_file file_view c path load exec stored (over_it x.c) w.joins.stood f.makes
 
   share_is : slack_for file_view c ≡ slack x.m (objects_of x.listings) (holder path) (length stored)
   share_is = ⊎_elim (λ is. ap (slack_for file_view) is) (λ is. ap (slack_for file_view) is.0) f.makes
@@ -217,8 +217,9 @@ module _ (x : NewAddition) (c : Command) (path : Path) (load exec : ℕ) (bytes 
   made_file : IsFileMade image' (Layout.New x.m') x.listings path load exec stored x.c.o
   made_file = record {
     at_path = w.joins.path_is;
-    name = w.joins.name ∙ sym (ap (λ (q : Option Object). option_map_or (λ (p : Object). p.entry.name) q (last_name path)) w.joins.free);
-    attrs = f.attrs ∙ sym (ap (λ (q : Option Object). option_map_or (λ (p : Object). p.entry.attrs) q 3) w.joins.free);
+    name = joined.its_name x.nodes x.nodes' (Layout.New x.m) (Layout.New x.m') x.listings x.c (h x c path bytes stored image image' w) x.addition x.nodes_edited c path bytes stored image image' w.joins
+        (form x c path bytes stored image image' w);
+    attrs = f.attrs ∙ sym (ap (λ (q : Option Object). option_map_or (λ (p : Object). p.entry.attrs) q 3) w.joins.stood);
     load_word = f.load_word;
     exec_word = f.exec_word;
     file = file;
@@ -249,11 +250,11 @@ module _ (x : NewAddition) (c : Command) (path : Path) (load exec : ℕ) (bytes 
   lies_by (inr (inl fresh)) =
       let small = file_low_small x.m.geometry (bits_in x.parts * x.m.geometry.bit_bytes) (length stored) in
       subst (λ (q : Option (ℕ × ℕ)). NewObjectPlaced x.m x.m' (length stored) q (Some x.c.o)) (sym fresh.0)
-      (λ some. stands_new x.m x.m' (length stored) _ x.id x.parts [] x.c.o x.agreed.is_map x.geometry small fresh.1 x.space
+      (λ some. stands_new x.m x.m' (length stored) _ x.id x.parts x.gone x.c.o x.agreed.is_map x.geometry small fresh.1 x.space
       (ap (λ (b : Bool). cond b 0 (file_low x.m'.geometry (bits_in (id_runs x.m' (id_of x.c.o.entry.address)) * x.m'.geometry.bit_bytes) x.c.o.entry.len)) file
       ∙ ap (λ (g : Geometry). file_low g (bits_in (id_runs x.m' (id_of x.c.o.entry.address)) * g.bit_bytes) x.c.o.entry.len) x.geometry
-      ∙ ap₂ (λ (k len : ℕ). file_low x.m.geometry (bits_in (id_runs x.m' k) * x.m.geometry.bit_bytes) len) (id_is x.m x.m' (length stored) _ x.id x.parts [] x.c.o x.agreed.is_map x.geometry small fresh.1 x.space) len_is
-      ∙ ap (λ (k : ℕ). file_low x.m.geometry (k * x.m.geometry.bit_bytes) (length stored)) (same_bits x.m x.m' (length stored) _ x.id x.parts [] x.c.o x.agreed.is_map x.geometry small fresh.1 x.space)))
+      ∙ ap₂ (λ (k len : ℕ). file_low x.m.geometry (bits_in (id_runs x.m' k) * x.m.geometry.bit_bytes) len) (id_is x.m x.m' (length stored) _ x.id x.parts x.gone x.c.o x.agreed.is_map x.geometry small fresh.1 x.space) len_is
+      ∙ ap (λ (k : ℕ). file_low x.m.geometry (k * x.m.geometry.bit_bytes) (length stored)) (same_bits x.m x.m' (length stored) _ x.id x.parts x.gone x.c.o x.agreed.is_map x.geometry small fresh.1 x.space)))
   lies_by (inr (inr none)) =
       subst (λ (q : Option (ℕ × ℕ)). NewObjectPlaced x.m x.m' (length stored) q (Some x.c.o)) (sym (no_slack x.m (objects_of x.listings) (holder path) (length stored) none.none))
       (λ some. absurd (let zero' = none.none in omega (arith, zero', some)))
@@ -281,14 +282,19 @@ module _ (x : NewAddition) (c : Command) (path : Path) (load exec : ℕ) (bytes 
       (subst (λ (q : Option (ℕ × ℕ)). NewObjectPlaced x.m x.m' (length stored) q (Some x.c.o)) (sym share_is) (lies_by place)) (empty_by place) (λ found sound' order. no_directory image' _))
       (λ found edited. tree found edited)
     where
-      tree : (found : List Listing) → IsObjectEdit image image' (Layout.New x.m) (Layout.New x.m') x.listings found [] (x.c.o ∷ []) → tree_of image' (Layout.New x.m') found ≡ changed (tree_of image (Layout.New x.m) x.listings) c
+      stood : AreAt path (objects (leaves x.c))
+      stood =
+          joined.stood_at x.nodes x.nodes' (Layout.New x.m) (Layout.New x.m') x.listings x.c (h x c path bytes stored image image' w) x.addition x.nodes_edited c path bytes stored image image' w.joins
+          (form x c path bytes stored image image' w)
+
+      tree : (found : List Listing) → IsObjectEdit image image' (Layout.New x.m) (Layout.New x.m') x.listings found (objects (leaves x.c)) (x.c.o ∷ []) → tree_of image' (Layout.New x.m') found ≡ changed (tree_of image (Layout.New x.m) x.listings) c
       tree found edited =
           ⊎_elim
           (λ is.
-          command_law.save image image' (Layout.New x.m) (Layout.New x.m') x.listings found path load exec stored [] x.c.o edited tt made_file
+          command_law.save image image' (Layout.New x.m) (Layout.New x.m') x.listings found path load exec stored (objects (leaves x.c)) x.c.o edited stood made_file
           ∙ ap (changed (tree_of image (Layout.New x.m) x.listings)) (sym is))
           (λ is.
-          command_law.create image image' (Layout.New x.m) (Layout.New x.m') x.listings found path load exec (length stored) [] x.c.o edited tt
+          command_law.create image image' (Layout.New x.m) (Layout.New x.m') x.listings found path load exec (length stored) (objects (leaves x.c)) x.c.o edited stood
           (subst (λ (bs : List ℕ). IsFileMade image' (Layout.New x.m') x.listings path load exec bs x.c.o) is.1 made_file) ∙ ap (changed (tree_of image (Layout.New x.m) x.listings)) (sym is.0)) f.makes
 
 -- ---- an empty directory
@@ -313,17 +319,19 @@ module _ (x : NewAddition) (path : Path) (d : Listing) (bytes stored image image
   new_directory place =
       let held = h x (Command.Cdir path) path bytes stored image image' w in
       let was : Opened = record { kind = x.kind; layout = Layout.New x.m; listings = x.listings } in
-      let names : Makes was (Command.Cdir path) path n = makes_directory was path n refl in
+      let nothing : over_it x.c ≡ None = ap (λ (os : List Object). over_it (record x.c { over = os })) is.new in
+      let names : Makes was (Command.Cdir path) path n (over_it x.c) = subst (Makes was (Command.Cdir path) path n) (sym nothing) (makes_directory was path n refl) in
       new_image.changes_by (on_new x (Command.Cdir path) path bytes stored image image' w) (Command.Cdir path) []
       (joined.keeps x.nodes x.nodes' (Layout.New x.m) (Layout.New x.m') x.listings x.c held x.addition x.nodes_edited (Command.Cdir path) path bytes stored image image' w.joins its_form)
       (asked x (Command.Cdir path) path bytes stored image image' w (n, names)
       (λ k taken found among. high_new x (Command.Cdir path) path bytes stored image image' w n 0 (omega arith) place k taken directory_size_is found among)
       (left_new x (Command.Cdir path) path bytes stored image image' w n 0 (omega arith) place)
-      (λ some. stands_new x.m x.m' n 0 x.id x.parts [] x.c.o x.agreed.is_map x.geometry (omega arith) place x.space
+      (λ some. stands_new x.m x.m' n 0 x.id x.parts x.gone x.c.o x.agreed.is_map x.geometry (omega arith) place x.space
       (ap (λ (b : Bool). cond b 0 (file_low x.m'.geometry (bits_in (id_runs x.m' (id_of x.c.o.entry.address)) * x.m'.geometry.bit_bytes) x.c.o.entry.len)) directory))
       (λ none. absurd (let some = place.some in omega (arith, none, some)))
       (λ found sound' order.
       joined.made_asked x.nodes x.nodes' (Layout.New x.m) (Layout.New x.m') x.listings x.c held x.addition x.nodes_edited (Command.Cdir path) path bytes stored image image' w.joins its_form x.kind found sound' order
       (n, names) w.no_growth d is (bytes_now x (Command.Cdir path) path bytes stored image image' w)))
-      (λ found edited. command_law.cdir image image' (Layout.New x.m) (Layout.New x.m') x.listings found path x.c.o edited
-      (record { at_path = w.joins.path_is; name = w.joins.name; attrs = is.attrs; load = is.load; exec = is.exec }))
+      (λ found edited. command_law.cdir image image' (Layout.New x.m) (Layout.New x.m') x.listings found path x.c.o
+      (subst (λ (os : List Object). IsObjectEdit image image' (Layout.New x.m) (Layout.New x.m') x.listings found (objects (map (λ (p : Object). (x.c.number, p)) os)) (x.c.o ∷ [])) is.new edited)
+      (record { at_path = w.joins.path_is; name = (subst (λ (q : Option Object). HasEntry q path x.c) nothing w.joins.entry).1; attrs = is.attrs; load = is.load; exec = is.exec }))

@@ -1,4 +1,4 @@
--- `save`, `create` and `cdir` of something new, on both maps.
+-- `save`, `create` and `cdir` without growth, on both maps.
 use Rattle.fc_oldmap.specs.Laws.{ReadsBack}
 use Rattle.fc_outcomes.specs.Addition.{AdditionLaw}
 use Rattle.fc_outcomes.proofs.lemmas.AddedLemmas as new
