@@ -17,6 +17,8 @@ pub mod ViewLemmas
 pub mod DeletionLemmas
 pub mod AddedPlaceLemmas
 pub mod AdditionLemmas
+pub mod ReplacedLemmas
+pub mod AdditionLawLemmas
 pub mod RewordingLemmas
 pub mod GrownCdirLemmas
 pub mod TransferLemmas

@@ -27,7 +27,7 @@ use Rattle.fc_laws.specs.nodes.Laws.{IsHeld}
 use Rattle.fc_laws.specs.agree.Agreed.{AgreeOn as NewAgreeOn, CanSay}
 use Rattle.fc_oldlaws.specs.agree.Laws.{AgreeOn}
 use Rattle.fc_edits.specs.Edit.{Amended, AreEdited, Edit, IsEdit, listings_after, owners_joined, owners_left}
-use Rattle.fc_edits.specs.NewNodes.{nodes_after}
+use Rattle.fc_edits.specs.NewNodes.{enter, nodes_after, tell}
 use Rattle.fc_edits.specs.NewPlaces.{IsSpaceChange, NewPlaces, Taking}
 use Rattle.fc_edits.specs.OldPlaces.{OldPlaces}
 use Rattle.fc_edits.specs.PartsEdit.{OldAgreeNow}
@@ -83,6 +83,10 @@ abbrev pub ComesAlone : Layout → List Listing → Object → Type 0
 ComesAlone layout [] o = is_directory_object o ≡ false
 ComesAlone layout (d ∷ []) o = ListsEmpty layout d o
 ComesAlone layout (d ∷ e ∷ into) o = ⊥
+
+-- the nodes after a file has come in the place of another
+abbrev pub nodes_over : Addition → Nodes → Nodes
+nodes_over c nodes = tell (amended c ∷ []) (enter ((c.dir, (c.number, c.o)) ∷ []) nodes)
 
 -- a file in the place of another, whose node it gets
 pub record Replaces (nodes : Nodes) (number : ℕ) (p o : Object) : Type 0 where
@@ -191,6 +195,9 @@ pub record AdditionLaw : Type 0 where
   pub is_edit : (nodes : Nodes) (layout : Layout) (listings : List Listing) (c : Addition) → IsHeld nodes layout listings → IsAddition nodes layout listings c → IsEdit nodes listings (edit c)
   pub nodes : (nodes : Nodes) (layout : Layout) (listings : List Listing) (c : Addition) → IsHeld nodes layout listings → IsAddition nodes layout listings c → c.over ≡ []
       → AreEdited nodes (nodes_after (edit c) nodes) (edit c)
+  -- So they are if a file goes, whose node the new one gets.
+  pub nodes_over_it : (nodes : Nodes) (layout : Layout) (listings : List Listing) (c : Addition) (p : Object) → IsHeld nodes layout listings → IsAddition nodes layout listings c → c.over ≡ p ∷ []
+      → AreEdited nodes (nodes_over c nodes) (edit c)
   pub owners : (layout layout' : Layout) (owners owners' : List Owner) (c : Addition) → OwnersEdited owners owners' (owners_before layout c) (owners_with layout' c.dir c.number c.o)
       → OwnersEdited owners owners' (owners_left layout (edit c)) (owners_joined layout' (edit c))
   pub can : (nodes : Nodes) (layout : Layout) (listings : List Listing) (c : Addition) → IsAddition nodes layout listings c → CanSayAll layout listings (edit c)

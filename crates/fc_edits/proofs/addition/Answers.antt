@@ -1,4 +1,4 @@
-use Rattle.fc_edits.proofs.lemmas.AdditionLemmas.{addition_law}
+use Rattle.fc_edits.proofs.lemmas.AdditionLawLemmas.{addition_law}
 use Rattle.fc_edits.proofs.addition.Goals as goal
 
 pub returns : goal.returns

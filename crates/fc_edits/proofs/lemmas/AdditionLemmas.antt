@@ -25,7 +25,7 @@ use Rattle.fc_edits.specs.NewNodes.{AreDistinct, HasNumbers, nodes_after}
 use Rattle.fc_edits.specs.OldPlaces.{with_holes}
 use Rattle.fc_edits.specs.PartsEdit.{NewPartsEdit, OldPartsEdit}
 use Rattle.fc_edits.specs.Places.{CanSayAll}
-use Rattle.fc_edits.specs.Addition.{Addition, AdditionLaw, ComesAlone, GetsNode, IsAddition, ListsEmpty, NewAddition, OldAddition, amended, edit, holes_with_it, leaves, owners_before, takings_of}
+use Rattle.fc_edits.specs.Addition.{Addition, ComesAlone, GetsNode, IsAddition, ListsEmpty, NewAddition, OldAddition, amended, edit, holes_with_it, leaves, owners_before, takings_of}
 use Rattle.fc_edits.proofs.lemmas.AddedPlaceLemmas.{added_places, freed, none_given, old_added_places, space_change}
 use Rattle.fc_edits.proofs.lemmas.AfterLemmas.{after_law}
 use Rattle.fc_edits.proofs.lemmas.NewAgreeLemmas.{agree_law, agree_now}
@@ -222,17 +222,3 @@ old_parts_of x =
       can = can_say x.nodes (Layout.Old x.space) x.listings x.c x.addition;
       owners_edited = owners_as (Layout.Old x.space) (with_holes x.space (holes_with_it x.space x.c)) x.owners x.owners' x.c x.owners_edited;
     }
-
-pub addition_law : AdditionLaw
-addition_law = record {
-  is_edit = is_edit;
-  nodes = are_edited;
-  owners = owners_as;
-  can = can_say;
-  change = space_change;
-  none_goes = λ m o os. record { exactly = λ k used. sym (none_given o os k) };
-  new_places = added_places;
-  old_places = old_added_places;
-  new = λ x. agree_now (new_parts x);
-  old = λ x. agree_law.old (old_parts_of x);
-}

@@ -58,7 +58,7 @@ without_length (n ∷ ns) nodes once there =
 
 -- ---- nodes that enter
 
-abbrev nums : List (ℕ × (ℕ × Object)) → List ℕ
+abbrev pub nums : List (ℕ × (ℕ × Object)) → List ℕ
 nums qs = map (λ (q : ℕ × (ℕ × Object)). q.1.0) qs
 
 abbrev entry_step : ℕ × (ℕ × Object) → Nodes → Nodes
@@ -85,16 +85,16 @@ enter_here (r ∷ qs) nodes q once at =
     (contains_cases r q qs at)
 
 -- what it says stays
-entered_says : (dir : ℕ) (o : Object) (n : Option Node) (b : Body) → option_map said n ≡ Some b → said (entered dir o n) ≡ b
+pub entered_says : (dir : ℕ) (o : Object) (n : Option Node) (b : Body) → option_map said n ≡ Some b → said (entered dir o n) ≡ b
 entered_says dir o None b e = absurd (cc)
 entered_says dir o (Some a) b e = same_some a.body b e
 
-entered_held : (dir : ℕ) (o : Object) (n : Option Node) → held_by (entered dir o n) ≡ (dir, o.entry)
+pub entered_held : (dir : ℕ) (o : Object) (n : Option Node) → held_by (entered dir o n) ≡ (dir, o.entry)
 entered_held dir o None = refl
 entered_held dir o (Some a) = refl
 
 -- how many of them are new
-abbrev fresh : Nodes → ℕ → Bool
+abbrev pub fresh : Nodes → ℕ → Bool
 fresh nodes n = is_none (get nodes n)
 
 same_new : (nodes nodes' : Nodes) (ns : List ℕ) → ((n : ℕ) → Contains ns n → get nodes' n ≡ get nodes n) → many (fresh nodes') ns ≡ many (fresh nodes) ns
@@ -112,7 +112,7 @@ put_count nodes n a = by (get nodes n) refl
         let same = len-insert nat_cmp_total nodes n a ∙ ap (λ (o : Option Node). cond (is_some o) (len nodes) (len nodes + 1)) e in
         omega (arith, same)
 
-enter_length : (qs : List (ℕ × (ℕ × Object))) (nodes : Nodes) → AreDistinct (nums qs) → len (enter qs nodes) ≡ len nodes + many (fresh nodes) (nums qs)
+pub enter_length : (qs : List (ℕ × (ℕ × Object))) (nodes : Nodes) → AreDistinct (nums qs) → len (enter qs nodes) ≡ len nodes + many (fresh nodes) (nums qs)
 unfolding many
 enter_length [] nodes once = omega arith
 enter_length (q ∷ qs) nodes once =
@@ -131,7 +131,7 @@ all_new nodes (n ∷ ns) each =
     let more = all_new nodes ns (λ k at. each k (contains_later n k ns at)) in
     omega (arith, one, more)
 
-none_new : (nodes : Nodes) (ns : List ℕ) → ((n : ℕ) → Contains ns n → (a : Node) × (get nodes n ≡ Some a)) → many (fresh nodes) ns ≡ 0
+pub none_new : (nodes : Nodes) (ns : List ℕ) → ((n : ℕ) → Contains ns n → (a : Node) × (get nodes n ≡ Some a)) → many (fresh nodes) ns ≡ 0
 unfolding many
 none_new nodes [] each = refl
 none_new nodes (n ∷ ns) each =
