@@ -1,12 +1,15 @@
 pub mod ListLemmas
 pub mod ShapeLemmas
 pub mod NumberLemmas
+pub mod PathNumberLemmas
 pub mod FollowLemmas
 pub mod OwnerLemmas
 pub mod RelistingLemmas
+pub mod ApartLemmas
 pub mod AgreeLemmas
 pub mod NewAgreeLemmas
 pub mod TellLemmas
+pub mod EnterLemmas
 pub mod AfterLemmas
 pub mod LeavingLemmas
 pub mod OwnedLemmas

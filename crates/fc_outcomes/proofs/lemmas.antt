@@ -16,5 +16,7 @@ pub mod DeletedLemmas
 pub mod JoinedLemmas
 pub mod AddedLemmas
 pub mod OldAddedLemmas
+pub mod MayLemmas
 pub mod AdditionLemmas
+pub mod WordLemmas
 pub mod RewordedLemmas

@@ -1,5 +1,5 @@
 -- `save`, `create` and `cdir`, without growth, from what is written to what they promise.
-use Rattle.std.specs.Prelude.{◌≡◌, ℕ, true, List, [], ◌∷◌, length, slice_get, slice_set, Option, Some, None, Contains}
+use Rattle.std.specs.Prelude.{◌≡◌, ℕ, true, List, [], ◌∷◌, ◌++◌, length, slice_get, slice_set, Option, Some, None, Contains}
 use Rattle.std.specs.Option.{option_map_or}
 use Rattle.fc_names.specs.Names.{Path, is_same_path}
 use Rattle.fc_record.specs.declared.DiscRecord.{DiscRecord}
@@ -18,9 +18,11 @@ use Rattle.fc_image.specs.effects.Steady.{AreWritten, IsRewritten, new_directory
 use Rattle.fc_changes.specs.Changed.{IsFileAt, IsInNewSpace, MakesFile}
 use Rattle.fc_changes.specs.Owed.{IsMapAfter}
 use Rattle.fc_laws.specs.agree.Agreed.{parts_with}
+use Rattle.fc_laws.specs.takeover.Places.{MayBeWritten}
 use Rattle.fc_oldchanges.specs.Changed.{IsFileAt as IsOldFileAt, IsFirstFitted}
 use Rattle.fc_oldchanges.specs.Owed.{IsMapAfter as IsOldMapAfter, holding}
 use Rattle.fc_oldlaws.specs.agree.Laws.{parts_with as old_parts_with}
+use Rattle.fc_oldlaws.specs.takeover.Places.{AreSpared, MayBeWritten as OldMayBeWritten}
 use Rattle.fc_edits.specs.Addition.{Addition, NewAddition, OldAddition, holes_with_it, over_it}
 use Rattle.fc_outcomes.specs.NewImage.{Outcome}
 use Rattle.fc_outcomes.specs.Puts.{ArePutOut}
@@ -61,30 +63,37 @@ pub record IsItsDirectory (path : Path) (layout : Layout) (a : Addition) (d : Li
   pub len : a.o.entry.len ≡ new_dir_size (dir_form layout)
   pub says : d.content ≡ new_directory (dir_form layout) a.l.object.entry.address (last_name path)
 
+-- the image as it opens before
+abbrev pub new_view : NewAddition → Opened
+new_view x = record { kind = x.kind; layout = Layout.New x.m; listings = x.listings }
+
+abbrev pub old_view : OldAddition → Opened
+old_view x = record { kind = x.kind; layout = Layout.Old x.space; listings = x.listings }
+
 -- On a new map: the sectors of directory and object have their bytes, both copies of the map are the new map, and no directory grows.
 pub record NewAdditionWritten (x : NewAddition) (c : Command) (path : Path) (bytes stored image image' : List ℕ) : Type 0 where
   pub r : DiscRecord
   pub new_kind : IsNewKind x.kind r
-  pub opens : OpensAs image x.kind (record { kind = x.kind; layout = Layout.New x.m; listings = x.listings })
-  pub no_growth : growth_in (record { kind = x.kind; layout = Layout.New x.m; listings = x.listings }) c ≡ None
+  pub opens : OpensAs image x.kind (new_view x)
+  pub no_growth : growth_in (new_view x) c ≡ None
   pub joins : Joins c path (Layout.New x.m) x.listings x.c bytes stored
   pub out : ArePutOut (Layout.New x.m) (record { sectors = x.c.l.object.sectors; bytes = bytes } ∷ (record { sectors = x.c.o.sectors; bytes = stored } ∷ [])) image image'
   pub after : IsMapAfter x.m x.m' image'
 
 -- On an old map: so they have, and the holes are those after the object has taken its space, and what it replaces has given its own.
 pub record OldAdditionWritten (x : OldAddition) (c : Command) (path : Path) (bytes stored image image' : List ℕ) : Type 0 where
-  pub opens : OpensAs image x.kind (record { kind = x.kind; layout = Layout.Old x.space; listings = x.listings })
+  pub opens : OpensAs image x.kind (old_view x)
   pub joins : Joins c path (Layout.Old x.space) x.listings x.c bytes stored
   pub out : ArePutOut (Layout.Old x.space) (record { sectors = x.c.l.object.sectors; bytes = bytes } ∷ (record { sectors = x.c.o.sectors; bytes = stored } ∷ [])) image image'
   pub after : IsOldMapAfter x.space (holes_with_it x.space x.c) image image'
 
 -- The command does what it promises, and the new image has the parts after it.
 abbrev pub NewAdded : NewAddition → Command → List ℕ → List ℕ → Type 0
-NewAdded x c image image' = Outcome x.kind image image' (record { kind = x.kind; layout = Layout.New x.m; listings = x.listings }) c (parts_with x.m' x.nodes' x.owners')
+NewAdded x c image image' = Outcome x.kind image image' (new_view x) c (parts_with x.m' x.nodes' x.owners')
 
 abbrev pub OldAdded : OldAddition → Command → List ℕ → List ℕ → Type 0
 OldAdded x c image image' =
-    Outcome x.kind image image' (record { kind = x.kind; layout = Layout.Old x.space; listings = x.listings }) c (old_parts_with (holding x.space (holes_with_it x.space x.c)) x.nodes' x.owners')
+    Outcome x.kind image image' (old_view x) c (old_parts_with (holding x.space (holes_with_it x.space x.c)) x.nodes' x.owners')
 
 pub record AdditionLaw : Type 0 where
   pub new_file : (x : NewAddition) (c : Command) (path : Path) (load exec : ℕ) (bytes stored image image' : List ℕ) → NewAdditionWritten x c path bytes stored image image' → IsItsFile c path load exec x.c stored
@@ -95,3 +104,17 @@ pub record AdditionLaw : Type 0 where
       → IsOldFileAt x.space (length stored) x.c.o → OldAdded x c image image'
   pub old_directory : (x : OldAddition) (path : Path) (d : Listing) (bytes stored image image' : List ℕ) → OldAdditionWritten x (Command.Cdir path) path bytes stored image image'
       → IsItsDirectory path (Layout.Old x.space) x.c d → IsFirstFitted x.space (new_dir_size (dir_form (Layout.Old x.space))) x.c.o → OldAdded x (Command.Cdir path) image image'
+  -- At every exit the sectors of directory and object may be written beside the map: they are none of another object, nor of lost space.
+  pub new_may_file : (x : NewAddition) (c : Command) (path : Path) (load exec : ℕ) (bytes stored image : List ℕ) → OpensAs image x.kind (new_view x) → Joins c path (Layout.New x.m) x.listings x.c bytes stored
+      → IsItsFile c path load exec x.c stored → IsFileAt x.m (objects_of x.listings) (holder path) (length stored) x.id x.parts x.c.o
+      → MayBeWritten x.kind (new_view x) x.m c (x.c.l.object.sectors ++ x.c.o.sectors)
+  pub new_may_directory : (x : NewAddition) (path : Path) (d : Listing) (bytes stored image : List ℕ) → OpensAs image x.kind (new_view x)
+      → Joins (Command.Cdir path) path (Layout.New x.m) x.listings x.c bytes stored → IsItsDirectory path (Layout.New x.m) x.c d
+      → IsInNewSpace x.m (new_dir_size (dir_form (Layout.New x.m))) 0 x.id x.parts x.c.o → MayBeWritten x.kind (new_view x) x.m (Command.Cdir path) (x.c.l.object.sectors ++ x.c.o.sectors)
+  pub old_may_file : (x : OldAddition) (c : Command) (path : Path) (load exec : ℕ) (bytes stored image : List ℕ) → OpensAs image x.kind (old_view x) → Joins c path (Layout.Old x.space) x.listings x.c bytes stored
+      → IsItsFile c path load exec x.c stored → IsOldFileAt x.space (length stored) x.c.o → OldMayBeWritten (old_view x) x.space c (x.c.l.object.sectors ++ x.c.o.sectors)
+      × AreSpared (old_view x) x.space c (x.c.l.object.sectors ++ x.c.o.sectors)
+  pub old_may_directory : (x : OldAddition) (path : Path) (d : Listing) (bytes stored image : List ℕ) → OpensAs image x.kind (old_view x)
+      → Joins (Command.Cdir path) path (Layout.Old x.space) x.listings x.c bytes stored → IsItsDirectory path (Layout.Old x.space) x.c d
+      → IsFirstFitted x.space (new_dir_size (dir_form (Layout.Old x.space))) x.c.o → OldMayBeWritten (old_view x) x.space (Command.Cdir path) (x.c.l.object.sectors ++ x.c.o.sectors)
+      × AreSpared (old_view x) x.space (Command.Cdir path) (x.c.l.object.sectors ++ x.c.o.sectors)

@@ -5,21 +5,19 @@ use Rattle.std.specs.FinMap.{get}
 use Rattle.std.proofs.lemmas.List.{length-map}
 use Rattle.std.proofs.lemmas.List.Elements.{Contains-append_cases, Contains-append_left, Contains-append_right}
 use Rattle.std.proofs.lemmas.List.Sorted.{IsPermutation-cons, IsPermutation-middle, IsPermutation-sym, IsPermutation-trans, length_permutation}
-use Rattle.fc_names.specs.Names.{Path}
 use Rattle.fc_names.specs.declared.name.NameForm.{NameForm}
 use Rattle.fc_record.specs.declared.Kind.{Kind}
 use Rattle.fc_dirs.specs.declared.Entry.{Entry}
 use Rattle.fc_dirs.specs.Directory.{directory_size, entries_of}
 use Rattle.fc_alloc.specs.declared.owner.Owner.{Owner}
 use Rattle.fc_image.specs.Layout.{Layout, dir_form, is_apart, sectors_at}
-use Rattle.fc_image.specs.Walk.{Object, Listing, Reader, object_size, root_entry}
+use Rattle.fc_image.specs.Walk.{Object, Listing, object_size, root_entry}
 use Rattle.fc_image.specs.Objects.{objects_of}
 use Rattle.fc_image.specs.Opening.{reserved_in}
 use Rattle.fc_image.specs.Order.{held}
-use Rattle.fc_image.specs.Edits.{Apart, AreChildren, IsAt, IsListing, IsRoot, StayListed}
-use Rattle.fc_image.proofs.EditLemmas.{apart_law}
+use Rattle.fc_image.specs.Edits.{Apart, AreChildren, IsAt, IsRoot, StayListed}
 use Rattle.fc_image.proofs.OrderLemmas.{apart_shuffled}
-use Rattle.fc_image.proofs.RelistLemmas.{apart_behind, edited_apart_law}
+use Rattle.fc_image.proofs.RelistLemmas.{apart_behind}
 use Rattle.fc_tree.specs.declared.node.Node.{Node}
 use Rattle.fc_tree.specs.Agree.{AreWalked, HasForm, reader_of_nodes}
 use Rattle.fc_tree.specs.Nodes.{number_of}
@@ -36,45 +34,14 @@ use Rattle.fc_laws.proofs.lemmas.agree.WalkEditLemmas.{walked_after}
 use Rattle.fc_laws.proofs.lemmas.agree.WalkedLemmas as on_any
 use Rattle.fc_edits.specs.NodesEdit.{NodesEdit}
 use Rattle.fc_edits.specs.PartsEdit.{PartsEdit}
-use Rattle.fc_edits.specs.Places.{ApartPairs, CanSayAll, Stays, WalkFits}
+use Rattle.fc_edits.specs.Places.{CanSayAll, Stays, WalkFits}
 use Rattle.fc_edits.specs.Edit.{Amended, Edit, IsEdit, KeepsEntry, TopStays, TopTurns, joined_in, joining, leaving, left_in, listings_after, now, numbers, objects, still}
 use Rattle.fc_edits.proofs.lemmas.ListLemmas.{in_flat, map_map}
 use Rattle.fc_edits.proofs.lemmas.NumberLemmas as n_
 use Rattle.fc_edits.proofs.lemmas.FollowLemmas.{nodes_follow}
 use Rattle.fc_edits.proofs.lemmas.OwnerLemmas.{owners_follow}
 use Rattle.fc_edits.proofs.lemmas.RelistingLemmas.{after_parted, kept, relisting}
-
--- ---- objects that lie apart
-
-same_apart : (taken : List ℕ) (g : Object → Object) (os : List Object) → ((o : Object) → Contains os o → (g o).sectors ≡ o.sectors) → Apart taken os → Apart taken (map g os)
-same_apart taken g [] same a = tt
-same_apart taken g (o ∷ os) same a = (
-  subst (λ (ss : List ℕ). is_apart ss taken ≡ true) (sym (same o (contains_here o os))) a.0,
-  subst (λ (ss : List ℕ). Apart (ss ++ taken) (map g os)) (sym (same o (contains_here o os))) (same_apart (o.sectors ++ taken) g os (λ p at. same p (contains_later o p os at)) a.1),
-)
-
--- objects that come to others
-come_apart : (taken : List ℕ) (others come : List Object) → Apart taken others → ((o : Object) → Contains come o → is_apart o.sectors taken ≡ true)
-    → ((o p : Object) → Contains come o → Contains others p → is_apart o.sectors p.sectors ≡ true) → ApartPairs come → Apart taken (come ++ others)
-come_apart taken others [] a free each pairs = a
-come_apart taken others (o ∷ come) a free each pairs =
-    apart_law.added taken [] (come ++ others) o
-    (come_apart taken others come a (λ p at. free p (contains_later o p come at)) (λ p q at bt. each p q (contains_later o p come at) bt) pairs.1)
-    (edited_apart_law.from taken (come ++ others) o (free o (contains_here o come))
-    (λ p at. ⊎_elim (λ new. pairs.0 p new) (λ old. each o p (contains_here o come) old) (Contains-append_cases come others p at)))
-
--- ---- what directories hold
-
-children_from : (layout : Layout) (path : Path) (os : List Object) → ((o : Object) → Contains os o → (o.path ≡ path ++ o.entry.name ∷ []) × IsAt layout o)
-    → AreChildren layout path (map (λ (o : Object). o.entry) os) os
-children_from layout path [] each = tt
-children_from layout path (o ∷ os) each =
-    let here = each o (contains_here o os) in
-    (here.0, refl, here.1, children_from layout path os (λ p at. each p (contains_later o p os at)))
-
-pub stay_listed : (read : Reader) (layout : Layout) (ls : List Listing) → ((l : Listing) → Contains ls l → IsListing read layout l) → StayListed read layout ls
-stay_listed read layout [] each = tt
-stay_listed read layout (l ∷ ls) each = (each l (contains_here l ls), stay_listed read layout ls (λ k at. each k (contains_later l k ls at)))
+use Rattle.fc_edits.proofs.lemmas.ApartLemmas.{children_from, come_apart, same_apart, stay_listed}
 
 -- ---- on any map
 

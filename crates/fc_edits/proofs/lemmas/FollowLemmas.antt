@@ -26,6 +26,7 @@ use Rattle.fc_edits.specs.Lookups.{held_as, said, says_at}
 use Rattle.fc_edits.specs.Edit.{Amended, AreEdited, Edit, IsEdit, TopStays, TopTurns, joined_in, leaving, left_in, listings_after, now, numbers, objects, still, turned}
 use Rattle.fc_edits.proofs.lemmas.ListLemmas.{flat_append, flat_mapped, in_flat, map_flat, parted}
 use Rattle.fc_edits.proofs.lemmas.NumberLemmas as n_
+use Rattle.fc_edits.proofs.lemmas.PathNumberLemmas as paths
 
 module _ (ne : NodesEdit) where
   abbrev pub nodes : Nodes
@@ -65,7 +66,7 @@ module _ (ne : NodesEdit) where
   Up = n_.Up ne
 
   number_up : (n : ℕ) (o : Object) → Up n o → number_of nodes' o.path ≡ Some n
-  number_up = n_.number_up ne
+  number_up = paths.number_up ne
 
   stay_in : (k : Listing) → Contains stay k → Contains listings k
   stay_in = n_.stay_in ne
@@ -154,7 +155,7 @@ module _ (ne : NodesEdit) where
       let i = is.amends a at in
       let stays = n_.was_in ne a at in
       record {
-        at = n_.number_dir ne a.was a.number stays i.number_is;
+        at = paths.number_dir ne a.was a.number stays i.number_is;
         says = ed.says a at;
         root = root_now a.was a.number stays i.number_is;
         kids = λ o kid. ⊎_elim (λ joins. joined_fits o joins) (λ kept. kept_fits o (from_map e.turn a.kids o kept))
@@ -182,7 +183,7 @@ module _ (ne : NodesEdit) where
       let f = fits layout listings nodes h.sound h.held k (stay_in k stays) in (
         f.0,
         record {
-          at = n_.number_dir ne k f.0 stays f.1.at;
+          at = paths.number_dir ne k f.0 stays f.1.at;
           says = says_still k f.0 at f.1.at f.1.says;
           root = root_now k f.0 stays f.1.at;
           kids = λ o kid.

@@ -24,6 +24,7 @@ use Rattle.fc_laws.proofs.lemmas.nodes.OwnerLemmas.{KeepsOwner, among-append, am
 use Rattle.fc_edits.specs.NodesEdit.{NodesEdit, NodesLaw}
 use Rattle.fc_edits.specs.Edit.{Amended, AreEdited, Edit, IsEdit, TopStays, TopTurns, joined_in, joining, leaving, left_in, listings_after, now, objects, owners_in, owners_joined, owners_left, still, turned}
 use Rattle.fc_edits.proofs.lemmas.NumberLemmas as n_
+use Rattle.fc_edits.proofs.lemmas.PathNumberLemmas as paths
 use Rattle.fc_edits.proofs.lemmas.FollowLemmas.{held_now, nodes_follow}
 
 -- the owners among objects that are numbered
@@ -99,9 +100,9 @@ module _ (ne : NodesEdit) (layout' : Layout) where
   joined_owner a p at joins =
       let i = is.amends a at in
       let u : n_.Up ne p.0 p.1 = (a.number, a.was, n_.join_in ne a p at joins) in
-      let dir = n_.number_dir ne a.was a.number (n_.was_in ne a at) i.number_is in
+      let dir = paths.number_dir ne a.was a.number (n_.was_in ne a at) i.number_is in
       owner_known nodes' layout' layout' p.1 a.number p.0 (ap (number_of nodes') (ap holder (i.paths p joins) ∙ holder-push (e.turn a.was.object).path p.1.entry.name) ∙ dir)
-      (n_.number_up ne p.0 p.1 u) (λ low. refl)
+      (paths.number_up ne p.0 p.1 u) (λ low. refl)
 
   left_owners : owners_among nodes layout (objects (leaving e)) ≡ owners_left layout e
   left_owners =
@@ -148,9 +149,9 @@ module _ (ne : NodesEdit) (layout' : Layout) where
         let among = child_is_object layout listings h.sound k p listed kid in
         let keeps = is.keeps p c.0 among c.1.at stays in
         let u = n_.kid_in ne k p d.0 c.0 at kid d.1.at c.1.at stays in
-        let dir = n_.number_dir ne k d.0 at d.1.at in
+        let dir = paths.number_dir ne k d.0 at d.1.at in
         keeps_owner nodes nodes' layout layout' p (e.turn p) d.0 c.0 (ap (number_of nodes) (ap holder c.1.path_is ∙ holder-push k.object.path p.entry.name) ∙ d.1.at) c.1.at
-        (ap (number_of nodes') (ap holder u.path ∙ holder-push (e.turn k.object).path (e.turn p).entry.name) ∙ dir) (n_.number_up ne c.0 (e.turn p) (d.0, k, u)) keeps.sectors
+        (ap (number_of nodes') (ap holder u.path ∙ holder-push (e.turn k.object).path (e.turn p).entry.name) ∙ dir) (paths.number_up ne c.0 (e.turn p) (d.0, k, u)) keeps.sectors
         (ap (λ (x : Entry). x.address) keeps.entry) (is.kinds p) first
 
     kid_keeps : (p : Object) → Contains kids p → KeepsOwner nodes nodes' layout layout' p (e.turn p)

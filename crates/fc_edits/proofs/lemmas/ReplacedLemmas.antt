@@ -24,7 +24,7 @@ use Rattle.fc_edits.specs.Edit.{Amended, AreEdited, leaving, numbers}
 use Rattle.fc_edits.specs.Lookups.{held_as, held_by, said, says_at}
 use Rattle.fc_edits.specs.NewNodes.{entered}
 use Rattle.fc_edits.proofs.lemmas.AdditionLemmas.{l_in, own_listed}
-use Rattle.fc_edits.proofs.lemmas.AfterLemmas.{enter_length, entered_held, entered_says, none_new}
+use Rattle.fc_edits.proofs.lemmas.EnterLemmas.{enter_length, entered_held, entered_says, none_new}
 use Rattle.fc_edits.proofs.lemmas.ShapeLemmas.{not_own, of_one}
 use Rattle.fc_edits.proofs.lemmas.TellLemmas.{tell_held, tell_length}
 

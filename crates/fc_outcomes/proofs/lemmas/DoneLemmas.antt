@@ -31,6 +31,7 @@ use Rattle.fc_edits.specs.Places.{Stays}
 use Rattle.fc_edits.proofs.lemmas.ListLemmas.{is_in}
 use Rattle.fc_edits.proofs.lemmas.NumberLemmas as n_
 use Rattle.fc_edits.proofs.lemmas.AgreeLemmas as ag
+use Rattle.fc_edits.proofs.lemmas.ApartLemmas.{stay_listed}
 use Rattle.fc_edits.specs.PartsEdit.{PartsEdit}
 use Rattle.fc_edits.proofs.lemmas.NewAgreeLemmas.{agree_law}
 use Rattle.fc_edits.proofs.lemmas.RelistingLemmas.{kept as relisted_kept}
@@ -114,7 +115,7 @@ module _ (mem : PartsEdit) (image image' : List ℕ) (opens : OpensAs image mem.
 
   pub say_image : StayListed (reader_of image' layout') layout' (listings_after e)
   say_image =
-      ag.stay_listed (reader_of image' layout') layout' (listings_after e)
+      stay_listed (reader_of image' layout') layout' (listings_after e)
       (ag.each_now mem (λ (x : Listing). IsListing (reader_of image' layout') layout' x)
       (λ d there. (
         w.into_say d there,

@@ -281,8 +281,8 @@ module _ (nodes nodes' : Nodes) (layout layout' : Layout) (listings : List Listi
         let there : Contains a.into k = subst (λ (ks : List Listing). Contains ks k) (sym is.listed) (contains_here k []) in
         let empty = memory.own_listed layout a.into a.o d.alone k there in
         let among : Contains (listings_after (edit a)) k =
-            Contains-append_left (map (λ (y : ℕ × Listing). y.1) (map (λ (y : Listing). (a.number, y)) a.into)) (map (now (edit a)) (edit a).amended ++ map (still (edit a)) (edit a).same) k
-            (in_map (λ (y : ℕ × Listing). y.1) (map (λ (y : Listing). (a.number, y)) a.into) (a.number, k) (in_map (λ (y : Listing). (a.number, y)) a.into k there)) in
+        Contains-append_left (map (λ (y : ℕ × Listing). y.1) (map (λ (y : Listing). (a.number, y)) a.into)) (map (now (edit a)) (edit a).amended ++ map (still (edit a)) (edit a).same) k
+        (in_map (λ (y : ℕ × Listing). y.1) (map (λ (y : Listing). (a.number, y)) a.into) (a.number, k) (in_map (λ (y : Listing). (a.number, y)) a.into k there)) in
         subst (λ (q : Option Listing). IsSomeAnd q (IsMadeDirectory image' w path))
         (sym (lookup_law.listing layout' found path k sound' (in_other (listings_after (edit a)) found order k among) (ap (λ (p : Object). is_same_path path p.path) empty.object ∙ joins.path_is)))
         (record {

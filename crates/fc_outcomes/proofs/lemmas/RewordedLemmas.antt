@@ -4,12 +4,10 @@ use Rattle.std.specs.Prelude.{Contains, IfSome, IsPermutation, IsSomeAnd, None}
 use Rattle.std.proofs.lemmas.List.Sorted.{IsPermutation-refl}
 use Rattle.fc_names.specs.Names.{Path, is_same_path}
 use Rattle.fc_names.specs.declared.name.NameForm.{NameForm}
-use Rattle.fc_names.specs.declared.name.NameForm.TheVariants as forms
 use Rattle.fc_record.specs.declared.Kind.{Kind}
 use Rattle.fc_oldmap.specs.Laws.{ReadsBack}
 use Rattle.fc_newmap.specs.Map.{hole_runs}
 use Rattle.fc_model.specs.Command.{Command}
-use Rattle.fc_model.specs.Tree.{holder}
 use Rattle.fc_model.specs.Answer.{changed}
 use Rattle.fc_dirs.specs.declared.Entry.{Entry}
 use Rattle.fc_dirs.specs.Directory.{entries_of}
@@ -21,8 +19,7 @@ use Rattle.fc_image.specs.Report.{holder_address}
 use Rattle.fc_image.specs.Sound.{AreSound}
 use Rattle.fc_image.specs.Stays.{HasSectorsOf}
 use Rattle.fc_image.specs.TreeEdits.{IsObjectEdit}
-use Rattle.fc_image.specs.effects.Short.{growth_in}
-use Rattle.fc_image.specs.effects.Steady.{AreWritten, DirectorySteady, EntrySteady, HasSameAddress, IsDirLength, IsRewritten, edited, holds_named, named_entry, with_made}
+use Rattle.fc_image.specs.effects.Steady.{AreWritten, DirectorySteady, EntrySteady, HasSameAddress, IsRewritten, edited, holds_named, named_entry, with_made}
 use Rattle.fc_image.proofs.CommandLemmas.{command_law}
 use Rattle.fc_image.proofs.LookupLemmas.{lookup_law}
 use Rattle.fc_image.proofs.PathsLemmas.{itself}
@@ -30,7 +27,6 @@ use Rattle.fc_plan.proofs.Left.{left_of_none}
 use Rattle.fc_tree.specs.Nodes.{number_of}
 use Rattle.fc_tree.proofs.MemberLemmas.{contains_here, no_element}
 use Rattle.fc_tree.proofs.WalkedLemmas.{child_path, listed_directory, same_some}
-use Rattle.fc_changes.proofs.DirectoriesLemmas.{IsPlain, plain_mark, plain_set}
 use Rattle.fc_changes.proofs.ReadsLemmas.{LiesIn, lies_in}
 use Rattle.fc_changes.proofs.SpaceLemmas.{untaken_is}
 use Rattle.fc_oldchanges.proofs.GrowthLemmas.{given_alone}
@@ -63,41 +59,7 @@ use Rattle.fc_outcomes.proofs.lemmas.OldImageLemmas as old_image
 use Rattle.fc_outcomes.proofs.lemmas.PutLemmas.{directory_bytes}
 use Rattle.fc_outcomes.proofs.lemmas.SteadyLemmas.{holder_same, plain_asks, unnamed, written_asks}
 use Rattle.fc_outcomes.proofs.lemmas.UnwrittenLemmas.{turned_bytes, unwritten}
-
--- ---- commands that give an object other words
-
--- what is known of such a command, of either
-pub record IsWordCommand (command : Command) (path : Path) : Type 0 where
-  pub plain : IsPlain command
-  pub none : (v : Opened) → growth_in v command ≡ None
-  pub holds : (p : Path) → holds_named command p ≡ is_same_path (holder path) p
-  pub edited_is : (p : Path) (made : Option Entry) (es : List Entry) → edited command p made es ≡ cond (is_same_path (holder path) p) (with_made made es) es
-  pub entry : (w : Opened) (o : Object) → object_at w.listings path ≡ Some o → named_entry w command ≡ Some o.entry
-
-word_command : (command : Command) (path there : Path) (turn : Object → Object) → Words command path there turn → IsWordCommand command path
-word_command command path there turn (inl s) =
-    subst (λ (c : Command). IsWordCommand c path) (sym s.3)
-    (record {
-      plain = plain_set path s.0 s.1 s.2;
-      none = λ v. refl;
-      holds = λ p. refl;
-      edited_is = λ p made es. refl;
-      entry = λ w o at. (let named : (u : Opened) (x : Object) → object_at u.listings path ≡ Some x → named_entry u (Command.Set path s.0 s.1 s.2) ≡ Some x.entry = λ u x e. rw e refl in named w o at);
-    })
-word_command command path there turn (inr s) =
-    subst (λ (c : Command). IsWordCommand c path) (sym s.1)
-    (record {
-      plain = plain_mark path s.0;
-      none = λ v. refl;
-      holds = λ p. refl;
-      edited_is = λ p made es. refl;
-      entry = λ w o at. (let named : (u : Opened) (x : Object) → object_at u.listings path ≡ Some x → named_entry u (Command.Mark path s.0) ≡ Some x.entry = λ u x e. rw e refl in named w o at);
-    })
-
-same_length : (form : NameForm) (old new : ℕ) → new ≡ old → IsDirLength form old new
-same_length forms.Seven old new same = inl same
-same_length forms.Ten old new same = inl same
-same_length forms.Long old new same = same
+use Rattle.fc_outcomes.proofs.lemmas.WordLemmas.{IsWordCommand, same_length, word_command}
 
 -- ---- on any map
 
