@@ -1,11 +1,12 @@
 -- What a writer puts into sectors, step by step and in the end, and what an edit needs of it.
-use Rattle.std.specs.Prelude.{◌≡◌, ◌⊎◌, ℕ, true, false, List, [], ◌∷◌, length, Contains, Some}
+use Rattle.std.specs.Prelude.{◌≡◌, ◌≤◌, ◌⊎◌, ◌*◌, ℕ, true, false, List, [], ◌∷◌, length, Contains, Some}
 use Rattle.std.specs.List.{flat_map}
 use Rattle.fc_device.specs.Sectors.{sector_at}
 use Rattle.fc_dirs.specs.Directory.{Directory}
 use Rattle.fc_image.specs.Layout.{Layout, bytes_in, dir_form, is_among, is_apart, map_place, sector_bytes}
 use Rattle.fc_image.specs.Walk.{Listing, Object, object_bytes, object_size}
 use Rattle.fc_image.specs.effects.Steady.{AreWritten}
+use Rattle.fc_objects.specs.Written.{HasParts}
 use Rattle.fc_tree.specs.Nodes.{number_of}
 use Rattle.fc_laws.specs.nodes.Edits.{Nodes}
 use Rattle.fc_edits.specs.Edit.{Amended, Edit, joining, leaving, numbers}
@@ -74,6 +75,11 @@ pub record ArePutsOf (layout layout' : Layout) (nodes : Nodes) (e : Edit) (puts 
 
 -- So what the edit needs is written, and its directories have all their bytes.
 pub record PutsLaw : Type 0 where
+  -- It is so if each sector has its part of the bytes, filled up with zeros, and there are sectors enough.
+  pub parts : (layout : Layout) (puts : List Put) (image image' : List ℕ) → length image' ≡ length image
+      → ((p : Put) → Contains puts p → HasParts (sector_bytes layout) p.sectors p.bytes image' × (length p.bytes ≤ length p.sectors * sector_bytes layout))
+      → ((s : ℕ) → is_among (map_place layout) s ≡ false → ((p : Put) → Contains puts p → is_among p.sectors s ≡ false) → sector_at (sector_bytes layout) image' s ≡ sector_at (sector_bytes layout) image s)
+      → ArePutOut layout puts image image'
   pub written : (x : PartsEdit) (puts : List Put) (image image' : List ℕ) → sector_bytes x.layout' ≡ sector_bytes x.layout → ArePutOut x.layout puts image image' → ArePutsOf x.layout x.layout' x.nodes x.edit puts image image'
       → IsEditWritten image image' x.layout x.layout' x.nodes x.listings x.edit
   pub only : (x : PartsEdit) (puts : List Put) (image image' : List ℕ) → ArePutOut x.layout puts image image' → ArePutsOf x.layout x.layout' x.nodes x.edit puts image image'

@@ -1,5 +1,5 @@
 -- What a writer leaves is what an edit needs.
-use Rattle.std.proofs.Common.{◌≡◌, inl, inr, ⊎_elim, ℕ, true, List, [], ◌∷◌, sym, ap, subst, ◌∙◌}
+use Rattle.std.proofs.Common.{◌≡◌, ◌≤◌, ◌*◌, inl, inr, ⊎_elim, ℕ, true, false, length, List, [], ◌∷◌, sym, ap, subst, ◌∙◌}
 use Rattle.std.specs.Prelude.{Contains, Err, None, Ok}
 use Rattle.fc_names.specs.declared.name.NameForm.{NameForm}
 use Rattle.fc_names.specs.declared.name.NameForm.TheVariants.{Long, Seven, Ten}
@@ -9,9 +9,13 @@ use Rattle.fc_dirs.specs.declared.SmallForm.TheVariants.{Bytes1280, Bytes2048}
 use Rattle.fc_dirs.specs.Small.{SmallDir, small_dir, small_fault}
 use Rattle.fc_dirs.specs.Big.{BigDir, big_dir, big_fault}
 use Rattle.fc_dirs.specs.Directory.{Directory, directory_of}
-use Rattle.fc_image.specs.Layout.{Layout, bytes_in, dir_form, is_among, sector_bytes}
+use Rattle.fc_image.specs.Layout.{Layout, bytes_in, dir_form, is_among, map_place, sector_bytes}
 use Rattle.fc_image.specs.Walk.{Object, object_bytes, reader_of}
 use Rattle.fc_image.specs.effects.Steady.{AreWritten}
+use Rattle.fc_device.specs.Sectors.{sector_at}
+use Rattle.fc_objects.specs.Bytes.{first_bytes}
+use Rattle.fc_objects.specs.Written.{HasParts}
+use Rattle.fc_objects.proofs.WriteLemmas.{reads_back}
 use Rattle.fc_tree.specs.Agree.{HasForm}
 use Rattle.fc_tree.proofs.MemberLemmas.{contains_cases, contains_here, contains_later, no_element}
 use Rattle.fc_changes.proofs.BasicLemmas.{clash, unless}
@@ -86,8 +90,20 @@ module _ (x : PartsEdit) (puts : List Put) (image image' : List ℕ) (out : AreP
           reads (dir_form x.layout') o.entry.len (object_bytes image' x.layout' o) content (subst (λ (f : NameForm). HasForm f o.entry.len content) (sym x.fit.form) can.form)
           (directory_bytes x.layout x.layout' puts image image' o content same out put)
 
+parts_out : (layout : Layout) (puts : List Put) (image image' : List ℕ) → length image' ≡ length image
+    → ((p : Put) → Contains puts p → HasParts (sector_bytes layout) p.sectors p.bytes image' × (length p.bytes ≤ length p.sectors * sector_bytes layout))
+    → ((s : ℕ) → is_among (map_place layout) s ≡ false → ((p : Put) → Contains puts p → is_among p.sectors s ≡ false) → sector_at (sector_bytes layout) image' s ≡ sector_at (sector_bytes layout) image s)
+    → ArePutOut layout puts image image'
+unfolding bytes_in first_bytes
+parts_out layout puts image image' same parts others = record {
+  length_stays = same;
+  there = λ p at. (let q = parts p at in reads_back (sector_bytes layout) image' p.sectors p.bytes q.0 q.1);
+  others = others;
+}
+
 pub puts_law : PutsLaw
 puts_law = record {
+  parts = parts_out;
   written = λ x puts image image' same out of. edit_written x puts image image' out of same;
   only = λ x puts image image' out of. written_for x puts image image' out of;
   bytes = directory_bytes;
