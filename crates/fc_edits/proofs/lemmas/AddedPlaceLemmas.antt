@@ -1,22 +1,18 @@
 -- The place of an object that comes, on new maps and old ones.
 use Rattle.std.proofs.Common.{◌≡◌, ◌<◌, ◌≤◌, inl, inr, ⊎_elim, ℕ, ◌+◌, ◌*◌, ◌/◌, Bool, true, false, cond, List, [], ◌∷◌, ◌++◌, length, refl, sym, ap, ap₂, subst, ◌∙◌, arith, eq-eqb, map, None, Some, Option}
-use Rattle.std.specs.Prelude.{Contains, IsPermutation, not, nat_le, ◌==◌, ◌&&◌, ◌||◌}
+use Rattle.std.specs.Prelude.{Contains, IsPermutation, nat_le, ◌==◌, ◌&&◌, ◌||◌}
 use Rattle.std.specs.Int.{div_ceil}
 use Rattle.std.specs.List.{list_any}
 use Rattle.std.proofs.lemmas.Bool.{eqb-true}
 use Rattle.std.specs.Option.{option_to_list}
 use Rattle.std.proofs.lemmas.List.{append-nil}
 use Rattle.std.proofs.lemmas.List.Elements.{Contains-append_left}
-use Rattle.std.proofs.lemmas.List.Sorted.{IsPermutation-refl, IsPermutation-sym}
-use Rattle.fc_names.specs.Names.{Path}
-use Rattle.fc_record.specs.declared.Kind.{Kind}
+use Rattle.std.proofs.lemmas.List.Sorted.{IsPermutation-sym}
 use Rattle.fc_oldmap.specs.declared.Hole.{Hole}
 use Rattle.fc_oldmap.specs.Holes.{after_take}
-use Rattle.fc_oldmap.specs.OldMap.{OldMapContent}
 use Rattle.fc_newmap.specs.Map.{Map, ZoneRun, hole_runs, id_runs, is_used}
-use Rattle.fc_alloc.specs.declared.owner.Owner.{Owner}
-use Rattle.fc_image.specs.Layout.{Layout, dir_form, hole_sectors, id_of, is_among, is_apart, sectors_at}
-use Rattle.fc_image.specs.Walk.{Listing, Object, object_size}
+use Rattle.fc_image.specs.Layout.{Layout, dir_form, hole_sectors, id_of, is_among}
+use Rattle.fc_image.specs.Walk.{Object, object_size}
 use Rattle.fc_image.specs.Objects.{has_sectors, is_movable, is_owned, is_owner_of, objects_of}
 use Rattle.fc_image.specs.Edits.{IsAt}
 use Rattle.fc_image.specs.effects.Short.{holes_without, old_need}
@@ -24,20 +20,18 @@ use Rattle.fc_image.specs.effects.Placed.{file_low}
 use Rattle.fc_image.specs.effects.Steady.{holes_with, is_given_back, runs_that, zone_holes}
 use Rattle.fc_image.proofs.OneZoneLemmas.{and_second}
 use Rattle.fc_newmap.specs.Map.{bits_in}
-use Rattle.fc_plan.specs.Applied.{unless_gone}
 use Rattle.fc_plan.specs.Giving.{is_one_of}
 use Rattle.fc_plan.specs.Taking.{as_runs}
 use Rattle.fc_plan.proofs.Left.{left_of_none}
 use Rattle.fc_tree.proofs.MemberLemmas.{contains_here, in_map, no_element}
 use Rattle.fc_tree.proofs.WalkedLemmas.{child_is_object}
-use Rattle.fc_changes.specs.Changed.{IsFileAt, IsInNewSpace}
-use Rattle.fc_changes.specs.Owed.{GivesBack as AnyGivesBack, IsSpaceEdit}
+use Rattle.fc_changes.specs.Changed.{IsInNewSpace}
+use Rattle.fc_changes.specs.Owed.{IsSpaceEdit}
 use Rattle.fc_changes.proofs.BasicLemmas.{clash, unless}
 use Rattle.fc_changes.proofs.MadeLemmas.{file_low_small, turned}
 use Rattle.fc_changes.proofs.OutsideLemmas.{low_owned}
 use Rattle.fc_changes.proofs.PlacedLemmas.{id_is, is_shared, unused}
 use Rattle.fc_changes.proofs.SpaceLemmas.{no_runs, not_given, still_owned}
-use Rattle.fc_oldchanges.specs.Changed.{IsFileAt as IsOldFileAt}
 use Rattle.fc_oldchanges.proofs.MadeLemmas.{need_some}
 use Rattle.fc_oldchanges.proofs.PlaceLemmas.{row_or_none}
 use Rattle.fc_oldchanges.proofs.SpaceLemmas.{AreGiven, AreSpaced, IsNewPlace, given, new_place as old_new_place, not_given as not_in_given, nowhere, taken}
@@ -50,9 +44,8 @@ use Rattle.fc_laws.proofs.lemmas.agree.NewPlaceLemmas.{IsFreePlace, file_place, 
 use Rattle.fc_oldlaws.proofs.lemmas.agree.DirectoryLemmas.{spaced_parts}
 use Rattle.fc_edits.specs.Addition.{Addition, NewAddition, OldAddition, edit, holes_with_it, leaves, over_it, takings_of}
 use Rattle.fc_edits.specs.Edit.{leaving, objects}
-use Rattle.fc_edits.specs.NewPlaces.{GivesBack, IsSpaceChange, LiesAgain, NewPlaces, Taking, is_taken, untaken}
+use Rattle.fc_edits.specs.NewPlaces.{GivesBack, IsSpaceChange, LiesAgain, NewPlaces, Taking, is_taken}
 use Rattle.fc_edits.specs.OldPlaces.{OldLiesAgain, OldPlaces, with_holes}
-use Rattle.fc_edits.specs.Places.{Stays}
 use Rattle.fc_edits.proofs.lemmas.ShapeLemmas.{of_one, only}
 
 -- ---- the map's space

@@ -26,9 +26,8 @@ use Rattle.fc_edits.specs.OldPlaces.{with_holes}
 use Rattle.fc_edits.specs.PartsEdit.{NewPartsEdit, OldPartsEdit}
 use Rattle.fc_edits.specs.Places.{CanSayAll}
 use Rattle.fc_edits.specs.Addition.{Addition, ComesAlone, GetsNode, IsAddition, ListsEmpty, NewAddition, OldAddition, amended, edit, holes_with_it, leaves, owners_before, takings_of}
-use Rattle.fc_edits.proofs.lemmas.AddedPlaceLemmas.{added_places, freed, none_given, old_added_places, space_change}
+use Rattle.fc_edits.proofs.lemmas.AddedPlaceLemmas.{added_places, freed, old_added_places}
 use Rattle.fc_edits.proofs.lemmas.AfterLemmas.{after_law}
-use Rattle.fc_edits.proofs.lemmas.NewAgreeLemmas.{agree_law, agree_now}
 use Rattle.fc_edits.proofs.lemmas.NewPlaceLemmas.{places_fit}
 use Rattle.fc_edits.proofs.lemmas.OldPlaceLemmas.{old_fit}
 use Rattle.fc_edits.proofs.lemmas.ListLemmas.{flat_mapped}

@@ -1,38 +1,32 @@
 -- `save`, `create` and `cdir` without growth on images, by the laws of outcomes.
-use Rattle.std.proofs.Common.{◌≡◌, ◌<◌, ◌≤◌, inl, inr, ⊎_elim, ℕ, ◌*◌, Bool, true, false, cond, List, [], ◌∷◌, ◌++◌, length, map, refl, sym, ap, ap₂, subst, ◌∙◌, arith, Some, None, Option}
-use Rattle.std.specs.Prelude.{Contains, IsPermutation, IsSomeAnd, is_some, nat_lt, ◌==◌, ◌||◌}
+use Rattle.std.proofs.Common.{◌≡◌, ◌<◌, ◌≤◌, inl, inr, ⊎_elim, ℕ, ◌*◌, Bool, true, false, cond, List, [], ◌∷◌, length, map, refl, sym, ap, ap₂, subst, ◌∙◌, arith, Some, None, Option}
+use Rattle.std.specs.Prelude.{Contains, IsPermutation, is_some, nat_lt, ◌==◌, ◌||◌}
 use Rattle.std.specs.Option.{option_map_or}
 use Rattle.std.proofs.lemmas.Bool.{eqb-true, lt-ltb}
-use Rattle.fc_names.specs.Names.{Path, is_directory, is_same_path}
+use Rattle.fc_names.specs.Names.{Path, is_directory}
 use Rattle.fc_names.specs.declared.name.NameForm.{NameForm}
-use Rattle.fc_names.specs.declared.name.NameForm.TheVariants.{Long, Ten}
 use Rattle.fc_record.specs.declared.Geometry.{Geometry}
-use Rattle.fc_record.specs.declared.Kind.{Kind}
-use Rattle.fc_oldmap.specs.Laws.{ReadsBack}
-use Rattle.fc_oldmap.specs.Holes.{first_fit_place}
-use Rattle.fc_newmap.specs.Map.{Map, ZoneRun, bits_in, hole_runs, id_runs, is_used}
+use Rattle.fc_newmap.specs.Map.{ZoneRun, bits_in, hole_runs, id_runs, is_used}
 use Rattle.fc_model.specs.Command.{Command}
-use Rattle.fc_model.specs.Tree.{holder, last_name}
-use Rattle.fc_dirs.specs.Directory.{directory_size, entries_of}
-use Rattle.fc_image.specs.Layout.{Layout, bytes_in, dir_form, id_of, sector_bytes, sectors_at}
-use Rattle.fc_image.specs.Report.{holder_address}
+use Rattle.fc_model.specs.Tree.{holder}
+use Rattle.fc_dirs.specs.Directory.{directory_size}
+use Rattle.fc_image.specs.Layout.{Layout, bytes_in, dir_form, id_of, sectors_at}
 use Rattle.fc_image.specs.Walk.{Listing, Object, is_directory_object, object_bytes, object_size}
-use Rattle.fc_image.specs.Objects.{is_owned, object_at, objects_of, tree_of}
+use Rattle.fc_image.specs.Objects.{is_owned, objects_of, tree_of}
 use Rattle.fc_image.specs.Opening.{Opened}
 use Rattle.fc_image.specs.Sound.{AreSound}
 use Rattle.fc_image.specs.Commanded.{AreAt, IsFileMade}
 use Rattle.fc_image.specs.TreeEdits.{IsObjectEdit}
 use Rattle.fc_model.specs.Answer.{changed}
 use Rattle.fc_image.specs.effects.Sharing.{slack, units}
-use Rattle.fc_image.specs.effects.Short.{Growth, growth_in, holes_without, moved_growth, new_dir_size, new_length, old_need, slack_for, with_space_of}
-use Rattle.fc_image.specs.effects.Placed.{GrowthPlacedIn, HasAddress, NewObjectPlaced, OldObjectPlaced, file_low, holes_left, is_written_empty, made_object, object_parts}
-use Rattle.fc_image.specs.effects.Steady.{AreWritten, IsMadeDirectory, NewDirectory, holes_untaken, is_left_by_growth}
+use Rattle.fc_image.specs.effects.Short.{Growth, moved_growth, new_dir_size, new_length, slack_for}
+use Rattle.fc_image.specs.effects.Placed.{GrowthPlacedIn, HasAddress, NewObjectPlaced, file_low, holes_left, made_object, object_parts}
+use Rattle.fc_image.specs.effects.Steady.{NewDirectory}
 use Rattle.fc_image.proofs.CommandLemmas.{command_law}
-use Rattle.fc_image.proofs.LookupLemmas.{lookup_law}
 use Rattle.fc_plan.proofs.Left.{left_of_none}
 use Rattle.fc_plan.proofs.Units.{units_some}
 use Rattle.fc_tree.proofs.MemberLemmas.{contains_here, contains_later}
-use Rattle.fc_changes.specs.Changed.{IsFileAt, IsInNewSpace, MakesFile}
+use Rattle.fc_changes.specs.Changed.{IsFileAt, IsInNewSpace}
 use Rattle.fc_changes.proofs.BasicLemmas.{clash, map_or_none, unless}
 use Rattle.fc_changes.proofs.ChangeLemmas.{a_sector}
 use Rattle.fc_changes.proofs.DirectoriesLemmas.{moved_none}
@@ -41,7 +35,6 @@ use Rattle.fc_changes.proofs.MadeLemmas.{file_low_small, no_slack, stands_new}
 use Rattle.fc_changes.proofs.PlacedLemmas.{high, id_is, is_shared, same_bits, same_left}
 use Rattle.fc_changes.proofs.SpaceLemmas.{untaken_is}
 use Rattle.fc_laws.specs.nodes.Laws.{IsHeld}
-use Rattle.fc_laws.specs.agree.Agreed.{parts_with}
 use Rattle.fc_laws.proofs.lemmas.agree.BeforeLemmas.{new_shape}
 use Rattle.fc_laws.proofs.lemmas.agree.DirectoryAddedLemmas.{size_of_new}
 use Rattle.fc_edits.specs.Addition.{ComesAlone, NewAddition, edit, leaves, over_it, takings_of}

@@ -1,5 +1,5 @@
 -- Directories and entries after an object has come, on any map.
-use Rattle.std.proofs.Common.{◌≡◌, inl, inr, ⊎_elim, ℕ, Bool, true, false, cond, List, [], ◌∷◌, ◌++◌, length, map, refl, sym, ap, ap₂, subst, ◌∙◌, arith, Some, None, Option}
+use Rattle.std.proofs.Common.{◌≡◌, inl, inr, ⊎_elim, ℕ, Bool, true, false, cond, List, [], ◌∷◌, ◌++◌, length, map, refl, sym, ap, ap₂, subst, ◌∙◌, Some, None, Option}
 use Rattle.std.specs.Prelude.{Contains, IfSome, IsPermutation, IsSomeAnd, is_some, slice_get}
 use Rattle.std.proofs.lemmas.Bool.{eqb-true}
 use Rattle.std.proofs.lemmas.List.Elements.{Contains-append_left}
@@ -14,7 +14,7 @@ use Rattle.fc_model.specs.Tree.{holder, last_name}
 use Rattle.fc_dirs.specs.declared.Entry.{Entry}
 use Rattle.fc_dirs.specs.Directory.{entries_of}
 use Rattle.fc_dirs.specs.Entries.{entry_named, has_name, with_entry}
-use Rattle.fc_image.specs.Layout.{Layout, dir_form, sector_bytes}
+use Rattle.fc_image.specs.Layout.{Layout, dir_form}
 use Rattle.fc_image.specs.Walk.{Listing, Object, is_directory_object, object_bytes, object_size}
 use Rattle.fc_image.specs.Objects.{listing_at, object_at, objects_of}
 use Rattle.fc_image.specs.Opening.{Opened}

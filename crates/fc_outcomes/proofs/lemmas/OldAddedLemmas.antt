@@ -1,14 +1,12 @@
 -- `save`, `create` and `cdir` without growth on images with old maps, by the laws of outcomes.
-use Rattle.std.proofs.Common.{◌≡◌, ◌<◌, ⊎_elim, ℕ, ◌*◌, ◌/◌, Bool, true, false, cond, List, [], ◌∷◌, length, map, refl, sym, ap, ap₂, subst, ◌∙◌, arith, Some, None, Option}
+use Rattle.std.proofs.Common.{◌≡◌, ◌<◌, ⊎_elim, ℕ, Bool, false, cond, List, [], ◌∷◌, length, map, refl, sym, ap, ap₂, subst, ◌∙◌, arith, Some, None, Option}
 use Rattle.std.specs.Prelude.{IsPermutation}
 use Rattle.std.specs.Option.{option_map_or}
 use Rattle.fc_names.specs.Names.{Path, is_directory}
-use Rattle.fc_record.specs.declared.Kind.{Kind}
 use Rattle.fc_oldmap.specs.Laws.{ReadsBack}
 use Rattle.fc_oldmap.specs.Holes.{first_fit_place}
 use Rattle.fc_model.specs.Answer.{changed}
 use Rattle.fc_model.specs.Command.{Command}
-use Rattle.fc_model.specs.Tree.{last_name}
 use Rattle.fc_dirs.specs.Directory.{directory_size}
 use Rattle.fc_image.specs.Layout.{Layout, bytes_in, dir_form, sector_bytes}
 use Rattle.fc_image.specs.Walk.{Listing, Object, is_directory_object, object_bytes, object_size}
