@@ -108,6 +108,21 @@ fn carry<D: Disk>(disk: &mut D, size: usize, carried: &[Transfer]) -> Result<(),
     Ok(())
 }
 
+// Writes a piece, and syncs.
+fn put_one<D: Disk>(disk: &mut D, size: usize, piece: &Piece) -> Result<(), DiskFault>
+    requires attached { IsTrue (D.attached disk.old) }
+    requires settled { IsFalse (D.pending disk.old) }
+    requires size { D.sector_size disk.old ≡ size }
+    requires on_disk { All (λ s. s < D.sectors disk.old) (place_of piece.now) }
+    ensures keeps { StopsAndExitsLeave D.Disk disk.old disk.new (IsPart size [] (content_of size piece.now)) }
+    ensures written { OnOk result (AreApart (place_of piece.now) → ForSome (D.bytes disk.new) (HasContent size (content_of size piece.now))) }
+    ensures durable { OnOk result (IsFalse (D.pending disk.new)) }
+    ensures form { SameForm D.Disk disk.old disk.new }
+    ensures cause { FailsByFault D.Disk disk.old disk.new result }
+{
+    store_in(disk, size, &piece.place, &piece.bytes)
+}
+
 /// Writes pieces one after another.
 pub fn put<D: Disk>(disk: &mut D, size: usize, pieces: &[Piece]) -> Result<(), DiskFault>
     requires attached { IsTrue (D.attached disk.old) }
@@ -122,7 +137,7 @@ pub fn put<D: Disk>(disk: &mut D, size: usize, pieces: &[Piece]) -> Result<(), D
     ensures cause { FailsByFault D.Disk disk.old disk.new result }
 {
     for piece in pieces {
-        store_in(disk, size, &piece.place, &piece.bytes)?;
+        put_one(disk, size, piece)?;
     }
     Ok(())
 }
