@@ -1,5 +1,5 @@
 -- What follows from what a change leaves, for those who write with fewer stages.
-use Rattle.std.specs.Prelude.{◌≡◌, ◌⊎◌, ◌++◌, ℕ, false, List, []}
+use Rattle.std.specs.Prelude.{◌≡◌, ◌⊎◌, ◌++◌, ℕ, false, List, [], length}
 use Rattle.fc_device.specs.Sectors.{sector_at}
 use Rattle.fc_newmap.specs.Map.{Map, map_sectors}
 use Rattle.fc_copies.specs.Copies.{Chooses}
