@@ -1,3 +1,5 @@
 pub mod ContentLemmas
 pub mod CopyLemmas
+pub mod EarlyLemmas
 pub mod ListLemmas
+pub mod StepLemmas
