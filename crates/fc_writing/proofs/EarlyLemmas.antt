@@ -101,10 +101,10 @@ module _ (n : ℕ) (mapped : List ℕ) (r : Ready) (can : CanPut n mapped r) whe
   carried_others = apart_within (flat_map from_of r.carried.items) carried (copied_place r) (written_place r) (λ s e. in_back (source_from r.source) (flat_map from_of r.carried.items) s e) carried_in can.others
 
   -- those who write what comes early and late meet no sector of the map
-  early_beside : (s : ℕ) → is_among (early_place r) s ≡ true → is_among mapped s ≡ false
+  pub early_beside : (s : ℕ) → is_among (early_place r) s ≡ true → is_among mapped s ≡ false
   early_beside s e = apart_at (written_place r) mapped s can.beside (in_front (early_place r) (late_place r) s e)
 
-  late_beside : (s : ℕ) → is_among (late_place r) s ≡ true → is_among mapped s ≡ false
+  pub late_beside : (s : ℕ) → is_among (late_place r) s ≡ true → is_among mapped s ≡ false
   late_beside s e = apart_at (written_place r) mapped s can.beside (in_back (early_place r) (late_place r) s e)
 
   module _ (size : ℕ) (bytes : List ℕ) where
