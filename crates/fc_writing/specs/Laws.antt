@@ -38,7 +38,7 @@ pub record LeavesLaw : Type 0 where
       → (n : Map) × ((n ≡ m) ⊎ (IsTaken m r n ⊎ IsGiven m r n)) × Chooses m.geometry n.zones image
   -- If the map has no step, those of before.
   pub still : (m : Map) (r : Ready) (bytes was image : List ℕ) → r.take ≡ steps.Nothing → r.give ≡ steps.Nothing → ChangeLeaves m r bytes was image → Chooses m.geometry m.zones image
-  pub old_still : (space : OldMapContent) (r : Ready) (bytes was image : List ℕ) → r.take ≡ steps.Nothing → r.give ≡ steps.Nothing → old.ChangeLeaves space r bytes was image
+  pub old_still : (space : OldMapContent) (r : Ready) (bytes was image : List ℕ) → (space.sector_units ≡ 1) ⊎ (space.sector_units ≡ 4) → r.take ≡ steps.Nothing → r.give ≡ steps.Nothing → old.ChangeLeaves space r bytes was image
       → front_in space image ≡ front_in space was
   -- If everything is early, and the first step is the only one, and not wide, the image is unturned or turned.
   pub turns : (m : Map) (r : Ready) (bytes was image : List ℕ) → r.late.items ≡ [] → r.give ≡ steps.Nothing → is_wide r.take ≡ false → ChangeLeaves m r bytes was image

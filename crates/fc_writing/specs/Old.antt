@@ -1,5 +1,6 @@
 -- What a change leaves of a disc with an old map. Its map is the first 512 bytes of the disc, and has no copy.
 use Rattle.std.specs.Prelude.{◌≡◌, ◌⊎◌, ◌<◌, ◌++◌, ◌*◌, ◌/◌, ℕ, List, [], drop, take}
+use Rattle.std.specs.List.{range_with_len}
 use Rattle.fc_device.specs.Sectors.{sector_at}
 use Rattle.fc_oldmap.specs.OldMap.{OldMapContent, map_units, with_holes}
 use Rattle.fc_image.specs.Layout.{Layout, map_place}
@@ -48,17 +49,21 @@ front_taken space r was = front_after r.take (front_in space was)
 abbrev pub front_given : OldMapContent → Ready → List ℕ → List ℕ
 front_given space r was = front_after r.give (front_taken space r was)
 
--- Each of the map's sectors has its bytes of the one or of the other.
+-- Each of the map's sectors has its bytes of the one or of the other, an image or bytes that begin one.
 abbrev pub IsTorn : OldMapContent → List ℕ → List ℕ → List ℕ → Type 0
 IsTorn space old new image = (s : ℕ) → s < map_units space.sector_units / space.sector_units
     → (sector_at (sector_of space) image s ≡ sector_at (sector_of space) old s) ⊎ (sector_at (sector_of space) image s ≡ sector_at (sector_of space) new s)
 
 -- ---- one step
 
+-- No sector but the first ones, of this count, has changed, and each of these is as it was or has its bytes of `new`.
+pub record FrontLeaves (size count : ℕ) (new was image : List ℕ) : Type 0 where
+  pub others : IsPart size (range_with_len 0 count) [] was image
+  pub torn : (s : ℕ) → s < count → (sector_at size image s ≡ sector_at size was s) ⊎ (sector_at size image s ≡ sector_at size new s)
+
 -- What a crash inside a step leaves.
-pub record StepLeaves (space : OldMapContent) (step : MapStep) (was image : List ℕ) : Type 0 where
-  pub others : IsPart (sector_of space) (map_place (Layout.Old space)) [] was image
-  pub torn : IsTorn space (front_in space was) (front_after step (front_in space was)) image
+abbrev pub StepLeaves : OldMapContent → MapStep → List ℕ → List ℕ → Type 0
+StepLeaves space step was image = FrontLeaves (sector_of space) (map_units space.sector_units / space.sector_units) (front_after step (front_in space was)) was image
 
 -- ---- the image
 
@@ -66,7 +71,7 @@ pub record StepLeaves (space : OldMapContent) (step : MapStep) (was image : List
 abbrev pub ChangeLeaves : OldMapContent → Ready → List ℕ → List ℕ → List ℕ → Type 0
 ChangeLeaves space r bytes was image =
     Leaves (sector_of space) (map_place (Layout.Old space)) (early_content (sector_of space) was bytes r) (late_content (sector_of space) r)
-    (λ other. front_in space other ≡ front_in space was) (IsTorn space (front_in space was) (front_taken space r was))
+    (λ other. front_in space other ≡ front_in space was) (IsTorn space was (front_taken space r was))
     (λ other. front_in space other ≡ front_taken space r was) (IsTorn space (front_taken space r was) (front_given space r was)) was image
 
 -- All of the content is written, these are the bytes of the map's sectors, and no other byte has changed.
@@ -84,9 +89,9 @@ IsChanged space r bytes was image = IsWritten space (front_given space r was) (a
 -- what a crash leaves before the first step and in it
 abbrev pub TakeLeaves : OldMapContent → Ready → List ℕ → List ℕ → List ℕ → Type 0
 TakeLeaves space r bytes was image = Half (sector_of space) (map_place (Layout.Old space)) (early_content (sector_of space) was bytes r)
-    (λ other. front_in space other ≡ front_in space was) (IsTorn space (front_in space was) (front_taken space r was)) was image
+    (λ other. front_in space other ≡ front_in space was) (IsTorn space was (front_taken space r was)) was image
 
 -- what a crash leaves after the first step
 abbrev pub GiveLeaves : OldMapContent → Ready → List ℕ → List ℕ → Type 0
 GiveLeaves space r was image = Half (sector_of space) (map_place (Layout.Old space)) (late_content (sector_of space) r)
-    (λ other. front_in space other ≡ front_in space was) (IsTorn space (front_in space was) (front_after r.give (front_in space was))) was image
+    (λ other. front_in space other ≡ front_in space was) (IsTorn space was (front_after r.give (front_in space was))) was image

@@ -1,6 +1,6 @@
 // A change of a disc with an old map, written.
 
-ghost use Rattle.std.specs.Prelude.{◌≡◌, ◌≤◌, ◌*◌, IsTrue, IsFalse, OnOk};
+ghost use Rattle.std.specs.Prelude.{◌≡◌, ◌⊎◌, ◌≤◌, ◌*◌, IsTrue, IsFalse, OnOk};
 ghost use Rattle.std.specs.Option.{ForSome};
 ghost use Rattle.fc_device.specs.Calls.{FailsByFault, SameForm, StopsAndExitsLeave};
 ghost use Rattle.fc_writing.specs.Old.{CanWrite, ChangeLeaves, GiveLeaves, IsChanged, IsWritten, TakeLeaves, front_after, front_in, front_taken};
@@ -24,6 +24,7 @@ fn write_early<D: Disk>(
     requires size { D.sector_size disk.old ≡ 256 * map.now.sector_units }
     requires on_disk { 2 ≤ D.sectors disk.old }
     requires can { CanWrite (D.sectors disk.old) map.now ready.now }
+    ensures units { (map.now.sector_units ≡ 1) ⊎ (map.now.sector_units ≡ 4) }
     ensures keeps { StopsAndExitsLeave D.Disk disk.old disk.new (TakeLeaves map.now ready.now bytes.now) }
     ensures taken { OnOk result (ForSome (D.bytes disk.old) (λ was. ForSome (D.bytes disk.new)
         (IsWritten map.now (front_taken map.now ready.now was) (early_content (256 * map.now.sector_units) was bytes.now ready.now) was))) }

@@ -1,12 +1,9 @@
 // The map of a disc with an old map, in its first 512 bytes.
 
-ghost use Rattle.std.specs.Prelude.{◌≡◌, ◌≤◌, ◌*◌, ◌++◌, [], drop, length, take, IsTrue, IsFalse, OnOk};
-ghost use Rattle.std.specs.List.{range_with_len};
+ghost use Rattle.std.specs.Prelude.{◌≡◌, ◌≤◌, ◌*◌, length, take, IsTrue, IsFalse, OnOk};
 ghost use Rattle.std.specs.Option.{ForSome};
 ghost use Rattle.fc_device.specs.Calls.{FailsByFault, SameForm, StopsAndExitsLeave};
-ghost use Rattle.fc_oldmap.specs.OldMap.{with_holes};
-ghost use Rattle.fc_writing.specs.Content.{IsPart, stored};
-ghost use Rattle.fc_writing.specs.Old.{IsOfDisc, StepLeaves, front_after, front_in, with_map};
+ghost use Rattle.fc_writing.specs.Old.{FrontLeaves, IsOfDisc, StepLeaves, front_after, front_in, with_map};
 
 use crate::pieces::store_in;
 use crate::ready::MapStep;
@@ -36,8 +33,7 @@ fn write_front<D: Disk>(
     requires on_disk { row.sectors ≤ D.sectors disk.old }
     requires whole { length front.old ≡ row.sectors * size }
     requires long { 512 ≤ length front.old }
-    ensures keeps { StopsAndExitsLeave D.Disk disk.old disk.new (λ was image.
-        IsPart size [] (stored size (range_with_len 0 row.sectors) (with_map map.now (take (row.sectors * size) was))) was image) }
+    ensures keeps { StopsAndExitsLeave D.Disk disk.old disk.new (λ was image. FrontLeaves size row.sectors (with_map map.now (take (row.sectors * size) was)) was image) }
     ensures written { OnOk result (ForSome (D.bytes disk.old) (λ was. ForSome (D.bytes disk.new) (λ image.
         take (row.sectors * size) image ≡ with_map map.now (take (row.sectors * size) was)))) }
     ensures durable { OnOk result (IsFalse (D.pending disk.new)) }
