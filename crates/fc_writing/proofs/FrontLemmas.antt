@@ -2,6 +2,7 @@
 use Rattle.std.proofs.Common.{◌≡◌, ◌<◌, ◌≤◌, ◌⊎◌, inl, inr, ⊎_elim, ℕ, zero, suc, ◌+◌, ◌-◌, ◌*◌, ◌/◌, true, false, List, [], ◌∷◌, ◌++◌, All, length, take, drop, get_or, refl, sym, ap, ap₂, subst, ◌∙◌, arith, length-drop}
 use Rattle.std.specs.List.{range_with_len}
 use Rattle.std.specs.Prelude.{Contains, replicate}
+use Rattle.std.proofs.Math.Seq.{take-add}
 use Rattle.std.proofs.lemmas.Bool.{cases_lt}
 use Rattle.std.proofs.lemmas.List.{append-nil, drop-take, length-take-le, take-append-le, take-take, take_all}
 use Rattle.std.proofs.lemmas.List.FromFn.{get_or-range_with_len, length-range_with_len}
@@ -19,15 +20,10 @@ use Rattle.fc_writing.proofs.ContentLemmas.{clash, content_among, numbered_here,
 
 -- ---- rows of sectors
 
-split : (n k : ℕ) (xs : List ℕ) → take (n + k) xs ≡ take n xs ++ take k (drop n xs)
-split zero k xs = let e : 0 + k ≡ k = omega arith in ap (λ (m : ℕ). take m xs) e
-split (suc n) k [] = refl
-split (suc n) k (x ∷ xs) = let e : suc n + k ≡ suc (n + k) = omega arith in ap (λ (m : ℕ). take m (x ∷ xs)) e ∙ ap (λ (ys : List ℕ). x ∷ ys) (split n k xs)
-
 -- one sector more
 row_more : (size count : ℕ) (xs : List ℕ) → take (suc count * size) xs ≡ take (count * size) xs ++ sector_at size xs count
 unfolding sector_at
-row_more size count xs = (let e : suc count * size ≡ count * size + size = omega arith in ap (λ (n : ℕ). take n xs) e) ∙ split (count * size) size xs
+row_more size count xs = (let e : suc count * size ≡ count * size + size = omega arith in ap (λ (n : ℕ). take n xs) e) ∙ take-add (count * size) size xs
 
 -- rows are equal if their sectors are
 pub rows : (size count : ℕ) (xs ys : List ℕ) → ((s : ℕ) → s < count → sector_at size xs s ≡ sector_at size ys s) → take (count * size) xs ≡ take (count * size) ys
