@@ -2,6 +2,7 @@ pub mod ContentLemmas
 pub mod CopyLemmas
 pub mod EarlyLemmas
 pub mod FrontLemmas
+pub mod LaterLemmas
 pub mod LeavesLemmas
 pub mod ListLemmas
 pub mod NewLemmas

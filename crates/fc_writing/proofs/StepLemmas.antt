@@ -26,20 +26,25 @@ use Rattle.fc_plan.specs.declared.plan.Plan.{Plan}
 use Rattle.fc_plan.specs.Applied.{CanTakePlan}
 use Rattle.fc_plan.specs.Giving.{has_run_of, is_given, stays_given}
 use Rattle.fc_plan.specs.Parts.{KeepsZones, fronts, has_part}
-use Rattle.fc_plan.specs.Taking.{runs_taken}
+use Rattle.fc_placing.specs.Space.{HasTaken}
 use Rattle.fc_placing.proofs.SpaceLemmas.{edited, ids_same}
 use Rattle.fc_writing.specs.declared.ready.MapStep.TheVariants as steps
 use Rattle.fc_writing.specs.declared.ready.RootPlace.{RootPlace}
 use Rattle.fc_writing.specs.declared.ready.SpaceStep.{SpaceStep}
 use Rattle.fc_writing.specs.New.{InStep}
-use Rattle.fc_writing.specs.Steps.{CanEdit, CanTakeAll, HasEdited, HasMoved, is_changed, rooted_map, runs_with}
+use Rattle.fc_writing.specs.Steps.{AreTaken, CanEdit, CanTakeAll, HasEdited, HasMoved, is_changed, rooted_map}
 use Rattle.fc_writing.proofs.ContentLemmas.{clash}
 
 -- ---- plans, one after another
 
-pub runs_more : (plans : List Plan) (p : Plan) (z : ℕ) (runs : List Run) → runs_with (plans ++ p ∷ []) z runs ≡ runs_taken p.id (fronts p.parts.items) z (runs_with plans z runs)
-runs_more [] p z runs = refl
-runs_more (q ∷ plans) p z runs = runs_more plans p z (runs_taken q.id (fronts q.parts.items) z runs)
+pub taken_more : (m mid new : Map) (plans : List Plan) (p : Plan) → AreTaken m plans mid → IsNewMap new → HasTaken mid new p.id (fronts p.parts.items) → AreTaken m (plans ++ p ∷ []) new
+taken_more m mid new [] p same is now = (new, is, subst (λ (n : Map). HasTaken n new p.id (fronts p.parts.items)) same now, refl)
+taken_more m mid new (q ∷ plans) p before is now = (before.0, before.1, before.2, taken_more before.0 mid new plans p before.3 is now)
+
+pub taken_then : (m mid new : Map) (plans : List Plan) (i : ℕ) (p : Plan) → i < length plans → p ≡ get_or plans i p → AreTaken m (take i plans) mid → IsNewMap new → HasTaken mid new p.id (fronts p.parts.items)
+    → AreTaken m (take (i + 1) plans) new
+taken_then m mid new plans i p low is before is_map now =
+    subst (λ (ps : List Plan). AreTaken m ps new) (sym (take_more plans i p low ∙ ap (λ (q : Plan). take i plans ++ q ∷ []) (sym is))) (taken_more m mid new (take i plans) p before is_map now)
 
 drop_here : {X : Type 0} (xs : List X) (i : ℕ) (x : X) → i < length xs → x ≡ get_or xs i x → drop i xs ≡ x ∷ drop (i + 1) xs
 drop_here [] i x low is = absurd (omega (arith, low))
@@ -70,14 +75,6 @@ zones_more m mid new plans i p low is before now z none =
     sym (list_any-append (in_zone z) (take i plans) (p ∷ [])) ∙ ap (list_any (in_zone z)) (sym (take_more plans i p low ∙ ap (λ (q : Plan). take i plans ++ q ∷ []) (sym is))) ∙ none in
     now z (or_left (in_zone z p) false (or_right (list_any (in_zone z) (take i plans)) (in_zone z p || false) both)) ∙ before z (or_left (list_any (in_zone z) (take i plans)) (in_zone z p || false) both)
 
-pub runs_then : (m mid new : Map) (plans : List Plan) (i : ℕ) (p : Plan) → i < length plans → p ≡ get_or plans i p → mid.geometry ≡ m.geometry
-    → ((z : ℕ) → z < m.geometry.zones → runs_of mid z ≡ runs_with (take i plans) z (runs_of m z)) → ((z : ℕ) → z < mid.geometry.zones → runs_of new z ≡ runs_taken p.id (fronts p.parts.items) z (runs_of mid z))
-    → (z : ℕ) → z < m.geometry.zones → runs_of new z ≡ runs_with (take (i + 1) plans) z (runs_of m z)
-runs_then m mid new plans i p low is same before now z below =
-    now z (subst (λ (g : Geometry). z < g.zones) (sym same) below) ∙ ap (runs_taken p.id (fronts p.parts.items) z) (before z below)
-    ∙ sym (runs_more (take i plans) p z (runs_of m z))
-    ∙ ap (λ (ps : List Plan). runs_with ps z (runs_of m z)) (sym (take_more plans i p low ∙ ap (λ (q : Plan). take i plans ++ q ∷ []) (sym is)))
-
 -- ---- a map with the same runs
 
 all_same : (m m' : Map) → KeepsRuns m m' → (zones : List ℕ) → runs_in m' zones ≡ runs_in m zones
@@ -93,26 +90,23 @@ can_rooted m first plans kept can =
 
 -- ---- a step in memory
 
-module _ (m first taken new : Map) (plans : List Plan) (gone : List ℕ) (kept : List Part) (root : KeepsRuns m first) (took : AreEdits first taken) (gave : AreEdits taken new)
-    (runs : (z : ℕ) → z < first.geometry.zones → runs_of taken z ≡ runs_with plans z (runs_of first z)) where
-  -- the runs of a zone without a part
-  zone_stays : KeepsZones (λ z. list_any (in_zone z) plans) first taken → KeepsZones (λ z. has_run_of gone (runs_of taken z)) taken new → KeepsZones (is_changed m plans gone) first new
-  zone_stays one two z none =
+module _ (m first taken new : Map) (plans : List Plan) (gone : List ℕ) (kept : List Part) (root : KeepsRuns m first) (took : AreEdits first taken) where
+  pub step_zones : KeepsZones (λ z. list_any (in_zone z) plans) first taken → KeepsZones (λ z. has_run_of gone (runs_of taken z)) taken new → KeepsZones (is_changed m plans gone) first new
+  step_zones one two z none =
       let here : sector_of taken z ≡ sector_of first z = one z (or_left (list_any (in_zone z) plans) (has_run_of gone (runs_of m z)) none) in
       let same : runs_of taken z ≡ runs_of m z =
       ap₂ (λ (g : Geometry) (s : List ℕ). runs_read (shape g z) s) took.geometry here ∙ root.runs z in
       two z (ap (has_run_of gone) same ∙ or_right (list_any (in_zone z) plans) (has_run_of gone (runs_of m z)) none) ∙ here
 
-  pub step_zones : KeepsZones (λ z. list_any (in_zone z) plans) first taken → KeepsZones (λ z. has_run_of gone (runs_of taken z)) taken new → KeepsZones (is_changed m plans gone) first new
-  step_zones = zone_stays
-
-  pub step_moved : ((z : ℕ) → z < taken.geometry.zones → zone_holes (hole_runs new) z ≡ holes_with (zone_holes (hole_runs taken) z) (zone_holes (filter (is_given gone (fronts kept)) (all_runs taken)) z))
+  pub step_moved : AreTaken first plans taken → ((z : ℕ) → z < taken.geometry.zones → zone_holes (hole_runs new) z ≡ holes_with (zone_holes (hole_runs taken) z) (zone_holes (filter (is_given gone (fronts kept)) (all_runs taken)) z))
       → ((id : ℕ) → id_runs new id ≡ filter (stays_given gone (fronts kept)) (id_runs taken id)) → HasMoved m new plans gone kept
-  step_moved holes of_ids = record {
+  step_moved takes holes of_ids = record {
+    first = first;
     taken = taken;
+    same_runs = root;
+    takes = takes;
     is_map = took.map;
     geometry = took.geometry ∙ root.geometry;
-    runs = λ z low. runs z (subst (λ (g : Geometry). z < g.zones) (sym root.geometry) low) ∙ ap (runs_with plans z) (root.runs z);
     holes = λ z low. holes z (subst (λ (g : Geometry). z < g.zones) (sym (took.geometry ∙ root.geometry)) low);
     of_ids = of_ids;
   }
@@ -191,10 +185,12 @@ module _ (m new : Map) (s : SpaceStep) (is : IsNewMap m) (can : CanEdit m s) (ed
     step_done = record {
       edited = edited (rooted_map s.root m) new m' edits runs contents;
       moved = record {
+        first = moved.first;
         taken = moved.taken;
+        same_runs = moved.same_runs;
+        takes = moved.takes;
         is_map = moved.is_map;
         geometry = moved.geometry;
-        runs = moved.runs;
         holes = λ z low. ap (λ (hs : List ZoneRun). zone_holes hs z) (holes_same new m' runs) ∙ moved.holes z low;
         of_ids = λ id. ids_same new m' runs id ∙ moved.of_ids id;
       };

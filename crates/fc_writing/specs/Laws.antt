@@ -1,19 +1,24 @@
--- What follows from what a change leaves, for those who write with fewer stages.
-use Rattle.std.specs.Prelude.{◌≡◌, ◌⊎◌, ◌++◌, ℕ, false, List, [], length}
+-- What follows from what a change leaves, for those who write with fewer stages; and second steps that only give back.
+use Rattle.std.specs.Prelude.{◌≡◌, ◌⊎◌, ◌++◌, ℕ, false, List, [], length, Contains, None}
 use Rattle.fc_device.specs.Sectors.{sector_at}
 use Rattle.fc_newmap.specs.Map.{Map, map_sectors}
+use Rattle.fc_newmap.specs.NewMap.{IsNewMap}
 use Rattle.fc_copies.specs.Copies.{Chooses}
 use Rattle.fc_oldmap.specs.OldMap.{OldMapContent}
 use Rattle.fc_image.specs.Layout.{Layout, is_among, map_place}
+use Rattle.fc_plan.specs.declared.plan.Plan.{Plan}
+use Rattle.fc_plan.specs.Giving.{is_one_of}
+use Rattle.fc_placing.specs.Space.{zones_changed}
 use Rattle.fc_writing.specs.declared.ready.MapStep.TheVariants as steps
 use Rattle.fc_writing.specs.declared.ready.Ready.{Ready}
+use Rattle.fc_writing.specs.declared.ready.SpaceStep.{SpaceStep}
 use Rattle.fc_writing.specs.Content.{Content, HasContent, IsPart}
 use Rattle.fc_writing.specs.New.{AfterTake, ChangeLeaves, InGive, IsGiven, IsTaken}
 use Rattle.fc_writing.specs.Old.{front_in}
 use Rattle.fc_writing.specs.Old as old
 use Rattle.fc_writing.specs.Ready.{early_content, written_place}
 use Rattle.fc_writing.specs.Stages.{Stage}
-use Rattle.fc_writing.specs.Steps.{is_wide}
+use Rattle.fc_writing.specs.Steps.{CanEdit, HasEdited, is_wide}
 
 -- The images differ at most in these sectors.
 pub record ChangesOnly (size : ℕ) (sectors was image : List ℕ) : Type 0 where
@@ -43,3 +48,15 @@ pub record LeavesLaw : Type 0 where
   -- If everything is early, and the first step is the only one, and not wide, the image is unturned or turned.
   pub turns : (m : Map) (r : Ready) (bytes was image : List ℕ) → r.late.items ≡ [] → r.give ≡ steps.Nothing → is_wide r.take ≡ false → ChangeLeaves m r bytes was image
       → IsUnturned m r bytes was image ⊎ IsTurned m r bytes was image
+
+-- The step only gives space back, of no identifier for which these plans take some. Its zones are those of the map m that have runs of it.
+pub record GivesLater (m : Map) (plans : List Plan) (s : SpaceStep) : Type 0 where
+  pub nothing : s.plans.items ≡ []
+  pub none_kept : s.kept.items ≡ []
+  pub no_root : s.root ≡ None
+  pub zones : s.zones.items ≡ zones_changed m None s.gone.items
+  pub others : (p : Plan) → Contains plans p → is_one_of s.gone.items p.id ≡ false
+
+-- So it can be made ready before the first step is made.
+abbrev pub LaterLaw : Type 0
+LaterLaw = (m mid : Map) (first later : SpaceStep) → IsNewMap m → HasEdited m mid first → GivesLater m first.plans.items later → CanEdit mid later

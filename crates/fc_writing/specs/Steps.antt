@@ -4,9 +4,9 @@ use Rattle.std.specs.List.{list_any}
 use Rattle.std.specs.List.Sorted.{IsStrictlyIncreasing}
 use Rattle.fc_record.specs.declared.Geometry.{Geometry}
 use Rattle.fc_record.specs.Record.{is_root_right, is_root_size_right}
-use Rattle.fc_zone.specs.declared.Run.{Run}
 use Rattle.fc_newmap.specs.Map.{Map, ZoneRun, all_runs, hole_runs, id_runs, runs_of, sector_of, with_root, with_zone}
 use Rattle.fc_newmap.specs.NewMap.{IsNewMap, rooted}
+use Rattle.fc_newmap.specs.Edits.{KeepsRuns}
 use Rattle.fc_image.specs.effects.Placed.{BeginsBefore, holes_left}
 use Rattle.fc_image.specs.effects.Steady.{holes_with, zone_holes}
 use Rattle.fc_plan.specs.declared.plan.Part.{Part}
@@ -14,8 +14,7 @@ use Rattle.fc_plan.specs.declared.plan.Plan.{Plan}
 use Rattle.fc_plan.specs.Applied.{CanTakePlan}
 use Rattle.fc_plan.specs.Giving.{has_run_of, is_given, stays_given}
 use Rattle.fc_plan.specs.Parts.{fronts, has_part}
-use Rattle.fc_plan.specs.Taking.{runs_taken}
-use Rattle.fc_placing.specs.Space.{IsMapEdited}
+use Rattle.fc_placing.specs.Space.{HasTaken, IsMapEdited}
 use Rattle.fc_writing.specs.declared.ready.MapStep.{MapStep}
 use Rattle.fc_writing.specs.declared.ready.MapStep.TheVariants as steps
 use Rattle.fc_writing.specs.declared.ready.RootPlace.{RootPlace}
@@ -40,10 +39,10 @@ abbrev pub CanTakeAll : Geometry → List ZoneRun → List Plan → Type 0
 CanTakeAll g holes [] = Unit {0}
 CanTakeAll g holes (p ∷ plans) = CanTakePlan g holes p × CanTakeAll g (holes_left holes (fronts p.parts.items)) plans
 
--- the runs of a zone, once the parts of each plan are runs of its identifier
-abbrev pub runs_with : List Plan → ℕ → List Run → List Run
-runs_with [] z runs = runs
-runs_with (p ∷ plans) z runs = runs_with plans z (runs_taken p.id (fronts p.parts.items) z runs)
+-- The parts of each plan have become runs of its identifier, one plan after another.
+abbrev pub AreTaken : Map → List Plan → Map → Type 0
+AreTaken m [] n = n ≡ m
+AreTaken m (p ∷ plans) n = (mid : Map) × IsNewMap mid × HasTaken m mid p.id (fronts p.parts.items) × AreTaken mid plans n
 
 -- the zone has a part of a plan, or a run that goes back
 abbrev pub is_changed : Map → List Plan → List ℕ → ℕ → Bool
@@ -51,11 +50,13 @@ is_changed m plans gone z = list_any (λ p. has_part (fronts p.parts.items) z) p
 
 -- The map m' has all that plans take, and of the identifiers that go back only the parts that are kept.
 pub record HasMoved (m m' : Map) (plans : List Plan) (gone : List ℕ) (kept : List Part) : Type 0 where
-  -- the map with all that is taken, and nothing gone back
+  -- a map with the same runs; and that map with all that is taken, and nothing gone back
+  pub first : Map
   pub taken : Map
+  pub same_runs : KeepsRuns m first
+  pub takes : AreTaken first plans taken
   pub is_map : IsNewMap taken
   pub geometry : taken.geometry ≡ m.geometry
-  pub runs : (z : ℕ) → z < m.geometry.zones → runs_of taken z ≡ runs_with plans z (runs_of m z)
   pub holes : (z : ℕ) → z < m.geometry.zones
       → zone_holes (hole_runs m') z ≡ holes_with (zone_holes (hole_runs taken) z) (zone_holes (filter (is_given gone (fronts kept)) (all_runs taken)) z)
   pub of_ids : (id : ℕ) → id_runs m' id ≡ filter (stays_given gone (fronts kept)) (id_runs taken id)

@@ -6,7 +6,7 @@
 //! which everything is early and one step is the last is there as a whole or not at all.
 #![tactic(auto)]
 
-ghost use Rattle.fc_writing.specs.Laws.{LeavesLaw};
+ghost use Rattle.fc_writing.specs.Laws.{LaterLaw, LeavesLaw};
 
 mod copies;
 mod new;
@@ -25,4 +25,9 @@ pub use ready::{MapStep, Piece, Ready, RootPlace, Source, SpaceStep, Transfer};
 /// What follows from what a change leaves, for changes of fewer stages.
 pub fn leaves()
     ensures { LeavesLaw }
+{}
+
+/// A second step that only gives space back can be made ready before the first is made.
+pub fn later()
+    ensures { LaterLaw }
 {}

@@ -1,16 +1,16 @@
 // Steps of a new map: in memory, and by one commit in both copies on the disk.
 
-ghost use Rattle.std.specs.Prelude.{◌≡◌, ◌<◌, ◌≤◌, ◌+◌, ◌*◌, ◌||◌, ℕ, false, length, IsTrue, IsFalse, OnOk, IfSome};
+ghost use Rattle.std.specs.Prelude.{◌≡◌, ◌≤◌, ◌+◌, ◌*◌, IsTrue, IsFalse, OnOk, IfSome};
 ghost use Rattle.std.specs.List.{list_any};
 ghost use Rattle.std.specs.Option.{ForSome};
 ghost use Rattle.fc_copies.specs.Copies.{ChangesCopies, HoldsCopies};
 ghost use Rattle.fc_device.specs.Calls.{FailsByFault, SameForm, StopsAndExitsLeave};
 ghost use Rattle.fc_newmap.specs.Edits.{AreEdits, KeepsRuns};
-ghost use Rattle.fc_newmap.specs.Map.{hole_runs, runs_of};
+ghost use Rattle.fc_newmap.specs.Map.{hole_runs};
 ghost use Rattle.fc_newmap.specs.NewMap.{IsNewMap};
 ghost use Rattle.fc_plan.specs.Parts.{KeepsZones, fronts, has_part};
 ghost use Rattle.fc_writing.specs.New.{InStep};
-ghost use Rattle.fc_writing.specs.Steps.{CanEdit, CanRoot, CanStep, CanTakeAll, HasMoved, HasStepped, is_changed, rooted_map, runs_with};
+ghost use Rattle.fc_writing.specs.Steps.{AreTaken, CanEdit, CanRoot, CanStep, CanTakeAll, HasMoved, HasStepped, is_changed, rooted_map};
 
 use crate::ready::{MapStep, RootPlace, SpaceStep};
 use fc_device::{Disk, DiskFault};
@@ -35,7 +35,7 @@ fn take_all(map: &mut NewMap, plans: &[Plan])
     requires map { IsNewMap map.old }
     requires plans { CanTakeAll map.old.geometry (hole_runs map.old) plans.now }
     ensures edits { AreEdits map.old map.new }
-    ensures runs { (z : ℕ) → z < map.old.geometry.zones → runs_of map.new z ≡ runs_with plans.now z (runs_of map.old z) }
+    ensures taken { AreTaken map.old plans.now map.new }
     ensures zones { KeepsZones (λ z. list_any (λ p. has_part (fronts p.parts.items) z) plans.now) map.old map.new }
 {
     for plan in plans {

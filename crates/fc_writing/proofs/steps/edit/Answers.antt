@@ -10,7 +10,7 @@ use Rattle.fc_plan.specs.declared.plan.Plan.{Plan}
 use Rattle.fc_plan.specs.Giving.{has_run_of, is_given, stays_given}
 use Rattle.fc_plan.specs.Parts.{KeepsZones, fronts}
 use Rattle.std.specs.List.{list_any}
-use Rattle.fc_writing.specs.Steps.{CanTakeAll, HasMoved, is_changed, rooted_map, runs_with}
+use Rattle.fc_writing.specs.Steps.{AreTaken, CanTakeAll, HasMoved, is_changed, rooted_map}
 use Rattle.fc_writing.proofs.StepLemmas.{can_rooted, in_zone, step_moved, step_zones}
 use Rattle.fc_writing.proofs.steps.edit.Goals as goal
 
@@ -36,8 +36,8 @@ returns-clause-moved c =
     let first = c.place_root.new.map in
     let taken = c.take_all.new.map in
     let new = c.give_back.new.map in
-    step_moved c.args.map.now first taken new s.plans.items s.gone.items s.kept.items c.place_root.ensures.runs c.take_all.ensures.edits c.give_back.ensures.edits
-    (λ z low. c.take_all.ensures.runs z low ∙ ap (λ (ps : List Plan). runs_with ps z (runs_of first z)) c.deref.ensures.value)
+    step_moved c.args.map.now first taken new s.plans.items s.gone.items s.kept.items c.place_root.ensures.runs c.take_all.ensures.edits
+    (subst (λ (ps : List Plan). AreTaken first ps taken) c.deref.ensures.value c.take_all.ensures.taken)
     (λ z low. c.give_back.ensures.holes z low
     ∙ ap₂ (λ (ids : List ℕ) (ks : List Part). holes_with (zone_holes (hole_runs taken) z) (zone_holes (filter (is_given ids (fronts ks)) (all_runs taken)) z)) c.deref-2.ensures.value c.deref-3.ensures.value)
     (λ id. c.give_back.ensures.of_ids id ∙ ap₂ (λ (ids : List ℕ) (ks : List Part). filter (stays_given ids (fronts ks)) (id_runs taken id)) c.deref-2.ensures.value c.deref-3.ensures.value)
@@ -52,7 +52,6 @@ returns-clause-zones c =
     let taken = c.take_all.new.map in
     let new = c.give_back.new.map in
     subst (λ (f : Map). KeepsZones (is_changed c.args.map.now s.plans.items s.gone.items) f new) c.place_root.ensures.map
-    (step_zones c.args.map.now first taken new s.plans.items s.gone.items s.kept.items c.place_root.ensures.runs c.take_all.ensures.edits c.give_back.ensures.edits
-    (λ z low. c.take_all.ensures.runs z low ∙ ap (λ (ps : List Plan). runs_with ps z (runs_of first z)) c.deref.ensures.value)
+    (step_zones c.args.map.now first taken new s.plans.items s.gone.items s.kept.items c.place_root.ensures.runs c.take_all.ensures.edits
     (subst (λ (ps : List Plan). KeepsZones (λ z. list_any (in_zone z) ps) first taken) c.deref.ensures.value c.take_all.ensures.zones)
     (subst (λ (ids : List ℕ). KeepsZones (λ z. has_run_of ids (runs_of taken z)) taken new) c.deref-2.ensures.value c.give_back.ensures.zones))

@@ -1,6 +1,6 @@
 use Rattle.std.proofs.Common.{◌+◌, ◌≡◌, ◌<◌, ℕ, List, drop, take, refl, sym, ap, subst, ◌∙◌, arith}
 use Rattle.std.proofs.lemmas.List.{take_all}
-use Rattle.fc_newmap.specs.Map.{Map, ZoneRun, hole_runs, runs_of}
+use Rattle.fc_newmap.specs.Map.{Map, ZoneRun, hole_runs}
 use Rattle.fc_newmap.proofs.ComposeLemmas.{edits_join, edits_none}
 use Rattle.fc_record.specs.declared.Geometry.{Geometry}
 use Rattle.fc_image.specs.effects.Placed.{holes_left}
@@ -8,15 +8,15 @@ use Rattle.fc_plan.specs.declared.plan.Part.{Part}
 use Rattle.fc_plan.specs.declared.plan.Plan.{Plan}
 use Rattle.fc_plan.specs.Parts.{KeepsZones, fronts, has_part}
 use Rattle.fc_plan.specs.Plan.{AreParts}
-use Rattle.fc_plan.specs.Taking.{runs_taken}
-use Rattle.fc_writing.specs.Steps.{CanTakeAll, runs_with}
-use Rattle.fc_writing.proofs.StepLemmas.{runs_then, take_next, zones_more}
+use Rattle.fc_placing.specs.Space.{HasTaken}
+use Rattle.fc_writing.specs.Steps.{AreTaken, CanTakeAll}
+use Rattle.fc_writing.proofs.StepLemmas.{take_next, taken_then, zones_more}
 use Rattle.fc_writing.proofs.steps.take_all.Goals as goal
 
 pub loop-plan-init : goal.loop-plan-init
 loop-plan-init c = record {
   edits = edits_none c.args.map.now c.requires.map;
-  runs = λ z low. refl;
+  taken = refl;
   can = c.requires.plans;
   zones = λ z none. refl;
 }
@@ -50,14 +50,14 @@ loop-plan-preserved c =
     let next = take_next mid.geometry (hole_runs mid) plans i p low c.plan-item.is inv.can in
     record {
       edits = edits_join m mid new inv.edits c.take.ensures.edits;
-      runs = runs_then m mid new plans i p low c.plan-item.is inv.edits.geometry inv.runs
-          (λ z below. c.take.ensures.runs z below ∙ ap (λ (ps : List Part). runs_taken p.id (fronts ps) z (runs_of mid z)) c.deref.ensures.value);
+      taken = taken_then m mid new plans i p low c.plan-item.is inv.taken c.take.ensures.edits.map
+          (subst (λ (ps : List Part). HasTaken mid new p.id (fronts ps)) c.deref.ensures.value
+          (record { geometry = c.take.ensures.edits.geometry; runs = c.take.ensures.runs; holes = c.take.ensures.holes; own = c.take.ensures.own; gained = c.take.ensures.gained; others = c.take.ensures.others }));
       can = subst (λ (g : Geometry). CanTakeAll g (hole_runs new) (drop (i + 1) plans)) (sym c.take.ensures.edits.geometry)
           (subst (λ (hs : List ZoneRun). CanTakeAll mid.geometry hs (drop (i + 1) plans)) (sym (c.take.ensures.holes ∙ ap (λ (ps : List Part). holes_left (hole_runs mid) (fronts ps)) c.deref.ensures.value)) next.1);
       zones = zones_more m mid new plans i p low c.plan-item.is inv.zones
           (subst (λ (ps : List Part). KeepsZones (has_part (fronts ps)) mid new) c.deref.ensures.value c.take.ensures.zones);
     }
 
-pub returns-clause-runs : goal.returns-clause-runs
-returns-clause-runs c = λ z low.
-    c.loop-plan.invariant.runs z low ∙ ap (λ (ps : List Plan). runs_with ps z (runs_of c.args.map.now z)) (take_all c.loop-plan.plan-index c.args.plans.now (omega (arith, c.loop-plan-test.false)))
+pub returns-clause-taken : goal.returns-clause-taken
+returns-clause-taken c = subst (λ (ps : List Plan). AreTaken c.args.map.now ps c.loop-plan.map) (take_all c.loop-plan.plan-index c.args.plans.now (omega (arith, c.loop-plan-test.false))) c.loop-plan.invariant.taken
