@@ -1,5 +1,5 @@
 -- Copies of a map that are made equal, and copies that stay.
-use Rattle.std.proofs.Common.{◌≡◌, ◌<◌, ◌≤◌, ◌⊎◌, inl, inr, ℕ, ◌+◌, ◌*◌, Bool, true, false, List, [], ◌∷◌, map, refl, sym, ap, ap₂, subst, ◌∙◌, arith, eq-eqb}
+use Rattle.std.proofs.Common.{◌≡◌, ◌<◌, ◌≤◌, ◌⊎◌, inl, inr, ℕ, ◌+◌, ◌*◌, true, false, List, [], ◌∷◌, map, refl, ap, ap₂, subst, ◌∙◌, arith, eq-eqb}
 use Rattle.std.specs.Prelude.{◌||◌}
 use Rattle.std.specs.List.{range_with_len}
 use Rattle.std.proofs.lemmas.Bool.{cases_lt}
@@ -14,7 +14,7 @@ use Rattle.fc_copies.proofs.ReadingLemmas.{chooses_one}
 use Rattle.fc_image.specs.Layout.{is_among}
 use Rattle.fc_writing.specs.Content.{IsPart}
 use Rattle.fc_writing.specs.Copies.{CountsAs, KeepsMap}
-use Rattle.fc_writing.proofs.ContentLemmas.{clash, unless}
+use Rattle.fc_writing.proofs.ContentLemmas.{clash}
 
 -- ---- copies that are made equal
 

@@ -1,9 +1,7 @@
 -- What is written before the map's first step: the new object, what is carried along, and pieces.
-use Rattle.std.proofs.Common.{◌≡◌, ◌<◌, ℕ, true, false, List, [], ◌∷◌, ◌++◌, All, refl, sym, ap, ap₂, subst, ◌∙◌, append_assoc}
-use Rattle.std.specs.Prelude.{Contains}
+use Rattle.std.proofs.Common.{◌≡◌, ◌<◌, ℕ, true, false, List, [], ◌++◌, All, refl, sym, ap₂, subst, ◌∙◌, append_assoc}
 use Rattle.std.specs.List.{flat_map}
-use Rattle.std.proofs.lemmas.List.Elements.{Contains-append_left, Contains-append_right}
-use Rattle.fc_device.specs.Sectors.{sector_at}
+use Rattle.std.proofs.lemmas.List.Elements.{Contains-append_left}
 use Rattle.fc_newmap.proofs.PlaceLemmas.{in_back, in_front}
 use Rattle.fc_objects.specs.Extents.{sectors_in}
 use Rattle.fc_objects.specs.Written.{AreApart, part_at}
@@ -13,8 +11,8 @@ use Rattle.fc_writing.specs.declared.ready.Ready.{Ready}
 use Rattle.fc_writing.specs.declared.ready.Source.{Source}
 use Rattle.fc_writing.specs.declared.ready.Source.TheVariants as from
 use Rattle.fc_writing.specs.Content.{Content, HasContent, IsPart, content_sectors}
-use Rattle.fc_writing.specs.Ready.{CanPut, IsEnough, carried_by, content_of, copied_place, early_content, early_place, from_of, late_content, late_place, place_of, source_content, source_from, source_place, to_of, written_place}
-use Rattle.fc_writing.proofs.ContentLemmas.{all_back, all_front, apart_back, apart_between, apart_front, clash, content_append, has_both, has_stays, numbered_sectors, out_left, out_right, part_outside, part_then, part_wider}
+use Rattle.fc_writing.specs.Ready.{CanPut, carried_by, content_of, copied_place, early_content, early_place, from_of, late_content, late_place, place_of, source_content, source_from, source_place, to_of, written_place}
+use Rattle.fc_writing.proofs.ContentLemmas.{all_back, all_front, apart_back, apart_between, apart_front, clash, content_append, has_both, has_stays, numbered_sectors, out_left, part_outside, part_then, part_wider}
 use Rattle.fc_writing.proofs.ListLemmas.{all_carried, carried_sectors, flat_carried, flat_pieces}
 
 pub source_sectors : (size : ℕ) (was bytes : List ℕ) (s : Source) → content_sectors (source_content size was bytes s) ≡ source_place s
@@ -134,8 +132,11 @@ module _ (n : ℕ) (mapped : List ℕ) (r : Ready) (can : CanPut n mapped r) whe
       has_two image had second has =
           has_both size (one was) (two was) image
           (has_stays size [] (one was) (two was) there image had (subst (λ (x : Content). IsPart size [] x there image) two_now second)
-          (λ s e. (refl, subst (λ (ss : List ℕ). is_among ss s ≡ false) (sym (flat_carried size was r.carried.items))
-          (out_left carried pieces s (apart_between source (carried ++ pieces) once_early s (subst (λ (ss : List ℕ). is_among ss s ≡ true) (source_sectors size was bytes r.source) e))))))
+          (λ s e. (
+            refl,
+            subst (λ (ss : List ℕ). is_among ss s ≡ false) (sym (flat_carried size was r.carried.items))
+                (out_left carried pieces s (apart_between source (carried ++ pieces) once_early s (subst (λ (ss : List ℕ). is_among ss s ≡ true) (source_sectors size was bytes r.source) e))),
+          )))
           (subst (λ (x : Content). HasContent size x image) two_now has)
 
     pub part_one : (was image : List ℕ) → IsPart size [] (one was) was image → IsPart size [] (early_content size was bytes r) was image
@@ -160,8 +161,11 @@ module _ (n : ℕ) (mapped : List ℕ) (r : Ready) (can : CanPut n mapped r) whe
         subst (λ (x : Content). HasContent size x image) (assoc was)
         (has_both size (one was ++ two was) three image
         (has_stays size [] (one was ++ two was) three there image had third
-        (λ s e. (refl, subst (λ (ss : List ℕ). is_among ss s ≡ false) (sym (flat_pieces size r.early.items))
-        (apart_between (source ++ carried) pieces (subst AreApart (sym (append_assoc source carried pieces)) once_early) s
-        (subst (λ (ss : List ℕ). is_among ss s ≡ true)
-        (content_append (one was) (two was) ∙ ap₂ (λ (a b : List ℕ). a ++ b) (source_sectors size was bytes r.source) (flat_carried size was r.carried.items)) e)))))
+        (λ s e. (
+          refl,
+          subst (λ (ss : List ℕ). is_among ss s ≡ false) (sym (flat_pieces size r.early.items))
+              (apart_between (source ++ carried) pieces (subst AreApart (sym (append_assoc source carried pieces)) once_early) s
+              (subst (λ (ss : List ℕ). is_among ss s ≡ true)
+              (content_append (one was) (two was) ∙ ap₂ (λ (a b : List ℕ). a ++ b) (source_sectors size was bytes r.source) (flat_carried size was r.carried.items)) e)),
+        )))
         has)

@@ -1,20 +1,19 @@
 -- The first sectors of a disc, which hold an old map.
-use Rattle.std.proofs.Common.{◌≡◌, ◌<◌, ◌≤◌, ◌⊎◌, inl, inr, ⊎_elim, ℕ, zero, suc, ◌+◌, ◌-◌, ◌*◌, ◌/◌, true, false, List, [], ◌∷◌, ◌++◌, All, length, take, drop, get_or, refl, sym, ap, ap₂, subst, ◌∙◌, arith, length-drop}
+use Rattle.std.proofs.Common.{◌≡◌, ◌<◌, ◌≤◌, ◌⊎◌, inl, inr, ⊎_elim, ℕ, zero, suc, ◌+◌, ◌-◌, ◌*◌, ◌/◌, true, List, [], ◌∷◌, ◌++◌, All, length, take, drop, get_or, refl, sym, ap, ap₂, subst, ◌∙◌, arith, length-drop}
 use Rattle.std.specs.List.{range_with_len}
-use Rattle.std.specs.Prelude.{Contains, replicate}
+use Rattle.std.specs.Prelude.{replicate}
 use Rattle.std.proofs.Math.Seq.{take-add}
 use Rattle.std.proofs.lemmas.Bool.{cases_lt}
-use Rattle.std.proofs.lemmas.List.{append-nil, drop-take, length-take-le, take-append-le, take-take, take_all}
+use Rattle.std.proofs.lemmas.List.{append-nil, drop-take, take-append-le, take-take, take_all}
 use Rattle.std.proofs.lemmas.List.FromFn.{get_or-range_with_len, length-range_with_len}
 use Rattle.fc_device.specs.declared.disk.Extent.{Extent}
 use Rattle.fc_device.specs.Sectors.{row_at, sector_at}
-use Rattle.fc_newmap.proofs.PlaceLemmas.{in_range, range_in}
 use Rattle.fc_objects.specs.Extents.{sectors_in}
 use Rattle.fc_objects.specs.Written.{AreApart, padded, part_at}
-use Rattle.fc_image.specs.Layout.{Layout, is_among, map_place}
+use Rattle.fc_image.specs.Layout.{is_among}
 use Rattle.fc_oldmap.specs.OldMap.{OldMapContent, map_units}
 use Rattle.fc_writing.specs.declared.ready.MapStep.TheVariants as steps
-use Rattle.fc_writing.specs.Content.{Content, HasContent, IsPart, content_sectors, stored}
+use Rattle.fc_writing.specs.Content.{Content, HasContent, IsPart, stored}
 use Rattle.fc_writing.specs.Old.{FrontLeaves, IsTorn, StepLeaves, front_in, sector_of, with_map}
 use Rattle.fc_writing.proofs.ContentLemmas.{clash, content_among, numbered_here, numbered_is, numbered_sectors}
 

@@ -1,12 +1,12 @@
 -- Second steps that only give space back.
-use Rattle.std.proofs.Common.{◌≡◌, ◌<◌, ◌≤◌, ℕ, zero, suc, ◌+◌, Bool, true, false, cond, List, [], ◌∷◌, ◌++◌, length, map, filter, refl, sym, ap, ap₂, subst, ◌∙◌, arith, Ok, Err, Option, None, All, eq-eqb}
+use Rattle.std.proofs.Common.{◌≡◌, ◌<◌, ℕ, Bool, true, false, cond, List, [], ◌∷◌, filter, refl, sym, ap, ap₂, subst, ◌∙◌, arith, Ok, Err, Option, None, All, eq-eqb}
 use Rattle.std.specs.Prelude.{◌||◌, AllPairs, Contains, IfSome, IsSome}
-use Rattle.std.specs.List.{list_any, range_with_len}
+use Rattle.std.specs.List.{list_any}
 use Rattle.fc_record.specs.declared.Geometry.{Geometry}
 use Rattle.fc_zone.specs.declared.Run.{Run}
 use Rattle.fc_zone.specs.declared.RunKind.{RunKind}
 use Rattle.fc_zone.specs.declared.RunKind.TheVariants as kinds
-use Rattle.fc_newmap.specs.Map.{Map, ZoneRun, all_runs, has_id, hole_runs, id_runs, runs_in, runs_of, zone_numbers}
+use Rattle.fc_newmap.specs.Map.{Map, ZoneRun, all_runs, has_id, hole_runs, id_runs, runs_of, zone_numbers}
 use Rattle.fc_newmap.specs.NewMap.{IsNewMap}
 use Rattle.fc_newmap.specs.RunsLaw.{placed}
 use Rattle.fc_newmap.specs.Edits.{KeepsRuns}
@@ -23,9 +23,8 @@ use Rattle.fc_plan.specs.Parts.{fronts}
 use Rattle.fc_placing.specs.Space.{zones_changed}
 use Rattle.fc_placing.proofs.SpaceLemmas.{steps_law, unlisted, zones_low, zones_rise}
 use Rattle.fc_writing.specs.declared.ready.RootPlace.{RootPlace}
-use Rattle.fc_writing.specs.declared.ready.SpaceStep.{SpaceStep}
-use Rattle.fc_writing.specs.Laws.{GivesLater, LaterLaw}
-use Rattle.fc_writing.specs.Steps.{AreTaken, CanEdit, CanRoot, CanTakeAll, HasEdited, HasMoved, is_changed}
+use Rattle.fc_writing.specs.Laws.{LaterLaw}
+use Rattle.fc_writing.specs.Steps.{AreTaken, CanRoot, CanTakeAll, is_changed}
 use Rattle.fc_writing.proofs.ContentLemmas.{clash, unless}
 use Rattle.fc_writing.proofs.StepLemmas.{rooted_geometry}
 

@@ -1,8 +1,7 @@
 -- What follows from what a change leaves.
-use Rattle.std.proofs.Common.{◌≡◌, ◌⊎◌, inl, inr, ⊎_elim, ℕ, Bool, true, false, List, [], ◌∷◌, ◌++◌, refl, sym, ap, ap₂, subst, ◌∙◌}
+use Rattle.std.proofs.Common.{◌≡◌, ◌⊎◌, inl, inr, ⊎_elim, ℕ, false, List, [], ◌++◌, refl, sym, ap, ap₂, subst, ◌∙◌}
 use Rattle.std.specs.List.{flat_map}
 use Rattle.std.proofs.lemmas.List.{append-nil}
-use Rattle.fc_device.specs.Sectors.{sector_at}
 use Rattle.fc_newmap.specs.Map.{Map, map_sectors}
 use Rattle.fc_copies.specs.Copies.{Chooses}
 use Rattle.fc_oldmap.specs.OldMap.{OldMapContent}
@@ -16,8 +15,8 @@ use Rattle.fc_writing.specs.Laws.{ChangesOnly, IsTurned, IsUnturned, LeavesLaw}
 use Rattle.fc_writing.specs.New.{AfterTake, ChangeLeaves, InGive, InStep, InTake, IsGiven, IsTaken}
 use Rattle.fc_writing.specs.Old.{IsTorn, front_after, front_in, front_given, front_taken}
 use Rattle.fc_writing.specs.Old as old
-use Rattle.fc_writing.specs.Ready.{content_of, early_content, early_place, late_content, late_place, written_place}
-use Rattle.fc_writing.specs.Stages.{Leaves, Stage}
+use Rattle.fc_writing.specs.Ready.{content_of, early_content, late_content, written_place}
+use Rattle.fc_writing.specs.Stages.{Leaves}
 use Rattle.fc_writing.specs.Steps.{HasStepped, is_wide}
 use Rattle.fc_record.specs.declared.Geometry.{Geometry}
 use Rattle.fc_writing.proofs.NewLemmas.{step_geometry}
@@ -140,9 +139,12 @@ turns m r bytes was image no_late no_give few leaves =
     last : InGive m r image → AfterTake m r image
     last at =
         let same = taken_geometry m at.0 r.take at.2 in
-        let stays : at.1 ≡ at.0 = nothing_stepped at.0 at.1 r.give no_give at.3 in
-        (at.0, at.2, subst (λ (h : Geometry). Chooses h at.0.zones image) same
-        (⊎_elim (λ before. before) (λ after. subst (λ (n : Map). Chooses at.0.geometry n.zones image) stays after) (narrow at.0 at.1 r.give image (nothing_narrow r.give no_give) at.4)))
+        let stays : at.1 ≡ at.0 = nothing_stepped at.0 at.1 r.give no_give at.3 in (
+          at.0,
+          at.2,
+          subst (λ (h : Geometry). Chooses h at.0.zones image) same
+              (⊎_elim (λ before. before) (λ after. subst (λ (n : Map). Chooses at.0.geometry n.zones image) stays after) (narrow at.0 at.1 r.give image (nothing_narrow r.give no_give) at.4)),
+        )
 
 -- ---- old maps
 

@@ -1,5 +1,5 @@
 -- A change of a disc with a new map, stage by stage.
-use Rattle.std.proofs.Common.{◌≡◌, ◌<◌, ◌⊎◌, inl, inr, ⊎_elim, ℕ, true, false, List, [], ◌∷◌, ◌++◌, refl, sym, ap, subst, ◌∙◌}
+use Rattle.std.proofs.Common.{◌≡◌, ◌⊎◌, inl, inr, ⊎_elim, ℕ, true, false, List, [], ◌++◌, sym, ap, subst, ◌∙◌}
 use Rattle.fc_record.specs.declared.Geometry.{Geometry}
 use Rattle.fc_newmap.specs.Map.{Map, map_sectors}
 use Rattle.fc_device.specs.Sectors.{sector_at}
@@ -13,7 +13,7 @@ use Rattle.fc_writing.specs.declared.ready.Piece.{Piece}
 use Rattle.fc_writing.specs.declared.ready.Ready.{Ready}
 use Rattle.fc_writing.specs.Content.{Content, HasContent, IsPart, content_sectors}
 use Rattle.fc_writing.specs.Copies.{KeepsMap}
-use Rattle.fc_writing.specs.New.{AfterTake, ChangeLeaves, GiveLeaves, InGive, InLast, InStep, InTake, IsGiven, IsReached, IsTaken, IsWritten, TakeLeaves}
+use Rattle.fc_writing.specs.New.{AfterTake, ChangeLeaves, GiveLeaves, InGive, InLast, InStep, InTake, IsReached, IsTaken, IsWritten, TakeLeaves}
 use Rattle.fc_writing.specs.Ready.{CanPut, content_of, early_content, late_content}
 use Rattle.fc_writing.specs.Stages.{Half, Stage}
 use Rattle.fc_writing.specs.Steps.{HasStepped}

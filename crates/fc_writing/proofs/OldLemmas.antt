@@ -1,10 +1,10 @@
 -- A change of a disc with an old map, stage by stage.
-use Rattle.std.proofs.Common.{◌≡◌, ◌<◌, ◌⊎◌, inl, inr, ⊎_elim, ℕ, ◌/◌, true, false, List, [], ◌∷◌, ◌++◌, refl, sym, ap, subst, ◌∙◌, arith}
+use Rattle.std.proofs.Common.{◌≡◌, ◌<◌, inl, inr, ⊎_elim, ℕ, true, false, List, [], ◌++◌, sym, ap, subst, ◌∙◌, arith}
 use Rattle.std.specs.List.{flat_map}
 use Rattle.fc_device.specs.Sectors.{sector_at}
 use Rattle.fc_newmap.proofs.PlaceLemmas.{in_range}
 use Rattle.fc_image.specs.Layout.{Layout, is_among, map_place}
-use Rattle.fc_oldmap.specs.OldMap.{OldMapContent, map_units}
+use Rattle.fc_oldmap.specs.OldMap.{OldMapContent}
 use Rattle.fc_writing.specs.declared.ready.Piece.{Piece}
 use Rattle.fc_writing.specs.declared.ready.Ready.{Ready}
 use Rattle.fc_writing.specs.Content.{Content, HasContent, IsPart, content_sectors}

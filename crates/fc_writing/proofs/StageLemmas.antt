@@ -1,7 +1,5 @@
 -- The stages of a change, put together.
-use Rattle.std.proofs.Common.{◌≡◌, ◌<◌, ◌⊎◌, inl, inr, ⊎_elim, ℕ, true, false, List, [], ◌∷◌, ◌++◌, All, Some, refl, sym, ap, ap₂, subst, ◌∙◌}
-use Rattle.std.specs.Prelude.{Contains}
-use Rattle.std.specs.Option.{ForSome}
+use Rattle.std.proofs.Common.{◌≡◌, ℕ, true, false, List, [], ◌++◌, Some, refl, sym, ap₂, subst, ◌∙◌}
 use Rattle.std.specs.List.{flat_map}
 use Rattle.std.proofs.lemmas.List.{append-nil}
 use Rattle.fc_device.specs.Sectors.{sector_at}
@@ -14,7 +12,7 @@ use Rattle.fc_writing.specs.declared.ready.Ready.{Ready}
 use Rattle.fc_writing.specs.declared.ready.Source.{Source}
 use Rattle.fc_writing.specs.declared.ready.Source.TheVariants as from
 use Rattle.fc_writing.specs.Content.{Content, HasContent, IsPart, content_sectors}
-use Rattle.fc_writing.specs.Ready.{CanPut, IsSourceEnough, carried_by, content_of, copied_place, early_content, early_place, from_of, late_content, late_place, source_content, source_from, written_place}
+use Rattle.fc_writing.specs.Ready.{CanPut, IsSourceEnough, content_of, copied_place, early_content, early_place, from_of, late_content, late_place, source_content, source_from, written_place}
 use Rattle.fc_writing.specs.Stages.{Stage}
 use Rattle.fc_writing.proofs.ContentLemmas.{apart_between, clash, has_both, has_none, has_stays, part_outside, part_then, part_wider, unless}
 use Rattle.fc_writing.proofs.EarlyLemmas.{early_beside, early_sectors, late_beside, late_sectors}
@@ -128,9 +126,11 @@ module _ (n : ℕ) (mapped : List ℕ) (r : Ready) (can : CanPut n mapped r) whe
     late_out s e = late_beside n mapped r can s (subst (λ (ss : List ℕ). is_among ss s ≡ true) (late_sectors size r) e)
 
     pub early_apart : (s : ℕ) → is_among (content_sectors (early_content size was bytes r)) s ≡ true → (is_among mapped s ≡ false) × (is_among (content_sectors (late_content size r)) s ≡ false)
-    early_apart s e =
-        (early_out s e, subst (λ (ss : List ℕ). is_among ss s ≡ false) (sym (late_sectors size r))
-        (apart_between (early_place r) (late_place r) can.once s (subst (λ (ss : List ℕ). is_among ss s ≡ true) (early_sectors size was bytes r) e)))
+    early_apart s e = (
+      early_out s e,
+      subst (λ (ss : List ℕ). is_among ss s ≡ false) (sym (late_sectors size r))
+          (apart_between (early_place r) (late_place r) can.once s (subst (λ (ss : List ℕ). is_among ss s ≡ true) (early_sectors size was bytes r) e)),
+    )
 
 -- no sector of the map is written
 pub map_stays : (size : ℕ) (mapped : List ℕ) (c : Content) (was image : List ℕ) → ((s : ℕ) → is_among (content_sectors c) s ≡ true → is_among mapped s ≡ false) → IsPart size [] c was image

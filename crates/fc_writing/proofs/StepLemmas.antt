@@ -1,6 +1,6 @@
 -- Steps of a new map.
 use Rattle.std.proofs.Common.{◌≡◌, ◌<◌, ◌≤◌, ◌⊎◌, inl, inr, ⊎_elim, ℕ, zero, suc, ◌+◌, Bool, true, false, List, [], ◌∷◌, ◌++◌, length, get_or, take, drop, filter, refl, sym, ap, ap₂, subst, ◌∙◌, arith, Option, Some, None, eq-eqb, All, get_or-set_other, get_or-set_same}
-use Rattle.std.specs.Prelude.{◌||◌, ◌==◌, Contains, IfSome, IsSome, nat_lt, slice_index}
+use Rattle.std.specs.Prelude.{◌||◌, ◌==◌, Contains, IsSome, nat_lt, slice_index}
 use Rattle.std.specs.List.{list_any}
 use Rattle.std.proofs.lemmas.Bool.{cases_lt, eqb-true, lt-ltb}
 use Rattle.std.proofs.lemmas.List.{get_or-take, take_more}
@@ -12,7 +12,6 @@ use Rattle.fc_newmap.specs.Map.{Map, ZoneRun, all_runs, hole_runs, id_runs, is_h
 use Rattle.fc_newmap.specs.NewMap.{IsNewMap}
 use Rattle.fc_newmap.specs.RunsLaw.{placed}
 use Rattle.fc_newmap.specs.Edits.{AreEdits, KeepsRuns}
-use Rattle.fc_newmap.proofs.ComposeLemmas.{edits_join}
 use Rattle.fc_newmap.proofs.GeometryLemmas.{header_high}
 use Rattle.fc_newmap.proofs.HeldLemmas.{geometry_facts}
 use Rattle.fc_newmap.proofs.RootLemmas.{root_front}

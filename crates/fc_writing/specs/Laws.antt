@@ -12,8 +12,7 @@ use Rattle.fc_placing.specs.Space.{zones_changed}
 use Rattle.fc_writing.specs.declared.ready.MapStep.TheVariants as steps
 use Rattle.fc_writing.specs.declared.ready.Ready.{Ready}
 use Rattle.fc_writing.specs.declared.ready.SpaceStep.{SpaceStep}
-use Rattle.fc_writing.specs.Content.{Content, HasContent, IsPart}
-use Rattle.fc_writing.specs.New.{AfterTake, ChangeLeaves, InGive, IsGiven, IsTaken}
+use Rattle.fc_writing.specs.New.{AfterTake, ChangeLeaves, IsGiven, IsTaken}
 use Rattle.fc_writing.specs.Old.{front_in}
 use Rattle.fc_writing.specs.Old as old
 use Rattle.fc_writing.specs.Ready.{early_content, written_place}

@@ -60,11 +60,7 @@ fn edit(map: &mut NewMap, step: &SpaceStep)
 /// Makes a step of a map, in memory and by one commit in both its copies on the disk; if no zone changes nothing is written.
 /// Whatever the answer, the map in memory is the one after the step. At every crash and at every exit no sector outside the two copies
 /// has changed, and the copy that counts has the zones before the step or those after it, unless the commit has more than nine.
-pub fn make_step<D: Disk>(
-    disk: &mut D,
-    map: &mut NewMap,
-    step: &MapStep,
-) -> Result<(), DiskFault>
+pub fn make_step<D: Disk>(disk: &mut D, map: &mut NewMap, step: &MapStep) -> Result<(), DiskFault>
     requires attached { IsTrue (D.attached disk.old) }
     requires settled { IsFalse (D.pending disk.old) }
     requires size { D.sector_size disk.old ≡ map.old.geometry.sector }

@@ -1,12 +1,9 @@
-use Rattle.std.proofs.Common.{◌≡◌, ◌⊎◌, inl, inr, ℕ, List, Some, refl, sym, subst, ◌∙◌}
+use Rattle.std.proofs.Common.{◌≡◌, inl, ℕ, List, Some, sym, subst, ◌∙◌}
 use Rattle.std.proofs.lemmas.Result.{on_ok_weaker}
-use Rattle.std.specs.Option.{ForSome}
 use Rattle.fc_device.proofs.DiskLaws.{laws}
 use Rattle.fc_device.proofs.StopLemmas.{keeps_weaker, led}
 use Rattle.fc_copies.proofs.PassLemmas.{keeps_on}
 use Rattle.fc_copies.specs.Copies.{ChangesCopies}
-use Rattle.fc_writing.specs.New.{IsWritten}
-use Rattle.fc_writing.specs.Ready.{early_content}
 use Rattle.fc_writing.proofs.NewLemmas.{taken, taking}
 use Rattle.fc_writing.proofs.StageLemmas.{keeps_both}
 use Rattle.fc_writing.proofs.new.write_early.Goals as goal

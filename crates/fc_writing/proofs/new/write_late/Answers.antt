@@ -1,4 +1,4 @@
-use Rattle.std.proofs.Common.{All, ◌≡◌, ◌<◌, ◌⊎◌, inl, inr, ℕ, List, [], Some, refl, sym, ap, subst, ◌∙◌}
+use Rattle.std.proofs.Common.{All, ◌≡◌, ◌<◌, ℕ, List, [], Some, sym, ap, subst, ◌∙◌}
 use Rattle.std.proofs.lemmas.Result.{on_ok_weaker}
 use Rattle.std.specs.List.{flat_map}
 use Rattle.fc_device.proofs.DiskLaws.{laws}
@@ -10,7 +10,7 @@ use Rattle.fc_copies.proofs.PassLemmas.{keeps_on, keeps_told}
 use Rattle.fc_copies.specs.Copies.{ChangesCopies}
 use Rattle.fc_objects.specs.Written.{AreApart}
 use Rattle.fc_writing.specs.declared.ready.Piece.{Piece}
-use Rattle.fc_writing.specs.Content.{HasContent, IsPart}
+use Rattle.fc_writing.specs.Content.{IsPart}
 use Rattle.fc_writing.specs.Ready.{content_of, late_content, place_of}
 use Rattle.fc_writing.proofs.EarlyLemmas.{late_low, once_late}
 use Rattle.fc_writing.proofs.NewLemmas.{equal_still, given, giving, late_put, putting}

@@ -1,4 +1,4 @@
-use Rattle.std.proofs.Common.{◌≡◌, ◌≤◌, ◌+◌, ◌*◌, ◌⊎◌, inl, inr, ℕ, List, Some, refl, sym, ap, subst, ◌∙◌}
+use Rattle.std.proofs.Common.{◌≤◌, ◌+◌, ◌*◌, ℕ, sym, ap, subst, ◌∙◌}
 use Rattle.std.proofs.lemmas.Result.{on_ok_weaker}
 use Rattle.fc_device.proofs.DiskLaws.{laws}
 use Rattle.fc_device.proofs.StopLemmas.{keeps_weaker, led}
@@ -6,8 +6,7 @@ use Rattle.fc_record.specs.declared.Geometry.{Geometry}
 use Rattle.fc_newmap.specs.Map.{map_sectors}
 use Rattle.fc_copies.proofs.PassLemmas.{keeps_on}
 use Rattle.fc_copies.specs.Copies.{HoldsCopies}
-use Rattle.fc_writing.specs.New.{IsWritten}
-use Rattle.fc_writing.specs.Ready.{CanPut, late_content}
+use Rattle.fc_writing.specs.Ready.{CanPut}
 use Rattle.fc_writing.proofs.NewLemmas.{all_done, early_leaves, late_leaves, reached_early, reached_late, step_geometry}
 use Rattle.fc_writing.proofs.new.write_new.Goals as goal
 

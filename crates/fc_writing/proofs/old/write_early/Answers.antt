@@ -1,4 +1,4 @@
-use Rattle.std.proofs.Common.{◌≡◌, ◌*◌, ◌⊎◌, inl, inr, ℕ, List, [], Some, refl, sym, ap, subst, ◌∙◌}
+use Rattle.std.proofs.Common.{◌≡◌, ◌*◌, ◌⊎◌, ℕ, List, [], Some, sym, ap, subst, ◌∙◌}
 use Rattle.std.proofs.lemmas.Result.{on_ok_weaker}
 use Rattle.fc_device.proofs.DiskLaws.{laws}
 use Rattle.fc_device.proofs.StopLemmas.{keeps_weaker, led}
@@ -7,7 +7,7 @@ use Rattle.fc_copies.proofs.PassLemmas.{keeps_on}
 use Rattle.fc_image.specs.Layout.{Layout, map_place}
 use Rattle.fc_writing.specs.Content.{HasContent, IsPart}
 use Rattle.fc_writing.specs.Old.{StepLeaves, sector_of}
-use Rattle.fc_writing.specs.Ready.{CanPut, early_content}
+use Rattle.fc_writing.specs.Ready.{early_content}
 use Rattle.fc_writing.proofs.FrontLemmas.{HasUnits}
 use Rattle.fc_writing.proofs.OldLemmas.{early_before, early_taken, early_taking}
 use Rattle.fc_writing.proofs.StageLemmas.{without_map}

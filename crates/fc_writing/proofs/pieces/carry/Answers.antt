@@ -1,14 +1,13 @@
-use Rattle.std.proofs.Common.{All, ◌≡◌, ◌<◌, ◌≤◌, ℕ, List, [], ap, length, get_or, take, true, false, refl, sym, subst, ◌∙◌, arith}
+use Rattle.std.proofs.Common.{All, ◌≡◌, ◌<◌, ℕ, List, [], sym, subst, ◌∙◌, arith}
 use Rattle.std.specs.Prelude.{Some}
 use Rattle.std.specs.List.{flat_map}
 use Rattle.std.proofs.lemmas.List.{take_all}
-use Rattle.std.proofs.lemmas.List.Elements.{All-get_or}
 use Rattle.fc_device.proofs.DiskLaws.{form_then, laws}
 use Rattle.fc_device.proofs.StopLemmas.{led}
 use Rattle.fc_copies.proofs.PassLemmas.{keeps_on}
 use Rattle.fc_writing.specs.declared.ready.Transfer.{Transfer}
 use Rattle.fc_writing.specs.Content.{Content, HasContent, IsPart}
-use Rattle.fc_writing.specs.Ready.{IsEnough, carried_by, from_of, to_of}
+use Rattle.fc_writing.specs.Ready.{carried_by, from_of, to_of}
 use Rattle.fc_writing.proofs.ListLemmas.{all_one, carried_now, enough_one, has_more, once_one, one_carried, carried_sectors, others_one}
 use Rattle.fc_writing.proofs.pieces.carry.Goals as goal
 

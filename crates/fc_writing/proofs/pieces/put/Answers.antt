@@ -1,4 +1,4 @@
-use Rattle.std.proofs.Common.{All, ◌≡◌, ◌<◌, ◌≤◌, ℕ, List, [], ap, length, get_or, take, sym, subst, ◌∙◌, arith}
+use Rattle.std.proofs.Common.{All, ◌<◌, ℕ, [], sym, subst, arith}
 use Rattle.std.specs.List.{flat_map}
 use Rattle.fc_device.proofs.DiskLaws.{form_then, laws}
 use Rattle.fc_device.proofs.StopLemmas.{keeps_then, keeps_weaker, led}

@@ -1,4 +1,3 @@
-use Rattle.std.proofs.Common.{◌≡◌, List, ℕ, [], subst}
 use Rattle.std.proofs.lemmas.Result.{on_ok_weaker}
 use Rattle.fc_device.proofs.DiskLaws.{laws}
 use Rattle.fc_device.proofs.StopLemmas.{keeps_weaker}

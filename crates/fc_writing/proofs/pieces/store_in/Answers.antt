@@ -1,6 +1,4 @@
 use Rattle.std.proofs.Common.{ℕ, [], sym, subst, ◌∙◌}
-use Rattle.std.specs.Option.{ForSome}
-use Rattle.std.proofs.lemmas.Result.{on_ok_weaker}
 use Rattle.fc_device.proofs.DiskLaws.{laws}
 use Rattle.fc_device.proofs.StopLemmas.{keeps_same, keeps_weaker}
 use Rattle.fc_device.specs.Calls.{StopsAndExitsLeave}

@@ -1,6 +1,6 @@
-use Rattle.std.proofs.Common.{◌≡◌, ◌<◌, ℕ, List, filter, refl, sym, ap, ap₂, subst, ◌∙◌}
+use Rattle.std.proofs.Common.{ℕ, List, filter, sym, ap₂, subst, ◌∙◌}
 use Rattle.std.specs.Prelude.{AllPairs}
-use Rattle.fc_newmap.specs.Map.{Map, ZoneRun, all_runs, hole_runs, id_runs, runs_of}
+use Rattle.fc_newmap.specs.Map.{Map, all_runs, hole_runs, id_runs, runs_of}
 use Rattle.fc_newmap.specs.Edits.{AreEdits, KeepsRuns}
 use Rattle.fc_newmap.proofs.ComposeLemmas.{edits_join}
 use Rattle.fc_image.specs.effects.Placed.{BeginsBefore}
@@ -10,7 +10,7 @@ use Rattle.fc_plan.specs.declared.plan.Plan.{Plan}
 use Rattle.fc_plan.specs.Giving.{has_run_of, is_given, stays_given}
 use Rattle.fc_plan.specs.Parts.{KeepsZones, fronts}
 use Rattle.std.specs.List.{list_any}
-use Rattle.fc_writing.specs.Steps.{AreTaken, CanTakeAll, HasMoved, is_changed, rooted_map}
+use Rattle.fc_writing.specs.Steps.{AreTaken, CanTakeAll, is_changed}
 use Rattle.fc_writing.proofs.StepLemmas.{can_rooted, in_zone, step_moved, step_zones}
 use Rattle.fc_writing.proofs.steps.edit.Goals as goal
 

@@ -1,14 +1,12 @@
-use Rattle.std.proofs.Common.{◌≡◌, ◌⊎◌, ◌<◌, ◌≤◌, inl, inr, ⊎_elim, ℕ, ◌+◌, ◌*◌, Bool, true, false, List, length, refl, sym, ap, subst, ◌∙◌}
-use Rattle.std.specs.Prelude.{All, nat_lt}
+use Rattle.std.proofs.Common.{◌≡◌, ◌≤◌, inl, inr, ◌+◌, ◌*◌, Bool, true, false, length, refl, sym, ap, subst, ◌∙◌}
+use Rattle.std.specs.Prelude.{nat_lt}
 use Rattle.std.proofs.lemmas.Result.{on_ok_weaker}
 use Rattle.fc_device.proofs.DiskLaws.{laws}
 use Rattle.fc_device.proofs.StopLemmas.{keeps_start, keeps_weaker, led}
 use Rattle.fc_device.specs.Calls.{StopsAndExitsLeave}
 use Rattle.fc_record.specs.declared.Geometry.{Geometry}
-use Rattle.fc_newmap.specs.Map.{Map}
 use Rattle.fc_copies.proofs.PassLemmas.{keeps_told}
-use Rattle.fc_copies.specs.Copies.{ChangesCopies, CommitLeaves, HoldsCopies, copy_of}
-use Rattle.fc_copies.specs.declared.Which.TheVariants.{One}
+use Rattle.fc_copies.specs.Copies.{ChangesCopies, HoldsCopies}
 use Rattle.fc_placing.proofs.CommitLemmas.{keeps_at_once}
 use Rattle.fc_writing.specs.declared.ready.MapStep.{MapStep}
 use Rattle.fc_writing.specs.declared.ready.MapStep.TheVariants as steps

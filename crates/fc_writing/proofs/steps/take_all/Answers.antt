@@ -1,6 +1,6 @@
-use Rattle.std.proofs.Common.{◌+◌, ◌≡◌, ◌<◌, ℕ, List, drop, take, refl, sym, ap, subst, ◌∙◌, arith}
+use Rattle.std.proofs.Common.{◌+◌, List, drop, refl, sym, ap, subst, ◌∙◌, arith}
 use Rattle.std.proofs.lemmas.List.{take_all}
-use Rattle.fc_newmap.specs.Map.{Map, ZoneRun, hole_runs}
+use Rattle.fc_newmap.specs.Map.{ZoneRun, hole_runs}
 use Rattle.fc_newmap.proofs.ComposeLemmas.{edits_join, edits_none}
 use Rattle.fc_record.specs.declared.Geometry.{Geometry}
 use Rattle.fc_image.specs.effects.Placed.{holes_left}
