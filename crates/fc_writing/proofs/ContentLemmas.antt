@@ -1,5 +1,5 @@
 -- What is written into sectors, one thing after another.
-use Rattle.std.proofs.Common.{◌≡◌, ◌<◌, ◌≤◌, inl, inr, ⊎_elim, ℕ, zero, suc, ◌+◌, Bool, true, false, List, [], ◌∷◌, ◌++◌, length, get_or, min, Ok, Err, refl, sym, ap, ap₂, subst, ◌∙◌, arith, eq-eqb, All}
+use Rattle.std.proofs.Common.{◌≡◌, ◌<◌, ◌≤◌, inl, inr, ⊎_elim, ℕ, zero, suc, ◌+◌, Bool, true, false, List, [], ◌∷◌, ◌++◌, length, get_or, min, Ok, Err, Some, refl, sym, ap, ap₂, subst, ◌∙◌, arith, eq-eqb, All}
 use Rattle.std.specs.Prelude.{◌==◌, ◌||◌, Contains}
 use Rattle.std.proofs.lemmas.Bool.{eqb-true}
 use Rattle.std.proofs.lemmas.List.{get_or-append-add, get_or_append_left, length-append, map-append}
@@ -16,6 +16,10 @@ use Rattle.fc_writing.specs.Content.{Content, HasContent, IsPart, content_sector
 
 pub clash : (b : Bool) → b ≡ true → b ≡ false → ⊥
 clash b is not = cc
+
+-- bytes that are told are these
+pub one_told : {a b : List ℕ} → Some a ≡ Some b → a ≡ b
+one_told e = cc
 
 -- a test that isn't passed fails
 pub unless : (b : Bool) → (b ≡ true → ⊥) → b ≡ false

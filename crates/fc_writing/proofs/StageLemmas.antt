@@ -14,7 +14,7 @@ use Rattle.fc_writing.specs.declared.ready.Source.TheVariants as from
 use Rattle.fc_writing.specs.Content.{Content, HasContent, IsPart, content_sectors}
 use Rattle.fc_writing.specs.Ready.{CanPut, IsSourceEnough, content_of, copied_place, early_content, early_place, from_of, late_content, late_place, source_content, source_from, written_place}
 use Rattle.fc_writing.specs.Stages.{Stage}
-use Rattle.fc_writing.proofs.ContentLemmas.{apart_between, clash, has_both, has_none, has_stays, part_outside, part_then, part_wider, unless}
+use Rattle.fc_writing.proofs.ContentLemmas.{one_told, apart_between, clash, has_both, has_none, has_stays, part_outside, part_then, part_wider, unless}
 use Rattle.fc_writing.proofs.EarlyLemmas.{early_beside, early_sectors, late_beside, late_sectors}
 use Rattle.fc_writing.proofs.ListLemmas.{all_carried, carried_same}
 
@@ -34,10 +34,6 @@ keeps_both d {P} {Q} one two = record {
       (first.0, first.1, (first.2, subst (Q was) (one_told (sym second.1 ∙ first.1)) second.2));
   told = one.told;
 }
-  where
-    one_told : {a b : List ℕ} → Some a ≡ Some b → a ≡ b
-    one_told e = cc
-
 -- ---- stages
 
 -- what comes early is written in part

@@ -7,6 +7,7 @@ use Rattle.fc_newmap.specs.Map.{map_sectors}
 use Rattle.fc_copies.proofs.PassLemmas.{keeps_on, keeps_told}
 use Rattle.fc_writing.specs.Content.{HasContent, IsPart}
 use Rattle.fc_writing.specs.Ready.{CanPut, early_content}
+use Rattle.fc_writing.proofs.ContentLemmas.{one_told}
 use Rattle.fc_writing.proofs.NewLemmas.{laid, laid_stage, match_stage}
 use Rattle.fc_writing.proofs.StageLemmas.{without_map}
 use Rattle.fc_writing.proofs.new.lay.Goals as goal
@@ -45,6 +46,3 @@ returns-clause-laid g c =
     (c.in_ok-match_copies.ensures.equal there first.1)
     (subst (λ (h : Geometry). HasContent h.sector (early_content h.sector there c.args.bytes.now c.args.ready.now) image) c.geometry.ensures.value (written there first.1 image is)))
     c.put_early.ensures.written
-  where
-    one_told : {a b : List ℕ} → Some a ≡ Some b → a ≡ b
-    one_told e = cc

@@ -4,6 +4,7 @@ use Rattle.fc_device.proofs.DiskLaws.{laws}
 use Rattle.fc_device.proofs.StopLemmas.{keeps_weaker, led}
 use Rattle.fc_copies.proofs.PassLemmas.{keeps_on}
 use Rattle.fc_copies.specs.Copies.{ChangesCopies}
+use Rattle.fc_writing.proofs.ContentLemmas.{one_told}
 use Rattle.fc_writing.proofs.NewLemmas.{taken, taking}
 use Rattle.fc_writing.proofs.StageLemmas.{keeps_both}
 use Rattle.fc_writing.proofs.new.write_early.Goals as goal
@@ -33,6 +34,3 @@ returns-clause-taken g c =
     taken c.args.map.now c.make_step.new.map (g.D.Disk.sectors c.args.disk.now) c.args.ready.now c.args.bytes.now c.requires.can.put was there image (c.in_ok-lay.ensures.laid was told there first.1)
     (subst (λ (b : List ℕ). ChangesCopies c.args.map.now.geometry b image) (one_told (sym second.1 ∙ first.1)) second.2) (equal image is))
     c.make_step.ensures.equal
-  where
-    one_told : {a b : List ℕ} → Some a ≡ Some b → a ≡ b
-    one_told e = cc

@@ -12,6 +12,7 @@ use Rattle.fc_objects.specs.Written.{AreApart}
 use Rattle.fc_writing.specs.declared.ready.Piece.{Piece}
 use Rattle.fc_writing.specs.Content.{IsPart}
 use Rattle.fc_writing.specs.Ready.{content_of, late_content, place_of}
+use Rattle.fc_writing.proofs.ContentLemmas.{one_told}
 use Rattle.fc_writing.proofs.EarlyLemmas.{late_low, once_late}
 use Rattle.fc_writing.proofs.NewLemmas.{equal_still, given, giving, late_put, putting}
 use Rattle.fc_writing.proofs.StageLemmas.{keeps_both}
@@ -67,6 +68,3 @@ returns-clause-given g c =
     (late_put c.args.map.now.geometry c.geometry.result.now c.args.ready.now c.deref.result.now there c.geometry.ensures.value c.deref.ensures.value (c.in_ok-put.ensures.written there first.1))
     (subst (λ (b : List ℕ). ChangesCopies c.args.map.now.geometry b image) (one_told (sym second.1 ∙ first.1)) second.2) (equal image is))
     c.make_step.ensures.equal
-  where
-    one_told : {a b : List ℕ} → Some a ≡ Some b → a ≡ b
-    one_told e = cc

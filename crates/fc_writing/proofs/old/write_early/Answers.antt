@@ -8,6 +8,7 @@ use Rattle.fc_image.specs.Layout.{Layout, map_place}
 use Rattle.fc_writing.specs.Content.{HasContent, IsPart}
 use Rattle.fc_writing.specs.Old.{StepLeaves, sector_of}
 use Rattle.fc_writing.specs.Ready.{early_content}
+use Rattle.fc_writing.proofs.ContentLemmas.{one_told}
 use Rattle.fc_writing.proofs.FrontLemmas.{HasUnits}
 use Rattle.fc_writing.proofs.OldLemmas.{early_before, early_taken, early_taking}
 use Rattle.fc_writing.proofs.StageLemmas.{without_map}
@@ -64,6 +65,3 @@ returns-clause-taken g c =
     (subst (λ (u : ℕ). HasContent (256 * u) (early_content (256 * u) was c.args.bytes.now c.args.ready.now) there) c.sector_units.ensures.value (c.in_ok-put_early.ensures.written was told there first.1)) image
     (subst (λ (b : List ℕ). StepLeaves c.args.map.now c.args.ready.now.take b image) (one_told (sym second.1 ∙ first.1)) second.2) (written there first.1 image is))
     c.make_old_step.ensures.written
-  where
-    one_told : {a b : List ℕ} → Some a ≡ Some b → a ≡ b
-    one_told e = cc

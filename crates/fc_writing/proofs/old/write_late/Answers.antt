@@ -11,6 +11,7 @@ use Rattle.fc_writing.specs.declared.ready.Piece.{Piece}
 use Rattle.fc_writing.specs.Content.{IsPart}
 use Rattle.fc_writing.specs.Old.{StepLeaves, sector_of}
 use Rattle.fc_writing.specs.Ready.{content_of, late_content, place_of}
+use Rattle.fc_writing.proofs.ContentLemmas.{one_told}
 use Rattle.fc_writing.proofs.EarlyLemmas.{late_low, once_late}
 use Rattle.fc_writing.proofs.FrontLemmas.{HasUnits}
 use Rattle.fc_writing.proofs.OldLemmas.{late_before, late_given, late_giving, late_lent}
@@ -67,6 +68,3 @@ returns-clause-given g c =
     (c.in_ok-put.ensures.written there first.1)) image
     (subst (λ (b : List ℕ). StepLeaves c.args.map.now c.args.ready.now.give b image) (one_told (sym second.1 ∙ first.1)) second.2) (written there first.1 image is))
     c.make_old_step.ensures.written
-  where
-    one_told : {a b : List ℕ} → Some a ≡ Some b → a ≡ b
-    one_told e = cc

@@ -4,6 +4,7 @@ use Rattle.fc_device.proofs.DiskLaws.{laws}
 use Rattle.fc_device.proofs.StopLemmas.{keeps_start, keeps_weaker}
 use Rattle.fc_writing.specs.declared.ready.MapStep.{MapStep}
 use Rattle.fc_writing.specs.Old.{IsOfDisc, StepLeaves, front_after, front_in, sector_of}
+use Rattle.fc_writing.proofs.ContentLemmas.{one_told}
 use Rattle.fc_writing.proofs.FrontLemmas.{count_of, done_of_disc, front_same, left_of_disc}
 use Rattle.fc_writing.proofs.old_front.make_old_step.Goals as goal
 
@@ -14,9 +15,6 @@ returns-in-Nothing-clause-keeps g c =
 pub returns-in-Nothing-clause-written : goal.returns-in-Nothing-clause-written
 returns-in-Nothing-clause-written g c = λ was told image is.
     subst (λ (s : MapStep). front_in c.args.map.now image ≡ front_after s (front_in c.args.map.now was)) (sym c.in-Nothing.is) (ap (front_in c.args.map.now) (one_told (sym is ∙ told)))
-  where
-    one_told : {a b : List ℕ} → Some a ≡ Some b → a ≡ b
-    one_told e = cc
 
 pub write_map-requires-clause-size : goal.write_map-requires-clause-size
 write_map-requires-clause-size g c = c.requires.size ∙ ap (λ (u : ℕ). 256 * u) (sym (subst (λ (s : MapStep). IsOfDisc c.args.map.now s) c.in-Old.is c.requires.disc).1)

@@ -8,6 +8,7 @@ use Rattle.fc_copies.proofs.PassLemmas.{keeps_on}
 use Rattle.fc_writing.specs.declared.ready.Transfer.{Transfer}
 use Rattle.fc_writing.specs.Content.{Content, HasContent, IsPart}
 use Rattle.fc_writing.specs.Ready.{carried_by, from_of, to_of}
+use Rattle.fc_writing.proofs.ContentLemmas.{one_told}
 use Rattle.fc_writing.proofs.ListLemmas.{all_one, carried_now, enough_one, has_more, once_one, one_carried, carried_sectors, others_one}
 use Rattle.fc_writing.proofs.pieces.carry.Goals as goal
 
@@ -58,9 +59,6 @@ loop-transfer-preserved g c =
           (subst (λ (x : Content). HasContent size x image) same (c.in_ok-copy_in.ensures.written (once_one to_of ts i t low c.transfer-item.is c.requires.once) mid.0 mid.1 image is)));
       faults = omega (arith, inv.faults, c.copy_in.ensures.cause.later);
     }
-  where
-    one_told : {a b : List ℕ} → Some a ≡ Some b → a ≡ b
-    one_told e = cc
 
 pub returns-clause-written : goal.returns-clause-written
 returns-clause-written g c = λ was told image is.

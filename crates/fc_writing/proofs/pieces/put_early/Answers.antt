@@ -11,6 +11,7 @@ use Rattle.fc_writing.specs.declared.ready.Piece.{Piece}
 use Rattle.fc_writing.specs.declared.ready.Transfer.{Transfer}
 use Rattle.fc_writing.specs.Content.{HasContent, IsPart}
 use Rattle.fc_writing.specs.Ready.{IsEnough, carried_by, content_of, from_of, place_of, source_content, to_of}
+use Rattle.fc_writing.proofs.ContentLemmas.{one_told}
 use Rattle.fc_writing.proofs.EarlyLemmas.{carried_from_low, carried_low, carried_others, has_three, has_two, once_carried, once_pieces, once_source, part_few, part_one, part_start, part_three, part_two, pieces_low, source_from_low, source_low, source_others}
 use Rattle.fc_writing.proofs.pieces.put_early.Given.{Over}
 use Rattle.fc_writing.proofs.pieces.put_early.Goals as goal
@@ -109,6 +110,3 @@ returns-clause-written g c =
     (subst (λ (b : List ℕ). IsPart size [] (flat_map (content_of size) c.deref-2.result.now) b image) (one_told (sym third.1 ∙ second.1)) third.2))
     (subst (λ (ps : List Piece). HasContent size (flat_map (content_of size) ps) image) c.deref-2.ensures.value (has image is)))
     c.put.ensures.written
-  where
-    one_told : {a b : List ℕ} → Some a ≡ Some b → a ≡ b
-    one_told e = cc
