@@ -1,17 +1,16 @@
 -- What is written into sectors, one thing after another.
 use Rattle.std.proofs.Common.{◌≡◌, ◌<◌, ◌≤◌, inl, inr, ⊎_elim, ℕ, zero, suc, ◌+◌, Bool, true, false, List, [], ◌∷◌, ◌++◌, length, get_or, min, Ok, Err, Some, refl, sym, ap, ap₂, subst, ◌∙◌, arith, eq-eqb, All}
 use Rattle.std.specs.Prelude.{◌==◌, ◌||◌, Contains}
-use Rattle.std.proofs.lemmas.Bool.{eqb-true}
+use Rattle.std.proofs.lemmas.Bool.{eqb-true, false_from_ne_true}
 use Rattle.std.proofs.lemmas.List.{get_or-append-add, get_or_append_left, length-append, map-append}
 use Rattle.std.proofs.lemmas.List.Elements.{Contains-append_cases, Contains-append_left, Contains-append_right}
 use Rattle.fc_device.specs.declared.disk.Extent.{Extent}
 use Rattle.fc_device.specs.Sectors.{sector_at}
 use Rattle.fc_newmap.proofs.PlaceLemmas.{contains_cases, contains_here, contains_later, contains_none, in_back, in_front}
-use Rattle.fc_objects.specs.Copied.{AreFirstCopied, AreOthers, IsPartCopied}
+use Rattle.fc_objects.specs.Copied.{AreFirstCopied, IsPartCopied}
 use Rattle.fc_objects.specs.Extents.{sectors_in}
 use Rattle.fc_objects.specs.Written.{AreApart, HasParts, IsPartWritten, part_at}
 use Rattle.fc_image.specs.Layout.{is_among, is_apart}
-use Rattle.fc_image.proofs.HolesLemmas.{apart_at}
 use Rattle.fc_writing.specs.Content.{Content, HasContent, IsPart, content_sectors, copied, numbered, stored}
 
 pub clash : (b : Bool) → b ≡ true → b ≡ false → ⊥
@@ -20,11 +19,6 @@ clash b is not = cc
 -- bytes that are told are these
 pub one_told : {a b : List ℕ} → Some a ≡ Some b → a ≡ b
 one_told e = cc
-
--- a test that isn't passed fails
-pub unless : (b : Bool) → (b ≡ true → ⊥) → b ≡ false
-unless true never = absurd (never refl)
-unless false never = refl
 
 -- ---- lists of sectors
 
@@ -66,16 +60,16 @@ module _ (xs ys : List ℕ) (once : AreApart (xs ++ ys)) where
 
   -- what is in the one isn't in the other
   pub apart_between : (s : ℕ) → is_among xs s ≡ true → is_among ys s ≡ false
-  apart_between s here = unless (is_among ys s) (λ there.
+  apart_between s here = false_from_ne_true (is_among ys s) (λ there.
       let a = among_at xs s here in
       let b = among_at ys s there in
       once a.0 (length xs + b.0) (omega (arith, a.1)) (omega (arith, b.1, long)) (left_at a.0 a.1 ∙ a.2 ∙ sym b.2 ∙ sym (right_at b.0)))
 
 pub out_left : (xs ys : List ℕ) (s : ℕ) → is_among (xs ++ ys) s ≡ false → is_among xs s ≡ false
-out_left xs ys s out = unless (is_among xs s) (λ e. clash (is_among (xs ++ ys) s) (in_front xs ys s e) out)
+out_left xs ys s out = false_from_ne_true (is_among xs s) (λ e. clash (is_among (xs ++ ys) s) (in_front xs ys s e) out)
 
 pub out_right : (xs ys : List ℕ) (s : ℕ) → is_among (xs ++ ys) s ≡ false → is_among ys s ≡ false
-out_right xs ys s out = unless (is_among ys s) (λ e. clash (is_among (xs ++ ys) s) (in_back xs ys s e) out)
+out_right xs ys s out = false_from_ne_true (is_among ys s) (λ e. clash (is_among (xs ++ ys) s) (in_back xs ys s e) out)
 
 -- facts about all of two lists
 module _ (P : ℕ → Type 0) (xs ys : List ℕ) (all : All P (xs ++ ys)) where
@@ -84,10 +78,6 @@ module _ (P : ℕ → Type 0) (xs ys : List ℕ) (all : All P (xs ++ ys)) where
 
   pub all_back : All P ys
   all_back k d low = subst P (get_or-append-add xs ys k d) (all (length xs + k) d (let n = length-append xs ys in omega (arith, low, n)))
-
-pub others_by : (xs ys : List ℕ) → is_apart xs ys ≡ true → AreOthers xs ys
-others_by xs ys apart i j low below same =
-    clash (is_among ys (get_or xs i 0)) (subst (λ (s : ℕ). is_among ys s ≡ true) (sym same) (among_get ys j below)) (apart_at xs ys (get_or xs i 0) apart (among_get xs i low))
 
 -- ---- sectors with their bytes
 
@@ -152,12 +142,6 @@ has_none size image w there = absurd (contains_none w there)
 
 pub has_both : (size : ℕ) (c d : Content) (image : List ℕ) → HasContent size c image → HasContent size d image → HasContent size (c ++ d) image
 has_both size c d image one two w there = ⊎_elim (one w) (two w) (Contains-append_cases c d w there)
-
-pub has_left : (size : ℕ) (c d : Content) (image : List ℕ) → HasContent size (c ++ d) image → HasContent size c image
-has_left size c d image all w there = all w (Contains-append_left c d w there)
-
-pub part_same : (size : ℕ) (mapped : List ℕ) (c : Content) (image : List ℕ) → IsPart size mapped c image image
-part_same size mapped c image = record { length_stays = refl; each = λ s out. inl refl }
 
 -- one after the other
 pub part_then : (size : ℕ) (mapped : List ℕ) (c d : Content) (a b e : List ℕ) → IsPart size mapped c a b → IsPart size mapped d b e → IsPart size mapped (c ++ d) a e

@@ -2,6 +2,7 @@
 use Rattle.std.proofs.Common.{◌≡◌, ◌<◌, ℕ, Bool, true, false, cond, List, [], ◌∷◌, filter, refl, sym, ap, ap₂, subst, ◌∙◌, arith, Ok, Err, Option, None, All, eq-eqb}
 use Rattle.std.specs.Prelude.{◌||◌, AllPairs, Contains, IfSome, IsSome}
 use Rattle.std.specs.List.{list_any}
+use Rattle.std.proofs.lemmas.Bool.{false_from_ne_true}
 use Rattle.fc_record.specs.declared.Geometry.{Geometry}
 use Rattle.fc_zone.specs.declared.Run.{Run}
 use Rattle.fc_zone.specs.declared.RunKind.{RunKind}
@@ -25,7 +26,7 @@ use Rattle.fc_placing.proofs.SpaceLemmas.{steps_law, unlisted, zones_low, zones_
 use Rattle.fc_writing.specs.declared.ready.RootPlace.{RootPlace}
 use Rattle.fc_writing.specs.Laws.{LaterLaw}
 use Rattle.fc_writing.specs.Steps.{AreTaken, CanRoot, CanTakeAll, is_changed}
-use Rattle.fc_writing.proofs.ContentLemmas.{clash, unless}
+use Rattle.fc_writing.proofs.ContentLemmas.{clash}
 use Rattle.fc_writing.proofs.StepLemmas.{rooted_geometry}
 
 same_filter : (p q : ℕ → Bool) (xs : List ℕ) → ((x : ℕ) → p x ≡ q x) → filter p xs ≡ filter q xs
@@ -84,7 +85,7 @@ module _ (gone : List ℕ) where
   none_left : (mid taken : Map) (test : ℕ → ZoneRun → Bool) → IsNewMap mid → IsNewMap taken → ((id : ℕ) → id_runs mid id ≡ filter (test id) (id_runs taken id)) → (z : ℕ) → z < mid.geometry.zones
       → has_run_of gone (runs_of taken z) ≡ false → has_run_of gone (runs_of mid z) ≡ false
   none_left mid taken test is is_taken of_ids z low none =
-      unless (has_run_of gone (runs_of mid z)) (λ yes.
+      false_from_ne_true (has_run_of gone (runs_of mid z)) (λ yes.
       let run = found (runs_of mid z) yes in
       let id = id_of run.0.kind run.2 in
       let p : ZoneRun = (z, run.0) in

@@ -1,6 +1,7 @@
 -- The stages of a change, put together.
 use Rattle.std.proofs.Common.{◌≡◌, ℕ, true, false, List, [], ◌++◌, Some, refl, sym, ap₂, subst, ◌∙◌}
 use Rattle.std.specs.List.{flat_map}
+use Rattle.std.proofs.lemmas.Bool.{false_from_ne_true}
 use Rattle.std.proofs.lemmas.List.{append-nil}
 use Rattle.fc_device.specs.Sectors.{sector_at}
 use Rattle.fc_device.specs.Stops.{Keeps}
@@ -14,7 +15,7 @@ use Rattle.fc_writing.specs.declared.ready.Source.TheVariants as from
 use Rattle.fc_writing.specs.Content.{Content, HasContent, IsPart, content_sectors}
 use Rattle.fc_writing.specs.Ready.{CanPut, IsSourceEnough, content_of, copied_place, early_content, early_place, from_of, late_content, late_place, source_content, source_from, written_place}
 use Rattle.fc_writing.specs.Stages.{Stage}
-use Rattle.fc_writing.proofs.ContentLemmas.{one_told, apart_between, clash, has_both, has_none, has_stays, part_outside, part_then, part_wider, unless}
+use Rattle.fc_writing.proofs.ContentLemmas.{one_told, apart_between, clash, has_both, has_none, has_stays, part_outside, part_then, part_wider}
 use Rattle.fc_writing.proofs.EarlyLemmas.{early_beside, early_sectors, late_beside, late_sectors}
 use Rattle.fc_writing.proofs.ListLemmas.{all_carried, carried_same}
 
@@ -133,4 +134,4 @@ pub map_stays : (size : ℕ) (mapped : List ℕ) (c : Content) (was image : List
     → (s : ℕ) → is_among mapped s ≡ true → sector_at size image s ≡ sector_at size was s
 map_stays size mapped c was image beside part s e =
     part_outside size [] c was image part s refl
-    (unless (is_among (content_sectors c) s) (λ h. clash (is_among mapped s) e (beside s h)))
+    (false_from_ne_true (is_among (content_sectors c) s) (λ h. clash (is_among mapped s) e (beside s h)))
