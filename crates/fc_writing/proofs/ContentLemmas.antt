@@ -10,7 +10,7 @@ use Rattle.fc_newmap.proofs.PlaceLemmas.{contains_cases, contains_here, contains
 use Rattle.fc_objects.specs.Copied.{AreFirstCopied, IsPartCopied}
 use Rattle.fc_objects.specs.Extents.{sectors_in}
 use Rattle.fc_objects.specs.Written.{AreApart, HasParts, IsPartWritten, part_at}
-use Rattle.fc_image.specs.Layout.{is_among, is_apart}
+use Rattle.fc_image.specs.Layout.{is_among}
 use Rattle.fc_writing.specs.Content.{Content, HasContent, IsPart, content_sectors, copied, numbered, stored}
 
 pub clash : (b : Bool) → b ≡ true → b ≡ false → ⊥

@@ -1,5 +1,5 @@
 -- The stages of a change, put together.
-use Rattle.std.proofs.Common.{◌≡◌, ℕ, true, false, List, [], ◌++◌, Some, refl, sym, ap₂, subst, ◌∙◌}
+use Rattle.std.proofs.Common.{◌≡◌, ℕ, true, false, List, [], ◌++◌, refl, sym, ap₂, subst, ◌∙◌}
 use Rattle.std.specs.List.{flat_map}
 use Rattle.std.proofs.lemmas.Bool.{false_from_ne_true}
 use Rattle.std.proofs.lemmas.List.{append-nil}
@@ -35,6 +35,7 @@ keeps_both d {P} {Q} one two = record {
       (first.0, first.1, (first.2, subst (Q was) (one_told (sym second.1 ∙ first.1)) second.2));
   told = one.told;
 }
+
 -- ---- stages
 
 -- what comes early is written in part

@@ -1,4 +1,4 @@
-use Rattle.std.proofs.Common.{All, ◌≡◌, ◌<◌, ℕ, List, [], Some, sym, ap, subst, ◌∙◌}
+use Rattle.std.proofs.Common.{All, ◌<◌, ℕ, List, [], sym, ap, subst, ◌∙◌}
 use Rattle.std.proofs.lemmas.Result.{on_ok_weaker}
 use Rattle.std.specs.List.{flat_map}
 use Rattle.fc_device.proofs.DiskLaws.{laws}

@@ -1,5 +1,4 @@
 use Rattle.std.proofs.Common.{All, ◌≡◌, ◌<◌, ℕ, List, [], sym, subst, ◌∙◌, arith}
-use Rattle.std.specs.Prelude.{Some}
 use Rattle.std.specs.List.{flat_map}
 use Rattle.std.proofs.lemmas.List.{take_all}
 use Rattle.fc_device.proofs.DiskLaws.{form_then, laws}
