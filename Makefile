@@ -7,7 +7,7 @@ INSTALLED = $(abspath $(DESTDIR)$(PREFIX))
 PAGES = $(wildcard man/*.1 man/*.5)
 COMPLETION = $(wildcard scripts/completion/*.bash)
 
-.PHONY: all kit build install uninstall dist demo test check edits bench
+.PHONY: all kit build install uninstall dist demo test check papers edits bench
 
 all: build
 
@@ -59,6 +59,13 @@ CASES =
 
 check:
 	@set -f; tools/run checks/run --program $(PROGRAM) $(CASES)
+
+# What is made from the sources: definitions, lists of faults and refusals, the line of the licence, exceptions that may shrink
+papers:
+	tools/run checks/definitions --write
+	tools/run checks/faults --write
+	tools/run checks/licence --write
+	tools/run checks/bounds --write
 
 # Wrong bodies whose checks are too dear for the gate, or those of some crates, as by make edits EDITS=fc_growing
 edits:

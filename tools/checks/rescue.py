@@ -1,4 +1,5 @@
 #!/usr/bin/env python3
+# SPDX-License-Identifier: MIT
 """Runs `fcdisc rescue` and `fcdisc mend` over whole discs, discs with one fault, usual damages, and images made to do harm.
 
 usage: tools/run checks/rescue FCORE [long]    `long`: 10,000 random damages, and images cut at each sector
@@ -6,6 +7,8 @@ usage: tools/run checks/rescue FCORE [long]    `long`: 10,000 random damages, an
 
 What should come out is known from the volumes that the images were built from. A file is right if it has its own name and bytes.
 """
+from __future__ import annotations
+
 import collections
 import hashlib
 import io
@@ -16,14 +19,13 @@ import shutil
 import sys
 import tempfile
 import time
+from typing import Any, Iterator
 
 from tools.checks import rescue_cases
 from tools.checks.fcdisc import FCDISC, Checks, host_tree, snapshot
 from tools.checks.selection import Selection, Suite
 from tools.files import read
-from tools.images import damaged as damaged_images
-from tools.images import rescue_hostile, rescue_images
-from tools.images import table as images
+from tools.images import damaged as damaged_images, rescue_hostile, rescue_images, table as images
 from tools.images.rescue_images import FORMATS
 from tools.reference import format_reader, rescue_reader
 
@@ -38,14 +40,14 @@ LARGE_MEMORY = 1 << 30
 class Rescue:
     """The package of fcdisc, called in this process: a run for each image would take most of the time."""
 
-    def __init__(self, folder):
+    def __init__(self, folder: str) -> None:
         sys.path.insert(0, os.path.dirname(os.path.realpath(FCDISC)))
-        from fcdisc_lib.rescue import reading, report, writing
         from fcdisc_lib import messages, names
+        from fcdisc_lib.rescue import reading, report, writing
         self.reading, self.report, self.writing, self.messages, self.names = reading, report, writing, messages, names
         self.place, self.file = os.path.join(folder, "image.adf"), None
 
-    def read(self, data, **options):
+    def read(self, data: bytes, **options: Any) -> Any:
         """The reading, or None if nothing of a disc was found."""
         with open(self.place, "wb") as file:
             file.write(data)
@@ -62,7 +64,7 @@ class Rescue:
 # ---- whole discs
 
 
-def whole_discs(checks, rescue):
+def whole_discs(checks: Checks, rescue: Any) -> None:
     """Exactly what `extract` gives, all sound."""
     for name, volume, data in images.accepted():
         found = rescue.read(bytes(data))
@@ -83,7 +85,7 @@ def whole_discs(checks, rescue):
                       output=(text, out))
 
 
-def write(path, data):
+def write(path: Any, data: bytes) -> None:
     with open(path, "wb") as file:
         file.write(data)
 
@@ -91,7 +93,7 @@ def write(path, data):
 # ---- one fault
 
 
-def single_faults(checks, rescue):
+def single_faults(checks: Checks, rescue: Any) -> None:
     """The damaged images of the table: how many files are sound, suspect, cut off and lost."""
     outcomes = {name: counts for counts, names in rescue_cases.OUTCOMES.items() for name in names.split()}
     for name, data, _ in damaged_images.damaged():
@@ -108,10 +110,10 @@ def single_faults(checks, rescue):
 class Tally:
     """What came out of the images of one kind of damage."""
 
-    def __init__(self):
+    def __init__(self) -> None:
         self.images = self.files = self.sound = self.suspect = self.wrong = self.doubted = 0
 
-    def add(self, volume, found):
+    def add(self, volume: Any, found: Any) -> None:
         truth = rescue_images.files_of(volume)
         by_name = collections.defaultdict(set)
         for path, content in truth.items():
@@ -131,19 +133,19 @@ class Tally:
             elif grade == "suspect":
                 self.doubted += 1
 
-    def __add__(self, other):
+    def __add__(self, other: Any) -> Any:
         made = Tally()
         for key in vars(made):
             setattr(made, key, getattr(self, key) + getattr(other, key))
         return made
 
-    def row(self, kind):
+    def row(self, kind: str) -> str:
         part = 100 * (self.sound + self.suspect) / max(1, self.files)
         return "| %s | %d | %d | %d | %d | %d | %d | %.1f %% |" % (
             kind, self.images, self.files, self.sound, self.suspect, self.wrong, self.doubted, part)
 
 
-def tallies(checks, rescue):
+def tallies(checks: Checks, rescue: Any) -> Any:
     """The damages of each kind in each format; on the way, the second reading is compared."""
     kinds, forms = collections.defaultdict(Tally), collections.defaultdict(Tally)
     for form in FORMATS:
@@ -159,7 +161,7 @@ def tallies(checks, rescue):
     return kinds, forms
 
 
-def usual_damages(checks, rescue):
+def usual_damages(checks: Checks, rescue: Any) -> None:
     kinds, forms = tallies(checks, rescue)
     total = sum(kinds.values(), Tally())
     seen = sum((tally for kind, tally in kinds.items() if kind != UNSEEN), Tally())
@@ -170,7 +172,7 @@ def usual_damages(checks, rescue):
         total.images, right, total.files, total.sound + total.wrong, total.wrong, kinds[UNSEEN].wrong))
 
 
-def table(rescue):
+def table(rescue: Any) -> None:
     kinds, forms = tallies(None, rescue)
     print("| Damage | Images | Files | Right, sound | Right, suspect | Wrong, sound | Wrong, suspect | Right in all |")
     print("|---" * 8 + "|")
@@ -185,7 +187,7 @@ def table(rescue):
 SIGNS = ("bytes", "discs may be mixed", "whole track")
 
 
-def compare(checks, name, data, found):
+def compare(checks: Checks, name: Any, data: bytes, found: Any) -> None:
     """The second reading has the same files, bytes and grades, where it reads the disc at all."""
     try:
         second = rescue_reader.Reading(data).rows
@@ -207,7 +209,7 @@ def compare(checks, name, data, found):
 # ---- the image stays as it is
 
 
-def untouched(checks):
+def untouched(checks: Checks) -> None:
     """The image is write-protected, opened for reading alone, and has its bytes and its time afterwards."""
     work = checks.fresh(b"work")
     data = rescue_hostile.broken_root(rescue_images.floppy("E"))
@@ -233,7 +235,7 @@ def untouched(checks):
 # ---- harm
 
 
-def hostile_images():
+def hostile_images() -> Iterator[Any]:
     for form in FORMATS:
         yield "names of " + form, rescue_hostile.broken_root(rescue_hostile.names(form))
         yield "loop of " + form, rescue_hostile.loop(form)
@@ -246,7 +248,7 @@ def hostile_images():
     yield "deep", bytes(rescue_hostile.deep().image())
 
 
-def hostile(checks, rescue):
+def hostile(checks: Checks, rescue: Any) -> None:
     for name, data in hostile_images():
         work = checks.fresh(b"work")
         start = time.process_time()
@@ -265,7 +267,7 @@ def hostile(checks, rescue):
         json.loads(left[b"out/report.json"])
 
 
-def quietly(run):
+def quietly(run: Any) -> Any:
     """What the run tells people."""
     kept, sys.stderr = sys.stderr, io.StringIO()
     try:
@@ -275,7 +277,7 @@ def quietly(run):
         sys.stderr = kept
 
 
-def large(checks):
+def large(checks: Checks) -> None:
     """A hard disc of 512 MB with the shortest runs and directories everywhere, in bounded time and memory."""
     path = checks.place(b"images/large.adf")
     rescue_hostile.write_large(path)
@@ -291,7 +293,7 @@ def large(checks):
 # ---- random damages
 
 
-def random_damages(checks, rescue, count):
+def random_damages(checks: Checks, rescue: Any, count: int) -> None:
     """It ends, what comes out is bounded, and hardly a file is sound that has other bytes than its places."""
     slowest = 0
     wrong, sound = collections.Counter(), collections.Counter()
@@ -312,7 +314,7 @@ def random_damages(checks, rescue, count):
         count, sum(sound.values()), sum(wrong.values()), wrong["L"], slowest))
 
 
-def where_they_lie(volume, data):
+def where_they_lie(volume: Any, data: bytes) -> Any:
     """What each file's own places have in the damaged image: damage of these bytes leaves no trace."""
     found = {}
     for holder in volume.directories():
@@ -323,7 +325,7 @@ def where_they_lie(volume, data):
     return found
 
 
-def cut_images(rescue, checks, step):
+def cut_images(rescue: Any, checks: Checks, step: Any) -> None:
     """Images cut at every so manyth sector: nothing fails, and no file is sound and wrong."""
     for form in FORMATS:
         volume = rescue_images.floppy(form)
@@ -340,7 +342,7 @@ def cut_images(rescue, checks, step):
 # ---- all of it
 
 
-def run_all(checks, rescue, is_long):
+def run_all(checks: Checks, rescue: Any, is_long: Any) -> None:
     for name in (b"images", b"work", b"fake"):
         os.makedirs(checks.place(name), exist_ok=True)
     whole_discs(checks, rescue)
@@ -354,7 +356,7 @@ def run_all(checks, rescue, is_long):
     cut_images(rescue, checks, 1 if is_long else 40)
 
 
-def main(fcore, *more):
+def main(fcore: str, *more: Any) -> bool:
     sys.dont_write_bytecode = True
     memory = "/dev/shm" if os.access("/dev/shm", os.W_OK) else None
     with tempfile.TemporaryDirectory(dir=memory) as folder:

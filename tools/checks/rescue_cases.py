@@ -1,14 +1,17 @@
+# SPDX-License-Identifier: MIT
 """Runs of `fcdisc rescue` and `fcdisc mend` by their words, and how many files come out of each damaged image of the table.
 
 OUTCOMES has, for how many files are sound, suspect, cut off and lost, the names of tools/damaged_images.py. () stands for an image
 in which nothing of a disc is found.
 """
-import os
+from __future__ import annotations
 
-from tools.checks.fcdisc import snapshot, texts
+import os
+from typing import Any
+
+from tools.checks.fcdisc import Checks, snapshot, texts
 from tools.files import read
-from tools.images import rescue_hostile, rescue_images
-from tools.images import table as images
+from tools.images import rescue_hostile, rescue_images, table as images
 
 OUTCOMES = {
     (): """
@@ -69,12 +72,12 @@ OUTCOMES = {
 }
 
 
-def write(path, data):
+def write(path: Any, data: bytes) -> None:
     with open(path, "wb") as file:
         file.write(data)
 
 
-def run(checks):
+def run(checks: Checks) -> None:
     words(checks)
     several(checks)
     onto_fresh(checks)
@@ -84,7 +87,7 @@ def run(checks):
     advice(checks)
 
 
-def started(checks, **files):
+def started(checks: Checks, **files: Any) -> Any:
     """A fresh folder with these images."""
     work = checks.fresh(b"work")
     for name, data in files.items():
@@ -92,7 +95,7 @@ def started(checks, **files):
     return work
 
 
-def words(checks):
+def words(checks: Checks) -> None:
     """Wrong words, files that aren't there or aren't discs, and a report alone."""
     work = started(checks, a=rescue_hostile.broken_root(rescue_images.floppy("F")), none=bytes(100000))
     for arguments, status, error in (
@@ -113,7 +116,7 @@ def words(checks):
                                "directory $: the word at one of its ends is wrong\n...", out))
 
 
-def several(checks):
+def several(checks: Checks) -> None:
     """A folder of images: a line and a folder for each."""
     work = checks.fresh(b"work")
     os.makedirs(os.path.join(work, b"in/x"))
@@ -128,7 +131,7 @@ def several(checks):
         b"o/a.adf/sound/Hello,00000000-00000000": b"Hello", b"o/x_a.adf/doubtful/Hello,00000000-00000000": b"Hello"}, left))
 
 
-def onto_fresh(checks):
+def onto_fresh(checks: Checks) -> None:
     """The sound files onto a fresh disc, which then has just these."""
     volume = images.user_disc()
     damage = rescue_images.changed(bytes(volume.image()), rescue_images.extents_of(volume, volume.root.entries[1])[0][0] + 8, b"\1")
@@ -141,7 +144,7 @@ def onto_fresh(checks):
     checks.expect("the image of these", same=(damage, read(os.path.join(work, b"a.adf"))))
 
 
-def deleted(checks):
+def deleted(checks: Checks) -> None:
     """A disc that was formatted again, as another format or as the same: what the old directories still lead to."""
     for form, fresh in (("D", "E"), ("D", "D"), ("L", "L"), ("L", "E")):
         volume = rescue_images.floppy(form)
@@ -155,7 +158,7 @@ def deleted(checks):
         checks.expect("a %s disc that was formatted as %s" % (form, fresh), found=(set(), inner - left))
 
 
-def other_orders(checks):
+def other_orders(checks: Checks) -> None:
     """Interleaved sides, and a header."""
     volume = rescue_images.floppy("L")
     data = rescue_hostile.broken_root(volume)
@@ -168,7 +171,7 @@ def other_orders(checks):
         (True, True), ("; its two sides put into disc order" in outs[1], "; without its header of 512 bytes" in outs[2])))
 
 
-def mended(checks):
+def mended(checks: Checks) -> None:
     """What has one right value is put right; nothing is written for the rest, and never to the image itself."""
     volume = rescue_images.floppy("F")
     image, shape = bytes(volume.image()), volume.shape
@@ -198,7 +201,7 @@ def mended(checks):
     checks.expect("mend onto itself", status=(1, status), out=("", out))
 
 
-def advice(checks):
+def advice(checks: Checks) -> None:
     """What `check` promises."""
     work = checks.fresh(b"work")
     for name, data, _ in images.damaged_images.damaged():

@@ -6,6 +6,7 @@ usage: tools/run checks/rooms [SECTION]    a part of a section's heading
 The search is the section's line that begins with `$ grep`. Every crate, and every file of tools, scripts and man, that it finds has to be
 named in the section; and each that is named has to be among those, unless the paragraph that begins with `Besides:` names it.
 """
+import fnmatch
 import os
 import re
 import subprocess
@@ -18,9 +19,9 @@ from tools.files import TOP
 PAGE = os.path.join(TOP, "docs", "CHANGING.md")
 SEARCH = re.compile(r"^    \$ (grep .*)$", re.MULTILINE)
 CRATE = re.compile(r"\bfc_[a-z]+\b|\bfcore\b(?=/| \(src)")
-FILE = re.compile(r"(?<![\w/])((?:\w+/)*\w+\.(?:py|sh|bash|c|1|5))(?!\w|\.\w)")
+FILE = re.compile(r"(?<![\w/])((?:\w+/)*[\w*]+\.(?:py|sh|bash|c|1|5))(?!\w|\.\w)")
 FOLDERS = ("tools", "scripts", "man")
-LEFT_OUT = ("tools/checks/bounds.txt",)  # made from the sources
+LEFT_OUT = ("tools/checks/bounds.txt", "tools/edits/")  # made from the sources; wrong pieces of them
 
 
 def sections() -> Iterator[Tuple[str, str, str]]:
@@ -45,14 +46,14 @@ def room(path: str) -> str:
 
 def rooms_found(search: str) -> Set[str]:
     ran = subprocess.run(["bash", "-c", search], cwd=TOP, capture_output=True, text=True, check=False)
-    return {room(line) for line in ran.stdout.split("\n") if line and "__pycache__" not in line and line not in LEFT_OUT}
+    return {room(line) for line in ran.stdout.split("\n") if line and "__pycache__" not in line and not line.startswith(LEFT_OUT)}
 
 
 def rooms_named(text: str, files: List[str]) -> Dict[str, Set[str]]:
-    """What a text names: a crate as itself, the end of a path as all files that it fits."""
+    """What a text names: a crate as itself, the end of a path, in which * stands for any letters, as all files that it fits."""
     found = {name: {name} for name in CRATE.findall(text) if name in sources.crates()}
     for name in FILE.findall(text):
-        found[name] = {path for path in files if ("/" + path).endswith("/" + name)}
+        found[name] = {path for path in files if fnmatch.fnmatchcase("/" + path, "*/" + name)}
     return found
 
 

@@ -1,16 +1,19 @@
+# SPDX-License-Identifier: MIT
 """Images that were made to do harm, or are damaged at random: for tools/check_rescue.py."""
-import random
+from __future__ import annotations
 
-from tools.images import damaged as damaged_images
-from tools.images import rescue_images
-from tools.reference.filecore import UNIT, Geometry, Record, put, zone_check
+import random
+from typing import Any, Iterator
+
+from tools.images import damaged as damaged_images, rescue_images
 from tools.images.volumes import Directory, File, OldVolume, boot_block, fresh_e, record_bytes, small_directory
+from tools.reference.filecore import UNIT, Geometry, Record, put, zone_check
 
 NAMES = (b"..", b".", b"/", b"//", b"../x", b"/etc/x", b"a/../../b", b"\\..\\x", b"x,fff", b"sound", b"report/txt", b"\xe9\xff",
          b"con", b"%2e%2e/x", b"~", b"-rf")
 
 
-def names(form):
+def names(form: str) -> Any:
     """A disc whose names try to lead out of a folder, with a damaged root."""
     volume = rescue_images.empty(form)
     for at, name in enumerate(NAMES):
@@ -25,13 +28,13 @@ def names(form):
     return volume
 
 
-def broken_root(volume):
+def broken_root(volume: Any) -> bytes:
     damage = damaged_images.Damage(volume)
     word = 2040 if volume.form == "big" else 1274 if volume.form == "L" else 2042
     return bytes(damage.directory(volume.root, {word: b"XX"}).data)
 
 
-def whole_disc_entries(form):
+def whole_disc_entries(form: str) -> bytes:
     """A directory with as many entries as there can be, each of which names nearly the whole disc."""
     volume = OldVolume(form, 3200 if form == "D" else 2560)
     count, first = (77, 8) if form == "D" else (47, 7)
@@ -44,7 +47,7 @@ def whole_disc_entries(form):
     return bytes(data)
 
 
-def many_directories(form):
+def many_directories(form: str) -> bytes:
     """A directory in every place where one fits, each full of entries that name directories or the whole disc."""
     units = 3200 if form == "D" else 2560
     data = bytearray(units * UNIT)
@@ -65,7 +68,7 @@ def many_directories(form):
     return bytes(data)
 
 
-def big_directories():
+def big_directories() -> bytes:
     """An E+ disc full of big directories whose heads are wrong, and whose entries look right."""
     volume = fresh_e(True)
     holder = volume.root
@@ -80,7 +83,7 @@ def big_directories():
     return bytes(data)
 
 
-def many_zones():
+def many_zones() -> bytes:
     """A disc that says it has as many zones as a record can tell, in a short image with thousands of files."""
     raw = record_bytes(10, 15, 5, 65535, 32, 0x203, 65535 * 8160 * 32 - 480 * 32)
     data = bytearray(many_directories("D"))
@@ -88,7 +91,7 @@ def many_zones():
     return bytes(data)
 
 
-def loop(form):
+def loop(form: str) -> bytes:
     """A directory that holds itself and its holder."""
     volume = rescue_images.empty(form)
     inner = volume.root.insert(volume.directory(volume.root, b"In"))
@@ -103,7 +106,7 @@ def loop(form):
     return bytes(image())
 
 
-def deep(levels=200):
+def deep(levels: int = 200) -> Any:
     """Directories one in the other, beyond any path."""
     volume = fresh_e()
     holder = volume.root
@@ -113,7 +116,7 @@ def deep(levels=200):
     return volume
 
 
-def shortest_runs(shape, raw):
+def shortest_runs(shape: Any, raw: Any) -> Any:
     """A copy of a map that is all runs of one sector pair, of identifier 5."""
     sectors = []
     for zone in range(shape.zones):
@@ -129,7 +132,7 @@ def shortest_runs(shape, raw):
     return b"".join(sectors)
 
 
-def write_large(path, size=512 << 20):
+def write_large(path: Any, size: int = 512 << 20) -> None:
     """A hard disc of the shortest runs, with thousands of directories, whose entries all name half the disc: a sparse file."""
     zones = -(-(size // 64 + 480) // (8 * 512 - 32))
     raw = record_bytes(9, 15, 6, zones, 32, 0x500, size)
@@ -152,7 +155,7 @@ def write_large(path, size=512 << 20):
         file.write(copy + copy)
 
 
-def random_damages(form, count, seed):
+def random_damages(form: str, count: int, seed: int) -> Iterator[Any]:
     """The image of a floppy with 1 to 2,000 other bytes, half of them in its map and directories; and where it was changed."""
     volume = rescue_images.floppy(form)
     image = bytes(volume.image())

@@ -1,9 +1,13 @@
+# SPDX-License-Identifier: MIT
 """Floppies of every format as a keeper has them, and what goes wrong with such discs: for tools/check_rescue.py.
 
 A volume keeps its files, so what should come out of a damaged image is known.
 """
+from __future__ import annotations
+
 import hashlib
 import random
+from typing import Any, Iterator
 
 from tools.images.volumes import FRESH, OldVolume
 from tools.reference.filecore import UNIT
@@ -15,11 +19,11 @@ FILES = 40
 ROOM = {"E": 620000, "F": 1250000, "D": 640000, "L": 500000}
 
 
-def track_of(form):
+def track_of(form: str) -> Any:
     return TRACKS[form[0]]
 
 
-def content(length, seed):
+def content(length: int, seed: int) -> Any:
     """Bytes as files have them: a third packed, a third text, a third with runs of zeros."""
     packed = hashlib.shake_128(b"%d" % seed).digest(length)
     if seed % 3 == 1:
@@ -29,14 +33,14 @@ def content(length, seed):
     return packed
 
 
-def lengths(form, source):
+def lengths(form: str, source: Any) -> Any:
     """Forty lengths, some of a few bytes, which fill most of the disc."""
     parts = [source.choice((1, 2, 3, 8, 20, 60)) for _ in range(FILES - 4)]
     room = ROOM[form[0]]
     return [0, 1, 1023, 2048] + [max(1, room * part // sum(parts) - source.randrange(900)) for part in parts]
 
 
-def place_file(volume, name, data, source):
+def place_file(volume: Any, name: Any, data: bytes, source: Any) -> Any:
     """A file in one piece, or on a new map where its first zone has no room, in several."""
     load = 0xFFF00000 | source.choice((0xFFF, 0xFFB, 0xFF9, 0xFEB)) << 8 | 0x41
     fields = {"load": load, "execution": source.randrange(1 << 32)}
@@ -56,7 +60,7 @@ def place_file(volume, name, data, source):
     return volume.file(name, data, pieces, **fields)
 
 
-def empty(form):
+def empty(form: str) -> Any:
     """A fresh volume whose free space is still to be given out."""
     volume = FRESH[form]()
     if isinstance(volume, OldVolume):
@@ -65,7 +69,7 @@ def empty(form):
     return volume
 
 
-def floppy(form, seed=1):
+def floppy(form: str, seed: int = 1) -> Any:
     """A volume of forty files in seven directories."""
     source = random.Random("%s %d" % (form, seed))
     volume = empty(form)
@@ -85,13 +89,13 @@ def floppy(form, seed=1):
     return volume
 
 
-def files_of(volume):
+def files_of(volume: Any) -> Any:
     """The bytes of each file, by its path."""
     return {volume.path_of(holder, entry): bytes(entry.data)
             for holder in volume.directories() for entry in holder.entries if not entry.is_directory}
 
 
-def extents_of(volume, entry):
+def extents_of(volume: Any, entry: Any) -> Any:
     """Where an object lies: places and lengths."""
     length = len(volume.content(entry))
     if not length:
@@ -102,7 +106,7 @@ def extents_of(volume, entry):
     return list(volume.pieces_of(entry.address, length))
 
 
-def places_of(volume):
+def places_of(volume: Any) -> Iterator[Any]:
     """The bytes that the disc's structures have: kind, place and length."""
     if isinstance(volume, OldVolume):
         yield "map", 0, 512
@@ -121,13 +125,13 @@ def places_of(volume):
 # ---- damages: each a name of its kind, and the image
 
 
-def changed(image, start, data):
+def changed(image: Any, start: int, data: bytes) -> bytes:
     made = bytearray(image)
     made[start:start + len(data)] = data
     return bytes(made)
 
 
-def whole_tracks(form, image, source):
+def whole_tracks(form: str, image: Any, source: Any) -> Iterator[Any]:
     """Tracks that weren't read, that were left out, or that were read in place of their neighbour."""
     size = track_of(form)
     count = len(image) // size
@@ -142,7 +146,7 @@ def whole_tracks(form, image, source):
         yield "wrong track read", changed(image, start, image[other * size:(other + 1) * size])
 
 
-def cuts(form, image, source):
+def cuts(form: str, image: Any, source: Any) -> Iterator[Any]:
     size = track_of(form)
     for part in (98, 95, 90, 80, 60):
         end = len(image) * part // 100
@@ -150,7 +154,7 @@ def cuts(form, image, source):
         yield "end cut off", image[:end - source.randrange(1, 200)]
 
 
-def bits(volume, image, source):
+def bits(volume: Any, image: Any, source: Any) -> Iterator[Any]:
     """One bit of each structure."""
     for kind, start, length in places_of(volume):
         used = length if kind != "directory" else min(length, 400)
@@ -158,7 +162,7 @@ def bits(volume, image, source):
         yield "one bit of a " + kind.split(" copy")[0], changed(image, at, bytes([image[at] ^ 1 << source.randrange(8)]))
 
 
-def sectors(volume, form, image, source):
+def sectors(volume: Any, form: str, image: Any, source: Any) -> Iterator[Any]:
     """A sector of each structure that wasn't read: zeros, or the one before again."""
     size = 256 if form == "L" else 1024
     for kind, start, length in places_of(volume):
@@ -172,7 +176,7 @@ def sectors(volume, form, image, source):
             yield "sector repeated", changed(image, at, image[at - size:at])
 
 
-def both_maps(volume, form, image):
+def both_maps(volume: Any, form: str, image: Any) -> Iterator[Any]:
     """The same zone of both copies of a map."""
     if not isinstance(volume, OldVolume):
         shape = volume.shape
@@ -183,7 +187,7 @@ def both_maps(volume, form, image):
             yield "zone of both maps", made
 
 
-def mixtures(form, image, other):
+def mixtures(form: str, image: Any, other: Any) -> Iterator[Any]:
     """From some track on, or between two, the image is that of another disc."""
     size = track_of(form)
     count = len(image) // size
@@ -191,7 +195,7 @@ def mixtures(form, image, other):
         yield "two discs mixed", image[:first * size] + other[first * size:end * size] + image[end * size:]
 
 
-def formattings(form, image):
+def formattings(form: str, image: Any) -> Iterator[Any]:
     """A new formatting was broken off."""
     size = track_of(form)
     for part in (20, 8, 4, 2):
@@ -199,7 +203,7 @@ def formattings(form, image):
         yield "format broken off", b"\xe5" * length + image[length:]
 
 
-def damages(volume, form, other):
+def damages(volume: Any, form: str, other: Any) -> Iterator[Any]:
     """Each kind of damage, with images."""
     source = random.Random("damages of " + form)
     image = bytes(volume.image())
@@ -212,7 +216,7 @@ def damages(volume, form, other):
     yield from formattings(form, image)
 
 
-def reformatted(volume, form, fresh):
+def reformatted(volume: Any, form: str, fresh: Any) -> bytes:
     """A disc whose map and root are those of a fresh disc, and whose other bytes are still those of the old one."""
     image, new = bytes(volume.image()), FRESH[fresh]()
     made = bytearray(image.ljust(len(new.image()), b"\0"))

@@ -1,10 +1,14 @@
+# SPDX-License-Identifier: MIT
 """Makes discs with new maps whose files stand in many short runs, each in a zone of chance, with one hole at the end of each zone.
 
 Every other directory holds files in 4 to 6 runs of the least length. The others hold 60 small files that share an identifier, in
 runs of 16 sectors. What a disc holds follows from the number of its files alone. No code is shared with fcore.
 """
+from __future__ import annotations
+
 import itertools
 import random
+from typing import Any
 
 from tools.images.fragmented import hard_disc
 from tools.images.volumes import Directory, File
@@ -17,13 +21,13 @@ DIRECTORY_BYTES = 4096
 class Scatterer:
     """Gives files of a disc runs in zones of chance."""
 
-    def __init__(self, files):
+    def __init__(self, files: Any) -> None:
         self.volume = hard_disc(10, 17, 7, SPARE_ZONES + files // FILES_IN_ZONE, big=True)
         self.shape = self.volume.shape
         self.random = random.Random(files)
         self.names = (b"F%05d" % at for at in itertools.count())
 
-    def identifier(self, parts):
+    def identifier(self, parts: Any) -> Any:
         """A new identifier over runs of so many bits, each at the front of the hole of a zone of chance."""
         made = self.volume.new_identifier()
         for bits in parts:
@@ -31,19 +35,19 @@ class Scatterer:
             self.volume.take(made, self.random.choice(rooms), bits)
         return made
 
-    def directory(self, holder, number):
+    def directory(self, holder: Directory, number: int) -> Any:
         parts = [self.shape.units(DIRECTORY_BYTES)]
         made = Directory(b"D%04d" % number, self.identifier(parts) * 256)
         made.size, made.holder = DIRECTORY_BYTES, holder
         return holder.insert(made)
 
-    def scattered_file(self, holder):
+    def scattered_file(self, holder: Directory) -> None:
         parts = [self.shape.least] * self.random.randint(4, 6)
         room = sum(parts) * self.shape.bit_bytes
         length = self.random.randint(room - self.shape.sector + 1, room)
         holder.insert(File(next(self.names), self.random.randbytes(length), self.identifier(parts) * 256))
 
-    def sharing_files(self, holder, count):
+    def sharing_files(self, holder: Directory, count: int) -> None:
         lengths = [self.random.randint(1, 2 * self.shape.share) for at in range(count)]
         units = [-(-length // self.shape.share) for length in lengths]
         room = sum(units)
@@ -55,7 +59,7 @@ class Scatterer:
             holder.insert(File(next(self.names), self.random.randbytes(length), made * 256 + low))
             low += taken
 
-    def fill(self, files):
+    def fill(self, files: Any) -> None:
         holders = [self.volume.root]
         for number, start in enumerate(range(0, files, FILES_IN_DIRECTORY)):
             if sum(entry.is_directory for entry in holders[0].entries) == DIRECTORIES_IN_HOLDER:
@@ -70,7 +74,7 @@ class Scatterer:
                     self.scattered_file(made)
 
 
-def scattered(files):
+def scattered(files: Any) -> Any:
     """The volume with so many files."""
     made = Scatterer(files)
     made.fill(files)

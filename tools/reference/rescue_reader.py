@@ -1,9 +1,13 @@
+# SPDX-License-Identifier: MIT
 """A second reading of damaged discs, to compare with what `fcdisc rescue` says: by the functions of format_reader.py, relaxed.
 
 It gives up the checks that a reader can do without in the order of docs/RESCUE.md, and shares no code with fcdisc. It leaves aside
 what it doesn't do (`Beyond`): discs that have to be guessed, short images, directories that nothing leads to.
 """
+from __future__ import annotations
+
 import hashlib
+from typing import Any, Iterator
 
 from tools.reference import format_reader
 from tools.reference.format_reader import Bad, Record, cut, num, small_entry, spelled, zone_check
@@ -13,14 +17,14 @@ class Beyond(Exception):
     """What this reading doesn't do."""
 
 
-def sectors_of(start, size, sector):
+def sectors_of(start: int, size: int, sector: Any) -> Any:
     return range(start // sector, (start + size) // sector)
 
 
 class Zones:
     """A new map, each zone from a copy where it is right."""
 
-    def __init__(self, data, record, has_boot):
+    def __init__(self, data: bytes, record: Any, has_boot: bool) -> None:
         self.g, self.sector, self.form = record, record.sector, "big" if record.version else "2048"
         self.runs, self.holes, self.doubted = {}, [], set()
         copies = [[data[self.sector * at:self.sector * (at + 1)] for at in range(first, first + record.zones)]
@@ -45,7 +49,7 @@ class Zones:
         if has_boot:
             self.reserved |= set(range(0xC00 // self.sector, -(-0xE00 // self.sector)))
 
-    def read_zone(self, z, zone):
+    def read_zone(self, z: Any, zone: int) -> None:
         reader = format_reader.NewMap.__new__(format_reader.NewMap)
         reader.g, reader.sector, reader.runs, reader.holes = self.g, self.sector, {}, []
         try:
@@ -55,7 +59,7 @@ class Zones:
         for identifier, runs in reader.runs.items():
             self.runs.setdefault(identifier, []).extend(runs)
 
-    def place(self, address, length):
+    def place(self, address: Any, length: int) -> Any:
         """The sectors of an object, as many as there are, and whether a doubtful zone has a part in it."""
         identifier, low = address // 256, address % 256
         if identifier < 2:
@@ -66,16 +70,16 @@ class Zones:
         skipped = (low - 1) * self.g.share // self.sector if low else 0
         return sectors[skipped:skipped + -(-length // self.sector)], bool(self.doubted) or identifier >= self.g.id_bound
 
-    def is_free(self, sectors):
+    def is_free(self, sectors: Any) -> bool:
         return False
 
 
-def is_zone(sector):
+def is_zone(sector: Any) -> Any:
     """A zone of zeros has a right check too, but is one that was never read."""
     return any(sector) and sector[0] == zone_check(sector)
 
 
-def is_sound(copy):
+def is_sound(copy: Any) -> Any:
     cross = 0
     for zone in copy:
         cross ^= zone[3]
@@ -85,7 +89,7 @@ def is_sound(copy):
 class Places:
     """A disc with an old map, which is needed for free space alone."""
 
-    def __init__(self, data, form, units):
+    def __init__(self, data: bytes, form: str, units: int) -> None:
         self.sector, self.form = (1024, "2048") if form == "D" else (256, "1280")
         self.root, self.root_size = (4, 2048) if form == "D" else (2, 1280)
         self.units, self.free = units, set()
@@ -95,18 +99,18 @@ class Places:
             if length and start + length <= units * 256 and start % self.sector == length % self.sector == 0:
                 self.free |= set(sectors_of(start, length, self.sector))
 
-    def place(self, address, length):
+    def place(self, address: Any, length: int) -> Any:
         start = address * 256
         if start % self.sector or start >= self.units * 256:
             return [], False
         end = min(start + length, self.units * 256)
         return list(range(start // self.sector, -(-end // self.sector))), False
 
-    def is_free(self, sectors):
+    def is_free(self, sectors: Any) -> bool:
         return not self.free.isdisjoint(sectors)
 
 
-def map_of(data):
+def map_of(data: bytes) -> Any:
     """The map by the first description that has no guess in it."""
     kind, found = format_reader.kind_of(data)
     need = found.size if kind in ("Boot", "OneZone") else found * 256
@@ -120,7 +124,7 @@ def map_of(data):
 class Reading:
     """All files of a disc: path, whether each is whole and undoubted, digest."""
 
-    def __init__(self, data):
+    def __init__(self, data: bytes) -> None:
         self.data, self.map = data, map_of(data)
         self.claims, self.files, seen = {}, [], set()
         sure, doubtful = [("$", self.map.root, self.map.root_size, True)], []
@@ -143,18 +147,18 @@ class Reading:
                     self.files.append((inner, entry, is_right))
         self.rows = self.judged()
 
-    def bytes_of(self, sectors, length):
+    def bytes_of(self, sectors: Any, length: int) -> Any:
         size = self.map.sector
         return b"".join(self.data[size * at:size * (at + 1)] for at in sectors)[:length]
 
-    def claim(self, path, sectors, is_sure):
+    def claim(self, path: Any, sectors: Any, is_sure: Any) -> Any:
         """The doubt that comes from what else has these sectors."""
         others = {self.claims[at] for at in sectors if at in self.claims}
         for at in sectors:
             self.claims.setdefault(at, (path, is_sure))
         return others
 
-    def entries(self, data):
+    def entries(self, data: bytes) -> Any:
         """The entries, and whether the directory is right."""
         read = format_reader.read_big if self.map.form == "big" else format_reader.read_small
         try:
@@ -170,7 +174,7 @@ class Reading:
             raise Beyond("a directory that is lost")
         return [entry for entry in self.remains(data) if self.can_be(entry)], False
 
-    def remains(self, data):
+    def remains(self, data: bytes) -> Iterator[Any]:
         for at in range(5, 5 + 26 * (77 if self.map.form == "2048" else 47), 26):
             raw = data[at:at + 26]
             if raw[0]:
@@ -178,7 +182,7 @@ class Reading:
             elif any(raw):
                 return
 
-    def can_be(self, entry):
+    def can_be(self, entry: Any) -> Any:
         """Whether an entry of a damaged directory looks right."""
         name, length = cut(entry["name"]), entry["length"]
         is_directory = entry["attributes"] & 8
@@ -192,10 +196,10 @@ class Reading:
         plain = all(byte > 32 and not 127 <= byte < 160 and byte not in b'$&%@\\^:.#*"|' for byte in name)
         return has_place or plain if 127 not in name else has_place and False
 
-    def size(self):
+    def size(self) -> Any:
         return self.map.g.size if isinstance(self.map, Zones) else self.map.units * 256
 
-    def judged(self):
+    def judged(self) -> Any:
         """Path, whether it is sound, and the digest; the files of right directories have the first claim."""
         rows = {}
         for path, entry, is_right in sorted(self.files, key=lambda file: not file[2]):

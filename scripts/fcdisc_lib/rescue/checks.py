@@ -1,3 +1,4 @@
+# SPDX-License-Identifier: MIT
 """The check bytes of maps, boot blocks and directories, as docs/FORMAT.md gives them."""
 from __future__ import annotations
 

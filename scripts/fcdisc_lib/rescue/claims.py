@@ -1,3 +1,4 @@
+# SPDX-License-Identifier: MIT
 """Which sectors each object has: what lies on another, on the map or in free space, and how much of each can be read."""
 from __future__ import annotations
 

@@ -1,3 +1,4 @@
+# SPDX-License-Identifier: MIT
 """Directories: whole ones as docs/FORMAT.md has them, and of damaged ones the entries that look right."""
 from __future__ import annotations
 

@@ -1,3 +1,4 @@
+# SPDX-License-Identifier: MIT
 """Which disc an image holds: the descriptions that it may go by, the most trusted first."""
 from __future__ import annotations
 

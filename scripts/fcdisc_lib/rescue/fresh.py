@@ -1,3 +1,4 @@
+# SPDX-License-Identifier: MIT
 """The sound files of a disc that was read, straight onto a fresh disc."""
 from __future__ import annotations
 

@@ -1,3 +1,4 @@
+# SPDX-License-Identifier: MIT
 """Where a short image lacks a piece: at its end, or inside, where a track or a sector was left out."""
 from __future__ import annotations
 

@@ -1,3 +1,4 @@
+# SPDX-License-Identifier: MIT
 """The job `rescue`, and what `check` says of it."""
 from __future__ import annotations
 

@@ -1,3 +1,4 @@
+# SPDX-License-Identifier: MIT
 """Where files lie on an E or E+ disc whose map is lost: worked out from the lengths of its objects and the places of directories.
 
 FileCore gives out identifiers and space from the front, so on a disc that was filled in one go the identifiers lie in their order,

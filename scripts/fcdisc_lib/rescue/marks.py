@@ -1,3 +1,4 @@
+# SPDX-License-Identifier: MIT
 """Signs that a drive didn't read what was on a disc: tracks of one pattern, tracks that were read twice, sectors that repeat."""
 from __future__ import annotations
 

@@ -1,3 +1,4 @@
+# SPDX-License-Identifier: MIT
 """The job `mend`: a copy of a damaged image, with what has exactly one right value."""
 from __future__ import annotations
 

@@ -1,3 +1,4 @@
+# SPDX-License-Identifier: MIT
 """Where objects lie: what a map of either kind has to tell, and the space of old maps."""
 from __future__ import annotations
 

@@ -1,3 +1,4 @@
+# SPDX-License-Identifier: MIT
 """A disc as far as it can be read: its description, its objects, and how far each can be trusted."""
 from __future__ import annotations
 

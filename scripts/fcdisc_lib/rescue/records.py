@@ -1,3 +1,4 @@
+# SPDX-License-Identifier: MIT
 """Disc records: what a disc says of its own shape, and the numbers that follow."""
 from __future__ import annotations
 

@@ -1,3 +1,4 @@
+# SPDX-License-Identifier: MIT
 """What of a damaged disc has exactly one right value: the bytes that a mended copy gets."""
 from __future__ import annotations
 

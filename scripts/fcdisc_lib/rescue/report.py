@@ -1,3 +1,4 @@
+# SPDX-License-Identifier: MIT
 """What a rescue has to say of a disc and its files: for people, and for programs."""
 from __future__ import annotations
 

@@ -1,3 +1,4 @@
+# SPDX-License-Identifier: MIT
 """The bytes of a disc, out of an image that is open for reading alone."""
 from __future__ import annotations
 

@@ -1,3 +1,4 @@
+# SPDX-License-Identifier: MIT
 """The space of a disc, by the kind of its map."""
 from __future__ import annotations
 

@@ -1,3 +1,4 @@
+# SPDX-License-Identifier: MIT
 """Directories that nothing leads to: found by their words, wherever they lie."""
 from __future__ import annotations
 

@@ -1,3 +1,4 @@
+# SPDX-License-Identifier: MIT
 """The objects of a disc, found from its root down, and in directories that nothing leads to."""
 from __future__ import annotations
 

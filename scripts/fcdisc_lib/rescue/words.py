@@ -1,3 +1,4 @@
+# SPDX-License-Identifier: MIT
 """The words of the jobs for damaged discs."""
 from __future__ import annotations
 

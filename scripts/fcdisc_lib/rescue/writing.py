@@ -1,3 +1,4 @@
+# SPDX-License-Identifier: MIT
 """The files of a disc that was read, into a folder of the host, by the names and times of `extract`."""
 from __future__ import annotations
 

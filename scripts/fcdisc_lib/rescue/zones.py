@@ -1,3 +1,4 @@
+# SPDX-License-Identifier: MIT
 """The space of new maps: each zone from the copy where it is right, and of damaged zones what still spells runs."""
 from __future__ import annotations
 
