@@ -60,7 +60,7 @@ def collection(checks: Checks) -> Any:
     fill(work, {b"c": None, b"c/b": None, b"c/f.adf": user, b"c/b/named.adf": named, b"c/b/twin.adf": twin, b"c/b/twin2.adf": twin,
                 b"c/f.adf~": b"older", b"c/f.adf~undone": b"x", b"c/f.adf~12~": b"x", b"c/.fcdisc-1-1.tmp": b"x", b"c/notes.txt": b"My discs\n",
                 b"c/unread.adf": bytes(819200), b"c/empty.dat": b"", b"c/pack.zip": b"PK\3\4xxxx", b"c/dos.img": DOS, b"c/old.dat": old_hard_disc(),
-                b"c/part.img": bytes(1 << 20) + named, b"c/away": "-> none", b"c/link": "-> b", b"c/lone~": b"a note"})
+                b"c/part.img": bytes(1 << 20) + named, b"c/away": "-> none", b"c/link": "-> b", b"c/lone~": b"a note", b"c/f.adf~1~": b"x"})
     os.mkfifo(os.path.join(work, b"c/pipe"))
     return work
 
