@@ -12,7 +12,6 @@ from .description import Description, describe
 from .faults import refusal_explained
 from .filetypes import TABLE
 from .fresh import fresh_disc
-from .verdicts import fault_of
 from .images import HEADER, L_SIZE, open_file, open_image, pieces_from, read_at, size_of, to_disc_order, to_interleaved
 from .listing import heading, rows, tree_row
 from .messages import FAILED, Trouble, say, shown, tell

@@ -84,6 +84,10 @@ class Folder:
             return not piece
         return False
 
+    def place(self, name: bytes) -> str:
+        """The path of a file in it for a program that has the folder open too, under the same number."""
+        return "/dev/fd/%d/%s" % (self.number, os.fsdecode(name))
+
     def make(self, name: bytes) -> None:
         """Makes a folder in it. FileExistsError if the name is there, whatever has it."""
         os.mkdir(name, dir_fd=self.number)

@@ -7,7 +7,7 @@ them fill just the space between them, all that lies between them is found.
 """
 from __future__ import annotations
 
-from typing import Dict, Iterator, List, NamedTuple, Optional, Tuple
+from typing import Dict, Iterator, List, NamedTuple, Tuple
 
 from ..names import folded
 from .directories import Item, Listing

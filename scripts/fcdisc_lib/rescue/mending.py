@@ -63,8 +63,7 @@ def judge(program: str, reading: Reading, words: Namespace, number: int) -> None
                     compare(reading, found, list(run.lines()), words.image)
     except BadImage as fault:
         text = "%s: with what can be put right the disc still isn't accepted: %s: nothing written"
-        told = explained(fault.words)
-        raise Trouble(text % (shown(words.image), "%s [%s]" % (told.meaning, told.line))) from None
+        raise Trouble(text % (shown(words.image), explained(fault.words).meaning)) from None
 
 
 def compare(reading: Reading, found: Found, lines: List[bytes], image: str) -> None:
