@@ -1,11 +1,10 @@
 # SPDX-License-Identifier: MIT
-# SPDX-License-Identifier: MIT
 # Completion of fcdisc's words for bash: jobs, options, formats, and files. Put it where bash-completion looks, or source it.
 
 _fcdisc()
 {
     local word=${COMP_WORDS[COMP_CWORD]} before=${COMP_WORDS[COMP_CWORD-1]} job=${COMP_WORDS[1]}
-    local jobs='list ls get extract check new adl strip put add mkdir rm mv cp access compact reclaim undo convert catalogue find diff types'
+    local jobs='list ls get extract check new adl strip put add mkdir rm mv cp access compact reclaim undo convert catalogue find diff types rescue mend'
     local change='--order --offset --backup --in-place --help'
     local options='--help'
 
@@ -31,6 +30,8 @@ _fcdisc()
         rm|cp) options="-r $change" ;;
         mv|access|compact|reclaim) options=$change ;;
         undo) options='--back --help' ;;
+        rescue) options='--order --as --deleted --all --report --to --each --help' ;;
+        mend) options='--order --help' ;;
         convert) options='--order --offset --fit --verbose --help' ;;
         find) options='--order --offset --type --holds --sha256 --help' ;;
         diff) options='--order --offset --verbose --help' ;;
