@@ -1,5 +1,4 @@
 # SPDX-License-Identifier: MIT
-# SPDX-License-Identifier: MIT
 # Completion of fcdisc's words for bash: jobs, options, formats, and files. Put it where bash-completion looks, or source it.
 
 _fcdisc()

@@ -7,7 +7,7 @@ import zipfile
 from typing import Any, Dict, Optional, Tuple
 
 from tools.checks.fcdisc_cases import FULL_DISK
-from tools.checks.fcdisc_changes import NAMED, differing, is_writable, short_tree, tree_of, whole_discs
+from tools.checks.fcdisc_changes import NAMED, differing, is_writable, short_tree, tree_of
 from tools.checks.work_folders import snapshot
 from tools.files import read
 
@@ -140,7 +140,7 @@ def round_trip(c: Any, name: Any, data: bytes) -> None:
     for at, (words, place) in enumerate(((["a.adf", "o.zip"], "o.zip"), (["--inf", "a.adf", "i"], "i"), (["--types", "default", "a.adf", "t"], "t"))):
         c.run("extract", *words)
         c.run("new", form, "b%d.adf" % at)
-        got = c.run("add", "b%d.adf" % at, place)
+        c.run("add", "b%d.adf" % at, place)
         wanted = {path: node for path, node in settable(tree).items() if is_writable(path, True)}
         found = tree_of(read(c.at("b%d.adf" % at)))
         if place == "t":  # endings become part of names; the rest is the same

@@ -11,11 +11,14 @@ leaves is judged by `expected`, which is written from docs/FORMAT.md and says wh
 in checks/crash: at each crash every object has its address and bytes, and every identifier that is owned, 1 and 2 keep their runs;
 no byte outside the two copies of the map differs. Runs in which a write or a sync fails are judged as crashes are.
 """
+from __future__ import annotations
+
 import os
 import random
 import subprocess
 import sys
 import tempfile
+from typing import Any, List, Optional, Tuple
 
 from tools.checks.crash import MOMENTS, Crashes, copies, layout, objects, steps_of, with_torn_copy
 from tools.files import built_shim
@@ -30,13 +33,13 @@ FAILING = (("pwrite", 1), ("pwrite", 2), ("fsync", 1), ("fsync", 3))
 # ---- what has to become of a disc
 
 
-def has_boot_block(data):
+def has_boot_block(data: bytes) -> Any:
     """Whether a boot block fits, whatever the disc is opened as."""
     block = data[BOOT_BLOCK:BOOT_END]
     return len(data) >= BOOT_END and block[511] == boot_check(block) and valid(block[0x1C0:0x1FC])
 
 
-def reserved_bytes(disc, data):
+def reserved_bytes(disc: Any, data: bytes) -> Any:
     """What a run that goes back may not hold, as rows of bytes."""
     g = disc.map.g
     start = g.map_sector() * g.sector
@@ -46,13 +49,13 @@ def reserved_bytes(disc, data):
     return found
 
 
-def goes_back(disc, reserved, run):
+def goes_back(disc: Any, reserved: Any, run: Any) -> Any:
     start, size, identifier = run
     lost = identifier is not None and identifier not in KEPT and identifier not in disc.owned
     return lost and not any(start < end and first < start + size for first, end in reserved)
 
 
-def joined(row):
+def joined(row: Any) -> Any:
     """Runs that touch, some of which go back: one hole if any does, else as they are."""
     if not any(goes for run, goes in row):
         return [run for run, goes in row]
@@ -60,7 +63,7 @@ def joined(row):
     return [(first[0], last[0] + last[1] - first[0], None)]
 
 
-def expected(data):
+def expected(data: bytes) -> Any:
     """For each zone the runs that it must have, and the bytes that are given back."""
     disc = Disc(data)
     reserved, zones, given = reserved_bytes(disc, data), [], 0
@@ -78,20 +81,20 @@ def expected(data):
     return zones, given
 
 
-def kept_runs(data):
+def kept_runs(data: bytes) -> Any:
     """The runs of identifiers that stay."""
     disc = Disc(data)
     return {identifier: runs for identifier, runs in disc.map.runs.items() if identifier in KEPT or identifier in disc.owned}
 
 
-def outside_map(data):
+def outside_map(data: bytes) -> Any:
     disc = Disc(data)
     g = disc.map.g
     start = g.map_sector() * g.sector
     return data[:start] + data[start + 2 * g.zones * g.sector:]
 
 
-def faults_left(before, after):
+def faults_left(before: Any, after: Any) -> Any:
     """What is wrong with an image that a crash or an exit leaves, in words."""
     if objects(after) != objects(before):
         return ["other objects: %s" % str(objects(after)[:2])[:200]]
@@ -103,7 +106,7 @@ def faults_left(before, after):
     return found
 
 
-def faults_at_end(before, after):
+def faults_at_end(before: Any, after: Any) -> Any:
     found = faults_left(before, after)
     if found:
         return found
@@ -115,7 +118,7 @@ def faults_at_end(before, after):
     return found
 
 
-def crash_faults(image, steps, chance):
+def crash_faults(image: Any, steps: List[Optional[Tuple[int, bytes]]], chance: random.Random) -> Any:
     """The first crash that leaves something wrong, in words, and the image at the end."""
     crashes = Crashes(image, steps, Disc(image).map.sector, chance)
     numbers = range(1, len(steps) + 1)
@@ -130,7 +133,7 @@ def crash_faults(image, steps, chance):
 # ---- discs
 
 
-def lose(volume, chance):
+def lose(volume: Any, chance: random.Random) -> None:
     """Makes runs of some holes that belong to no object: two in a row, and at the ends of zones."""
     shape = volume.shape
     lost = [volume.new_identifier() for at in range(3)]
@@ -152,7 +155,7 @@ def lose(volume, chance):
             at += 1
 
 
-def losing(name, seed):
+def losing(name: Any, seed: int) -> Any:
     volume = SHAPES[name]()
     Fragmenter(volume, seed).fill(2)
     lose(volume, random.Random(seed))
@@ -162,7 +165,7 @@ def losing(name, seed):
 # ---- the program
 
 
-def reclaimed(program, shim, folder, image, faults=None):
+def reclaimed(program: str, shim: str, folder: str, image: Any, faults: Optional[str] = None) -> Any:
     """The record of the program's writes over the image, its status and output, and the image at its end."""
     path, record = os.path.join(folder, "disc"), os.path.join(folder, "record")
     for name, content in ((path, image), (record, b"")):
@@ -178,7 +181,7 @@ def reclaimed(program, shim, folder, image, faults=None):
         return steps, (ran.returncode, ran.stdout), file.read()
 
 
-def look(image, steps, answer, chance):
+def look(image: Any, steps: List[Optional[Tuple[int, bytes]]], answer: Any, chance: random.Random) -> Any:
     """All that is wrong with one run, and the image that its record comes to."""
     found, end = crash_faults(image, steps, chance)
     wanted = 0, b"reclaimed %d\nok\n" % expected(image)[1]
@@ -189,7 +192,7 @@ def look(image, steps, answer, chance):
     return found + faults_at_end(image, end), end
 
 
-def check(program, discs):
+def check(program: str, discs: Any) -> bool:
     failures, calls, given = [], 0, 0
     with tempfile.TemporaryDirectory() as folder:
         shim, program, names = built_shim(folder), os.path.realpath(program), sorted(SHAPES)
@@ -215,7 +218,7 @@ def check(program, discs):
 # ---- the self-test
 
 
-def stand_in(name, seed, fault):
+def stand_in(name: Any, seed: int, fault: Optional[str]) -> Any:
     """An image, and what a program that gives its lost runs back would write and answer."""
     volume = SHAPES[name]()
     Fragmenter(volume, seed).fill(2)
@@ -244,7 +247,7 @@ def stand_in(name, seed, fault):
     return image, steps, (0, b"reclaimed %d\nok\n" % given)
 
 
-def joined_bits(row):
+def joined_bits(row: Any) -> Any:
     """The runs of a zone, lengths in bits, with the holes that have become of some joined with those that touch them."""
     found, chain = [], []
     for length, owner, goes in row + [(0, 0, False)]:
@@ -258,7 +261,7 @@ def joined_bits(row):
     return found
 
 
-def self_test():
+def self_test() -> bool:
     failures = []
     for fault in (None, "owned", "nothing", "touching"):
         caught, discs = 0, 0

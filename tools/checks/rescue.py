@@ -254,7 +254,7 @@ def hostile(checks: Checks, rescue: Any) -> None:
         start = time.process_time()
         found = rescue.read(data)
         with rescue.writing.empty_folder(os.fsdecode(os.path.join(work, b"out"))) as folder:
-            err = quietly(lambda: rescue.writing.write_all(found, "x", folder))
+            quietly(lambda: rescue.writing.write_all(found, "x", folder))
         spent = time.process_time() - start
         left = snapshot(work)
         size = sum(len(data) for path, data in left.items() if data and not path.startswith(b"out/report"))

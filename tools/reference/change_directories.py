@@ -176,8 +176,6 @@ def head_name_fault(change: Change, key: Tuple[bytes, ...], old: SmallHead, new:
 
 
 def big_differences(change: Change, key: Tuple[bytes, ...], old: SmallHead, new: SmallHead) -> Any:
-    now = change.key_after(key)
-    entries = change.after.objects[now].entries
     size = change.needs.size if key == change.needs.grown else old.size
     found = [] if new.size == size else ["it has %d bytes instead of %d" % (new.size, size)]
     found += [] if new.reserved == old.reserved else ["its reserved bytes have changed"]
