@@ -183,7 +183,7 @@ def table(rescue):
 
 
 # signs of the bytes, which the second reading doesn't look for
-SIGNS = ("bytes", "discs may be mixed", "whole track")
+SIGNS = ("bytes", "discs may be mixed", "whole track", "with its mark")
 
 
 def compare(checks, name, data, found):
