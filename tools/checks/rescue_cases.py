@@ -1,7 +1,7 @@
 # SPDX-License-Identifier: MIT
 """Runs of `fcdisc rescue` and `fcdisc mend` by their words, and how many files come out of each damaged image of the table.
 
-OUTCOMES has, for how many files are sound, suspect, cut off and lost, the names of tools/damaged_images.py. () stands for an image
+OUTCOMES has, for how many files are sound, suspect, cut off and lost, the names of tools/images/damaged.py. () stands for an image
 in which nothing of a disc is found.
 """
 from __future__ import annotations
@@ -11,7 +11,7 @@ from typing import Any
 
 from tools.checks.fcdisc import Checks, snapshot, texts
 from tools.files import read
-from tools.images import rescue_hostile, rescue_images, table as images
+from tools.images import damaged, rescue_hostile, rescue_images, table as images
 
 OUTCOMES = {
     (): """
@@ -204,7 +204,7 @@ def mended(checks: Checks) -> None:
 def advice(checks: Checks) -> None:
     """What `check` promises."""
     work = checks.fresh(b"work")
-    for name, data, _ in images.damaged_images.damaged():
+    for name, data, _ in damaged.damaged():
         if name in ("d-twin", "identifier-1", "zeros"):
             write(os.path.join(work, b"%s.adf" % name.encode()), data)
     out, err, status = checks.run(["check", "d-twin.adf", "identifier-1.adf", "zeros.adf"])
