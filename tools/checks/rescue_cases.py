@@ -97,7 +97,8 @@ def started(checks: Checks, **files: Any) -> Any:
 
 def words(checks: Checks) -> None:
     """Wrong words, files that aren't there or aren't discs, and a report alone."""
-    work = started(checks, a=rescue_hostile.broken_root(rescue_images.floppy("F")), none=bytes(100000), zip=b"PK\3\4" + bytes(5000))
+    work = started(checks, a=rescue_hostile.broken_root(rescue_images.floppy("F")), none=bytes(100000),
+                   zip=b"PK\3\4" + bytes(5000))
     for arguments, status, error in (
             (["rescue", "a.adf"], 2, "fcdisc: say the folder for the files, or --report, or --to FORMAT NEW\n"),
             (["rescue", "--report", "a.adf", "o"], 2, "fcdisc: say the folder for the files, or --report, or --to FORMAT NEW\n"),

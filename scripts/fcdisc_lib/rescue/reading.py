@@ -50,7 +50,7 @@ class Reading:
         self.claims = Claims(self.space, self.source, options.takes_all)
         self.claims.take([*self.walk.directories, *self.walk.files])
         self.is_whole = self.find_whole()
-        known = set(map(id, (*self.walk.directories, *self.walk.files)))
+        known = {id(one) for one in (*self.walk.directories, *self.walk.files) if not one.listing.is_lost}
         self.foreign: List[int] = []
         self.older: Optional[Older] = None
         self.deleted = adopt_strays(self.walk, self.claims, options.takes_deleted, self.is_whole, self.foreign)
@@ -91,9 +91,10 @@ class Reading:
     def doubt_mixed(self) -> None:
         """Doubts what lies nearest to signs of another disc: directories inside of files, and other bytes where one should be."""
         signs = {place: False for place in self.foreign if self.disc.size <= FLOPPY}
-        for one in self.walk.directories:
-            if one.listing.fault == NO_WORDS and one.is_sure and self.has_other_bytes(one):
-                signs[one.place.extents[0][0]] = False
+        missing = [one.place for one in self.walk.directories if one.listing.fault == NO_WORDS and one.is_sure]
+        for place in (*missing, *self.walk.displaced):
+            if self.walk.has_other_bytes(place):
+                signs[place.extents[0][0]] = False
         if not signs:
             return
         signs.update({one.place.extents[0][0]: True for one in self.walk.directories if not one.is_damaged and one.place.extents})
@@ -101,11 +102,6 @@ class Reading:
         for found in self.files:
             if found.grade == "sound" and any(not signs[place] for extent in found.place.extents for place in near(places, extent)):
                 found.doubt(MIXED)
-
-    def has_other_bytes(self, directory: Found) -> bool:
-        """Whether something was read where the directory lies, not the same byte throughout."""
-        block = self.walk.read_bytes(directory.place.extents, self.disc.sector)
-        return block.count(block[:1]) != len(block)
 
 
 def near(places: List[int], extent: Tuple[int, int]) -> List[int]:

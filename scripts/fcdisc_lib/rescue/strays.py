@@ -4,9 +4,10 @@ from __future__ import annotations
 
 from typing import Iterator, List, NamedTuple, Optional
 
+from ..names import folded
 from .checks import number
 from .claims import Claims
-from .directories import Listing, has_words, read_listing, size_told
+from .directories import NO_WORDS, Listing, has_words, read_listing, size_told
 from .discs import UNIT, WORDS, Disc
 from .places import Place
 from .source import Source
@@ -85,10 +86,18 @@ def adopt_strays(walk: Walk, claims: Claims, takes_deleted: bool, is_whole: bool
 
 
 def stale_by(walk: Walk, stray: Stray, owner: Optional[Found]) -> str:
-    """Why what the directory says is doubted. Nothing, if the directory that it names as its parent has lost its entry."""
+    """Why what the directory says is doubted.
+
+    Nothing, if the directory that it names as its parent is damaged, or has an entry of its name that leads to none.
+    """
     holder = walk.holder_at(stray.listing.parent)
     address = walk.space.address_at(stray.start)
-    if holder and holder.is_damaged and not owner and not stray.listing.fault and address not in (None, stray.listing.parent):
+    if not holder or owner or stray.listing.fault or address in (None, stray.listing.parent):
+        return STRAY
+    lost = walk.lost.get((holder.path, folded(stray.listing.name)))
+    if lost and lost.is_sure and lost.listing.fault == NO_WORDS and walk.has_other_bytes(lost.place):
+        return STRAY  # perhaps another disc's
+    if lost or holder.is_damaged:
         return ""
     return STRAY
 

@@ -8,7 +8,7 @@ from typing import Deque, Dict, List, Optional, Tuple
 from ..names import folded
 from ..program import Path
 from ..tree import MAX_DEPTH
-from .directories import Item, Limits, Listing, lost, read_listing, size_told
+from .directories import NO_WORDS, Item, Limits, Listing, lost, read_listing, size_told
 from .discs import Disc
 from .places import Extent, Place, Space
 from .source import Source
@@ -76,6 +76,8 @@ class Walk:
         self.directories: List[Found] = []
         self.seen: Dict[int, Found] = {}  # directories by the place of their first byte
         self.by_address: Dict[int, Found] = {}
+        self.displaced: List[Place] = []  # where directories should lie that were found elsewhere
+        self.lost: Dict[Tuple[Path, bytes], Found] = {}  # directories that can't be read, by their holders and names
         self.taken: Dict[Path, Dict[bytes, int]] = {}  # names in a directory, as they are compared; how often each came up
         self.too_many = self.too_deep = False
         self.room = DIRECTORY_SPACE * max(min(source.length, disc.size), 4096)
@@ -106,7 +108,7 @@ class Walk:
     def read(self, found: Found) -> None:
         if len(found.path) > MAX_DEPTH:
             self.too_deep = True
-            found.listing = lost("it lies too deep")
+            self.lose(found, lost("it lies too deep"))
             return
         found.place = self.find(found)
         self.read_at(found)
@@ -125,37 +127,43 @@ class Walk:
     def read_at(self, found: Found) -> None:
         """Reads the directory that lies at its place, unless it was read before."""
         if not found.place.extents:
-            found.listing = lost(NOWHERE)
+            self.lose(found, lost(NOWHERE))
             return
         first = found.place.extents[0][0]
         size = sum(length for start, length in found.place.extents)
         if first in self.seen:
-            found.listing = lost(TWICE)
+            self.lose(found, lost(TWICE))
             return
         if size > self.room:
             self.too_many = True
-            found.listing = lost("too many directories")
+            self.lose(found, lost("too many directories"))
             return
         self.room -= size
         wanted = self.size_of(found) if self.disc.directories != "big" or found.item.length else size
         block = self.read_bytes(found.place.extents, min(size, wanted) if wanted else size)
         if not block:
-            found.listing = lost(NOT_THERE)
+            self.lose(found, lost(NOT_THERE))
             return
         listing = read_listing(block, self.disc.directories, wanted, self.limits)
         self.accept(found, first, listing)
 
     def accept(self, found: Found, first: int, listing: Listing) -> None:
         if not found.is_sure and not listing.is_lost and not listing.fault and self.is_other(found, listing):
-            found.listing = lost(OTHER)
+            self.lose(found, lost(OTHER))
+            return
+        if listing.is_lost:
+            self.lose(found, listing)
             return
         found.listing = listing
-        if listing.is_lost:
-            return
         self.seen[first] = found
         self.by_address.setdefault(found.item.address, found)
         for item in listing.items:
             self.enter(found, item)
+
+    def lose(self, found: Found, listing: Listing) -> None:
+        found.listing = listing
+        if found.holder:
+            self.lost[found.holder.path, folded(found.item.name)] = found
 
     def is_other(self, found: Found, listing: Listing) -> bool:
         """Whether what a doubtful entry leads to says that it is another directory."""
@@ -198,6 +206,11 @@ class Walk:
             length -= wanted
         return b"".join(parts)
 
+    def has_other_bytes(self, place: Place) -> bool:
+        """Whether something was read where a directory should lie, not the same byte throughout."""
+        block = self.read_bytes(place.extents, self.disc.sector)
+        return block.count(block[:1]) != len(block)
+
     # directories that nothing leads to
 
     def adopt(self, start: int, place: Place, listing: Listing, stale: str, is_deleted: bool) -> None:
@@ -207,16 +220,27 @@ class Walk:
         """
         address = self.space.address_at(start)
         holder = None if is_deleted or address == listing.parent else self.holder_at(listing.parent)
-        name = listing.name if holder and listing.name else b"found-%d" % (start // self.disc.sector)
-        holder = holder or self.root
-        path = (*holder.path, self.free_name(holder.path, name))
-        item = Item(name, 8, 0, 0, sum(length for _, length in place.extents), address or 0)
-        made = Found(path, item, holder, ("no directory leads to it",))
+        made = self.lost.pop((holder.path, folded(listing.name)), None) if holder else None
+        if made is None:
+            made = self.new_stray(holder, start, listing)
+        elif made.is_sure and made.listing.fault == NO_WORDS:
+            self.displaced.append(made.place)
+        size = sum(length for _, length in place.extents)
+        made.item = made.item._replace(length=size, address=address or 0)
+        made.doubt("no directory leads to it")
         made.place, made.stale, made.is_deleted = place, stale, is_deleted
-        made.is_homeless = name.startswith(b"found-")
-        self.directories.append(made)
         self.accept(made, start, listing)
         self.go_on()
+
+    def new_stray(self, holder: Optional[Found], start: int, listing: Listing) -> Found:
+        """A directory of the tree for one that no entry is known of."""
+        name = listing.name if holder and listing.name else b"found-%d" % (start // self.disc.sector)
+        is_homeless, holder = name.startswith(b"found-"), holder or self.root
+        made = Found((*holder.path, self.free_name(holder.path, name)), Item(name, 8, 0, 0, 0, 0), holder)
+        made.is_sure = False
+        made.is_homeless = is_homeless
+        self.directories.append(made)
+        return made
 
     def holder_at(self, address: int) -> Optional[Found]:
         """The directory that has that address; also the root if it is lost."""
