@@ -4,7 +4,7 @@
 _fcdisc()
 {
     local word=${COMP_WORDS[COMP_CWORD]} before=${COMP_WORDS[COMP_CWORD-1]} job=${COMP_WORDS[1]}
-    local jobs='list ls get extract check new adl strip put add mkdir rm mv cp access compact reclaim undo convert catalogue find diff types rescue mend'
+    local jobs='list ls get extract check new adl strip put add mkdir rm mv cp access compact reclaim undo convert catalogue find diff rescue mend types'
     local change='--order --offset --backup --in-place --help'
     local options='--help'
 
@@ -16,6 +16,7 @@ _fcdisc()
         --order) COMPREPLY=($(compgen -W 'auto disc adl' -- "$word")); return ;;
         --backup) COMPREPLY=($(compgen -W 'first each' -- "$word")); return ;;
         --types) COMPREPLY=($(compgen -W default -- "$word") $(compgen -f -- "$word")); return ;;
+        --as|--to) COMPREPLY=($(compgen -W 'E F D L E+ F+' -- "$word")); return ;;
         --offset|--type|--holds|--sha256) return ;;
     esac
     case $job in
@@ -30,10 +31,10 @@ _fcdisc()
         rm|cp) options="-r $change" ;;
         mv|access|compact|reclaim) options=$change ;;
         undo) options='--back --help' ;;
-        rescue) options='--order --as --deleted --all --report --to --each --help' ;;
-        mend) options='--order --help' ;;
         convert) options='--order --offset --fit --verbose --help' ;;
         find) options='--order --offset --type --holds --sha256 --help' ;;
+        rescue) options='--order --offset --as --deleted --all --report --to --each --help' ;;
+        mend) options='--order --offset --help' ;;
         diff) options='--order --offset --verbose --help' ;;
     esac
     case $word in

@@ -21,13 +21,14 @@ from .output import NO_LINKS, TAKEN, Folder, NewFile, TemporaryName, split_path
 
 FIRST, EACH = "first", "each"
 UNDONE = b"undone"
-BACKUP_NAME = re.compile(rb"~(?:undone|[0-9]+~)?\Z")
+BACKUP_ENDING = re.compile(r"~(?:undone|[0-9]+~)?\Z")
 NOTHING_CHANGED = "%s: %s: nothing was changed"
 
 
-def is_backup(name: bytes) -> bool:
-    """Whether a file has the name of a backup."""
-    return BACKUP_NAME.search(name) is not None
+def backed_up(name: str) -> str:
+    """The name of the image of which a file of that name would be a backup; else nothing."""
+    found = BACKUP_ENDING.search(name)
+    return name[:found.start()] if found else ""
 
 
 class Backup:

@@ -7,7 +7,7 @@ import resource
 from concurrent.futures import Future, ThreadPoolExecutor
 from typing import Callable, Iterator, List, NamedTuple, Optional, Tuple, TypeVar
 
-from .backups import is_backup
+from .backups import backed_up
 from .leftovers import is_temporary
 from .messages import FAILED, Progress, Trouble, collecting, reason, shown, tell
 from .program import BadImage, Refused
@@ -49,8 +49,8 @@ class Files:
     def files_of(self, folder: str, names: List[str]) -> Iterator[Found]:
         there = set(names)
         for name in names:
-            place, raw = os.path.join(folder, name), os.fsencode(name)
-            if is_temporary(raw) or is_backup(raw) and name[:name.index("~")] in there:
+            place = os.path.join(folder, name)
+            if is_temporary(os.fsencode(name)) or backed_up(name) in there:
                 continue
             if os.path.isfile(place):
                 yield Found(place, False)

@@ -182,7 +182,11 @@ def item_of(entry: os.DirEntry[bytes], path: Path, namer: Namer, told: Optional[
         fail.inner += inner
         fail.refuse(entry.path, str(error) + ("; nor the files in it: %d" % inner if inner else ""))
         return None
-    size = 0 if is_directory else entry.stat(follow_symlinks=False).st_size
+    try:
+        size = 0 if is_directory else entry.stat(follow_symlinks=False).st_size
+    except OSError as error:
+        fail.refuse(entry.path, reason(error))
+        return None
     return Item(entry.path, (*path, named.name), named, is_directory, Source(entry.path, size, told))
 
 

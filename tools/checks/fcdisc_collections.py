@@ -10,7 +10,7 @@ import os
 import re
 import signal
 import subprocess
-from typing import TYPE_CHECKING, Any
+from typing import TYPE_CHECKING, Any, Dict, List
 
 from tools.checks import fcdisc_cases
 from tools.checks.fcdisc_hosts import on_host
@@ -60,7 +60,7 @@ def collection(checks: Checks) -> Any:
     fill(work, {b"c": None, b"c/b": None, b"c/f.adf": user, b"c/b/named.adf": named, b"c/b/twin.adf": twin, b"c/b/twin2.adf": twin,
                 b"c/f.adf~": b"older", b"c/f.adf~undone": b"x", b"c/f.adf~12~": b"x", b"c/.fcdisc-1-1.tmp": b"x", b"c/notes.txt": b"My discs\n",
                 b"c/unread.adf": bytes(819200), b"c/empty.dat": b"", b"c/pack.zip": b"PK\3\4xxxx", b"c/dos.img": DOS, b"c/old.dat": old_hard_disc(),
-                b"c/part.img": bytes(1 << 20) + named, b"c/away": "-> none", b"c/link": "-> b", b"c/lone~": b"a note"})
+                b"c/part.img": bytes(1 << 20) + named, b"c/away": "-> none", b"c/link": "-> b", b"c/lone~": b"a note", b"c/f.adf~1~": b"x"})
     os.mkfifo(os.path.join(work, b"c/pipe"))
     return work
 
@@ -78,19 +78,24 @@ FOUND = {
     "part.img": "not accepted: no FileCore disc begins here, but one begins at byte 1048576 [NoKind]"}
 
 
+def found_in(lines: List[str]) -> Dict[str, str]:
+    """What `check` says of each file, but for what rescue can take out of it."""
+    return dict(line[2:].partition("; fcdisc rescue")[0].split(": ", 1) for line in lines if line.startswith("c/"))
+
+
 def check_collection(checks: Checks) -> None:
     """A line for each disc, and for what a keeper may take for one; the advice once; the sums; messages on standard error."""
     collection(checks)
     out, err, status = checks.run(["check", "c"])
     lines = out.splitlines()
-    found = dict(line[2:].split(": ", 1) for line in lines if line.startswith("c/"))
+    found = found_in(lines)
     advice = [line.split(":")[0] for line in lines if line.startswith("What to do")]
     checks.expect("check of a collection", found=(FOUND, found), last=("12 files: 2 whole, 4 damaged, 2 not read, 4 no discs", lines[-1]),
                   status=(1, status), told=(sorted(PASSED_OVER.splitlines()), sorted(err.splitlines())), advice=(
                       ["What to do about Directory Twin (2 images)", "What to do about NoKind (1 image)", "What to do about NoKind (2 images)",
                        "What to do about a hard disc with an old map"], sorted(advice)))
     out, err, status = checks.run(["check", "--damaged", "c"])
-    found = dict(line[2:].split(": ", 1) for line in out.splitlines() if line.startswith("c/"))
+    found = found_in(out.splitlines())
     checks.expect("check --damaged", found=({name: text for name, text in FOUND.items() if text.startswith("not")}, found))
     out, err, status = checks.run(["check", "--json", "c/f.adf", "c/b/twin.adf"])
     rows = json.loads(out)

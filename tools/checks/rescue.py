@@ -184,7 +184,7 @@ def table(rescue: Any) -> None:
 
 
 # signs of the bytes, which the second reading doesn't look for
-SIGNS = ("bytes", "discs may be mixed", "whole track")
+SIGNS = ("bytes", "discs may be mixed", "whole track", "with its mark")
 
 
 def compare(checks: Checks, name: Any, data: bytes, found: Any) -> None:

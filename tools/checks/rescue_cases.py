@@ -97,7 +97,7 @@ def started(checks: Checks, **files: Any) -> Any:
 
 def words(checks: Checks) -> None:
     """Wrong words, files that aren't there or aren't discs, and a report alone."""
-    work = started(checks, a=rescue_hostile.broken_root(rescue_images.floppy("F")), none=bytes(100000))
+    work = started(checks, a=rescue_hostile.broken_root(rescue_images.floppy("F")), none=bytes(100000), zip=b"PK\3\4" + bytes(5000))
     for arguments, status, error in (
             (["rescue", "a.adf"], 2, "fcdisc: say the folder for the files, or --report, or --to FORMAT NEW\n"),
             (["rescue", "--report", "a.adf", "o"], 2, "fcdisc: say the folder for the files, or --report, or --to FORMAT NEW\n"),
@@ -105,13 +105,14 @@ def words(checks: Checks) -> None:
             (["rescue", "--to", "E", "a.adf", "a.adf"], 1, "fcdisc: a.adf: there is something of this name already\n"),
             (["rescue", "b.adf", "o"], 1, "fcdisc: b.adf: No such file or directory\n"),
             (["rescue", "none.adf", "o"], 1, "fcdisc: none.adf: nothing of a FileCore disc is found in it\n"),
+            (["rescue", "zip.adf", "o"], 1, "fcdisc: zip.adf: it is a zip archive: unpack it first\n"),
             (["rescue", "--each", "a.adf", "o"], 1, "fcdisc: a.adf: not a folder\n"),
             (["rescue", "--order", "adl", "none.adf", "o"], 1,
              "fcdisc: none.adf: it has less than 655360 bytes, so it has no sides to put into order\n")):
         out, err, got = checks.run(arguments)
         checks.expect(" ".join(arguments), errors=(error, err), status=(status, got), output=("", out))
     out, err, status = checks.run(["rescue", "--report", "a.adf"])
-    checks.expect("a report alone", status=(1, status), errors=("", err), left=([b"a.adf", b"none.adf"], sorted(snapshot(work))),
+    checks.expect("a report alone", status=(1, status), errors=("", err), left=([b"a.adf", b"none.adf", b"zip.adf"], sorted(snapshot(work))),
                   output=texts("... files sound, ...\n\ndisc: F, 1638400 bytes, sectors of 1024; read as it is\n"
                                "directory $: the word at one of its ends is wrong\n...", out))
 

@@ -171,6 +171,8 @@ def sectors(volume: Any, form: str, image: Any, source: Any) -> Iterator[Any]:
         yield "sector of a %s" % kind.split(" copy")[0], changed(image, at, bytes(size))
         if at:
             yield "sector repeated", changed(image, at, image[at - size:at])
+    for at in source.sample(range(size, len(image), size), 4):
+        yield "sector given up", changed(image, at, b"-=[BAD SECTOR]=-" * (size // 16))
     for at in source.sample(range(size, len(image), size), 6):
         if image[at - size:at] != bytes(size):
             yield "sector repeated", changed(image, at, image[at - size:at])

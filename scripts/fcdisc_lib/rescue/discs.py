@@ -96,9 +96,9 @@ def sure_discs(source: Source) -> Iterator[Disc]:
 def found_discs(source: Source) -> Iterator[Disc]:
     for record, place in maps_found(source):
         yield new_disc(record, record.form()[0] != "E", FOUND, "the map that was found at byte %d" % place)
-    record = boot_record(source, False)
-    if record:
-        yield new_disc(record, True, FOUND, "a boot block with a wrong check")
+    block = boot_record(source, False)
+    if block:
+        yield new_disc(block, True, FOUND, "a boot block with a wrong check")
     halves = source.read(0, 256), source.read(256, 256)
     form = shape_of(number(halves[0], 252, 3))
     if form and is_old_half(halves[0]):

@@ -6,8 +6,9 @@ import os
 from argparse import Namespace
 from typing import Iterator
 
-from ..conversion import Conversion, tell_failures, tell_lost_access
-from ..editing import NOT_COPIED
+from ..changes import tell_lost_access
+from ..conversion import Conversion
+from ..editing import NOT_COPIED, tell_failures
 from ..fresh import fresh_disc
 from ..images import pieces_from
 from ..jobs import write_new

@@ -17,12 +17,13 @@ MOST_READ = 6000  # directories that are read to find the piece's place
 READ_EACH = 30  # as many as one more attempt costs
 UNSURE = "the piece that the image lacks may lie in it or before it"
 Range = Tuple[int, int]
+Score = Tuple[bool, int]  # whether the root reads, and how much is right
 
 
 class Attempt(NamedTuple):
     """How well a disc reads with a gap that lies somewhere between two places of the image."""
 
-    score: int
+    score: Score
     first: int
     last: int
     gap: Gap
@@ -55,19 +56,19 @@ def attempts(disc: Disc, source: Source, missing: int) -> List[Attempt]:
             budget -= read + READ_EACH
             found.append(Attempt(score, before, place, gap))
         before = place + disc.sector
-    return found or [Attempt(0, 0, source.length, Gap(source.length, missing))]
+    return found or [Attempt((False, 0), 0, source.length, Gap(source.length, missing))]
 
 
-def rightness(disc: Disc, source: Source) -> Tuple[int, int]:
-    """How many parts of the map and directories are right, and how many directories were read."""
+def rightness(disc: Disc, source: Source) -> Tuple[Score, int]:
+    """Whether the root reads and how many parts of the map and directories are right, and how many directories were read."""
     space = space_of(disc, source)
     walk = Walk(disc, space, source, 0)
     walk.run()
     right = sum(not one.listing.fault for one in walk.directories)
     if not walk.root.listing.is_lost:
-        return space.right_parts + right, len(walk.directories)
+        return (True, space.right_parts + right), len(walk.directories)
     found = strays(walk)
-    return space.right_parts + right + led_to(walk, found), len(walk.directories) + len(found)
+    return (False, space.right_parts + right + led_to(walk, found)), len(walk.directories) + len(found)
 
 
 def led_to(walk: Walk, found: List[Stray]) -> int:

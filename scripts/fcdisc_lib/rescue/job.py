@@ -6,15 +6,15 @@ import os
 from argparse import Namespace
 from typing import Optional
 
-from ..images import open_file, open_image
 from ..collection import Files
+from ..images import open_file, open_image, read_at
 from ..jobs import not_accepted
 from ..listing import counted
 from ..messages import FAILED, WRONG_WORDS, Trouble, say, shown, tell
 from ..output import Folder
 from ..program import BadImage, find_program
 from .fresh import put_onto_fresh
-from .reading import Options, Reading, read_image
+from .reading import Options, Reading, packed, read_image
 from .report import counts, lines, summary
 from .writing import empty_folder, write_all
 
@@ -108,7 +108,8 @@ def advice(path: str, order: str) -> str:
     found: Optional[str]
     try:
         with open_file(path) as file:
-            found = promise(read_image(file, path, order, Options()))
+            is_other = packed(read_at(file, 0, 16)) is not None
+            found = None if is_other else promise(read_image(file, path, order, Options()))
     except Trouble:
         found = None
     return "; " + found if found else ""

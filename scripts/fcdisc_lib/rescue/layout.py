@@ -49,7 +49,8 @@ def work_out(walk: Walk, space: ZoneSpace, source: Source, is_emptied: bool) -> 
 
 def spaces_needed(seen: List[Seen], space: ZoneSpace) -> Dict[int, int]:
     """The bytes that each identifier has, by the objects in it."""
-    record, needed = space.record, {}
+    record = space.record
+    needed: Dict[int, int] = {}
     size = 0 if space.disc.directories == "big" else 2048
     for item in (item for one in seen for item in one.listing.items):
         identifier, low = divmod(item.address, 256)

@@ -15,6 +15,8 @@ ONE_PATTERN = "a whole track of it has the same bytes in every sector: an unread
 TWO_TRACKS = "two tracks near to each other have the same bytes: one may have been read in place of the other"
 REPEATED = "two of its sectors, one after the other, have the same bytes: the second may not have been read"
 MOST_RECENT = 4096  # tracks; a neighbour is never farther
+GIVEN_UP = "a sector of it is one that the program which read the disc couldn't read, and filled with its mark"
+FILLINGS = (b"-=[BAD SECTOR]=-",)  # as Greaseweazle fills sectors
 LONGEST_PERIOD = 64  # bytes; sectors of a pattern that is no longer repeat without a fault
 
 
@@ -39,6 +41,7 @@ class Marks:
         plain: List[Tuple[int, int]] = []  # tracks of one pattern
         twice: List[Tuple[int, int]] = []  # tracks that a neighbour equals
         self.repeats = array("q")  # sectors that are as the one before
+        self.given_up = array("q")  # sectors that are filled with the mark of the program that read the disc
         if disc.track:
             self.look(plain, twice)
         self.plain, self.twice = Ranges(plain), Ranges(twice)
@@ -56,7 +59,7 @@ class Marks:
                 before = self.equal_neighbour(recent, place // track, block)
                 if before is not None:
                     twice += [(before * track, (before + 1) * track), (place, place + track)]
-            self.note_repeats(place, last, block, is_plain)
+            self.note_sectors(place, last, block, is_plain)
             last = block[-sector:]
 
     def equal_neighbour(self, recent: Dict[int, int], number: int, block: bytes) -> Optional[int]:
@@ -70,10 +73,12 @@ class Marks:
             return before
         return None
 
-    def note_repeats(self, place: int, last: bytes, block: bytes, is_plain: bool) -> None:
+    def note_sectors(self, place: int, last: bytes, block: bytes, is_plain: bool) -> None:
         for at in range(0, len(block), self.disc.sector):
             one = block[at:at + self.disc.sector]
-            if one == last and not is_plain and not has_short_period(one):
+            if one[:16] in FILLINGS and one == one[:16] * (len(one) // 16):
+                self.given_up.append(place + at)
+            elif one == last and not is_plain and not has_short_period(one):
                 self.repeats.append(place + at)
             last = one
 
@@ -90,6 +95,9 @@ class Marks:
                 found.doubt(ONE_PATTERN)
             if self.twice.meets(extent):
                 found.doubt(TWO_TRACKS)
+            start, length = extent
+            if bisect_left(self.given_up, start) < bisect_left(self.given_up, start + length):
+                found.doubt(GIVEN_UP)
             if self.repeats_in(found, extent):
                 found.doubt(REPEATED)
 

@@ -7,10 +7,10 @@ from argparse import Namespace
 from typing import BinaryIO, Iterator, List
 
 from ..faults import explained
-from ..images import open_file, read_at, size_of
+from ..images import nameless_file, open_file, pieces_from, read_at, size_of
+from ..jobs import write_new
 from ..messages import Trouble, say, shown
 from ..names import spelled_path
-from ..output import NewFile, published
 from ..program import BadImage, Run, command, find_program, scripts
 from .reading import Options, Reading, pieces_of, read_image
 from .repairs import Repair, repairs
@@ -30,8 +30,11 @@ def mend(words: Namespace) -> int:
         if not wanted:
             nothing = "nothing is damaged" if reading.is_whole else "nothing that is damaged has exactly one right value"
             raise Trouble("%s: %s: nothing written" % (shown(words.image), nothing))
-        with published(words.out, lambda holder: NewFile(holder, mended(file, wanted))) as (holder, temporary):
-            judge(program, reading, words, holder.place(temporary), holder.number)
+        with nameless_file(size_of(file)) as made:
+            for piece in mended(file, wanted):
+                made.write(piece)
+            judge(program, reading, words, made.fileno())
+            write_new(words.out, pieces_from(made, 0))
     for repair in wanted:
         say("%s: put right: %s" % (shown(words.out), repair.text))
     return 0
@@ -48,9 +51,9 @@ def mended(file: BinaryIO, wanted: List[Repair]) -> Iterator[bytes]:
         yield bytes(piece)
 
 
-def judge(program: str, reading: Reading, words: Namespace, place: str, number: int) -> None:
-    """The copy has to be whole, with the same bytes in every file that was sound. Else Trouble, and it isn't kept."""
-    sound = [found for found in reading.files if found.grade == "sound"]
+def judge(program: str, reading: Reading, words: Namespace, number: int) -> None:
+    """The copy, an open file, has to be whole, with the same bytes in every file that was sound. Else Trouble, and it isn't kept."""
+    sound, place = [found for found in reading.files if found.grade == "sound"], "/dev/fd/%d" % number
     try:
         with Run(program, words.image, ["--read-only", "--", place], b"", [number]):
             pass

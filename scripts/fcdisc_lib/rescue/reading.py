@@ -5,8 +5,8 @@ from __future__ import annotations
 from bisect import bisect_left
 from typing import BinaryIO, Iterator, List, NamedTuple, Optional, Tuple
 
-from ..images import L_SIZE, has_l_size, is_named_adl, size_of
-from ..images import HEADER as HEADER_SIZE
+from ..faults import OTHER_FILES
+from ..images import HEADER, L_SIZE, has_l_size, is_named_adl, read_at, size_of
 from ..messages import Trouble, shown
 from .claims import Claims
 from .directories import NO_WORDS
@@ -160,13 +160,18 @@ def read_image(file: BinaryIO, name: str, order: str, options: Options) -> Readi
     if order == "auto" and headless.length > 0 and (best is None or best.disc.trust > FOUND):
         for discs in list(discs_by_trust(headless))[:2]:
             for disc in discs:
-                reading = Reading(disc, headless, options, "without its header of %d bytes" % HEADER_SIZE)
+                reading = Reading(disc, headless, options, "without its header of %d bytes" % HEADER)
                 if not reading.walk.root.listing.is_lost and (best is None or reading.score() > best.score()):
                     best = reading
     if best is None or not (best.files or len(best.walk.directories) > 1 or not best.walk.root.listing.is_lost):
-        raise Trouble("%s: %s" % (shown(name), NO_DISC))
+        raise Trouble("%s: %s" % (shown(name), packed(read_at(file, 0, 16)) or NO_DISC))
     best.finish()
     return best
+
+
+def packed(head: bytes) -> Optional[str]:
+    """What a file is that begins so, if it is known to be no image as it is."""
+    return next((text for start, text in OTHER_FILES.items() if head.startswith(start)), None)
 
 
 def ways(file: BinaryIO, name: str, order: str) -> Iterator[Tuple[str, Source]]:

@@ -106,7 +106,8 @@ class ZoneSpace(Space):
 
     def copies(self, source: Source, zone: int) -> List[Copy]:
         """Both copies of a zone, as they are and as they spell runs."""
-        size, found = self.record.sector, []
+        size = self.record.sector
+        found: List[Copy] = []
         for copy in (0, 1):
             sector = source.read(self.start + copy * self.size + zone * size, size)
             if found and sector == found[0].sector:

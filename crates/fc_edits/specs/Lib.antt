@@ -1,0 +1,14 @@
+pub mod Lookups
+pub mod Edit
+pub mod NodesEdit
+pub mod NewNodes
+pub mod Places
+pub mod NewPlaces
+pub mod OldPlaces
+pub mod PartsEdit
+pub mod Views
+pub mod Deletion
+pub mod Addition
+pub mod Rewording
+pub mod Transfer
+pub mod GrownCdir

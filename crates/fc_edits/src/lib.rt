@@ -1,0 +1,70 @@
+//! Laws of edits of a volume's objects, over any number of directories: what becomes of nodes and owners, that objects have their places on
+//! new maps and old ones, and that the parts still agree.
+#![tactic(auto)]
+
+ghost use Rattle.fc_edits.specs.Addition.{AdditionLaw};
+ghost use Rattle.fc_edits.specs.Deletion.{DeletionLaw};
+ghost use Rattle.fc_edits.specs.GrownCdir.{GrownCdirLaw};
+ghost use Rattle.fc_edits.specs.NewNodes.{AfterLaw};
+ghost use Rattle.fc_edits.specs.NewPlaces.{NewPlacesLaw};
+ghost use Rattle.fc_edits.specs.NodesEdit.{NodesLaw};
+ghost use Rattle.fc_edits.specs.OldPlaces.{OldPlacesLaw};
+ghost use Rattle.fc_edits.specs.PartsEdit.{AgreeLaw};
+ghost use Rattle.fc_edits.specs.Rewording.{RewordingLaw};
+ghost use Rattle.fc_edits.specs.Transfer.{TransferredLaw};
+ghost use Rattle.fc_edits.specs.Views.{ViewLaw};
+
+/// Nodes and owners follow the listings after any edit.
+pub fn nodes()
+    ensures { NodesLaw }
+{}
+
+/// One function of an edit gives the nodes after it.
+pub fn after()
+    ensures { AfterLaw }
+{}
+
+/// After any edit the parts of a volume are those of each view that finds the listings after it, and on a new map they agree.
+pub fn agree()
+    ensures { AgreeLaw }
+{}
+
+/// Parts that agree agree by the listings of each view that has them.
+pub fn views()
+    ensures { ViewLaw }
+{}
+
+/// On a new map objects have their places after any list of plans, whatever identifiers go back.
+pub fn new_places()
+    ensures { NewPlacesLaw }
+{}
+
+/// On an old map objects have their places, whatever holes it gets.
+pub fn old_places()
+    ensures { OldPlacesLaw }
+{}
+
+/// `delete` is an edit, and has its places on new maps and old ones.
+pub fn deletion()
+    ensures { DeletionLaw }
+{}
+
+/// `save`, `create` and `cdir` are edits without growth, and have their places on new maps and old ones.
+pub fn addition()
+    ensures { AdditionLaw }
+{}
+
+/// `set` and `mark` are edits, on new maps and old ones.
+pub fn rewording()
+    ensures { RewordingLaw }
+{}
+
+/// After `cdir` in a directory that grows the parts agree.
+pub fn cdir_grown()
+    ensures { GrownCdirLaw }
+{}
+
+/// After `rename` to another directory the parts agree.
+pub fn transferred()
+    ensures { TransferredLaw }
+{}

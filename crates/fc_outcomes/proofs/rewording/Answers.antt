@@ -1,0 +1,5 @@
+use Rattle.fc_outcomes.proofs.lemmas.RewordedLemmas.{rewording_law}
+use Rattle.fc_outcomes.proofs.rewording.Goals as goal
+
+pub returns : goal.returns
+returns c = rewording_law c.reads_back.ensures

@@ -1,0 +1,88 @@
+-- What a writer puts into sectors, step by step and in the end, and what an edit needs of it.
+use Rattle.std.specs.Prelude.{◌≡◌, ◌≤◌, ◌⊎◌, ◌*◌, ℕ, true, false, List, [], ◌∷◌, length, Contains, Some}
+use Rattle.std.specs.List.{flat_map}
+use Rattle.fc_device.specs.Sectors.{sector_at}
+use Rattle.fc_dirs.specs.Directory.{Directory}
+use Rattle.fc_image.specs.Layout.{Layout, bytes_in, dir_form, is_among, is_apart, map_place, sector_bytes}
+use Rattle.fc_image.specs.Walk.{Listing, Object, object_bytes, object_size}
+use Rattle.fc_image.specs.effects.Steady.{AreWritten}
+use Rattle.fc_objects.specs.Written.{HasParts}
+use Rattle.fc_tree.specs.Nodes.{number_of}
+use Rattle.fc_laws.specs.nodes.Edits.{Nodes}
+use Rattle.fc_edits.specs.Edit.{Amended, Edit, joining, leaving, numbers}
+use Rattle.fc_edits.specs.PartsEdit.{PartsEdit}
+use Rattle.fc_outcomes.specs.Written.{IsEditWritten, WritesForEdit}
+
+-- ---- step by step
+
+-- sectors and the bytes that they get
+pub record Put : Type 0 where
+  pub sectors : List ℕ
+  pub bytes : List ℕ
+
+-- One write: the sectors begin with these bytes, and no other sector has changed.
+pub record IsPut (size : ℕ) (p : Put) (image next : List ℕ) : Type 0 where
+  pub length_stays : length next ≡ length image
+  pub there : bytes_in size next p.sectors (length p.bytes) ≡ p.bytes
+  pub others : (s : ℕ) → is_among p.sectors s ≡ false → sector_at size next s ≡ sector_at size image s
+
+-- writes one after another
+abbrev pub ArePut : ℕ → List Put → List ℕ → List ℕ → Type 0
+ArePut size [] image image' = image' ≡ image
+ArePut size (p ∷ ps) image image' = (next : List ℕ) × IsPut size p image next × ArePut size ps next image'
+
+-- each is apart from those after it
+abbrev pub ApartPuts : List Put → Type 0
+ApartPuts [] = Unit {0}
+ApartPuts (p ∷ ps) = ((q : Put) → Contains ps q → is_apart q.sectors p.sectors ≡ true) × ApartPuts ps
+
+-- What is written to sectors that are apart is there after the last write, and no other sector has changed.
+pub record StepsLaw : Type 0 where
+  pub length_stays : (size : ℕ) (ps : List Put) (image image' : List ℕ) → ArePut size ps image image' → length image' ≡ length image
+  pub others : (size : ℕ) (ps : List Put) (image image' : List ℕ) → ArePut size ps image image' → (s : ℕ) → ((p : Put) → Contains ps p → is_among p.sectors s ≡ false)
+      → sector_at size image' s ≡ sector_at size image s
+  pub there : (size : ℕ) (ps : List Put) (image image' : List ℕ) → ArePut size ps image image' → ApartPuts ps → (p : Put) → Contains ps p → bytes_in size image' p.sectors (length p.bytes) ≡ p.bytes
+
+-- ---- in the end
+
+-- Outside the map these sectors begin with these bytes, and all else is as before.
+pub record ArePutOut (layout : Layout) (puts : List Put) (image image' : List ℕ) : Type 0 where
+  pub length_stays : length image' ≡ length image
+  pub there : (p : Put) → Contains puts p → bytes_in (sector_bytes layout) image' p.sectors (length p.bytes) ≡ p.bytes
+  pub others : (s : ℕ) → is_among (map_place layout) s ≡ false → ((p : Put) → Contains puts p → is_among p.sectors s ≡ false)
+      → sector_at (sector_bytes layout) image' s ≡ sector_at (sector_bytes layout) image s
+
+-- all sectors that are written
+abbrev pub put_sectors : List Put → List ℕ
+put_sectors puts = flat_map (λ (p : Put). p.sectors) puts
+
+-- The object, a directory that says `content`, gets its bytes.
+pub record IsDirectoryPut (layout : Layout) (o : Object) (content : Directory) (puts : List Put) : Type 0 where
+  pub bytes : List ℕ
+  pub among : Contains puts (record { sectors = o.sectors; bytes = bytes })
+  pub says : AreWritten bytes content
+  pub long : length bytes ≡ object_size (dir_form layout) o.entry
+
+-- Each directory that says something else gets its bytes at its new place, and each that comes gets its own. Nothing else is written but
+-- objects that join a directory. A directory that moves and says what it said is copied.
+pub record ArePutsOf (layout layout' : Layout) (nodes : Nodes) (e : Edit) (puts : List Put) (image image' : List ℕ) : Type 0 where
+  pub says : (a : Amended) → Contains e.amended a → IsDirectoryPut layout' (e.turn a.was.object) a.content puts
+  pub into_say : (d : ℕ × Listing) → Contains e.into d → IsDirectoryPut layout' d.1.object d.1.content puts
+  pub whose : (p : Put) → Contains puts p
+      → ((a : Amended) × Contains e.amended a × (p.sectors ≡ (e.turn a.was.object).sectors)) ⊎ ((q : ℕ × Object) × Contains (joining e) q × (p.sectors ≡ q.1.sectors))
+  pub carried : (k : Listing) (n : ℕ) → Contains e.same k → number_of nodes k.object.path ≡ Some n → Contains (numbers (leaving e)) n
+      → object_bytes image' layout' (e.turn k.object) ≡ object_bytes image layout k.object
+
+-- So what the edit needs is written, and its directories have all their bytes.
+pub record PutsLaw : Type 0 where
+  -- It is so if each sector has its part of the bytes, filled up with zeros, and there are sectors enough.
+  pub parts : (layout : Layout) (puts : List Put) (image image' : List ℕ) → length image' ≡ length image
+      → ((p : Put) → Contains puts p → HasParts (sector_bytes layout) p.sectors p.bytes image' × (length p.bytes ≤ length p.sectors * sector_bytes layout))
+      → ((s : ℕ) → is_among (map_place layout) s ≡ false → ((p : Put) → Contains puts p → is_among p.sectors s ≡ false) → sector_at (sector_bytes layout) image' s ≡ sector_at (sector_bytes layout) image s)
+      → ArePutOut layout puts image image'
+  pub written : (x : PartsEdit) (puts : List Put) (image image' : List ℕ) → sector_bytes x.layout' ≡ sector_bytes x.layout → ArePutOut x.layout puts image image' → ArePutsOf x.layout x.layout' x.nodes x.edit puts image image'
+      → IsEditWritten image image' x.layout x.layout' x.nodes x.listings x.edit
+  pub only : (x : PartsEdit) (puts : List Put) (image image' : List ℕ) → ArePutOut x.layout puts image image' → ArePutsOf x.layout x.layout' x.nodes x.edit puts image image'
+      → WritesForEdit image image' x.layout x.edit (put_sectors puts)
+  pub bytes : (layout layout' : Layout) (puts : List Put) (image image' : List ℕ) (o : Object) (content : Directory) → sector_bytes layout' ≡ sector_bytes layout
+      → ArePutOut layout puts image image' → IsDirectoryPut layout' o content puts → AreWritten (object_bytes image' layout' o) content

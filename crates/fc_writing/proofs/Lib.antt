@@ -1,0 +1,11 @@
+pub mod ContentLemmas
+pub mod CopyLemmas
+pub mod EarlyLemmas
+pub mod FrontLemmas
+pub mod LaterLemmas
+pub mod LeavesLemmas
+pub mod ListLemmas
+pub mod NewLemmas
+pub mod OldLemmas
+pub mod StageLemmas
+pub mod StepLemmas

@@ -1,0 +1,44 @@
+use Rattle.std.proofs.Common.{◌≤◌, ap, subst, sym, ◌∙◌}
+use Rattle.std.proofs.lemmas.Result.{on_ok_weaker}
+use Rattle.fc_device.proofs.DiskLaws.{laws}
+use Rattle.fc_device.proofs.StopLemmas.{keeps_start, keeps_weaker, led}
+use Rattle.fc_record.specs.declared.Geometry.{Geometry}
+use Rattle.fc_newmap.proofs.HeldLemmas.{geometry_facts}
+use Rattle.fc_copies.specs.Copies.{chosen}
+use Rattle.fc_writing.specs.declared.copies.Copies.{Copies}
+use Rattle.fc_writing.specs.Copies.{HasCopies}
+use Rattle.fc_writing.proofs.CopyLemmas.{equal_kept, repaired, repaired_copies}
+use Rattle.fc_writing.proofs.copies.match_copies.Goals as goal
+
+pub returns-in-Equal-clause-keeps : goal.returns-in-Equal-clause-keeps
+returns-in-Equal-clause-keeps g c =
+    keeps_start (laws g.met.D.Disk)
+    (λ image known. equal_kept c.args.map.now image (subst (λ (k : Copies). HasCopies k c.args.map.now image) c.in-Equal.is known))
+    c.args.disk.now c.requires.settled
+
+pub returns-in-Equal-clause-equal : goal.returns-in-Equal-clause-equal
+returns-in-Equal-clause-equal g c = λ image told. subst (λ (k : Copies). HasCopies k c.args.map.now image) c.in-Equal.is (c.requires.known image told)
+
+pub repair-requires-clause-zones : goal.repair-requires-clause-zones
+repair-requires-clause-zones g c = subst (λ (h : Geometry). 1 ≤ h.zones) (sym c.geometry.ensures.value) (geometry_facts c.args.map.now.geometry c.geometry.ensures.map.of_record).zones
+
+pub repair-requires-clause-chosen : goal.repair-requires-clause-chosen
+repair-requires-clause-chosen g c = λ image told.
+    let known = subst (λ (k : Copies). HasCopies k c.args.map.now image) c.in-Chosen.is (c.requires.known image told) in
+    ap (λ (h : Geometry). chosen h image) c.geometry.ensures.value ∙ known.counts
+
+pub returns-in-Chosen-clause-keeps : goal.returns-in-Chosen-clause-keeps
+returns-in-Chosen-clause-keeps g c =
+    keeps_weaker (laws g.met.D.Disk) c.repair.ensures.keeps
+    (λ was image left known.
+    repaired c.args.map.now c.geometry.result.now c.in-Chosen.which was image c.geometry.ensures.value left
+    (subst (λ (k : Copies). HasCopies k c.args.map.now was) c.in-Chosen.is known))
+
+pub returns-in-Chosen-clause-equal : goal.returns-in-Chosen-clause-equal
+returns-in-Chosen-clause-equal g c =
+    on_ok_weaker c.repair.result
+    (λ equal image told.
+    let was = led (laws g.met.D.Disk) c.repair.ensures.keeps image told in
+    let known = subst (λ (k : Copies). HasCopies k c.args.map.now was.0) c.in-Chosen.is (c.requires.known was.0 was.1) in
+    repaired_copies c.args.map.now c.geometry.result.now c.in-Chosen.which was.0 image c.geometry.ensures.value (equal was.0 was.1 image told) known)
+    c.repair.ensures.equal
