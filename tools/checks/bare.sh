@@ -65,7 +65,7 @@ is mend 0 "$(status fcdisc mend d-check.adf mended.adf)"
 mkdir discs; cp f-user.adf hello.adf discs
 is find '1 object in 1 image' "$(fcdisc find discs '!Run' | tail -n 1)"
 is catalogue 0 "$(status fcdisc catalogue discs)"
-is 'extract --each' '42 of 42 files of 2 discs written to all' "$(fcdisc extract --each discs all | tail -n 1)"
+is 'extract --each' '42 files of 2 discs written to all' "$(fcdisc extract --each discs all | tail -n 1)"
 is 'fcore itself' 'free 1525760 421888' "$(printf 'free\n' | fcore f-user.adf | head -n 1)"
 echo "bare: $passed jobs done in $(. /etc/os-release; echo "$PRETTY_NAME"), $(python3 --version)"
 JOBS
