@@ -5,9 +5,10 @@ from __future__ import annotations
 from bisect import bisect_left
 from typing import BinaryIO, Iterator, List, NamedTuple, Optional, Tuple
 
-from ..faults import OTHER_FILES
+from ..faults import IT_IS
 from ..images import HEADER, L_SIZE, has_l_size, is_named_adl, read_at, size_of
 from ..messages import Trouble, shown
+from ..otherfiles import BEGINNINGS
 from .claims import Claims
 from .directories import NO_WORDS
 from .discs import FOUND, SURE, Disc, discs_by_trust, sure_discs, wanted_discs
@@ -167,7 +168,7 @@ def read_image(file: BinaryIO, name: str, order: str, options: Options) -> Readi
 
 def packed(head: bytes) -> Optional[str]:
     """What a file is that begins so, if it is known to be no image as it is."""
-    return next((text for start, text in OTHER_FILES.items() if head.startswith(start)), None)
+    return next(("%s%s: %s" % (IT_IS, other.what, other.advice) for start, other in BEGINNINGS if head.startswith(start)), None)
 
 
 def ways(file: BinaryIO, name: str, order: str) -> Iterator[Tuple[str, Source]]:
