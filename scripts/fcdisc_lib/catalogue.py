@@ -8,11 +8,11 @@ import sys
 from argparse import Namespace
 from typing import Any, Dict, List, Optional, Tuple
 
-from .collection import Files, Found, over_files, status_of
+from .collection import Files, Found, NotAccepted, over_files, status_of, tell_refused
 from .description import describe
 from .images import open_image
 from .listing import disc_row, object_row
-from .messages import Progress, Trouble, say, shown, tell
+from .messages import Progress, say, shown, tell
 from .program import BadImage, Entry, Run, command, find_program
 from .tree import MAX_DEPTH, Tree, read_below
 from .unread import digests
@@ -37,6 +37,7 @@ def catalogue(words: Namespace) -> int:
     if words.json:
         json.dump(kept, sys.stdout, indent=1)
         say("")
+    tell_refused(files)
     return status_of(files, failed)
 
 
@@ -53,7 +54,7 @@ def rows_of(program: str, file: Found, order: str) -> List[Row]:
 
 
 def disc_in(program: str, file: Found, order: str) -> Optional[Tree]:
-    """All of a disc; None for a file in a folder that is none. A disc that isn't accepted is Trouble."""
+    """All of a disc; None for a file in a folder that is none. A disc that isn't accepted is NotAccepted."""
     def read(run: Run) -> Tuple[Dict[str, int], List[Entry]]:
         return run.check(), run.cat(())
 
@@ -63,7 +64,7 @@ def disc_in(program: str, file: Found, order: str) -> Optional[Tree]:
         fault = fault_of(program, file.path, bad)
         if not file.is_named and is_no_disc(file.path, fault):
             return None
-        raise Trouble("%s: not accepted: %s" % (shown(file.path), fault)) from None
+        raise NotAccepted("%s: not accepted: %s" % (shown(file.path), fault)) from None
     tree = Tree(image, ())
     tree.entries[()] = entries
     read_below(program, tree, Progress("directories read", counts["dirs"]))

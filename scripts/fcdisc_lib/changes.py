@@ -24,6 +24,7 @@ from .tree import MAX_DEPTH, Tree, named, read_below
 from .wildcards import found_objects, is_wild
 
 Listing = Tuple[Optional[List[Entry]], str]
+OTHER_NAME = "give a name for it in PATH, such as $.MyText"
 
 
 def listing(run: Run, path: Path) -> Listing:
@@ -129,7 +130,7 @@ def name_of(given: bytes) -> bytes:
     try:
         return names.disc_name(given, False).name
     except ValueError as error:
-        raise Trouble("%s: %s: give the whole path" % (shown(given), error)) from None
+        raise Trouble("%s: %s: %s" % (shown(given), error, OTHER_NAME)) from None
 
 
 def named_for(given: bytes, wanted_type: Optional[int], types: Optional[Types]) -> names.DiscName:

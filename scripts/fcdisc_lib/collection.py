@@ -8,7 +8,9 @@ from concurrent.futures import Future, ThreadPoolExecutor
 from typing import Callable, Iterator, List, NamedTuple, Optional, Tuple, TypeVar
 
 from .backups import backed_up
+from .complaints import FIRST
 from .leftovers import is_temporary
+from .listing import counted
 from .messages import FAILED, Progress, Trouble, collecting, reason, shown, tell
 from .program import BadImage, Refused
 
@@ -24,6 +26,10 @@ class Found(NamedTuple):
     is_named: bool
 
 
+class NotAccepted(Trouble):
+    """A file that isn't accepted as a disc. It is named at the end, with the others."""
+
+
 class Files:
     """The files that are named, and those in the folders that are named, in the order of their names.
 
@@ -33,6 +39,7 @@ class Files:
     def __init__(self, paths: List[str]):
         self.paths = paths
         self.failed = False  # whether a folder couldn't be read
+        self.refused: List[str] = []  # what isn't accepted as a disc, in any order
 
     def __iter__(self) -> Iterator[Found]:
         for path in self.paths:
@@ -77,7 +84,7 @@ def over_files(files: Files, job: Callable[[Found], Answer], what: str) -> Itera
         waiting: List[Tuple[Found, Future[Tuple[Optional[Answer], List[str]]]]] = []
         try:
             for one in found:
-                waiting.append((one, pool.submit(told_together, job, one)))
+                waiting.append((one, pool.submit(told_together, job, one, files.refused)))
                 if len(waiting) > AHEAD * count:
                     yield finished(*waiting.pop(0), progress)
             while waiting:
@@ -87,10 +94,13 @@ def over_files(files: Files, job: Callable[[Found], Answer], what: str) -> Itera
                 future.cancel()
 
 
-def told_together(job: Callable[[Found], Answer], file: Found) -> Tuple[Optional[Answer], List[str]]:
+def told_together(job: Callable[[Found], Answer], file: Found, refused: List[str]) -> Tuple[Optional[Answer], List[str]]:
     with collecting() as lines:
         try:
             return job(file), lines
+        except NotAccepted:
+            refused.append(file.path)
+            return None, lines
         except Trouble as trouble:
             return None, [*lines, str(trouble)]
         except (BadImage, Refused):  # after it was opened
@@ -103,6 +113,15 @@ def finished(file: Found, future: Future[Tuple[Optional[Answer], List[str]]], pr
         tell(line)
     progress.step()
     return file, answer
+
+
+def tell_refused(files: Files) -> None:
+    """The files that aren't accepted as discs, in one line: what is wrong with each is the job of `check`."""
+    if files.refused:
+        first = ", ".join(map(shown, sorted(files.refused)[:FIRST]))
+        more = " and %d more" % (len(files.refused) - FIRST) if len(files.refused) > FIRST else ""
+        text = "%s not accepted: %s%s: fcdisc check says what is wrong, and what to do"
+        tell(text % (counted(len(files.refused), "image"), first, more))
 
 
 def status_of(files: Files, failed: bool) -> int:

@@ -141,7 +141,8 @@ def add_moving(added: Any) -> None:
 def add_whole(added: Any) -> None:
     add_change(added, "compact", later("changes", "compact"), "Bring the free space of a disc together.")
 
-    add_change(added, "reclaim", later("copying", "reclaim"), "Make the space free that nothing on the disc owns.", "+")
+    # fcore doesn't have this command yet: until then it isn't listed
+    add_change(added, "reclaim", later("copying", "reclaim"), "Make the space free that nothing on the disc owns.", "+", False)
 
     job = add_job(added, "undo", later("backups", "undo"),
                   "Give an image its state before the first change again. What it was until then is "
@@ -161,10 +162,10 @@ def add_whole(added: Any) -> None:
 
 
 def add_change(added: Any, name: str, run: Job, text: str,
-               count: Optional[str] = None) -> argparse.ArgumentParser:
+               count: Optional[str] = None, is_listed: bool = True) -> argparse.ArgumentParser:
     """A subcommand that changes an image."""
     job = add_job(added, name, run, text + " The image as it was before the first change is "
-                  "called IMAGE~.")
+                  "called IMAGE~.", is_listed=is_listed)
     add_order(job)
     job.add_argument("--backup", choices=BACKUPS, default=BACKUPS[0], help="`first`: IMAGE~ is the image before the first "
                      "change, and stays; `each`: every change leaves one more, IMAGE~1~, IMAGE~2~ and so on")
@@ -224,7 +225,8 @@ def main(arguments: List[str]) -> int:
         return trouble.status
     except BadImage as fault:
         from .jobs import not_accepted
-        tell(not_accepted(words.image, fault))
+        from .rescue.job import advice
+        tell(not_accepted(words.image, fault) + advice(words.image, words.order))
         return FAILED
     except BrokenPipeError:
         drop_output()  # whoever read the output has seen enough

@@ -26,11 +26,11 @@ def later(part: str, name: str) -> Job:
     return run
 
 
-def add_job(added: Any, name: str, run: Job, text: str, aliases: Sequence[str] = ()) -> argparse.ArgumentParser:
-    """A subcommand. The first sentence of its text stands in the list of them."""
+def add_job(added: Any, name: str, run: Job, text: str, aliases: Sequence[str] = (), is_listed: bool = True) -> argparse.ArgumentParser:
+    """A subcommand. The first sentence of its text stands in the list of them, if it is listed: argparse lists those with a help."""
     first = text.split(". ")[0].rstrip(".")
-    job = added.add_parser(name, help=first[0].lower() + first[1:], description=text, epilog=EPILOG, allow_abbrev=False,
-                           aliases=aliases)
+    listed = {"help": first[0].lower() + first[1:]} if is_listed else {}
+    job = added.add_parser(name, description=text, epilog=EPILOG, allow_abbrev=False, aliases=aliases, **listed)
     job.set_defaults(run=run)
     return job  # type: ignore[no-any-return]
 

@@ -28,6 +28,8 @@ from .wildcards import is_wild
 
 UNKEPT = "%s lost access, words or time: this host can't keep them; extract --inf or a zip archive does"
 
+NO_FOLDER = "several files need a folder of the host as the last word"
+
 
 # ---- get
 
@@ -36,6 +38,8 @@ def get(words: Namespace) -> int:
     """`IMAGE PATH [FILE]`; of several words after IMAGE the last one says where to."""
     program, paths = find_program(), words.path[:1] if len(words.path) == 1 else words.path[:-1]
     wanted = words.path[-1] if len(words.path) > 1 else None
+    if wanted and is_disc_path(wanted) and not os.path.isdir(wanted):
+        raise Trouble("%s: %s" % (shown(wanted), NO_FOLDER), WRONG_WORDS)
     if len(paths) > 1 or is_wild(paths[0]):
         return get_several(program, words, paths, wanted)
     path = path_of(paths[0])
@@ -56,10 +60,15 @@ def get(words: Namespace) -> int:
         return save(entry, Progress("bytes written", entry.length).passed(pieces), wanted)
 
 
+def is_disc_path(text: str) -> bool:
+    """Whether a word begins as a path of a disc does: then it isn't meant as a file of the host."""
+    return text == "$" or text.startswith("$.")
+
+
 def get_several(program: str, words: Namespace, paths: List[str], wanted: Optional[str]) -> int:
     """The files that the paths mean, into a folder. Directories are passed over, and named."""
     if wanted is not None and wanted != "-" and not os.path.isdir(wanted):
-        raise Trouble("%s: several files need a folder" % shown(wanted))
+        raise Trouble("%s: %s" % (shown(wanted), NO_FOLDER))
     image, _, found = chosen_objects(program, words.image, words.order, paths)
     chosen = [entry for entry in found if not entry.is_directory]
     for entry in found:
@@ -183,7 +192,8 @@ def extract_each(program: str, words: Namespace, form: Form) -> int:
             fault = fault_of(program, file.path, bad)
             if is_no_disc(file.path, fault):
                 return None
-            raise Trouble("%s: not accepted: %s" % (shown(file.path), fault)) from None
+            from .rescue.job import advice  # loaded for a damaged disc alone
+            raise Trouble("%s: not accepted: %s%s" % (shown(file.path), fault, advice(file.path, words.order))) from None
 
     count = 0
     for file, outcome in over_files(files, lambda file: (job(file),), "images"):

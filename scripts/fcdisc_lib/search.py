@@ -7,7 +7,7 @@ from typing import List, Pattern, Set
 
 from . import names
 from .catalogue import disc_in
-from .collection import Files, Found, over_files, status_of
+from .collection import Files, Found, over_files, status_of, tell_refused
 from .listing import access, counted, kind, minute
 from .messages import say, shown
 from .program import Entry, Path, batches, find_program
@@ -17,7 +17,7 @@ from .wildcards import matchers, matches
 
 
 def find(words: Namespace) -> int:
-    """A line for each that is found; the status is 1 if there is none."""
+    """A line for each that is found; the status is 1 if there is none, or an image isn't accepted."""
     program, files, patterns = find_program(), Files(words.folder), matchers(words.pattern)
     is_rooted = words.pattern.split(".")[0] == "$"
     failed, total, images = False, 0, 0
@@ -29,6 +29,7 @@ def find(words: Namespace) -> int:
             date = ", " + minute(entry) if minute(entry) else ""
             say("%s: %s: %s%s, %s%s" % (shown(file.path), names.spelled_path(entry.path), kind(entry), size, access(entry), date))
     say("%s in %s" % (counted(total, "object"), counted(images, "image")))
+    tell_refused(files)
     return status_of(files, failed or not total)
 
 

@@ -137,7 +137,8 @@ fff Text                  90  WR/     ...    Note1
 """
 TWIN_MEANING = "directory $.D is damaged: entry 3 has the name of one before it [Directory $.D Twin 3]"
 TWIN_ADVICE = "read its sectors again from the disc; else change one of the names in a copy of the image, with a new check"
-TWIN_TEXT = "%s. What to do: %s" % (TWIN_MEANING, TWIN_ADVICE)
+TWIN_RESCUE = "; fcdisc rescue can take out 5 of 5 files, 1 of them doubtful"
+TWIN_TEXT = "%s. What to do: %s%s" % (TWIN_MEANING, TWIN_ADVICE, TWIN_RESCUE)
 USER_FOUND = ("whole: F disc: 41 files, 2 directories, 1525760 bytes free, newest file of 1924-12-24; 1 directory out of order\n")
 HELLO_FOUND = "../images/hello.adf: whole: E disc: 1 file, 0 directories, 813056 bytes free\n"
 NO_DISC = "no FileCore disc begins here [NoKind]"
@@ -216,6 +217,11 @@ def getting() -> Iterator[Case]:
     yield Case("get-root", ["get", user, "$"], err="fcdisc: $ is a directory: use extract\n", status=1)
     yield Case("get-none", ["get", user, "$.Nothing"], err=told("f-user.adf", "$.Nothing: there is no such object on the disc"),
                status=1)
+    yield Case("get-two-of-the-disc", ["get", user, "$.!Boot.!Run", "$.Docs.Note1"], status=2,
+               err="fcdisc: $.Docs.Note1: several files need a folder of the host as the last word\n")
+    yield Case("get-into-a-folder-of-such-a-name", ["get", user, "$.!Boot.!Run", "$"], before={b"$": None},
+               left={b"$": None, b"$/!Run,feb": BOOTS})
+    yield Case("get-damaged", ["get", image("d-twin.adf"), "$.A"], err=told("d-twin.adf", "not accepted: " + TWIN_TEXT), status=1)
     yield Case("get-hostile", ["get", image("hostile.adf"), "$.%2e%2e/%2e%2e/up"], left={b"%2E%2E.%2E%2E.up,fff": b"file 0"})
     yield Case("get-long", ["get", image("one.adf"), "$." + LONG.decode() + "abcd1"], status=1,
                left={LONG + b"a,fff": b"long 1"},
@@ -300,7 +306,7 @@ def checking() -> Iterator[Case]:
                "../images/f-user.adf: " + USER_FOUND + "../images/named.adf: whole: E disc: 3 files, 1 directory, 808960 bytes free\n"
                "2 files: 2 whole\n")
     yield Case("check-damaged", ["check", image("d-twin.adf"), image("hello.adf")],
-               "../images/d-twin.adf: not accepted: %s; fcdisc rescue can take out 5 of 5 files, 1 of them doubtful\n" % TWIN_MEANING
+               "../images/d-twin.adf: not accepted: %s%s\n" % (TWIN_MEANING, TWIN_RESCUE)
                + HELLO_FOUND
                + "What to do about Directory Twin (1 image): %s\n2 files: 1 whole, 1 damaged\n" % TWIN_ADVICE,
                status=1)

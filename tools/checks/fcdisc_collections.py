@@ -69,6 +69,8 @@ WHOLE_USER = "c/f.adf: " + fcdisc_cases.USER_FOUND
 TWIN = "c/b/%s: not accepted: " + fcdisc_cases.TWIN_MEANING + "\n"
 PASSED_OVER = ("fcdisc: c/link: a link to a folder: passed over\nfcdisc: c/away: a link that leads nowhere: passed over\n"
                "fcdisc: c/pipe: not a file: passed over\n")
+REFUSED = ("fcdisc: 6 images not accepted: c/b/twin.adf, c/b/twin2.adf, c/empty.dat, c/old.dat, c/part.img and 1 more: "
+           "fcdisc check says what is wrong, and what to do")
 FOUND = {
     "b/named.adf": "whole: E disc: 3 files, 1 directory, 808960 bytes free", "b/twin.adf": "not accepted: " + fcdisc_cases.TWIN_MEANING,
     "b/twin2.adf": "not accepted: " + fcdisc_cases.TWIN_MEANING, "f.adf": fcdisc_cases.USER_FOUND.rstrip(),
@@ -223,7 +225,7 @@ def catalogue(checks: Checks) -> None:
                                                              {row["image"] for row in rows}}),
                   run=([["c/f.adf", "F", "feb", "8", "WR/", hashlib.sha256(b"| boots\n").hexdigest()]],
                        [[row[key] for key in ("image", "format", "type", "length", "access", "sha256")] for row in runs]),
-                  told=(6, err.count(": not accepted: ")))
+                  told=(REFUSED, err.splitlines()[-1]), none=(0, err.count(": not accepted: ")))
     shown, _, _ = checks.run(["catalogue", "--json", "c"])
     checks.expect("catalogue --json", rows=([(row["image"], row["path"], row["sha256"]) for row in rows],
                                             [(row["image"], row["path"], row["sha256"]) for row in json.loads(shown)]))
@@ -247,7 +249,8 @@ def finding(checks: Checks) -> None:
         checks.expect("find " + " ".join(words), paths=(paths, [line.split(": ")[1] for line in lines[:-1]]), status=(int(not paths), status),
                       last=("%d object%s in %d image%s" % (len(paths), "s" * (len(paths) != 1), bool(paths), "" if paths else "s"), lines[-1]))
     out, err, status = checks.run(["find", "c", "error"])
-    checks.expect("find in a collection", line=("c/b/named.adf: $.D.error: 00000000-00000000, 0 bytes, WR/", out.splitlines()[0]), status=(1, status))
+    checks.expect("find in a collection", line=("c/b/named.adf: $.D.error: 00000000-00000000, 0 bytes, WR/", out.splitlines()[0]), status=(1, status),
+                  told=(REFUSED, err.splitlines()[-1]))
 
 
 def differing(checks: Checks) -> None:

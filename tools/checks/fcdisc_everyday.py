@@ -66,7 +66,7 @@ def several(c: Any) -> None:
     c.checks.expect("get of several", result=(("", "", 0), c.run("get", "a.adf", "Ab*", "x1", "d")), left=(
         {b"Abc,fff": b"Abc", b"Abd,fff": b"Abd", b"x1,fff": b"x1"}, snapshot(c.at("d"))))
     c.checks.expect("get of several to standard output", result=(("AbcAbd", "", 0), c.run("get", "a.adf", "Ab*", "-")))
-    c.refused("get of several to a name", ["get", "a.adf", "Abc", "Abd", "name"], "name: several files need a folder")
+    c.refused("get of several to a name", ["get", "a.adf", "Abc", "Abd", "name"], "name: several files need a folder of the host as the last word")
     out, err, status = c.run("get", "a.adf", "N*", "x22", "d")
     c.checks.expect("get passes over directories", told=("fcdisc: a.adf: $.New: a directory: passed over; use extract\n", err), status=(1, status), there=(
         True, os.path.exists(c.at("d/x22,fff"))))

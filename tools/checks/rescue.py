@@ -94,7 +94,7 @@ def write(path: Any, data: bytes) -> None:
 
 
 def single_faults(checks: Checks, rescue: Any) -> None:
-    """The damaged images of the table: how many files are sound, suspect, cut off and lost."""
+    """The damaged images of the table: how many files are sound, doubtful, cut off and lost."""
     outcomes = {name: counts for counts, names in rescue_cases.OUTCOMES.items() for name in names.split()}
     for name, data, _ in damaged_images.damaged():
         found = rescue.read(data)
@@ -111,7 +111,7 @@ class Tally:
     """What came out of the images of one kind of damage."""
 
     def __init__(self) -> None:
-        self.images = self.files = self.sound = self.suspect = self.wrong = self.doubted = 0
+        self.images = self.files = self.sound = self.doubtful = self.wrong = self.doubted = 0
 
     def add(self, volume: Any, found: Any) -> None:
         truth = rescue_images.files_of(volume)
@@ -126,11 +126,11 @@ class Tally:
             is_right = truth.get(path) == content or content in by_name[name]
             if grade == "sound" and not is_right:
                 self.wrong += 1
-            elif grade in ("sound", "suspect") and is_right and (name, content) not in right:
+            elif grade in ("sound", "doubtful") and is_right and (name, content) not in right:
                 right.add((name, content))
                 self.sound += grade == "sound"
-                self.suspect += grade == "suspect"
-            elif grade == "suspect":
+                self.doubtful += grade == "doubtful"
+            elif grade == "doubtful":
                 self.doubted += 1
 
     def __add__(self, other: Any) -> Any:
@@ -140,9 +140,9 @@ class Tally:
         return made
 
     def row(self, kind: str) -> str:
-        part = 100 * (self.sound + self.suspect) / max(1, self.files)
+        part = 100 * (self.sound + self.doubtful) / max(1, self.files)
         return "| %s | %d | %d | %d | %d | %d | %d | %.1f %% |" % (
-            kind, self.images, self.files, self.sound, self.suspect, self.wrong, self.doubted, part)
+            kind, self.images, self.files, self.sound, self.doubtful, self.wrong, self.doubted, part)
 
 
 def tallies(checks: Checks, rescue: Any) -> Any:
@@ -165,7 +165,7 @@ def usual_damages(checks: Checks, rescue: Any) -> None:
     kinds, forms = tallies(checks, rescue)
     total = sum(kinds.values(), Tally())
     seen = sum((tally for kind, tally in kinds.items() if kind != UNSEEN), Tally())
-    right = 100 * (total.sound + total.suspect) / total.files
+    right = 100 * (total.sound + total.doubtful) / total.files
     checks.expect("files that are right", part=(True, right >= RIGHT))
     checks.expect("sound files that are wrong", part=(True, seen.wrong * SOUND_PER_WRONG <= seen.sound))
     print("rescue: %d images, %.1f %% of %d files right; of %d sound files %d wrong, %d of them where two discs are mixed" % (
@@ -174,7 +174,7 @@ def usual_damages(checks: Checks, rescue: Any) -> None:
 
 def table(rescue: Any) -> None:
     kinds, forms = tallies(None, rescue)
-    print("| Damage | Images | Files | Right, sound | Right, suspect | Wrong, sound | Wrong, suspect | Right in all |")
+    print("| Damage | Images | Files | Right, sound | Right, doubtful | Wrong, sound | Wrong, doubtful | Right in all |")
     print("|---" * 8 + "|")
     for kind, tally in sorted(kinds.items()):
         print(tally.row(kind))
@@ -197,7 +197,7 @@ def compare(checks: Checks, name: Any, data: bytes, found: Any) -> None:
         return
     wanted, got = {}, {}
     for path, grade, content, one in found.rows:
-        whole = grade in ("sound", "suspect")
+        whole = grade in ("sound", "doubtful")
         by_signs = any(sign in doubt for sign in SIGNS for doubt in one.doubts)
         sound = second.get(path, (None,))[0] if by_signs else grade == "sound"
         got[path] = sound, hashlib.sha256(content).hexdigest() if whole else ""

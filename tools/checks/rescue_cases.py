@@ -1,7 +1,7 @@
 # SPDX-License-Identifier: MIT
 """Runs of `fcdisc rescue` and `fcdisc mend` by their words, and how many files come out of each damaged image of the table.
 
-OUTCOMES has, for how many files are sound, suspect, cut off and lost, the names of tools/images/damaged.py. () stands for an image
+OUTCOMES has, for how many files are sound, doubtful, cut off and lost, the names of tools/images/damaged.py. () stands for an image
 in which nothing of a disc is found.
 """
 from __future__ import annotations
@@ -127,7 +127,7 @@ def several(checks: Checks) -> None:
         write(os.path.join(work, b"in", name), data)
     out, err, status = checks.run(["rescue", "--each", "in", "o"])
     wanted = ("in/a.adf: 1 of 1 file sound: see o/a.adf/report.txt\nin/x_a.adf: nothing of a FileCore disc is found in it\n"
-              "in/x/a.adf: 0 of 1 file sound, 1 suspect: see o/x_a.adf/report.txt\n")
+              "in/x/a.adf: 0 of 1 file sound, 1 doubtful: see o/x_a.adf/report.txt\n")
     left = {path: data for path, data in snapshot(work).items() if path.startswith(b"o/") and data and b"report" not in path}
     checks.expect("a folder of images", output=(wanted, out), errors=("", err), status=(1, status), left=({
         b"o/a.adf/sound/Hello,00000000-00000000": b"Hello", b"o/x_a.adf/doubtful/Hello,00000000-00000000": b"Hello"}, left))
@@ -141,7 +141,7 @@ def onto_fresh(checks: Checks) -> None:
     out, err, status = checks.run(["rescue", "--to", "e+", "n.adf", "a.adf"])
     listed, _, whole = checks.run(["list", "n.adf"])
     checks.expect("sound files onto a fresh disc", errors=("", err), status=(1, status), whole=(0, whole),
-                  output=("40 of 41 files sound, 1 suspect; 40 files put onto n.adf\n", out),
+                  output=("40 of 41 files sound, 1 doubtful; 40 files put onto n.adf\n", out),
                   listed=(True, "\n40 files, 1 dir" in listed))
     checks.expect("the image of these", same=(damage, read(os.path.join(work, b"a.adf"))))
 
@@ -173,6 +173,9 @@ def other_orders(checks: Checks) -> None:
         (True, True), ("; its two sides put into disc order" in outs[1], "; without its header of 512 bytes" in outs[2])))
 
 
+GUESS = "directory $.Art: its check, a guess: its 8 entries look right, but one may be wrong: compare lengths and dates\n"
+
+
 def mended(checks: Checks) -> None:
     """What has one right value is put right; nothing is written for the rest, and never to the image itself."""
     volume = rescue_images.floppy("F")
@@ -183,8 +186,8 @@ def mended(checks: Checks) -> None:
     cases = {
         "maps": (zone, bytes(1024), image, "both copies"), "boot": ([0xDC0], bytes(64), image, "the boot block"),
         "word": ([art + 1], b"nick", image, "directory $.Art"), "number": ([art], b"\x77", image, "directory $.Art"),
-        "check": ([art + 2047], bytes([image[art + 2047] ^ 0x11]), image, "its check"),
-        "both": (both, bytes(1024), None, "has exactly one right value"), "whole": ([], b"", None, "nothing is damaged"),
+        "check": ([art + 2047], bytes([image[art + 2047] ^ 0x11]), image, GUESS),
+        "both": (both, bytes(1024), None, "nothing that is damaged can be put right"), "whole": ([], b"", None, "nothing is damaged"),
         "name": ([art + 5], b"\r", None, "nothing written"),
     }
     for name, (places, data, wanted, text) in cases.items():
@@ -195,7 +198,7 @@ def mended(checks: Checks) -> None:
         out, err, status = checks.run(["mend", "a.adf", "o.adf"])
         made = os.path.join(work, b"o.adf")
         got = read(made) if os.path.exists(made) else None
-        checks.expect("mend, " + name, same=(True, got == wanted), status=(int(wanted is None), status),
+        checks.expect("mend, " + name, same=(True, got == wanted), status=(int(wanted is None or text == GUESS), status),
                       said=(True, (text if text != "both copies" else "the second copy") in out + err),
                       kept=(True, read(os.path.join(work, b"a.adf")) == damaged),
                       left=(1 + (wanted is not None), len(snapshot(work))))

@@ -23,12 +23,12 @@ MEMORY = "/dev/shm" if os.access("/dev/shm", os.W_OK) else os.environ.get("TMPDI
 
 PAGES = {  # case: the words of its tool
     "quotations": ["checks/quotations"], "rooms": ["checks/rooms"], "definitions": ["checks/definitions", "--check"],
-    "faults": ["checks/faults", "--check"], "bounds": ["checks/bounds"], "licence": ["checks/licence"],
+    "faults": ["checks/faults", "--check"], "bounds": ["checks/bounds"], "licence": ["checks/licence"], "imports": ["checks/imports"],
 }
 
 
 def pages(suite: Suite) -> None:
-    """What the pages say of the sources, and the bounds of contracts."""
+    """What the pages say of the sources, the bounds of contracts, and that every part of fcdisc can be imported."""
     for case, words in PAGES.items():
         if suite.wants(case):
             ran = subprocess.run([RUN, *words], stdout=subprocess.PIPE, text=True, check=False)

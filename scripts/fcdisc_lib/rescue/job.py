@@ -119,6 +119,6 @@ def promise(reading: Reading) -> Optional[str]:
     found = counts(reading)
     if not reading.files:
         return None
-    out = found["sound"] + found["suspect"]
-    doubtful = ", %d of them doubtful" % found["suspect"] if found["suspect"] else ""
+    out = found["sound"] + found["doubtful"]
+    doubtful = ", %d of them doubtful" % found["doubtful"] if found["doubtful"] else ""
     return "fcdisc rescue can take out %d of %s%s" % (out, counted(len(reading.files), "file"), doubtful)

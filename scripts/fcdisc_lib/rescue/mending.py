@@ -1,5 +1,5 @@
 # SPDX-License-Identifier: MIT
-"""The job `mend`: a copy of a damaged image, with what has exactly one right value."""
+"""The job `mend`: a copy of a damaged image, in which is put right what can be."""
 from __future__ import annotations
 
 import hashlib
@@ -9,7 +9,7 @@ from typing import BinaryIO, Iterator, List
 from ..faults import explained
 from ..images import nameless_file, open_file, pieces_from, read_at, size_of
 from ..jobs import write_new
-from ..messages import Trouble, say, shown
+from ..messages import FAILED, Trouble, say, shown
 from ..names import spelled_path
 from ..program import BadImage, Run, command, find_program, scripts
 from .reading import Options, Reading, pieces_of, read_image
@@ -20,6 +20,7 @@ PIECE = 1 << 20
 
 
 def mend(words: Namespace) -> int:
+    """The status is 1 if something was guessed: then the copy's check fits, and an entry may be wrong all the same."""
     program = find_program()
     with open_file(words.image) as file:
         reading = read_image(file, words.image, words.order, Options())
@@ -28,7 +29,7 @@ def mend(words: Namespace) -> int:
                           % shown(words.image))
         wanted = list(repairs(reading))
         if not wanted:
-            nothing = "nothing is damaged" if reading.is_whole else "nothing that is damaged has exactly one right value"
+            nothing = "nothing is damaged" if reading.is_whole else "nothing that is damaged can be put right"
             raise Trouble("%s: %s: nothing written" % (shown(words.image), nothing))
         with nameless_file(size_of(file)) as made:
             for piece in mended(file, wanted):
@@ -37,14 +38,14 @@ def mend(words: Namespace) -> int:
             write_new(words.out, pieces_from(made, 0))
     for repair in wanted:
         say("%s: put right: %s" % (shown(words.out), repair.text))
-    return 0
+    return FAILED if any(repair.is_guess for repair in wanted) else 0
 
 
 def mended(file: BinaryIO, wanted: List[Repair]) -> Iterator[bytes]:
     """The image with its repairs."""
     for at in range(0, size_of(file), PIECE):
         piece = bytearray(read_at(file, at, PIECE))
-        for place, data, _ in wanted:
+        for place, data, *_ in wanted:
             start, end = max(place, at), min(place + len(data), at + len(piece))
             if start < end:
                 piece[start - at:end - at] = data[start - place:end - place]

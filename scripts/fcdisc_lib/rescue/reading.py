@@ -72,7 +72,7 @@ class Reading:
         """How well the description fits."""
         right = sum(not one.is_damaged and not one.is_homeless for one in self.walk.directories)
         grades = [one.grade for one in self.files]
-        return (int(not self.walk.root.listing.is_lost), right, grades.count("sound"), grades.count("suspect"),
+        return (int(not self.walk.root.listing.is_lost), right, grades.count("sound"), grades.count("doubtful"),
                 self.space.right_parts, -self.disc.trust)
 
     def finish(self) -> None:

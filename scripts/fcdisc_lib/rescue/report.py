@@ -10,11 +10,11 @@ from ..listing import counted
 from .reading import Reading
 from .walk import Found
 
-GRADES = ("sound", "suspect", "cut", "lost")
-WORDS = {"sound": "sound", "suspect": "suspect", "cut": "cut off", "lost": "lost"}
+GRADES = ("sound", "doubtful", "cut", "lost")
+WORDS = {"sound": "sound", "doubtful": "doubtful", "cut": "cut off", "lost": "lost"}
 MEANING = (
     "sound: the disc's own structures lead to these bytes, and nothing speaks against them. No disc of this kind has a check over",
-    "the bytes of its files, so one that was misread within a file goes unnoticed. suspect: whole, but doubtful, as said. cut:",
+    "the bytes of its files, so one that was misread within a file goes unnoticed. doubtful: whole, but it may be wrong, as said. cut:",
     "only its beginning is there. lost: nothing of it is. Deleted files, if asked for, are always doubtful.",
 )
 
@@ -29,7 +29,7 @@ def counts(reading: Reading) -> Dict[str, int]:
 
 
 def summary(reading: Reading) -> str:
-    """`38 of 40 files sound, 1 suspect, 1 cut off`."""
+    """`38 of 40 files sound, 1 doubtful, 1 cut off`."""
     found = counts(reading)
     rest = ["%d %s" % (found[grade], WORDS[grade]) for grade in GRADES[1:] if found[grade]]
     return ", ".join(["%d of %s sound" % (found["sound"], counted(len(reading.files), "file")), *rest])

@@ -60,7 +60,7 @@ class Found:
             return "lost"
         if self.there < self.item.length:
             return "cut"
-        return "suspect" if self.doubts else "sound"
+        return "doubtful" if self.doubts else "sound"
 
     def doubt(self, text: str) -> None:
         if text not in self.doubts:

@@ -55,7 +55,7 @@ def sound_tree(reading: Reading, name: str) -> Tree:
 
 
 def doubtful_tree(reading: Reading, name: str) -> Tree:
-    return tree_of(reading, name, (one for one in reading.files if one.grade in ("suspect", "cut")), ())
+    return tree_of(reading, name, (one for one in reading.files if one.grade in ("doubtful", "cut")), ())
 
 
 class Writing(Extraction):
