@@ -173,7 +173,9 @@ def other_orders(checks: Checks) -> None:
         (True, True), ("; its two sides put into disc order" in outs[1], "; without its header of 512 bytes" in outs[2])))
 
 
-GUESS = "directory $.Art: its check, a guess: its 8 entries look right, but one may be wrong: compare lengths and dates\n"
+# What is said of a check that was made from a directory's entries; the status is 1 then
+GUESS = "directory $.Art: its check, a guess: its entry looks right, but may be wrong: compare its length and date\n"
+GUESS_OF_SEVERAL = "directory $.Docs: its check, a guess: its %d entries look right, but one may be wrong: compare lengths and dates\n"
 
 
 def mended(checks: Checks) -> None:
@@ -182,11 +184,14 @@ def mended(checks: Checks) -> None:
     image, shape = bytes(volume.image()), volume.shape
     zone = [(shape.map_sector + at) * shape.sector for at in (1, shape.zones + 2)]
     both = [(shape.map_sector + copy * shape.zones + 1) * shape.sector for copy in (0, 1)]
-    art = rescue_images.extents_of(volume, next(one for one in volume.directories() if one.name == b"Art"))[0][0]
+    art, docs = (rescue_images.extents_of(volume, next(one for one in volume.directories() if one.name == name))[0][0]
+                 for name in (b"Art", b"Docs"))
+    several = GUESS_OF_SEVERAL % len(next(one for one in volume.directories() if one.name == b"Docs").entries)
     cases = {
         "maps": (zone, bytes(1024), image, "both copies"), "boot": ([0xDC0], bytes(64), image, "the boot block"),
         "word": ([art + 1], b"nick", image, "directory $.Art"), "number": ([art], b"\x77", image, "directory $.Art"),
         "check": ([art + 2047], bytes([image[art + 2047] ^ 0x11]), image, GUESS),
+        "check of several": ([docs + 2047], bytes([image[docs + 2047] ^ 0x11]), image, several),
         "both": (both, bytes(1024), None, "nothing that is damaged can be put right"), "whole": ([], b"", None, "nothing is damaged"),
         "name": ([art + 5], b"\r", None, "nothing written"),
     }
@@ -198,7 +203,7 @@ def mended(checks: Checks) -> None:
         out, err, status = checks.run(["mend", "a.adf", "o.adf"])
         made = os.path.join(work, b"o.adf")
         got = read(made) if os.path.exists(made) else None
-        checks.expect("mend, " + name, same=(True, got == wanted), status=(int(wanted is None or text == GUESS), status),
+        checks.expect("mend, " + name, same=(True, got == wanted), status=(int(wanted is None or text in (GUESS, several)), status),
                       said=(True, (text if text != "both copies" else "the second copy") in out + err),
                       kept=(True, read(os.path.join(work, b"a.adf")) == damaged),
                       left=(1 + (wanted is not None), len(snapshot(work))))

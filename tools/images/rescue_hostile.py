@@ -1,5 +1,5 @@
 # SPDX-License-Identifier: MIT
-"""Images that were made to do harm, or are damaged at random: for tools/check_rescue.py."""
+"""Images that were made to do harm, or are damaged at random: for tools/checks/rescue.py."""
 from __future__ import annotations
 
 import random

@@ -1,5 +1,5 @@
 # SPDX-License-Identifier: MIT
-"""Floppies of every format as a keeper has them, and what goes wrong with such discs: for tools/check_rescue.py.
+"""Floppies of every format as a keeper has them, and what goes wrong with such discs: for tools/checks/rescue.py.
 
 A volume keeps its files, so what should come out of a damaged image is known.
 """

@@ -25,8 +25,8 @@ def add_rescuing(added: Any, add_job: AddJob, add_order: Callable[[ArgumentParse
     job.add_argument("image", metavar="IMAGE")
     job.add_argument("folder", metavar="FOLDER", nargs="?", help="a new folder, or an empty one")
 
-    job = add_job(added, "mend", run_mend, "Copy an image, and put right what has exactly one right value: checks of directories, "
-                  "a zone of the map, the boot block. Nothing is written unless the copy is then whole.")
+    job = add_job(added, "mend", run_mend, "Make a copy of an image in which is repaired what can be: zones of the map, the boot "
+                  "block, ends and checks of directories. A guess is said, and then the status is 1. Nothing is written unless the copy is then whole.")
     add_order(job)
     job.add_argument("image", metavar="IMAGE")
     job.add_argument("out", metavar="OUT", help="the file to make")
