@@ -10,7 +10,7 @@ from . import names
 from .adding import Addition, Present, file_steps
 from .archives import archive_items, is_archive
 from .description import describe
-from .editing import NOT_MADE, Edit, Step, longest_content, set_line, why
+from .editing import NOT_MADE, NOT_PUT, OTHER_NAME, Edit, Step, longest_content, set_line, why
 from .filetypes import Types, read_types
 from .fitting import Limits
 from .hostfiles import TEXT, HostFile, read_host_file
@@ -24,7 +24,6 @@ from .tree import MAX_DEPTH, Tree, named, read_below
 from .wildcards import found_objects, is_wild
 
 Listing = Tuple[Optional[List[Entry]], str]
-OTHER_NAME = "give a name for it in PATH, such as $.MyText"
 
 
 def listing(run: Run, path: Path) -> Listing:
@@ -112,7 +111,7 @@ def put_steps(edit: Edit, words: Namespace, file: str, path: Path, present: Opti
         found = read_host_file(os.fsencode(file), longest_content(path))
     except (OSError, ValueError) as error:
         raise Trouble("%s: %s" % (shown(file), reason(error) if isinstance(error, OSError) else error)) from None
-    steps = list(file_steps(path, found, told, "not put there", present))
+    steps = list(file_steps(path, found, told, NOT_PUT, present))
     kept = names.type_of(present.load) if present else None
     if kept is not None and kept != TEXT and not tells_type(found, told):
         tell("%s: %s: it has the type %03x of the file whose place it takes (--type gives another)" % (
@@ -130,7 +129,7 @@ def name_of(given: bytes) -> bytes:
     try:
         return names.disc_name(given, False).name
     except ValueError as error:
-        raise Trouble("%s: %s: %s" % (shown(given), error, OTHER_NAME)) from None
+        raise Trouble("%s: %s%s" % (shown(given), error, OTHER_NAME)) from None
 
 
 def named_for(given: bytes, wanted_type: Optional[int], types: Optional[Types]) -> names.DiscName:

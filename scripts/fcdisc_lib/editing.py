@@ -27,7 +27,8 @@ from .output import Folder, NewFile, split_path
 from .program import SCRIPT_LIMIT, BadImage, Path, Refused, Run, scripts
 
 Result = TypeVar("Result")
-NOT_COPIED, NOT_MADE = "not copied", "not made"
+NOT_COPIED, NOT_MADE, NOT_PUT = "not copied", "not made", "not put there"
+OTHER_NAME = "; give a name for it in PATH, such as $.MyText"
 
 
 class Step(NamedTuple):
@@ -266,7 +267,9 @@ def reason_of(step: Step, refusal: str, failures: List[Failure]) -> str:
     if refusal == "NotEmpty" and any(is_below(other.path, step.path) for other, _ in failures):
         return "something in it is left"
     text = why(step.path, refusal)
-    return text + FIT_HELP if refusal == "BadName" and step.failure in (NOT_ADDED, NOT_COPIED) else text
+    if refusal == "BadName":
+        text += FIT_HELP if step.failure in (NOT_ADDED, NOT_COPIED) else OTHER_NAME if step.failure == NOT_PUT else ""
+    return text
 
 
 def is_below(path: Path, holder: Path) -> bool:

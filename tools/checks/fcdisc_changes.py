@@ -111,8 +111,11 @@ class Changes:
 NAMED = {"$.A%20B": (3, b"A B!"), "$.Ab": (3, b"\2"), "$.D": 0, "$.D.error": (3, b"")}
 
 
+OTHER_NAME = "; give a name for it in PATH, such as $.MyText"
+
+
 def putting(c: Changes) -> None:
-    file = {"note.txt": b"Hello\n", "Prog,ffb": b"\r\xff", "big": bytes(900000), "p": b"", "100%é?,fff": b"x"}
+    file = {"note.txt": b"Hello\n", "Prog,ffb": b"\r\xff", "big": bytes(900000), "p": b"", "100%é?,fff": b"x", "my text.txt": b"m", "\u0416": b"z"}
     c.start(files=file)
     os.chmod(c.at("a.adf"), 0o640)
     c.good("put", ["put", "a.adf", "note.txt", "$.Note"], {**NAMED, "$.Note": (3, b"Hello\n")})
@@ -134,9 +137,13 @@ def putting(c: Changes) -> None:
             ("no directory", ["note.txt", "$.X.Y"], "a.adf: $.X: there is no such directory on the disc"),
             ("below a file", ["note.txt", "$.Ab.Y"], "a.adf: $.Ab: there is no such directory on the disc"),
             ("a long name", ["note.txt", "$.ElevenBytes"],
-             "a.adf: $.ElevenBytes: not put there: its name has 11 letters, and this disc takes no more than 10"),
+             "a.adf: $.ElevenBytes: not put there: its name has 11 letters, and this disc takes no more than 10" + OTHER_NAME),
             ("a bad name", ["note.txt", "$.a*"],
-             "a.adf: $.a%2A: not put there: no name that is written to a disc may have %2A in it"),
+             "a.adf: $.a%2A: not put there: no name that is written to a disc may have %2A in it" + OTHER_NAME),
+            ("a name of the host with a space", ["my text.txt", "$"],
+             "a.adf: $.my%20text/txt: not put there: no name that is written to a disc may have %20 in it" + OTHER_NAME),
+            ("a name of the host in other letters", ["\u0416", "$"],
+             "\u0416: a disc's names have no letters but those of Latin 1" + OTHER_NAME),
             ("a file that isn't there", ["none", "$.Y"], "none: No such file or directory"),
             ("a folder", [".", "$.Y"], ".: a folder: use add"),
             ("more than the disc holds", ["big", "$.Big"], "a.adf: $.Big: not put there: the disc is full")):
