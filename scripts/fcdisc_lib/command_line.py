@@ -226,7 +226,7 @@ def main(arguments: List[str]) -> int:
     except BadImage as fault:
         from .jobs import not_accepted
         from .rescue.job import advice
-        tell(not_accepted(words.image, fault) + advice(words.image, words.order))
+        tell(not_accepted(words.image, fault) + advice(words.image, getattr(words, "order", "auto")))
         return FAILED
     except BrokenPipeError:
         drop_output()  # whoever read the output has seen enough
