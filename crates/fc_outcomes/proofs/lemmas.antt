@@ -20,3 +20,4 @@ pub mod MayLemmas
 pub mod AdditionLemmas
 pub mod WordLemmas
 pub mod RewordedLemmas
+pub mod RewordingLemmas
