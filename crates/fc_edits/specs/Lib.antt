@@ -10,5 +10,6 @@ pub mod Views
 pub mod Deletion
 pub mod Addition
 pub mod Rewording
+pub mod Moving
 pub mod Transfer
 pub mod GrownCdir
