@@ -21,3 +21,7 @@ pub mod AdditionLemmas
 pub mod WordLemmas
 pub mod RewordedLemmas
 pub mod RewordingLemmas
+pub mod RenamePathLemmas
+pub mod MovedLemmas
+pub mod NewMovedLemmas
+pub mod MovingLemmas

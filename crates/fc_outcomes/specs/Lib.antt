@@ -7,3 +7,4 @@ pub mod OldImage
 pub mod Deletion
 pub mod Addition
 pub mod Rewording
+pub mod Moving

@@ -4,6 +4,7 @@
 ghost use Rattle.fc_outcomes.specs.Addition.{AdditionLaw};
 ghost use Rattle.fc_outcomes.specs.Deletion.{DeletionLaw};
 ghost use Rattle.fc_outcomes.specs.Done.{DoneLaw, KeptLaw};
+ghost use Rattle.fc_outcomes.specs.Moving.{MovingLaw};
 ghost use Rattle.fc_outcomes.specs.NewImage.{NewImageLaw};
 ghost use Rattle.fc_outcomes.specs.OldImage.{OldImageLaw};
 ghost use Rattle.fc_outcomes.specs.Puts.{PutsLaw, StepsLaw};
@@ -66,6 +67,13 @@ pub fn addition()
 /// `set` and `mark` do what they promise, on new maps and old ones.
 pub fn rewording()
     ensures { RewordingLaw }
+{
+    reads_back();
+}
+
+/// `rename` does what it promises if no file is copied and no directory grows, on new maps and old ones.
+pub fn moving()
+    ensures { MovingLaw }
 {
     reads_back();
 }
