@@ -47,7 +47,7 @@ use Rattle.fc_edits.proofs.lemmas.AgreeLemmas as ag
 use Rattle.fc_edits.proofs.lemmas.NewAgreeLemmas as na
 use Rattle.fc_outcomes.specs.Addition.{HasEntry, IsItsDirectory, IsItsFile, NewAdded, NewAdditionWritten}
 use Rattle.fc_outcomes.specs.NewImage as new
-use Rattle.fc_outcomes.specs.NewImage.{NewImageEdit}
+use Rattle.fc_outcomes.specs.NewImage.{IsBelowRoot, NewImageEdit}
 use Rattle.fc_outcomes.specs.Puts.{Put}
 use Rattle.fc_outcomes.proofs.lemmas.JoinedLemmas as joined
 use Rattle.fc_outcomes.proofs.lemmas.JoinedLemmas.{Makes, makes_directory, makes_file}
@@ -129,7 +129,7 @@ module _ (x : NewAddition) (c : Command) (path : Path) (bytes stored image image
         let among = joined.now_found x.nodes x.nodes' (Layout.New x.m) (Layout.New x.m') x.listings x.c h x.addition x.nodes_edited c path bytes stored image image' w.joins form x.kind found sound' order names w.no_growth in
         let now = new.is_now on_new found in
         record {
-          no_growth = w.no_growth;
+          root_keeps = subst IsBelowRoot (sym w.no_growth) tt;
           map = record {
             left = λ k used.
                 (let none : is_taken (takings_of x.id x.parts) k ≡ false = unless (is_taken (takings_of x.id x.parts) k)

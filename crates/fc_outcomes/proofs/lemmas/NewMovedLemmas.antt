@@ -29,7 +29,7 @@ use Rattle.fc_edits.proofs.lemmas.OwnedLemmas.{joins_found}
 use Rattle.fc_edits.proofs.lemmas.StillLemmas.{still_new}
 use Rattle.fc_outcomes.specs.Moving.{NewMovingWritten, new_view}
 use Rattle.fc_outcomes.specs.NewImage as new
-use Rattle.fc_outcomes.specs.NewImage.{NewImageEdit, Outcome}
+use Rattle.fc_outcomes.specs.NewImage.{IsBelowRoot, NewImageEdit, Outcome}
 use Rattle.fc_outcomes.specs.Puts.{Put}
 use Rattle.fc_outcomes.proofs.lemmas.MovedLemmas as any
 use Rattle.fc_outcomes.proofs.lemmas.NewImageLemmas as new_image
@@ -88,7 +88,7 @@ module _ (x : NewMoving) (from to : Path) (puts : List Put) (image image' : List
       ap (λ (q : Option Object). object_parts x.m x.m (new_view x) command q) there
       ∙ ap (λ (n : ℕ). cond (nat_lt 0 (units x.m.geometry n)) (id_runs x.m (id_of (moved x.c x.c.o).entry.address)) []) no_length in
       record {
-        no_growth = its.no_growth;
+        root_keeps = subst IsBelowRoot (sym its.no_growth) tt;
         map = record {
           left = λ k used. sym (map_or_none _ (moved_growth (new_view x) command) false (moved_none (new_view x) now command its.no_growth));
           fresh = λ k taken. absurd (cc);

@@ -277,7 +277,7 @@ module _ (x : NewRewording) (command : Command) (path : Path) (bytes image image
       by k dirs address entry' (inl s) =
           subst (λ (q : Command). AreAsked image image' (new.was on_new) (new.is_now on_new found) q (edit x.c) → new.IsAsked on_new q found) (sym s.3)
           (λ set. record {
-            no_growth = refl;
+            root_keeps = tt;
             map = record {
               left = λ j used. refl;
               fresh = λ j taken. absurd (cc);
@@ -292,7 +292,7 @@ module _ (x : NewRewording) (command : Command) (path : Path) (bytes image image
       by k dirs address entry' (inr s) =
           subst (λ (q : Command). AreAsked image image' (new.was on_new) (new.is_now on_new found) q (edit x.c) → new.IsAsked on_new q found) (sym s.1)
           (λ mark. record {
-            no_growth = refl;
+            root_keeps = tt;
             map = record {
               left = λ j used. refl;
               fresh = λ j taken. absurd (cc);
