@@ -22,6 +22,7 @@ pub mod WordLemmas
 pub mod RewordedLemmas
 pub mod RewordingLemmas
 pub mod RenamePathLemmas
+pub mod RenameEntryLemmas
 pub mod MovedLemmas
 pub mod NewMovedLemmas
 pub mod MovingLemmas

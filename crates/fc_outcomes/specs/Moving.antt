@@ -11,8 +11,10 @@ use Rattle.fc_image.specs.Walk.{Listing}
 use Rattle.fc_image.specs.Opening.{Opened}
 use Rattle.fc_image.specs.Stays.{IsNewKind, OpensAs}
 use Rattle.fc_image.specs.effects.Short.{growth_in, is_copied}
-use Rattle.fc_image.specs.effects.Steady.{IsRewritten, edited}
+use Rattle.fc_image.specs.effects.Steady.{IsRewritten, edited, with_made, without_name}
 use Rattle.fc_changes.specs.Owed.{IsMapAfter}
+use Rattle.fc_laws.specs.nodes.Edits.{Nodes}
+use Rattle.fc_laws.specs.nodes.Laws.{IsHeld}
 use Rattle.fc_laws.specs.agree.Agreed.{parts_with}
 use Rattle.fc_laws.specs.takeover.Places.{MayBeWritten}
 use Rattle.fc_oldchanges.specs.Owed.{IsMapAfter as IsOldMapAfter}
@@ -20,6 +22,7 @@ use Rattle.fc_oldlaws.specs.agree.Laws.{parts_with as old_parts_with}
 use Rattle.fc_oldlaws.specs.takeover.Places.{AreSpared, MayBeWritten as OldMayBeWritten}
 use Rattle.fc_edits.specs.Edit.{Amended}
 use Rattle.fc_edits.specs.Moving.{Moving, NewMoving, OldMoving, edit, moved, new_path}
+use Rattle.fc_edits.specs.Transfer.{IsRenaming, IsTransfer, Renaming, Transfer, renaming_of, transfer_of}
 use Rattle.fc_outcomes.specs.NewImage.{Outcome}
 use Rattle.fc_outcomes.specs.Puts.{ArePutOut, IsDirectoryPut, Put}
 
@@ -31,11 +34,15 @@ pub record IsToMove (v : Opened) (from to : Path) (c : Moving) : Type 0 where
   pub not_copied : is_copied v from to c.o ≡ false
   pub no_growth : growth_in v (Command.Rename from to) ≡ None
 
+-- The entries that the command leaves in its directories, without and with the object's.
+abbrev pub HasEntries : Path → Path → Moving → Type 0
+HasEntries from to c = (a : Amended) → Contains c.dirs a → entries_of a.content ≡ edited (Command.Rename from to) a.was.object.path (Some (moved c c.o).entry) (entries_of a.was.content)
+
 -- The directories that it leaves and joins are rewritten with the entries that the command leaves them, and its own with its new name and
 -- parent. These are all their bytes, and nothing else is written.
 pub record HasMoved (v : Opened) (from to : Path) (c : Moving) (puts : List Put) : Type 0 where
   pub its : IsToMove v from to c
-  pub entries : (a : Amended) → Contains c.dirs a → entries_of a.content ≡ edited (Command.Rename from to) a.was.object.path (Some (moved c c.o).entry) (entries_of a.was.content)
+  pub entries : HasEntries from to c
   pub says : (a : Amended) → Contains c.dirs a → IsRewritten (Command.Rename from to) a.was.object.path (holder_address v.listings a.was.object.path) a.was.content a.content
   pub own_says : (d : Listing × Directory) → Contains c.own d → IsRewritten (Command.Rename from to) d.0.object.path c.l.object.entry.address d.0.content d.1
   pub written : (a : Amended) → Contains (edit c).amended a → IsDirectoryPut v.layout (moved c a.was.object) a.content puts
@@ -66,6 +73,12 @@ pub record OldMovingWritten (x : OldMoving) (from to : Path) (puts : List Put) (
 
 -- It does what it promises, and the new image has the parts after it.
 pub record MovingLaw : Type 0 where
+  -- The one directory is without the old entry, and the other has the new one; or the one directory has it in place of the old one.
+  pub across : (v : Opened) (nodes : Nodes) (from to : Path) (c : Transfer) → IsHeld nodes v.layout v.listings → IsTransfer nodes v.layout v.listings c → IsToMove v from to (transfer_of c)
+      → entries_of c.k_content ≡ without_name (last_name from) (entries_of c.k.content) → entries_of c.l_content ≡ with_made (Some (moved (transfer_of c) c.o).entry) (entries_of c.l.content)
+      → HasEntries from to (transfer_of c)
+  pub within : (v : Opened) (nodes : Nodes) (from to : Path) (c : Renaming) → IsHeld nodes v.layout v.listings → IsRenaming nodes v.layout v.listings c → IsToMove v from to (renaming_of c)
+      → entries_of c.content ≡ with_made (Some (moved (renaming_of c) c.o).entry) (without_name (last_name from) (entries_of c.l.content)) → HasEntries from to (renaming_of c)
   pub new : (x : NewMoving) (from to : Path) (puts : List Put) (image image' : List ℕ) → NewMovingWritten x from to puts image image'
       → Outcome x.kind image image' (new_view x) (Command.Rename from to) (parts_with x.m x.nodes' x.owners')
   pub old : (x : OldMoving) (from to : Path) (puts : List Put) (image image' : List ℕ) → OldMovingWritten x from to puts image image'

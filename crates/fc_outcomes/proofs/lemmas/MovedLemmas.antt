@@ -47,7 +47,7 @@ use Rattle.fc_outcomes.specs.Puts.{ArePutOut, ArePutsOf, Put}
 use Rattle.fc_outcomes.specs.Steady.{AreAsked, AsksNothing}
 use Rattle.fc_outcomes.specs.Written.{MovesPaths}
 use Rattle.fc_outcomes.proofs.lemmas.PutLemmas.{directory_bytes}
-use Rattle.fc_outcomes.proofs.lemmas.RenamePathLemmas.{after_same, kept_name, named_rename, other_of, turned_other, turned_same, unedited}
+use Rattle.fc_outcomes.proofs.lemmas.RenamePathLemmas.{after_same, edited_by, kept_name, named_rename, other_of, turned_other, turned_same}
 use Rattle.fc_outcomes.proofs.lemmas.SteadyLemmas.{holder_still, now_in, unnamed}
 use Rattle.fc_outcomes.proofs.lemmas.UnwrittenLemmas.{turned_bytes}
 use Rattle.fc_outcomes.proofs.lemmas.WordLemmas.{same_length}
@@ -234,7 +234,7 @@ module _ (v : Opened) (nodes nodes' : Nodes) (c : Moving) (h : IsHeld nodes v.la
           let there = memory.own_there nodes layout listings c h g d at in
           record {
             entries = (g.own_is d at).1
-                ∙ sym (unedited from to d.0.object.path (named_entry w command) (entries_of d.0.content) (ap (λ (p : Object). is_same_path (holder from) p.path) at_o ∙ own_from)
+                ∙ sym (edited_by from to d.0.object.path (named_entry w command) (entries_of d.0.content) false false (ap (λ (p : Object). is_same_path (holder from) p.path) at_o ∙ own_from)
                 (ap (λ (p : Object). is_same_path (holder to) p.path) at_o ∙ own_to))
                 ∙ sym (entries_now v w command its.no_growth d.0);
             head = inr (record {
@@ -248,7 +248,7 @@ module _ (v : Opened) (nodes nodes' : Nodes) (c : Moving) (h : IsHeld nodes v.la
       rest_asks k at =
           let not_it = other_of from c.o.path k.object.path its.from_is (rest_other k at) in
           record {
-            entries = sym (unedited from to k.object.path (named_entry w command) (entries_of k.content) (rest_from k at) (rest_to k at)) ∙ sym (entries_now v w command its.no_growth k);
+            entries = sym (edited_by from to k.object.path (named_entry w command) (entries_of k.content) false false (rest_from k at) (rest_to k at)) ∙ sym (entries_now v w command its.no_growth k);
             parent = λ gets. absurd (clash (gets_parent v command k.object.path) gets
                 (ap (λ (b : Bool). b || has_new_holder v command k.object.path) (turned_other from k.object.path not_it) ∙ no_new_holder v w command its.no_growth k.object.path));
             name = kept_name from to k.object.path not_it k.content;

@@ -35,6 +35,7 @@ use Rattle.fc_outcomes.specs.OldImage.{OldImageEdit}
 use Rattle.fc_outcomes.specs.Puts.{Put}
 use Rattle.fc_outcomes.proofs.lemmas.MovedLemmas as any
 use Rattle.fc_outcomes.proofs.lemmas.NewMovedLemmas.{new_moved}
+use Rattle.fc_outcomes.proofs.lemmas.RenameEntryLemmas.{across, within_one}
 use Rattle.fc_outcomes.proofs.lemmas.OldImageLemmas as old_image
 use Rattle.fc_outcomes.proofs.lemmas.UnwrittenLemmas.{unwritten}
 
@@ -132,6 +133,8 @@ may_old x from to a image opens its at =
 
 pub moving_law : ReadsBack → MovingLaw
 moving_law back = record {
+  across = across;
+  within = within_one;
   new = λ x from to puts image image' w. new_moved x from to puts image image' w;
   old = λ x from to puts image image' w. old_moved back x from to puts image image' w;
   new_may = may_new;

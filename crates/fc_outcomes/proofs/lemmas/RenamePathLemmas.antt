@@ -41,11 +41,11 @@ turned_other a b other = unless (is_same_path b a) (λ same. clash (is_same_path
 pub turned_same : (a b : Path) → is_same_path a b ≡ true → is_same_path b a ≡ true
 turned_same a b same = same_by_folds b a (sym (folds_alike a b same))
 
--- A directory that holds neither path keeps its entries.
-pub unedited : (from to dir : Path) (made : Option Entry) (entries : List Entry) → is_same_path (holder from) dir ≡ false → is_same_path (holder to) dir ≡ false
-    → edited (Command.Rename from to) dir made entries ≡ entries
-unedited from to dir made entries a b =
-    ap₂ (λ (x y : Bool). let kept : List Entry = cond x (without_name (last_name from) entries) entries in cond y (with_made made kept) kept) a b
+-- what the command leaves a directory, by whether this holds the one path, and the other
+pub edited_by : (from to dir : Path) (made : Option Entry) (entries : List Entry) (a b : Bool) → is_same_path (holder from) dir ≡ a → is_same_path (holder to) dir ≡ b
+    → edited (Command.Rename from to) dir made entries ≡ (let kept : List Entry = cond a (without_name (last_name from) entries) entries in cond b (with_made made kept) kept)
+edited_by from to dir made entries a b from_is to_is =
+    ap₂ (λ (x y : Bool). let kept : List Entry = cond x (without_name (last_name from) entries) entries in cond y (with_made made kept) kept) from_is to_is
 
 -- One that isn't renamed keeps its name.
 pub kept_name : (from to dir : Path) → is_same_path from dir ≡ false → (content : Directory) → HasName (Command.Rename from to) dir content
