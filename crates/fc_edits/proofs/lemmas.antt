@@ -26,3 +26,4 @@ pub mod RewordingLemmas
 pub mod GrownCdirLemmas
 pub mod MovingLemmas
 pub mod TransferLemmas
+pub mod CopyingLemmas

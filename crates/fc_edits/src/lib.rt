@@ -3,6 +3,7 @@
 #![tactic(auto)]
 
 ghost use Rattle.fc_edits.specs.Addition.{AdditionLaw};
+ghost use Rattle.fc_edits.specs.Copying.{CopyingLaw};
 ghost use Rattle.fc_edits.specs.Deletion.{DeletionLaw};
 ghost use Rattle.fc_edits.specs.GrownCdir.{GrownCdirLaw};
 ghost use Rattle.fc_edits.specs.Moving.{MovingLaw};
@@ -73,4 +74,9 @@ pub fn moving()
 /// So it is to another directory, and within one.
 pub fn renaming()
     ensures { RenameLaw }
+{}
+
+/// `rename` that copies its file is an edit too, and has its place on new maps.
+pub fn copying()
+    ensures { CopyingLaw }
 {}

@@ -37,7 +37,8 @@ use Rattle.fc_changes.proofs.SpaceLemmas.{untaken_is}
 use Rattle.fc_laws.specs.nodes.Laws.{IsHeld}
 use Rattle.fc_laws.proofs.lemmas.agree.BeforeLemmas.{new_shape}
 use Rattle.fc_laws.proofs.lemmas.agree.DirectoryAddedLemmas.{size_of_new}
-use Rattle.fc_edits.specs.Addition.{ComesAlone, NewAddition, edit, leaves, over_it, takings_of}
+use Rattle.fc_edits.specs.Addition.{ComesAlone, NewAddition, edit, leaves, over_it}
+use Rattle.fc_edits.specs.Placing.{takings_of}
 use Rattle.fc_edits.specs.Edit.{listings_after, objects}
 use Rattle.fc_edits.specs.NewPlaces.{is_taken, untaken}
 use Rattle.fc_edits.specs.PartsEdit.{NewPartsEdit}

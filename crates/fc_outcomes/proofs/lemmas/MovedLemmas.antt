@@ -215,7 +215,7 @@ module _ (v : Opened) (nodes nodes' : Nodes) (c : Moving) (h : IsHeld nodes v.la
         ∙ ap (λ (k : Listing). k.object.entry.address) g.there.2
 
     dir_holder : (a : Amended) → Contains c.dirs a → holder_address found (moved c a.was.object).path ≡ holder_address listings a.was.object.path
-    dir_holder a at = holder_still ne layout found sound' order (λ o among. refl) a.was a.number (n_.was_in ne a (dir_amended a at)) (g.amends a at).number_is (dir_stays a at)
+    dir_holder a at = holder_still ne layout found sound' order (λ d there. refl) a.was a.number (n_.was_in ne a (dir_amended a at)) (g.amends a at).number_is (dir_stays a at)
 
     module _ (image image' : List ℕ) (puts : List Put) (mv : HasMoved v from to c puts) (out : ArePutOut layout puts image image') where
       dir_steady : (a : Amended) → Contains c.dirs a → DirectorySteady image image' v w command a.was (now (edit c) a)

@@ -115,8 +115,8 @@ module _ (ne : NodesEdit) (layout' : Layout) (found : List Listing)
       ⊎_elim (λ goes. absurd (no_element k.object (subst (λ (os : List Object). Contains os k.object) is.out_empty (in_flat (λ (x : Listing). x.children) e.out d k.object goes kid))))
       (λ stays. stays) (Contains-append_cases e.out (n_.stay ne) d (in_other listings (e.out ++ n_.stay ne) is.found d there))
 
-  -- The address of the directory that holds one stays if addresses do, and if that keeps its directory, wherever this is.
-  pub holder_still : ((o : Object) → Contains (objects_of listings) o → (e.turn o).entry.address ≡ o.entry.address) → (k : Listing) (n : ℕ) → Contains (n_.stay ne) k
+  -- The address of the directory that holds one stays if those of directories do, and if that keeps its directory, wherever this is.
+  pub holder_still : ((d : Listing) → Contains listings d → (e.turn d.object).entry.address ≡ d.object.entry.address) → (k : Listing) (n : ℕ) → Contains (n_.stay ne) k
       → number_of ne.nodes k.object.path ≡ Some n → (Contains (numbers (leaving e)) n → ⊥) → holder_address found (e.turn k.object).path ≡ holder_address listings k.object.path
   holder_still addresses k n at number_is stays = ⊎_elim top below (root_or_child layout listings h.sound k.object k_in)
     where
@@ -131,7 +131,7 @@ module _ (ne : NodesEdit) (layout' : Layout) (found : List Listing)
       by d there in_stay same same' =
           let found_d = stay_found d in_stay in
           address_by layout' found (e.turn k.object).path found_d.0 sound found_d.1 (ap (λ (o : Object). is_same_path (holder (e.turn k.object).path) o.path) found_d.2 ∙ same')
-          ∙ ap (λ (o : Object). o.entry.address) found_d.2 ∙ addresses d.object (listed_directory layout listings h.sound d there).0 ∙ sym (address_by layout listings k.object.path d h.sound there same)
+          ∙ ap (λ (o : Object). o.entry.address) found_d.2 ∙ addresses d there ∙ sym (address_by layout listings k.object.path d h.sound there same)
 
       top : root layout listings h.sound ≡ k.object → holder_address found (e.turn k.object).path ≡ holder_address listings k.object.path
       top is_top =
