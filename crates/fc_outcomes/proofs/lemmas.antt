@@ -26,3 +26,5 @@ pub mod RenameEntryLemmas
 pub mod MovedLemmas
 pub mod NewMovedLemmas
 pub mod MovingLemmas
+pub mod CopiedPathLemmas
+pub mod CopiedLemmas

@@ -8,3 +8,4 @@ pub mod Deletion
 pub mod Addition
 pub mod Rewording
 pub mod Moving
+pub mod Copying

@@ -2,6 +2,7 @@
 #![tactic(auto)]
 
 ghost use Rattle.fc_outcomes.specs.Addition.{AdditionLaw};
+ghost use Rattle.fc_outcomes.specs.Copying.{CopyingLaw};
 ghost use Rattle.fc_outcomes.specs.Deletion.{DeletionLaw};
 ghost use Rattle.fc_outcomes.specs.Done.{DoneLaw, KeptLaw};
 ghost use Rattle.fc_outcomes.specs.Moving.{MovingLaw};
@@ -77,3 +78,8 @@ pub fn moving()
 {
     reads_back();
 }
+
+/// `rename` that copies its file does what it promises if no directory grows, on new maps.
+pub fn copying()
+    ensures { CopyingLaw }
+{}

@@ -56,11 +56,11 @@ use Rattle.fc_outcomes.proofs.lemmas.NewImageLemmas as new_image
 use Rattle.fc_outcomes.proofs.lemmas.PutLemmas.{directory_bytes}
 
 -- what is left when something is taken for one identifier
-untaken_one : (holes : List ZoneRun) (id : ℕ) (parts : List ZoneRun) → untaken holes (takings_of id parts) ≡ holes_left holes parts
+pub untaken_one : (holes : List ZoneRun) (id : ℕ) (parts : List ZoneRun) → untaken holes (takings_of id parts) ≡ holes_left holes parts
 untaken_one holes id [] = sym (left_of_none holes)
 untaken_one holes id (p ∷ parts) = refl
 
-taken_is : (id : ℕ) (parts : List ZoneRun) (k : ℕ) → is_taken (takings_of id parts) k ≡ true → k ≡ id
+pub taken_is : (id : ℕ) (parts : List ZoneRun) (k : ℕ) → is_taken (takings_of id parts) k ≡ true → k ≡ id
 taken_is id [] k h = absurd (cc)
 taken_is id (p ∷ parts) k h = by (id == k) refl h
   where
