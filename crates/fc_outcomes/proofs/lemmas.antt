@@ -26,5 +26,6 @@ pub mod RenameEntryLemmas
 pub mod MovedLemmas
 pub mod NewMovedLemmas
 pub mod MovingLemmas
+pub mod CopiedMayLemmas
 pub mod CopiedPathLemmas
 pub mod CopiedLemmas

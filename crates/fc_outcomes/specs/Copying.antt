@@ -1,5 +1,5 @@
 -- `rename` that copies its file, without growth, on a new map: from what is written to what it promises.
-use Rattle.std.specs.Prelude.{◌≡◌, ℕ, ◌*◌, true, List, [], ◌∷◌, length, Some, None}
+use Rattle.std.specs.Prelude.{◌≡◌, ℕ, ◌*◌, true, List, [], ◌∷◌, ◌++◌, length, Some, None}
 use Rattle.fc_names.specs.Names.{Path, is_same_path}
 use Rattle.fc_record.specs.declared.DiscRecord.{DiscRecord}
 use Rattle.fc_newmap.specs.Map.{bits_in}
@@ -17,6 +17,7 @@ use Rattle.fc_image.specs.effects.Steady.{AreWritten, IsRewritten, with_made, wi
 use Rattle.fc_changes.specs.Changed.{IsInNewSpace}
 use Rattle.fc_changes.specs.Owed.{IsMapAfter}
 use Rattle.fc_laws.specs.agree.Agreed.{parts_with}
+use Rattle.fc_laws.specs.takeover.Places.{MayBeWritten}
 use Rattle.fc_edits.specs.Copying.{NewCopying, copied, new_path}
 use Rattle.fc_outcomes.specs.NewImage.{Outcome}
 use Rattle.fc_outcomes.specs.Puts.{ArePutOut}
@@ -56,6 +57,10 @@ pub record CopyingWritten (x : NewCopying) (from to : Path) (k_bytes l_bytes sto
   pub after : IsMapAfter x.m x.m' image'
 
 -- It does what it promises, and the new image has the parts after it.
-abbrev pub CopyingLaw : Type 0
-CopyingLaw = (x : NewCopying) (from to : Path) (k_bytes l_bytes stored image image' : List ℕ) → CopyingWritten x from to k_bytes l_bytes stored image image'
-    → Outcome x.kind image image' (new_view x) (Command.Rename from to) (parts_with x.m' x.nodes' x.owners')
+pub record CopyingLaw : Type 0 where
+  pub new : (x : NewCopying) (from to : Path) (k_bytes l_bytes stored image image' : List ℕ) → CopyingWritten x from to k_bytes l_bytes stored image image'
+      → Outcome x.kind image image' (new_view x) (Command.Rename from to) (parts_with x.m' x.nodes' x.owners')
+  -- At every exit the sectors of both directories and of the copy may be written beside the map: they are none of another object, nor of
+  -- lost space.
+  pub new_may : (x : NewCopying) (from to : Path) (image : List ℕ) → OpensAs image x.kind (new_view x) → IsToCopy x from to
+      → MayBeWritten x.kind (new_view x) x.m (Command.Rename from to) (x.c.k.object.sectors ++ (x.c.l.object.sectors ++ (copied x.c x.c.o).sectors))

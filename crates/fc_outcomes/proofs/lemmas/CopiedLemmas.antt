@@ -20,7 +20,7 @@ use Rattle.fc_image.specs.effects.Effect.{copies_file}
 use Rattle.fc_image.specs.effects.Placed.{GrowthPlacedIn, NewObjectPlaced, StandsInNewSpace, file_low, made_object, object_parts}
 use Rattle.fc_image.specs.effects.Sharing.{units}
 use Rattle.fc_image.specs.effects.Short.{Growth, is_copied, moved_growth, new_length}
-use Rattle.fc_image.specs.effects.Steady.{DirectorySteady, EntrySteady, IsRewritten, NamedStays, gets_parent, has_grown, has_new_holder, holds_named, is_moved_by, is_renamed_by, may_be_rewritten, named_entry, with_made}
+use Rattle.fc_image.specs.effects.Steady.{DirectorySteady, EntrySteady, IsRewritten, NamedStays, gets_parent, has_new_holder, is_moved_by, named_entry, with_made}
 use Rattle.fc_image.proofs.CommandLemmas.{command_law}
 use Rattle.fc_image.proofs.LookupLemmas.{lookup_law}
 use Rattle.fc_image.proofs.PathsLemmas.{is_at, itself}
@@ -28,14 +28,13 @@ use Rattle.fc_image.proofs.RenameLemmas.{last_pushed, moved_itself}
 use Rattle.fc_plan.proofs.Units.{units_some}
 use Rattle.fc_tree.specs.Nodes.{number_of}
 use Rattle.fc_tree.proofs.MemberLemmas.{contains_cases, contains_here, contains_later, many_permuted, no_element}
-use Rattle.fc_tree.proofs.WalkedLemmas.{child_path, listed_directory}
-use Rattle.fc_changes.proofs.BasicLemmas.{clash, map_or_none, or_left, or_second, unless}
+use Rattle.fc_tree.proofs.WalkedLemmas.{listed_directory}
+use Rattle.fc_changes.proofs.BasicLemmas.{clash, map_or_none, unless}
 use Rattle.fc_changes.proofs.ChangeLemmas.{a_sector}
 use Rattle.fc_changes.proofs.DirectoriesLemmas.{entries_now, moved_none, no_new_holder}
 use Rattle.fc_changes.proofs.MadeLemmas.{file_low_small, stands_new}
 use Rattle.fc_changes.proofs.OutsideLemmas.{object_owns}
 use Rattle.fc_changes.proofs.PlacedLemmas.{high, id_is, same_bits, same_left, unused}
-use Rattle.fc_changes.proofs.ReadsLemmas.{lies_in}
 use Rattle.fc_changes.proofs.SpaceLemmas.{untaken_is}
 use Rattle.fc_laws.specs.nodes.Laws.{IsHeld}
 use Rattle.fc_laws.specs.agree.Agreed.{parts_with}
@@ -61,6 +60,7 @@ use Rattle.fc_outcomes.specs.NewImage.{IsBelowRoot, NewImageEdit, Outcome}
 use Rattle.fc_outcomes.specs.Puts.{ArePutsOf, IsDirectoryPut, Put}
 use Rattle.fc_outcomes.specs.Written.{MovesPaths}
 use Rattle.fc_outcomes.proofs.lemmas.AddedLemmas.{taken_is, untaken_one}
+use Rattle.fc_outcomes.proofs.lemmas.CopiedMayLemmas as may
 use Rattle.fc_outcomes.proofs.lemmas.CopiedPathLemmas as path
 use Rattle.fc_outcomes.proofs.lemmas.NewImageLemmas as new_image
 use Rattle.fc_outcomes.proofs.lemmas.PutLemmas.{directory_bytes}
@@ -139,10 +139,10 @@ module _ (x : NewCopying) (from to : Path) (k_bytes l_bytes stored image image' 
       (itself c.k.object.path) same)
 
   from_holds : is_same_path (holder from) c.k.object.path ≡ true
-  from_holds = (lies_in from c.k.object.path c.o.entry.name (ap (is_same_path from) (sym (child_path y x.listings h.sound c.k c.o k_in kid)) ∙ w.its.from_is)).holds
+  from_holds = may.from_holds x from to w.its
 
   to_holds : is_same_path (holder to) c.l.object.path ≡ true
-  to_holds = (lies_in to c.l.object.path c.name w.its.to_is).holds
+  to_holds = may.to_holds x from to w.its
 
   -- ---- what is written
 
@@ -285,18 +285,6 @@ module _ (x : NewCopying) (from to : Path) (k_bytes l_bytes stored image image' 
       stands_new x.m x.m' c.o.entry.len low x.id x.parts x.gone o x.agreed.is_map x.geometry small w.its.place x.space
       (ap (λ (b : Bool). cond b 0 (file_low x.m'.geometry (bits_in (id_runs x.m' (id_of o.entry.address)) * x.m'.geometry.bit_bytes) o.entry.len)) copy_file ∙ low_again)
 
-  k_may : may_be_rewritten v command c.k.object.path ≡ true
-  k_may =
-      or_left (holds_named command c.k.object.path || is_renamed_by command c.k.object.path || has_grown v command c.k.object.path) (has_new_holder v command c.k.object.path)
-      (or_left (holds_named command c.k.object.path || is_renamed_by command c.k.object.path) (has_grown v command c.k.object.path)
-      (or_left (holds_named command c.k.object.path) (is_renamed_by command c.k.object.path) (or_left (is_same_path (holder from) c.k.object.path) (is_same_path (holder to) c.k.object.path) from_holds)))
-
-  l_may : may_be_rewritten v command c.l.object.path ≡ true
-  l_may =
-      or_left (holds_named command c.l.object.path || is_renamed_by command c.l.object.path || has_grown v command c.l.object.path) (has_new_holder v command c.l.object.path)
-      (or_left (holds_named command c.l.object.path || is_renamed_by command c.l.object.path) (has_grown v command c.l.object.path)
-      (or_left (holds_named command c.l.object.path) (is_renamed_by command c.l.object.path) (or_second (is_same_path (holder from) c.l.object.path) (is_same_path (holder to) c.l.object.path) to_holds)))
-
   l_number_other : c.dir ≡ c.number → ⊥
   l_number_other e =
       clash (is_same_path c.o.path c.l.object.path) (n_.same_at ne c.o.path c.l.object.path c.number x.copying.number_is (x.copying.dir_is ∙ ap (λ (i : ℕ). Some i) e)) (dir_other c.l l_in)
@@ -326,9 +314,7 @@ module _ (x : NewCopying) (from to : Path) (k_bytes l_bytes stored image image' 
           fresh = λ k taken used.
               (let same = taken_is x.id x.parts k taken in
               let sector : 0 < x.m'.geometry.sector = subst (λ (g : Geometry). 0 < g.sector) (sym x.geometry) (new_shape x.m x.agreed.is_map).some in
-              let size_is : object_size (dir_form y') o.entry ≡ c.o.entry.len =
-              ap (λ (q : Object). object_size (dir_form y') q.entry) copy_is ∙ ap (λ (b : Bool). cond b (directory_size (dir_form y') c.o.entry.len) c.o.entry.len) x.copying.file in
-              let at : sectors_at y' o.entry.address c.o.entry.len ≡ Some o.sectors = subst (λ (j : ℕ). sectors_at y' o.entry.address j ≡ Some o.sectors) size_is x.at in
+              let at : sectors_at y' o.entry.address c.o.entry.len ≡ Some o.sectors = subst (λ (j : ℕ). sectors_at y' o.entry.address j ≡ Some o.sectors) (may.size_is x from to w.its) x.at in
               let s = a_sector x.m' o.entry.address c.o.entry.len o.sectors w.its.place.some sector at in (
                 subst (λ (j : ℕ). 3 ≤ j) (sym same) (high x.m x.m' c.o.entry.len low x.id x.parts x.gone o x.agreed.is_map x.geometry small w.its.place x.space),
                 subst (λ (j : ℕ). is_owned (objects_of found) j ≡ true) (its_id ∙ sym same) (object_owns (objects_of found) o s.0 joins s.1),
@@ -356,7 +342,7 @@ module _ (x : NewCopying) (from to : Path) (k_bytes l_bytes stored image image' 
                     (other_of (holder to) c.l.object.path c.k.object.path to_holds (turned_other c.k.object.path c.l.object.path apart)))
                     ∙ sym (entries_now v now' command w.its.no_growth c.k);
                 head = inr (record {
-                  may = k_may;
+                  may = may.k_may x from to w.its;
                   says = subst (λ (n : ℕ). IsRewritten command c.k.object.path n c.k.content c.k_content) (sym k_holder) w.k_says;
                   bytes = directory_bytes y y' all image image' (copied c c.k.object) c.k_content size w.out k_put;
                 });
@@ -366,7 +352,7 @@ module _ (x : NewCopying) (from to : Path) (k_bytes l_bytes stored image image' 
                     ∙ sym (edited_by from to c.l.object.path (named_entry now' command) (entries_of c.l.content) false true (other_of (holder from) c.k.object.path c.l.object.path from_holds apart) to_holds)
                     ∙ sym (entries_now v now' command w.its.no_growth c.l);
                 head = inr (record {
-                  may = l_may;
+                  may = may.l_may x from to w.its;
                   says = subst (λ (n : ℕ). IsRewritten command c.l.object.path n c.l.content c.l_content) (sym l_holder) w.l_says;
                   bytes = directory_bytes y y' all image image' (copied c c.l.object) c.l_content size w.out l_put;
                 });
@@ -395,4 +381,7 @@ module _ (x : NewCopying) (from to : Path) (k_bytes l_bytes stored image image' 
       (λ found is_move. command_law.rename image image' y y' x.listings found from to c.o.path (new_path c) is_move w.its.from_is w.its.to_is (w.its.name_is ∙ sym (last_pushed c.l.object.path c.name)))
 
 pub copying_law : CopyingLaw
-copying_law x from to k_bytes l_bytes stored image image' w = new_copied x from to k_bytes l_bytes stored image image' w
+copying_law = record {
+  new = λ x from to k_bytes l_bytes stored image image' w. new_copied x from to k_bytes l_bytes stored image image' w;
+  new_may = λ x from to image opens its. may.may_new x from to its image opens;
+}
