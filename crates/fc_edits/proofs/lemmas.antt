@@ -24,4 +24,6 @@ pub mod ReplacedLemmas
 pub mod AdditionLawLemmas
 pub mod RewordingLemmas
 pub mod GrownCdirLemmas
+pub mod MovingLemmas
 pub mod TransferLemmas
+pub mod CopyingLemmas

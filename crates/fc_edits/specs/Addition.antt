@@ -1,5 +1,5 @@
 -- `save`, `create` and `cdir` as an edit, without growth: a file comes, or replaces another, or an empty directory comes.
-use Rattle.std.specs.Prelude.{◌≡◌, ◌<◌, ◌≤◌, ◌⊎◌, ℕ, true, false, List, [], ◌∷◌, ◌++◌, length, map, Option, Some, None, IsPermutation}
+use Rattle.std.specs.Prelude.{◌≡◌, ◌<◌, ◌≤◌, ℕ, true, false, List, [], ◌∷◌, ◌++◌, length, map, Option, Some, None, IsPermutation}
 use Rattle.std.specs.List.{flat_map}
 use Rattle.std.specs.FinMap.{get}
 use Rattle.fc_names.specs.Names.{Path}
@@ -18,7 +18,6 @@ use Rattle.fc_image.specs.Edits.{IsAt}
 use Rattle.fc_image.specs.effects.Short.{holes_without, old_need, with_space_of}
 use Rattle.fc_tree.specs.declared.node.Node.{Node}
 use Rattle.fc_tree.specs.Nodes.{number_of}
-use Rattle.fc_changes.specs.Changed.{IsFileAt, IsInNewSpace}
 use Rattle.fc_changes.specs.Owed.{GivesBack, IsSpaceEdit}
 use Rattle.fc_oldchanges.specs.Changed.{IsFileAt as IsOldFileAt}
 use Rattle.fc_oldchanges.specs.Owed.{holding}
@@ -28,9 +27,10 @@ use Rattle.fc_laws.specs.agree.Agreed.{AgreeOn as NewAgreeOn, CanSay}
 use Rattle.fc_oldlaws.specs.agree.Laws.{AgreeOn}
 use Rattle.fc_edits.specs.Edit.{Amended, AreEdited, Edit, IsEdit, listings_after, owners_joined, owners_left}
 use Rattle.fc_edits.specs.NewNodes.{enter, nodes_after, tell}
-use Rattle.fc_edits.specs.NewPlaces.{IsSpaceChange, NewPlaces, Taking}
+use Rattle.fc_edits.specs.NewPlaces.{IsSpaceChange, NewPlaces}
 use Rattle.fc_edits.specs.OldPlaces.{OldPlaces}
 use Rattle.fc_edits.specs.PartsEdit.{OldAgreeNow}
+use Rattle.fc_edits.specs.Placing.{IsPlaced, takings_of}
 use Rattle.fc_edits.specs.Places.{AgreeNow, CanSayAll}
 
 -- Object o comes to directory l of node `dir`, which holds `children` afterwards, and gets node `number`. A file that it replaces is
@@ -116,15 +116,6 @@ pub record IsAddition (nodes : Nodes) (layout : Layout) (listings : List Listing
 -- the owners of what goes
 abbrev pub owners_before : Layout → Addition → List Owner
 owners_before layout c = flat_map (λ (p : Object). owners_with layout c.dir c.number p) c.over
-
--- In n bytes a file lies where files lie that come to this directory, and a directory in new space.
-abbrev pub IsPlaced : Map → List Object → Path → ℕ → ℕ → List ZoneRun → Object → Type 0
-IsPlaced m objects path n id parts o = IsFileAt m objects path n id parts o ⊎ IsInNewSpace m n 0 id parts o
-
--- what is taken, if anything is
-abbrev pub takings_of : ℕ → List ZoneRun → List Taking
-takings_of id [] = []
-takings_of id (p ∷ parts) = record { id = id; parts = p ∷ parts } ∷ []
 
 -- ---- with its parts
 

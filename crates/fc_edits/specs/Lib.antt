@@ -8,7 +8,10 @@ pub mod OldPlaces
 pub mod PartsEdit
 pub mod Views
 pub mod Deletion
+pub mod Placing
 pub mod Addition
 pub mod Rewording
+pub mod Moving
 pub mod Transfer
+pub mod Copying
 pub mod GrownCdir

@@ -3,15 +3,17 @@
 #![tactic(auto)]
 
 ghost use Rattle.fc_edits.specs.Addition.{AdditionLaw};
+ghost use Rattle.fc_edits.specs.Copying.{CopyingLaw};
 ghost use Rattle.fc_edits.specs.Deletion.{DeletionLaw};
 ghost use Rattle.fc_edits.specs.GrownCdir.{GrownCdirLaw};
+ghost use Rattle.fc_edits.specs.Moving.{MovingLaw};
 ghost use Rattle.fc_edits.specs.NewNodes.{AfterLaw};
 ghost use Rattle.fc_edits.specs.NewPlaces.{NewPlacesLaw};
 ghost use Rattle.fc_edits.specs.NodesEdit.{NodesLaw};
 ghost use Rattle.fc_edits.specs.OldPlaces.{OldPlacesLaw};
 ghost use Rattle.fc_edits.specs.PartsEdit.{AgreeLaw};
 ghost use Rattle.fc_edits.specs.Rewording.{RewordingLaw};
-ghost use Rattle.fc_edits.specs.Transfer.{TransferredLaw};
+ghost use Rattle.fc_edits.specs.Transfer.{RenameLaw};
 ghost use Rattle.fc_edits.specs.Views.{ViewLaw};
 
 /// Nodes and owners follow the listings after any edit.
@@ -64,7 +66,17 @@ pub fn cdir_grown()
     ensures { GrownCdirLaw }
 {}
 
-/// After `rename` to another directory the parts agree.
-pub fn transferred()
-    ensures { TransferredLaw }
+/// `rename` is an edit if no file is copied, on new maps and old ones: an object moves with all that is below it.
+pub fn moving()
+    ensures { MovingLaw }
+{}
+
+/// So it is to another directory, and within one.
+pub fn renaming()
+    ensures { RenameLaw }
+{}
+
+/// `rename` that copies its file is an edit too, and has its place on new maps.
+pub fn copying()
+    ensures { CopyingLaw }
 {}

@@ -20,3 +20,12 @@ pub mod MayLemmas
 pub mod AdditionLemmas
 pub mod WordLemmas
 pub mod RewordedLemmas
+pub mod RewordingLemmas
+pub mod RenamePathLemmas
+pub mod RenameEntryLemmas
+pub mod MovedLemmas
+pub mod NewMovedLemmas
+pub mod MovingLemmas
+pub mod CopiedMayLemmas
+pub mod CopiedPathLemmas
+pub mod CopiedLemmas

@@ -7,3 +7,5 @@ pub mod OldImage
 pub mod Deletion
 pub mod Addition
 pub mod Rewording
+pub mod Moving
+pub mod Copying

@@ -1,5 +1,5 @@
 -- An edit on an image with a new map, and what a command has done there.
-use Rattle.std.specs.Prelude.{◌≡◌, ◌≤◌, ◌++◌, ℕ, true, false, List, [], drop, map, None, Contains, IsPermutation}
+use Rattle.std.specs.Prelude.{◌≡◌, ◌<◌, ◌≤◌, ◌++◌, ℕ, true, false, List, [], length, drop, map, Option, Some, None, Contains, IsPermutation}
 use Rattle.fc_record.specs.declared.DiscRecord.{DiscRecord}
 use Rattle.fc_record.specs.declared.Kind.{Kind}
 use Rattle.fc_newmap.specs.Map.{hole_runs, is_used}
@@ -15,7 +15,7 @@ use Rattle.fc_image.specs.Stays.{IsNewKind, OpensAs}
 use Rattle.fc_image.specs.TreeEdits.{IsMove, IsObjectEdit}
 use Rattle.fc_image.specs.effects.Effect.{Changes, copies_file}
 use Rattle.fc_image.specs.effects.Placed.{Placed}
-use Rattle.fc_image.specs.effects.Short.{growth_in}
+use Rattle.fc_image.specs.effects.Short.{Growth, growth_in}
 use Rattle.fc_image.specs.effects.Steady.{MapOutside, NamedEntrySteady, NamedStays, NewDirectory, NewMapSteady, expected_zone, holes_untaken, idle_sectors, is_left_by_growth}
 use Rattle.fc_record.specs.Kinds.{disc_size}
 use Rattle.fc_tree.specs.Parts.{ArePartsOf, Parts}
@@ -73,9 +73,14 @@ pub record IsMapAsked (x : NewImageEdit) (c : Command) (found : List Listing) : 
   pub fresh : (k : ℕ) → is_taken x.takings k ≡ true → is_used x.parts.m k ≡ false → (3 ≤ k) × (is_owned (objects_of found) k ≡ true)
   pub untaken_is : untaken (hole_runs x.parts.m) x.takings ≡ holes_untaken (was x) (is_now x found) c x.parts.m x.parts.m'
 
+-- The directory that grows, if one does, isn't the root, whose place stands in the map's record.
+abbrev pub IsBelowRoot : Option Growth → Type 0
+IsBelowRoot None = Unit {0}
+IsBelowRoot (Some growth) = 0 < length growth.0.path
+
 -- So are its objects and its directories.
 pub record IsAsked (x : NewImageEdit) (c : Command) (found : List Listing) : Type 0 where
-  pub no_growth : growth_in (was x) c ≡ None
+  pub root_keeps : IsBelowRoot (growth_in (was x) c)
   pub map : IsMapAsked x c found
   pub placed : Placed (was x) (is_now x found) c
   pub directories : AreAsked x.image x.image' (was x) (is_now x found) c x.parts.edit
@@ -94,7 +99,7 @@ pub record NewImageLaw : Type 0 where
   pub space : (x : NewImageEdit) (c : Command) (found : List Listing) → IsPermutation (listings_after x.parts.edit) found → AreSound (Layout.New x.parts.m') found → IsMapAsked x c found
       → NewMapSteady (was x) (is_now x found) c x.parts.m x.parts.m'
   -- What lies outside is as before, and so is what comes after the disc.
-  pub outside : (x : NewImageEdit) (c : Command) (found : List Listing) → growth_in (was x) c ≡ None
+  pub outside : (x : NewImageEdit) (c : Command) (found : List Listing) → IsBelowRoot (growth_in (was x) c)
       → MapOutside x.image x.image' x.parts.kind (expected_zone (was x) (is_now x found) c x.parts.m) (idle_sectors (was x) x.parts.m) x.parts.m x.parts.m'
   pub behind : (x : NewImageEdit) → drop (disc_size x.parts.kind) x.image' ≡ drop (disc_size x.parts.kind) x.image
   -- The command does what it promises, if no path changes, and if all at or below one moves.

@@ -1,12 +1,12 @@
 -- What a writer puts into sectors, step by step and in the end, and what an edit needs of it.
-use Rattle.std.specs.Prelude.{◌≡◌, ◌≤◌, ◌⊎◌, ◌*◌, ℕ, true, false, List, [], ◌∷◌, length, Contains, Some}
+use Rattle.std.specs.Prelude.{◌≡◌, ◌<◌, ◌≤◌, ◌⊎◌, ◌*◌, ℕ, true, false, List, [], ◌∷◌, length, get_or, Contains, Some}
 use Rattle.std.specs.List.{flat_map}
 use Rattle.fc_device.specs.Sectors.{sector_at}
 use Rattle.fc_dirs.specs.Directory.{Directory}
 use Rattle.fc_image.specs.Layout.{Layout, bytes_in, dir_form, is_among, is_apart, map_place, sector_bytes}
 use Rattle.fc_image.specs.Walk.{Listing, Object, object_bytes, object_size}
 use Rattle.fc_image.specs.effects.Steady.{AreWritten}
-use Rattle.fc_objects.specs.Written.{HasParts}
+use Rattle.fc_objects.specs.Written.{HasParts, part_at}
 use Rattle.fc_tree.specs.Nodes.{number_of}
 use Rattle.fc_laws.specs.nodes.Edits.{Nodes}
 use Rattle.fc_edits.specs.Edit.{Amended, Edit, joining, leaving, numbers}
@@ -73,8 +73,20 @@ pub record ArePutsOf (layout layout' : Layout) (nodes : Nodes) (e : Edit) (puts 
   pub carried : (k : Listing) (n : ℕ) → Contains e.same k → number_of nodes k.object.path ≡ Some n → Contains (numbers (leaving e)) n
       → object_bytes image' layout' (e.turn k.object) ≡ object_bytes image layout k.object
 
+-- These sectors, each with its bytes, are those of the puts: each sector of a put with its part of the bytes, filled up with zeros, and no other.
+pub record AreContents (size : ℕ) (puts : List Put) (contents : List (ℕ × List ℕ)) : Type 0 where
+  pub there : (p : Put) → Contains puts p → (i : ℕ) → i < length p.sectors → Contains contents (get_or p.sectors i 0, part_at size p.bytes i)
+  pub only : (c : ℕ × List ℕ) → Contains contents c → (p : Put) × Contains puts p × (is_among p.sectors c.0 ≡ true)
+  pub long : (p : Put) → Contains puts p → length p.bytes ≤ length p.sectors * size
+
 -- So what the edit needs is written, and its directories have all their bytes.
 pub record PutsLaw : Type 0 where
+  -- It is so if these sectors have their bytes, and each other sector outside the map is as it was.
+  pub contents : (layout : Layout) (puts : List Put) (contents : List (ℕ × List ℕ)) (image image' : List ℕ) → length image' ≡ length image → AreContents (sector_bytes layout) puts contents
+      → ((c : ℕ × List ℕ) → Contains contents c → sector_at (sector_bytes layout) image' c.0 ≡ c.1)
+      → ((s : ℕ) → is_among (map_place layout) s ≡ false
+      → (sector_at (sector_bytes layout) image' s ≡ sector_at (sector_bytes layout) image s) ⊎ Contains contents (s, sector_at (sector_bytes layout) image' s))
+      → ArePutOut layout puts image image'
   -- It is so if each sector has its part of the bytes, filled up with zeros, and there are sectors enough.
   pub parts : (layout : Layout) (puts : List Put) (image image' : List ℕ) → length image' ≡ length image
       → ((p : Put) → Contains puts p → HasParts (sector_bytes layout) p.sectors p.bytes image' × (length p.bytes ≤ length p.sectors * sector_bytes layout))

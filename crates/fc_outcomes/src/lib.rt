@@ -2,8 +2,10 @@
 #![tactic(auto)]
 
 ghost use Rattle.fc_outcomes.specs.Addition.{AdditionLaw};
+ghost use Rattle.fc_outcomes.specs.Copying.{CopyingLaw};
 ghost use Rattle.fc_outcomes.specs.Deletion.{DeletionLaw};
 ghost use Rattle.fc_outcomes.specs.Done.{DoneLaw, KeptLaw};
+ghost use Rattle.fc_outcomes.specs.Moving.{MovingLaw};
 ghost use Rattle.fc_outcomes.specs.NewImage.{NewImageLaw};
 ghost use Rattle.fc_outcomes.specs.OldImage.{OldImageLaw};
 ghost use Rattle.fc_outcomes.specs.Puts.{PutsLaw, StepsLaw};
@@ -69,3 +71,15 @@ pub fn rewording()
 {
     reads_back();
 }
+
+/// `rename` does what it promises if no file is copied and no directory grows, on new maps and old ones.
+pub fn moving()
+    ensures { MovingLaw }
+{
+    reads_back();
+}
+
+/// `rename` that copies its file does what it promises if no directory grows, on new maps.
+pub fn copying()
+    ensures { CopyingLaw }
+{}

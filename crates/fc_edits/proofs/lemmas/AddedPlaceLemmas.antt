@@ -42,9 +42,10 @@ use Rattle.fc_oldlaws.proofs.lemmas.agree.BeforeLemmas.{sound}
 use Rattle.fc_laws.proofs.lemmas.agree.BeforeLemmas.{new_facts, object_lies}
 use Rattle.fc_laws.proofs.lemmas.agree.NewPlaceLemmas.{IsFreePlace, file_place, new_place}
 use Rattle.fc_oldlaws.proofs.lemmas.agree.DirectoryLemmas.{spaced_parts}
-use Rattle.fc_edits.specs.Addition.{Addition, NewAddition, OldAddition, edit, holes_with_it, leaves, over_it, takings_of}
-use Rattle.fc_edits.specs.Edit.{leaving, objects}
-use Rattle.fc_edits.specs.NewPlaces.{GivesBack, IsSpaceChange, LiesAgain, NewPlaces, Taking, is_taken}
+use Rattle.fc_edits.specs.Addition.{Addition, NewAddition, OldAddition, edit, holes_with_it, leaves, over_it}
+use Rattle.fc_edits.specs.Edit.{joining, leaving, objects}
+use Rattle.fc_edits.specs.Placing.{Placing, takings_of}
+use Rattle.fc_edits.specs.NewPlaces.{ApartInOne, GivesBack, IsSpaceChange, LiesAgain, NewPlaces, Taking, is_taken}
 use Rattle.fc_edits.specs.OldPlaces.{OldLiesAgain, OldPlaces, with_holes}
 use Rattle.fc_edits.proofs.lemmas.ShapeLemmas.{of_one, only}
 
@@ -100,21 +101,21 @@ none_given o objects k = by (is_owned objects k) refl
 
 -- ---- on a new map
 
-module _ (x : NewAddition) where
+module _ (x : Placing) where
   abbrev o : Object
-  o = x.c.o
+  o = x.o
 
   abbrev before : List Object
   before = objects_of x.listings
 
   abbrev size : ℕ
-  size = object_size (dir_form (Layout.New x.m')) x.c.o.entry
+  size = object_size (dir_form (Layout.New x.m')) x.o.entry
 
   change : IsMapChange x.m x.m' x.id x.parts x.gone before (o ∷ x.stay)
   change = record { is_map = x.is_map; geometry = x.geometry; space = x.space; gives = x.gives }
 
-  pub free_place : IsFreePlace x.kind x.m before x.id x.parts o
-  free_place =
+  pub place_free : IsFreePlace x.kind x.m before x.id x.parts o
+  place_free =
       ⊎_elim
       (λ file. file_place x.kind x.m x.m' x.nodes x.owners x.root x.listings x.agreed size x.id x.parts x.gone o x.stay change x.at refl x.near file)
       (λ directory. new_place x.kind x.m x.m' x.nodes x.owners x.root x.listings x.agreed size x.id x.parts x.gone o x.stay change x.at refl 0 (omega arith) directory) x.place
@@ -152,37 +153,77 @@ module _ (x : NewAddition) where
   movable k own used = by (nat_le 3 k) refl
     where
       owned : is_owned before k ≡ true
-      owned = free_place.come_new k own used
+      owned = place_free.come_new k own used
 
       by : (b : Bool) → nat_le 3 k ≡ b → is_movable before k ≡ true
       by true high = ap₂ (λ (y z : Bool). y && z) owned high
       by false low =
           absurd (not_two k own used (low_owned x.m before (λ p at. (object_lies x.kind x.m x.nodes x.owners x.root x.listings x.agreed p at).placed) k owned low))
 
-  gives : GivesBack x.m (takings_of x.id x.parts) x.gone x.listings (edit x.c)
+  gives : GivesBack x.m (takings_of x.id x.parts) x.gone x.listings x.edit
   gives = record {
     stay = x.stay;
-    others = subst (λ (os : List Object). IsPermutation before (os ++ x.stay)) (sym (objects_leave x.c)) x.others;
-    exactly = λ k used. x.gives.exactly k used ∙ sym (no_more (is_given_back before (o ∷ x.stay) k) (is_taken (takings_of x.id x.parts) k)
-        (unless (is_taken (takings_of x.id x.parts) k) (λ taken. clash (is_used x.m k) used (is_fresh x.m x.id x.parts free_place.fresh k taken))));
+    others = x.others;
+    exactly = λ k used. x.gives.exactly k used
+        ∙ sym (ap (λ (ps : List (ℕ × Object)). is_given_back before (objects ps ++ x.stay) k || is_taken (takings_of x.id x.parts) k) x.joins
+        ∙ no_more (is_given_back before (o ∷ x.stay) k) (is_taken (takings_of x.id x.parts) k)
+        (unless (is_taken (takings_of x.id x.parts) k) (λ taken. clash (is_used x.m k) used (is_fresh x.m x.id x.parts place_free.fresh k taken))));
   }
     where
       no_more : (y z : Bool) → z ≡ false → (y || z) ≡ y
       no_more true z h = refl
       no_more false z h = h
 
-  pub added_places : NewPlaces x.kind x.m x.m' x.nodes x.listings (edit x.c) (takings_of x.id x.parts) x.gone
-  added_places = record {
+  of_it : (P : ℕ × Object → Type 0) → P (x.number, o) → (p : ℕ × Object) → Contains (joining x.edit) p → P p
+  of_it P is p at = of_one P (x.number, o) is p (subst (λ (ps : List (ℕ × Object)). Contains ps p) x.joins at)
+
+  pub placed_so : NewPlaces x.kind x.m x.m' x.nodes x.listings x.edit (takings_of x.id x.parts) x.gone
+  placed_so = record {
     is_map = x.is_map;
     geometry = x.geometry;
-    space = space_change x.m x.m' x.id x.parts x.gone zones x.space free_place.fresh;
+    space = space_change x.m x.m' x.id x.parts x.gone zones x.space place_free.fresh;
     gives = gives;
-    again = λ k taken used. absurd (clash (is_used x.m k) used (is_fresh x.m x.id x.parts free_place.fresh k taken));
-    placed = of_one (λ (p : ℕ × Object). IsAt (Layout.New x.m') p.1) (x.c.number, o) x.at;
-    lies = of_one (λ (p : ℕ × Object). LiesAgain x.m x.nodes x.listings (edit x.c) p.1) (x.c.number, o)
-        (inr (movable, λ p s same. turned p.sectors o.sectors (free_place.apart p s.among)));
-    pairs = ((λ p none. absurd (no_element p none)), tt);
+    again = λ k taken used. absurd (clash (is_used x.m k) used (is_fresh x.m x.id x.parts place_free.fresh k taken));
+    placed = of_it (λ (p : ℕ × Object). IsAt (Layout.New x.m') p.1) x.at;
+    lies = of_it (λ (p : ℕ × Object). LiesAgain x.m x.nodes x.listings x.edit p.1)
+        (inr (movable, λ p s same. turned p.sectors o.sectors (place_free.apart p s.among)));
+    pairs = subst (λ (ps : List (ℕ × Object)). ApartInOne (objects ps)) (sym x.joins) ((λ p none. absurd (no_element p none)), tt);
   }
+
+-- an addition so places its object
+abbrev pub placing : NewAddition → Placing
+placing x = record {
+  kind = x.kind;
+  m = x.m;
+  m' = x.m';
+  nodes = x.nodes;
+  owners = x.owners;
+  root = x.root;
+  listings = x.listings;
+  edit = edit x.c;
+  number = x.c.number;
+  o = x.c.o;
+  id = x.id;
+  parts = x.parts;
+  gone = x.gone;
+  stay = x.stay;
+  near = x.near;
+  agreed = x.agreed;
+  joins = refl;
+  is_map = x.is_map;
+  geometry = x.geometry;
+  space = x.space;
+  others = subst (λ (os : List Object). IsPermutation (objects_of x.listings) (os ++ x.stay)) (sym (objects_leave x.c)) x.others;
+  gives = x.gives;
+  at = x.at;
+  place = x.place;
+}
+
+pub free_place : (x : NewAddition) → IsFreePlace x.kind x.m (objects_of x.listings) x.id x.parts x.c.o
+free_place x = place_free (placing x)
+
+pub added_places : (x : NewAddition) → NewPlaces x.kind x.m x.m' x.nodes x.listings (edit x.c) (takings_of x.id x.parts) x.gone
+added_places x = placed_so (placing x)
 
 -- ---- on an old map
 

@@ -25,7 +25,8 @@ use Rattle.fc_edits.specs.NewNodes.{AreDistinct, HasNumbers, nodes_after}
 use Rattle.fc_edits.specs.OldPlaces.{with_holes}
 use Rattle.fc_edits.specs.PartsEdit.{NewPartsEdit, OldPartsEdit}
 use Rattle.fc_edits.specs.Places.{CanSayAll}
-use Rattle.fc_edits.specs.Addition.{Addition, ComesAlone, GetsNode, IsAddition, ListsEmpty, NewAddition, OldAddition, amended, edit, holes_with_it, leaves, owners_before, takings_of}
+use Rattle.fc_edits.specs.Addition.{Addition, ComesAlone, GetsNode, IsAddition, ListsEmpty, NewAddition, OldAddition, amended, edit, holes_with_it, leaves, owners_before}
+use Rattle.fc_edits.specs.Placing.{takings_of}
 use Rattle.fc_edits.proofs.lemmas.AddedPlaceLemmas.{added_places, freed, old_added_places}
 use Rattle.fc_edits.proofs.lemmas.AfterLemmas.{after_law}
 use Rattle.fc_edits.proofs.lemmas.NewPlaceLemmas.{places_fit}

@@ -1,5 +1,5 @@
 -- Objects that lie apart, and what directories hold.
-use Rattle.std.proofs.Common.{◌≡◌, ◌⊎◌, ⊎_elim, ℕ, ◌+◌, true, List, [], ◌∷◌, ◌++◌, map, refl, sym, subst}
+use Rattle.std.proofs.Common.{◌≡◌, ⊎_elim, ℕ, true, List, [], ◌∷◌, ◌++◌, map, refl, sym, subst}
 use Rattle.std.specs.Prelude.{Contains}
 use Rattle.std.proofs.lemmas.List.Elements.{Contains-append_cases}
 use Rattle.fc_names.specs.Names.{Path}
@@ -10,7 +10,6 @@ use Rattle.fc_image.proofs.EditLemmas.{apart_law}
 use Rattle.fc_image.proofs.RelistLemmas.{edited_apart_law}
 use Rattle.fc_tree.proofs.MemberLemmas.{contains_here, contains_later}
 use Rattle.fc_edits.specs.Places.{ApartPairs}
-use Rattle.fc_edits.specs.Edit.{objects}
 
 -- ---- objects that lie apart
 

@@ -22,7 +22,7 @@ use Rattle.fc_tree.proofs.PlaceLemmas.{one_path}
 use Rattle.fc_laws.specs.nodes.Edits.{Nodes}
 use Rattle.fc_laws.specs.nodes.Laws.{IsHeld}
 use Rattle.fc_laws.proofs.lemmas.nodes.ShapeLemmas.{some_mapped}
-use Rattle.fc_laws.proofs.lemmas.nodes.FitsLemmas.{fits, holds, kid_at, kid_lower, one_number}
+use Rattle.fc_laws.proofs.lemmas.nodes.FitsLemmas.{fits, kid_at, kid_lower, one_number}
 use Rattle.fc_laws.proofs.lemmas.nodes.ListLemmas.{in_first, in_other, map_append}
 use Rattle.fc_laws.proofs.lemmas.nodes.OtherLemmas.{all_objects}
 use Rattle.fc_edits.specs.NodesEdit.{NodesEdit}

@@ -9,7 +9,6 @@ use Rattle.fc_dirs.specs.Directory.{entries_of}
 use Rattle.fc_image.specs.Layout.{Layout}
 use Rattle.fc_image.specs.Walk.{Object, Listing}
 use Rattle.fc_image.specs.Objects.{objects_of}
-use Rattle.fc_image.specs.Order.{held}
 use Rattle.fc_image.proofs.PathsLemmas.{has_that, is_at, itself, many, names_once}
 use Rattle.fc_tree.specs.Nodes.{number_of}
 use Rattle.fc_tree.proofs.MemberLemmas.{from_flat, from_map, in_map, many_mapped, many_permuted, one_passes}

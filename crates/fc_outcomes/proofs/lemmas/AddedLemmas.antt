@@ -37,7 +37,8 @@ use Rattle.fc_changes.proofs.SpaceLemmas.{untaken_is}
 use Rattle.fc_laws.specs.nodes.Laws.{IsHeld}
 use Rattle.fc_laws.proofs.lemmas.agree.BeforeLemmas.{new_shape}
 use Rattle.fc_laws.proofs.lemmas.agree.DirectoryAddedLemmas.{size_of_new}
-use Rattle.fc_edits.specs.Addition.{ComesAlone, NewAddition, edit, leaves, over_it, takings_of}
+use Rattle.fc_edits.specs.Addition.{ComesAlone, NewAddition, edit, leaves, over_it}
+use Rattle.fc_edits.specs.Placing.{takings_of}
 use Rattle.fc_edits.specs.Edit.{listings_after, objects}
 use Rattle.fc_edits.specs.NewPlaces.{is_taken, untaken}
 use Rattle.fc_edits.specs.PartsEdit.{NewPartsEdit}
@@ -47,7 +48,7 @@ use Rattle.fc_edits.proofs.lemmas.AgreeLemmas as ag
 use Rattle.fc_edits.proofs.lemmas.NewAgreeLemmas as na
 use Rattle.fc_outcomes.specs.Addition.{HasEntry, IsItsDirectory, IsItsFile, NewAdded, NewAdditionWritten}
 use Rattle.fc_outcomes.specs.NewImage as new
-use Rattle.fc_outcomes.specs.NewImage.{NewImageEdit}
+use Rattle.fc_outcomes.specs.NewImage.{IsBelowRoot, NewImageEdit}
 use Rattle.fc_outcomes.specs.Puts.{Put}
 use Rattle.fc_outcomes.proofs.lemmas.JoinedLemmas as joined
 use Rattle.fc_outcomes.proofs.lemmas.JoinedLemmas.{Makes, makes_directory, makes_file}
@@ -55,11 +56,11 @@ use Rattle.fc_outcomes.proofs.lemmas.NewImageLemmas as new_image
 use Rattle.fc_outcomes.proofs.lemmas.PutLemmas.{directory_bytes}
 
 -- what is left when something is taken for one identifier
-untaken_one : (holes : List ZoneRun) (id : ℕ) (parts : List ZoneRun) → untaken holes (takings_of id parts) ≡ holes_left holes parts
+pub untaken_one : (holes : List ZoneRun) (id : ℕ) (parts : List ZoneRun) → untaken holes (takings_of id parts) ≡ holes_left holes parts
 untaken_one holes id [] = sym (left_of_none holes)
 untaken_one holes id (p ∷ parts) = refl
 
-taken_is : (id : ℕ) (parts : List ZoneRun) (k : ℕ) → is_taken (takings_of id parts) k ≡ true → k ≡ id
+pub taken_is : (id : ℕ) (parts : List ZoneRun) (k : ℕ) → is_taken (takings_of id parts) k ≡ true → k ≡ id
 taken_is id [] k h = absurd (cc)
 taken_is id (p ∷ parts) k h = by (id == k) refl h
   where
@@ -129,7 +130,7 @@ module _ (x : NewAddition) (c : Command) (path : Path) (bytes stored image image
         let among = joined.now_found x.nodes x.nodes' (Layout.New x.m) (Layout.New x.m') x.listings x.c h x.addition x.nodes_edited c path bytes stored image image' w.joins form x.kind found sound' order names w.no_growth in
         let now = new.is_now on_new found in
         record {
-          no_growth = w.no_growth;
+          root_keeps = subst IsBelowRoot (sym w.no_growth) tt;
           map = record {
             left = λ k used.
                 (let none : is_taken (takings_of x.id x.parts) k ≡ false = unless (is_taken (takings_of x.id x.parts) k)

@@ -174,7 +174,7 @@ module _ (x : NewDeletion) (path : Path) (bytes image image' : List ℕ) (w : Ne
 
   new_asked : new.IsAskedOf on_new (Command.Delete path)
   new_asked found sound' order = record {
-    no_growth = refl;
+    root_keeps = tt;
     map = record {
       left = λ k used. refl;
       fresh = λ k taken. absurd (cc);

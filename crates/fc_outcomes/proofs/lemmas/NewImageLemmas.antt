@@ -58,7 +58,7 @@ module _ (x : NewImageEdit) where
             entry = q.entry;
             made = q.made;
             space = map_steady x c d.found d.order sound q.map;
-            outside = outside x c d.found q.no_growth;
+            outside = outside x c d.found q.root_keeps;
             behind = behind x;
           };
         },
@@ -83,7 +83,7 @@ module _ (x : NewImageEdit) where
 pub new_image_law : NewImageLaw
 new_image_law = record {
   space = λ x c found order sound asked. map_steady x c found order sound asked;
-  outside = λ x c found none. outside x c found none;
+  outside = λ x c found below. outside x c found below;
   behind = λ x. behind x;
   changes = λ x c changing keeps asked tree. changes_by x c changing keeps asked tree;
   moves = λ x c from to moves asked tree. moves_by x c from to moves asked tree;

@@ -1,6 +1,7 @@
 -- What an edit on a new map leaves outside its objects and the map's runs.
 use Rattle.std.proofs.Common.{◌≡◌, ◌≤◌, inl, inr, ⊎_elim, ℕ, Bool, true, false, List, drop, refl, sym, ap, subst, ◌∙◌, arith, eq-eqb, cond}
-use Rattle.std.specs.Prelude.{Contains, nat_le, None, ◌==◌, ◌&&◌}
+use Rattle.std.specs.Prelude.{Contains, nat_le, Option, Some, None, length, [], ◌==◌, ◌&&◌}
+use Rattle.std.specs.Option.{option_map_or}
 use Rattle.std.proofs.lemmas.Bool.{leb-true, eqb-true}
 use Rattle.fc_image.specs.Edits.{IsAt}
 use Rattle.fc_record.specs.declared.Kind.{Kind}
@@ -12,13 +13,14 @@ use Rattle.fc_newmap.specs.RunsLaw.{HoldsSector}
 use Rattle.fc_model.specs.Command.{Command}
 use Rattle.fc_image.specs.Layout.{Layout, is_among, is_apart}
 use Rattle.fc_image.specs.Walk.{Listing, Object}
-use Rattle.fc_image.specs.Objects.{is_owned, objects_of}
-use Rattle.fc_image.specs.Opening.{is_hole_or_movable, reserved_in, boot_place}
-use Rattle.fc_image.specs.effects.Short.{growth_in}
+use Rattle.fc_image.specs.Objects.{is_owned, object_at, objects_of}
+use Rattle.fc_image.specs.Opening.{Opened, is_hole_or_movable, reserved_in, boot_place}
+use Rattle.fc_image.specs.effects.Short.{Growth, growth_in}
 use Rattle.fc_image.specs.effects.Steady.{MapOutside, expected_zone, idle_sectors, is_idle, zone0_after, ZoneSteady}
-use Rattle.fc_newmap.specs.Map.{sector_of}
+use Rattle.fc_newmap.specs.Map.{sector_of, with_root}
 use Rattle.fc_changes.specs.Owed.{IsWritten}
 use Rattle.fc_changes.proofs.AfterLemmas.{behind_stays}
+use Rattle.fc_changes.proofs.BasicLemmas.{unless}
 use Rattle.fc_changes.proofs.BeforeLemmas.{boot_stays, parts}
 use Rattle.fc_changes.proofs.OutsideLemmas.{AreBusy, idle_stay, object_busy, owned_busy}
 use Rattle.fc_laws.proofs.lemmas.agree.BeforeLemmas.{object_lies, some_zones}
@@ -32,7 +34,7 @@ use Rattle.fc_edits.proofs.lemmas.NewAgreeLemmas as na
 use Rattle.fc_edits.proofs.lemmas.NewPlaceLemmas as np_
 use Rattle.fc_outcomes.specs.Puts.{put_sectors}
 use Rattle.fc_outcomes.specs.Written.{WritesForEdit}
-use Rattle.fc_outcomes.specs.NewImage.{NewImageEdit, is_now, was}
+use Rattle.fc_outcomes.specs.NewImage.{IsBelowRoot, NewImageEdit, is_now, was}
 use Rattle.fc_outcomes.proofs.lemmas.KeptLemmas.{whose_now, written_free}
 use Rattle.fc_outcomes.proofs.lemmas.PutLemmas.{written_for}
 
@@ -51,6 +53,13 @@ loose_busy objects (kinds.Id k) h =
     second : (a b : Bool) → (a && b) ≡ true → b ≡ true
     second true b e = e
     second false b e = absurd (cc)
+
+-- Only a root that grows changes the record.
+zone0_same : (w : Opened) (growth : Option Growth) (sector : List ℕ) → IsBelowRoot growth → zone0_after w growth sector ≡ sector
+zone0_same w None sector below = refl
+zone0_same w (Some growth) sector below =
+    ap (λ (b : Bool). cond b (option_map_or (λ (o : Object). with_root sector o.entry.address o.entry.len) (object_at w.listings []) sector) sector)
+    (unless (length growth.0.path == 0) (λ none. let zero : length growth.0.path ≡ 0 = eqb-true (length growth.0.path) 0 none in absurd (omega (arith, zero, below))))
 
 module _ (x : NewImageEdit) where
   abbrev kind : Kind
@@ -106,22 +115,22 @@ module _ (x : NewImageEdit) where
   pub free : is_apart sectors (reserved_in kind (Layout.New m)) ≡ true
   free = written_free mem x.image x.image' sectors ww (na.reserved_same x.parts)
 
-  zone_same : (c : Command) (found : List Listing) (z : ℕ) → growth_in (was x) c ≡ None → expected_zone (was x) (is_now x found) c m z ≡ sector_of m z
-  zone_same c found z none = by (z == 0) refl
+  zone_same : (c : Command) (found : List Listing) (z : ℕ) → IsBelowRoot (growth_in (was x) c) → expected_zone (was x) (is_now x found) c m z ≡ sector_of m z
+  zone_same c found z below = by (z == 0) refl
     where
       stays : zone0_after (is_now x found) (growth_in (was x) c) (sector_of m 0) ≡ sector_of m 0
-      stays = ap (λ (g : _). zone0_after (is_now x found) g (sector_of m 0)) none
+      stays = zone0_same (is_now x found) (growth_in (was x) c) (sector_of m 0) below
 
       by : (b : Bool) → (z == 0) ≡ b → cond b (zone0_after (is_now x found) (growth_in (was x) c) (sector_of m 0)) (sector_of m z) ≡ sector_of m z
       by true e = stays ∙ ap (λ (k : ℕ). sector_of m k) (sym (eqb-true z 0 e))
       by false e = refl
 
-  pub outside : (c : Command) (found : List Listing) → growth_in (was x) c ≡ None → MapOutside x.image x.image' kind (expected_zone (was x) (is_now x found) c m) (idle_sectors (was x) m) m m'
-  outside c found none =
+  pub outside : (c : Command) (found : List Listing) → IsBelowRoot (growth_in (was x) c) → MapOutside x.image x.image' kind (expected_zone (was x) (is_now x found) c m) (idle_sectors (was x) m) m m'
+  outside c found below =
       let o = parts kind x.r x.image m listings x.new_kind x.opens in
       record {
         geometry = x.after.geometry;
-        zones = λ z low. subst (λ (sector : List ℕ). ZoneSteady m.geometry z sector (sector_of m' z)) (sym (zone_same c found z none)) (x.after.zones z low);
+        zones = λ z low. subst (λ (sector : List ℕ). ZoneSteady m.geometry z sector (sector_of m' z)) (sym (zone_same c found z below)) (x.after.zones z low);
         links = x.after.links;
         boot = same_sectors m.geometry.sector x.image x.image' (boot_place kind m.geometry.sector)
             (boot_stays kind x.r x.image m listings x.new_kind x.opens sectors x.image' free ww.writes);

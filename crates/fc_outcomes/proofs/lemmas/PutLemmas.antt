@@ -1,6 +1,6 @@
 -- What a writer leaves is what an edit needs.
-use Rattle.std.proofs.Common.{◌≡◌, ◌≤◌, ◌*◌, inl, inr, ⊎_elim, ℕ, true, false, length, List, [], ◌∷◌, sym, ap, subst, ◌∙◌}
-use Rattle.std.specs.Prelude.{Contains, Err, None, Ok}
+use Rattle.std.proofs.Common.{◌≡◌, ◌≤◌, ◌⊎◌, ◌*◌, inl, inr, ⊎_elim, ℕ, true, false, length, List, [], ◌∷◌, sym, ap, subst, ◌∙◌}
+use Rattle.std.specs.Prelude.{Contains, Err, None, Ok, get_or}
 use Rattle.fc_names.specs.declared.name.NameForm.{NameForm}
 use Rattle.fc_names.specs.declared.name.NameForm.TheVariants.{Long, Seven, Ten}
 use Rattle.fc_newmap.proofs.PlaceLemmas.{in_back, in_either, in_front}
@@ -14,7 +14,7 @@ use Rattle.fc_image.specs.Walk.{Object, object_bytes, reader_of}
 use Rattle.fc_image.specs.effects.Steady.{AreWritten}
 use Rattle.fc_device.specs.Sectors.{sector_at}
 use Rattle.fc_objects.specs.Bytes.{first_bytes}
-use Rattle.fc_objects.specs.Written.{HasParts}
+use Rattle.fc_objects.specs.Written.{HasParts, part_at}
 use Rattle.fc_objects.proofs.WriteLemmas.{reads_back}
 use Rattle.fc_tree.specs.Agree.{HasForm}
 use Rattle.fc_tree.proofs.MemberLemmas.{contains_cases, contains_here, contains_later, no_element}
@@ -23,7 +23,7 @@ use Rattle.fc_changes.proofs.ReadsLemmas.{told}
 use Rattle.fc_laws.specs.agree.Agreed.{CanSay}
 use Rattle.fc_edits.specs.PartsEdit.{PartsEdit}
 use Rattle.fc_outcomes.specs.Written.{IsEditWritten, WritesForEdit}
-use Rattle.fc_outcomes.specs.Puts.{ArePutOut, ArePutsOf, IsDirectoryPut, Put, PutsLaw, put_sectors}
+use Rattle.fc_outcomes.specs.Puts.{AreContents, ArePutOut, ArePutsOf, IsDirectoryPut, Put, PutsLaw, put_sectors}
 use Rattle.fc_outcomes.proofs.lemmas.KeptLemmas.{stays_same}
 
 -- ---- what bytes say
@@ -101,8 +101,20 @@ parts_out layout puts image image' same parts others = record {
   others = others;
 }
 
+contents_out : (layout : Layout) (puts : List Put) (contents : List (ℕ × List ℕ)) (image image' : List ℕ) → length image' ≡ length image → AreContents (sector_bytes layout) puts contents
+    → ((c : ℕ × List ℕ) → Contains contents c → sector_at (sector_bytes layout) image' c.0 ≡ c.1)
+    → ((s : ℕ) → is_among (map_place layout) s ≡ false → (sector_at (sector_bytes layout) image' s ≡ sector_at (sector_bytes layout) image s) ⊎ Contains contents (s, sector_at (sector_bytes layout) image' s))
+    → ArePutOut layout puts image image'
+contents_out layout puts contents image image' same are written others =
+    parts_out layout puts image image' same
+    (λ p at. ((λ i low. written (get_or p.sectors i 0, part_at (sector_bytes layout) p.bytes i) (are.there p at i low)), are.long p at))
+    (λ s map none.
+    ⊎_elim (λ stays. stays)
+    (λ at. let p = are.only (s, sector_at (sector_bytes layout) image' s) at in absurd (clash (is_among p.0.sectors s) p.2 (none p.0 p.1))) (others s map))
+
 pub puts_law : PutsLaw
 puts_law = record {
+  contents = contents_out;
   parts = parts_out;
   written = λ x puts image image' same out of. edit_written x puts image image' out of same;
   only = λ x puts image image' out of. written_for x puts image image' out of;

@@ -46,7 +46,7 @@ use Rattle.fc_edits.proofs.lemmas.OwnedLemmas.{joins_found}
 use Rattle.fc_edits.proofs.lemmas.ShapeLemmas.{not_own, of_one, only}
 use Rattle.fc_edits.proofs.lemmas.StillLemmas.{still_new, still_old}
 use Rattle.fc_edits.proofs.lemmas.RewordingLemmas as memory
-use Rattle.fc_outcomes.specs.Rewording.{HasReworded, NewRewordingWritten, OldRewordingWritten, RewordingLaw, Words}
+use Rattle.fc_outcomes.specs.Rewording.{HasReworded, NewRewordingWritten, OldRewordingWritten, Words}
 use Rattle.fc_outcomes.specs.NewImage as new
 use Rattle.fc_outcomes.specs.NewImage.{NewImageEdit, Outcome}
 use Rattle.fc_outcomes.specs.OldImage as old
@@ -83,7 +83,7 @@ module _ (nodes nodes' : Nodes) (layout layout' : Layout) (listings : List Listi
   its = record { sectors = c.l.object.sectors; bytes = bytes }
 
   word : IsWordCommand command path
-  word = word_command command path c.o.path c.turn rw'.words
+  word = word_command command path c.o.path c.turn rw'.its.words
 
   l_in : Contains listings c.l
   l_in = memory.l_in nodes layout listings c h d
@@ -125,10 +125,10 @@ module _ (nodes nodes' : Nodes) (layout layout' : Layout) (listings : List Listi
 
   lies_there : LiesIn path c.l.object.path c.o.entry.name
   lies_there =
-      lies_in path c.l.object.path c.o.entry.name (ap (is_same_path path) (sym (child_path layout listings h.sound c.l c.o l_in (memory.kid_in nodes layout listings c h d))) ∙ rw'.path_is)
+      lies_in path c.l.object.path c.o.entry.name (ap (is_same_path path) (sym (child_path layout listings h.sound c.l c.o l_in (memory.kid_in nodes layout listings c h d))) ∙ rw'.its.path_is)
 
   pub was_there : object_at listings path ≡ Some c.o
-  was_there = lookup_law.object layout listings path c.o h.sound (memory.o_in nodes layout listings c h d) rw'.path_is
+  was_there = lookup_law.object layout listings path c.o h.sound (memory.o_in nodes layout listings c h d) rw'.its.path_is
 
   module _ (kind : Kind) (found : List Listing) (sound' : AreSound layout' found) (order : IsPermutation (listings_after (edit c)) found) (out : AreWritten (object_bytes image' layout' (c.turn c.l.object)) c.content)
       (joins : Contains (objects_of found) (c.turn c.o)) where
@@ -139,7 +139,7 @@ module _ (nodes nodes' : Nodes) (layout layout' : Layout) (listings : List Listi
     w = record { kind = kind; layout = layout'; listings = found }
 
     pub is_there : object_at found path ≡ Some (c.turn c.o)
-    is_there = lookup_law.object layout' found path (c.turn c.o) sound' joins (ap (is_same_path path) (d.rewording.same_path c.o) ∙ rw'.path_is)
+    is_there = lookup_law.object layout' found path (c.turn c.o) sound' joins (ap (is_same_path path) (d.rewording.same_path c.o) ∙ rw'.its.path_is)
 
     pub asked : AreAsked image image' v w command (edit c)
     asked =
@@ -171,10 +171,10 @@ module _ (nodes nodes' : Nodes) (layout layout' : Layout) (listings : List Listi
   -- the tree of the model
   pub tree_now : (found : List Listing) → IsObjectEdit image image' layout layout' listings found (c.o ∷ []) (c.turn c.o ∷ [])
       → tree_of image' layout' found ≡ changed (tree_of image layout listings) command
-  tree_now found edited = by rw'.words
+  tree_now found edited = by rw'.its.words
     where
       at_path : is_same_path path (c.turn c.o).path ≡ true
-      at_path = ap (is_same_path path) (d.rewording.same_path c.o) ∙ rw'.path_is
+      at_path = ap (is_same_path path) (d.rewording.same_path c.o) ∙ rw'.its.path_is
 
       by : Words command path c.o.path c.turn → tree_of image' layout' found ≡ changed (tree_of image layout listings) command
       by (inl s) =
@@ -183,7 +183,7 @@ module _ (nodes nodes' : Nodes) (layout layout' : Layout) (listings : List Listi
           subst (λ (x : Command). tree_of image' layout' found ≡ changed (tree_of image layout listings) x) (sym s.3)
           (command_law.set image image' layout layout' listings found path s.0 s.1 s.2 c.o (c.turn c.o) edited
           (record {
-            was_at = rw'.path_is;
+            was_at = rw'.its.path_is;
             at_path = at_path;
             name = d.rewording.name c.o;
             attrs_now = ap (λ (x : Object). x.entry.attrs) now;
@@ -199,7 +199,7 @@ module _ (nodes nodes' : Nodes) (layout layout' : Layout) (listings : List Listi
           subst (λ (x : Command). tree_of image' layout' found ≡ changed (tree_of image layout listings) x) (sym s.1)
           (command_law.mark image image' layout layout' listings found path s.0 c.o (c.turn c.o) edited
           (record {
-            was_at = rw'.path_is;
+            was_at = rw'.its.path_is;
             at_path = at_path;
             name = d.rewording.name c.o;
             attrs_now = ap (λ (x : Object). x.entry.attrs) now;
@@ -234,10 +234,10 @@ module _ (x : NewRewording) (command : Command) (path : Path) (bytes image image
   abbrev y : Layout
   y = Layout.New x.m
 
-  h_new : IsHeld x.nodes y x.listings
+  pub h_new : IsHeld x.nodes y x.listings
   h_new = ag.h mem
 
-  new_unwritten : (o : Object) → Contains (objects_of x.listings) o → (x.c.l.object ≡ o → ⊥) → HasSectorsOf (sector_bytes y) o.sectors image image'
+  pub new_unwritten : (o : Object) → Contains (objects_of x.listings) o → (x.c.l.object ≡ o → ⊥) → HasSectorsOf (sector_bytes y) o.sectors image image'
   new_unwritten o at other =
       let put : Put = record { sectors = x.c.l.object.sectors; bytes = bytes } in
       unwritten mem (put ∷ []) image image' w.out o at
@@ -269,15 +269,15 @@ module _ (x : NewRewording) (command : Command) (path : Path) (bytes image image
       let dirs = asked x.nodes x.nodes' y y x.listings x.c h_new x.reworded x.nodes_edited command path bytes image image' w.reworded refl refl new_unwritten x.kind found sound' order out joins in
       let address = same_address x.nodes x.nodes' y y x.listings x.c h_new x.reworded x.nodes_edited command path bytes image image' w.reworded refl refl new_unwritten x.kind found sound' order out joins in
       let entry' = steady_entry x.nodes x.nodes' y y x.listings x.c h_new x.reworded x.nodes_edited command path bytes image image' w.reworded refl refl new_unwritten x.kind found sound' order out joins
-      (last_same command path x.c.o.path x.c.turn x.c.o w.reworded.words) in
-      by command dirs address entry' w.reworded.words
+      (last_same command path x.c.o.path x.c.turn x.c.o w.reworded.its.words) in
+      by command dirs address entry' w.reworded.its.words
     where
       by : (k : Command) → AreAsked image image' (new.was on_new) (new.is_now on_new found) k (edit x.c) → HasSameAddress (object_at x.listings path) (object_at found path)
           → IfSome (object_at found path) (EntrySteady (dir_form y) false (object_at x.listings path)) → Words k path x.c.o.path x.c.turn → new.IsAsked on_new k found
       by k dirs address entry' (inl s) =
           subst (λ (q : Command). AreAsked image image' (new.was on_new) (new.is_now on_new found) q (edit x.c) → new.IsAsked on_new q found) (sym s.3)
           (λ set. record {
-            no_growth = refl;
+            root_keeps = tt;
             map = record {
               left = λ j used. refl;
               fresh = λ j taken. absurd (cc);
@@ -292,7 +292,7 @@ module _ (x : NewRewording) (command : Command) (path : Path) (bytes image image
       by k dirs address entry' (inr s) =
           subst (λ (q : Command). AreAsked image image' (new.was on_new) (new.is_now on_new found) q (edit x.c) → new.IsAsked on_new q found) (sym s.1)
           (λ mark. record {
-            no_growth = refl;
+            root_keeps = tt;
             map = record {
               left = λ j used. refl;
               fresh = λ j taken. absurd (cc);
@@ -305,7 +305,7 @@ module _ (x : NewRewording) (command : Command) (path : Path) (bytes image image
             made = tt;
           }) dirs
 
-  new_reworded : Outcome x.kind image image' (new.was on_new) command (parts_with x.m x.nodes' x.owners)
+  pub new_reworded : Outcome x.kind image image' (new.was on_new) command (parts_with x.m x.nodes' x.owners)
   new_reworded =
       new_image.changes_by on_new command (x.c.o ∷ [])
       (keeps x.nodes x.nodes' y y x.listings x.c h_new x.reworded x.nodes_edited command path bytes image image' w.reworded refl refl new_unwritten) new_asked
@@ -317,10 +317,10 @@ module _ (back : ReadsBack) (x : OldRewording) (command : Command) (path : Path)
   abbrev old_y : Layout
   old_y = Layout.Old x.space
 
-  h_old : IsHeld x.nodes old_y x.listings
+  pub h_old : IsHeld x.nodes old_y x.listings
   h_old = memory.old_held x
 
-  old_unwritten : (o : Object) → Contains (objects_of x.listings) o → (x.c.l.object ≡ o → ⊥) → HasSectorsOf (sector_bytes old_y) o.sectors image image'
+  pub old_unwritten : (o : Object) → Contains (objects_of x.listings) o → (x.c.l.object ≡ o → ⊥) → HasSectorsOf (sector_bytes old_y) o.sectors image image'
   old_unwritten o at other =
       let put : Put = record { sectors = x.c.l.object.sectors; bytes = bytes } in
       unwritten (old_parts (memory.old_parts_of x)) (put ∷ []) image image' w.out o at
@@ -350,8 +350,8 @@ module _ (back : ReadsBack) (x : OldRewording) (command : Command) (path : Path)
       let dirs = asked x.nodes x.nodes' old_y old_y x.listings x.c h_old x.reworded x.nodes_edited command path bytes image image' w.reworded refl refl old_unwritten x.kind found sound' order out joins in
       let address = same_address x.nodes x.nodes' old_y old_y x.listings x.c h_old x.reworded x.nodes_edited command path bytes image image' w.reworded refl refl old_unwritten x.kind found sound' order out joins in
       let entry' = steady_entry x.nodes x.nodes' old_y old_y x.listings x.c h_old x.reworded x.nodes_edited command path bytes image image' w.reworded refl refl old_unwritten x.kind found sound' order out joins
-      (last_same command path x.c.o.path x.c.turn x.c.o w.reworded.words) in
-      by command dirs address entry' w.reworded.words
+      (last_same command path x.c.o.path x.c.turn x.c.o w.reworded.its.words) in
+      by command dirs address entry' w.reworded.its.words
     where
       by : (k : Command) → AreAsked image image' (old.was on_old) (old.is_now on_old found) k (edit x.c) → HasSameAddress (object_at x.listings path) (object_at found path)
           → IfSome (object_at found path) (EntrySteady (dir_form old_y) false (object_at x.listings path)) → Words k path x.c.o.path x.c.turn → old.IsAsked on_old k found
@@ -376,14 +376,8 @@ module _ (back : ReadsBack) (x : OldRewording) (command : Command) (path : Path)
             made = tt;
           }) dirs
 
-  old_reworded : Outcome x.kind image image' (old.was on_old) command (old_parts_with x.space x.nodes' x.owners)
+  pub old_reworded : Outcome x.kind image image' (old.was on_old) command (old_parts_with x.space x.nodes' x.owners)
   old_reworded =
       old_image.changes_by back on_old command (x.c.o ∷ [])
       (keeps x.nodes x.nodes' old_y old_y x.listings x.c h_old x.reworded x.nodes_edited command path bytes image image' w.reworded refl refl old_unwritten) old_asked
       (λ found edited. tree_now x.nodes x.nodes' old_y old_y x.listings x.c h_old x.reworded x.nodes_edited command path bytes image image' w.reworded refl refl old_unwritten found edited)
-
-pub rewording_law : ReadsBack → RewordingLaw
-rewording_law back = record {
-  new = λ x command path bytes image image' w. new_reworded x command path bytes image image' w;
-  old = λ x command path bytes image image' w. old_reworded back x command path bytes image image' w;
-}

@@ -28,7 +28,7 @@ use Rattle.fc_changes.proofs.BeforeLemmas.{address_by}
 use Rattle.fc_changes.proofs.DirectoriesLemmas.{IsPlain, entries_now, no_new_holder}
 use Rattle.fc_laws.specs.nodes.Laws.{IsHeld}
 use Rattle.fc_laws.proofs.lemmas.nodes.ListLemmas.{in_other}
-use Rattle.fc_edits.specs.Edit.{Amended, Edit, IsEdit, listings_after, now, still}
+use Rattle.fc_edits.specs.Edit.{Amended, Edit, IsEdit, leaving, listings_after, now, numbers, still}
 use Rattle.fc_edits.proofs.lemmas.ListLemmas.{in_flat}
 use Rattle.fc_edits.proofs.lemmas.NumberLemmas as n_
 use Rattle.fc_edits.proofs.lemmas.AgreeLemmas as ag
@@ -110,6 +110,41 @@ module _ (ne : NodesEdit) (layout' : Layout) (found : List Listing)
       (λ amended. let a = from_map (λ (b : Amended). b.was) e.amended d amended in (now e a.0, now_in e found order a.0 a.1, ap (λ (x : Listing). e.turn x.object) a.2))
       (λ same. (still e d, still_in e found order d same, refl)) (Contains-append_cases (map (λ (a : Amended). a.was) e.amended) e.same d at)
 
+  out_or_stay : (k d : Listing) → Contains listings d → Contains d.children k.object → Contains (n_.stay ne) d
+  out_or_stay k d there kid =
+      ⊎_elim (λ goes. absurd (no_element k.object (subst (λ (os : List Object). Contains os k.object) is.out_empty (in_flat (λ (x : Listing). x.children) e.out d k.object goes kid))))
+      (λ stays. stays) (Contains-append_cases e.out (n_.stay ne) d (in_other listings (e.out ++ n_.stay ne) is.found d there))
+
+  -- The address of the directory that holds one stays if those of directories do, and if that keeps its directory, wherever this is.
+  pub holder_still : ((d : Listing) → Contains listings d → (e.turn d.object).entry.address ≡ d.object.entry.address) → (k : Listing) (n : ℕ) → Contains (n_.stay ne) k
+      → number_of ne.nodes k.object.path ≡ Some n → (Contains (numbers (leaving e)) n → ⊥) → holder_address found (e.turn k.object).path ≡ holder_address listings k.object.path
+  holder_still addresses k n at number_is stays = ⊎_elim top below (root_or_child layout listings h.sound k.object k_in)
+    where
+      listed' : Contains listings k
+      listed' = n_.stay_in ne k at
+
+      k_in : Contains (objects_of listings) k.object
+      k_in = (listed_directory layout listings h.sound k listed').0
+
+      by : (d : Listing) → Contains listings d → Contains (n_.stay ne) d → is_same_path (holder k.object.path) d.object.path ≡ true
+          → is_same_path (holder (e.turn k.object).path) (e.turn d.object).path ≡ true → holder_address found (e.turn k.object).path ≡ holder_address listings k.object.path
+      by d there in_stay same same' =
+          let found_d = stay_found d in_stay in
+          address_by layout' found (e.turn k.object).path found_d.0 sound found_d.1 (ap (λ (o : Object). is_same_path (holder (e.turn k.object).path) o.path) found_d.2 ∙ same')
+          ∙ ap (λ (o : Object). o.entry.address) found_d.2 ∙ addresses d there ∙ sym (address_by layout listings k.object.path d h.sound there same)
+
+      top : root layout listings h.sound ≡ k.object → holder_address found (e.turn k.object).path ≡ holder_address listings k.object.path
+      top is_top =
+          let none : k.object.path ≡ [] = ap (λ (o : Object). o.path) (sym is_top) ∙ root_path layout listings h.sound in
+          by k listed' at (ap (λ (p : Path). is_same_path (holder p) p) none) (ap (λ (p : Path). is_same_path (holder p) p) (is.top_path k.object k_in none))
+
+      below : (l : Listing) × Contains listings l × Contains l.children k.object → holder_address found (e.turn k.object).path ≡ holder_address listings k.object.path
+      below l =
+          by l.0 l.1 (out_or_stay k l.0 l.1 l.2)
+          (ap (λ (p : Path). is_same_path p l.0.object.path) (ap holder (child_path layout listings h.sound l.0 k.object l.1 l.2) ∙ holder_pushed l.0.object.path k.object.entry.name) ∙ itself l.0.object.path)
+          (ap (λ (p : Path). is_same_path p (e.turn l.0.object).path) (ap holder (is.paths l.0 k.object n l.1 l.2 number_is stays) ∙ holder_pushed (e.turn l.0.object).path k.object.entry.name)
+          ∙ itself (e.turn l.0.object).path)
+
   -- The address of the directory that holds one stays, if that stays in its place.
   pub holder_same : ((o : Object) → Contains (objects_of listings) o → ((e.turn o).path ≡ o.path) × ((e.turn o).entry.address ≡ o.entry.address)) → (k : Listing)
       → Contains (n_.stay ne) k → holder_address found k.object.path ≡ holder_address listings k.object.path
@@ -134,12 +169,7 @@ module _ (ne : NodesEdit) (layout' : Layout) (found : List Listing)
       below : (l : Listing) × Contains listings l × Contains l.children k.object → holder_address found k.object.path ≡ holder_address listings k.object.path
       below l =
           let path = child_path layout listings h.sound l.0 k.object l.1 l.2 in
-          by l.0 l.1 (out_or_stay l.0 l.1 l.2) (ap (λ (p : Path). is_same_path p l.0.object.path) (ap holder path ∙ holder_pushed l.0.object.path k.object.entry.name) ∙ itself l.0.object.path)
-        where
-          out_or_stay : (d : Listing) → Contains listings d → Contains d.children k.object → Contains (n_.stay ne) d
-          out_or_stay d there kid =
-              ⊎_elim (λ goes. absurd (no_element k.object (subst (λ (os : List Object). Contains os k.object) is.out_empty (in_flat (λ (x : Listing). x.children) e.out d k.object goes kid))))
-              (λ stays. stays) (Contains-append_cases e.out (n_.stay ne) d (in_other listings (e.out ++ n_.stay ne) is.found d there))
+          by l.0 l.1 (out_or_stay k l.0 l.1 l.2) (ap (λ (p : Path). is_same_path p l.0.object.path) (ap holder path ∙ holder_pushed l.0.object.path k.object.entry.name) ∙ itself l.0.object.path)
 
 -- ---- which directory a path names
 

@@ -14,8 +14,6 @@ use Rattle.fc_image.specs.effects.Short.{growth_in}
 use Rattle.fc_image.specs.effects.Steady.{IsDirLength, edited, holds_named, named_entry, with_made}
 use Rattle.fc_changes.proofs.DirectoriesLemmas.{IsPlain, plain_mark, plain_set}
 use Rattle.fc_outcomes.specs.Rewording.{Words}
-use Rattle.fc_outcomes.specs.NewImage as new
-use Rattle.fc_outcomes.specs.OldImage as old
 
 -- what is known of such a command, of either
 pub record IsWordCommand (command : Command) (path : Path) : Type 0 where

@@ -1,4 +1,4 @@
-use Rattle.fc_outcomes.proofs.lemmas.RewordedLemmas.{rewording_law}
+use Rattle.fc_outcomes.proofs.lemmas.RewordingLemmas.{rewording_law}
 use Rattle.fc_outcomes.proofs.rewording.Goals as goal
 
 pub returns : goal.returns
