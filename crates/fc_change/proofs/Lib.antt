@@ -1,0 +1,12 @@
+mod TakingLemmas
+mod TurningLemmas
+mod DraftLemmas
+mod PieceLemmas
+mod PlanLemmas
+mod OldCopyLemmas
+mod OldTakingLemmas
+mod OldGivingLemmas
+mod PlaceLemmas
+mod RefusalLemmas
+mod NeedsLemmas
+mod ToldLemmas

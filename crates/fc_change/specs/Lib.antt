@@ -1,0 +1,13 @@
+pub mod Held
+pub mod Jobs
+pub mod Needs
+pub mod Directories
+pub mod Drafts
+pub mod Owned
+pub mod After
+pub mod Refused
+pub mod OldSpace
+pub mod Shortage
+pub mod Places
+pub mod Steps
+pub mod Prepared

@@ -1,0 +1,30 @@
+//! A change of a volume's objects as one value, whichever command makes it: what the command is about (`Job`), what it needs of the disc
+//! (`Wants`), where its space is (`Spaces`), what each directory says afterwards (`Change`), how it is made ready to be written
+//! (`Ready`), and how a volume takes it over. Before anything is written all of it is in memory, so a refusal or a lack of memory leaves a volume as it was.
+#![tactic(auto)]
+
+mod around;
+mod change;
+mod directories;
+mod drafts;
+mod held;
+mod job;
+mod lists;
+mod needs;
+mod owner;
+mod pieces;
+mod placing;
+mod rewriting;
+mod spaces;
+mod takeover;
+
+pub use change::{Change, Regrowth, Says, Turned};
+pub use drafts::draft;
+pub use fc_writing::{MapStep, Piece, Ready, RootPlace, Source, SpaceStep, Transfer};
+pub use held::Held;
+pub use job::{FileWords, Growth, Job, ObjectWords, Wants};
+pub use needs::wants;
+pub use pieces::prepare;
+pub use placing::place;
+pub use spaces::{GrownPlace, Place, SpaceError, Spaces};
+pub use takeover::{admit, take_over};

@@ -1,0 +1,28 @@
+// Places for what a job wants.
+ghost use Rattle.std.specs.Prelude.{IfOk};
+ghost use Rattle.fc_change.specs.Held.{parts_of};
+ghost use Rattle.fc_change.specs.Places.{ArePlacesFor, CanPlace};
+ghost use Rattle.fc_change.specs.Shortage.{AnswersSpace, shortage};
+
+mod new;
+mod old;
+
+use crate::held::Held;
+use crate::job::Wants;
+use crate::spaces::{SpaceError, Spaces};
+use fc_space::Space;
+use new::place_new;
+use old::place_old;
+use std::alloc::Global;
+
+/// Finds the space that a job wants, and what goes back. The map stays as it is. Refused exactly as the command is for want of space.
+pub fn place(alloc: Global, held: &Held, wants: &Wants) -> Result<Spaces, SpaceError>
+    requires { CanPlace (parts_of held.now) wants.now }
+    ensures places { IfOk result (ArePlacesFor (parts_of held.now) wants.now) }
+    ensures refused { AnswersSpace result (shortage (parts_of held.now) wants.now) }
+{
+    match held.places.space() {
+        Space::NewMapped(map) => place_new(alloc, held, map, wants),
+        Space::OldMapped(map) => place_old(alloc, held, map, wants),
+    }
+}
