@@ -278,6 +278,9 @@ module _ (owners list : List Owner) (m m' : Map) (i : ℕ) (low : i < length lis
       by true false f h = (let c = count_same owners m m' tries.packs list in omega (arith, c, h))
       by false false f h = (let c = count_same owners m m' tries.packs list in omega (arith, c, h))
 
+  pub same_more : (m0 : Map) → (any ≡ false → m ≡ m0) → r ≡ false → m' ≡ m0
+  same_more m0 was f = let both = neither any joined (sym e ∙ f) in tries.same both.1 ∙ was both.0
+
   pub none_more : (any ≡ false → (o : Owner) → Contains (take i list) o → is_movable_by owners o.id ≡ true → can_join m o.id ≡ false)
       → r ≡ false → (o : Owner) → Contains (take (i + 1) list) o → is_movable_by owners o.id ≡ true → can_join m' o.id ≡ false
   none_more was f o there may =

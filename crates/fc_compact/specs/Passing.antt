@@ -23,6 +23,7 @@ run_count owners m = sum_by (λ o. length (id_runs m o.id)) owners
 pub record TriesAll (owners list : List Owner) (m m' : Map) (any : Bool) : Type 0 where
   pub packs : Packs owners m m'
   pub falls : run_count list m' + one_if any ≤ run_count list m
+  pub same : any ≡ false → m' ≡ m
   pub none : any ≡ false → (o : Owner) → Contains list o → is_movable_by owners o.id ≡ true → can_join m' o.id ≡ false
 
 -- the longest hole of a map, with its zone, or None if there is no hole

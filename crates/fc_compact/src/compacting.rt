@@ -8,7 +8,7 @@ ghost use Rattle.fc_image.specs.Moves.{KeepsObjects};
 ghost use Rattle.fc_compact.specs.Ready.{IsReady, is_movable_by};
 ghost use Rattle.fc_compact.specs.Compacting.{ChangesLoose, CompactedBy, IsSettledBy, ZoneStays};
 ghost use Rattle.fc_compact.specs.Passing.{AreSettledZones, IsLongest, Tries, TriesAll};
-ghost use Rattle.fc_compact.specs.Steps.{Preserves};
+ghost use Rattle.fc_compact.specs.Steps.{Packs, Preserves};
 
 use crate::joinable::{has_several, in_few_zones, longest_again, longest_hole};
 use crate::joining::join;
@@ -67,42 +67,6 @@ fn join_one<D: Disk>(
     Ok(true)
 }
 
-// Joins the runs of an identifier, and settles the zones again. Answers whether it did.
-fn join_and_settle<D: Disk>(
-    disk: &mut D,
-    map: &mut NewMap,
-    owners: &Owners,
-    id: u32,
-    best: Option<(u16, Run)>,
-    several: bool,
-) -> Result<bool, DiskFault>
-    requires attached { IsTrue (D.attached disk.old) }
-    requires settled { IsFalse (D.pending disk.old) }
-    requires size { D.sector_size disk.old ≡ map.old.geometry.sector }
-    requires on_disk { map.old.geometry.map_sector + 2 * map.old.geometry.zones ≤ D.sectors disk.old }
-    requires disc { disc_sectors (Layout.New map.old) ≤ D.sectors disk.old }
-    requires ready { ForSome (D.bytes disk.old) (IsReady map.old owners.now) }
-    requires best { IsLongest map.old best }
-    requires several { several ≡ false → length (id_runs map.old id) ≤ 1 }
-    requires done { AreSettledZones owners.now map.old }
-    ensures keeps { StopsAndExitsLeave D.Disk disk.old disk.new (Preserves map.old owners.now) }
-    ensures ready { OnOk result (ForSome (D.bytes disk.new) (IsReady map.new owners.now)) }
-    ensures tries { IfOk result (Tries owners.now map.old map.new id) }
-    ensures done { OnOk result (AreSettledZones owners.now map.new) }
-    ensures geometry { map.new.geometry ≡ map.old.geometry }
-    ensures durable { OnOk result (IsFalse (D.pending disk.new)) }
-    ensures form { SameForm D.Disk disk.old disk.new }
-    ensures cause { FailsByFault D.Disk disk.old disk.new result }
-{
-    laws();
-    let joined = join_one(disk, map, owners, id, best, several)?;
-    if !joined {
-        return Ok(false);
-    }
-    settle_all(disk, map, owners)?;
-    Ok(true)
-}
-
 // Tries the identifiers of these owners once. Answers whether one was joined.
 fn join_pass<D: Disk>(
     disk: &mut D,
@@ -116,11 +80,9 @@ fn join_pass<D: Disk>(
     requires on_disk { map.old.geometry.map_sector + 2 * map.old.geometry.zones ≤ D.sectors disk.old }
     requires disc { disc_sectors (Layout.New map.old) ≤ D.sectors disk.old }
     requires ready { ForSome (D.bytes disk.old) (IsReady map.old owners.now) }
-    requires done { AreSettledZones owners.now map.old }
     ensures keeps { StopsAndExitsLeave D.Disk disk.old disk.new (Preserves map.old owners.now) }
     ensures ready { OnOk result (ForSome (D.bytes disk.new) (IsReady map.new owners.now)) }
     ensures tries { IfOk result (TriesAll owners.now list.now map.old map.new) }
-    ensures done { OnOk result (AreSettledZones owners.now map.new) }
     ensures geometry { map.new.geometry ≡ map.old.geometry }
     ensures durable { OnOk result (IsFalse (D.pending disk.new)) }
     ensures form { SameForm D.Disk disk.old disk.new }
@@ -134,11 +96,40 @@ fn join_pass<D: Disk>(
     let mut any = false;
     for owner in list {
         let several = may_have_several(&seen, owner.id);
-        let joined = join_and_settle(disk, map, owners, owner.id, best, several)?;
+        let joined = join_one(disk, map, owners, owner.id, best, several)?;
         best = longest_again(map, best, joined);
         any |= joined;
     }
     Ok(any)
+}
+
+// Joins the identifiers for which there is room, and settles the zones after all of them: what lies behind the holes that
+// they left slides once, and not once for each.
+fn join_and_settle<D: Disk>(
+    disk: &mut D,
+    map: &mut NewMap,
+    owners: &Owners,
+    list: &[Owner],
+) -> Result<(), DiskFault>
+    requires attached { IsTrue (D.attached disk.old) }
+    requires settled { IsFalse (D.pending disk.old) }
+    requires size { D.sector_size disk.old ≡ map.old.geometry.sector }
+    requires on_disk { map.old.geometry.map_sector + 2 * map.old.geometry.zones ≤ D.sectors disk.old }
+    requires disc { disc_sectors (Layout.New map.old) ≤ D.sectors disk.old }
+    requires ready { ForSome (D.bytes disk.old) (IsReady map.old owners.now) }
+    ensures keeps { StopsAndExitsLeave D.Disk disk.old disk.new (Preserves map.old owners.now) }
+    ensures ready { OnOk result (ForSome (D.bytes disk.new) (IsReady map.new owners.now)) }
+    ensures packs { OnOk result (Packs owners.now map.old map.new) }
+    ensures done { OnOk result (AreSettledZones owners.now map.new) }
+    ensures geometry { map.new.geometry ≡ map.old.geometry }
+    ensures durable { OnOk result (IsFalse (D.pending disk.new)) }
+    ensures form { SameForm D.Disk disk.old disk.new }
+    ensures cause { FailsByFault D.Disk disk.old disk.new result }
+{
+    laws();
+    map.is_map();
+    join_pass(disk, map, owners, list)?;
+    settle_all(disk, map, owners)
 }
 
 /// Slides runs into the holes before them, joins what touches, and moves identifiers of several runs into holes that hold
@@ -171,10 +162,10 @@ pub fn compact<D: Disk>(disk: &mut D, map: &mut NewMap, owners: &Owners) -> Resu
 {
     laws();
     map.is_map();
-    settle_all(disk, map, owners)?;
     let list = owners.list();
     let mut any = true;
     while any {
+        join_and_settle(disk, map, owners, list)?;
         any = join_pass(disk, map, owners, list)?;
     }
     Ok(())

@@ -11,7 +11,7 @@ use Rattle.fc_compact.proofs.compacting.compact.Given as goal
 abbrev pub invariant-loop-any : goal.invariant-loop-any
 invariant-loop-any g l = record {
   gone : Gone g.D.Disk l.owners l.fn.disk l.fn.map l.disk l.map;
-  done : AreSettledZones l.owners l.map;
+  done : l.any ≡ false → AreSettledZones l.owners l.map;
   none : l.any ≡ false → (o : Owner) → Contains l.owners o → is_movable_by l.owners o.id ≡ true → can_join l.map o.id ≡ false;
 }
 
