@@ -4,6 +4,7 @@ mod OwnersLemmas
 mod KeptLemmas
 mod PreservesLemmas
 mod ReadyLemmas
+mod RowLemmas
 mod SlideLemmas
 mod FindLemmas
 mod StepLemmas

@@ -8,12 +8,11 @@ use Rattle.fc_alloc.specs.declared.owner.Owner.{Owner}
 use Rattle.fc_copies.specs.declared.Which.{Which}
 use Rattle.fc_copies.specs.declared.Which.TheVariants.{One, Two}
 use Rattle.fc_copies.specs.Copies.{copy_start}
-use Rattle.fc_copies.specs.Passes.{HasWritten, IsPartWritten, zone_from}
 use Rattle.fc_copies.proofs.RepairLemmas.{same_copy}
 use Rattle.fc_image.specs.Layout.{Layout, hole_sectors, is_among, is_apart, map_place}
 use Rattle.fc_image.specs.Stays.{OpensAs, SameOutsideHoles}
 use Rattle.fc_image.proofs.HolesLemmas.{apart_at}
-use Rattle.fc_compact.specs.Copying.{ChangesRow, IsCopied}
+use Rattle.fc_compact.specs.Copying.{ChangesRow}
 use Rattle.fc_compact.specs.Laws.{Laws}
 use Rattle.fc_compact.specs.Ready.{IsReady}
 use Rattle.fc_compact.specs.Steps.{Preserves}
@@ -73,25 +72,3 @@ module _ (m : Map) (to count : ℕ) (hole : (i : ℕ) → i < count → is_among
       | inr more ↦ row.outside s (inr more)
     ]
   ]
-
--- a part that is written is a row that changes
-pub part_row : (size size' to count : ℕ) (new : ℕ → List ℕ) (was image : List ℕ) → size ≡ size' → IsPartWritten size to 0 count new was image → ChangesRow size' to count was image
-part_row size size' to count new was image e part =
-    subst (λ (n : ℕ). ChangesRow n to count was image) e (record {
-      same_length = part.same_length;
-      outside = λ s there. part.outside s (lower there);
-    })
-  where
-    lower : {s : ℕ} → (s < to) ⊎ (to + count ≤ s) → (s < to + 0) ⊎ (to + count ≤ s)
-    lower (inl l) = inl (omega arith)
-    lower (inr r) = inr r
-
--- a row whose new sectors are those of another row, which stays
-pub row_copied : (size size' from to count : ℕ) (was image : List ℕ) → size ≡ size' → (from + count ≤ to) ⊎ (to + count ≤ from) → ChangesRow size' to count was image
-    → HasWritten size to 0 count (zone_from size was from) image → IsCopied size' from to count image
-row_copied size size' from to count was image e apart row written i lt =
-    subst (λ (n : ℕ). sector_at n image (to + i) ≡ sector_at n was (from + i)) e (written i (omega arith) lt) ∙ sym (row.outside (from + i) (outside apart))
-  where
-    outside : (from + count ≤ to) ⊎ (to + count ≤ from) → (from + i < to) ⊎ (to + count ≤ from + i)
-    outside (inl l) = inl (omega arith)
-    outside (inr r) = inr (omega arith)

@@ -2,19 +2,18 @@
 ghost use Rattle.std.specs.Prelude.{◌≡◌, ◌⊎◌, ◌<◌, ◌≤◌, ◌+◌, ◌^◌, ℕ, true, length, IsTrue, IsFalse, OnOk};
 ghost use Rattle.std.specs.Option.{ForSome};
 ghost use Rattle.fc_device.specs.Calls.{FailsByFault, SameForm, StopsAndExitsLeave};
-ghost use Rattle.fc_copies.specs.Passes.{HasWritten, IsPartWritten, zone_from};
 ghost use Rattle.fc_image.specs.Layout.{Layout, hole_sectors, is_among};
 ghost use Rattle.fc_compact.specs.Ready.{IsReady};
 ghost use Rattle.fc_compact.specs.Steps.{Preserves};
-ghost use Rattle.fc_compact.specs.Copying.{ChangesRow, IsCopied};
+ghost use Rattle.fc_compact.specs.Copying.{ChangesRow, IsCopied, TearsRow};
 
 use crate::laws;
 use fc_alloc::Owners;
 use fc_device::{Disk, DiskFault, MAX_SECTOR};
 use fc_newmap::NewMap;
 
-// Copies `count` sectors from sector `from` on to those from sector `to` on, which are none of them, and syncs. The buffer
-// has the bytes of a sector.
+// Copies `count` sectors from sector `from` on to those from sector `to` on, which are none of them. The buffer has the
+// bytes of a sector.
 fn copy_sectors<D: Disk>(
     disk: &mut D,
     from: u64,
@@ -23,16 +22,14 @@ fn copy_sectors<D: Disk>(
     sector: &mut [u8],
 ) -> Result<(), DiskFault>
     requires attached { IsTrue (D.attached disk.old) }
-    requires settled { IsFalse (D.pending disk.old) }
     requires whole { length sector.old ≡ D.sector_size disk.old }
     requires apart { (from + count ≤ to) ⊎ (to + count ≤ from) }
     requires on_disk { from + count ≤ D.sectors disk.old }
     requires to_on_disk { to + count ≤ D.sectors disk.old }
     requires fits { from + count < 2 ^ 64 }
     requires to_fits { to + count < 2 ^ 64 }
-    ensures keeps { StopsAndExitsLeave D.Disk disk.old disk.new (λ was image. IsPartWritten (D.sector_size disk.old) to 0 count (zone_from (D.sector_size disk.old) was from) was image) }
-    ensures written { OnOk result (ForSome (D.bytes disk.old) (λ was. ForSome (D.bytes disk.new) (HasWritten (D.sector_size disk.old) to 0 count (zone_from (D.sector_size disk.old) was from)))) }
-    ensures durable { OnOk result (IsFalse (D.pending disk.new)) }
+    ensures tears { TearsRow D.Disk disk.old disk.new to count }
+    ensures copied { OnOk result (ForSome (D.bytes disk.new) (IsCopied (D.sector_size disk.old) from to count)) }
     ensures form { SameForm D.Disk disk.old disk.new }
     ensures cause { FailsByFault D.Disk disk.old disk.new result }
 {
@@ -40,8 +37,32 @@ fn copy_sectors<D: Disk>(
         disk.read(from + i, sector)?;
         disk.write(to + i, sector)?;
     }
-    disk.sync()?;
     Ok(())
+}
+
+// Copies `count` sectors of `size` bytes from sector `from` on to those from sector `to` on, which are none of them, and
+// leaves the sync to its caller.
+pub fn copy_row<D: Disk>(
+    disk: &mut D,
+    size: u32,
+    from: u64,
+    to: u64,
+    count: u64,
+) -> Result<(), DiskFault>
+    requires attached { IsTrue (D.attached disk.old) }
+    requires size { D.sector_size disk.old ≡ size }
+    requires apart { (from + count ≤ to) ⊎ (to + count ≤ from) }
+    requires on_disk { from + count ≤ D.sectors disk.old }
+    requires to_on_disk { to + count ≤ D.sectors disk.old }
+    requires fits { from + count < 2 ^ 64 }
+    requires to_fits { to + count < 2 ^ 64 }
+    ensures tears { TearsRow D.Disk disk.old disk.new to count }
+    ensures copied { OnOk result (ForSome (D.bytes disk.new) (IsCopied size from to count)) }
+    ensures form { SameForm D.Disk disk.old disk.new }
+    ensures cause { FailsByFault D.Disk disk.old disk.new result }
+{
+    let mut sector = [0; MAX_SECTOR];
+    copy_sectors(disk, from, to, count, &mut sector[..size as usize])
 }
 
 // Copies `count` sectors from sector `from` on into a hole, to those from sector `to` on, and syncs. After a crash and at every
@@ -65,7 +86,6 @@ pub fn copy_into<D: Disk>(
     requires ready { ForSome (D.bytes disk.old) (IsReady map.now owners.now) }
     requires hole { (i : ℕ) → i < count → is_among (hole_sectors (Layout.New map.now)) (to + i) ≡ true }
     ensures keeps { StopsAndExitsLeave D.Disk disk.old disk.new (Preserves map.now owners.now) }
-    ensures row { StopsAndExitsLeave D.Disk disk.old disk.new (ChangesRow map.now.geometry.sector to count) }
     ensures copied { OnOk result (ForSome (D.bytes disk.new) (IsCopied map.now.geometry.sector from to count)) }
     ensures still_ready { ForSome (D.bytes disk.new) (IsReady map.now owners.now) }
     ensures durable { OnOk result (IsFalse (D.pending disk.new)) }
@@ -73,7 +93,7 @@ pub fn copy_into<D: Disk>(
     ensures cause { FailsByFault D.Disk disk.old disk.new result }
 {
     laws();
-    let size = map.geometry().sector as usize;
-    let mut sector = [0; MAX_SECTOR];
-    copy_sectors(disk, from, to, count, &mut sector[..size])
+    copy_row(disk, map.geometry().sector, from, to, count)?;
+    disk.sync()?;
+    Ok(())
 }

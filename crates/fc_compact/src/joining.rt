@@ -14,7 +14,7 @@ ghost use Rattle.fc_compact.specs.Joining.{ArePut, CanJoin, HasBetween, all_free
 ghost use Rattle.fc_compact.specs.Sliding.{HasRuns, IsPart, hole_at, run_at};
 ghost use Rattle.fc_compact.specs.Steps.{Leads, Preserves};
 
-use crate::copying::copy_into;
+use crate::copying::copy_row;
 use crate::finding::{bits_of, zones_of};
 use crate::laws;
 use crate::releasing::{release_all, take_front};
@@ -26,7 +26,7 @@ use fc_device::{Disk, DiskFault};
 use fc_newmap::{NewMap, RunCursor, extent_of};
 use fc_zone::{Run, RunKind};
 
-// Copies the sectors of all runs of an identifier, in their order, into a hole, to those from sector `to` on.
+// Copies the sectors of all runs of an identifier, in their order, into a hole, to those from sector `to` on, and syncs once.
 pub fn copy_runs<D: Disk>(
     disk: &mut D,
     map: &NewMap,
@@ -54,9 +54,10 @@ pub fn copy_runs<D: Disk>(
     let mut at = to;
     while let Some((z, run)) = cursor.next(map) {
         let from = extent_of(&g, z, run);
-        copy_into(disk, map, owners, from.first, at, from.sectors)?;
+        copy_row(disk, g.sector, from.first, at, from.sectors)?;
         at += from.sectors;
     }
+    disk.sync()?;
     Ok(())
 }
 

@@ -1,43 +1,54 @@
+use Rattle.std.proofs.Common.{List, ap, subst, ℕ}
 use Rattle.std.proofs.lemmas.Result.{on_ok_weaker}
-use Rattle.fc_device.proofs.DiskLaws.{laws}
-use Rattle.fc_device.proofs.StopLemmas.{led}
-use Rattle.fc_copies.proofs.PassLemmas.{keeps_told}
-use Rattle.fc_compact.proofs.ReadyLemmas.{hole_preserves, hole_ready, part_row, row_copied, row_same}
+use Rattle.fc_device.proofs.DiskLaws.{laws, form_same}
+use Rattle.fc_device.proofs.StopLemmas.{keeps_same, keeps_start}
+use Rattle.fc_compact.proofs.RowLemmas.{holes_none, kept_preserves, kept_ready, kept_torn}
 use Rattle.fc_compact.proofs.copying.copy_into.Goals as goal
+
+pub returns-in_err-copy_row-clause-keeps : goal.returns-in_err-copy_row-clause-keeps
+returns-in_err-copy_row-clause-keeps g c =
+    let law = laws g.met.D.Disk in
+    let m = c.args.map.now in
+    let start = keeps_start law (holes_none m) c.args.disk.now c.requires.settled in
+    kept_preserves law c.laws.ensures m c.args.owners.now c.requires.ready
+    (kept_torn m c.args.to c.args.count c.requires.hole law (form_same g.D.Disk c.args.disk.now) c.requires.size c.requires.to_on_disk start c.copy_row.ensures.tears)
+
+pub returns-in_err-copy_row-clause-still_ready : goal.returns-in_err-copy_row-clause-still_ready
+returns-in_err-copy_row-clause-still_ready g c =
+    let law = laws g.met.D.Disk in
+    let m = c.args.map.now in
+    let start = keeps_start law (holes_none m) c.args.disk.now c.requires.settled in
+    kept_ready law c.laws.ensures m c.args.owners.now c.requires.ready
+    (kept_torn m c.args.to c.args.count c.requires.hole law (form_same g.D.Disk c.args.disk.now) c.requires.size c.requires.to_on_disk start c.copy_row.ensures.tears)
+
+pub returns-in_err-sync-clause-keeps : goal.returns-in_err-sync-clause-keeps
+returns-in_err-sync-clause-keeps g c =
+    let law = laws g.met.D.Disk in
+    let m = c.args.map.now in
+    let start = keeps_start law (holes_none m) c.args.disk.now c.requires.settled in
+    let torn = kept_torn m c.args.to c.args.count c.requires.hole law (form_same g.D.Disk c.args.disk.now) c.requires.size c.requires.to_on_disk start c.copy_row.ensures.tears in
+    kept_preserves law c.laws.ensures m c.args.owners.now c.requires.ready (keeps_same law torn c.sync.ensures.stops c.sync.ensures.bytes)
+
+pub returns-in_err-sync-clause-still_ready : goal.returns-in_err-sync-clause-still_ready
+returns-in_err-sync-clause-still_ready g c =
+    let law = laws g.met.D.Disk in
+    let m = c.args.map.now in
+    let start = keeps_start law (holes_none m) c.args.disk.now c.requires.settled in
+    let torn = kept_torn m c.args.to c.args.count c.requires.hole law (form_same g.D.Disk c.args.disk.now) c.requires.size c.requires.to_on_disk start c.copy_row.ensures.tears in
+    kept_ready law c.laws.ensures m c.args.owners.now c.requires.ready (keeps_same law torn c.sync.ensures.stops c.sync.ensures.bytes)
 
 pub returns-clause-keeps : goal.returns-clause-keeps
 returns-clause-keeps g c =
+    let law = laws g.met.D.Disk in
     let m = c.args.map.now in
-    let to = c.args.to in
-    let count = c.args.count in
-    keeps_told (laws g.met.D.Disk) c.copy_sectors.ensures.keeps
-    (λ was image told part.
-    let row = part_row _ m.geometry.sector to count _ was image c.requires.size part in
-    hole_preserves c.laws.ensures m c.args.owners.now was image (c.requires.ready was told) row.same_length (row_same m to count c.requires.hole was image row))
-
-pub returns-clause-row : goal.returns-clause-row
-returns-clause-row g c =
-    keeps_told (laws g.met.D.Disk) c.copy_sectors.ensures.keeps
-    (λ was image told part. part_row _ c.args.map.now.geometry.sector c.args.to c.args.count _ was image c.requires.size part)
+    let start = keeps_start law (holes_none m) c.args.disk.now c.requires.settled in
+    let torn = kept_torn m c.args.to c.args.count c.requires.hole law (form_same g.D.Disk c.args.disk.now) c.requires.size c.requires.to_on_disk start c.copy_row.ensures.tears in
+    kept_preserves law c.laws.ensures m c.args.owners.now c.requires.ready (keeps_same law torn c.sync.ensures.stops c.sync.ensures.bytes)
 
 pub returns-clause-still_ready : goal.returns-clause-still_ready
-returns-clause-still_ready g c = λ image is.
+returns-clause-still_ready g c =
+    let law = laws g.met.D.Disk in
     let m = c.args.map.now in
-    let to = c.args.to in
-    let count = c.args.count in
-    let before = led (laws g.met.D.Disk) c.copy_sectors.ensures.keeps image is in
-    let row = part_row _ m.geometry.sector to count _ before.0 image c.requires.size before.2 in
-    hole_ready c.laws.ensures m c.args.owners.now before.0 image (c.requires.ready before.0 before.1) row.same_length (row_same m to count c.requires.hole before.0 image row)
-
-pub returns-clause-copied : goal.returns-clause-copied
-returns-clause-copied g c =
-    let m = c.args.map.now in
-    let from = c.args.from in
-    let to = c.args.to in
-    let count = c.args.count in
-    on_ok_weaker c.copy_sectors.result
-    (λ written image is.
-    let before = led (laws g.met.D.Disk) c.copy_sectors.ensures.keeps image is in
-    let row = part_row _ m.geometry.sector to count _ before.0 image c.requires.size before.2 in
-    row_copied _ m.geometry.sector from to count before.0 image c.requires.size c.requires.apart row (written before.0 before.1 image is))
-    c.copy_sectors.ensures.written
+    let start = keeps_start law (holes_none m) c.args.disk.now c.requires.settled in
+    let torn = kept_torn m c.args.to c.args.count c.requires.hole law (form_same g.D.Disk c.args.disk.now) c.requires.size c.requires.to_on_disk start c.copy_row.ensures.tears in
+    kept_ready law c.laws.ensures m c.args.owners.now c.requires.ready (keeps_same law torn c.sync.ensures.stops c.sync.ensures.bytes)

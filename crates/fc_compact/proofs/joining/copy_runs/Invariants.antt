@@ -1,19 +1,16 @@
-use Rattle.std.proofs.Common.{◌≡◌, ◌≤◌, ◌+◌, ◌++◌, List, length, IsFalse}
+use Rattle.std.proofs.Common.{◌≡◌, ◌≤◌, ◌+◌, ◌++◌, List, length}
 use Rattle.std.specs.Option.{ForSome}
 use Rattle.fc_device.specs.Calls.{SameForm, StopsAndExitsLeave}
 use Rattle.fc_newmap.specs.Map.{ZoneRun, id_runs, sectors_of}
 use Rattle.fc_newmap.specs.Walk.{StandsAt, bits_left}
 use Rattle.fc_compact.specs.Joining.{ArePut}
-use Rattle.fc_compact.specs.Ready.{IsReady}
-use Rattle.fc_compact.specs.Steps.{Preserves}
+use Rattle.fc_compact.specs.Copying.{ChangesHoles}
 use Rattle.fc_compact.proofs.joining.copy_runs.Given as goal
 
 abbrev pub invariant-loop-z : goal.invariant-loop-z
 invariant-loop-z g l = record {
   form : SameForm g.D.Disk l.fn.disk l.disk;
-  keeps : StopsAndExitsLeave g.D.Disk l.fn.disk l.disk (Preserves l.map l.owners);
-  ready : ForSome (g.D.Disk.bytes l.disk) (IsReady l.map l.owners);
-  settled : IsFalse (g.D.Disk.pending l.disk);
+  kept : StopsAndExitsLeave g.D.Disk l.fn.disk l.disk (ChangesHoles l.map);
   passed : List ZoneRun;
   left : List ZoneRun;
   cut : id_runs l.map l.id ≡ passed ++ left;
