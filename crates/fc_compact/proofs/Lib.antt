@@ -8,6 +8,9 @@ mod RowLemmas
 mod SlideLemmas
 mod FindLemmas
 mod StepLemmas
+mod CarryLemmas
+mod GatherLemmas
+mod GatheredLemmas
 mod LeadsLemmas
 mod ReleaseLemmas
 mod ListedLemmas

@@ -30,11 +30,11 @@ use Rattle.fc_compact.specs.Laws.{Laws}
 use Rattle.fc_compact.specs.Ready.{IsReady, is_movable_by}
 use Rattle.fc_compact.specs.Settling.{CanMergeRuns, run_weight, zone_weight}
 use Rattle.fc_compact.specs.Sliding.{HasRuns}
-use Rattle.fc_compact.specs.Steps.{Leads, Packs, Preserves}
+use Rattle.fc_compact.specs.Steps.{Leads, Packs, Preserves, SamePart}
 use Rattle.fc_compact.proofs.HoldLemmas.{id_kind, run_is_whole}
 use Rattle.fc_compact.proofs.KeptLemmas.{committed_geometry, committed_record, committed_zone}
 use Rattle.fc_compact.proofs.OwnersLemmas.{same_movable}
-use Rattle.fc_compact.proofs.PacksLemmas.{SamePart, packs_in}
+use Rattle.fc_compact.proofs.PacksLemmas.{packs_in}
 use Rattle.fc_compact.proofs.PreservesLemmas.{geometry_is}
 use Rattle.fc_compact.proofs.SlideLemmas.{stretch, stretch_more}
 use Rattle.fc_compact.proofs.StepLemmas.{commit_preserves, commit_ready, map_is}

@@ -16,7 +16,7 @@ use Rattle.fc_alloc.specs.declared.owner.Owner.{Owner}
 use Rattle.fc_image.specs.effects.Settled.{KeepsBits}
 use Rattle.fc_compact.specs.Joining.{ids_in}
 use Rattle.fc_compact.specs.Ready.{is_movable_by}
-use Rattle.fc_compact.specs.Steps.{Leads, Packs}
+use Rattle.fc_compact.specs.Steps.{Leads, Packs, SamePart}
 use Rattle.fc_compact.proofs.LeadsLemmas.{leads_none, leads_then}
 
 same_runs : (m m' : Map) (z : ℕ) (zones : List ℕ) → is_in zones z ≡ false → ((y : ℕ) → (y ≡ z → ⊥) → runs_of m' y ≡ runs_of m y) → runs_in m' zones ≡ runs_in m zones
@@ -45,12 +45,6 @@ zone_ids m m' z id e some low same =
     ap (λ (h : Geometry). filter t (runs_in m' (search_order h id))) e ∙ ap (λ (zs : List ℕ). filter t (runs_in m' zs)) cut.2 ∙ parts_of_id m' t z cut.0 cut.1
     ∙ ap₂ (λ (ps qs : List ZoneRun). filter t ps ++ (ids_in m' id z ++ filter t qs)) (same_runs m m' z cut.0 cut.3 same) (same_runs m m' z cut.1 cut.4 same) in
     (filter t (runs_in m cut.0), filter t (runs_in m cut.1), ap (λ (zs : List ℕ). filter t (runs_in m zs)) cut.2 ∙ parts_of_id m t z cut.0 cut.1, new)
-
--- as many bits, no more runs, and some if there were some
-pub record SamePart (was is : List ZoneRun) : Type 0 where
-  pub bits : bits_in is ≡ bits_in was
-  pub fewer : length is ≤ length was
-  pub some : 0 < length was → 0 < length is
 
 three_bits : (a b c : List ZoneRun) → bits_in (a ++ (b ++ c)) ≡ bits_in a + (bits_in b + bits_in c)
 three_bits a b c = sum_by-append (λ (p : ZoneRun). p.1.len) a (b ++ c) ∙ ap (λ n. bits_in a + n) (sum_by-append (λ (p : ZoneRun). p.1.len) b c)

@@ -121,6 +121,29 @@ module _ {D : Type 0} {d : Ghosts D} (law : DiskLaws d) (old : D) (to count : �
           (copied_more size to count from there.0 piece i apart low whole (has_row size to count first.0 there.0 long (told_row on_disk first.0 first.1) i low)
           (is there.0 there.1 ∙ ap (λ (n : ℕ). sector_at n there.0 (from + i)) size_is) (copied there.0 there.1))
 
+-- a row is part of a longer one
+pub tears_wider : {D : Type 0} {d : Ghosts D} {old new : D} {to count : ℕ} (more : ℕ) → count ≤ more → TearsRow d old new to count → TearsRow d old new to more
+tears_wider {d = d} {old = old} {to = to} {count = count} more le tears = record {
+  stops = record {
+    later = tears.stops.later;
+    since = λ image left. (let torn = tears.stops.since image left in (torn.0, torn.1, λ has. wider torn.0 image (torn.2 (λ i low. has i (omega (arith, low, le))))));
+    before = tears.stops.before;
+    keeps = tears.stops.keeps;
+  };
+  exit = λ was told. (let there = tears.exit was told in (there.0, there.1, wider was there.0 there.2));
+  told = tears.told;
+}
+  where
+    wider : (was image : List ℕ) → ChangesRow (d.sector_size old) to count was image → ChangesRow (d.sector_size old) to more was image
+    wider was image row = record {
+      same_length = row.same_length;
+      outside = λ s there. row.outside s (⊎_elim (λ l. inl l) (λ r. inr (omega (arith, r, le))) there);
+    }
+
+-- the bytes of a disk that is the same
+pub told_still : {D : Type 0} (d : Ghosts D) {old new : D} {was image : List ℕ} → d.bytes old ≡ Some was → d.bytes new ≡ Some image → new ≡ old → image ≡ was
+told_still d was_told told same = some_is (sym told ∙ ap d.bytes same ∙ was_told)
+
 -- what is told after a row, with what was told before
 pub torn_led : {D : Type 0} {d : Ghosts D} {old new : D} {to count : ℕ} → TearsRow d old new to count → (image : List ℕ) → d.bytes new ≡ Some image
     → (was : List ℕ) × (d.bytes old ≡ Some was) × ChangesRow (d.sector_size old) to count was image

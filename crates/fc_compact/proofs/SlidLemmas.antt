@@ -13,10 +13,10 @@ use Rattle.fc_image.specs.effects.Moves.{Slid}
 use Rattle.fc_compact.specs.Joining.{ids_in}
 use Rattle.fc_compact.specs.Settling.{run_weight, zone_weight}
 use Rattle.fc_compact.specs.Sliding.{HasRuns}
-use Rattle.fc_compact.specs.Steps.{Leads, Packs}
+use Rattle.fc_compact.specs.Steps.{Leads, Packs, SamePart}
 use Rattle.fc_compact.proofs.FindLemmas.{run_follows, hole_room, fits_shape}
 use Rattle.fc_compact.proofs.MergeLemmas.{idz, idz_append, weight_append, weight_cons}
-use Rattle.fc_compact.proofs.PacksLemmas.{SamePart, packs_in}
+use Rattle.fc_compact.proofs.PacksLemmas.{packs_in}
 
 module _ (m m' : Map) (is : IsNewMap m) (z start : ℕ) (low : z < m.geometry.zones) (slid : Slid m m' z start) where
   abbrev rest : List Run
@@ -39,7 +39,7 @@ module _ (m m' : Map) (is : IsNewMap m) (z start : ℕ) (low : z < m.geometry.zo
       ap (idz z k) slid.is ∙ idz_append z k slid.front (moved ∷ (gap ∷ rest))
       ∙ ap (λ (ps : List ZoneRun). idz z k slid.front ++ cond (has_id k slid.run.kind) ((z, moved) ∷ ps) ps) (no_hole_ids k gap rest slid.is_hole)
 
-  part_same : (k : ℕ) → SamePart (ids_in m k z) (ids_in m' k z)
+  pub part_same : (k : ℕ) → SamePart (ids_in m k z) (ids_in m' k z)
   part_same k = subst (λ (ps : List ZoneRun). SamePart ps (ids_in m' k z)) (sym (ids_was k))
       (subst (λ (ps : List ZoneRun). SamePart (idz z k slid.front ++ cond (has_id k slid.run.kind) ((z, slid.run) ∷ idz z k rest) (idz z k rest)) ps) (sym (ids_is k)) (by (has_id k slid.run.kind)))
     where

@@ -43,6 +43,16 @@ map_is m is =
       right = λ z lt. (runs_of m z, Zone-zone_of (shape m.geometry z) (sector_of m z) (runs_of m z) (is.right z (omega (arith, lt, all))));
     }
 
+-- a sector that isn't the map's lies before it or behind
+pub beyond_map : (g : Geometry) (s : ℕ) → is_among (map_sectors g) s ≡ false → (s < g.map_sector) ⊎ (g.map_sector + 2 * g.zones ≤ s)
+beyond_map g s out = elim (cases_lt s g.map_sector) [
+  | inl before ↦ inl before
+  | inr from ↦ elim (cases_lt s (g.map_sector + 2 * g.zones)) [
+    | inl inside ↦ absurd (let t = in_range g.map_sector (2 * g.zones) s from inside in cc)
+    | inr behind ↦ inr behind
+  ]
+]
+
 -- ---- a commit
 
 module _ (law : Laws) (m m' : Map) (owners : List Owner) (start : List ℕ) (ready : IsReady m owners start) (after : m'.geometry ≡ m.geometry)
@@ -51,17 +61,8 @@ module _ (law : Laws) (m m' : Map) (owners : List Owner) (start : List ℕ) (rea
   commit_preserves image left = record {
     objects = law.keeps_objects.commit start image ready.kind ready.of_record ready.view m m' ready.new_kind ready.opens ready.layout can
         (subst (λ (zs : List (List ℕ)). CommitLeaves m.geometry start zs m'.zones image) ready.copies.first left);
-    frame = record { same_length = left.frame.same_length; outside = λ s out apart. left.frame.outside s (beyond s out) };
+    frame = record { same_length = left.frame.same_length; outside = λ s out apart. left.frame.outside s (beyond_map m.geometry s out) };
   }
-    where
-      beyond : (s : ℕ) → is_among (map_sectors m.geometry) s ≡ false → (s < m.geometry.map_sector) ⊎ (m.geometry.map_sector + 2 * m.geometry.zones ≤ s)
-      beyond s out = elim (cases_lt s m.geometry.map_sector) [
-        | inl before ↦ inl before
-        | inr from ↦ elim (cases_lt s (m.geometry.map_sector + 2 * m.geometry.zones)) [
-          | inl inside ↦ absurd (let t = in_range m.geometry.map_sector (2 * m.geometry.zones) s from inside in cc)
-          | inr behind ↦ inr behind
-        ]
-      ]
 
   pub commit_ready : (image : List ℕ) → CommitEnds m.geometry start m'.zones image → IsReady m' owners image
   commit_ready image ends =
@@ -111,6 +112,40 @@ moved_others law m m' is z low start id d s n r' front rest zone same there runs
       | inr apart ↦ ap (λ (rs : List Run). filter (λ (p : ZoneRun). has_id k p.1.kind) (placed y rs)) (runs_other y apart)
     ])
 
+-- its sectors are carried into those that it takes
+pub row_carried : (law : Laws) (m m' : Map) (is : IsNewMap m) (z : ℕ) (low : z < m.geometry.zones) (start id d s n r' : ℕ) (front rest : List Run)
+    → HasRuns m z (front ++ row start id d s (n + r') rest) → 0 < n → d % m.geometry.q ≡ 0 → n % m.geometry.q ≡ 0 → m'.geometry ≡ m.geometry
+    → runs_of m' z ≡ front ++ row start id (d + n) s r' rest → ((y : ℕ) → (y ≡ z → ⊥) → runs_of m' y ≡ runs_of m y) → (image holes : List ℕ)
+    → IsCopied m.geometry.sector (place_sector m.geometry z (start + d + s)) (place_sector m.geometry z (start + d)) (n * m.geometry.bit_bytes / m.geometry.sector) image
+    → ((i : ℕ) → i < n * m.geometry.bit_bytes / m.geometry.sector → is_among holes (place_sector m.geometry z (start + d) + i) ≡ true)
+    → Carried m.geometry.sector image image holes (id_sectors m id) (id_sectors m' id)
+row_carried law m m' is z low start id d s n r' front rest zone some d_whole n_whole same there runs_other image holes copied in_holes =
+    let g = m.geometry in
+    let zones = (geometry_facts g is.of_record).zones in
+    let geo = geometry_is m is in
+    let cut = law.one_zone m m' z id same zones low (λ y lt other. runs_other y other) in
+    let keep_front = kept_front g geo z start id d s n r' front rest in
+    let keep_back = kept_back g geo z start id d s n r' front rest in
+    let from = stretch g geo z (start + d + s) n in
+    let to = stretch g geo z (start + d) n in
+    let all : 0 < n + r' = omega (arith, some) in
+    let before_low = hole_low m is z low start id d s (n + r') front rest zone all in
+    let old : id_sectors m id ≡ (cut.0 ++ keep_front) ++ (from ++ (keep_back ++ cut.1)) =
+    cut.2 ∙ ap (λ (xs : List ℕ). cut.0 ++ (xs ++ cut.1))
+    (ap (taken g geo z id) zone ∙ row_before g geo z start id d s n r' front rest (omega (arith, before_low)) (run_on m is z low start id d s (n + r') front rest zone all) n_whole)
+    ∙ around cut.0 keep_front from keep_back cut.1 in
+    let new : id_sectors m' id ≡ (cut.0 ++ keep_front) ++ (to ++ (keep_back ++ cut.1)) =
+    ap (λ (h : Geometry). sectors_of h (id_runs m' id)) same
+    ∙ cut.3 ∙ ap (λ (xs : List ℕ). cut.0 ++ (xs ++ cut.1))
+    (ap (taken g geo z id) there ∙ row_after g geo z start id d s n r' front rest (grown m is z low start id d s (n + r') front rest zone all n d_whole))
+    ∙ around cut.0 keep_front to keep_back cut.1 in
+    let moved : Carried g.sector image image holes from to =
+    law.pieces.piece g.sector image image holes (place_sector g z (start + d + s)) (place_sector g z (start + d)) (count g geo n) copied in_holes in
+    subst (λ (xs : List ℕ). Carried g.sector image image holes xs (id_sectors m' id)) (sym old)
+    (subst (λ (ys : List ℕ). Carried g.sector image image holes ((cut.0 ++ keep_front) ++ (from ++ (keep_back ++ cut.1))) ys) (sym new)
+    (carried_between law g.sector image holes (cut.0 ++ keep_front) from to (keep_back ++ cut.1) moved
+    (length-range_with_len (place_sector g z (start + d + s)) (count g geo n) ∙ sym (length-range_with_len (place_sector g z (start + d)) (count g geo n)))))
+
 module _ (law : Laws) (m m' : Map) (owners : List Owner) (image : List ℕ) (ready : IsReady m owners image) (is : IsNewMap m) (is' : IsNewMap m') (z : ℕ) (low : z < m.geometry.zones)
     (start id d s n r' : ℕ) (front rest : List Run) (zone : HasRuns m z (front ++ row start id d s (n + r') rest)) (some : 0 < n) (few : n ≤ s)
     (d_whole : d % m.geometry.q ≡ 0) (n_whole : n % m.geometry.q ≡ 0)
@@ -125,30 +160,8 @@ module _ (law : Laws) (m m' : Map) (owners : List Owner) (image : List ℕ) (rea
 
   slid_carried : Carried g.sector image image (hole_sectors (Layout.New m)) (id_sectors m id) (id_sectors m' id)
   slid_carried =
-      let geo = geometry_is m is in
-      let cut = law.one_zone m m' z id same zones low (λ y lt other. runs_other y other) in
-      let keep_front = kept_front g geo z start id d s n r' front rest in
-      let keep_back = kept_back g geo z start id d s n r' front rest in
-      let from = stretch g geo z (start + d + s) n in
-      let to = stretch g geo z (start + d) n in
-      let all : 0 < n + r' = omega (arith, some) in
-      let before_low = hole_low m is z low start id d s (n + r') front rest zone all in
-      let old : id_sectors m id ≡ (cut.0 ++ keep_front) ++ (from ++ (keep_back ++ cut.1)) =
-      cut.2 ∙ ap (λ (xs : List ℕ). cut.0 ++ (xs ++ cut.1))
-      (ap (taken g geo z id) zone ∙ row_before g geo z start id d s n r' front rest (omega (arith, before_low)) (run_on m is z low start id d s (n + r') front rest zone all) n_whole)
-      ∙ around cut.0 keep_front from keep_back cut.1 in
-      let new : id_sectors m' id ≡ (cut.0 ++ keep_front) ++ (to ++ (keep_back ++ cut.1)) =
-      ap (λ (h : Geometry). sectors_of h (id_runs m' id)) same
-      ∙ cut.3 ∙ ap (λ (xs : List ℕ). cut.0 ++ (xs ++ cut.1))
-      (ap (taken g geo z id) there ∙ row_after g geo z start id d s n r' front rest (grown m is z low start id d s (n + r') front rest zone all n d_whole))
-      ∙ around cut.0 keep_front to keep_back cut.1 in
-      let moved : Carried g.sector image image (hole_sectors (Layout.New m)) from to =
-      law.pieces.piece g.sector image image (hole_sectors (Layout.New m)) (place_sector g z (start + d + s)) (place_sector g z (start + d)) (count g geo n) copied
-      (piece_in_hole m is z low start id d s (n + r') front rest zone all n (omega arith) few n_whole) in
-      subst (λ (xs : List ℕ). Carried g.sector image image (hole_sectors (Layout.New m)) xs (id_sectors m' id)) (sym old)
-      (subst (λ (ys : List ℕ). Carried g.sector image image (hole_sectors (Layout.New m)) ((cut.0 ++ keep_front) ++ (from ++ (keep_back ++ cut.1))) ys) (sym new)
-      (carried_between law g.sector image (hole_sectors (Layout.New m)) (cut.0 ++ keep_front) from to (keep_back ++ cut.1) moved
-      (length-range_with_len (place_sector g z (start + d + s)) (count g geo n) ∙ sym (length-range_with_len (place_sector g z (start + d)) (count g geo n)))))
+      row_carried law m m' is z low start id d s n r' front rest zone some d_whole n_whole same there runs_other image (hole_sectors (Layout.New m)) copied
+      (piece_in_hole m is z low start id d s (n + r') front rest zone (omega (arith, some)) n (omega arith) few n_whole)
 
   pub slide_can : CanCommit m m' (objects_of ready.view.listings) image
   slide_can = inl (

@@ -7,3 +7,4 @@ pub mod Steps
 pub mod Laws
 pub mod Settling
 pub mod Passing
+pub mod Gathering

@@ -1,6 +1,6 @@
 -- What each step of compaction does to a map and to an image, and what one step after another does.
 use Rattle.std.specs.Prelude.{◌≡◌, ◌<◌, ◌≤◌, ℕ, false, true, List, length}
-use Rattle.fc_newmap.specs.Map.{Map, id_runs}
+use Rattle.fc_newmap.specs.Map.{Map, ZoneRun, bits_in, id_runs}
 use Rattle.fc_newmap.specs.NewMap.{IsNewMap}
 use Rattle.fc_alloc.specs.declared.owner.Owner.{Owner}
 use Rattle.fc_image.specs.Moves.{KeepsObjects}
@@ -27,3 +27,9 @@ pub record Packs (owners : List Owner) (m m' : Map) : Type 0 where
   pub bits : (id : ℕ) → is_movable_by owners id ≡ true → KeepsBits m m' id
   pub runs : (id : ℕ) → is_movable_by owners id ≡ true → length (id_runs m' id) ≤ length (id_runs m id)
   pub some : (id : ℕ) → is_movable_by owners id ≡ true → 0 < length (id_runs m id) → 0 < length (id_runs m' id)
+
+-- as many bits, no more runs, and some if there were some
+pub record SamePart (was is : List ZoneRun) : Type 0 where
+  pub bits : bits_in is ≡ bits_in was
+  pub fewer : length is ≤ length was
+  pub some : 0 < length was → 0 < length is

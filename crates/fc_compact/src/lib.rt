@@ -8,6 +8,7 @@
 mod compacting;
 mod copying;
 mod finding;
+mod gathering;
 mod joinable;
 mod joining;
 mod releasing;
@@ -32,6 +33,8 @@ fn laws()
     fc_image::holes();
     fc_image::hole_steps();
     fc_image::commits();
+    fc_image::carries();
+    fc_image::one_map();
     fc_image::keeps_objects();
     fc_image::maps();
     fc_image::pieces();

@@ -13,6 +13,7 @@ ghost use Rattle.fc_compact.specs.Sliding.{HasRuns};
 ghost use Rattle.fc_compact.specs.Steps.{Packs, Preserves};
 
 use crate::finding::walk_in;
+use crate::gathering::gather;
 use crate::laws;
 use crate::sliding::{commit_zone, slide};
 use fc_alloc::Owners;
@@ -230,6 +231,38 @@ fn is_settled_in(map: &NewMap, owners: &Owners, z: u16) -> bool
     true
 }
 
+// Takes the steps that are left in a zone: all that one commit can, or if it can none, one after another. Answers whether one
+// was taken.
+fn settle_more<D: Disk>(
+    disk: &mut D,
+    map: &mut NewMap,
+    owners: &Owners,
+    z: u16,
+) -> Result<bool, DiskFault>
+    requires attached { IsTrue (D.attached disk.old) }
+    requires settled { IsFalse (D.pending disk.old) }
+    requires size { D.sector_size disk.old ≡ map.old.geometry.sector }
+    requires on_disk { map.old.geometry.map_sector + 2 * map.old.geometry.zones ≤ D.sectors disk.old }
+    requires disc { disc_sectors (Layout.New map.old) ≤ D.sectors disk.old }
+    requires ready { ForSome (D.bytes disk.old) (IsReady map.old owners.now) }
+    requires zone { z < map.old.geometry.zones }
+    ensures keeps { StopsAndExitsLeave D.Disk disk.old disk.new (Preserves map.old owners.now) }
+    ensures ready { OnOk result (ForSome (D.bytes disk.new) (IsReady map.new owners.now)) }
+    ensures passes { IfOk result (Passes owners.now map.old map.new z) }
+    ensures geometry { map.new.geometry ≡ map.old.geometry }
+    ensures durable { OnOk result (IsFalse (D.pending disk.new)) }
+    ensures form { SameForm D.Disk disk.old disk.new }
+    ensures cause { FailsByFault D.Disk disk.old disk.new result }
+{
+    laws();
+    map.is_map();
+    let gathered = gather(disk, map, owners, z)?;
+    if gathered {
+        return Ok(true);
+    }
+    settle_pass(disk, map, owners, z)
+}
+
 // Passes over a zone until nothing is left to do in it.
 fn settle_zone<D: Disk>(
     disk: &mut D,
@@ -257,7 +290,7 @@ fn settle_zone<D: Disk>(
     laws();
     map.is_map();
     while !is_settled_in(map, owners, z) {
-        settle_pass(disk, map, owners, z)?;
+        settle_more(disk, map, owners, z)?;
     }
     Ok(())
 }

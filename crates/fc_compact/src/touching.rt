@@ -49,7 +49,7 @@ fn join_pair(map: &mut NewMap, z: u16, run: Run, next: Run) -> Run
 }
 
 // Makes one hole of those that touch, in a zone.
-fn join_holes_in(map: &mut NewMap, z: u16)
+pub fn join_holes_in(map: &mut NewMap, z: u16)
     requires zone { z < map.old.geometry.zones }
     ensures runs { runs_of map.new z ≡ with_holes_joined (runs_of map.old z) }
     ensures edit { IsEdit map.old map.new z }

@@ -123,8 +123,8 @@ returns-in_err-copy_row-clause-keeps g c =
     let high = disc_high m is in
     let law = laws g.met.D.Disk in
     let torn = kept_torn m c.loop-z.at c.extent_of-from.result.sectors
-        (λ i lt. subst (λ (k : ℕ). is_among (hole_sectors (Layout.New m)) (k + i) ≡ true) (sym was.place) (row_in_hole m is c.args.id was.passed r.0 p cut c.args.to c.requires.hole i (omega (arith, lt, count_is))))
-        law was.form (was.form.size_stays ∙ c.requires.size) (omega (arith, count_is, was.place, within, c.requires.to_on_disc, c.requires.disc)) was.kept c.copy_row.ensures.tears in
+    (λ i lt. subst (λ (k : ℕ). is_among (hole_sectors (Layout.New m)) (k + i) ≡ true) (sym was.place) (row_in_hole m is c.args.id was.passed r.0 p cut c.args.to c.requires.hole i (omega (arith, lt, count_is))))
+    law was.form (was.form.size_stays ∙ c.requires.size) (omega (arith, count_is, was.place, within, c.requires.to_on_disc, c.requires.disc)) was.kept c.copy_row.ensures.tears in
     kept_preserves law c.laws.ensures m c.args.owners.now c.requires.ready torn
 
 pub returns-in_err-copy_row-clause-still_ready : goal.returns-in_err-copy_row-clause-still_ready
@@ -141,8 +141,8 @@ returns-in_err-copy_row-clause-still_ready g c =
     let high = disc_high m is in
     let law = laws g.met.D.Disk in
     let torn = kept_torn m c.loop-z.at c.extent_of-from.result.sectors
-        (λ i lt. subst (λ (k : ℕ). is_among (hole_sectors (Layout.New m)) (k + i) ≡ true) (sym was.place) (row_in_hole m is c.args.id was.passed r.0 p cut c.args.to c.requires.hole i (omega (arith, lt, count_is))))
-        law was.form (was.form.size_stays ∙ c.requires.size) (omega (arith, count_is, was.place, within, c.requires.to_on_disc, c.requires.disc)) was.kept c.copy_row.ensures.tears in
+    (λ i lt. subst (λ (k : ℕ). is_among (hole_sectors (Layout.New m)) (k + i) ≡ true) (sym was.place) (row_in_hole m is c.args.id was.passed r.0 p cut c.args.to c.requires.hole i (omega (arith, lt, count_is))))
+    law was.form (was.form.size_stays ∙ c.requires.size) (omega (arith, count_is, was.place, within, c.requires.to_on_disc, c.requires.disc)) was.kept c.copy_row.ensures.tears in
     kept_ready law c.laws.ensures m c.args.owners.now c.requires.ready torn
 
 pub returns-in_err-sync-clause-keeps : goal.returns-in_err-sync-clause-keeps
@@ -197,8 +197,8 @@ loop-z-preserved g c =
     let sectors = was.form.sectors_stay in
     let law = laws g.met.D.Disk in
     let torn = kept_torn m c.loop-z.at c.extent_of-from.result.sectors
-        (λ i lt. subst (λ (k : ℕ). is_among (hole_sectors (Layout.New m)) (k + i) ≡ true) (sym was.place) (row_in_hole m is c.args.id was.passed r.0 p cut c.args.to c.requires.hole i (omega (arith, lt, count_is))))
-        law was.form (was.form.size_stays ∙ c.requires.size) (omega (arith, count_is, was.place, within, c.requires.to_on_disc, c.requires.disc)) was.kept c.copy_row.ensures.tears in
+    (λ i lt. subst (λ (k : ℕ). is_among (hole_sectors (Layout.New m)) (k + i) ≡ true) (sym was.place) (row_in_hole m is c.args.id was.passed r.0 p cut c.args.to c.requires.hole i (omega (arith, lt, count_is))))
+    law was.form (was.form.size_stays ∙ c.requires.size) (omega (arith, count_is, was.place, within, c.requires.to_on_disc, c.requires.disc)) was.kept c.copy_row.ensures.tears in
     let size = m.geometry.sector in
     let count = sector_count m.geometry p in
     let copied_here : (image : List ℕ) → g.D.Disk.bytes c.copy_row.new.disk ≡ Some image → IsCopied size c.extent_of-from.result.first c.loop-z.at c.extent_of-from.result.sectors image =

@@ -1,0 +1,408 @@
+use Rattle.std.proofs.Common.{◌≡◌, ◌<◌, ◌≤◌, ◌⊎◌, inl, inr, ℕ, ◌+◌, ◌-◌, ◌*◌, ◌/◌, ◌%◌, ◌^◌, ◌++◌, ◌∷◌, List, Some, refl, ap, ap₂, sym, subst, ◌∙◌, arith}
+use Rattle.std.specs.Option.{ForSome}
+use Rattle.fc_record.specs.declared.Geometry.{Geometry}
+use Rattle.fc_zone.specs.declared.Run.{Run}
+use Rattle.fc_newmap.specs.Map.{Map, first_sector, runs_of, sector_count}
+use Rattle.fc_newmap.specs.Walk.{IsInZone}
+use Rattle.fc_zone.proofs.HolderLemmas.{run_ext}
+use Rattle.fc_newmap.proofs.RunsLemmas.{place_sector}
+use Rattle.fc_compact.specs.Copying.{IsCopied, TearsRow}
+use Rattle.fc_compact.specs.Sliding.{HasRuns, hole_at, part, row, run_at}
+use Rattle.fc_compact.proofs.FindLemmas.{first_row, hole_room, hole_whole, len_room, len_whole, pair_fits, run_follows, some_len}
+use Rattle.fc_compact.proofs.SlideLemmas.{disc_low, id_fits, piece_apart, piece_in_zone, piece_on_disc, place_in_zone}
+use Rattle.fc_compact.proofs.gathering.draw.Goals as goal
+
+pub extent_of-from-requires-clause-run : goal.extent_of-from-requires-clause-run
+extent_of-from-requires-clause-run g c =
+    let m = c.args.map.now in
+    let z = c.args.z in
+    let hole = c.args.hole in
+    let run = c.args.run in
+    let id = c.args.id in
+    let is = c.is_map.ensures in
+    let low = c.requires.zone in
+    let cs = c.requires.runs in
+    let follows = run_follows m is z low cs.front cs.rest hole run cs.runs in
+    let zone = first_row m is z low cs.front cs.rest hole run cs.runs hole.start id refl cs.is_hole cs.is_run in
+    let some = some_len m is z low cs.front cs.rest hole run cs.runs in
+    let whole = len_whole m is z low cs.front cs.rest hole run cs.runs in
+    let geo = c.geometry.ensures.value in
+    let there = piece_in_zone m is z low hole.start id 0 hole.len run.len cs.front cs.rest zone some run.len (omega arith) cs.room whole in
+    subst (λ (h : Geometry). IsInZone h (z, run)) (sym geo) (record { zone = low; from = omega (arith, there.from, follows); to = omega (arith, there.to, follows) })
+
+pub extent_of-to-requires-clause-run : goal.extent_of-to-requires-clause-run
+extent_of-to-requires-clause-run g c =
+    let m = c.args.map.now in
+    let z = c.args.z in
+    let hole = c.args.hole in
+    let run = c.args.run in
+    let id = c.args.id in
+    let is = c.is_map.ensures in
+    let low = c.requires.zone in
+    let cs = c.requires.runs in
+    let follows = run_follows m is z low cs.front cs.rest hole run cs.runs in
+    let zone = first_row m is z low cs.front cs.rest hole run cs.runs hole.start id refl cs.is_hole cs.is_run in
+    let some = some_len m is z low cs.front cs.rest hole run cs.runs in
+    let whole = len_whole m is z low cs.front cs.rest hole run cs.runs in
+    let geo = c.geometry.ensures.value in
+    let there = place_in_zone m is z low hole.start id 0 hole.len run.len cs.front cs.rest zone some run.len (omega arith) cs.room whole in
+    subst (λ (h : Geometry). IsInZone h (z, record hole { len = run.len })) (sym geo) (record { zone = low; from = omega (arith, there.from); to = omega (arith, there.to) })
+
+pub copy_row-requires-clause-apart : goal.copy_row-requires-clause-apart
+copy_row-requires-clause-apart g c =
+    let m = c.args.map.now in
+    let z = c.args.z in
+    let hole = c.args.hole in
+    let run = c.args.run in
+    let id = c.args.id in
+    let is = c.is_map.ensures in
+    let low = c.requires.zone in
+    let cs = c.requires.runs in
+    let follows = run_follows m is z low cs.front cs.rest hole run cs.runs in
+    let zone = first_row m is z low cs.front cs.rest hole run cs.runs hole.start id refl cs.is_hole cs.is_run in
+    let some = some_len m is z low cs.front cs.rest hole run cs.runs in
+    let whole = len_whole m is z low cs.front cs.rest hole run cs.runs in
+    let geo = c.geometry.ensures.value in
+    let from_is : c.extent_of-from.result.first ≡ place_sector m.geometry z (hole.start + 0 + hole.len) =
+    ap (λ e. e.first) c.extent_of-from.ensures ∙ ap (λ (h : Geometry). first_sector h (z, run)) geo ∙ ap (place_sector m.geometry z) (let e : run.start ≡ hole.start + 0 + hole.len = omega (arith, follows) in e) in
+    let to_is : c.extent_of-to.result.first ≡ place_sector m.geometry z (hole.start + 0) =
+    ap (λ e. e.first) c.extent_of-to.ensures ∙ ap (λ (h : Geometry). first_sector h (z, hole)) geo ∙ ap (place_sector m.geometry z) (let e : hole.start ≡ hole.start + 0 = omega arith in e) in
+    let count_is : c.extent_of-from.result.sectors ≡ run.len * m.geometry.bit_bytes / m.geometry.sector = ap (λ e. e.sectors) c.extent_of-from.ensures ∙ ap (λ (h : Geometry). sector_count h (z, run)) geo in
+    inr (omega (arith, from_is, to_is, count_is, piece_apart m is z low hole.start id 0 hole.len run.len cs.front cs.rest zone some run.len (omega arith) cs.room whole))
+
+pub copy_row-requires-clause-on_disk : goal.copy_row-requires-clause-on_disk
+copy_row-requires-clause-on_disk g c =
+    let m = c.args.map.now in
+    let z = c.args.z in
+    let hole = c.args.hole in
+    let run = c.args.run in
+    let id = c.args.id in
+    let is = c.is_map.ensures in
+    let low = c.requires.zone in
+    let cs = c.requires.runs in
+    let follows = run_follows m is z low cs.front cs.rest hole run cs.runs in
+    let zone = first_row m is z low cs.front cs.rest hole run cs.runs hole.start id refl cs.is_hole cs.is_run in
+    let some = some_len m is z low cs.front cs.rest hole run cs.runs in
+    let whole = len_whole m is z low cs.front cs.rest hole run cs.runs in
+    let geo = c.geometry.ensures.value in
+    let from_is : c.extent_of-from.result.first ≡ place_sector m.geometry z (hole.start + 0 + hole.len) =
+    ap (λ e. e.first) c.extent_of-from.ensures ∙ ap (λ (h : Geometry). first_sector h (z, run)) geo ∙ ap (place_sector m.geometry z) (let e : run.start ≡ hole.start + 0 + hole.len = omega (arith, follows) in e) in
+    let to_is : c.extent_of-to.result.first ≡ place_sector m.geometry z (hole.start + 0) =
+    ap (λ e. e.first) c.extent_of-to.ensures ∙ ap (λ (h : Geometry). first_sector h (z, hole)) geo ∙ ap (place_sector m.geometry z) (let e : hole.start ≡ hole.start + 0 = omega arith in e) in
+    let count_is : c.extent_of-from.result.sectors ≡ run.len * m.geometry.bit_bytes / m.geometry.sector = ap (λ e. e.sectors) c.extent_of-from.ensures ∙ ap (λ (h : Geometry). sector_count h (z, run)) geo in
+    omega (arith, from_is, count_is, piece_on_disc m is z low hole.start id 0 hole.len run.len cs.front cs.rest zone some run.len (omega arith) cs.room whole, c.requires.disc)
+
+pub copy_row-requires-clause-to_on_disk : goal.copy_row-requires-clause-to_on_disk
+copy_row-requires-clause-to_on_disk g c =
+    let m = c.args.map.now in
+    let z = c.args.z in
+    let hole = c.args.hole in
+    let run = c.args.run in
+    let id = c.args.id in
+    let is = c.is_map.ensures in
+    let low = c.requires.zone in
+    let cs = c.requires.runs in
+    let follows = run_follows m is z low cs.front cs.rest hole run cs.runs in
+    let zone = first_row m is z low cs.front cs.rest hole run cs.runs hole.start id refl cs.is_hole cs.is_run in
+    let some = some_len m is z low cs.front cs.rest hole run cs.runs in
+    let whole = len_whole m is z low cs.front cs.rest hole run cs.runs in
+    let geo = c.geometry.ensures.value in
+    let from_is : c.extent_of-from.result.first ≡ place_sector m.geometry z (hole.start + 0 + hole.len) =
+    ap (λ e. e.first) c.extent_of-from.ensures ∙ ap (λ (h : Geometry). first_sector h (z, run)) geo ∙ ap (place_sector m.geometry z) (let e : run.start ≡ hole.start + 0 + hole.len = omega (arith, follows) in e) in
+    let to_is : c.extent_of-to.result.first ≡ place_sector m.geometry z (hole.start + 0) =
+    ap (λ e. e.first) c.extent_of-to.ensures ∙ ap (λ (h : Geometry). first_sector h (z, hole)) geo ∙ ap (place_sector m.geometry z) (let e : hole.start ≡ hole.start + 0 = omega arith in e) in
+    let count_is : c.extent_of-from.result.sectors ≡ run.len * m.geometry.bit_bytes / m.geometry.sector = ap (λ e. e.sectors) c.extent_of-from.ensures ∙ ap (λ (h : Geometry). sector_count h (z, run)) geo in
+    omega (arith, from_is, to_is, count_is, piece_apart m is z low hole.start id 0 hole.len run.len cs.front cs.rest zone some run.len (omega arith) cs.room whole, piece_on_disc m is z low hole.start id 0 hole.len run.len cs.front cs.rest zone some run.len (omega arith) cs.room whole, c.requires.disc)
+
+pub copy_row-requires-clause-fits : goal.copy_row-requires-clause-fits
+copy_row-requires-clause-fits g c =
+    let m = c.args.map.now in
+    let z = c.args.z in
+    let hole = c.args.hole in
+    let run = c.args.run in
+    let id = c.args.id in
+    let is = c.is_map.ensures in
+    let low = c.requires.zone in
+    let cs = c.requires.runs in
+    let follows = run_follows m is z low cs.front cs.rest hole run cs.runs in
+    let zone = first_row m is z low cs.front cs.rest hole run cs.runs hole.start id refl cs.is_hole cs.is_run in
+    let some = some_len m is z low cs.front cs.rest hole run cs.runs in
+    let whole = len_whole m is z low cs.front cs.rest hole run cs.runs in
+    let geo = c.geometry.ensures.value in
+    let from_is : c.extent_of-from.result.first ≡ place_sector m.geometry z (hole.start + 0 + hole.len) =
+    ap (λ e. e.first) c.extent_of-from.ensures ∙ ap (λ (h : Geometry). first_sector h (z, run)) geo ∙ ap (place_sector m.geometry z) (let e : run.start ≡ hole.start + 0 + hole.len = omega (arith, follows) in e) in
+    let to_is : c.extent_of-to.result.first ≡ place_sector m.geometry z (hole.start + 0) =
+    ap (λ e. e.first) c.extent_of-to.ensures ∙ ap (λ (h : Geometry). first_sector h (z, hole)) geo ∙ ap (place_sector m.geometry z) (let e : hole.start ≡ hole.start + 0 = omega arith in e) in
+    let count_is : c.extent_of-from.result.sectors ≡ run.len * m.geometry.bit_bytes / m.geometry.sector = ap (λ e. e.sectors) c.extent_of-from.ensures ∙ ap (λ (h : Geometry). sector_count h (z, run)) geo in
+    omega (arith, from_is, count_is, piece_on_disc m is z low hole.start id 0 hole.len run.len cs.front cs.rest zone some run.len (omega arith) cs.room whole, disc_low m is z low hole.start id 0 hole.len run.len cs.front cs.rest zone some run.len (omega arith) cs.room whole)
+
+pub copy_row-requires-clause-to_fits : goal.copy_row-requires-clause-to_fits
+copy_row-requires-clause-to_fits g c =
+    let m = c.args.map.now in
+    let z = c.args.z in
+    let hole = c.args.hole in
+    let run = c.args.run in
+    let id = c.args.id in
+    let is = c.is_map.ensures in
+    let low = c.requires.zone in
+    let cs = c.requires.runs in
+    let follows = run_follows m is z low cs.front cs.rest hole run cs.runs in
+    let zone = first_row m is z low cs.front cs.rest hole run cs.runs hole.start id refl cs.is_hole cs.is_run in
+    let some = some_len m is z low cs.front cs.rest hole run cs.runs in
+    let whole = len_whole m is z low cs.front cs.rest hole run cs.runs in
+    let geo = c.geometry.ensures.value in
+    let from_is : c.extent_of-from.result.first ≡ place_sector m.geometry z (hole.start + 0 + hole.len) =
+    ap (λ e. e.first) c.extent_of-from.ensures ∙ ap (λ (h : Geometry). first_sector h (z, run)) geo ∙ ap (place_sector m.geometry z) (let e : run.start ≡ hole.start + 0 + hole.len = omega (arith, follows) in e) in
+    let to_is : c.extent_of-to.result.first ≡ place_sector m.geometry z (hole.start + 0) =
+    ap (λ e. e.first) c.extent_of-to.ensures ∙ ap (λ (h : Geometry). first_sector h (z, hole)) geo ∙ ap (place_sector m.geometry z) (let e : hole.start ≡ hole.start + 0 = omega arith in e) in
+    let count_is : c.extent_of-from.result.sectors ≡ run.len * m.geometry.bit_bytes / m.geometry.sector = ap (λ e. e.sectors) c.extent_of-from.ensures ∙ ap (λ (h : Geometry). sector_count h (z, run)) geo in
+    omega (arith, from_is, to_is, count_is, piece_apart m is z low hole.start id 0 hole.len run.len cs.front cs.rest zone some run.len (omega arith) cs.room whole, piece_on_disc m is z low hole.start id 0 hole.len run.len cs.front cs.rest zone some run.len (omega arith) cs.room whole, disc_low m is z low hole.start id 0 hole.len run.len cs.front cs.rest zone some run.len (omega arith) cs.room whole)
+
+pub shift-requires-clause-id_fits : goal.shift-requires-clause-id_fits
+shift-requires-clause-id_fits g c =
+    let m = c.args.map.now in
+    let z = c.args.z in
+    let hole = c.args.hole in
+    let run = c.args.run in
+    let id = c.args.id in
+    let is = c.is_map.ensures in
+    let low = c.requires.zone in
+    let cs = c.requires.runs in
+    let follows = run_follows m is z low cs.front cs.rest hole run cs.runs in
+    let zone = first_row m is z low cs.front cs.rest hole run cs.runs hole.start id refl cs.is_hole cs.is_run in
+    let some = some_len m is z low cs.front cs.rest hole run cs.runs in
+    let whole = len_whole m is z low cs.front cs.rest hole run cs.runs in
+    id_fits m is z low hole.start id 0 hole.len run.len cs.front cs.rest zone some
+
+pub shift-requires-clause-fits : goal.shift-requires-clause-fits
+shift-requires-clause-fits g c =
+    let m = c.args.map.now in
+    let z = c.args.z in
+    let hole = c.args.hole in
+    let run = c.args.run in
+    let id = c.args.id in
+    let is = c.is_map.ensures in
+    let low = c.requires.zone in
+    let cs = c.requires.runs in
+    let follows = run_follows m is z low cs.front cs.rest hole run cs.runs in
+    let zone = first_row m is z low cs.front cs.rest hole run cs.runs hole.start id refl cs.is_hole cs.is_run in
+    let some = some_len m is z low cs.front cs.rest hole run cs.runs in
+    let whole = len_whole m is z low cs.front cs.rest hole run cs.runs in
+    omega (arith, pair_fits m is z low cs.front cs.rest hole run cs.runs)
+
+pub shift-requires-clause-some : goal.shift-requires-clause-some
+shift-requires-clause-some g c =
+    let m = c.args.map.now in
+    let z = c.args.z in
+    let hole = c.args.hole in
+    let run = c.args.run in
+    let id = c.args.id in
+    let is = c.is_map.ensures in
+    let low = c.requires.zone in
+    let cs = c.requires.runs in
+    let follows = run_follows m is z low cs.front cs.rest hole run cs.runs in
+    let zone = first_row m is z low cs.front cs.rest hole run cs.runs hole.start id refl cs.is_hole cs.is_run in
+    let some = some_len m is z low cs.front cs.rest hole run cs.runs in
+    let whole = len_whole m is z low cs.front cs.rest hole run cs.runs in
+    some
+
+pub shift-requires-clause-done_whole : goal.shift-requires-clause-done_whole
+shift-requires-clause-done_whole g c =
+    let m = c.args.map.now in
+    let z = c.args.z in
+    let hole = c.args.hole in
+    let run = c.args.run in
+    let id = c.args.id in
+    let is = c.is_map.ensures in
+    let low = c.requires.zone in
+    let cs = c.requires.runs in
+    let follows = run_follows m is z low cs.front cs.rest hole run cs.runs in
+    let zone = first_row m is z low cs.front cs.rest hole run cs.runs hole.start id refl cs.is_hole cs.is_run in
+    let some = some_len m is z low cs.front cs.rest hole run cs.runs in
+    let whole = len_whole m is z low cs.front cs.rest hole run cs.runs in
+    subst (λ (k : ℕ). k % m.geometry.q ≡ 0) (let e : run.len ≡ 0 + run.len = omega arith in e) whole
+
+pub shift-requires-clause-hole_whole : goal.shift-requires-clause-hole_whole
+shift-requires-clause-hole_whole g c =
+    let m = c.args.map.now in
+    let z = c.args.z in
+    let hole = c.args.hole in
+    let run = c.args.run in
+    let id = c.args.id in
+    let is = c.is_map.ensures in
+    let low = c.requires.zone in
+    let cs = c.requires.runs in
+    let follows = run_follows m is z low cs.front cs.rest hole run cs.runs in
+    let zone = first_row m is z low cs.front cs.rest hole run cs.runs hole.start id refl cs.is_hole cs.is_run in
+    let some = some_len m is z low cs.front cs.rest hole run cs.runs in
+    let whole = len_whole m is z low cs.front cs.rest hole run cs.runs in
+    hole_whole m is z low cs.front cs.rest hole run cs.runs
+
+pub shift-requires-clause-done_room : goal.shift-requires-clause-done_room
+shift-requires-clause-done_room g c =
+    let m = c.args.map.now in
+    let z = c.args.z in
+    let hole = c.args.hole in
+    let run = c.args.run in
+    let id = c.args.id in
+    let is = c.is_map.ensures in
+    let low = c.requires.zone in
+    let cs = c.requires.runs in
+    let follows = run_follows m is z low cs.front cs.rest hole run cs.runs in
+    let zone = first_row m is z low cs.front cs.rest hole run cs.runs hole.start id refl cs.is_hole cs.is_run in
+    let some = some_len m is z low cs.front cs.rest hole run cs.runs in
+    let whole = len_whole m is z low cs.front cs.rest hole run cs.runs in
+    omega (arith, len_room m is z low cs.front cs.rest hole run cs.runs)
+
+pub shift-requires-clause-hole_room : goal.shift-requires-clause-hole_room
+shift-requires-clause-hole_room g c =
+    let m = c.args.map.now in
+    let z = c.args.z in
+    let hole = c.args.hole in
+    let run = c.args.run in
+    let id = c.args.id in
+    let is = c.is_map.ensures in
+    let low = c.requires.zone in
+    let cs = c.requires.runs in
+    let follows = run_follows m is z low cs.front cs.rest hole run cs.runs in
+    let zone = first_row m is z low cs.front cs.rest hole run cs.runs hole.start id refl cs.is_hole cs.is_run in
+    let some = some_len m is z low cs.front cs.rest hole run cs.runs in
+    let whole = len_whole m is z low cs.front cs.rest hole run cs.runs in
+    hole_room m is z low cs.front cs.rest hole run cs.runs
+
+pub shift-requires-clause-left : goal.shift-requires-clause-left
+shift-requires-clause-left g c =
+    let m = c.args.map.now in
+    let z = c.args.z in
+    let hole = c.args.hole in
+    let run = c.args.run in
+    let id = c.args.id in
+    let is = c.is_map.ensures in
+    let low = c.requires.zone in
+    let cs = c.requires.runs in
+    let follows = run_follows m is z low cs.front cs.rest hole run cs.runs in
+    let zone = first_row m is z low cs.front cs.rest hole run cs.runs hole.start id refl cs.is_hole cs.is_run in
+    let some = some_len m is z low cs.front cs.rest hole run cs.runs in
+    let whole = len_whole m is z low cs.front cs.rest hole run cs.runs in
+    inl (omega arith)
+
+pub shift-requires-clause-row : goal.shift-requires-clause-row
+shift-requires-clause-row g c =
+    let m = c.args.map.now in
+    let z = c.args.z in
+    let hole = c.args.hole in
+    let run = c.args.run in
+    let id = c.args.id in
+    let is = c.is_map.ensures in
+    let low = c.requires.zone in
+    let cs = c.requires.runs in
+    let follows = run_follows m is z low cs.front cs.rest hole run cs.runs in
+    let zone = first_row m is z low cs.front cs.rest hole run cs.runs hole.start id refl cs.is_hole cs.is_run in
+    let some = some_len m is z low cs.front cs.rest hole run cs.runs in
+    let whole = len_whole m is z low cs.front cs.rest hole run cs.runs in
+    (cs.front, cs.rest, zone)
+
+pub returns-in_err-copy_row-clause-tears : goal.returns-in_err-copy_row-clause-tears
+returns-in_err-copy_row-clause-tears g c =
+    let m = c.args.map.now in
+    let z = c.args.z in
+    let hole = c.args.hole in
+    let run = c.args.run in
+    let id = c.args.id in
+    let is = c.is_map.ensures in
+    let low = c.requires.zone in
+    let cs = c.requires.runs in
+    let follows = run_follows m is z low cs.front cs.rest hole run cs.runs in
+    let zone = first_row m is z low cs.front cs.rest hole run cs.runs hole.start id refl cs.is_hole cs.is_run in
+    let some = some_len m is z low cs.front cs.rest hole run cs.runs in
+    let whole = len_whole m is z low cs.front cs.rest hole run cs.runs in
+    let geo = c.geometry.ensures.value in
+    let from_is : c.extent_of-from.result.first ≡ place_sector m.geometry z (hole.start + 0 + hole.len) =
+    ap (λ e. e.first) c.extent_of-from.ensures ∙ ap (λ (h : Geometry). first_sector h (z, run)) geo ∙ ap (place_sector m.geometry z) (let e : run.start ≡ hole.start + 0 + hole.len = omega (arith, follows) in e) in
+    let to_is : c.extent_of-to.result.first ≡ place_sector m.geometry z (hole.start + 0) =
+    ap (λ e. e.first) c.extent_of-to.ensures ∙ ap (λ (h : Geometry). first_sector h (z, hole)) geo ∙ ap (place_sector m.geometry z) (let e : hole.start ≡ hole.start + 0 = omega arith in e) in
+    let count_is : c.extent_of-from.result.sectors ≡ run.len * m.geometry.bit_bytes / m.geometry.sector = ap (λ e. e.sectors) c.extent_of-from.ensures ∙ ap (λ (h : Geometry). sector_count h (z, run)) geo in
+    let back : hole.start + 0 ≡ hole.start = omega arith in
+    subst (λ (k : ℕ). TearsRow g.D.Disk c.args.disk.now c.copy_row.new.disk k (sector_count m.geometry (z, run))) (to_is ∙ ap (place_sector m.geometry z) back)
+    (subst (λ (k : ℕ). TearsRow g.D.Disk c.args.disk.now c.copy_row.new.disk c.extent_of-to.result.first k) count_is c.copy_row.ensures.tears)
+
+pub returns-clause-tears : goal.returns-clause-tears
+returns-clause-tears g c =
+    let m = c.args.map.now in
+    let z = c.args.z in
+    let hole = c.args.hole in
+    let run = c.args.run in
+    let id = c.args.id in
+    let is = c.is_map.ensures in
+    let low = c.requires.zone in
+    let cs = c.requires.runs in
+    let follows = run_follows m is z low cs.front cs.rest hole run cs.runs in
+    let zone = first_row m is z low cs.front cs.rest hole run cs.runs hole.start id refl cs.is_hole cs.is_run in
+    let some = some_len m is z low cs.front cs.rest hole run cs.runs in
+    let whole = len_whole m is z low cs.front cs.rest hole run cs.runs in
+    let geo = c.geometry.ensures.value in
+    let from_is : c.extent_of-from.result.first ≡ place_sector m.geometry z (hole.start + 0 + hole.len) =
+    ap (λ e. e.first) c.extent_of-from.ensures ∙ ap (λ (h : Geometry). first_sector h (z, run)) geo ∙ ap (place_sector m.geometry z) (let e : run.start ≡ hole.start + 0 + hole.len = omega (arith, follows) in e) in
+    let to_is : c.extent_of-to.result.first ≡ place_sector m.geometry z (hole.start + 0) =
+    ap (λ e. e.first) c.extent_of-to.ensures ∙ ap (λ (h : Geometry). first_sector h (z, hole)) geo ∙ ap (place_sector m.geometry z) (let e : hole.start ≡ hole.start + 0 = omega arith in e) in
+    let count_is : c.extent_of-from.result.sectors ≡ run.len * m.geometry.bit_bytes / m.geometry.sector = ap (λ e. e.sectors) c.extent_of-from.ensures ∙ ap (λ (h : Geometry). sector_count h (z, run)) geo in
+    let back : hole.start + 0 ≡ hole.start = omega arith in
+    subst (λ (k : ℕ). TearsRow g.D.Disk c.args.disk.now c.copy_row.new.disk k (sector_count m.geometry (z, run))) (to_is ∙ ap (place_sector m.geometry z) back)
+    (subst (λ (k : ℕ). TearsRow g.D.Disk c.args.disk.now c.copy_row.new.disk c.extent_of-to.result.first k) count_is c.copy_row.ensures.tears)
+
+pub returns-clause-copied : goal.returns-clause-copied
+returns-clause-copied g c =
+    let m = c.args.map.now in
+    let z = c.args.z in
+    let hole = c.args.hole in
+    let run = c.args.run in
+    let id = c.args.id in
+    let is = c.is_map.ensures in
+    let low = c.requires.zone in
+    let cs = c.requires.runs in
+    let follows = run_follows m is z low cs.front cs.rest hole run cs.runs in
+    let zone = first_row m is z low cs.front cs.rest hole run cs.runs hole.start id refl cs.is_hole cs.is_run in
+    let some = some_len m is z low cs.front cs.rest hole run cs.runs in
+    let whole = len_whole m is z low cs.front cs.rest hole run cs.runs in
+    let geo = c.geometry.ensures.value in
+    let from_is : c.extent_of-from.result.first ≡ place_sector m.geometry z (hole.start + 0 + hole.len) =
+    ap (λ e. e.first) c.extent_of-from.ensures ∙ ap (λ (h : Geometry). first_sector h (z, run)) geo ∙ ap (place_sector m.geometry z) (let e : run.start ≡ hole.start + 0 + hole.len = omega (arith, follows) in e) in
+    let to_is : c.extent_of-to.result.first ≡ place_sector m.geometry z (hole.start + 0) =
+    ap (λ e. e.first) c.extent_of-to.ensures ∙ ap (λ (h : Geometry). first_sector h (z, hole)) geo ∙ ap (place_sector m.geometry z) (let e : hole.start ≡ hole.start + 0 = omega arith in e) in
+    let count_is : c.extent_of-from.result.sectors ≡ run.len * m.geometry.bit_bytes / m.geometry.sector = ap (λ e. e.sectors) c.extent_of-from.ensures ∙ ap (λ (h : Geometry). sector_count h (z, run)) geo in
+    let back : hole.start + 0 ≡ hole.start = omega arith in
+    λ image told.
+    subst (λ (k : ℕ). IsCopied m.geometry.sector k (first_sector m.geometry (z, hole)) (sector_count m.geometry (z, run)) image) (from_is ∙ ap (place_sector m.geometry z) (let e : hole.start + 0 + hole.len ≡ run.start = omega (arith, follows) in e))
+    (subst (λ (k : ℕ). IsCopied m.geometry.sector c.extent_of-from.result.first k (sector_count m.geometry (z, run)) image) (to_is ∙ ap (place_sector m.geometry z) back)
+    (subst (λ (k : ℕ). IsCopied m.geometry.sector c.extent_of-from.result.first c.extent_of-to.result.first k image) count_is
+    (subst (λ (k : ℕ). IsCopied k c.extent_of-from.result.first c.extent_of-to.result.first c.extent_of-from.result.sectors image) (ap (λ (h : Geometry). h.sector) geo) (c.in_ok-copy_row.ensures.copied image told))))
+
+pub returns-clause-drawn : goal.returns-clause-drawn
+returns-clause-drawn g c =
+    let m = c.args.map.now in
+    let z = c.args.z in
+    let hole = c.args.hole in
+    let run = c.args.run in
+    let id = c.args.id in
+    let is = c.is_map.ensures in
+    let low = c.requires.zone in
+    let cs = c.requires.runs in
+    let follows = run_follows m is z low cs.front cs.rest hole run cs.runs in
+    let zone = first_row m is z low cs.front cs.rest hole run cs.runs hole.start id refl cs.is_hole cs.is_run in
+    let some = some_len m is z low cs.front cs.rest hole run cs.runs in
+    let whole = len_whole m is z low cs.front cs.rest hole run cs.runs in
+    record {
+      edit = c.shift.ensures.edit;
+      runs = λ front rest runs.
+          (let n = c.shift.new.map in
+          let start = hole.start in
+          let len = run.len in
+          let shifted = c.shift.ensures.runs front rest (first_row m is z low front rest hole run runs start id refl cs.is_hole cs.is_run) in
+          let all : 0 + len ≡ len = omega arith in
+          let none : len - len ≡ 0 = omega arith in
+          let moved : HasRuns n z (front ++ run_at start len id ∷ (hole_at (start + len) hole.len ∷ rest)) =
+          shifted ∙ ap₂ (λ (k left : ℕ). front ++ run_at start k id ∷ (hole_at (start + k) hole.len ∷ part (start + k + hole.len) left id rest)) all none in
+          moved
+          ∙ sym (ap₂ (λ (a b : Run). front ++ a ∷ (b ∷ rest)) (run_ext (record run { start = start }) (run_at start len id) refl refl cs.is_run)
+          (run_ext (record hole { start = start + len }) (hole_at (start + len) hole.len) refl refl cs.is_hole)));
+    }

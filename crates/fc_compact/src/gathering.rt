@@ -1,0 +1,214 @@
+// Runs that move up into the holes of their zone by one commit, as many as there is room for.
+ghost use Rattle.std.specs.Prelude.{◌≡◌, ◌<◌, ◌≤◌, ◌+◌, ◌*◌, ◌++◌, ◌∷◌, true, false, ℕ, List, IsTrue, IsFalse, OnOk, IfOk, IfSome};
+ghost use Rattle.std.specs.Option.{ForSome};
+ghost use Rattle.fc_device.specs.Calls.{FailsByFault, SameForm, StopsAndExitsLeave};
+ghost use Rattle.fc_zone.specs.declared.Run.{Run};
+ghost use Rattle.fc_newmap.specs.Map.{first_sector, sector_count};
+ghost use Rattle.fc_image.specs.Layout.{Layout, disc_sectors};
+ghost use Rattle.fc_compact.specs.Copying.{ChangesHoles, IsCopied, TearsRow};
+ghost use Rattle.fc_compact.specs.Ready.{IsReady, is_movable_by};
+ghost use Rattle.fc_compact.specs.Sliding.{HasRuns};
+ghost use Rattle.fc_compact.specs.Steps.{Preserves};
+
+use crate::copying::copy_row;
+use crate::laws;
+use crate::settling::is_movable;
+use crate::shifting::shift;
+use crate::sliding::commit_zone;
+use crate::touching::join_holes_in;
+use fc_alloc::Owners;
+use fc_device::{Disk, DiskFault};
+use fc_newmap::{NewMap, extent_of};
+use fc_zone::{Run, RunKind};
+
+/// A run of a zone, and how many bits at its front were a hole when the moves began and are one still.
+#[derive(Clone, Copy, Debug)]
+pub struct Front {
+    pub run: Run,
+    pub fresh: u32,
+    pub moved: bool,
+}
+
+ghost use Rattle.fc_compact.specs.Gathering.{CanDraw, Carrying, Drawn, Fits, Gathers, HasGathered, IsGathered, fresh_of};
+
+// The bits of a run that are a hole.
+fn fresh_of(run: Run) -> u32
+    ensures { result ≡ fresh_of run }
+{
+    match run.kind {
+        RunKind::Hole => run.len,
+        RunKind::Id(_) => 0,
+    }
+}
+
+// The identifier of the next run, if that may move up into the front of the hole before it.
+fn fitting_id(owners: &Owners, run: Run, next: Run, fresh: u32) -> Option<u32>
+    ensures { IfSome result (Fits owners.now run next fresh) }
+{
+    let RunKind::Hole = run.kind else {
+        return None;
+    };
+    let RunKind::Id(id) = next.kind else {
+        return None;
+    };
+    if next.len <= fresh && is_movable(owners, id) {
+        Some(id)
+    } else {
+        None
+    }
+}
+
+// Copies a run of an identifier into the front of the hole before it, and lets them change places in memory. The sync and
+// the commit are left to the caller.
+fn draw<D: Disk>(
+    disk: &mut D,
+    map: &mut NewMap,
+    z: u16,
+    hole: Run,
+    run: Run,
+    id: u32,
+) -> Result<(), DiskFault>
+    requires attached { IsTrue (D.attached disk.old) }
+    requires size { D.sector_size disk.old ≡ map.old.geometry.sector }
+    requires disc { disc_sectors (Layout.New map.old) ≤ D.sectors disk.old }
+    requires zone { z < map.old.geometry.zones }
+    requires runs { CanDraw map.old z hole run id }
+    ensures tears { TearsRow D.Disk disk.old disk.new (first_sector map.old.geometry (z, hole)) (sector_count map.old.geometry (z, run)) }
+    ensures copied { OnOk result (ForSome (D.bytes disk.new)
+        (IsCopied map.old.geometry.sector (first_sector map.old.geometry (z, run)) (first_sector map.old.geometry (z, hole)) (sector_count map.old.geometry (z, run)))) }
+    ensures drawn { OnOk result (Drawn map.old map.new z hole run) }
+    ensures geometry { map.new.geometry ≡ map.old.geometry }
+    ensures form { SameForm D.Disk disk.old disk.new }
+    ensures cause { FailsByFault D.Disk disk.old disk.new result }
+{
+    map.is_map();
+    let g = *map.geometry();
+    let from = extent_of(&g, z, run);
+    let to = extent_of(
+        &g,
+        z,
+        Run {
+            len: run.len,
+            ..hole
+        },
+    );
+    copy_row(disk, g.sector, from.first, to.first, from.sectors)?;
+    shift(map, z, hole.start, id, 0, hole.len, run.len, run.len);
+    Ok(())
+}
+
+// Draws the next run into the front of the hole before it, if it may and fits there.
+fn gather_pair<D: Disk>(
+    disk: &mut D,
+    map: &mut NewMap,
+    owners: &Owners,
+    z: u16,
+    run: Run,
+    next: Run,
+    fresh: u32,
+) -> Result<Front, DiskFault>
+    requires attached { IsTrue (D.attached disk.old) }
+    requires size { D.sector_size disk.old ≡ map.old.geometry.sector }
+    requires disc { disc_sectors (Layout.New map.old) ≤ D.sectors disk.old }
+    requires zone { z < map.old.geometry.zones }
+    requires pair { (front rest : List Run) × HasRuns map.old z (front ++ run ∷ next ∷ rest) }
+    requires fresh { fresh ≤ run.len }
+    ensures tears { TearsRow D.Disk disk.old disk.new (first_sector map.old.geometry (z, run)) (sector_count map.old.geometry (z, record run { len = fresh })) }
+    ensures copied { IfOk result (λ s. s.moved ≡ true → ForSome (D.bytes disk.new)
+        (IsCopied map.old.geometry.sector (first_sector map.old.geometry (z, next)) (first_sector map.old.geometry (z, run)) (sector_count map.old.geometry (z, next)))) }
+    ensures still { IfOk result (λ s. s.moved ≡ false → disk.new ≡ disk.old) }
+    ensures gathered { IfOk result (IsGathered owners.now map.old map.new z run next fresh) }
+    ensures geometry { map.new.geometry ≡ map.old.geometry }
+    ensures form { SameForm D.Disk disk.old disk.new }
+    ensures cause { FailsByFault D.Disk disk.old disk.new result }
+{
+    map.is_map();
+    let Some(id) = fitting_id(owners, run, next, fresh) else {
+        return Ok(Front {
+            run: next,
+            fresh: fresh_of(next),
+            moved: false,
+        });
+    };
+    draw(disk, map, z, run, next, id)?;
+    Ok(Front {
+        run: Run {
+            start: run.start + next.len,
+            ..run
+        },
+        fresh: fresh - next.len,
+        moved: true,
+    })
+}
+
+// Draws runs up into the holes of a zone, from its front to its back, each into what was a hole when this began. Nothing is
+// synced or committed. Answers whether one was.
+fn gather_runs<D: Disk>(
+    disk: &mut D,
+    map: &mut NewMap,
+    owners: &Owners,
+    z: u16,
+) -> Result<bool, DiskFault>
+    requires attached { IsTrue (D.attached disk.old) }
+    requires settled { IsFalse (D.pending disk.old) }
+    requires size { D.sector_size disk.old ≡ map.old.geometry.sector }
+    requires disc { disc_sectors (Layout.New map.old) ≤ D.sectors disk.old }
+    requires zone { z < map.old.geometry.zones }
+    ensures kept { StopsAndExitsLeave D.Disk disk.old disk.new (ChangesHoles map.old) }
+    ensures carrying { OnOk result (ForSome (D.bytes disk.new) (Carrying map.old map.new owners.now)) }
+    ensures gathers { IfOk result (Gathers owners.now map.old map.new z) }
+    ensures still { IfOk result (λ any. any ≡ false → disk.new ≡ disk.old) }
+    ensures geometry { map.new.geometry ≡ map.old.geometry }
+    ensures form { SameForm D.Disk disk.old disk.new }
+    ensures cause { FailsByFault D.Disk disk.old disk.new result }
+{
+    laws();
+    map.is_map();
+    let Some(first) = map.first_in(z) else {
+        return Ok(false);
+    };
+    let mut run = first;
+    let mut fresh = fresh_of(first);
+    let mut any = false;
+    while let Some(next) = map.next_in(z, run) {
+        let front = gather_pair(disk, map, owners, z, run, next, fresh)?;
+        run = front.run;
+        fresh = front.fresh;
+        any |= front.moved;
+    }
+    Ok(any)
+}
+
+// Draws runs up into the holes of a zone, joins holes that touch, and commits the zone once. Answers whether a run was drawn.
+pub fn gather<D: Disk>(
+    disk: &mut D,
+    map: &mut NewMap,
+    owners: &Owners,
+    z: u16,
+) -> Result<bool, DiskFault>
+    requires attached { IsTrue (D.attached disk.old) }
+    requires settled { IsFalse (D.pending disk.old) }
+    requires size { D.sector_size disk.old ≡ map.old.geometry.sector }
+    requires on_disk { map.old.geometry.map_sector + 2 * map.old.geometry.zones ≤ D.sectors disk.old }
+    requires disc { disc_sectors (Layout.New map.old) ≤ D.sectors disk.old }
+    requires ready { ForSome (D.bytes disk.old) (IsReady map.old owners.now) }
+    requires zone { z < map.old.geometry.zones }
+    ensures keeps { StopsAndExitsLeave D.Disk disk.old disk.new (Preserves map.old owners.now) }
+    ensures ready { OnOk result (ForSome (D.bytes disk.new) (IsReady map.new owners.now)) }
+    ensures gathered { IfOk result (HasGathered owners.now map.old map.new z) }
+    ensures geometry { map.new.geometry ≡ map.old.geometry }
+    ensures durable { OnOk result (IsFalse (D.pending disk.new)) }
+    ensures form { SameForm D.Disk disk.old disk.new }
+    ensures cause { FailsByFault D.Disk disk.old disk.new result }
+{
+    laws();
+    map.is_map();
+    let any = gather_runs(disk, map, owners, z)?;
+    if !any {
+        return Ok(false);
+    }
+    join_holes_in(map, z);
+    disk.sync()?;
+    commit_zone(disk, map, z)?;
+    Ok(true)
+}
