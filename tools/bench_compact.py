@@ -1,10 +1,12 @@
 #!/usr/bin/env python3
-"""Times `compact` over fragmented discs of 518 MB that are half empty, beside a copy of as many bytes with as many syncs.
+"""Times `compact` over fragmented discs, beside a copy of as many bytes with as many syncs, and counts its syncs.
 
 usage: tools/bench_compact.py PROGRAM
 
-The discs have some 2,000 and 20,000 runs. The program runs twice over each: under the recorder, which gives the bytes that it moved
-and how often it synced, and without it, for the time.
+The discs are two of 518 MB that are half empty, of some 2,000 and 20,000 runs (fragmented.py), and four of 26 to 121 MB whose files
+lie in short runs over zones of chance, of 3,329 to 25,900 runs (scattered.py): of these `compact` has to make at most four syncs a
+run. The program runs twice over each: under the recorder, which gives the bytes that it moved and how often it synced, and without
+it, for the time.
 """
 import os
 import shutil
@@ -17,14 +19,29 @@ from check_crash import SYNC
 from files import built_shim
 from fragmented import Fragmenter, hard_disc
 from large_image import SparseFile
+from scattered import scattered
 
 MIB = 1 << 20
+SYNCS_A_RUN = 4
 
 
-def disc(path, most_bits, directories):
-    """A disc whose parts are at most so long; its number of runs."""
+def cut_up(most_bits, directories):
+    """A volume whose parts are at most so long."""
     volume = hard_disc(10, 15, 10, 62)
     Fragmenter(volume, 1, most_bits).fill(directories)
+    return volume
+
+
+def volumes():
+    """The discs with the syncs a run that they may take, if there is a limit."""
+    for most_bits, directories in ((32, 40), (2, 400)):
+        yield cut_up(most_bits, directories), None
+    for files in (1248, 2500, 5000, 10000):
+        yield scattered(files), SYNCS_A_RUN
+
+
+def written(path, volume):
+    """Writes a volume; its number of runs."""
     with open(path, "wb") as file:
         volume.write(SparseFile(file, volume.shape.record.size))
     return sum(map(len, volume.runs))
@@ -69,8 +86,9 @@ def main(program):
     with tempfile.TemporaryDirectory(dir=os.getcwd()) as folder:
         image, work, record = (os.path.join(folder, name) for name in ("image", "work", "record"))
         shim = built_shim(folder)
-        for most_bits, directories in ((32, 40), (2, 400)):
-            runs = disc(image, most_bits, directories)
+        within = True
+        for volume, limit in volumes():
+            runs = written(image, volume)
             shutil.copyfile(image, work)
             seconds([program, work], env={"LD_PRELOAD": shim, "OUTSIDE_RECORD": record})
             moved, syncs = totals(record)
@@ -78,11 +96,13 @@ def main(program):
             shutil.copyfile(image, work)
             taken = seconds([program, work])
             beside = copying(work, moved, syncs)
-            print("%d runs: %.1f MB and %d syncs in %.2f s, %.1f MB a second; copying as much: %.2f s" % (
-                runs, moved / MIB, syncs, taken, moved / MIB / taken, beside))
+            print("%d runs: %.1f MB and %d syncs, %.2f a run, in %.2f s, %.1f MB a second; copying as much: %.2f s" % (
+                runs, moved / MIB, syncs, syncs / runs, taken, moved / MIB / taken, beside), flush=True)
+            within = within and (limit is None or syncs <= limit * runs)
+    return within
 
 
 if __name__ == "__main__":
     if len(sys.argv) != 2:
         sys.exit(__doc__)
-    main(sys.argv[1])
+    sys.exit(0 if main(sys.argv[1]) else 1)
