@@ -1,12 +1,11 @@
 -- The commit of a zone whose runs have moved up.
-use Rattle.std.proofs.Common.{◌≡◌, ◌<◌, ◌≤◌, ℕ, ◌+◌, true, false, List, [], ◌∷◌, refl, sym, ap, subst, ◌∙◌, arith}
+use Rattle.std.proofs.Common.{◌≡◌, ◌<◌, ◌≤◌, ℕ, ◌+◌, true, false, List, [], ◌∷◌, sym, ap, subst, ◌∙◌, arith}
 use Rattle.std.specs.Prelude.{filter}
 use Rattle.fc_record.specs.declared.Geometry.{Geometry}
 use Rattle.fc_record.specs.Kinds.{map_record}
 use Rattle.fc_zone.specs.declared.Run.{Run}
 use Rattle.fc_newmap.specs.Edits.{AreEdits, IsEdit, KeepsRuns}
 use Rattle.fc_newmap.specs.Map.{Map, ZoneRun, has_id, id_runs, runs_of, sector_of, sectors_of}
-use Rattle.fc_newmap.specs.NewMap.{IsNewMap}
 use Rattle.fc_newmap.specs.RunsLaw.{placed}
 use Rattle.fc_newmap.proofs.ComposeLemmas.{edit_all, edit_then, runs_other}
 use Rattle.fc_newmap.proofs.HeldLemmas.{geometry_facts}
@@ -20,8 +19,8 @@ use Rattle.fc_compact.specs.Gathering.{Carrying, Gathers}
 use Rattle.fc_compact.specs.Joining.{ids_in}
 use Rattle.fc_compact.specs.Laws.{Laws}
 use Rattle.fc_compact.specs.Ready.{IsReady, is_movable_by}
-use Rattle.fc_compact.specs.Settling.{one_if, zone_weight}
-use Rattle.fc_compact.specs.Steps.{Leads, Packs, Preserves, SamePart}
+use Rattle.fc_compact.specs.Settling.{zone_weight}
+use Rattle.fc_compact.specs.Steps.{Packs, Preserves, SamePart}
 use Rattle.fc_compact.proofs.CarryLemmas.{carry_preserves, carry_ready, carrying_same}
 use Rattle.fc_compact.proofs.GatherLemmas.{joined_falls, joined_runs}
 use Rattle.fc_compact.proofs.KeptLemmas.{can_write, committed_geometry, committed_record, committed_zone}

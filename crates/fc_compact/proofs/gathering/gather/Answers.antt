@@ -1,4 +1,4 @@
-use Rattle.std.proofs.Common.{◌≡◌, ◌<◌, ◌≤◌, ◌*◌, ◌/◌, ◌+◌, ℕ, List, Bool, Some, refl, ap, sym, subst, ◌∙◌, arith, true, false, IsFalse}
+use Rattle.std.proofs.Common.{◌≡◌, ◌<◌, ◌≤◌, ◌*◌, ◌+◌, ℕ, List, Bool, Some, ap, sym, subst, ◌∙◌, arith, IsFalse}
 use Rattle.std.specs.Option.{ForSome}
 use Rattle.fc_device.proofs.DiskLaws.{laws, form_then}
 use Rattle.fc_device.proofs.StopLemmas.{keeps_same, keeps_then, led}

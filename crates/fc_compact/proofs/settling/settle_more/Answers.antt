@@ -1,6 +1,6 @@
 use Rattle.std.proofs.lemmas.Result.{IfOk-weaker}
-use Rattle.std.proofs.Common.{◌∙◌, subst, Bool, true}
-use Rattle.fc_device.proofs.DiskLaws.{laws, form_then}
+use Rattle.std.proofs.Common.{◌∙◌, subst}
+use Rattle.fc_device.proofs.DiskLaws.{laws}
 use Rattle.fc_newmap.specs.Map.{Map}
 use Rattle.fc_compact.specs.Gathering.{HasGathered}
 use Rattle.fc_compact.specs.Settling.{Passes}
